@@ -1,0 +1,71 @@
+//! A reservation, and which numbers make one.
+
+ghost use Rattle.std.specs.Prelude.{◌≡◌};
+ghost use Rattle.cbs_rate.specs.Rate.{IsRate, rate_refusal};
+ghost use Rattle.cbs_rate.specs.Refusals.{AnswersBy};
+
+use crate::error::RateError;
+use std::marker::Model;
+
+/// The longest period of a reservation, in ticks.
+pub const MAX_PERIOD: u64 = 1_000_000_000;
+
+/// A budget of Q ticks in every period of T ticks, with `1 <= Q <= T <= MAX_PERIOD`.
+///
+/// It is the pair (Q, T) that a Constant Bandwidth Server is given (Abeni and Buttazzo, RTSS 1998):
+/// whoever holds it may run for Q ticks in every T.
+#[derive(Clone, Copy, Debug, PartialEq, Eq)]
+pub struct Reservation {
+    budget: u64,
+    period: u64,
+}
+
+impl Model for Reservation {
+    ghost use Rattle.cbs_rate.specs.Rate.{Rate, IsRate};
+
+    ghost Value = { Rate };
+
+    ghost view = { λ r. record { budget = r.budget; period = r.period } };
+
+    ghost invariant = { λ r. IsRate r.budget r.period };
+
+    ghost inverse = { λ v. record { budget = v.budget; period = v.period } };
+}
+
+impl Reservation {
+    /// A reservation of `budget` ticks in every `period` ticks.
+    ///
+    /// Refuses, in this order: [`RateError::ZeroBudget`] where the budget is 0,
+    /// [`RateError::PeriodTooLong`] where the period is over [`MAX_PERIOD`], and
+    /// [`RateError::BudgetOverPeriod`] where the budget is over the period.
+    pub fn new(budget: u64, period: u64) -> Result<Reservation, RateError>
+        ensures { AnswersBy result (rate_refusal budget period) (record { budget = budget; period = period }) }
+    {
+        if budget == 0 {
+            return Err(RateError::ZeroBudget);
+        }
+        if period > MAX_PERIOD {
+            return Err(RateError::PeriodTooLong);
+        }
+        if budget > period {
+            return Err(RateError::BudgetOverPeriod);
+        }
+        Ok(Reservation { budget, period })
+    }
+
+    /// The budget, in ticks.
+    pub fn budget(&self) -> u64
+        ensures value { result ≡ self.now.budget }
+        ensures lawful { IsRate self.now.budget self.now.period }
+    {
+        self.budget
+    }
+
+    /// The period, in ticks.
+    pub fn period(&self) -> u64
+        ensures value { result ≡ self.now.period }
+        ensures lawful { IsRate self.now.budget self.now.period }
+    {
+        self.period
+    }
+}
