@@ -6,6 +6,7 @@ mod error;
 mod queues;
 mod reply;
 mod server;
+mod servers;
 mod step;
 mod view;
 
