@@ -95,16 +95,17 @@ impl Plan {
         ensures least { let rates = self.old.rates ++ reservation ∷ [] in
             IsLeastCommonMultiple (common_multiple rates) rates }
     {
+        let period = reservation.period();
         if self.rates.is_full() {
             return Err(AdmitError::TooManyServers);
         }
-        let common = least_common_multiple(self.common, reservation.period());
+        let common = least_common_multiple(self.common, period);
         if common > u128::from(MAX_COMMON_MULTIPLE) {
             return Err(AdmitError::PeriodsTooFine);
         }
         let common = common as u64;
         let taken = self.taken * (common / self.common)
-            + reservation.budget() * (common / reservation.period());
+            + reservation.budget() * (common / period);
         if !self.bound.allows(taken, common) {
             return Err(AdmitError::OverBound);
         }
