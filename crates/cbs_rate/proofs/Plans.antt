@@ -1,5 +1,5 @@
 -- What an empty plan keeps, and a plan that is asked to take one rate more.
-use Rattle.std.proofs.Common.{◌≡◌, ℕ, ◌+◌, ◌*◌, ◌/◌, ◌≤◌, ◌<◌, [], ◌∷◌, ◌++◌, length, Bool, true, false, eqb, Some, None, arith, refl, inl, inr, sym, ◌∙◌, length-append}
+use Rattle.std.proofs.Common.{◌≡◌, ℕ, ◌+◌, ◌*◌, ◌/◌, ◌≤◌, ◌<◌, [], ◌∷◌, ◌++◌, length, Bool, true, false, eqb, Some, None, arith, refl, inl, inr, ◌∙◌, length-append}
 use Rattle.std.specs.Prelude.{◌↔◌, if◌then◌else◌}
 use Rattle.std.specs.List.{sum_by}
 use Rattle.std.specs.Int.{IsGcd}
@@ -20,7 +20,7 @@ plan_empty bound = record {
   few = omega arith;
   lawful = tt;
   coarse = rw common_multiple-nil (omega arith);
-  fits = omega arith;
+  fits = le-leb _ _ (omega arith);
   at_most_one = omega arith;
 }
 
@@ -90,7 +90,7 @@ module _ {p : Inside} (r : Rate) (running : IsRunning p) (ok : IsRate r.budget r
             few = rw length-append (omega arith);
             lawful = lawful_next;
             coarse = rw next_is at coarse;
-            fits = whole;
+            fits = le-leb _ _ whole;
             at_most_one =
                 let a = bounded.some in let b = bounded.at_most_one in
                 at_most_one p.bound.num p.bound.den (total_share (p.rates.items ++ r ∷ [])) (all_periods (p.rates.items ++ r ∷ [])) b (omega arith) whole;

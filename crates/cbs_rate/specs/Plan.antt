@@ -25,13 +25,9 @@ all_periods (r ∷ rs) = r.period * all_periods rs
 abbrev pub total_share : List Rate → ℕ
 total_share rates = sum_by (share (all_periods rates)) rates
 
--- The rates fit the bound: the sum of budget / period over all of them is at most num / den, with both sides
--- times den and the product of all periods. It is the bound on processor utilisation under which earliest
--- deadline first meets every deadline (Liu and Layland 1973).
-abbrev pub Fits : Fraction → List Rate → Type 0
-Fits bound rates = bound.den * total_share rates ≤ bound.num * all_periods rates
-
--- whether the rates fit the bound
+-- Whether the rates fit the bound: the sum of budget / period over all of them is at most num / den, both sides
+-- taken times den and times the product of all periods. It is the bound on processor utilisation under which
+-- earliest deadline first meets every deadline (Liu and Layland 1973).
 abbrev pub fits : Fraction → List Rate → Bool
 fits bound rates = leb (bound.den * total_share rates) (bound.num * all_periods rates)
 
@@ -56,12 +52,13 @@ common_multiple_from rates from (suc room) =
 unfoldable pub common_multiple : List Rate → ℕ
 common_multiple rates = common_multiple_from rates 1 (all_periods rates)
 
--- what every plan keeps
+-- What every plan keeps: at most 64 rates within the limits of a reservation, periods whose least common multiple
+-- is at most 10^18, and a total bandwidth of at most the bound, and so of at most one.
 pub record IsPlan (plan : Planned) : Type 0 where
   pub few : length plan.rates ≤ 64
   pub lawful : AllByRecursion (λ r. IsRate r.budget r.period) plan.rates
   pub coarse : common_multiple plan.rates ≤ 1000000000000000000
-  pub fits : Fits plan.bound plan.rates
+  pub fits : IsTrue (fits plan.bound plan.rates)
   pub at_most_one : total_share plan.rates ≤ all_periods plan.rates
 
 -- why a plan does not take one more rate, if it does not: the first of the three tests that applies

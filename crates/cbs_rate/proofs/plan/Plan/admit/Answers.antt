@@ -1,4 +1,4 @@
-use Rattle.std.proofs.Common.{◌≡◌, ◌∷◌, ◌++◌, [], ◌+◌, ◌*◌, ◌/◌, ◌≤◌, ◌<◌, arith, refl, sym, ◌∙◌}
+use Rattle.std.proofs.Common.{◌≡◌, ◌+◌, ◌*◌, ◌/◌, arith, refl, ◌∙◌}
 use Rattle.cbs_rate.proofs.Plans.{room_left, common_some, common_next, least_next, taken_next, taken-le, added-le, refusal_fine, refusal_over, refusal_none, plan_next}
 use Rattle.cbs_rate.proofs.plan.Plan.admit.Goals as goal
 
