@@ -5,7 +5,6 @@ use Rattle.cbs_rate.specs.Bound.{Fraction}
 use Rattle.cbs_rate.specs.Rate.{Rate, IsRate}
 use Rattle.cbs_rate.specs.declared.error.AdmitError.{AdmitError}
 use Rattle.cbs_rate.specs.declared.error.AdmitError.TheVariants.{TooManyServers, PeriodsTooFine, OverBound}
-use Rattle.cbs_rate.specs.declared.plan.TheConstants.{MAX_SERVERS, MAX_COMMON_MULTIPLE}
 
 -- the bound on the total bandwidth, and the rates of the servers, server 0 first
 pub record Planned : Type 0 where
@@ -57,14 +56,14 @@ common_multiple rates = common_multiple_from rates 1 (all_periods rates)
 pub record IsPlan (plan : Planned) : Type 0 where
   pub few : length plan.rates ≤ 64
   pub lawful : AllByRecursion (λ r. IsRate r.budget r.period) plan.rates
-  pub coarse : common_multiple plan.rates ≤ 1000000000000000000
+  pub coarse : common_multiple plan.rates ≤ 1_000_000_000_000_000_000
   pub fits : IsTrue (fits plan.bound plan.rates)
   pub at_most_one : total_share plan.rates ≤ all_periods plan.rates
 
 -- why a plan does not take one more rate, if it does not: the first of the three tests that applies
 abbrev pub admit_refusal : Planned → Rate → Option AdmitError
 admit_refusal plan r =
-    if leb MAX_SERVERS (length plan.rates) then Some TooManyServers
-    else if ltb MAX_COMMON_MULTIPLE (common_multiple (plan.rates ++ r ∷ [])) then Some PeriodsTooFine
+    if leb 64 (length plan.rates) then Some TooManyServers
+    else if ltb 1_000_000_000_000_000_000 (common_multiple (plan.rates ++ r ∷ [])) then Some PeriodsTooFine
     else if fits plan.bound (plan.rates ++ r ∷ []) then None
     else Some OverBound
