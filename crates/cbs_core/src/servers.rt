@@ -6,6 +6,7 @@ ghost use Rattle.cbs_core.specs.Lists.{changed_at};
 ghost use Rattle.cbs_core.specs.Choice.{chosen_among};
 ghost use Rattle.cbs_core.specs.Held.{room_of, KeepsRoom};
 ghost use Rattle.cbs_core.specs.Queued.{result_run};
+ghost use Rattle.cbs_core.specs.Setups.{terms_of};
 ghost use Rattle.cbs_core.specs.Holding.{IsServers, new_held, is_held_ready, held_rank, better_of, held_with_job, held_with_unit, held_with_close, held_with_replenishment, held_view_reply, held_refusal, held_close_refusal, ran_of, held_at, IsServer, head_with_replenishment};
 
 use crate::error::CoreError;
@@ -14,7 +15,8 @@ use crate::reply::Ran;
 use crate::server::Server;
 use crate::view::ServerView;
 use cbs_job::{Completion, Task, Work};
-use cbs_rules::{LIMIT, MAX_DEADLINE};
+use cbs_rate::Plan;
+use cbs_rules::{LIMIT, MAX_DEADLINE, Mode};
 use std::alloc::{AllocError, Allocator, Global};
 use std::marker::Model;
 
@@ -33,6 +35,21 @@ impl<W: Work, A: Allocator> Model for Servers<W, A> {
     ghost view = { λ s. record { held = helds s.heads.items s.queues.lists; rooms = s.queues.rooms } };
 
     ghost invariant = { λ s. IsServers W.meaning s.heads.items s.queues.lists };
+}
+
+impl<W: Work, A: Allocator + Clone> Servers<W, A> {
+    /// The servers of a plan, all with the same mode.
+    pub fn new(alloc: &A, plan: &Plan, mode: Mode) -> Result<Self, AllocError>
+        ensures { IfOk result (λ s. s.held ≡ map new_held (terms_of mode plan.now.rates)) }
+    {
+        let mut heads = Vec::with_capacity(alloc.clone()?, plan.len())?;
+        for server in 0..plan.len() as u16 {
+            let reservation = plan.get(server).unwrap();
+            heads.push(Server::new(mode, reservation))?;
+        }
+        let queues = Queues::new(alloc, plan.len() as u16)?;
+        Ok(Servers { heads, queues })
+    }
 }
 
 impl<W: Work, A: Allocator> Servers<W, A> {
