@@ -1,12 +1,11 @@
 -- What each server keeps, through a job, a unit, a replenishment and a close.
-use Rattle.std.proofs.Common.{◌≡◌, ℕ, suc, ◌+◌, ◌-◌, ◌≤◌, ◌<◌, Bool, true, false, List, [], ◌∷◌, ◌++◌, length, map, set, get_or, refl, sym, ◌∙◌, ap, subst, arith, eqb, ltb, length-append, ◌||◌, not, inl, inr, Option, Some, None, is_some}
-use Rattle.std.specs.Prelude.{if◌then◌else◌}
+use Rattle.std.proofs.Common.{◌≡◌, ℕ, suc, ◌+◌, ◌-◌, ◌≤◌, ◌<◌, true, false, List, [], ◌∷◌, ◌++◌, length, map, set, get_or, refl, sym, ◌∙◌, ap, arith, eqb, ltb, length-append, ◌||◌, inl, inr, Option, is_some}
 use Rattle.std.proofs.lemmas.Bool.{cases_Bool}
 use Rattle.std.proofs.lemmas.Bool.Decides.{nat_tests}
 use Rattle.std.specs.List.{AllByRecursion}
 use Rattle.cbs_job.specs.Work.{Meaning}
 use Rattle.cbs_rate.specs.Rate.{Rate, IsRate}
-use Rattle.cbs_rules.specs.Rules.{State, Terms, IsState, after_arrival, after_unit, after_replenishment}
+use Rattle.cbs_rules.specs.Rules.{State, IsState, after_arrival, after_unit, after_replenishment}
 use Rattle.cbs_rules.specs.declared.mode.Mode.{Mode}
 use Rattle.cbs_rules.specs.declared.mode.Mode.TheVariants.{Soft, Throttled}
 use Rattle.cbs_core.specs.Lists.{changed_at}
@@ -14,7 +13,7 @@ use Rattle.cbs_core.specs.Held.{Held}
 use Rattle.cbs_core.specs.Queued.{jobs_run, result_run}
 use Rattle.cbs_core.specs.Holding.{Head, held_of, helds, held_at, no_held, head_with_job, head_with_unit, held_with_job, held_with_unit, held_with_close, held_with_replenishment, is_held_ready, IsServer, IsServers}
 use Rattle.cbs_core.proofs.Lists.{AllByRecursion-changed_at, AllByRecursion-map}
-use Rattle.cbs_core.proofs.Zipping.{helds-set, helds-set_head, held_at-helds}
+use Rattle.cbs_core.proofs.Zipping.{helds-set, helds-set_head}
 
 IsState-after_arrival : (mode : Mode) (r : Rate) (now : ℕ) (s : State) → IsRate r.budget r.period → IsState r s → s.throttled ≡ false → IsState r (after_arrival mode r now s)
 IsState-after_arrival mode r now s ok is free = record {

@@ -1,12 +1,7 @@
 -- Two lists, place by place.
-use Rattle.std.proofs.Common.{◌≡◌, ℕ, zero, suc, ◌<◌, List, [], ◌∷◌, length, map, get_or, set, refl, ap, arith}
+use Rattle.std.proofs.Common.{◌≡◌, ℕ, zero, suc, ◌<◌, List, [], ◌∷◌, length, map, get_or, refl, ap, arith}
 use Rattle.std.specs.List.{AllZip, AllByRecursion}
 use Rattle.cbs_core.specs.Lists.{changed_at}
-
-pub set_changed : {X : Type 0} (f : X → X) (xs : List X) (i : ℕ) (y d : X) → i < length xs → y ≡ f (get_or xs i d) → set xs i y ≡ changed_at f xs i
-set_changed f [] i y d lt h = absurd (omega arith)
-set_changed f (z ∷ zs) zero y d lt h = ap (λ v. v ∷ zs) h
-set_changed f (z ∷ zs) (suc i) y d lt h = ap (λ vs. z ∷ vs) (set_changed f zs i y d (omega arith) h)
 
 pub length-changed_at : {X : Type 0} (f : X → X) (xs : List X) (i : ℕ) → length (changed_at f xs i) ≡ length xs
 length-changed_at f [] i = refl
@@ -33,17 +28,11 @@ module _ {X Y : Type 0} (R : X → Y → Type 0) where
   AllZip-length (x ∷ xs) [] all = absurd all
   AllZip-length (x ∷ xs) (y ∷ ys) all = ap suc (AllZip-length xs ys all.1)
 
-  pub AllZip-set : (xs : List X) (ys : List Y) (i : ℕ) (x' d : X) (g : Y → Y) → AllZip R xs ys → i < length xs → ((y : Y) → R (get_or xs i d) y → R x' (g y)) → AllZip R (set xs i x') (changed_at g ys i)
-  AllZip-set [] ys i x' d g all lt h = absurd (omega arith)
-  AllZip-set (z ∷ zs) [] i x' d g all lt h = absurd all
-  AllZip-set (z ∷ zs) (y ∷ ys) zero x' d g all lt h = (h y all.0, all.1)
-  AllZip-set (z ∷ zs) (y ∷ ys) (suc i) x' d g all lt h = (all.0, AllZip-set zs ys i x' d g all.1 (omega arith) h)
-
-  pub AllZip-set_at : (xs : List X) (ys : List Y) (i : ℕ) (x' d : X) (e : Y) (g : Y → Y) → AllZip R xs ys → i < length xs → (R (get_or xs i d) (get_or ys i e) → R x' (g (get_or ys i e))) → AllZip R (set xs i x') (changed_at g ys i)
-  AllZip-set_at [] ys i x' d e g all lt h = absurd (omega arith)
-  AllZip-set_at (z ∷ zs) [] i x' d e g all lt h = absurd all
-  AllZip-set_at (z ∷ zs) (y ∷ ys) zero x' d e g all lt h = (h all.0, all.1)
-  AllZip-set_at (z ∷ zs) (y ∷ ys) (suc i) x' d e g all lt h = (all.0, AllZip-set_at zs ys i x' d e g all.1 (omega arith) h)
+  pub AllZip-changed_at : (xs : List X) (ys : List Y) (i : ℕ) (d : X) (e : Y) (f : X → X) (g : Y → Y) → AllZip R xs ys → i < length xs → (R (get_or xs i d) (get_or ys i e) → R (f (get_or xs i d)) (g (get_or ys i e))) → AllZip R (changed_at f xs i) (changed_at g ys i)
+  AllZip-changed_at [] ys i d e f g all lt h = absurd (omega arith)
+  AllZip-changed_at (x ∷ xs) [] i d e f g all lt h = absurd all
+  AllZip-changed_at (x ∷ xs) (y ∷ ys) zero d e f g all lt h = (h all.0, all.1)
+  AllZip-changed_at (x ∷ xs) (y ∷ ys) (suc i) d e f g all lt h = (all.0, AllZip-changed_at xs ys i d e f g all.1 (omega arith) h)
 
   pub AllZip-get : (xs : List X) (ys : List Y) (i : ℕ) (c : X) (d : Y) → AllZip R xs ys → i < length xs → R (get_or xs i c) (get_or ys i d)
   AllZip-get [] ys i c d all lt = absurd (omega arith)

@@ -1,5 +1,5 @@
 -- New servers, and a new core.
-use Rattle.std.proofs.Common.{◌≡◌, ℕ, zero, suc, ◌+◌, ◌≤◌, ◌<◌, List, [], ◌∷◌, ◌++◌, length, map, take, replicate, refl, sym, ◌∙◌, ap, arith, Option, Some, None, add-one}
+use Rattle.std.proofs.Common.{◌≡◌, ℕ, zero, suc, ◌+◌, ◌≤◌, ◌<◌, List, [], ◌∷◌, ◌++◌, length, map, take, replicate, refl, ap, arith, Option, Some, add-one}
 use Rattle.std.specs.Prelude.{slice_get, IsSome}
 use Rattle.std.proofs.lemmas.List.{length-map, length-replicate, take_all, map-append}
 use Rattle.std.specs.List.{AllZip, AllByRecursion}
@@ -10,7 +10,7 @@ use Rattle.cbs_rules.specs.declared.mode.Mode.{Mode}
 use Rattle.cbs_core.specs.Accounts.{new_account}
 use Rattle.cbs_core.specs.History.{start}
 use Rattle.cbs_core.specs.Agreement.{AgreesServer, AgreesWorld}
-use Rattle.cbs_core.specs.Held.{Held, CoreHeld}
+use Rattle.cbs_core.specs.Held.{Held}
 use Rattle.cbs_core.specs.Holding.{Head, helds, new_head, new_held, IsServer, IsServers, IsBounded, IsCore}
 use Rattle.cbs_core.specs.Setups.{terms_of}
 use Rattle.cbs_core.proofs.Lists.{AllByRecursion-map}
@@ -66,3 +66,23 @@ module _ {W : Type 0} where
         (AllByRecursion-map (λ (r : Rate). IsRate r.budget r.period) (λ (t : Terms). IsRate t.reservation.budget t.reservation.period) (λ r. record { mode = mode; reservation = r }) rates lawful (λ r ok. ok))
         (new_server work));
   }
+
+opened_agrees : {W : Type 0} (work : Meaning W) (terms : List Terms) → AllZip (AgreesServer work) (map new_held terms) (map new_account terms)
+opened_agrees work [] = tt
+opened_agrees work (t ∷ ts) = (record { terms = refl; state = refl; closed = refl; accepted_count = refl; finished_count = refl; results = refl; lefts = refl }, opened_agrees work ts)
+
+pub start_agrees : {W : Type 0} (work : Meaning W) (terms : List Terms) (backlog : ℕ) (servers : List (Held W)) (rooms : List ℕ) → servers ≡ map new_held terms
+    → AgreesWorld work (record { backlog = backlog; clock = 0; servers = servers; rooms = rooms }) backlog (start (record { servers = terms; backlog = backlog }))
+start_agrees work terms backlog servers rooms e = rw e record { same_backlog = refl; clock = refl; servers = opened_agrees work terms }
+
+pub IsCore-opened : {W : Type 0} (mode : Mode) (rates : List Rate) (backlog : ℕ) (servers : List (Held W)) (rooms : List ℕ) → length rates ≤ 64 → backlog ≤ 4096
+    → AllByRecursion (λ r. IsRate r.budget r.period) rates → servers ≡ map new_held (terms_of mode rates)
+    → IsCore (record { backlog = backlog; clock = 0; servers = servers; rooms = rooms })
+IsCore-opened {W = W} mode rates backlog servers rooms few small lawful e = rw e record {
+  few = rw (length-map (terms_of mode rates) (new_held {W = W}), length-map {B = Terms} rates (λ (r : Rate). record { mode = mode; reservation = r })) few;
+  small = small;
+  clock = omega arith;
+  bounded = AllByRecursion-map (λ (t : Terms). t.reservation.period ≤ 1000000000) (IsBounded backlog 0) new_held (terms_of mode rates)
+      (AllByRecursion-map (λ (r : Rate). IsRate r.budget r.period) (λ (t : Terms). t.reservation.period ≤ 1000000000) (λ r. record { mode = mode; reservation = r }) rates lawful (λ r ok. ok.short))
+      (λ t short. record { short = short; early = omega arith; few_done = omega arith; few_jobs = omega arith; counts = refl });
+}

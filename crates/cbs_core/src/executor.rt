@@ -87,10 +87,10 @@ impl<W: Work, A: Allocator> Core<W, A> {
         if let Some(error) = self.servers.refusal(self.backlog, server) {
             return Err(error);
         }
-        match self.servers.reserve(server) {
-            Ok(()) => Ok(()),
-            Err(_) => Err(CoreError::OutOfMemory),
+        if self.servers.reserve(server).is_err() {
+            return Err(CoreError::OutOfMemory);
         }
+        Ok(())
     }
 
     /// Gives a job to a server, and answers the job's number among the accepted jobs of the server.
@@ -109,6 +109,7 @@ impl<W: Work, A: Allocator> Core<W, A> {
         ensures back { lacks_memory result ≡ true → result ≡ Err (record { error = CoreError.OutOfMemory; task = task }) }
         ensures only_accepted { lacks_memory result ≡ true → (M : History W) → Agrees W.meaning self.old M
             → IsAccepted (reply_in W.meaning M (Step.Submit server task)) }
+        ensures still { lacks_memory result ≡ true → (M : History W) → Agrees W.meaning self.old M → Agrees W.meaning self.new M }
         ensures room { 0 < room_of self.old.rooms server → lacks_memory result ≡ false }
 
         ensures unchanged { OnErr result (self.new ≡ record self.old { rooms = self.new.rooms }) }
@@ -202,6 +203,37 @@ impl<W: Work, A: Allocator> Core<W, A> {
         ensures { (M : History W) → Agrees W.meaning self.now M → result ≡ view_reply W.meaning (slice_get (world_after W.meaning M).accounts server) }
     {
         self.servers.view(server)
+    }
+
+    /// Does all steps, in order, and gives one reply for each.
+    ///
+    /// Room for all replies is made first. If that is refused, the steps come back and nothing
+    /// changed. A single submit that memory refuses is marked in its reply, by
+    /// [`CoreError::OutOfMemory`] with its job, and the next step follows.
+    pub fn run_steps(
+        &mut self,
+        steps: Vec<Step<W>, A>,
+    ) -> Result<Vec<Reply<W>, A>, StepsRefused<W, A>>
+    where
+        A: Clone,
+        ensures replies { IfOk result (λ replies. (M : History W) → Agrees W.meaning self.old M
+            → AnswersAll W.meaning M steps.items replies.items) }
+        ensures state { IfOk result (λ replies. (M : History W) → Agrees W.meaning self.old M
+            → Agrees W.meaning self.new (grown_by M steps.items replies.items)) }
+        ensures back { IfErr result (λ refused. refused.steps ≡ steps) }
+        ensures unchanged { OnErr result (self.new ≡ self.old) }
+    {
+        let Ok(alloc) = self.alloc.clone() else {
+            return Err(StepsRefused { steps });
+        };
+        let Ok(mut replies) = Vec::with_capacity(alloc, steps.len()) else {
+            return Err(StepsRefused { steps });
+        };
+        for step in steps {
+            let reply = self.step(step);
+            replies.push_reserved(reply);
+        }
+        Ok(replies)
     }
 
     /// Does one step.

@@ -2,6 +2,7 @@
 
 ghost use Rattle.std.specs.Prelude.{◌≡◌, ℕ, ◌+◌, ◌<◌, ◌≤◌, ◌^◌, IfSome, IfOk, IfErr, OnOk, OnErr, IsOk, length, map, slice_get, get_or, true, false};
 ghost use Rattle.std.specs.List.{All, HoldsAt};
+ghost use Rattle.cbs_rate.specs.Plan.{IsPlan};
 ghost use Rattle.cbs_core.specs.Lists.{changed_at};
 ghost use Rattle.cbs_core.specs.Choice.{chosen_among};
 ghost use Rattle.cbs_core.specs.Held.{room_of, KeepsRoom};
@@ -40,7 +41,8 @@ impl<W: Work, A: Allocator> Model for Servers<W, A> {
 impl<W: Work, A: Allocator + Clone> Servers<W, A> {
     /// The servers of a plan, all with the same mode.
     pub fn new(alloc: &A, plan: &Plan, mode: Mode) -> Result<Self, AllocError>
-        ensures { IfOk result (λ s. s.held ≡ map new_held (terms_of mode plan.now.rates)) }
+        ensures held { IfOk result (λ s. s.held ≡ map new_held (terms_of mode plan.now.rates)) }
+        ensures plan { OnOk result (IsPlan plan.now) }
     {
         let mut heads = Vec::with_capacity(alloc.clone()?, plan.len())?;
         for server in 0..plan.len() as u16 {
@@ -157,6 +159,7 @@ impl<W: Work, A: Allocator> Servers<W, A> {
         requires room { 0 < room_of self.old.rooms server }
         ensures held { self.new.held ≡ changed_at (held_with_job now task) self.old.held server }
         ensures number { result ≡ (held_at self.old.held server).accepted }
+        ensures some { 0 < W.meaning.left task }
     {
         let active = self.queues.len(server) > 0;
         self.queues.push(server, task);

@@ -10,7 +10,6 @@ index_mut-head-requires g c =
     let within : c.args.server < length c.self.inside.heads.items = within_heads c.self.inside.heads.items c.self.inside.queues.lists c.args.server (rw (← c.self.view_is) at c.requires) in
     rw c.from.ensures (search rules)
 
-
 pub invariant_of-self : goal.invariant_of-self
 invariant_of-self g c =
     let within = within_heads c.self.inside.heads.items c.self.inside.queues.lists c.args.server (rw (← c.self.view_is) at c.requires) in

@@ -1,5 +1,4 @@
-use Rattle.std.proofs.Common.{refl, ◌∙◌, cond}
-use Rattle.std.proofs.lemmas.Bool.{cases_Bool}
+use Rattle.std.proofs.Common.{refl, ◌∙◌}
 use Rattle.cbs_core.proofs.Zipping.{slice_get-past, slice_get-at}
 use Rattle.cbs_core.proofs.Refusing.{closed_refusal}
 use Rattle.cbs_core.proofs.servers.Servers.close_refusal.Goals as goal

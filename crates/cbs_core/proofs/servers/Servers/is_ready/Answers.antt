@@ -1,7 +1,5 @@
-use Rattle.std.proofs.Common.{◌≡◌, ◌<◌, length, arith, get_or, []}
-use Rattle.std.proofs.lemmas.Bool.Decides.{nat_tests}
-use Rattle.cbs_core.specs.Holding.{Head}
-use Rattle.cbs_core.proofs.Zipping.{within_heads, within_lists, held_at-helds, get_or-helds}
+use Rattle.std.proofs.Common.{get_or, []}
+use Rattle.cbs_core.proofs.Zipping.{within_heads, within_lists, held_at-helds}
 use Rattle.cbs_core.proofs.Readying.{ready_is, ready_not}
 use Rattle.cbs_core.proofs.servers.Servers.is_ready.Goals as goal
 

@@ -1,7 +1,6 @@
-use Rattle.std.proofs.Common.{◌≡◌, ◌≤◌, ◌<◌, ◌++◌, ◌∷◌, [], length, rules, sym, ◌∙◌, ap, arith}
+use Rattle.std.proofs.Common.{◌≡◌, ◌≤◌, ◌++◌, ◌∷◌, [], length, rules, sym, ◌∙◌, arith}
 use Rattle.std.proofs.lemmas.Grind.{common_steps}
-use Rattle.cbs_core.specs.Holding.{new_head}
-use Rattle.cbs_core.proofs.Opening.{is_within, heads_more, heads_all, heads_of, helds_opened, IsServers-opened}
+use Rattle.cbs_core.proofs.Opening.{is_within, heads_more, heads_all, helds_opened, IsServers-opened}
 use Rattle.cbs_core.proofs.servers.Servers.new.Goals as goal
 
 pub unwrap-reservation-requires : goal.unwrap-reservation-requires
@@ -21,8 +20,8 @@ invariant_of-result g c =
     IsServers-opened g.W.Work.meaning c.args.mode c.args.plan.now.rates c.len-2.result c.loop-server.heads.items c.in_ok-queues.queues.lists c.len-2.ensures.lawful.few c.len-2.ensures.lawful.lawful n
     (heads_all c.args.mode c.args.plan.now.rates c.loop-server.server c.loop-server.heads.items all c.loop-server.invariant) c.in_ok-queues.ensures.empty
 
-pub returns : goal.returns
-returns g c =
+pub returns-clause-held : goal.returns-clause-held
+returns-clause-held g c =
     let n : c.len-2.result ≡ length c.args.plan.now.rates = c.len-2.ensures.value in
     let all : length c.args.plan.now.rates ≤ c.loop-server.server = let m = c.len-server-end.ensures.value in omega arith in
     helds_opened c.args.mode c.args.plan.now.rates c.len-2.result c.loop-server.heads.items c.in_ok-queues.queues.lists n

@@ -11,7 +11,7 @@ invariant_of-self g c =
     let heads = c.self.inside.heads.items in
     let written = rw c.deref_mut.ensures.value at c.replenish_all.ensures in
     let size : c.self.inside.heads.len ≡ length c.replenish_all.new.heads =
-        sym (rw c.deref_mut.ensures.value at c.deref_mut.ensures.len) ∙ sym (ap length written ∙ length-map heads (head_with_replenishment c.args.now)) in
+    sym (rw c.deref_mut.ensures.value at c.deref_mut.ensures.len) ∙ sym (ap length written ∙ length-map heads (head_with_replenishment c.args.now)) in
     rw (take_whole c.self.inside.heads.len c.replenish_all.new.heads _ size, written)
     (IsServers-mapped g.W.Work.meaning (held_with_replenishment c.args.now) heads (map (head_with_replenishment c.args.now) heads) c.self.inside.queues.lists c.self.invariant
     (length-map heads (head_with_replenishment c.args.now)) (helds-map (head_with_replenishment c.args.now) (held_with_replenishment c.args.now) heads c.self.inside.queues.lists (λ h l. refl))
@@ -22,6 +22,6 @@ returns-clause-held g c =
     let heads = c.self.inside.heads.items in
     let written = rw c.deref_mut.ensures.value at c.replenish_all.ensures in
     let size : c.self.inside.heads.len ≡ length c.replenish_all.new.heads =
-        sym (rw c.deref_mut.ensures.value at c.deref_mut.ensures.len) ∙ sym (ap length written ∙ length-map heads (head_with_replenishment c.args.now)) in
+    sym (rw c.deref_mut.ensures.value at c.deref_mut.ensures.len) ∙ sym (ap length written ∙ length-map heads (head_with_replenishment c.args.now)) in
     rw (← c.self.view_is, take_whole c.self.inside.heads.len c.replenish_all.new.heads _ size, written)
     (helds-map (head_with_replenishment c.args.now) (held_with_replenishment c.args.now) heads c.self.inside.queues.lists (λ h l. refl))
