@@ -25,7 +25,8 @@ module _ {W : Type 0} where
   all_twice k m [] h = refl
   all_twice k m (a ∷ accounts) h = rw (refreshed_twice k m a h, all_twice k m accounts h)
 
-  abbrev jumped : ℕ → World W → World W
+  -- the world after a jump by n ticks
+  abbrev pub jumped : ℕ → World W → World W
   jumped n w = record { now = w.now + n; accounts = map (with_replenishment (w.now + n)) w.accounts }
 
   -- n ticks are one jump

@@ -1,5 +1,5 @@
 -- What each server keeps, through a job, a unit, a replenishment and a close.
-use Rattle.std.proofs.Common.{◌≡◌, ℕ, suc, ◌+◌, ◌-◌, ◌≤◌, ◌<◌, true, false, List, [], ◌∷◌, ◌++◌, length, map, set, get_or, refl, sym, ◌∙◌, ap, arith, eqb, ltb, length-append, ◌||◌, inl, inr, Option, is_some}
+use Rattle.std.proofs.Common.{◌≡◌, ℕ, suc, ◌+◌, ◌-◌, ◌≤◌, ◌<◌, Bool, true, false, List, [], ◌∷◌, ◌++◌, length, map, set, get_or, refl, sym, ◌∙◌, ap, arith, eqb, ltb, length-append, ◌||◌, inl, inr, Option, is_some}
 use Rattle.std.proofs.lemmas.Bool.{cases_Bool}
 use Rattle.std.proofs.lemmas.Bool.Decides.{nat_tests}
 use Rattle.std.specs.List.{AllByRecursion}
@@ -143,10 +143,10 @@ module _ {W : Type 0} (work : Meaning W) where
     here : head ≡ get_or heads s head
     here = read ∙ ap (λ k. get_or heads k head) same
 
-    pub job_taken : (now n : ℕ) (job : W) (head' : Head) (lists' : List (List W)) → length lists ≡ length heads → n ≡ length (get_or lists s [])
-        → head' ≡ head_with_job now (ltb 0 n) head → lists' ≡ set lists s (get_or lists s [] ++ job ∷ [])
+    pub job_taken : (now : ℕ) (active : Bool) (job : W) (head' : Head) (lists' : List (List W)) → length lists ≡ length heads → active ≡ ltb 0 (length (get_or lists s []))
+        → head' ≡ head_with_job now active head → lists' ≡ set lists s (get_or lists s [] ++ job ∷ [])
         → helds (set heads i head') lists' ≡ changed_at (held_with_job now job) (helds heads lists) s
-    job_taken now n job head' lists' queued count h l =
+    job_taken now active job head' lists' queued count h l =
         rw (same, h, l, count)
         (helds-set (held_with_job now job) heads lists s (head_with_job now (ltb 0 (length (get_or lists s []))) head) head (get_or lists s [] ++ job ∷ []) within queued
         (ap (λ x. held_of (head_with_job now (ltb 0 (length (get_or lists s []))) x) (get_or lists s [] ++ job ∷ [])) here))

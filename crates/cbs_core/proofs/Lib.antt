@@ -9,11 +9,13 @@ pub mod Keeping
 pub mod Lists
 pub mod Opening
 pub mod Paid
-pub mod Readying
 pub mod Refusing
+pub mod Resting
 pub mod Running
+pub mod Spans
 pub mod Stepping
 pub mod Submitting
 pub mod Tables
 pub mod Viewing
+pub mod Waits
 pub mod Zipping

@@ -7,6 +7,8 @@ pub mod History
 pub mod Holding
 pub mod Lists
 pub mod Queued
+pub mod Quiet
 pub mod Replies
 pub mod Setups
+pub mod Spans
 pub mod Views

@@ -1,6 +1,7 @@
 //! The core: all servers, and the clock.
 
-ghost use Rattle.std.specs.Prelude.{◌≡◌, ℕ, ◌<◌, true, false, Ok, Err, IfOk, IfErr, OnOk, OnErr, IsOk, slice_get, [], MatchResult, Some, None, ◌⊎◌};
+ghost use Rattle.std.specs.Prelude.{◌≡◌, ℕ, ◌<◌, true, false, Ok, Err, IfOk, IfErr, OnOk, OnErr, IsOk, slice_get, [], MatchOption, MatchResult, Some, None, ◌⊎◌};
+ghost use Rattle.cbs_core.specs.Quiet.{IsAtRest, IsIdleSpan};
 ghost use Rattle.cbs_core.specs.History.{History, ◌⊕◌, world_after, reply_in, chosen, submit_refusal};
 ghost use Rattle.cbs_core.specs.Agreement.{Agrees};
 ghost use Rattle.cbs_core.specs.Replies.{submitted, advanced, closed, lacks_memory, IsAccepted, Answers, AnswersAll, grown, grown_by, RoomAnswers};
@@ -196,6 +197,16 @@ impl<W: Work, A: Allocator> Core<W, A> {
         ensures { (M : History W) → Agrees W.meaning self.now M → result ≡ chosen W.meaning (world_after W.meaning M).accounts }
     {
         self.servers.choose()
+    }
+
+    /// For how many ticks nobody will be ready: `None` if somebody is now, and else the greatest number
+    /// of ticks, up to the clock's end, by which the clock may be advanced with nobody ready before
+    /// the last of them. An advance by it takes no time from anybody.
+    pub fn idle_span(&self) -> Option<u64>
+        ensures { (M : History W) → Agrees W.meaning self.now M
+            → MatchOption result (¬ IsAtRest W.meaning (world_after W.meaning M)) (IsIdleSpan W.meaning (world_after W.meaning M)) }
+    {
+        self.servers.idle_span(self.clock)
     }
 
     /// What a server shows, or [`CoreError::NoSuchServer`].
