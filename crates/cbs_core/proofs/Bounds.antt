@@ -11,9 +11,9 @@ use Rattle.cbs_rules.specs.declared.mode.Mode.{Mode}
 use Rattle.cbs_rules.specs.declared.mode.Mode.TheVariants.{Soft, Throttled}
 use Rattle.cbs_rules.specs.declared.server_state.TheConstants.{LIMIT, MAX_DEADLINE}
 use Rattle.cbs_core.specs.Lists.{changed_at}
-use Rattle.cbs_core.specs.Held.{Held, CoreHeld}
+use Rattle.cbs_core.specs.Held.{Held, CoreHeld, held_at, no_held}
 use Rattle.cbs_core.specs.Queued.{jobs_run}
-use Rattle.cbs_core.specs.Holding.{held_at, no_held, held_with_unit, held_with_replenishment, IsBounded, IsCore}
+use Rattle.cbs_core.specs.Holding.{held_with_unit, held_with_replenishment, IsBounded, IsCore}
 use Rattle.cbs_core.proofs.Lists.{All_get, length-changed_at, AllByRecursion-changed, AllByRecursion-map}
 
 pub deadline-consumed-le : (mode : Mode) (r : Rate) (s : State) → (after_unit mode r s).deadline ≤ s.deadline + r.period

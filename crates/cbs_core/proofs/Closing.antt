@@ -6,8 +6,8 @@ use Rattle.cbs_core.specs.Lists.{changed_at}
 use Rattle.cbs_core.specs.Accounts.{Account, no_account, with_close}
 use Rattle.cbs_core.specs.History.{World, account, close_refusal_at, close_refusal, after_closing, next, close_reply, reply_to}
 use Rattle.cbs_core.specs.Agreement.{AgreesServer, AgreesWorld}
-use Rattle.cbs_core.specs.Held.{Held, CoreHeld}
-use Rattle.cbs_core.specs.Holding.{held_at, no_held, held_with_close, held_close_refusal_at, held_close_refusal, IsBounded, IsCore}
+use Rattle.cbs_core.specs.Held.{Held, CoreHeld, held_at, no_held}
+use Rattle.cbs_core.specs.Holding.{held_with_close, held_close_refusal_at, held_close_refusal, IsBounded, IsCore}
 use Rattle.cbs_core.specs.declared.error.CoreError.{CoreError}
 use Rattle.cbs_core.specs.declared.step.Step.TheVariants.{Close}
 use Rattle.cbs_core.proofs.Lists.{AllByRecursion-changed, AllZip-changed_at, length-changed_at}

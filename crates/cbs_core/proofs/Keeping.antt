@@ -9,9 +9,9 @@ use Rattle.cbs_rules.specs.Rules.{State, IsState, after_arrival, after_unit, aft
 use Rattle.cbs_rules.specs.declared.mode.Mode.{Mode}
 use Rattle.cbs_rules.specs.declared.mode.Mode.TheVariants.{Soft, Throttled}
 use Rattle.cbs_core.specs.Lists.{changed_at}
-use Rattle.cbs_core.specs.Held.{Held}
+use Rattle.cbs_core.specs.Held.{Held, held_at, no_held}
 use Rattle.cbs_core.specs.Queued.{jobs_run, result_run}
-use Rattle.cbs_core.specs.Holding.{Head, held_of, helds, held_at, no_held, head_with_job, head_with_unit, held_with_job, held_with_unit, held_with_close, held_with_replenishment, is_held_ready, IsServer, IsServers}
+use Rattle.cbs_core.specs.Holding.{Head, held_of, helds, head_with_job, head_with_unit, held_with_job, held_with_unit, held_with_close, held_with_replenishment, is_held_ready, IsServer, IsServers}
 use Rattle.cbs_core.proofs.Lists.{AllByRecursion-changed_at, AllByRecursion-map}
 use Rattle.cbs_core.proofs.Zipping.{helds-set, helds-set_head}
 

@@ -3,6 +3,7 @@ pub mod Agreeing
 pub mod Bounds
 pub mod Choosing
 pub mod Closing
+pub mod Doing
 pub mod Examples
 pub mod Finished
 pub mod Keeping

@@ -8,9 +8,9 @@ use Rattle.cbs_core.specs.Choice.{chosen_among}
 use Rattle.cbs_core.specs.Accounts.{no_account, with_unit, with_replenishment}
 use Rattle.cbs_core.specs.History.{World, account, rank, chosen, runner, after_run, next, unit_reply, run_reply}
 use Rattle.cbs_core.specs.Agreement.{AgreesServer, AgreesWorld}
-use Rattle.cbs_core.specs.Held.{Held, CoreHeld}
+use Rattle.cbs_core.specs.Held.{Held, CoreHeld, held_at, no_held}
 use Rattle.cbs_core.specs.Queued.{result_run}
-use Rattle.cbs_core.specs.Holding.{held_rank, held_at, no_held, held_with_unit, held_with_replenishment, ran_of, IsServer}
+use Rattle.cbs_core.specs.Holding.{held_rank, held_with_unit, held_with_replenishment, ran_of, IsServer}
 use Rattle.cbs_core.specs.declared.reply.Ran.{Ran}
 use Rattle.cbs_core.specs.declared.reply.Ran.TheVariants as ran
 use Rattle.cbs_core.specs.declared.step.Step.TheVariants.{Run}

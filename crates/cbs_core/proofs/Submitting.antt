@@ -12,8 +12,8 @@ use Rattle.cbs_core.specs.History.{History, World, account, refusal_at, submit_r
 use Rattle.cbs_core.specs.Agreement.{AgreesServer, AgreesWorld, Agrees}
 use Rattle.cbs_core.specs.Replies.{IsAccepted, RoomAnswers}
 use Rattle.cbs_core.specs.Errors.{is_out_of_memory}
-use Rattle.cbs_core.specs.Held.{Held, CoreHeld}
-use Rattle.cbs_core.specs.Holding.{held_at, no_held, held_with_job, held_refusal_at, held_refusal, IsBounded, IsCore}
+use Rattle.cbs_core.specs.Held.{Held, CoreHeld, held_at, no_held}
+use Rattle.cbs_core.specs.Holding.{held_with_job, held_refusal_at, held_refusal, IsBounded, IsCore}
 use Rattle.cbs_core.specs.declared.error.CoreError.{CoreError}
 use Rattle.cbs_core.specs.declared.error.CoreError.TheVariants as error
 use Rattle.cbs_core.specs.declared.reply.Reply.TheVariants as reply

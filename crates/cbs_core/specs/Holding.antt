@@ -126,14 +126,6 @@ module _ {W : Type 0} where
   abbrev pub held_close_refusal : List (Held W) → ℕ → Option CoreError
   held_close_refusal hs s = held_close_refusal_at (slice_get hs s)
 
--- what is held where there is no such server
-abbrev pub no_held : {W : Type 0} → Held W
-no_held = held_of (record { terms = record { mode = Soft; reservation = record { budget = 0; period = 0 } }; state = fresh_state; closed = true; accepted = 0; finished = 0 }) []
-
--- what is held of server s
-abbrev pub held_at : {W : Type 0} → List (Held W) → ℕ → Held W
-held_at hs s = get_or hs s no_held
-
 -- what a Run is answered after a unit of job seq of server s, by what that unit found
 abbrev pub ran_of : ℕ → ℕ → Option ℕ → Ran
 ran_of s seq None = ran.Unit s seq

@@ -6,7 +6,7 @@ ghost use Rattle.cbs_core.specs.History.{History, ◌⊕◌, world_after, reply_
 ghost use Rattle.cbs_core.specs.Agreement.{Agrees};
 ghost use Rattle.cbs_core.specs.Replies.{submitted, advanced, closed, lacks_memory, IsAccepted, Answers, AnswersAll, grown, grown_by, RoomAnswers};
 ghost use Rattle.cbs_core.specs.Views.{view_reply};
-ghost use Rattle.cbs_core.specs.Held.{room_of, KeepsRoom};
+ghost use Rattle.cbs_core.specs.Held.{room_of, KeepsRoom, held_at, TakesJob, ClosesServer, OthersSame, AllSame, DoesRun};
 ghost use Rattle.cbs_core.specs.Setups.{terms_of, new_refusal};
 
 use crate::error::CoreError;
@@ -113,6 +113,8 @@ impl<W: Work, A: Allocator> Core<W, A> {
         ensures still { lacks_memory result ≡ true → (M : History W) → Agrees W.meaning self.old M → Agrees W.meaning self.new M }
         ensures room { 0 < room_of self.old.rooms server → lacks_memory result ≡ false }
 
+        ensures job { IfOk result (λ number. TakesJob task number (held_at self.old.servers server) (held_at self.new.servers server)
+            × OthersSame server self.old.servers self.new.servers) }
         ensures unchanged { OnErr result (self.new ≡ record self.old { rooms = self.new.rooms }) }
         ensures kept { OnErr result (KeepsRoom self.old.rooms self.new.rooms) }
     {
@@ -135,6 +137,7 @@ impl<W: Work, A: Allocator> Core<W, A> {
     pub fn run(&mut self) -> Ran
         ensures reply { (M : History W) → Agrees W.meaning self.old M → Reply.Ran result ≡ reply_in W.meaning M Step.Run }
         ensures state { (M : History W) → Agrees W.meaning self.old M → Agrees W.meaning self.new (M ⊕ Step.Run) }
+        ensures job { DoesRun W.meaning result self.old self.new }
         ensures kept { KeepsRoom self.old.rooms self.new.rooms }
     {
         let Some(server) = self.servers.choose() else {
@@ -156,6 +159,8 @@ impl<W: Work, A: Allocator> Core<W, A> {
     pub fn advance(&mut self, n: u64) -> Result<(), CoreError>
         ensures reply { (M : History W) → Agrees W.meaning self.old M → advanced result ≡ reply_in W.meaning M (Step.Advance n) }
         ensures state { (M : History W) → Agrees W.meaning self.old M → Agrees W.meaning self.new (M ⊕ Step.Advance n) }
+        ensures jobs { AllSame self.old.servers self.new.servers }
+        ensures unchanged { OnErr result (self.new ≡ self.old) }
         ensures kept { KeepsRoom self.old.rooms self.new.rooms }
     {
         if n > LIMIT - self.clock {
@@ -175,6 +180,9 @@ impl<W: Work, A: Allocator> Core<W, A> {
     pub fn close(&mut self, server: u16) -> Result<(), CoreError>
         ensures reply { (M : History W) → Agrees W.meaning self.old M → closed result ≡ reply_in W.meaning M (Step.Close server) }
         ensures state { (M : History W) → Agrees W.meaning self.old M → Agrees W.meaning self.new (M ⊕ Step.Close server) }
+        ensures closed { OnOk result (ClosesServer (held_at self.old.servers server) (held_at self.new.servers server)
+            × OthersSame server self.old.servers self.new.servers) }
+        ensures unchanged { OnErr result (self.new ≡ self.old) }
         ensures kept { KeepsRoom self.old.rooms self.new.rooms }
     {
         if let Some(error) = self.servers.close_refusal(server) {

@@ -5,11 +5,11 @@ ghost use Rattle.std.specs.List.{All, HoldsAt};
 ghost use Rattle.cbs_rate.specs.Plan.{IsPlan};
 ghost use Rattle.cbs_core.specs.Lists.{changed_at};
 ghost use Rattle.cbs_core.specs.Choice.{chosen_among};
-ghost use Rattle.cbs_core.specs.Held.{room_of, KeepsRoom};
+ghost use Rattle.cbs_core.specs.Held.{room_of, KeepsRoom, held_at};
 ghost use Rattle.cbs_core.specs.Queued.{result_run};
 ghost use Rattle.cbs_core.specs.Spans.{held_wait, held_span};
 ghost use Rattle.cbs_core.specs.Setups.{terms_of};
-ghost use Rattle.cbs_core.specs.Holding.{IsServers, new_held, is_held_active, is_held_ready, held_rank, better_of, held_with_job, held_with_unit, held_with_close, held_with_replenishment, held_view_reply, held_refusal, held_close_refusal, ran_of, held_at, IsServer, head_with_replenishment};
+ghost use Rattle.cbs_core.specs.Holding.{IsServers, new_held, is_held_active, is_held_ready, held_rank, better_of, held_with_job, held_with_unit, held_with_close, held_with_replenishment, held_view_reply, held_refusal, held_close_refusal, ran_of, IsServer, head_with_replenishment};
 
 use crate::error::CoreError;
 use crate::queues::Queues;

@@ -1,6 +1,7 @@
 use Rattle.std.proofs.Common.{◌≡◌, ◌<◌, ◌≤◌, drop, length, sym, ◌∙◌, arith, true, false, Some}
 use Rattle.std.proofs.lemmas.List.{drop_all}
-use Rattle.cbs_core.specs.Holding.{is_held_ready, held_at, no_held}
+use Rattle.cbs_core.specs.Held.{held_at, no_held}
+use Rattle.cbs_core.specs.Holding.{is_held_ready}
 use Rattle.cbs_core.specs.Spans.{span_from}
 use Rattle.cbs_core.proofs.Spans.{span_step, span_from_start}
 use Rattle.cbs_core.proofs.servers.Servers.idle_span.Goals as goal
