@@ -35,11 +35,11 @@ impl Model for Plan {
 
     ghost Value = { Planned };
 
-    ghost use Rattle.cbs_rate.specs.Running.{planned, IsRunning};
+    ghost use Rattle.cbs_rate.specs.Sums.{planned, IsSummed};
 
     ghost view = { planned };
 
-    ghost invariant = { IsRunning };
+    ghost invariant = { IsSummed };
 }
 
 impl Plan {
