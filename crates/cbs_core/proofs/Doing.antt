@@ -1,12 +1,12 @@
 -- What the calls do to the jobs of one server, and leave to the others.
-use Rattle.std.proofs.Common.{◌≡◌, ◌≢◌, ℕ, zero, suc, ◌+◌, ◌-◌, ◌<◌, List, [], ◌∷◌, ◌++◌, length, map, get_or, refl, sym, ◌∙◌, ap, arith, eqb, Option, Some, None, inl, inr, true, false}
+use Rattle.std.proofs.Common.{◌≡◌, ◌≢◌, ℕ, zero, suc, ◌+◌, ◌-◌, ◌<◌, List, [], ◌∷◌, length, map, refl, ◌∙◌, ap, arith, eqb, inl, inr}
 use Rattle.std.proofs.lemmas.Bool.{cases_Bool}
 use Rattle.std.proofs.lemmas.Bool.Decides.{nat_tests}
 use Rattle.std.specs.List.{AllByRecursion}
 use Rattle.cbs_job.specs.Work.{Meaning, Lowers, whole}
 use Rattle.cbs_job.proofs.Whole.{whole_kept, output_whole}
 use Rattle.cbs_core.specs.Lists.{changed_at}
-use Rattle.cbs_core.specs.Held.{Held, CoreHeld, held_at, no_held, SameJobs, TakesJob, RunsJob, FinishesJob, ClosesServer, OthersSame, AllSame, DoesRun}
+use Rattle.cbs_core.specs.Held.{Held, CoreHeld, held_at, SameJobs, TakesJob, ClosesServer, OthersSame, AllSame, DoesRun}
 use Rattle.cbs_core.specs.Queued.{jobs_run, result_run}
 use Rattle.cbs_core.specs.Holding.{held_with_job, held_with_unit, held_with_close, held_with_replenishment, ran_of, IsServer}
 use Rattle.cbs_core.specs.declared.reply.Ran.{Ran}
