@@ -1,5 +1,4 @@
-use Rattle.std.proofs.Common.{◌+◌}
-use Rattle.std.proofs.Common.{sym, ap}
+use Rattle.std.proofs.Common.{◌+◌, sym, ap}
 use Rattle.cbs_core.specs.Held.{held_at, no_held}
 use Rattle.cbs_core.specs.History.{world_after}
 
