@@ -31,7 +31,7 @@ IsCore-shut core s servers rooms ok e = rw e record {
   small = ok.small;
   clock = ok.clock;
   bounded = AllByRecursion-changed (IsBounded core.backlog core.clock) (IsBounded core.backlog core.clock) held_with_close core.servers s ok.bounded
-      (λ h b. record { short = b.short; early = b.early; few_done = b.few_done; few_jobs = b.few_jobs; counts = b.counts }) (λ h b. b);
+      (λ h b. record { lawful = b.lawful; early = b.early; few_done = b.few_done; few_jobs = b.few_jobs; counts = b.counts }) (λ h b. b);
 }
 
 module _ {W : Type 0} (work : Meaning W) (core : CoreHeld W) (backlog : ℕ) (w : World W) (agrees : AgreesWorld work core backlog w) (s : ℕ)

@@ -6,6 +6,7 @@ pub mod Closing
 pub mod Doing
 pub mod Examples
 pub mod Finished
+pub mod Histories
 pub mod Keeping
 pub mod Lists
 pub mod Opening

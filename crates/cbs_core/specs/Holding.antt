@@ -151,7 +151,7 @@ pub record IsServers {W : Type 0} (work : Meaning W) (heads : List Head) (lists 
 
 -- what each server keeps against the clock and the backlog
 pub record IsBounded {W : Type 0} (backlog now : ℕ) (h : Held W) : Type 0 where
-  pub short : h.terms.reservation.period ≤ 1000000000
+  pub lawful : IsRate h.terms.reservation.budget h.terms.reservation.period
   pub early : h.state.deadline ≤ now + (now + 1) * 1000000000
   pub few_done : h.finished ≤ now
   pub few_jobs : length h.jobs ≤ backlog

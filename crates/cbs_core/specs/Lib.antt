@@ -5,6 +5,7 @@ pub mod Errors
 pub mod Held
 pub mod History
 pub mod Holding
+pub mod Laws
 pub mod Lists
 pub mod Queued
 pub mod Quiet
