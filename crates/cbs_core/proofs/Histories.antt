@@ -1,5 +1,5 @@
 -- What a job, a unit, a replenishment and a close keep of a server holds after every history.
-use Rattle.std.proofs.Common.{◌≡◌, ℕ, zero, suc, ◌+◌, ◌<◌, Bool, List, [], ◌∷◌, length, map, refl, ap, arith, true, false, leb, ltb, Option, Some, None, inl, inr}
+use Rattle.std.proofs.Common.{◌≡◌, ℕ, zero, suc, ◌+◌, ◌<◌, Bool, List, [], ◌∷◌, length, map, refl, arith, true, false, leb, ltb, Option, Some, None, inl, inr}
 use Rattle.std.specs.Prelude.{if◌then◌else◌}
 use Rattle.std.proofs.lemmas.Bool.{cases_Bool}
 use Rattle.std.proofs.lemmas.List.{length-map, get_or-map}
@@ -35,7 +35,7 @@ chosen_ready ranks s e =
 
 module _ {W : Type 0} (work : Meaning W) where
   -- the chosen server is ready
-  chosen_is_ready : (w : World W) (s : ℕ) → chosen work w.accounts ≡ Some s → is_ready work (account w.accounts s) ≡ true
+  pub chosen_is_ready : (w : World W) (s : ℕ) → chosen work w.accounts ≡ Some s → is_ready work (account w.accounts s) ≡ true
   chosen_is_ready w s e =
       let q = chosen_ready (map (rank work) w.accounts) s e in
       let lt : s < length w.accounts = let l = q.1 in omega (arith, length-map w.accounts (rank work)) in

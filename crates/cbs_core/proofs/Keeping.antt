@@ -15,7 +15,7 @@ use Rattle.cbs_core.specs.Holding.{Head, held_of, helds, head_with_job, head_wit
 use Rattle.cbs_core.proofs.Lists.{AllByRecursion-changed_at, AllByRecursion-map}
 use Rattle.cbs_core.proofs.Zipping.{helds-set, helds-set_head}
 
-IsState-after_arrival : (mode : Mode) (r : Rate) (now : ℕ) (s : State) → IsRate r.budget r.period → IsState r s → s.throttled ≡ false → IsState r (after_arrival mode r now s)
+pub IsState-after_arrival : (mode : Mode) (r : Rate) (now : ℕ) (s : State) → IsRate r.budget r.period → IsState r s → s.throttled ≡ false → IsState r (after_arrival mode r now s)
 IsState-after_arrival mode r now s ok is free = record {
   capped = let a = is.capped in grind (arith, nat_tests);
   spent = let a = is.spent in let b = is.unmarked in grind (arith, nat_tests);
@@ -24,7 +24,7 @@ IsState-after_arrival mode r now s ok is free = record {
   unmarked = let a = is.unmarked in let b = ok.some in let c = ok.within in grind (arith, nat_tests);
 }
 
-IsState-after_unit : (mode : Mode) (r : Rate) (s : State) → IsRate r.budget r.period → IsState r s → s.throttled ≡ false → 0 < s.deadline → IsState r (after_unit mode r s)
+pub IsState-after_unit : (mode : Mode) (r : Rate) (s : State) → IsRate r.budget r.period → IsState r s → s.throttled ≡ false → 0 < s.deadline → IsState r (after_unit mode r s)
 IsState-after_unit Soft r s ok is free begun = record {
   capped = let a = is.capped in grind (arith, nat_tests);
   spent = let a = is.spent in grind (arith, nat_tests);
@@ -40,7 +40,7 @@ IsState-after_unit Throttled r s ok is free begun = record {
   unmarked = let a = is.unmarked in grind (arith, nat_tests);
 }
 
-IsState-after_replenishment : (r : Rate) (now : ℕ) (s : State) → IsRate r.budget r.period → IsState r s → IsState r (after_replenishment r now s)
+pub IsState-after_replenishment : (r : Rate) (now : ℕ) (s : State) → IsRate r.budget r.period → IsState r s → IsState r (after_replenishment r now s)
 IsState-after_replenishment r now s ok is = record {
   capped = let a = is.capped in let b = is.spent in grind (arith, nat_tests);
   spent = let a = is.spent in grind (arith, nat_tests);
@@ -49,14 +49,14 @@ IsState-after_replenishment r now s ok is = record {
   unmarked = let a = is.unmarked in grind (arith, nat_tests);
 }
 
-begun_after_unit : (mode : Mode) (r : Rate) (s : State) → 0 < s.deadline → 0 < (after_unit mode r s).deadline
+pub begun_after_unit : (mode : Mode) (r : Rate) (s : State) → 0 < s.deadline → 0 < (after_unit mode r s).deadline
 begun_after_unit Soft r s begun = grind (arith, nat_tests)
 begun_after_unit Throttled r s begun = grind (arith, nat_tests)
 
-begun_after_arrival : (mode : Mode) (r : Rate) (now : ℕ) (s : State) → IsRate r.budget r.period → 0 < (after_arrival mode r now s).deadline
+pub begun_after_arrival : (mode : Mode) (r : Rate) (now : ℕ) (s : State) → IsRate r.budget r.period → 0 < (after_arrival mode r now s).deadline
 begun_after_arrival mode r now s ok = let b = ok.some in let c = ok.within in grind (arith, nat_tests)
 
-begun_after_replenishment : (r : Rate) (now : ℕ) (s : State) → 0 < s.deadline → 0 < (after_replenishment r now s).deadline
+pub begun_after_replenishment : (r : Rate) (now : ℕ) (s : State) → 0 < s.deadline → 0 < (after_replenishment r now s).deadline
 begun_after_replenishment r now s begun = grind (arith, nat_tests)
 
 AllByRecursion-push : {W : Type 0} (P : W → Type 0) (ws : List W) (w : W) → AllByRecursion P ws → P w → AllByRecursion P (ws ++ w ∷ [])

@@ -1,8 +1,11 @@
 pub mod Advancing
 pub mod Agreeing
 pub mod Bounds
+pub mod Budgets
 pub mod Choosing
+pub mod Closes
 pub mod Closing
+pub mod Completing
 pub mod Doing
 pub mod Examples
 pub mod Finished

@@ -1,13 +1,12 @@
 -- No server gets more units than its accepted jobs need.
-use Rattle.std.proofs.Common.{◌≡◌, ℕ, zero, suc, ◌+◌, ◌≤◌, ◌<◌, List, [], ◌∷◌, ◌++◌, length, map, arith, true, false}
-use Rattle.std.proofs.lemmas.Bool.{cases_Bool}
+use Rattle.std.proofs.Common.{◌≡◌, ℕ, zero, suc, ◌+◌, ◌≤◌, ◌<◌, List, [], ◌∷◌, ◌++◌, length, map, arith, true}
 use Rattle.std.proofs.lemmas.Bool.Decides.{nat_tests}
 use Rattle.std.proofs.lemmas.List.{take_all}
 use Rattle.std.proofs.lemmas.List.Sums.{sum_by-append}
 use Rattle.std.specs.List.{sum_by}
 use Rattle.cbs_job.specs.Work.{Meaning}
 use Rattle.cbs_rules.specs.Rules.{Terms}
-use Rattle.cbs_core.specs.Accounts.{Account, need, finished, is_active, is_ready, new_account, with_job, with_unit}
+use Rattle.cbs_core.specs.Accounts.{Account, need, finished, is_ready, new_account, with_job, with_unit}
 use Rattle.cbs_core.specs.History.{Setup, account, after}
 use Rattle.cbs_core.specs.declared.step.Step.{Step}
 use Rattle.cbs_core.proofs.Finished.{count_done_beyond, need-mono}

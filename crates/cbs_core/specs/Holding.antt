@@ -1,12 +1,13 @@
 -- What the calls do to what is held of a server. Private words of this crate: public clauses speak of agreement.
-use Rattle.std.specs.Prelude.{◌≡◌, ℕ, ◌+◌, ◌-◌, ◌*◌, ◌≤◌, ◌<◌, Bool, true, false, not, ◌&&◌, ◌||◌, leb, ltb, if◌then◌else◌, List, [], ◌∷◌, ◌++◌, length, slice_get, Option, Some, None, Result, Ok, Err}
+use Rattle.std.specs.Prelude.{◌≡◌, ◌≢◌, ℕ, ◌+◌, ◌-◌, ◌*◌, ◌≤◌, ◌<◌, Bool, true, false, not, ◌&&◌, ◌||◌, leb, ltb, if◌then◌else◌, List, [], ◌∷◌, ◌++◌, length, slice_get, Option, Some, None, Result, Ok, Err}
 use Rattle.std.specs.List.{AllByRecursion}
 use Rattle.cbs_job.specs.Work.{Meaning}
+use Rattle.cbs_job.specs.declared.completion.Completion.{Completion}
 use Rattle.cbs_rate.specs.Rate.{IsRate}
 use Rattle.cbs_rules.specs.Rules.{State, Terms, IsState, fresh_state, after_arrival, after_unit, after_replenishment}
 use Rattle.cbs_rules.specs.declared.server_state.TheConstants.{LIMIT}
 use Rattle.cbs_core.specs.Choice.{Rank, rank_at}
-use Rattle.cbs_core.specs.Held.{Held, CoreHeld}
+use Rattle.cbs_core.specs.Held.{Held, CoreHeld, held_at}
 use Rattle.cbs_core.specs.Queued.{jobs_run}
 use Rattle.cbs_core.specs.declared.error.CoreError.{CoreError}
 use Rattle.cbs_core.specs.declared.error.CoreError.TheVariants as error
@@ -163,3 +164,11 @@ pub record IsCore {W : Type 0} (core : CoreHeld W) : Type 0 where
   pub small : core.backlog ≤ 4096
   pub clock : core.clock ≤ LIMIT
   pub bounded : AllByRecursion (IsBounded core.backlog core.clock) core.servers
+
+module _ {W : Type 0} where
+  -- the counts of finished jobs go on by the completion, if there is one, and it has the number that they had
+  abbrev pub CountsOn : Option Completion → List (Held W) → List (Held W) → Type 0
+  CountsOn None old new = (s : ℕ) → (held_at new s).finished ≡ (held_at old s).finished
+  CountsOn (Some c) old new =
+      (c.seq ≡ (held_at old c.server).finished) × ((held_at new c.server).finished ≡ (held_at old c.server).finished + 1)
+      × ((s : ℕ) → s ≢ c.server → (held_at new s).finished ≡ (held_at old s).finished)

@@ -1,11 +1,13 @@
 //! The core: all servers, and the clock.
 
-ghost use Rattle.std.specs.Prelude.{◌≡◌, ℕ, ◌<◌, true, false, Ok, Err, IfOk, IfErr, OnOk, OnErr, IsOk, slice_get, [], MatchOption, MatchResult, Some, None, ◌⊎◌};
+ghost use Rattle.std.specs.Prelude.{◌≡◌, ℕ, ◌<◌, true, false, Ok, Err, IfOk, IfErr, OnOk, OnErr, length, slice_get, [], MatchOption, MatchResult, Some, None, ◌⊎◌};
 ghost use Rattle.cbs_core.specs.Quiet.{IsAtRest, IsIdleSpan};
 ghost use Rattle.cbs_core.specs.History.{History, ◌⊕◌, world_after, reply_in, chosen, submit_refusal};
 ghost use Rattle.cbs_core.specs.Agreement.{Agrees};
 ghost use Rattle.cbs_core.specs.Replies.{submitted, advanced, closed, lacks_memory, IsAccepted, Answers, AnswersAll, grown, grown_by, RoomAnswers};
 ghost use Rattle.cbs_core.specs.Views.{view_reply};
+ghost use Rattle.cbs_core.specs.Laws.{account_in, completion_in, completions_of, Completes, NoneAfterClose, IsWithinBudget};
+ghost use Rattle.cbs_core.specs.Holding.{CountsOn};
 ghost use Rattle.cbs_core.specs.Held.{room_of, KeepsRoom, held_at, TakesJob, ClosesServer, OthersSame, AllSame, DoesRun};
 ghost use Rattle.cbs_core.specs.Setups.{terms_of, new_refusal};
 
@@ -239,6 +241,15 @@ impl<W: Work, A: Allocator> Core<W, A> {
             → AnswersAll W.meaning M steps.items replies.items) }
         ensures state { IfOk result (λ replies. (M : History W) → Agrees W.meaning self.old M
             → Agrees W.meaning self.new (grown_by M steps.items replies.items)) }
+
+        // What the replies mean for each server, over the whole list.
+        ensures completions { IfOk result (λ replies. (M : History W) → Agrees W.meaning self.old M → (s : ℕ)
+            → Completes W.meaning (account_in W.meaning M s) (account_in W.meaning (grown_by M steps.items replies.items) s) (completions_of s replies.items)) }
+        ensures closes { IfOk result (λ replies. (M : History W) → Agrees W.meaning self.old M → (s : ℕ)
+            → NoneAfterClose s (account_in W.meaning M s).closed steps.items replies.items) }
+        ensures budgets { IfOk result (λ replies. (M : History W) → Agrees W.meaning self.old M → (s : ℕ) → s < length self.old.servers
+            → IsWithinBudget W.meaning (account_in W.meaning (grown_by M steps.items replies.items) s)) }
+
         ensures back { IfErr result (λ refused. refused.steps ≡ steps) }
         ensures unchanged { OnErr result (self.new ≡ self.old) }
     {
@@ -259,6 +270,7 @@ impl<W: Work, A: Allocator> Core<W, A> {
     fn step(&mut self, step: Step<W>) -> Reply<W>
         ensures reply { (M : History W) → Agrees W.meaning self.old M → Answers W.meaning M step result }
         ensures state { (M : History W) → Agrees W.meaning self.old M → Agrees W.meaning self.new (grown M step result) }
+        ensures counts { CountsOn (completion_in result) self.old.servers self.new.servers }
     {
         match step {
             Step::Submit(server, task) => submit_reply(self.submit(server, task)),
