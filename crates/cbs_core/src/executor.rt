@@ -1,8 +1,9 @@
 //! The core: all servers, and the clock.
 
-ghost use Rattle.std.specs.Prelude.{◌≡◌, ℕ, ◌<◌, true, false, Ok, Err, IfOk, IfErr, OnOk, OnErr, length, slice_get, [], MatchOption, MatchResult, Some, None, ◌⊎◌};
+ghost use Rattle.std.specs.Prelude.{◌≡◌, ℕ, ◌+◌, ◌*◌, ◌<◌, ◌≤◌, true, false, Ok, Err, IfOk, IfErr, OnOk, OnErr, length, slice_get, [], MatchOption, MatchResult, Some, None, ◌⊎◌};
 ghost use Rattle.cbs_core.specs.Quiet.{IsAtRest, IsIdleSpan};
-ghost use Rattle.cbs_core.specs.History.{History, ◌⊕◌, world_after, reply_in, chosen, submit_refusal};
+ghost use Rattle.cbs_core.specs.Choice.{IsChoice};
+ghost use Rattle.cbs_core.specs.History.{History, ◌⊕◌, world_after, reply_in, ranks_of, chosen, submit_refusal};
 ghost use Rattle.cbs_core.specs.Agreement.{Agrees};
 ghost use Rattle.cbs_core.specs.Replies.{submitted, advanced, closed, lacks_memory, IsAccepted, Answers, AnswersAll, grown, grown_by, RoomAnswers};
 ghost use Rattle.cbs_core.specs.Views.{view_reply};
@@ -204,7 +205,9 @@ impl<W: Work, A: Allocator> Core<W, A> {
     /// The chosen server: the ready one with the least deadline, of equal deadlines the lower
     /// number; `None` where nobody is ready.
     pub fn ready(&self) -> Option<u16>
-        ensures { (M : History W) → Agrees W.meaning self.now M → result ≡ chosen W.meaning (world_after W.meaning M).accounts }
+        ensures chosen { (M : History W) → Agrees W.meaning self.now M → result ≡ chosen W.meaning (world_after W.meaning M).accounts }
+        ensures earliest { (M : History W) → Agrees W.meaning self.now M
+            → IsChoice (ranks_of W.meaning (world_after W.meaning M).accounts) (length (world_after W.meaning M).accounts) result }
     {
         self.servers.choose()
     }
@@ -221,7 +224,9 @@ impl<W: Work, A: Allocator> Core<W, A> {
 
     /// What a server shows, or [`CoreError::NoSuchServer`].
     pub fn view(&self, server: u16) -> Result<ServerView, CoreError>
-        ensures { (M : History W) → Agrees W.meaning self.now M → result ≡ view_reply W.meaning (slice_get (world_after W.meaning M).accounts server) }
+        ensures view { (M : History W) → Agrees W.meaning self.now M → result ≡ view_reply W.meaning (slice_get (world_after W.meaning M).accounts server) }
+        ensures early { (M : History W) → Agrees W.meaning self.now M
+            → IfOk result (λ view. let now = (world_after W.meaning M).now in view.deadline ≤ now + (now + 1) * 1000000000) }
     {
         self.servers.view(server)
     }

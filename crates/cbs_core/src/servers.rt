@@ -4,7 +4,7 @@ ghost use Rattle.std.specs.Prelude.{◌≡◌, ℕ, ◌+◌, ◌<◌, ◌≤◌,
 ghost use Rattle.std.specs.List.{All, HoldsAt};
 ghost use Rattle.cbs_rate.specs.Plan.{IsPlan};
 ghost use Rattle.cbs_core.specs.Lists.{changed_at};
-ghost use Rattle.cbs_core.specs.Choice.{chosen_among};
+ghost use Rattle.cbs_core.specs.Choice.{chosen_among, IsChoice};
 ghost use Rattle.cbs_core.specs.Held.{room_of, KeepsRoom, held_at};
 ghost use Rattle.cbs_core.specs.Queued.{result_run};
 ghost use Rattle.cbs_core.specs.Spans.{held_wait, held_span};
@@ -114,6 +114,7 @@ impl<W: Work, A: Allocator> Servers<W, A> {
     /// The ready server with the least deadline, and of several the first.
     pub fn choose(&self) -> Option<u16>
         ensures first { result ≡ chosen_among (map held_rank self.now.held) }
+        ensures choice { IsChoice (map held_rank self.now.held) (length (map held_rank self.now.held)) result }
         ensures within { IfSome result (λ s. s < length self.now.held) }
         ensures ready { IfSome result (λ s. HoldsAt (λ h. is_held_ready h ≡ true) self.now.held s) }
     {
