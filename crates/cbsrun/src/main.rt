@@ -1,0 +1,11 @@
+//! Runs task files.
+#![tactic(auto)]
+
+mod input;
+mod output;
+
+use std::process::ExitCode;
+
+fn main(_rt: HostRuntime) -> ExitCode {
+    ExitCode::SUCCESS
+}
