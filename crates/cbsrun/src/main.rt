@@ -3,6 +3,7 @@
 
 mod input;
 mod output;
+mod words;
 
 use std::process::ExitCode;
 
