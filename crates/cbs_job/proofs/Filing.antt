@@ -1,0 +1,20 @@
+-- A job of a task file comes to what the job inside comes to.
+use Rattle.std.proofs.Common.{◌≡◌, ℕ, zero, suc, refl, List}
+use Rattle.cbs_job.specs.Work.{whole, output_after}
+use Rattle.cbs_job.specs.Numbers.{Progress, stepped, summing, peaking}
+use Rattle.cbs_job.specs.Files.{of_files}
+use Rattle.cbs_job.specs.declared.file.FileJob.TheVariants.{Sum, Peak}
+
+sum_inside : (n : ℕ) (p : Progress) → output_after of_files n (Sum p) ≡ output_after summing n p
+sum_inside zero p = refl
+sum_inside (suc n) p = sum_inside n (summing.after p)
+
+pub whole-Sum : (p : Progress) → whole of_files (Sum p) ≡ whole summing p
+whole-Sum p = sum_inside (summing.left p) p
+
+peak_inside : (n : ℕ) (p : Progress) → output_after of_files n (Peak p) ≡ output_after peaking n p
+peak_inside zero p = refl
+peak_inside (suc n) p = peak_inside n (peaking.after p)
+
+pub whole-Peak : (p : Progress) → whole of_files (Peak p) ≡ whole peaking p
+whole-Peak p = peak_inside (peaking.left p) p

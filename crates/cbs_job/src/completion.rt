@@ -1,0 +1,12 @@
+//! The completion of a job.
+
+/// Job `seq` of `server` is finished, with this result.
+#[derive(Clone, Copy, Debug, PartialEq, Eq)]
+pub struct Completion {
+    /// The server whose job it was.
+    pub server: u16,
+    /// The job's number among the accepted jobs of its server, from 0.
+    pub seq: u64,
+    /// The output of the job after its last unit.
+    pub result: u64,
+}

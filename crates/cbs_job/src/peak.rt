@@ -1,0 +1,62 @@
+//! A job that seeks the greatest number.
+
+ghost use Rattle.std.specs.Prelude.{◌≡◌, ◌≤◌, ℕ, List, length, drop};
+ghost use Rattle.cbs_job.specs.Work.{whole};
+ghost use Rattle.cbs_job.specs.Numbers.{Progress, peaking, IsPeak};
+
+use crate::work::Work;
+use std::marker::Model;
+
+/// Seeks the greatest number, one number in each unit. Its output is the greatest so far, 0 at first.
+#[derive(Drop)]
+pub struct PeakJob {
+    numbers: Vec<u32>,
+    next: usize,
+    greatest: u32,
+}
+
+impl Model for PeakJob {
+    ghost Value = { Progress };
+
+    ghost view = { λ j. record { numbers = drop j.next j.numbers.items; output = j.greatest } };
+
+    ghost invariant = { λ j. (j.next ≤ length j.numbers.items) × (length j.numbers.items ≤ 4294967295) };
+}
+
+impl PeakJob {
+    /// The greatest of at most 4,294,967,295 numbers: as many units, and the greatest as the result,
+    /// or 0 where there is none.
+    pub fn new(numbers: Vec<u32>) -> PeakJob
+        requires { length numbers.items ≤ 4294967295 }
+        ensures value { result ≡ record { numbers = numbers.items; output = 0 } }
+        ensures left { peaking.left result ≡ length numbers.items }
+        ensures whole { IsPeak numbers.items (whole peaking result) }
+    {
+        PeakJob {
+            numbers,
+            next: 0,
+            greatest: 0,
+        }
+    }
+}
+
+impl Work for PeakJob {
+    ghost use Rattle.cbs_job.specs.Numbers.{taking_in_lowers};
+
+    ghost meaning = { peaking };
+
+    ghost lowers = { taking_in_lowers _ };
+
+    fn left(&self) -> u32 {
+        (self.numbers.len() - self.next) as u32
+    }
+
+    fn step(&mut self) {
+        self.greatest = self.greatest.max(self.numbers[self.next]);
+        self.next += 1;
+    }
+
+    fn output(&self) -> u64 {
+        u64::from(self.greatest)
+    }
+}

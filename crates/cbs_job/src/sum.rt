@@ -1,0 +1,61 @@
+//! A job that adds numbers up.
+
+ghost use Rattle.std.specs.Prelude.{◌≡◌, ◌≤◌, ◌*◌, ℕ, List, length, drop, sum};
+ghost use Rattle.cbs_job.specs.Work.{whole};
+ghost use Rattle.cbs_job.specs.Numbers.{Progress, summing};
+
+use crate::work::Work;
+use std::marker::Model;
+
+/// Adds numbers up, one in each unit. Its output is the total so far, 0 at first.
+#[derive(Drop)]
+pub struct SumJob {
+    numbers: Vec<u32>,
+    next: usize,
+    total: u64,
+}
+
+impl Model for SumJob {
+    ghost Value = { Progress };
+
+    ghost view = { λ j. record { numbers = drop j.next j.numbers.items; output = j.total } };
+
+    ghost invariant = { λ j. (j.next ≤ length j.numbers.items) × (length j.numbers.items ≤ 4294967295) × (j.total ≤ j.next * 4294967295) };
+}
+
+impl SumJob {
+    /// The sum of at most 4,294,967,295 numbers: as many units, and their total as the result.
+    pub fn new(numbers: Vec<u32>) -> SumJob
+        requires { length numbers.items ≤ 4294967295 }
+        ensures value { result ≡ record { numbers = numbers.items; output = 0 } }
+        ensures left { summing.left result ≡ length numbers.items }
+        ensures whole { whole summing result ≡ sum numbers.items }
+    {
+        SumJob {
+            numbers,
+            next: 0,
+            total: 0,
+        }
+    }
+}
+
+impl Work for SumJob {
+    ghost use Rattle.cbs_job.specs.Numbers.{taking_in_lowers};
+
+    ghost meaning = { summing };
+
+    ghost lowers = { taking_in_lowers _ };
+
+    fn left(&self) -> u32 {
+        (self.numbers.len() - self.next) as u32
+    }
+
+    fn step(&mut self) {
+        self.total += u64::from(self.numbers[self.next]);
+        self.next += 1;
+    }
+
+    fn output(&self) -> u64 {
+        self.total
+    }
+}

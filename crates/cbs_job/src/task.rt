@@ -1,0 +1,116 @@
+//! Work that may be submitted.
+
+ghost use Rattle.std.specs.Prelude.{◌≡◌, ◌<◌, ◌≤◌, IfOk, IfErr, OnOk, OnErr, MatchResult, Some, None};
+ghost use Rattle.cbs_job.specs.Work.{whole};
+
+use crate::running::Running;
+use crate::work::Work;
+use std::marker::Model;
+use thiserror::Error;
+
+/// The most units that a job may have.
+pub const MAX_UNITS: u32 = 1_000_000;
+
+/// Work with 1 to [`MAX_UNITS`] units left, which nobody has begun on: it has no `step`.
+#[derive(Drop)]
+pub struct Task<W: Work> {
+    work: W,
+}
+
+impl<W: Work> Model for Task<W> {
+    ghost Value = { W };
+
+    ghost view = { λ t. t.work };
+
+    ghost invariant = { λ t. (0 < W.meaning.left t.work) × (W.meaning.left t.work ≤ 1000000) };
+}
+
+/// Why work makes no task.
+#[derive(Clone, Copy, Debug, PartialEq, Eq, Error)]
+pub enum TaskError {
+    /// No unit is left: there is nothing to run.
+    #[error("the job is empty: a job has at least 1 unit")]
+    EmptyJob,
+    /// More than [`MAX_UNITS`] units are left.
+    #[error("the job is too long: a job has at most 1000000 units")]
+    TooLong,
+}
+
+impl TaskError {
+    ghost use Rattle.cbs_job.specs.Tasks.{task_error_number, task_error_name};
+
+    /// The error's number, from 1.
+    pub fn number(self) -> u8
+        ensures { result ≡ task_error_number self }
+    {
+        match self {
+            TaskError::EmptyJob => 1,
+            TaskError::TooLong => 2,
+        }
+    }
+
+    /// The error's name, as it is written in this program.
+    pub fn name(self) -> &'static str
+        ensures { result.now ≡ task_error_name self }
+    {
+        match self {
+            TaskError::EmptyJob => "EmptyJob",
+            TaskError::TooLong => "TooLong",
+        }
+    }
+}
+
+/// Work that made no task, handed back.
+#[derive(Drop)]
+pub struct TaskRefused<W: Work> {
+    /// Why it was refused.
+    pub error: TaskError,
+    /// The work, as it was given.
+    pub work: W,
+}
+
+impl<W: Work> Task<W> {
+    ghost use Rattle.cbs_job.specs.Tasks.{task_refusal};
+
+    /// The task of some work.
+    ///
+    /// Refuses work with no unit left by [`TaskError::EmptyJob`], and with more than [`MAX_UNITS`]
+    /// by [`TaskError::TooLong`]; the work then comes back as it was.
+    pub fn new(work: W) -> Result<Task<W>, TaskRefused<W>>
+        ensures ok { IfOk result (λ task. task ≡ work) }
+        ensures back { IfErr result (λ refused. refused.work ≡ work) }
+        ensures refusal { MatchResult result (λ _. task_refusal (W.meaning.left work) ≡ None) (λ refused. task_refusal (W.meaning.left work) ≡ Some refused.error) }
+    {
+        let left = work.left();
+        if left == 0 {
+            return Err(TaskRefused {
+                error: TaskError::EmptyJob,
+                work,
+            });
+        }
+        if left > MAX_UNITS {
+            return Err(TaskRefused {
+                error: TaskError::TooLong,
+                work,
+            });
+        }
+        Ok(Task { work })
+    }
+
+    /// How many units are left: 1 to [`MAX_UNITS`].
+    pub fn left(&self) -> u32
+        ensures value { result ≡ W.meaning.left self.now }
+        ensures some { 0 < result }
+        ensures few { result ≤ 1000000 }
+    {
+        self.work.left()
+    }
+
+    /// Begins on the task: the same work, which may now be stepped.
+    pub fn start(self) -> Running<W>
+        ensures work { result ≡ self }
+        ensures some { 0 < W.meaning.left self }
+    {
+        Running::of(self.work)
+    }
+}

@@ -1,0 +1,68 @@
+-- The rules for one server: where it starts, an arrival, a unit, a replenishment.
+-- Soft mode is the Constant Bandwidth Server of Luca Abeni and Giorgio Buttazzo, 'Integrating Multimedia
+-- Applications in Hard Real-Time Systems', RTSS 1998. Throttled mode is this project's own, modelled on Linux's SCHED_DEADLINE.
+use Rattle.std.specs.Prelude.{◌≡◌, ℕ, zero, suc, ◌+◌, ◌-◌, ◌*◌, ◌≤◌, ◌<◌, Bool, true, false, ◌&&◌, ◌||◌, eqb, leb, ltb, if◌then◌else◌}
+use Rattle.cbs_rate.specs.Rate.{Rate}
+use Rattle.cbs_rules.specs.declared.mode.Mode.{Mode}
+use Rattle.cbs_rules.specs.declared.mode.Mode.TheVariants.{Soft, Throttled}
+
+-- the mode and the reservation that a server was given
+pub record Terms : Type 0 where
+  pub mode : Mode
+  pub reservation : Rate
+
+-- the ticks that a server may still use, by when, and whether it waits to be replenished
+pub record State : Type 0 where
+  pub budget : ℕ
+  pub deadline : ℕ
+  pub throttled : Bool
+
+-- start: no budget, deadline 0, not throttled
+abbrev pub fresh_state : State
+fresh_state = record { budget = 0; deadline = 0; throttled = false }
+
+-- whether an arrival at an idle, unthrottled server renews it: its deadline has come, or its budget would be too
+-- much for the time that is left. With c the budget and d the deadline, the soft rule is the 1998 paper's
+-- c ≥ (d - now) * Q / T, multiplied out; the throttled rule has > in its place
+abbrev pub is_renewed : Mode → Rate → ℕ → State → Bool
+is_renewed Soft r now s = leb s.deadline now || leb ((s.deadline - now) * r.budget) (s.budget * r.period)
+is_renewed Throttled r now s = leb s.deadline now || ltb ((s.deadline - now) * r.budget) (s.budget * r.period)
+
+-- arrival at an idle, unthrottled server: renewed, it gets a whole budget and the deadline one period from now; else it keeps both
+abbrev pub after_arrival : Mode → Rate → ℕ → State → State
+after_arrival mode r now s = if is_renewed mode r now s then record { budget = r.budget; deadline = now + r.period; throttled = s.throttled } else s
+
+-- exhaustion: a soft server gets a whole budget at once and its deadline is postponed by a period (1998); a throttled one waits
+abbrev pub after_exhaustion : Mode → Rate → State → State
+after_exhaustion Soft r s = record { budget = r.budget; deadline = s.deadline + r.period; throttled = s.throttled }
+after_exhaustion Throttled r s = record { budget = s.budget; deadline = s.deadline; throttled = true }
+
+-- a unit uses one tick of the budget, and the last one exhausts it
+abbrev pub after_unit : Mode → Rate → State → State
+after_unit mode r s =
+    let spent : State = record { budget = s.budget - 1; deadline = s.deadline; throttled = s.throttled } in
+    if eqb spent.budget 0 then after_exhaustion mode r spent else spent
+
+-- replenishment at a time: a throttled server whose deadline has come gets one budget and one period more, and runs again
+abbrev pub after_replenishment : Rate → ℕ → State → State
+after_replenishment r now s =
+    if s.throttled && leb s.deadline now then record { budget = s.budget + r.budget; deadline = s.deadline + r.period; throttled = false } else s
+
+-- n ticks from now: a replenishment at each of them
+abbrev pub after_ticks : Rate → ℕ → ℕ → State → State
+after_ticks r now zero s = s
+after_ticks r now (suc n) s = after_ticks r (now + 1) n (after_replenishment r (now + 1) s)
+
+-- what every server keeps: the budget is within the reservation; a throttled server has none, and one that may run
+-- and has a deadline has some; before its first deadline it has no budget and is not throttled
+pub record IsState (r : Rate) (s : State) : Type 0 where
+  pub capped : s.budget ≤ r.budget
+  pub spent : s.throttled ≡ true → s.budget ≡ 0
+  pub unspent : s.throttled ≡ false → 0 < s.deadline → 0 < s.budget
+  pub unbegun : s.deadline ≡ 0 → s.budget ≡ 0
+  pub unmarked : s.deadline ≡ 0 → s.throttled ≡ false
+
+-- a server's reservation and state together
+pub record Reserved : Type 0 where
+  pub reservation : Rate
+  pub state : State

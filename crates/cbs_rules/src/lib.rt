@@ -1,0 +1,8 @@
+//! The rules of scheduling for one server: its budget, its deadline, and when it is throttled.
+#![tactic(auto)]
+
+mod mode;
+mod server_state;
+
+pub use mode::Mode;
+pub use server_state::{LIMIT, MAX_DEADLINE, ServerState};

@@ -1,0 +1,163 @@
+//! Budget and deadline of one server, and the rules that change them.
+
+ghost use Rattle.std.specs.Prelude.{◌≡◌, ◌+◌, ◌≤◌, ◌<◌, ℕ, true, false};
+ghost use Rattle.cbs_rules.specs.Rules.{fresh_state, after_arrival, after_unit, after_replenishment, is_renewed, after_ticks, IsState};
+
+use crate::mode::Mode;
+use cbs_rate::Reservation;
+use std::marker::Model;
+
+/// The clock's end, in ticks.
+pub const LIMIT: u64 = 1_000_000_000;
+
+/// The latest deadline to which a period may still be added, in ticks. No server of an executor
+/// passes it while the clock is at most [`LIMIT`].
+pub const MAX_DEADLINE: u64 = 1_000_000_001_000_000_000;
+
+/// Budget, deadline and the mark 'throttled' of one server, with its reservation.
+#[derive(Clone, Copy, Debug, PartialEq, Eq)]
+pub struct ServerState {
+    reservation: Reservation,
+    budget: u64,
+    deadline: u64,
+    throttled: bool,
+}
+
+impl Model for ServerState {
+    ghost use Rattle.cbs_rules.specs.Rules.{Reserved, IsState};
+
+    ghost Value = { Reserved };
+
+    ghost view = { λ s. record { reservation = s.reservation; state = record { budget = s.budget; deadline = s.deadline; throttled = s.throttled } } };
+
+    ghost invariant = { λ s. IsState s.reservation (record { budget = s.budget; deadline = s.deadline; throttled = s.throttled }) };
+
+    ghost inverse = { λ v. record { reservation = v.reservation; budget = v.state.budget; deadline = v.state.deadline; throttled = v.state.throttled } };
+}
+
+impl ServerState {
+    /// A server at its start: no budget, deadline 0, not throttled.
+    pub fn fresh(reservation: Reservation) -> ServerState
+        ensures { result ≡ record { reservation = reservation; state = fresh_state } }
+    {
+        ServerState {
+            reservation,
+            budget: 0,
+            deadline: 0,
+            throttled: false,
+        }
+    }
+
+    /// A job arrives at the idle server, at tick `now`.
+    ///
+    /// With c the budget and d the deadline, the server is renewed if `d <= now`, or if
+    /// `c * T >= (d - now) * Q` (soft; Abeni and Buttazzo, RTSS 1998) or `c * T > (d - now) * Q`
+    /// (throttled): its budget is then Q and its deadline `now + T`. Otherwise both stay.
+    pub fn arrive_idle(&mut self, mode: Mode, now: u64)
+        requires free { self.old.state.throttled ≡ false }
+        requires clock { now ≤ LIMIT }
+        ensures { self.new ≡ record { reservation = self.old.reservation; state = after_arrival mode self.old.reservation now self.old.state } }
+    {
+        if self.is_renewed(mode, now) {
+            let reservation = self.reservation;
+            *self = ServerState {
+                reservation,
+                budget: reservation.budget(),
+                deadline: now + reservation.period(),
+                throttled: false,
+            };
+        }
+    }
+
+    /// Whether an arrival renews the server. Products are compared in place of quotients, so that
+    /// nothing is rounded.
+    fn is_renewed(&self, mode: Mode, now: u64) -> bool
+        ensures { result ≡ is_renewed mode self.now.reservation now self.now.state }
+    {
+        if self.deadline <= now {
+            return true;
+        }
+        let held = u128::from(self.budget) * u128::from(self.reservation.period());
+        let earned = u128::from(self.deadline - now) * u128::from(self.reservation.budget());
+        match mode {
+            Mode::Soft => held >= earned,
+            Mode::Throttled => held > earned,
+        }
+    }
+
+    /// Uses one tick of the budget. With the last one a soft server gets a whole budget at once and
+    /// its deadline is postponed by a period; a throttled one is throttled.
+    pub fn consume(&mut self, mode: Mode)
+        requires some { 0 < self.old.state.budget }
+        requires free { self.old.state.throttled ≡ false }
+        requires room { self.old.state.deadline ≤ MAX_DEADLINE }
+        ensures { self.new ≡ record { reservation = self.old.reservation; state = after_unit mode self.old.reservation self.old.state } }
+    {
+        let reservation = self.reservation;
+        let budget = self.budget - 1;
+        let (budget, deadline, throttled) = match mode {
+            _ if budget > 0 => (budget, self.deadline, false),
+            Mode::Soft => (
+                reservation.budget(),
+                self.deadline + reservation.period(),
+                false,
+            ),
+            Mode::Throttled => (0, self.deadline, true),
+        };
+        *self = ServerState {
+            reservation,
+            budget,
+            deadline,
+            throttled,
+        };
+    }
+
+    /// Replenishes the server at tick `now`: if it is throttled and its deadline has come, it gets Q
+    /// ticks more, its deadline is postponed by a period, and it may run again. It is once, even
+    /// where the deadline stays in the past; so a jump of the clock by n ticks is the same as n ticks.
+    pub fn replenish(&mut self, now: u64)
+        requires { self.old.state.deadline ≤ MAX_DEADLINE }
+        ensures rule { self.new ≡ record { reservation = self.old.reservation; state = after_replenishment self.old.reservation now self.old.state } }
+        ensures ticks { (start n : ℕ) → 0 < n → now ≡ start + n → self.new.state ≡ after_ticks self.old.reservation start n self.old.state }
+    {
+        self.refill(now);
+    }
+
+    /// One budget and one period more, if the deadline of a throttled server has come.
+    fn refill(&mut self, now: u64)
+        requires { self.old.state.deadline ≤ MAX_DEADLINE }
+        ensures { self.new ≡ record { reservation = self.old.reservation; state = after_replenishment self.old.reservation now self.old.state } }
+    {
+        if self.throttled && self.deadline <= now {
+            let reservation = self.reservation;
+            *self = ServerState {
+                reservation,
+                budget: self.budget + reservation.budget(),
+                deadline: self.deadline + reservation.period(),
+                throttled: false,
+            };
+        }
+    }
+
+    /// The ticks that it may still use: at most Q, none while it is throttled.
+    pub fn budget(&self) -> u64
+        ensures value { result ≡ self.now.state.budget }
+        ensures kept { IsState self.now.reservation self.now.state }
+    {
+        self.budget
+    }
+
+    /// The tick by which it may use them.
+    pub fn deadline(&self) -> u64
+        ensures { result ≡ self.now.state.deadline }
+    {
+        self.deadline
+    }
+
+    /// Whether it waits to be replenished.
+    pub fn throttled(&self) -> bool
+        ensures { result ≡ self.now.state.throttled }
+    {
+        self.throttled
+    }
+}
