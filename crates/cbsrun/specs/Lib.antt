@@ -1,4 +1,6 @@
 pub mod Counted
+pub mod Faults
+pub mod Fields
 pub mod Reads
-pub mod Writes
 pub mod Words
+pub mod Writes

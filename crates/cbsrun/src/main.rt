@@ -1,6 +1,8 @@
 //! Runs task files.
 #![tactic(auto)]
 
+mod fault;
+mod fields;
 mod input;
 mod output;
 mod words;
