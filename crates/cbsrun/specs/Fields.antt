@@ -57,6 +57,11 @@ members _ = Err WrongType
 abbrev pub all_whole : List Data → Result (Unit {0}) FileKind
 all_whole ds = if list_all (λ d. is_some (as_integer d)) ds then Ok tt else Err WrongType
 
+-- a number that is not negative
+abbrev pub natural : ℤ → Result ℕ FileKind
+natural (pos n) = Ok n
+natural (negsuc n) = Err OutOfRange
+
 -- a number from low to high
 abbrev pub within : ℕ → ℕ → ℤ → Result ℕ FileKind
 within low high (pos n) = if nat_le low n && nat_le n high then Ok n else Err OutOfRange

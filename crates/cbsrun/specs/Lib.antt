@@ -1,4 +1,5 @@
 pub mod Counted
+pub mod Entries
 pub mod Faults
 pub mod Fields
 pub mod Reads

@@ -6,7 +6,7 @@ ghost use Rattle.std.specs.List.{list_any, list_all};
 ghost use Rattle.std.specs.BTreeMap.{keys as map_keys};
 ghost use Rattle.toml.specs.Data.{as_integer};
 ghost use Rattle.toml.specs.View.{view, table_view, array_view};
-ghost use Rattle.cbsrun.specs.Fields.{seen, known, present, whole, text, items, members, within, below, all_whole, number, sized, each, Gives};
+ghost use Rattle.cbsrun.specs.Fields.{seen, known, present, whole, text, items, members, natural, within, below, all_whole, number, sized, each, Gives};
 
 use crate::fault::FileKind;
 use std::alloc::Global;
@@ -59,6 +59,16 @@ pub fn members(value: &Value) -> Result<&Table, FileKind>
     match value.as_table() {
         Some(m) => Ok(m),
         None => Err(FileKind::WrongType),
+    }
+}
+
+/// A number that is not negative.
+pub fn natural(n: i64) -> Result<u64, FileKind>
+    ensures { result ≡ natural n }
+{
+    match u64::try_from(n) {
+        Ok(n) => Ok(n),
+        Err(_) => Err(FileKind::OutOfRange),
     }
 }
 
@@ -145,7 +155,8 @@ pub fn number(low: u64, high: u64, value: &Value) -> Result<u64, FileKind>
 
 /// The numbers of an array, each of 32 bits.
 pub fn units(alloc: Global, values: &[Value]) -> Result<Vec<u32>, FileKind>
-    ensures { Gives FileKind.OutOfMemory (λ v. v.items) result (each (number 0 4294967295) (map view values.now)) }
+    ensures value { Gives FileKind.OutOfMemory (λ v. v.items) result (each (number 0 4294967295) (map view values.now)) }
+    ensures len { IfOk result (λ v. length v.items ≡ length values.now) }
 {
     let mut units = Vec::with_capacity(alloc, values.len())?;
     for value in values {

@@ -1,10 +1,12 @@
 //! Runs task files.
 #![tactic(auto)]
 
+mod entries;
 mod fault;
 mod fields;
 mod input;
 mod output;
+mod steps;
 mod words;
 
 use std::process::ExitCode;
