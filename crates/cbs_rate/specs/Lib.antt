@@ -1,3 +1,6 @@
+pub mod Bound
 pub mod Errors
+pub mod Plan
 pub mod Rate
 pub mod Refusals
+pub mod Running

@@ -1,11 +1,11 @@
-//! Why a reservation is refused.
+//! Why a reservation, a bound or an admission is refused.
 
 ghost use Rattle.std.specs.Prelude.{◌≡◌};
-ghost use Rattle.cbs_rate.specs.Errors.{rate_error_number, rate_error_name};
+ghost use Rattle.cbs_rate.specs.Errors.{rate_error_number, rate_error_name, admit_error_number, admit_error_name};
 
 use thiserror::Error;
 
-/// Why a reservation is refused.
+/// Why two numbers make no reservation or no bound.
 #[derive(Clone, Copy, Debug, PartialEq, Eq, Error)]
 pub enum RateError {
     /// The budget is 0: a server with no budget would never run.
@@ -17,6 +17,10 @@ pub enum RateError {
     /// The budget is larger than the period: no processor has that much time.
     #[error("the budget is larger than the period")]
     BudgetOverPeriod,
+    /// The bound is no fraction from above 0 to 1 with a denominator of at most
+    /// [`MAX_DENOMINATOR`](crate::MAX_DENOMINATOR).
+    #[error("a bound N/D needs 1 <= N <= D <= 1000000")]
+    BadBound,
 }
 
 impl RateError {
@@ -28,6 +32,7 @@ impl RateError {
             RateError::ZeroBudget => 1,
             RateError::PeriodTooLong => 2,
             RateError::BudgetOverPeriod => 3,
+            RateError::BadBound => 4,
         }
     }
 
@@ -39,6 +44,46 @@ impl RateError {
             RateError::ZeroBudget => "ZeroBudget",
             RateError::PeriodTooLong => "PeriodTooLong",
             RateError::BudgetOverPeriod => "BudgetOverPeriod",
+            RateError::BadBound => "BadBound",
+        }
+    }
+}
+
+/// Why a plan does not take a reservation.
+#[derive(Clone, Copy, Debug, PartialEq, Eq, Error)]
+pub enum AdmitError {
+    /// The plan has [`MAX_SERVERS`](crate::MAX_SERVERS) servers already.
+    #[error("the plan has 64 servers already")]
+    TooManyServers,
+    /// The least common multiple of all periods would pass
+    /// [`MAX_COMMON_MULTIPLE`](crate::MAX_COMMON_MULTIPLE).
+    #[error("the least common multiple of all periods would pass 10^18: choose periods that share more factors")]
+    PeriodsTooFine,
+    /// The total bandwidth, the new reservation included, would pass the plan's bound.
+    #[error("the total bandwidth would pass the plan's bound")]
+    OverBound,
+}
+
+impl AdmitError {
+    /// The error's number, from 1.
+    pub fn number(self) -> u8
+        ensures { result ≡ admit_error_number self }
+    {
+        match self {
+            AdmitError::TooManyServers => 1,
+            AdmitError::PeriodsTooFine => 2,
+            AdmitError::OverBound => 3,
+        }
+    }
+
+    /// The error's name, as it is written in this program.
+    pub fn name(self) -> &'static str
+        ensures { result.now ≡ admit_error_name self }
+    {
+        match self {
+            AdmitError::TooManyServers => "TooManyServers",
+            AdmitError::PeriodsTooFine => "PeriodsTooFine",
+            AdmitError::OverBound => "OverBound",
         }
     }
 }

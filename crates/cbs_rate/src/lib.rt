@@ -1,8 +1,14 @@
-//! Reservations: a budget of so many ticks in every period of so many ticks.
+//! Reservations, a budget of so many ticks in every period of so many ticks, and plans: lists of
+//! reservations whose total bandwidth stays within a bound.
 #![tactic(auto)]
 
+mod bound;
 mod error;
+mod multiple;
+mod plan;
 mod reservation;
 
-pub use error::RateError;
+pub use bound::{Bound, MAX_DENOMINATOR};
+pub use error::{AdmitError, RateError};
+pub use plan::{MAX_COMMON_MULTIPLE, MAX_SERVERS, Plan};
 pub use reservation::{MAX_PERIOD, Reservation};

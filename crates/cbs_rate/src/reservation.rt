@@ -1,6 +1,6 @@
 //! A reservation, and which numbers make one.
 
-ghost use Rattle.std.specs.Prelude.{◌≡◌};
+ghost use Rattle.std.specs.Prelude.{◌≡◌, ◌*◌, ◌≤◌, ◌↔◌, IsTrue};
 ghost use Rattle.cbs_rate.specs.Rate.{IsRate, rate_refusal};
 ghost use Rattle.cbs_rate.specs.Refusals.{AnswersBy};
 
@@ -67,5 +67,28 @@ impl Reservation {
         ensures lawful { IsRate self.now.budget self.now.period }
     {
         self.period
+    }
+
+    /// Whether this bandwidth, the budget over the period, is at most that of `other`, exactly:
+    /// `Q1 * T2 <= Q2 * T1`.
+    pub fn at_most(&self, other: &Reservation) -> bool
+        ensures { IsTrue result ↔ (self.now.budget * other.now.period ≤ other.now.budget * self.now.period) }
+    {
+        u128::from(self.budget) * u128::from(other.period)
+            <= u128::from(other.budget) * u128::from(self.period)
+    }
+}
+
+impl Default for Reservation {
+    ghost is_default = { λ r. r ≡ record { budget = 1; period = 1 } };
+
+    /// 1 tick in every tick, the whole processor.
+    ///
+    /// It fills the unused places of a list of fixed capacity, which needs some reservation there.
+    fn default() -> Reservation {
+        Reservation {
+            budget: 1,
+            period: 1,
+        }
     }
 }

@@ -1,0 +1,4 @@
+pub mod Lists
+pub mod Multiples
+pub mod Shares
+pub mod Plans

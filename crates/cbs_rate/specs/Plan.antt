@@ -1,0 +1,73 @@
+-- What a plan is: rates whose sum stays within a bound, and when it takes one more.
+use Rattle.std.specs.Prelude.{◌≡◌, ℕ, zero, suc, ◌+◌, ◌*◌, ◌/◌, ◌%◌, ◌≤◌, ◌<◌, Bool, true, false, eqb, leb, ltb, if◌then◌else◌, List, [], ◌∷◌, ◌++◌, length, sum_by, IsTrue, Option, Some, None}
+use Rattle.std.specs.List.{list_all, AllByRecursion}
+use Rattle.cbs_rate.specs.Bound.{Fraction}
+use Rattle.cbs_rate.specs.Rate.{Rate, IsRate}
+use Rattle.cbs_rate.specs.declared.error.AdmitError.{AdmitError}
+use Rattle.cbs_rate.specs.declared.error.AdmitError.TheVariants.{TooManyServers, PeriodsTooFine, OverBound}
+use Rattle.cbs_rate.specs.declared.plan.TheConstants.{MAX_SERVERS, MAX_COMMON_MULTIPLE}
+
+-- the bound on the total bandwidth, and the rates of the servers, server 0 first
+pub record Planned : Type 0 where
+  pub bound : Fraction
+  pub rates : List Rate
+
+-- the ticks that a server of this rate may run in so many ticks, where its period divides them
+abbrev pub share : ℕ → Rate → ℕ
+share ticks r = r.budget * (ticks / r.period)
+
+-- the product of all periods, which each period divides
+abbrev pub all_periods : List Rate → ℕ
+all_periods [] = 1
+all_periods (r ∷ rs) = r.period * all_periods rs
+
+-- the ticks that all servers together may run in as many ticks as the product of all periods
+abbrev pub total_share : List Rate → ℕ
+total_share rates = sum_by (share (all_periods rates)) rates
+
+-- The rates fit the bound: the sum of budget / period over all of them is at most num / den, with both sides
+-- times den and the product of all periods. It is the bound on processor utilisation under which earliest
+-- deadline first meets every deadline (Liu and Layland 1973).
+abbrev pub Fits : Fraction → List Rate → Type 0
+Fits bound rates = bound.den * total_share rates ≤ bound.num * all_periods rates
+
+-- whether the rates fit the bound
+abbrev pub fits : Fraction → List Rate → Bool
+fits bound rates = leb (bound.den * total_share rates) (bound.num * all_periods rates)
+
+-- each period divides m
+abbrev pub IsCommonMultiple : ℕ → List Rate → Type 0
+IsCommonMultiple m rates = AllByRecursion (λ r. m % r.period ≡ 0) rates
+
+-- m is the least positive number that every period divides
+pub record IsLeastCommonMultiple (m : ℕ) (rates : List Rate) : Type 0 where
+  pub some : 0 < m
+  pub common : IsCommonMultiple m rates
+  pub least : (k : ℕ) → 0 < k → IsCommonMultiple k rates → m ≤ k
+
+-- the first of `from`, `from + 1`, .., up to `from + room`, that every period divides, or else `from + room`
+abbrev pub common_multiple_from : List Rate → ℕ → ℕ → ℕ
+common_multiple_from rates from zero = from
+common_multiple_from rates from (suc room) =
+    elim (list_all (λ r. eqb (from % r.period) 0) rates) [ true ↦ from | false ↦ common_multiple_from rates (from + 1) room ]
+
+-- the least common multiple of all periods: the least positive number that every period divides
+-- (`IsLeastCommonMultiple`), which is found at the product of all periods at the latest
+unfoldable pub common_multiple : List Rate → ℕ
+common_multiple rates = common_multiple_from rates 1 (all_periods rates)
+
+-- what every plan keeps
+pub record IsPlan (plan : Planned) : Type 0 where
+  pub few : length plan.rates ≤ 64
+  pub lawful : AllByRecursion (λ r. IsRate r.budget r.period) plan.rates
+  pub coarse : common_multiple plan.rates ≤ 1000000000000000000
+  pub fits : Fits plan.bound plan.rates
+  pub at_most_one : total_share plan.rates ≤ all_periods plan.rates
+
+-- why a plan does not take one more rate, if it does not: the first of the three tests that applies
+abbrev pub admit_refusal : Planned → Rate → Option AdmitError
+admit_refusal plan r =
+    if leb MAX_SERVERS (length plan.rates) then Some TooManyServers
+    else if ltb MAX_COMMON_MULTIPLE (common_multiple (plan.rates ++ r ∷ [])) then Some PeriodsTooFine
+    else if fits plan.bound (plan.rates ++ r ∷ []) then None
+    else Some OverBound

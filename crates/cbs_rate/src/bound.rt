@@ -1,0 +1,54 @@
+//! A bound on the total bandwidth of a plan.
+
+ghost use Rattle.std.specs.Prelude.{◌*◌, ◌≤◌, ◌↔◌, IsTrue};
+ghost use Rattle.cbs_rate.specs.Bound.{IsBound, bound_refusal};
+ghost use Rattle.cbs_rate.specs.Refusals.{AnswersBy};
+
+use crate::error::RateError;
+use std::marker::Model;
+
+/// The greatest denominator of a bound.
+pub const MAX_DENOMINATOR: u64 = 1_000_000;
+
+/// The part of a processor that the servers of a plan may take together: N of every D ticks, with
+/// `1 <= N <= D <= MAX_DENOMINATOR`.
+#[derive(Clone, Copy, Debug, PartialEq, Eq)]
+pub struct Bound {
+    num: u64,
+    den: u64,
+}
+
+impl Model for Bound {
+    ghost use Rattle.cbs_rate.specs.Bound.{Fraction, IsBound};
+
+    ghost Value = { Fraction };
+
+    ghost view = { λ b. record { num = b.num; den = b.den } };
+
+    ghost invariant = { λ b. IsBound b.num b.den };
+
+    ghost inverse = { λ v. record { num = v.num; den = v.den } };
+}
+
+impl Bound {
+    /// The bound of `num` of every `den` ticks.
+    ///
+    /// Refuses with [`RateError::BadBound`] unless `1 <= num <= den <= MAX_DENOMINATOR`.
+    pub fn new(num: u64, den: u64) -> Result<Bound, RateError>
+        ensures { AnswersBy result (bound_refusal num den) (record { num = num; den = den }) }
+    {
+        if num == 0 || num > den || den > MAX_DENOMINATOR {
+            return Err(RateError::BadBound);
+        }
+        Ok(Bound { num, den })
+    }
+
+    /// Whether `part` of `whole` is at most this bound, exactly: the products are compared, and
+    /// nothing is divided.
+    pub(crate) fn allows(self, part: u64, whole: u64) -> bool
+        ensures value { IsTrue result ↔ (self.den * part ≤ self.num * whole) }
+        ensures lawful { IsBound self.num self.den }
+    {
+        u128::from(self.den) * u128::from(part) <= u128::from(self.num) * u128::from(whole)
+    }
+}

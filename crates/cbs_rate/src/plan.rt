@@ -1,0 +1,118 @@
+//! A plan: the reservations of all servers, within one bound.
+
+ghost use Rattle.std.specs.Prelude.{◌≡◌, ◌↔◌, [], ◌∷◌, ◌++◌, length, slice_get, IsTrue, OnOk, OnErr};
+ghost use Rattle.cbs_rate.specs.Plan.{IsPlan, IsLeastCommonMultiple, common_multiple, admit_refusal};
+ghost use Rattle.cbs_rate.specs.Refusals.{AnswersBy};
+
+use crate::bound::Bound;
+use crate::error::AdmitError;
+use crate::multiple::least_common_multiple;
+use crate::reservation::Reservation;
+use arrayvec::ArrayVec;
+use std::marker::Model;
+
+/// The most servers that a plan has.
+pub const MAX_SERVERS: usize = 64;
+
+/// The greatest least common multiple of all periods of a plan, in ticks.
+pub const MAX_COMMON_MULTIPLE: u64 = 1_000_000_000_000_000_000;
+
+/// The reservations of at most [`MAX_SERVERS`] servers, numbered from 0 in the order in which they
+/// were admitted. Their total bandwidth, the sum of budget over period, is at most the plan's bound,
+/// and the least common multiple of their periods at most [`MAX_COMMON_MULTIPLE`].
+#[derive(Debug, Drop)]
+pub struct Plan {
+    bound: Bound,
+    rates: ArrayVec<Reservation, MAX_SERVERS>,
+    // the least common multiple of all periods
+    common: u64,
+    // what all servers together may run in as many ticks
+    taken: u64,
+}
+
+impl Model for Plan {
+    ghost use Rattle.cbs_rate.specs.Plan.{Planned};
+
+    ghost Value = { Planned };
+
+    ghost use Rattle.cbs_rate.specs.Running.{planned, IsRunning};
+
+    ghost view = { planned };
+
+    ghost invariant = { IsRunning };
+}
+
+impl Plan {
+    /// A plan with no server, whose servers may take `bound` of the processor together.
+    pub fn new(bound: Bound) -> Plan
+        ensures { result ≡ record { bound = bound; rates = [] } }
+    {
+        Plan {
+            bound,
+            rates: ArrayVec::new(),
+            common: 1,
+            taken: 0,
+        }
+    }
+
+    /// The number of servers.
+    pub fn len(&self) -> usize
+        ensures value { result ≡ length self.now.rates }
+        ensures lawful { IsPlan self.now }
+    {
+        self.rates.len()
+    }
+
+    /// Whether there is no server.
+    pub fn is_empty(&self) -> bool
+        ensures { IsTrue result ↔ (self.now.rates ≡ []) }
+    {
+        self.rates.is_empty()
+    }
+
+    /// The reservation of the server with this number, or `None` where the plan has no such server.
+    pub fn get(&self, server: u16) -> Option<Reservation>
+        ensures value { result ≡ slice_get self.now.rates server }
+        ensures lawful { IsPlan self.now }
+    {
+        self.rates.get(usize::from(server)).copied()
+    }
+
+    /// Takes one more server with this reservation, and answers its number.
+    ///
+    /// Refuses, in this order: [`AdmitError::TooManyServers`] where the plan has [`MAX_SERVERS`]
+    /// servers already, [`AdmitError::PeriodsTooFine`] where the least common multiple of all
+    /// periods, the new one included, would pass [`MAX_COMMON_MULTIPLE`], and
+    /// [`AdmitError::OverBound`] where the sum of budget over period, the new one included, would
+    /// pass the bound. The sum is exact: nothing is rounded. A plan that refuses is unchanged.
+    pub fn admit(&mut self, reservation: Reservation) -> Result<u16, AdmitError>
+        ensures answer { AnswersBy result (admit_refusal self.old reservation) (length self.old.rates) }
+        ensures ok { OnOk result (self.new ≡ record self.old { rates = self.old.rates ++ reservation ∷ [] }) }
+        ensures err { OnErr result (self.new ≡ self.old) }
+        ensures lawful { IsPlan self.new }
+
+        // What the common multiple of the second test is, in the words of its definition.
+        ensures least { let rates = self.old.rates ++ reservation ∷ [] in
+            IsLeastCommonMultiple (common_multiple rates) rates }
+    {
+        let period = reservation.period();
+        if self.rates.is_full() {
+            return Err(AdmitError::TooManyServers);
+        }
+        let common = least_common_multiple(self.common, period);
+        if common > u128::from(MAX_COMMON_MULTIPLE) {
+            return Err(AdmitError::PeriodsTooFine);
+        }
+        let common = common as u64;
+        let taken = self.taken * (common / self.common)
+            + reservation.budget() * (common / period);
+        if !self.bound.allows(taken, common) {
+            return Err(AdmitError::OverBound);
+        }
+        let server = self.rates.len() as u16;
+        self.rates.push(reservation);
+        self.common = common;
+        self.taken = taken;
+        Ok(server)
+    }
+}
