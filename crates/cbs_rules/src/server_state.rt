@@ -116,7 +116,7 @@ impl ServerState {
     /// ticks more, its deadline is postponed by a period, and it may run again. It is once, even
     /// where the deadline stays in the past; so a jump of the clock by n ticks is the same as n ticks.
     pub fn replenish(&mut self, now: u64)
-        requires { self.old.state.deadline ≤ MAX_DEADLINE }
+        requires { self.old.state.throttled ≡ true → self.old.state.deadline ≤ now → self.old.state.deadline ≤ MAX_DEADLINE }
         ensures rule { self.new ≡ record { reservation = self.old.reservation; state = after_replenishment self.old.reservation now self.old.state } }
         ensures ticks { (start n : ℕ) → 0 < n → now ≡ start + n → self.new.state ≡ after_ticks self.old.reservation start n self.old.state }
     {
@@ -125,7 +125,7 @@ impl ServerState {
 
     /// One budget and one period more, if the deadline of a throttled server has come.
     fn refill(&mut self, now: u64)
-        requires { self.old.state.deadline ≤ MAX_DEADLINE }
+        requires { self.old.state.throttled ≡ true → self.old.state.deadline ≤ now → self.old.state.deadline ≤ MAX_DEADLINE }
         ensures { self.new ≡ record { reservation = self.old.reservation; state = after_replenishment self.old.reservation now self.old.state } }
     {
         if self.throttled && self.deadline <= now {

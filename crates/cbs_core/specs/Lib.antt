@@ -1,0 +1,11 @@
+pub mod Accounts
+pub mod Agreement
+pub mod Choice
+pub mod Errors
+pub mod Held
+pub mod History
+pub mod Holding
+pub mod Lists
+pub mod Queued
+pub mod Replies
+pub mod Views

@@ -1,0 +1,60 @@
+//! Why the core refuses.
+
+ghost use Rattle.std.specs.Prelude.{◌≡◌};
+
+use thiserror::Error;
+
+/// Why the core refuses a call.
+#[derive(Clone, Copy, Debug, PartialEq, Eq, Error)]
+pub enum CoreError {
+    /// The backlog is not within 1 to [`MAX_BACKLOG`](crate::MAX_BACKLOG).
+    #[error("the backlog is not within 1 to 4096 jobs")]
+    BadBacklog,
+    /// An allocation was refused.
+    #[error("out of memory")]
+    OutOfMemory,
+    /// No server has that number.
+    #[error("there is no such server")]
+    NoSuchServer,
+    /// The server was closed.
+    #[error("the server is closed")]
+    Closed,
+    /// The server has as many unfinished jobs as it may have.
+    #[error("the backlog of the server is full")]
+    BacklogFull,
+    /// The clock would pass [`LIMIT`](crate::LIMIT).
+    #[error("the clock would pass 1000000000 ticks")]
+    ClockEnd,
+}
+
+impl CoreError {
+    ghost use Rattle.cbs_core.specs.Errors.{core_error_number, core_error_name};
+
+    /// The error's number, from 1.
+    pub fn number(self) -> u8
+        ensures { result ≡ core_error_number self }
+    {
+        match self {
+            CoreError::BadBacklog => 1,
+            CoreError::OutOfMemory => 2,
+            CoreError::NoSuchServer => 3,
+            CoreError::Closed => 4,
+            CoreError::BacklogFull => 5,
+            CoreError::ClockEnd => 6,
+        }
+    }
+
+    /// The error's name, as it is written in this program.
+    pub fn name(self) -> &'static str
+        ensures { result.now ≡ core_error_name self }
+    {
+        match self {
+            CoreError::BadBacklog => "BadBacklog",
+            CoreError::OutOfMemory => "OutOfMemory",
+            CoreError::NoSuchServer => "NoSuchServer",
+            CoreError::Closed => "Closed",
+            CoreError::BacklogFull => "BacklogFull",
+            CoreError::ClockEnd => "ClockEnd",
+        }
+    }
+}

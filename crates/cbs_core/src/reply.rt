@@ -1,0 +1,48 @@
+//! What steps are answered.
+
+use crate::error::CoreError;
+use cbs_job::{Completion, Task, Work};
+
+/// A job that was not accepted, handed back.
+#[derive(Drop)]
+pub struct SubmitRefused<W: Work> {
+    /// Why it was refused.
+    pub error: CoreError,
+    /// The job, as it was given.
+    pub task: Task<W>,
+}
+
+/// What a run step did.
+#[derive(Clone, Copy, Debug, PartialEq, Eq)]
+pub enum Ran {
+    /// No server is ready. Nothing changed.
+    Idle,
+    /// The clock stands at its end. Nothing changed.
+    ClockEnd,
+    /// One unit of job `seq` of `server`, not its last.
+    Unit {
+        /// The chosen server.
+        server: u16,
+        /// The job's number among the accepted jobs of its server, from 0.
+        seq: u64,
+    },
+    /// The last unit of a job.
+    Done(Completion),
+}
+
+/// What a step is answered.
+#[derive(Drop)]
+pub enum Reply<W: Work> {
+    /// The submit was accepted, as the job of this number.
+    Accepted(u64),
+    /// The submit was refused.
+    NotAccepted(SubmitRefused<W>),
+    /// The run step did this.
+    Ran(Ran),
+    /// The ticks passed.
+    Advanced,
+    /// The server is closed from here on.
+    Closed,
+    /// The advance or the close was refused.
+    Refused(CoreError),
+}

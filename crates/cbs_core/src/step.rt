@@ -1,0 +1,24 @@
+//! The steps of an executor.
+
+use cbs_job::{Task, Work};
+use std::alloc::{Allocator, Global};
+
+/// One step: what a caller may ask of the core.
+#[derive(Drop)]
+pub enum Step<W: Work> {
+    /// Gives a job to a server.
+    Submit(u16, Task<W>),
+    /// Runs one unit of one job, which takes one tick.
+    Run,
+    /// Lets so many ticks pass.
+    Advance(u64),
+    /// Closes a server: it accepts no further job.
+    Close(u16),
+}
+
+/// Steps that were refused for want of memory, handed back.
+#[derive(Drop)]
+pub struct StepsRefused<W: Work, A: Allocator = Global> {
+    /// The steps, as they were given.
+    pub steps: Vec<Step<W>, A>,
+}
