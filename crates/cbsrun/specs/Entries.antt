@@ -7,8 +7,8 @@ use Rattle.cbs_rate.specs.declared.reservation.TheConstants.{MAX_PERIOD}
 use Rattle.cbs_job.specs.declared.task.TheConstants.{MAX_UNITS}
 use Rattle.cbs_job.specs.declared.file.FileJob.{FileJob}
 use Rattle.cbs_job.specs.declared.file.FileJob.TheVariants.{Sum, Peak}
-use Rattle.cbsrun.specs.declared.steps.Step.{Step}
-use Rattle.cbsrun.specs.declared.steps.Step.TheVariants as step
+use Rattle.cbs_core.specs.declared.step.Step.{Step}
+use Rattle.cbs_core.specs.declared.step.Step.TheVariants as step
 use Rattle.cbsrun.specs.declared.entries.Operation.{Operation}
 use Rattle.cbsrun.specs.declared.entries.Operation.TheVariants.{Submit, Run, Advance, Close}
 use Rattle.cbsrun.specs.declared.entries.TheConstants.{MAX_TICKS}

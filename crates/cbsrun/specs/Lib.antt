@@ -3,5 +3,7 @@ pub mod Entries
 pub mod Faults
 pub mod Fields
 pub mod Reads
+pub mod TaskFiles
+pub mod Tops
 pub mod Words
 pub mod Writes

@@ -10,7 +10,8 @@ use crate::fault::FileKind;
 use crate::fields::{
     all_whole, below, items, known, members, natural, present, sized, text, units, whole, within,
 };
-use crate::steps::Step;
+
+use cbs_core::Step;
 use cbs_job::{FileJob, MAX_UNITS, PeakJob, SumJob, Task};
 use cbs_rate::Reservation;
 use std::alloc::Global;

@@ -75,7 +75,7 @@ pub fn natural(n: i64) -> Result<u64, FileKind>
 /// A number from `low` to `high`.
 pub fn within(low: u64, high: u64, n: i64) -> Result<u64, FileKind>
     ensures value { result ≡ within low high n }
-    ensures high { IfOk result (λ n. n ≤ high) }
+    ensures bounds { IfOk result (λ n. (low ≤ n) × (n ≤ high)) }
 {
     match u64::try_from(n) {
         Ok(n) if low <= n && n <= high => Ok(n),

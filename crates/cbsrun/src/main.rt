@@ -6,7 +6,8 @@ mod fault;
 mod fields;
 mod input;
 mod output;
-mod steps;
+mod task_file;
+mod top;
 mod words;
 
 use std::process::ExitCode;
