@@ -2,6 +2,7 @@ pub mod Counted
 pub mod Entries
 pub mod Faults
 pub mod Fields
+pub mod Files
 pub mod Reads
 pub mod TaskFiles
 pub mod Tops

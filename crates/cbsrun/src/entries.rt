@@ -1,9 +1,10 @@
 //! The entries of a task file's arrays: one server, one step.
 
-ghost use Rattle.std.specs.Prelude.{◌≡◌, ◌+◌, ◌≤◌, ◌<◌, ◌^◌, length, map, IfOk, MatchResult, Err, Some, None};
+ghost use Rattle.std.specs.Prelude.{◌≡◌, ℕ, ◌+◌, ◌≤◌, ◌<◌, ◌^◌, length, map, IfOk, MatchResult, Err, Some, None};
 ghost use Rattle.cbsrun.specs.declared.fault.FileKind.TheVariants.{OutOfMemory};
 ghost use Rattle.toml.specs.View.{view, table_view};
 ghost use Rattle.cbsrun.specs.Fields.{Gives};
+ghost use Rattle.cbsrun.specs.TaskFiles.{NamesServer};
 ghost use Rattle.cbsrun.specs.Entries.{reservation, job_of, operation_of, server_entry, submit_entry, run_entry, advance_entry, close_entry, step_entry};
 
 use crate::fault::FileKind;
@@ -82,7 +83,8 @@ fn job_of(kind: &str, numbers: Vec<u32>) -> Result<FileJob, FileKind>
 #[tactic(auto, unfolding(crate::specs::Entries::submit_entry))]
 fn submit_entry(alloc: Global, servers: u64, table: &Table) -> Result<Step<FileJob>, FileKind>
     requires { servers ≤ 64 }
-    ensures { Gives OutOfMemory (λ s. s) result (submit_entry servers (table_view table.now)) }
+    ensures step { Gives OutOfMemory (λ s. s) result (submit_entry servers (table_view table.now)) }
+    ensures named { IfOk result (NamesServer servers) }
 {
     known(table, &["op", "server", "job", "units"])?;
     let server = present(table, "server")?;
@@ -104,7 +106,8 @@ fn submit_entry(alloc: Global, servers: u64, table: &Table) -> Result<Step<FileJ
 
 #[tactic(auto, unfolding(crate::specs::Entries::run_entry))]
 fn run_entry(table: &Table) -> Result<Step<FileJob>, FileKind>
-    ensures { result ≡ run_entry (table_view table.now) }
+    ensures step { result ≡ run_entry (table_view table.now) }
+    ensures named { (servers : ℕ) → IfOk result (NamesServer servers) }
 {
     known(table, &["op"])?;
     Ok(Step::Run)
@@ -112,7 +115,8 @@ fn run_entry(table: &Table) -> Result<Step<FileJob>, FileKind>
 
 #[tactic(auto, unfolding(crate::specs::Entries::advance_entry))]
 fn advance_entry(table: &Table) -> Result<Step<FileJob>, FileKind>
-    ensures { result ≡ advance_entry (table_view table.now) }
+    ensures step { result ≡ advance_entry (table_view table.now) }
+    ensures named { (servers : ℕ) → IfOk result (NamesServer servers) }
 {
     known(table, &["op", "ticks"])?;
     let ticks = present(table, "ticks")?;
@@ -124,7 +128,8 @@ fn advance_entry(table: &Table) -> Result<Step<FileJob>, FileKind>
 #[tactic(auto, unfolding(crate::specs::Entries::close_entry))]
 fn close_entry(servers: u64, table: &Table) -> Result<Step<FileJob>, FileKind>
     requires { servers ≤ 64 }
-    ensures { result ≡ close_entry servers (table_view table.now) }
+    ensures step { result ≡ close_entry servers (table_view table.now) }
+    ensures named { IfOk result (NamesServer servers) }
 {
     known(table, &["op", "server"])?;
     let server = present(table, "server")?;
@@ -137,7 +142,8 @@ fn close_entry(servers: u64, table: &Table) -> Result<Step<FileJob>, FileKind>
 #[tactic(auto, unfolding(crate::specs::Entries::step_entry))]
 pub fn step_entry(alloc: Global, servers: u64, entry: &Value) -> Result<Step<FileJob>, FileKind>
     requires { servers ≤ 64 }
-    ensures { Gives OutOfMemory (λ s. s) result (step_entry servers (view entry.now)) }
+    ensures step { Gives OutOfMemory (λ s. s) result (step_entry servers (view entry.now)) }
+    ensures named { IfOk result (NamesServer servers) }
 {
     let table = members(entry)?;
     let op = present(table, "op")?;

@@ -4,6 +4,7 @@
 mod entries;
 mod fault;
 mod fields;
+mod file;
 mod input;
 mod output;
 mod task_file;
