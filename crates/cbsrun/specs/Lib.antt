@@ -3,6 +3,7 @@ pub mod Entries
 pub mod Faults
 pub mod Fields
 pub mod Files
+pub mod Lines
 pub mod Reads
 pub mod TaskFiles
 pub mod Tops

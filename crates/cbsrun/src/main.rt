@@ -6,6 +6,7 @@ mod fault;
 mod fields;
 mod file;
 mod input;
+mod line;
 mod output;
 mod task_file;
 mod top;
