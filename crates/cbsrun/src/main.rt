@@ -9,6 +9,7 @@ mod input;
 mod line;
 mod output;
 mod task_file;
+mod pending;
 mod top;
 mod words;
 
