@@ -1,5 +1,5 @@
 -- Which server runs: earliest deadline first (Liu and Layland, JACM 1973), and of equal deadlines the lower number.
-use Rattle.std.specs.Prelude.{◌≡◌, ℕ, ◌≤◌, ◌<◌, Bool, true, false, not, ◌&&◌, ◌||◌, eqb, leb, ltb, List, length, get_or, Option, Some}
+use Rattle.std.specs.Prelude.{ℕ, Bool, false, not, ◌&&◌, ◌||◌, eqb, leb, ltb, List, length, get_or, Option}
 use Rattle.cbs_core.specs.Lists.{all_below, first_below}
 
 -- what the choice looks at in each server

@@ -1,5 +1,5 @@
 -- What a list of steps leaves, and what each step is answered.
-use Rattle.std.specs.Prelude.{ℕ, zero, suc, ◌+◌, Bool, true, false, eqb, leb, ltb, if◌then◌else◌, List, [], ◌∷◌, length, map, get_or, slice_get, Option, Some, None}
+use Rattle.std.specs.Prelude.{ℕ, zero, suc, ◌+◌, eqb, leb, ltb, if◌then◌else◌, List, [], ◌∷◌, length, map, get_or, slice_get, Option, Some, None}
 use Rattle.cbs_job.specs.Work.{Meaning, whole}
 use Rattle.cbs_rules.specs.Rules.{Terms}
 use Rattle.cbs_rules.specs.declared.server_state.TheConstants.{LIMIT}

@@ -1,9 +1,10 @@
 -- What the calls do to what is held of a server. Private words of this crate: public clauses speak of agreement.
-use Rattle.std.specs.Prelude.{◌≡◌, ℕ, ◌+◌, ◌-◌, ◌*◌, ◌≤◌, ◌<◌, Bool, true, false, not, ◌&&◌, ◌||◌, leb, ltb, if◌then◌else◌, List, [], ◌∷◌, ◌++◌, length, slice_get, Option, Some, None, Result, Ok, Err}
+use Rattle.std.specs.Prelude.{◌≡◌, ℕ, ◌+◌, ◌-◌, ◌*◌, ◌≤◌, ◌<◌, Bool, true, false, not, ◌&&◌, ◌||◌, leb, ltb, if◌then◌else◌, List, [], ◌∷◌, ◌++◌, length, get_or, slice_get, Option, Some, None, Result, Ok, Err}
 use Rattle.std.specs.List.{AllByRecursion}
 use Rattle.cbs_job.specs.Work.{Meaning}
 use Rattle.cbs_rate.specs.Rate.{IsRate}
 use Rattle.cbs_rules.specs.Rules.{State, Terms, IsState, fresh_state, after_arrival, after_unit, after_replenishment}
+use Rattle.cbs_rules.specs.declared.mode.Mode.TheVariants.{Soft}
 use Rattle.cbs_rules.specs.declared.server_state.TheConstants.{LIMIT}
 use Rattle.cbs_core.specs.Choice.{Rank, rank_at}
 use Rattle.cbs_core.specs.Held.{Held, CoreHeld}
@@ -125,6 +126,14 @@ module _ {W : Type 0} where
   abbrev pub held_close_refusal : List (Held W) → ℕ → Option CoreError
   held_close_refusal hs s = held_close_refusal_at (slice_get hs s)
 
+-- what is held where there is no such server
+abbrev pub no_held : {W : Type 0} → Held W
+no_held = held_of (record { terms = record { mode = Soft; reservation = record { budget = 0; period = 0 } }; state = fresh_state; closed = true; accepted = 0; finished = 0 }) []
+
+-- what is held of server s
+abbrev pub held_at : {W : Type 0} → List (Held W) → ℕ → Held W
+held_at hs s = get_or hs s no_held
+
 -- what a Run is answered after a unit of job seq of server s, by what that unit found
 abbrev pub ran_of : ℕ → ℕ → Option ℕ → Ran
 ran_of s seq None = ran.Unit s seq
@@ -142,6 +151,12 @@ pub record IsServer {W : Type 0} (work : Meaning W) (h : Held W) : Type 0 where
   pub begun : 0 < length h.jobs → 0 < h.state.deadline
   pub counts : h.finished + length h.jobs ≡ h.accepted
   pub unfinished : AllByRecursion (λ w. 0 < work.left w) h.jobs
+
+-- what all servers keep: at most 64, and each with a queue of its own
+pub record IsServers {W : Type 0} (work : Meaning W) (heads : List Head) (lists : List (List W)) : Type 0 where
+  pub few : length heads ≤ 64
+  pub queued : length lists ≡ length heads
+  pub each : AllByRecursion (IsServer work) (helds heads lists)
 
 -- what each server keeps against the clock and the backlog
 pub record IsBounded {W : Type 0} (backlog now : ℕ) (h : Held W) : Type 0 where

@@ -8,4 +8,5 @@ pub mod Holding
 pub mod Lists
 pub mod Queued
 pub mod Replies
+pub mod Setups
 pub mod Views

@@ -3,14 +3,17 @@
 #![tactic(auto)]
 
 mod error;
+mod executor;
 mod queues;
 mod reply;
 mod server;
+mod servers;
 mod step;
 mod view;
 
 pub use cbs_rules::LIMIT;
 pub use error::CoreError;
+pub use executor::{Core, MAX_BACKLOG};
 pub use reply::{Ran, Reply, SubmitRefused};
 pub use step::{Step, StepsRefused};
 pub use view::ServerView;

@@ -66,6 +66,7 @@ impl<W: Work, A: Allocator> Queues<W, A> {
         requires within { server < length self.old.lists }
         requires room { 0 < room_of self.old.rooms server }
         ensures lists { self.new.lists ≡ slice_set self.old.lists server (list_at self.old server ++ task ∷ []) }
+        ensures some { 0 < W.meaning.left task }
     {
         let queue = &mut self.queues[usize::from(server)];
         queue.push_back_reserved(task.start());

@@ -87,22 +87,18 @@ impl Server {
         self.accepted += 1;
     }
 
-    /// Uses one tick of the budget.
-    pub fn use_tick(&mut self)
+    /// Uses one tick of the budget, for a unit that finished a job or did not.
+    pub fn use_tick(&mut self, done: bool)
         requires some { 0 < self.old.state.budget }
         requires free { self.old.state.throttled ≡ false }
         requires room { self.old.state.deadline ≤ MAX_DEADLINE }
-        ensures { self.new ≡ head_with_unit false self.old }
+        requires few { self.old.finished + 1 < 2 ^ 64 }
+        ensures { self.new ≡ head_with_unit done self.old }
     {
         self.state.consume(self.mode);
-    }
-
-    /// One more job is finished.
-    pub fn finish(&mut self)
-        requires { self.old.finished + 1 < 2 ^ 64 }
-        ensures { self.new ≡ record self.old { finished = self.old.finished + 1 } }
-    {
-        self.finished += 1;
+        if done {
+            self.finished += 1;
+        }
     }
 
     /// Replenishes the server at tick `now`, if that is due.

@@ -1,5 +1,5 @@
 -- The least common multiple of the periods of a plan, and of one period more.
-use Rattle.std.proofs.Common.{◌≡◌, ℕ, zero, suc, ◌+◌, ◌*◌, ◌/◌, ◌%◌, ◌≤◌, ◌<◌, Bool, true, false, eqb, List, [], ◌∷◌, ◌++◌, arith, refl, inl, inr, sym, subst, ap}
+use Rattle.std.proofs.Common.{◌≡◌, ℕ, zero, suc, ◌+◌, ◌*◌, ◌/◌, ◌%◌, ◌≤◌, ◌<◌, Bool, true, false, eqb, List, [], ◌∷◌, ◌++◌, arith, refl, inl, inr}
 use Rattle.std.specs.List.{list_all, AllByRecursion}
 use Rattle.std.specs.Int.{IsGcd, ◌∣◌}
 use Rattle.std.proofs.lemmas.Bool.{cases_lt}
@@ -72,15 +72,15 @@ first_by_test rates room from false e rest =
       least = λ k le all. found.least k (later k le all) all;
     })
   where
-  later : (k : ℕ) → from ≤ k → IsCommonMultiple k rates → from + 1 ≤ k
-  later k le all = elim (cases_lt from k) [
-    | inl lt ↦ omega arith
-    | inr ge ↦
-        let f : k ≡ from = omega arith in
-        let g = rw f at all in
-        let t = test_from_common from rates g in
-        absurd cc
-  ]
+    later : (k : ℕ) → from ≤ k → IsCommonMultiple k rates → from + 1 ≤ k
+    later k le all = elim (cases_lt from k) [
+      | inl lt ↦ omega arith
+      | inr ge ↦
+          let f : k ≡ from = omega arith in
+          let g = rw f at all in
+          let t = test_from_common from rates g in
+          absurd cc
+    ]
 
 first_found : (rates : List Rate) (room from some : ℕ) → IsCommonMultiple some rates → from ≤ some → some ≤ from + room
     → IsFirst rates from (common_multiple_from rates from room)
@@ -89,16 +89,16 @@ first_found rates zero from some common low high =
     record { common = rw e at common; late = omega arith; least = λ k le _. le }
 first_found rates (suc room) from some common low high =
     first_by_test rates room from (list_all (λ r. eqb (from % r.period) 0) rates) refl
-        (λ fails. first_found rates room (from + 1) some common
-            (elim (cases_lt from some) [
-              | inl lt ↦ omega arith
-              | inr ge ↦
-                  let f : some ≡ from = omega arith in
-                  let g = rw f at common in
-                  let t = test_from_common from rates g in
-                  absurd cc
-            ])
-            (omega arith))
+    (λ fails. first_found rates room (from + 1) some common
+    (elim (cases_lt from some) [
+      | inl lt ↦ omega arith
+      | inr ge ↦
+          let f : some ≡ from = omega arith in
+          let g = rw f at common in
+          let t = test_from_common from rates g in
+          absurd cc
+    ])
+    (omega arith))
 
 -- the search finds the least common multiple
 pub common_multiple-least : (rates : List Rate) → AllLawful rates → IsLeastCommonMultiple (common_multiple rates) rates
@@ -166,34 +166,35 @@ module _ (a b g l : ℕ) (a_some : 0 < a) (b_some : 0 < b) (gcd : IsGcd a b g) (
   common_divisor : (h : ℕ) → l * h ≡ a * b → h ∣ g
   common_divisor h e = gcd.2 h (rw (← by_b) (dvd-mul_left h (l / b))) (rw (← by_a) (dvd-mul_left h (l / a)))
     where
-    by_b : l / b * h ≡ a
-    by_b =
-        let f = mul-div_cancel' b {m = l} b_l in
-        let m : b * (l / b) * h ≡ a * b = rw f e in
-        let n : b * (l / b * h) ≡ b * a = omega arith in
-        eq_of_mul-eq-mul_left b b_some (l / b * h) a n
-    by_a : l / a * h ≡ b
-    by_a =
-        let f = mul-div_cancel' a {m = l} a_l in
-        let m : a * (l / a) * h ≡ a * b = rw f e in
-        let n : a * (l / a * h) ≡ a * b = omega arith in
-        eq_of_mul-eq-mul_left a a_some (l / a * h) b n
+      by_b : l / b * h ≡ a
+      by_b =
+          let f = mul-div_cancel' b {m = l} b_l in
+          let m : b * (l / b) * h ≡ a * b = rw f e in
+          let n : b * (l / b * h) ≡ b * a = omega arith in
+          eq_of_mul-eq-mul_left b b_some (l / b * h) a n
+
+      by_a : l / a * h ≡ b
+      by_a =
+          let f = mul-div_cancel' a {m = l} a_l in
+          let m : a * (l / a) * h ≡ a * b = rw f e in
+          let n : a * (l / a * h) ≡ a * b = omega arith in
+          eq_of_mul-eq-mul_left a a_some (l / a * h) b n
 
   dvd_l : a / g * b ∣ l
   dvd_l = from_product (a * b / l) (mul-div_cancel' l (divides (a * b) (dvd-mul_right a b) (dvd-mul_left b a)))
     where
-    from_product : (h : ℕ) → l * h ≡ a * b → a / g * b ∣ l
-    from_product h e =
-        let c = a / g * b in
-        let w = g / h in
-        let w_is = mul-div_cancel' h {m = g} (common_divisor h e) in
-        let both : g * (a / g) * b ≡ a * b = rw a_is refl in
-        let some : 0 < a * b = mul-le 1 1 a b a_some b_some in
-        let m : h * (g / h) * (a / g) * b ≡ l * h = rw (w_is, e) both in
-        let n : h * (c * w) ≡ h * l = omega arith in
-        let h_some : 0 < h = some_from_dvd h (a * b) (rw (← e) (dvd-mul_left h l)) some in
-        let q = eq_of_mul-eq-mul_left h h_some (c * w) l n in
-        rw (← q) (dvd-mul_right c w)
+      from_product : (h : ℕ) → l * h ≡ a * b → a / g * b ∣ l
+      from_product h e =
+          let c = a / g * b in
+          let w = g / h in
+          let w_is = mul-div_cancel' h {m = g} (common_divisor h e) in
+          let both : g * (a / g) * b ≡ a * b = rw a_is refl in
+          let some : 0 < a * b = mul-le 1 1 a b a_some b_some in
+          let m : h * (g / h) * (a / g) * b ≡ l * h = rw (w_is, e) both in
+          let n : h * (c * w) ≡ h * l = omega arith in
+          let h_some : 0 < h = some_from_dvd h (a * b) (rw (← e) (dvd-mul_left h l)) some in
+          let q = eq_of_mul-eq-mul_left h h_some (c * w) l n in
+          rw (← q) (dvd-mul_right c w)
 
   quotient-mul : a / g * b ≡ l
   quotient-mul = dvd_antisymm dvd_l l_dvd
@@ -207,10 +208,10 @@ common_multiple-push rates r g all ok gcd =
     let new = common_multiple-least (rates ++ r ∷ []) lawful in
     let parts = AllByRecursion-from_push (λ x. common_multiple (rates ++ r ∷ []) % x.period ≡ 0) rates r new.common in
     quotient-mul (common_multiple rates) r.period g (common_multiple (rates ++ r ∷ [])) old.some (period_some r ok) gcd
-        (least-dvd (common_multiple rates) (common_multiple (rates ++ r ∷ [])) rates old parts.0)
-        (dvd_of_mod-eq-zero r.period parts.1)
-        (λ k of_old of_new. least-dvd (common_multiple (rates ++ r ∷ [])) k (rates ++ r ∷ []) new
-            (AllByRecursion-push (λ x. k % x.period ≡ 0) rates r (common-dvd (common_multiple rates) k rates of_old old.common) (mod-eq-zero_of_dvd r.period of_new)))
+    (least-dvd (common_multiple rates) (common_multiple (rates ++ r ∷ [])) rates old parts.0)
+    (dvd_of_mod-eq-zero r.period parts.1)
+    (λ k of_old of_new. least-dvd (common_multiple (rates ++ r ∷ [])) k (rates ++ r ∷ []) new
+    (AllByRecursion-push (λ x. k % x.period ≡ 0) rates r (common-dvd (common_multiple rates) k rates of_old old.common) (mod-eq-zero_of_dvd r.period of_new)))
 
 -- with no period, each positive number is a common multiple
 pub common_multiple-nil : common_multiple [] ≡ 1

@@ -1,5 +1,5 @@
 -- What an empty plan keeps, and a plan that is asked to take one rate more.
-use Rattle.std.proofs.Common.{◌≡◌, ℕ, ◌+◌, ◌*◌, ◌/◌, ◌≤◌, ◌<◌, [], ◌∷◌, ◌++◌, length, Bool, true, false, eqb, Some, None, arith, refl, inl, inr, sym, ◌∙◌, length-append}
+use Rattle.std.proofs.Common.{◌≡◌, ℕ, ◌+◌, ◌*◌, ◌/◌, ◌≤◌, ◌<◌, [], ◌∷◌, ◌++◌, length, Bool, true, false, eqb, Some, None, arith, refl, inl, inr, ◌∙◌, length-append}
 use Rattle.std.specs.Prelude.{◌↔◌, if◌then◌else◌}
 use Rattle.std.specs.List.{sum_by}
 use Rattle.std.specs.Int.{IsGcd}
@@ -20,7 +20,7 @@ plan_empty bound = record {
   few = omega arith;
   lawful = tt;
   coarse = rw common_multiple-nil (omega arith);
-  fits = omega arith;
+  fits = le-leb _ _ (omega arith);
   at_most_one = omega arith;
 }
 
@@ -30,6 +30,16 @@ room_left n full e none few = elim (eqb_tells n 64) [
   | inl h ↦ let t = h.0 in absurd cc
   | inr h ↦ let differ = h.1 in omega arith
 ]
+
+-- A running plan of fewer than 64 rates is asked to take r, of this budget and period, and `next` is the least common
+-- multiple then.
+pub record IsAsked (p : Inside) (r : Rate) (budget period next : ℕ) : Type 0 where
+  running : IsRunning p
+  ok : IsRate r.budget r.period
+  budget_is : budget ≡ r.budget
+  period_is : period ≡ r.period
+  next_is : next ≡ common_multiple (p.rates.items ++ r ∷ [])
+  room : length p.rates.items < 64
 
 module _ {p : Inside} (r : Rate) (running : IsRunning p) (ok : IsRate r.budget r.period) where
   lawful_next : AllLawful (p.rates.items ++ r ∷ [])
@@ -42,61 +52,76 @@ module _ {p : Inside} (r : Rate) (running : IsRunning p) (ok : IsRate r.budget r
   common_some = rw running.common ((common_multiple-least p.rates.items running.plan.lawful).some)
 
   -- the least common multiple, by way of the greatest common divisor
-  pub common_next : (next g : ℕ) → IsGcd p.common r.period g → next ≡ p.common / g * r.period → next ≡ common_multiple (p.rates.items ++ r ∷ [])
-  common_next next g gcd e =
-      let divisor = rw running.common at gcd in
-      e ∙ rw running.common (common_multiple-push p.rates.items r g running.plan.lawful ok divisor)
+  pub asked_of : {budget period next : ℕ} {full : Bool} → budget ≡ r.budget → period ≡ r.period → ((g : ℕ) × IsGcd p.common period g × (next ≡ p.common / g * period))
+      → full ≡ eqb (length p.rates.items) 64 → full ≡ false → IsAsked p r budget period next
+  asked_of {full = full} budget_is period_is quotient full_is free = record {
+    running = running;
+    ok = ok;
+    budget_is = budget_is;
+    period_is = period_is;
+    next_is =
+        let q = rw (period_is, running.common) at quotient in
+        q.2 ∙ common_multiple-push p.rates.items r q.0 running.plan.lawful ok q.1;
+    room = room_left (length p.rates.items) full full_is free running.plan.few;
+  }
 
-  module _ (next : ℕ) (next_is : next ≡ common_multiple (p.rates.items ++ r ∷ [])) where
-    -- the sum over the new least common multiple
-    pub taken_next : p.taken * (next / p.common) + r.budget * (next / r.period) ≡ sum_by (share next) (p.rates.items ++ r ∷ [])
-    taken_next = rw (running.taken, running.common, next_is) (sum_next p.rates.items r running.plan.lawful ok)
+module _ {p : Inside} {r : Rate} {budget period next : ℕ} (asked : IsAsked p r budget period next) where
+  pub taken-le : p.taken * (next / p.common) ≤ next
+  taken-le = rw (asked.running.taken, asked.running.common, asked.next_is) (old_share-le p.rates.items r asked.running.plan.lawful asked.ok asked.running.plan.at_most_one)
 
-    pub taken-le : p.taken * (next / p.common) ≤ next
-    taken-le = rw (running.taken, running.common, next_is) (old_share-le p.rates.items r running.plan.lawful ok running.plan.at_most_one)
+  pub added-le : budget * (next / period) ≤ next
+  added-le = rw (asked.budget_is, asked.period_is, asked.next_is) (new_share-le p.rates.items r asked.running.plan.lawful asked.ok)
 
-    pub added-le : r.budget * (next / r.period) ≤ next
-    added-le = rw next_is (new_share-le p.rates.items r running.plan.lawful ok)
+  -- the sum over the new least common multiple
+  taken_next : p.taken * (next / p.common) + budget * (next / period) ≡ sum_by (share next) (p.rates.items ++ r ∷ [])
+  taken_next =
+      rw (asked.budget_is, asked.period_is, asked.running.taken, asked.running.common, asked.next_is) (sum_next p.rates.items r asked.running.plan.lawful asked.ok)
 
-    module _ (sum : ℕ) (sum_is : sum ≡ p.taken * (next / p.common) + r.budget * (next / r.period)) (room : length p.rates.items < 64) where
-      -- over the product of all periods as over the least common multiple
-      fits_next : (p.bound.den * total_share (p.rates.items ++ r ∷ []) ≤ p.bound.num * all_periods (p.rates.items ++ r ∷ []))
-          ↔ (p.bound.den * sum ≤ p.bound.num * next)
-      fits_next = rw (sum_is, taken_next, next_is) (fits_common p.bound.num p.bound.den (p.rates.items ++ r ∷ []) lawful_next)
+  -- over the product of all periods as over the least common multiple
+  fits_next : (p.bound.den * total_share (p.rates.items ++ r ∷ []) ≤ p.bound.num * all_periods (p.rates.items ++ r ∷ []))
+      ↔ (p.bound.den * (p.taken * (next / p.common) + budget * (next / period)) ≤ p.bound.num * next)
+  fits_next =
+      rw (taken_next, asked.next_is) (fits_common p.bound.num p.bound.den (p.rates.items ++ r ∷ []) (lawful_next r asked.running asked.ok))
 
-      -- the first two tests pass
-      by_bound : (b : Bool) → next ≤ 1000000000000000000 → fits p.bound (p.rates.items ++ r ∷ []) ≡ b
-          → admit_refusal (planned p) r ≡ (if b then None else Some OverBound)
-      by_bound b coarse e =
-          let m : common_multiple (p.rates.items ++ r ∷ []) ≤ 1000000000000000000 = rw next_is at coarse in
-          rw (lt-leb 64 (length p.rates.items) room, lt-leb 1000000000000000001 (common_multiple (p.rates.items ++ r ∷ [])) (omega arith), e) refl
+  pub refusal_fine : 1_000_000_000_000_000_000 < next → admit_refusal (planned p) r ≡ Some PeriodsTooFine
+  refusal_fine fine =
+      let m : 1_000_000_000_000_000_000 < common_multiple (p.rates.items ++ r ∷ []) = rw asked.next_is at fine in
+      rw (lt-leb 64 (length p.rates.items) asked.room, le-leb 1_000_000_000_000_000_001 (common_multiple (p.rates.items ++ r ∷ [])) m) refl
 
-      pub refusal_over : next ≤ 1000000000000000000 → ¬ (p.bound.den * sum ≤ p.bound.num * next) → admit_refusal (planned p) r ≡ Some OverBound
-      refusal_over coarse over = by_bound false coarse
-          (elim (cases_lt (p.bound.num * all_periods (p.rates.items ++ r ∷ [])) (p.bound.den * total_share (p.rates.items ++ r ∷ []))) [
-            | inl lt ↦ lt-leb _ _ lt
-            | inr ge ↦ absurd (over (fits_next.0 ge))
-          ])
+  -- the first two tests pass
+  by_bound : (b : Bool) → next ≤ 1_000_000_000_000_000_000 → fits p.bound (p.rates.items ++ r ∷ []) ≡ b
+      → admit_refusal (planned p) r ≡ (if b then None else Some OverBound)
+  by_bound b coarse e =
+      let m : common_multiple (p.rates.items ++ r ∷ []) ≤ 1_000_000_000_000_000_000 = rw asked.next_is at coarse in
+      rw (lt-leb 64 (length p.rates.items) asked.room, lt-leb 1_000_000_000_000_000_001 (common_multiple (p.rates.items ++ r ∷ [])) (omega arith), e) refl
 
-      pub refusal_none : next ≤ 1000000000000000000 → p.bound.den * sum ≤ p.bound.num * next → admit_refusal (planned p) r ≡ None
-      refusal_none coarse within = by_bound true coarse (le-leb _ _ (fits_next.1 within))
+  pub refusal_over : next ≤ 1_000_000_000_000_000_000 → ¬ (p.bound.den * (p.taken * (next / p.common) + budget * (next / period)) ≤ p.bound.num * next)
+      → admit_refusal (planned p) r ≡ Some OverBound
+  refusal_over coarse over = by_bound false coarse
+      (elim (cases_lt (p.bound.num * all_periods (p.rates.items ++ r ∷ [])) (p.bound.den * total_share (p.rates.items ++ r ∷ []))) [
+        | inl lt ↦ lt-leb _ _ lt
+        | inr ge ↦ absurd (over (fits_next.0 ge))
+      ])
 
-      pub plan_next : next ≤ 1000000000000000000 → p.bound.den * sum ≤ p.bound.num * next → IsBound p.bound.num p.bound.den
-          → IsPlan (record { bound = p.bound; rates = p.rates.items ++ r ∷ [] })
-      plan_next coarse within bounded =
+  module _ (coarse : next ≤ 1_000_000_000_000_000_000) (within : p.bound.den * (p.taken * (next / p.common) + budget * (next / period)) ≤ p.bound.num * next) where
+    pub refusal_none : admit_refusal (planned p) r ≡ None
+    refusal_none = by_bound true coarse (le-leb _ _ (fits_next.1 within))
+
+    pub running_next : IsBound p.bound.num p.bound.den
+        → IsRunning (record { bound = p.bound; rates = record { items = p.rates.items ++ r ∷ [] }; common = next; taken = p.taken * (next / p.common) + budget * (next / period) })
+    running_next bounded = record {
+      plan =
           let whole = fits_next.1 within in
-          let few = running.plan.few in
+          let few = asked.room in
           record {
             few = rw length-append (omega arith);
-            lawful = lawful_next;
-            coarse = rw next_is at coarse;
-            fits = whole;
+            lawful = lawful_next r asked.running asked.ok;
+            coarse = rw asked.next_is at coarse;
+            fits = le-leb _ _ whole;
             at_most_one =
                 let a = bounded.some in let b = bounded.at_most_one in
                 at_most_one p.bound.num p.bound.den (total_share (p.rates.items ++ r ∷ [])) (all_periods (p.rates.items ++ r ∷ [])) b (omega arith) whole;
-          }
-
-    pub refusal_fine : length p.rates.items < 64 → 1000000000000000000 < next → admit_refusal (planned p) r ≡ Some PeriodsTooFine
-    refusal_fine room fine =
-        let m : 1000000000000000000 < common_multiple (p.rates.items ++ r ∷ []) = rw next_is at fine in
-        rw (lt-leb 64 (length p.rates.items) room, le-leb 1000000000000000001 (common_multiple (p.rates.items ++ r ∷ [])) m) refl
+          };
+      common = asked.next_is;
+      taken = taken_next;
+    }

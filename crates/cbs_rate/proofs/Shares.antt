@@ -1,16 +1,14 @@
 -- What all servers may run in a common multiple of their periods, and in a multiple of it.
-use Rattle.std.proofs.Common.{◌≡◌, ℕ, ◌+◌, ◌*◌, ◌/◌, ◌%◌, ◌≤◌, ◌<◌, List, [], ◌∷◌, ◌++◌, arith, refl, inl, inr, sym}
+use Rattle.std.proofs.Common.{◌≡◌, ℕ, ◌+◌, ◌*◌, ◌/◌, ◌%◌, ◌≤◌, ◌<◌, List, [], ◌∷◌, ◌++◌, arith, refl, inl, inr}
 use Rattle.std.specs.Prelude.{◌↔◌}
-use Rattle.std.specs.List.{sum_by, AllByRecursion}
-use Rattle.std.specs.Int.{IsGcd, ◌∣◌}
+use Rattle.std.specs.List.{sum_by}
 use Rattle.std.proofs.lemmas.Bool.{cases_lt}
 use Rattle.std.proofs.lemmas.Nat.{mul-le}
 use Rattle.std.proofs.lemmas.Nat.Gcd.{dvd_of_mod-eq-zero}
 use Rattle.std.proofs.lemmas.List.Sums.{sum_by-cons, sum_by_push}
 use Rattle.std.proofs.Math.Nat.{mul-div_cancel_left, mul-div_cancel'}
-use Rattle.cbs_rate.specs.Bound.{Fraction}
 use Rattle.cbs_rate.specs.Rate.{Rate, IsRate}
-use Rattle.cbs_rate.specs.Plan.{share, all_periods, total_share, Fits, IsCommonMultiple, IsLeastCommonMultiple, common_multiple}
+use Rattle.cbs_rate.specs.Plan.{share, all_periods, total_share, IsCommonMultiple, common_multiple}
 use Rattle.cbs_rate.proofs.Multiples.{AllLawful, period_some, all_periods_some, all_periods-common, common_multiple-least, least-dvd}
 use Rattle.cbs_rate.proofs.Lists.{AllByRecursion-push, AllByRecursion-from_push}
 
@@ -45,7 +43,7 @@ cancel m a b some h = elim (cases_lt b a) [
 pub product_is : (rates : List Rate) → AllLawful rates → all_periods rates / common_multiple rates * common_multiple rates ≡ all_periods rates
 product_is rates all =
     let e = mul-div_cancel' (common_multiple rates) {m = all_periods rates}
-        (least-dvd (common_multiple rates) (all_periods rates) rates (common_multiple-least rates all) (all_periods-common rates)) in
+    (least-dvd (common_multiple rates) (all_periods rates) rates (common_multiple-least rates all) (all_periods-common rates)) in
     omega arith
 
 pub product_some : (rates : List Rate) → AllLawful rates → 0 < all_periods rates / common_multiple rates
@@ -70,11 +68,11 @@ fits_common num den rates all =
     let scaled = both n m (sum_by (share m) rates) some in
     rw (← e, product_is rates all) at scaled
   where
-  both : (n m s : ℕ) → 0 < n → (den * (n * s) ≤ num * (n * m)) ↔ (den * s ≤ num * m)
-  both n m s some = (
-    λ h. cancel n (den * s) (num * m) some (omega arith),
-    λ h. let k = mul-le n (den * s) n (num * m) (omega arith) h in omega arith
-  )
+    both : (n m s : ℕ) → 0 < n → (den * (n * s) ≤ num * (n * m)) ↔ (den * s ≤ num * m)
+    both n m s some = (
+      λ h. cancel n (den * s) (num * m) some (omega arith),
+      λ h. let k = mul-le n (den * s) n (num * m) (omega arith) h in omega arith,
+    )
 
 -- the rates fit a bound of at most one, so all servers together may run at most the whole time
 pub at_most_one : (num den s p : ℕ) → num ≤ den → 0 < den → den * s ≤ num * p → s ≤ p
@@ -99,7 +97,7 @@ module _ (rates : List Rate) (r : Rate) (all : AllLawful rates) (ok : IsRate r.b
   old_divides : common_multiple rates * (common_multiple (rates ++ r ∷ []) / common_multiple rates) ≡ common_multiple (rates ++ r ∷ [])
   old_divides =
       mul-div_cancel' (common_multiple rates) {m = common_multiple (rates ++ r ∷ [])}
-          (least-dvd (common_multiple rates) (common_multiple (rates ++ r ∷ [])) rates (common_multiple-least rates all) common_next.0)
+      (least-dvd (common_multiple rates) (common_multiple (rates ++ r ∷ [])) rates (common_multiple-least rates all) common_next.0)
 
   period_divides : r.period * (common_multiple (rates ++ r ∷ []) / r.period) ≡ common_multiple (rates ++ r ∷ [])
   period_divides = mul-div_cancel' r.period {m = common_multiple (rates ++ r ∷ [])} (dvd_of_mod-eq-zero r.period common_next.1)

@@ -2,7 +2,6 @@
 use Rattle.std.specs.Prelude.{ℕ, ◌≤◌, ◌<◌, ◌||◌, eqb, ltb, if◌then◌else◌, Option, Some, None}
 use Rattle.cbs_rate.specs.declared.error.RateError.{RateError}
 use Rattle.cbs_rate.specs.declared.error.RateError.TheVariants.{BadBound}
-use Rattle.cbs_rate.specs.declared.bound.TheConstants.{MAX_DENOMINATOR}
 
 -- a part of a processor: num of every den ticks
 pub record Fraction : Type 0 where
@@ -13,9 +12,9 @@ pub record Fraction : Type 0 where
 pub record IsBound (num den : ℕ) : Type 0 where
   pub some : 0 < num
   pub at_most_one : num ≤ den
-  pub small : den ≤ 1000000
+  pub small : den ≤ 1_000_000
 
 -- why two numbers make no bound, if they make none
 abbrev pub bound_refusal : ℕ → ℕ → Option RateError
 bound_refusal num den =
-    if eqb num 0 || ltb den num || ltb MAX_DENOMINATOR den then Some BadBound else None
+    if eqb num 0 || ltb den num || ltb 1_000_000 den then Some BadBound else None

@@ -5,7 +5,6 @@ use Rattle.cbs_rate.specs.Bound.{Fraction}
 use Rattle.cbs_rate.specs.Rate.{Rate, IsRate}
 use Rattle.cbs_rate.specs.declared.error.AdmitError.{AdmitError}
 use Rattle.cbs_rate.specs.declared.error.AdmitError.TheVariants.{TooManyServers, PeriodsTooFine, OverBound}
-use Rattle.cbs_rate.specs.declared.plan.TheConstants.{MAX_SERVERS, MAX_COMMON_MULTIPLE}
 
 -- the bound on the total bandwidth, and the rates of the servers, server 0 first
 pub record Planned : Type 0 where
@@ -25,13 +24,9 @@ all_periods (r ∷ rs) = r.period * all_periods rs
 abbrev pub total_share : List Rate → ℕ
 total_share rates = sum_by (share (all_periods rates)) rates
 
--- The rates fit the bound: the sum of budget / period over all of them is at most num / den, with both sides
--- times den and the product of all periods. It is the bound on processor utilisation under which earliest
--- deadline first meets every deadline (Liu and Layland 1973).
-abbrev pub Fits : Fraction → List Rate → Type 0
-Fits bound rates = bound.den * total_share rates ≤ bound.num * all_periods rates
-
--- whether the rates fit the bound
+-- Whether the rates fit the bound: the sum of budget / period over all of them is at most num / den, both sides
+-- taken times den and times the product of all periods. It is the bound on processor utilisation under which
+-- earliest deadline first meets every deadline (Liu and Layland 1973).
 abbrev pub fits : Fraction → List Rate → Bool
 fits bound rates = leb (bound.den * total_share rates) (bound.num * all_periods rates)
 
@@ -56,18 +51,19 @@ common_multiple_from rates from (suc room) =
 unfoldable pub common_multiple : List Rate → ℕ
 common_multiple rates = common_multiple_from rates 1 (all_periods rates)
 
--- what every plan keeps
+-- What every plan keeps: at most 64 rates within the limits of a reservation, periods whose least common multiple
+-- is at most 10^18, and a total bandwidth of at most the bound, and so of at most one.
 pub record IsPlan (plan : Planned) : Type 0 where
   pub few : length plan.rates ≤ 64
   pub lawful : AllByRecursion (λ r. IsRate r.budget r.period) plan.rates
-  pub coarse : common_multiple plan.rates ≤ 1000000000000000000
-  pub fits : Fits plan.bound plan.rates
+  pub coarse : common_multiple plan.rates ≤ 1_000_000_000_000_000_000
+  pub fits : IsTrue (fits plan.bound plan.rates)
   pub at_most_one : total_share plan.rates ≤ all_periods plan.rates
 
 -- why a plan does not take one more rate, if it does not: the first of the three tests that applies
 abbrev pub admit_refusal : Planned → Rate → Option AdmitError
 admit_refusal plan r =
-    if leb MAX_SERVERS (length plan.rates) then Some TooManyServers
-    else if ltb MAX_COMMON_MULTIPLE (common_multiple (plan.rates ++ r ∷ [])) then Some PeriodsTooFine
+    if leb 64 (length plan.rates) then Some TooManyServers
+    else if ltb 1_000_000_000_000_000_000 (common_multiple (plan.rates ++ r ∷ [])) then Some PeriodsTooFine
     else if fits plan.bound (plan.rates ++ r ∷ []) then None
     else Some OverBound

@@ -2,7 +2,6 @@
 use Rattle.std.specs.Prelude.{ℕ, ◌≤◌, ◌<◌, eqb, ltb, if◌then◌else◌, Option, Some, None}
 use Rattle.cbs_rate.specs.declared.error.RateError.{RateError}
 use Rattle.cbs_rate.specs.declared.error.RateError.TheVariants.{ZeroBudget, PeriodTooLong, BudgetOverPeriod}
-use Rattle.cbs_rate.specs.declared.reservation.TheConstants.{MAX_PERIOD}
 
 -- a budget in every period, in ticks
 pub record Rate : Type 0 where
@@ -13,12 +12,12 @@ pub record Rate : Type 0 where
 pub record IsRate (budget period : ℕ) : Type 0 where
   pub some : 0 < budget
   pub within : budget ≤ period
-  pub short : period ≤ 1000000000
+  pub short : period ≤ 1_000_000_000
 
 -- why a budget and a period make no reservation, if they make none: the first of the three tests that applies
 abbrev pub rate_refusal : ℕ → ℕ → Option RateError
 rate_refusal budget period =
     if eqb budget 0 then Some ZeroBudget
-    else if ltb MAX_PERIOD period then Some PeriodTooLong
+    else if ltb 1_000_000_000 period then Some PeriodTooLong
     else if ltb period budget then Some BudgetOverPeriod
     else None

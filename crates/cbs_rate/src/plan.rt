@@ -104,8 +104,7 @@ impl Plan {
             return Err(AdmitError::PeriodsTooFine);
         }
         let common = common as u64;
-        let taken = self.taken * (common / self.common)
-            + reservation.budget() * (common / period);
+        let taken = self.taken * (common / self.common) + reservation.budget() * (common / period);
         if !self.bound.allows(taken, common) {
             return Err(AdmitError::OverBound);
         }

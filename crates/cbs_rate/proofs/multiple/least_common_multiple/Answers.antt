@@ -1,5 +1,4 @@
 use Rattle.cbs_rate.proofs.Multiples.{some_from_dvd}
-use Rattle.cbs_rate.proofs.Plans.{plan_empty}
 use Rattle.cbs_rate.proofs.multiple.least_common_multiple.Goals as goal
 
 pub nonzero_div-a : goal.nonzero_div-a

@@ -1,5 +1,4 @@
 use Rattle.std.proofs.Common.{refl, sym}
-use Rattle.cbs_rate.specs.Plan.{common_multiple}
 use Rattle.cbs_rate.proofs.Multiples.{common_multiple-nil}
 use Rattle.cbs_rate.proofs.Plans.{plan_empty}
 use Rattle.cbs_rate.proofs.plan.Plan.new.Goals as goal

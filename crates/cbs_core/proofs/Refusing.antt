@@ -1,0 +1,47 @@
+-- Why a submit is refused, by why a close is, and by the length of the queue.
+use Rattle.std.proofs.Common.{◌≡◌, ℕ, zero, suc, ◌≤◌, ◌<◌, Bool, true, false, leb, List, [], ◌∷◌, length, get_or, refl, sym, ◌∙◌, ap, arith, Some, None, inl, inr}
+use Rattle.std.specs.Prelude.{if◌then◌else◌}
+use Rattle.std.specs.Bool.{then_some}
+use Rattle.std.proofs.lemmas.Bool.{cases_Bool}
+use Rattle.std.proofs.lemmas.Bool.Decides.{nat_tests}
+use Rattle.cbs_core.specs.Held.{Held}
+use Rattle.cbs_core.specs.Holding.{Head, helds, held_at, held_refusal, held_refusal_at, held_close_refusal, held_close_refusal_at}
+use Rattle.cbs_core.specs.declared.error.CoreError.TheVariants as error
+use Rattle.cbs_core.proofs.Zipping.{jobs_at, within_heads}
+
+module _ {W : Type 0} where
+  pub close_within : (hs : List (Held W)) (s : ℕ) → held_close_refusal hs s ≡ None → s < length hs
+  close_within [] s e = cc
+  close_within (h ∷ hs) zero e = omega arith
+  close_within (h ∷ hs) (suc s) e = let r = close_within hs s e in omega arith
+
+  refusal_one : (h : Held W) (backlog : ℕ) → held_close_refusal_at (Some h) ≡ None → held_refusal_at backlog (Some h) ≡ (if leb backlog (length h.jobs) then Some error.BacklogFull else None)
+  refusal_one h backlog e = elim (cases_Bool h.closed) [
+    | inl t ↦ let f : Some error.Closed ≡ None = rw t at e in cc
+    | inr n ↦ rw n refl
+  ]
+
+  open_refusal : (hs : List (Held W)) (s backlog : ℕ) → held_close_refusal hs s ≡ None → held_refusal backlog hs s ≡ (if leb backlog (length (held_at hs s).jobs) then Some error.BacklogFull else None)
+  open_refusal [] s backlog e = cc
+  open_refusal (h ∷ hs) zero backlog e = refusal_one h backlog e
+  open_refusal (h ∷ hs) (suc s) backlog e = open_refusal hs s backlog e
+
+  module _ (heads : List Head) (lists : List (List W)) (s backlog n : ℕ) (free : held_close_refusal (helds heads lists) s ≡ None) (count : n ≡ length (get_or lists s [])) where
+    by_count : held_refusal backlog (helds heads lists) s ≡ (if leb backlog n then Some error.BacklogFull else None)
+    by_count =
+        let within = within_heads heads lists s (close_within (helds heads lists) s free) in
+        let e : length (held_at (helds heads lists) s).jobs ≡ n = ap length (jobs_at heads lists s within) ∙ sym count in
+        open_refusal (helds heads lists) s backlog free ∙ rw e refl
+
+    pub full_refusal : backlog ≤ n → Some error.BacklogFull ≡ held_refusal backlog (helds heads lists) s
+    full_refusal full = let t : leb backlog n ≡ true = grind (arith, nat_tests) in sym (by_count ∙ rw t refl)
+
+    pub no_refusal : n < backlog → None ≡ held_refusal backlog (helds heads lists) s
+    no_refusal few = let f : leb backlog n ≡ false = grind (arith, nat_tests) in sym (by_count ∙ rw f refl)
+
+then_some_is : (closed : Bool) → then_some closed error.Closed ≡ (if closed then Some error.Closed else None)
+then_some_is true = refl
+then_some_is false = refl
+
+pub closed_refusal : (b closed : Bool) → b ≡ closed → then_some b error.Closed ≡ (if closed then Some error.Closed else None)
+closed_refusal b closed e = rw e (then_some_is closed)

@@ -1,0 +1,34 @@
+use Rattle.std.proofs.Common.{sym, refl, None}
+use Rattle.cbs_core.specs.History.{world_after}
+use Rattle.cbs_core.proofs.Refusing.{close_within}
+use Rattle.cbs_core.proofs.Closing.{close_replied, close_left, close_agrees, IsCore-shut}
+use Rattle.cbs_core.proofs.executor.Core.close.Goals as goal
+
+pub returns-in-Some-clause-reply : goal.returns-in-Some-clause-reply
+returns-in-Some-clause-reply g c = λ M agrees.
+    let inside = rw (← c.self.view_is) at agrees.world in
+    sym (close_replied g.W.Work.meaning _ M.setup.backlog (world_after g.W.Work.meaning M) inside c.args.server _ c.in-Some.ensures)
+
+pub returns-in-Some-clause-state : goal.returns-in-Some-clause-state
+returns-in-Some-clause-state g c = λ M agrees.
+    let inside = rw (← c.self.view_is) at agrees.world in
+    record { world = rw (close_left g.W.Work.meaning _ M.setup.backlog (world_after g.W.Work.meaning M) inside c.args.server _ c.in-Some.ensures) agrees.world }
+
+pub close-requires : goal.close-requires
+close-requires g c = close_within c.self.inside.servers.held c.args.server (sym c.in_default.ensures)
+
+pub invariant_of-self : goal.invariant_of-self
+invariant_of-self g c = IsCore-shut _ c.args.server _ _ c.self.invariant c.close.ensures.held
+
+pub returns-clause-reply : goal.returns-clause-reply
+returns-clause-reply g c = λ M agrees.
+    let inside = rw (← c.self.view_is) at agrees.world in
+    sym (close_replied g.W.Work.meaning _ M.setup.backlog (world_after g.W.Work.meaning M) inside c.args.server None c.in_default.ensures)
+
+pub returns-clause-state : goal.returns-clause-state
+returns-clause-state g c = λ M agrees.
+    let inside = rw (← c.self.view_is) at agrees.world in
+    record {
+      world = close_agrees g.W.Work.meaning _ M.setup.backlog (world_after g.W.Work.meaning M) inside c.args.server None c.in_default.ensures c.close.new.self.held c.close.new.self.rooms refl
+          (close_within c.self.inside.servers.held c.args.server (sym c.in_default.ensures)) c.close.ensures.held;
+    }

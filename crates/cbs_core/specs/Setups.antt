@@ -1,0 +1,16 @@
+-- What a core is given.
+use Rattle.std.specs.Prelude.{ℕ, ◌||◌, eqb, ltb, if◌then◌else◌, List, map, Option, Some, None}
+use Rattle.cbs_rate.specs.Rate.{Rate}
+use Rattle.cbs_rules.specs.Rules.{Terms}
+use Rattle.cbs_rules.specs.declared.mode.Mode.{Mode}
+use Rattle.cbs_core.specs.declared.executor.TheConstants.{MAX_BACKLOG}
+use Rattle.cbs_core.specs.declared.error.CoreError.{CoreError}
+use Rattle.cbs_core.specs.declared.error.CoreError.TheVariants as error
+
+-- the terms of servers that all follow one mode
+abbrev pub terms_of : Mode → List Rate → List Terms
+terms_of mode rates = map (λ r. record { mode = mode; reservation = r }) rates
+
+-- why a backlog is refused, if it is
+abbrev pub new_refusal : ℕ → Option CoreError
+new_refusal backlog = if eqb backlog 0 || ltb MAX_BACKLOG backlog then Some error.BadBacklog else None

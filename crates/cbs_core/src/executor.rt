@@ -1,0 +1,278 @@
+//! The core: all servers, and the clock.
+
+ghost use Rattle.std.specs.Prelude.{◌≡◌, ℕ, ◌<◌, true, false, Ok, Err, IfOk, IfErr, OnOk, OnErr, IsOk, slice_get, [], MatchResult, Some, None, ◌⊎◌};
+ghost use Rattle.cbs_core.specs.History.{History, ◌⊕◌, world_after, reply_in, chosen, submit_refusal};
+ghost use Rattle.cbs_core.specs.Agreement.{Agrees};
+ghost use Rattle.cbs_core.specs.Replies.{submitted, advanced, closed, lacks_memory, IsAccepted, Answers, AnswersAll, grown, grown_by, RoomAnswers};
+ghost use Rattle.cbs_core.specs.Views.{view_reply};
+ghost use Rattle.cbs_core.specs.Held.{room_of, KeepsRoom};
+ghost use Rattle.cbs_core.specs.Setups.{terms_of, new_refusal};
+
+use crate::error::CoreError;
+use crate::reply::{Ran, Reply, SubmitRefused};
+use crate::servers::Servers;
+use crate::step::{Step, StepsRefused};
+use crate::view::ServerView;
+use cbs_job::{Task, Work};
+use cbs_rate::Plan;
+use cbs_rules::{LIMIT, Mode};
+use std::alloc::{Allocator, Global};
+use std::marker::Model;
+
+/// The greatest backlog of a server, in jobs.
+pub const MAX_BACKLOG: u64 = 4096;
+
+/// The core of an executor: servers with their jobs, and the clock.
+///
+/// It runs one unit of one job a tick, of the ready server with the earliest deadline, and of equal
+/// deadlines the lower number; the jobs of a server first in, first out.
+#[derive(Drop)]
+pub struct Core<W: Work, A: Allocator = Global> {
+    alloc: A,
+    backlog: u64,
+    clock: u64,
+    servers: Servers<W, A>,
+}
+
+impl<W: Work, A: Allocator> Model for Core<W, A> {
+    ghost use Rattle.cbs_core.specs.Held.{CoreHeld};
+    ghost use Rattle.cbs_core.specs.Holding.{IsCore};
+
+    ghost Value = { CoreHeld W };
+
+    ghost view = { λ c. record { backlog = c.backlog; clock = c.clock; servers = c.servers.held; rooms = c.servers.rooms } };
+
+    ghost invariant = { λ c. IsCore (record { backlog = c.backlog; clock = c.clock; servers = c.servers.held; rooms = c.servers.rooms }) };
+}
+
+impl<W: Work, A: Allocator + Clone> Core<W, A> {
+    /// A core whose servers have the reservations of the plan, all with the same mode, each with at
+    /// most `backlog` unfinished jobs. The clock stands at 0, and nobody has a job.
+    ///
+    /// Refuses a backlog outside 1 to [`MAX_BACKLOG`] by [`CoreError::BadBacklog`], and answers
+    /// [`CoreError::OutOfMemory`] where an allocation is refused.
+    pub fn new(alloc: A, plan: Plan, mode: Mode, backlog: u64) -> Result<Self, CoreError>
+        ensures start { IfOk result (λ core. Agrees W.meaning core (record { setup = record { servers = terms_of mode plan.rates; backlog = backlog }; steps = [] })) }
+        ensures refusal { MatchResult result (λ _. new_refusal backlog ≡ None) (λ e. (new_refusal backlog ≡ Some e) ⊎ ((new_refusal backlog ≡ None) × (e ≡ CoreError.OutOfMemory))) }
+    {
+        if backlog == 0 || backlog > MAX_BACKLOG {
+            return Err(CoreError::BadBacklog);
+        }
+        let Ok(servers) = Servers::new(&alloc, &plan, mode) else {
+            return Err(CoreError::OutOfMemory);
+        };
+        Ok(Core {
+            alloc,
+            backlog,
+            clock: 0,
+            servers,
+        })
+    }
+}
+
+impl<W: Work, A: Allocator> Core<W, A> {
+    /// Makes room for one more job of a server: the next [`submit`](Core::submit) on this core takes
+    /// no memory if it is on that server. Nothing else changes.
+    ///
+    /// Refuses as a submit on that server would, and answers [`CoreError::OutOfMemory`] where an
+    /// allocation is refused.
+    pub fn make_room(&mut self, server: u16) -> Result<(), CoreError>
+        ensures answer { (M : History W) → Agrees W.meaning self.old M
+            → RoomAnswers (submit_refusal W.meaning M.setup.backlog (world_after W.meaning M).accounts server) result }
+        ensures state { (M : History W) → Agrees W.meaning self.old M → Agrees W.meaning self.new M }
+        ensures room { OnOk result (0 < room_of self.new.rooms server) }
+        ensures kept { KeepsRoom self.old.rooms self.new.rooms }
+        ensures same { self.new ≡ record self.old { rooms = self.new.rooms } }
+    {
+        if let Some(error) = self.servers.refusal(self.backlog, server) {
+            return Err(error);
+        }
+        if self.servers.reserve(server).is_err() {
+            return Err(CoreError::OutOfMemory);
+        }
+        Ok(())
+    }
+
+    /// Gives a job to a server, and answers the job's number among the accepted jobs of the server.
+    ///
+    /// Refuses, in this order: [`CoreError::NoSuchServer`]; [`CoreError::Closed`] where the server
+    /// was closed; [`CoreError::BacklogFull`] where it has as many unfinished jobs as it may have;
+    /// [`CoreError::OutOfMemory`] where an allocation is refused. The job then comes back, and
+    /// nothing changed.
+    pub fn submit(&mut self, server: u16, task: Task<W>) -> Result<u64, SubmitRefused<W>>
+        ensures reply { lacks_memory result ≡ false → (M : History W) → Agrees W.meaning self.old M
+            → submitted result ≡ reply_in W.meaning M (Step.Submit server task) }
+        ensures state { lacks_memory result ≡ false → (M : History W) → Agrees W.meaning self.old M
+            → Agrees W.meaning self.new (M ⊕ Step.Submit server task) }
+
+        // Want of memory may stand in the place of an acceptance, and there alone.
+        ensures back { lacks_memory result ≡ true → result ≡ Err (record { error = CoreError.OutOfMemory; task = task }) }
+        ensures only_accepted { lacks_memory result ≡ true → (M : History W) → Agrees W.meaning self.old M
+            → IsAccepted (reply_in W.meaning M (Step.Submit server task)) }
+        ensures still { lacks_memory result ≡ true → (M : History W) → Agrees W.meaning self.old M → Agrees W.meaning self.new M }
+        ensures room { 0 < room_of self.old.rooms server → lacks_memory result ≡ false }
+
+        ensures unchanged { OnErr result (self.new ≡ record self.old { rooms = self.new.rooms }) }
+        ensures kept { OnErr result (KeepsRoom self.old.rooms self.new.rooms) }
+    {
+        if let Some(error) = self.servers.refusal(self.backlog, server) {
+            return Err(SubmitRefused { error, task });
+        }
+        if self.servers.reserve(server).is_err() {
+            return Err(SubmitRefused {
+                error: CoreError::OutOfMemory,
+                task,
+            });
+        }
+        Ok(self.servers.accept(server, self.clock, task))
+    }
+
+    /// Runs one unit of the job at the front of the chosen server, which takes one tick.
+    ///
+    /// Answers [`Ran::Idle`] where no server is ready, and then [`Ran::ClockEnd`] where the clock
+    /// stands at [`LIMIT`]; both change nothing.
+    pub fn run(&mut self) -> Ran
+        ensures reply { (M : History W) → Agrees W.meaning self.old M → Reply.Ran result ≡ reply_in W.meaning M Step.Run }
+        ensures state { (M : History W) → Agrees W.meaning self.old M → Agrees W.meaning self.new (M ⊕ Step.Run) }
+        ensures kept { KeepsRoom self.old.rooms self.new.rooms }
+    {
+        let Some(server) = self.servers.choose() else {
+            return Ran::Idle;
+        };
+        if self.clock >= LIMIT {
+            return Ran::ClockEnd;
+        }
+        self.clock += 1;
+        let ran = self.servers.run_first(server);
+        self.servers.replenish(self.clock);
+        ran
+    }
+
+    /// Lets `n` ticks pass, by one jump.
+    ///
+    /// Refuses by [`CoreError::ClockEnd`] where the clock would pass [`LIMIT`], and then changes
+    /// nothing. An advance by 0 is accepted and changes nothing.
+    pub fn advance(&mut self, n: u64) -> Result<(), CoreError>
+        ensures reply { (M : History W) → Agrees W.meaning self.old M → advanced result ≡ reply_in W.meaning M (Step.Advance n) }
+        ensures state { (M : History W) → Agrees W.meaning self.old M → Agrees W.meaning self.new (M ⊕ Step.Advance n) }
+        ensures kept { KeepsRoom self.old.rooms self.new.rooms }
+    {
+        if n > LIMIT - self.clock {
+            return Err(CoreError::ClockEnd);
+        }
+        if n > 0 {
+            self.clock += n;
+            self.servers.replenish(self.clock);
+        }
+        Ok(())
+    }
+
+    /// Closes a server: it accepts no further job. The jobs that it accepted stay, and are run.
+    ///
+    /// Refuses by [`CoreError::NoSuchServer`], or by [`CoreError::Closed`] where it was closed
+    /// before, and then changes nothing.
+    pub fn close(&mut self, server: u16) -> Result<(), CoreError>
+        ensures reply { (M : History W) → Agrees W.meaning self.old M → closed result ≡ reply_in W.meaning M (Step.Close server) }
+        ensures state { (M : History W) → Agrees W.meaning self.old M → Agrees W.meaning self.new (M ⊕ Step.Close server) }
+        ensures kept { KeepsRoom self.old.rooms self.new.rooms }
+    {
+        if let Some(error) = self.servers.close_refusal(server) {
+            return Err(error);
+        }
+        self.servers.close(server);
+        Ok(())
+    }
+
+    /// The clock, in ticks: 0 to [`LIMIT`].
+    pub fn now(&self) -> u64
+        ensures { (M : History W) → Agrees W.meaning self.now M → result ≡ (world_after W.meaning M).now }
+    {
+        self.clock
+    }
+
+    /// The chosen server: the ready one with the least deadline, of equal deadlines the lower
+    /// number; `None` where nobody is ready.
+    pub fn ready(&self) -> Option<u16>
+        ensures { (M : History W) → Agrees W.meaning self.now M → result ≡ chosen W.meaning (world_after W.meaning M).accounts }
+    {
+        self.servers.choose()
+    }
+
+    /// What a server shows, or [`CoreError::NoSuchServer`].
+    pub fn view(&self, server: u16) -> Result<ServerView, CoreError>
+        ensures { (M : History W) → Agrees W.meaning self.now M → result ≡ view_reply W.meaning (slice_get (world_after W.meaning M).accounts server) }
+    {
+        self.servers.view(server)
+    }
+
+    /// Does all steps, in order, and gives one reply for each.
+    ///
+    /// Room for all replies is made first. If that is refused, the steps come back and nothing
+    /// changed. A single submit that memory refuses is marked in its reply, by
+    /// [`CoreError::OutOfMemory`] with its job, and the next step follows.
+    pub fn run_steps(
+        &mut self,
+        steps: Vec<Step<W>, A>,
+    ) -> Result<Vec<Reply<W>, A>, StepsRefused<W, A>>
+    where
+        A: Clone,
+        ensures replies { IfOk result (λ replies. (M : History W) → Agrees W.meaning self.old M
+            → AnswersAll W.meaning M steps.items replies.items) }
+        ensures state { IfOk result (λ replies. (M : History W) → Agrees W.meaning self.old M
+            → Agrees W.meaning self.new (grown_by M steps.items replies.items)) }
+        ensures back { IfErr result (λ refused. refused.steps ≡ steps) }
+        ensures unchanged { OnErr result (self.new ≡ self.old) }
+    {
+        let Ok(alloc) = self.alloc.clone() else {
+            return Err(StepsRefused { steps });
+        };
+        let Ok(mut replies) = Vec::with_capacity(alloc, steps.len()) else {
+            return Err(StepsRefused { steps });
+        };
+        for step in steps {
+            let reply = self.step(step);
+            replies.push_reserved(reply);
+        }
+        Ok(replies)
+    }
+
+    /// Does one step.
+    fn step(&mut self, step: Step<W>) -> Reply<W>
+        ensures reply { (M : History W) → Agrees W.meaning self.old M → Answers W.meaning M step result }
+        ensures state { (M : History W) → Agrees W.meaning self.old M → Agrees W.meaning self.new (grown M step result) }
+    {
+        match step {
+            Step::Submit(server, task) => submit_reply(self.submit(server, task)),
+            Step::Run => Reply::Ran(self.run()),
+            Step::Advance(n) => advance_reply(self.advance(n)),
+            Step::Close(server) => close_reply(self.close(server)),
+        }
+    }
+}
+
+fn submit_reply<W: Work>(answer: Result<u64, SubmitRefused<W>>) -> Reply<W>
+    ensures { result ≡ submitted answer }
+{
+    match answer {
+        Ok(number) => Reply::Accepted(number),
+        Err(refused) => Reply::NotAccepted(refused),
+    }
+}
+
+fn advance_reply<W: Work>(answer: Result<(), CoreError>) -> Reply<W>
+    ensures { result ≡ advanced answer }
+{
+    match answer {
+        Ok(()) => Reply::Advanced,
+        Err(error) => Reply::Refused(error),
+    }
+}
+
+fn close_reply<W: Work>(answer: Result<(), CoreError>) -> Reply<W>
+    ensures { result ≡ closed answer }
+{
+    match answer {
+        Ok(()) => Reply::Closed,
+        Err(error) => Reply::Refused(error),
+    }
+}
