@@ -5,7 +5,9 @@ pub mod Fields
 pub mod Files
 pub mod Lines
 pub mod Reads
+pub mod Runs
 pub mod TaskFiles
 pub mod Tops
+pub mod Traces
 pub mod Words
 pub mod Writes

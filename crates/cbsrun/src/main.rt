@@ -8,6 +8,8 @@ mod file;
 mod input;
 mod line;
 mod output;
+mod replay;
+mod run_error;
 mod task_file;
 mod pending;
 mod top;
