@@ -1,4 +1,5 @@
 pub mod Each
 pub mod Reading
+pub mod Replaying
 pub mod Tables
 pub mod Writing

@@ -60,3 +60,8 @@ none_waits old new text wrote = (text, wrote, append-nil text)
 -- a front of a front
 pub front_more : (old new : Option (List ℕ)) (text part : List ℕ) → AppendsFront old new text → AppendsFront old new (text ++ part)
 front_more old new text part (front, rest, wrote, parts) = (front, rest ++ part, wrote, ap (λ t. t ++ part) parts ∙ append_assoc front rest part)
+
+-- what waited is written, but for its end
+pub all_but_then : (old mid new : Option (List ℕ)) (waiting left text : List ℕ) → AppendsAllBut old mid waiting text → AppendsAllBut mid new left waiting → AppendsAllBut old new left text
+all_but_then old mid new waiting left text (front, wrote, parts) (more, wrote_more, more_parts) =
+    (front ++ more, Appends-then old mid new front more wrote wrote_more, append_assoc front more left ∙ (ap (λ t. front ++ t) more_parts ∙ parts))

@@ -5,6 +5,7 @@ ghost use Rattle.std.specs.Io.KnownBytes.{Appends};
 ghost use Rattle.cbs_job.specs.Files.{of_files};
 ghost use Rattle.cbs_core.specs.Agreement.{Agrees};
 ghost use Rattle.cbs_core.specs.History.{History, ◌⊕◌, world_after, reply_in};
+ghost use Rattle.cbs_core.specs.Replies.{advanced, closed};
 ghost use Rattle.cbsrun.specs.Runs.{is_write_fault};
 ghost use Rattle.cbsrun.specs.Traces.{call_of, answer_of, line_in, line_after, trace, AppendsLines};
 ghost use Rattle.cbsrun.specs.Writes.{AppendsFront};
@@ -50,7 +51,10 @@ fn submit(
 }
 
 /// The answer to an advance or a close.
-fn made(answer: Result<(), CoreError>) -> Answer {
+fn made(answer: Result<(), CoreError>) -> Answer
+    ensures advance { result ≡ answer_of (advanced answer) }
+    ensures close { result ≡ answer_of (closed answer) }
+{
     match answer {
         Ok(()) => Answer::Made,
         Err(error) => Answer::Refused(error),
