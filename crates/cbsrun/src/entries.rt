@@ -11,7 +11,6 @@ use crate::fault::FileKind;
 use crate::fields::{
     all_whole, below, items, known, members, natural, present, sized, text, units, whole, within,
 };
-
 use cbs_core::Step;
 use cbs_job::{FileJob, MAX_UNITS, PeakJob, SumJob, Task};
 use cbs_rate::Reservation;

@@ -76,11 +76,7 @@ fn plan_of(bound: Bound, entries: &[Value]) -> Result<Plan, FileFault>
 }
 
 /// The steps of the entries of `step`, in a file with so many servers.
-fn steps_of(
-    alloc: Global,
-    servers: u64,
-    entries: &[Value],
-) -> Result<Vec<Step<FileJob>>, FileFault>
+fn steps_of(alloc: Global, servers: u64, entries: &[Value]) -> Result<Vec<Step<FileJob>>, FileFault>
     requires { servers ≤ 64 }
     ensures steps { Gives no_memory (λ v. v.items) result
         (each_from 0 (λ i entry. at (AtStep i) (step_entry servers entry)) (map view entries.now)) }

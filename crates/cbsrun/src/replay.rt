@@ -31,11 +31,7 @@ fn call_of(step: &Step<FileJob>) -> Call
 }
 
 /// The answer to a job for a server. Only want of memory has none.
-fn submit(
-    core: &mut Core<FileJob>,
-    server: u16,
-    task: Task<FileJob>,
-) -> Result<Answer, AllocError>
+fn submit(core: &mut Core<FileJob>, server: u16, task: Task<FileJob>) -> Result<Answer, AllocError>
     ensures reply { IfOk result (λ a. (M : History FileJob) → Agrees of_files core.old M
         → a ≡ answer_of (reply_in of_files M (Step.Submit server task))) }
     ensures state { OnOk result ((M : History FileJob) → Agrees of_files core.old M

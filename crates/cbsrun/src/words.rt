@@ -9,7 +9,8 @@ use clap::error::ErrorKind;
 use clap::{Arg, Command, Error};
 use std::alloc::{AllocError, Global};
 
-const ABOUT: &str = "Runs Constant Bandwidth Servers under EDF: jobs on one thread, each server with \
+const ABOUT: &str =
+    "Runs Constant Bandwidth Servers under EDF: jobs on one thread, each server with \
 a budget of so many ticks in every period.";
 
 const TASK_FILES: &str = "\
@@ -102,9 +103,7 @@ impl From<AllocError> for WordsFault {
 fn command_line<'a>(alloc: Global) -> Result<Command<'a>, AllocError>
     ensures { IfOk result (λ c. app_of c ≡ command_line) }
 {
-    let file = Arg::new(alloc, "FILE")
-        .help("The task file")
-        .required(true);
+    let file = Arg::new(alloc, "FILE").help("The task file").required(true);
     let replay = Command::new(alloc, "replay").about(REPLAY).arg(file)?;
     Command::new(alloc, "cbsrun")
         .about(ABOUT)

@@ -41,7 +41,7 @@ loop-step-preserved g c = record {
   finite = tt;
   count = omega (arith, ap length c.in-Some.ensures.steps.0, c.in-Some.ensures.steps.1, c.loop-step.invariant.count);
   so_far = goes_on _ _ c.as_str.result.now _ c.in-Some.step _ c.in-Some.ensures.steps.0 c.loop-step.invariant.so_far c.in-Ok-take_step.ensures.state
-  (λ M agrees. c.as_str.ensures.value ∙ c.in-Ok-take_step.ensures.line M agrees) c.in_ok-push.ensures.ok.0;
+      (λ M agrees. c.as_str.ensures.value ∙ c.in-Ok-take_step.ensures.line M agrees) c.in_ok-push.ensures.ok.0;
   none_failed = c.in_ok-push.ensures.ok.1 ∙ c.loop-step.invariant.none_failed;
 }
 
