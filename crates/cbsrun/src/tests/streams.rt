@@ -79,19 +79,28 @@ fn a_failing_output_has_its_status(rt: HostRuntime) {
     assert!(rt; status == 3 && err.holds(""));
 }
 
+/// How many bytes were read.
+fn count(read: Result<Vec<u8>, ReadError>) -> Result<usize, ReadError> {
+    match read {
+        Ok(bytes) => Ok(bytes.len()),
+        Err(error) => Err(error),
+    }
+}
+
 #[test]
 fn a_reader_gives_all_its_bytes(rt: HostRuntime) -> Result<(), Fail> {
     let alloc = rt.alloc();
-    for text in ["abc", ""] {
-        let bytes = read_all(alloc, &mut FromRead::new(text.as_bytes()));
-        assert!(rt; matches!(bytes, Ok(all) if all.as_slice() == text.as_bytes()));
+    let bytes = read_all(alloc, &mut FromRead::new(b"abc".as_slice())).map_err(|_| "abc")?;
+    assert!(rt; bytes.as_slice() == b"abc".as_slice());
+    let none = read_all(alloc, &mut FromRead::new(b"".as_slice())).map_err(|_| "none")?;
+    assert!(rt; none.is_empty());
+    for (letters, bad, read) in [
+        (MAX_BYTES, 0, Ok(MAX_BYTES)),
+        (MAX_BYTES + 1, 0, Err(ReadError::TooLarge)),
+        (MAX_BYTES, 2, Err(ReadError::ReadFault)),
+    ] {
+        assert!(rt; count(read_all(alloc, &mut Letters::new(letters, bad))) == read);
     }
-    let full = read_all(alloc, &mut Letters::new(MAX_BYTES, 0));
-    assert!(rt; matches!(full, Ok(all) if all.len() == MAX_BYTES));
-    let over = read_all(alloc, &mut Letters::new(MAX_BYTES + 1, 0));
-    assert!(rt; matches!(over, Err(ReadError::TooLarge)));
-    let second = read_all(alloc, &mut Letters::new(MAX_BYTES, 2));
-    assert!(rt; matches!(second, Err(ReadError::ReadFault)));
     Ok(())
 }
 
