@@ -1,0 +1,62 @@
+use Rattle.std.proofs.Common.{◌≡◌, [], arith, ap, sym, ◌∙◌, length, rules, refl}
+use Rattle.std.proofs.lemmas.List.{nil_from_length}
+use Rattle.std.proofs.lemmas.Result.{err_from_is_err_and}
+use Rattle.std.specs.Vec.Iter.{into_iter_items}
+use Rattle.cbsrun.specs.TaskFiles.{File}
+use Rattle.cbsrun.proofs.Replaying.{none_done, begins, flushed, flushed_front, lines_front, all_done, goes_on, pushed_front}
+use Rattle.cbsrun.proofs.replay.replay.Goals as goal
+
+pub returns-in_default-clause-whole_lines : goal.returns-in_default-clause-whole_lines
+returns-in_default-clause-whole_lines g c = λ _. none_done _ c.args.file
+
+pub returns-in_err-pending-clause-whole_lines : goal.returns-in_err-pending-clause-whole_lines
+returns-in_err-pending-clause-whole_lines g c = λ _. none_done _ c.args.file
+
+pub loop-step-init : goal.loop-step-init
+loop-step-init g c =
+    let begun = begins (g.O.ByteOutput.written c.args.out.now) c.in-Ok.core c.args.file (rw (← c.file.view_is) c.in-Ok.ensures.start) in
+    let steps : into_iter_items c.into_iter-step-iterator.result ≡ c.args.file.steps = c.into_iter-step-iterator.ensures.into_iter_gives.0 ∙ ap (λ (f : File). f.steps) c.file.view_is in
+    record {
+      can = tt;
+      finite = tt;
+      count = search rules;
+      so_far = rw (c.in_ok-pending.ensures, steps) begun;
+      none_failed = refl;
+    }
+
+pub returns-in_err-flush-clause-front : goal.returns-in_err-flush-clause-front
+returns-in_err-flush-clause-front g c =
+    let p = err_from_is_err_and c.from_residual-in_err-flush.result c.from_residual-in_err-flush.ensures.1 in
+    rw p.1 (flushed_front _ c.loop-step.invariant.so_far c.in_err-flush.ensures.err.1)
+
+pub returns-in_default-take_step-clause-front : goal.returns-in_default-take_step-clause-front
+returns-in_default-take_step-clause-front g c = lines_front _ c.loop-step.invariant.so_far c.in_ok-flush.ensures.ok.0
+
+pub returns-in_default-take_step-clause-whole_lines : goal.returns-in_default-take_step-clause-whole_lines
+returns-in_default-take_step-clause-whole_lines g c = λ _. flushed _ c.loop-step.invariant.so_far c.in_ok-flush.ensures.ok.0
+
+pub loop-step-preserved : goal.loop-step-preserved
+loop-step-preserved g c = record {
+  can = tt;
+  finite = tt;
+  count = omega (arith, ap length c.in-Some.ensures.steps.0, c.in-Some.ensures.steps.1, c.loop-step.invariant.count);
+  so_far = goes_on _ _ c.as_str.result.now _ c.in-Some.step _ c.in-Some.ensures.steps.0 c.loop-step.invariant.so_far c.in-Ok-take_step.ensures.state
+      (λ M agrees. c.as_str.ensures.value ∙ c.in-Ok-take_step.ensures.line M agrees) c.in_ok-push.ensures.ok.0;
+  none_failed = c.in_ok-push.ensures.ok.1 ∙ c.loop-step.invariant.none_failed;
+}
+
+pub returns-in_err-push-clause-front : goal.returns-in_err-push-clause-front
+returns-in_err-push-clause-front g c =
+    let p = err_from_is_err_and c.from_residual-in_err-push.result c.from_residual-in_err-push.ensures.1 in
+    rw p.1 (pushed_front _ c.as_str.result.now c.in-Some.step _ c.in-Some.ensures.steps.0 c.loop-step.invariant.so_far
+    (λ M agrees. c.as_str.ensures.value ∙ c.in-Ok-take_step.ensures.line M agrees) c.in_err-push.ensures.err.1)
+
+pub returns-in_err-flush-2-clause-front : goal.returns-in_err-flush-2-clause-front
+returns-in_err-flush-2-clause-front g c =
+    let p = err_from_is_err_and c.from_residual-in_err-flush-2.result c.from_residual-in_err-flush-2.ensures.1 in
+    rw p.1 (flushed_front _ c.loop-step.invariant.so_far c.in_err-flush-2.ensures.err.1)
+
+pub returns-clause-ok : goal.returns-clause-ok
+returns-clause-ok g c =
+    let none : into_iter_items c.loop-step.step-iterator ≡ [] = nil_from_length _ (sym c.loop-step.invariant.count ∙ c.in-None.ensures.steps.0) in
+    all_done _ c.loop-step.invariant.so_far none c.in_ok-flush-2.ensures.ok.0

@@ -1,0 +1,35 @@
+use Rattle.std.proofs.Common.{rules, ◌≡◌, ◌∙◌, ap, sym, true, refl, codes, map, Option, Some, None, List, string_bytes}
+use Rattle.std.specs.Prelude.{option_map}
+use Rattle.clap.specs.Words.{App, Row, Text, is_simple, subcommand_of, subcommand_rows_of, subcommand_name_of, rows_of, found_of, first_of, first_value}
+use Rattle.clap.proofs.OnLiterals.{clap_on_literals}
+use Rattle.clap.proofs.WalkLemmas.{first_value-rows}
+use Rattle.cbsrun.specs.Words.{command_line, name_of}
+use Rattle.cbsrun.specs.declared.words.Verb.TheVariants.{Replay}
+use Rattle.cbsrun.proofs.words.asked_by.Goals as goal
+
+is_one : is_simple command_line ≡ true
+unfolding clap_on_literals
+is_one = refl
+
+-- the name and the rows that were asked for apart, together
+both_are : {B : Type 0} (o : Option B) (name : B → Text) (rows : B → List Row) (t : Text) (rs : List Row) → Some t ≡ option_map name o
+    → Some rs ≡ option_map (λ (p : Text × List Row). p.1) (option_map {U = Text × List Row} (λ b. (name b, rows b)) o) → option_map {U = Text × List Row} (λ b. (name b, rows b)) o ≡ Some (t, rs)
+both_are None name rows t rs p q = absurd cc
+both_are (Some b) name rows t rs p q =
+    let e : t ≡ name b = cc in
+    let f : rs ≡ rows b = cc in
+    rw (e, f) refl
+
+pub returns : goal.returns
+returns c =
+    let m = c.in-Ok.matches in
+    let inner = c.in-Some.inner.now in
+    let words = map string_bytes c.args.words.now in
+    let rows : subcommand_rows_of m ≡ subcommand_of command_line words = (c.in-Ok.ensures.matches (ap is_simple c.in_ok-command.ensures ∙ is_one)).1 ∙ ap (λ (a : App). subcommand_of a words) c.in_ok-command.ensures in
+    let name : Some c.in-Some.name.now ≡ subcommand_name_of m = rw c.in-Some.is at c.subcommand.ensures.name in
+    let its = rw c.in-Some.is at c.subcommand.ensures.rows in
+    let entered : subcommand_rows_of m ≡ Some (c.in-Some.name.now, rows_of (found_of inner)) = both_are _ _ _ _ _ name its in
+    let verb : name_of Replay ≡ c.in-Some.name.now = search rules in
+    let file : first_of (codes "FILE") (rows_of (found_of inner)) ≡ Some (string_bytes c.in_ok-file.file) =
+    sym (first_value-rows (found_of inner) (codes "FILE")) ∙ (sym (rw c.in-Some-get_str.is at c.get_str.ensures) ∙ ap Some (sym c.in_ok-file.ensures.ok)) in
+    (rows_of (found_of inner), sym rows ∙ (entered ∙ rw verb refl), file)

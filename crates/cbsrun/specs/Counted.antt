@@ -1,0 +1,6 @@
+-- A reader or a writer of the library, and how many of its calls failed.
+use Rattle.std.specs.Prelude.{ℕ}
+
+pub record Counted (T : Type 0) : Type 0 where
+  pub inner : T
+  pub failed : ℕ

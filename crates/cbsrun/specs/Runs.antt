@@ -1,0 +1,18 @@
+-- Why a run ended early.
+use Rattle.std.specs.Prelude.{ℕ, List, codes, Bool, true, false, Result, Ok, Err}
+use Rattle.cbsrun.specs.declared.run_error.RunError.{RunError}
+use Rattle.cbsrun.specs.declared.run_error.RunError.TheVariants.{OutOfMemory, WriteFault}
+
+abbrev pub run_error_number : RunError → ℕ
+run_error_number OutOfMemory = 1
+run_error_number WriteFault = 2
+
+abbrev pub run_error_name : RunError → List ℕ
+run_error_name OutOfMemory = codes "OutOfMemory"
+run_error_name WriteFault = codes "WriteFault"
+
+-- a write failed
+abbrev pub is_write_fault : {A : Type 0} → Result A RunError → Bool
+is_write_fault (Ok x) = false
+is_write_fault (Err OutOfMemory) = false
+is_write_fault (Err WriteFault) = true

@@ -1,0 +1,41 @@
+-- The command line as `clap` sees it.
+use Rattle.std.specs.Prelude.{◌≡◌, ℕ, List, codes, true, Some, string_bytes}
+use Rattle.clap.specs.Words.{App, Row, Rule, Text, first_of, new_app, new_rule, subcommand_of, with_rule, with_subcommand}
+use Rattle.cbsrun.specs.declared.words.Verb.{Verb}
+use Rattle.cbsrun.specs.declared.words.Verb.TheVariants.{Replay}
+use Rattle.cbsrun.specs.declared.words.Asked.{Asked}
+use Rattle.cbsrun.specs.declared.words.WordsFault.{WordsFault}
+use Rattle.cbsrun.specs.declared.words.WordsFault.TheVariants.{Usage, Help, OutOfMemory}
+
+-- one file, which is required
+abbrev pub file : Rule
+file = record (new_rule (codes "FILE")) { required = true }
+
+-- the verb and its file
+abbrev pub replay : App
+replay = with_rule (new_app (codes "replay")) file
+
+-- a subcommand is required
+abbrev pub required : App → App
+required a = record a { top = record a.top { subcommand_required = true } }
+
+-- the program: one verb, which is required
+abbrev pub command_line : App
+command_line = with_subcommand (required (new_app (codes "cbsrun"))) replay.top
+
+abbrev pub name_of : Verb → Text
+name_of Replay = codes "replay"
+
+-- the subcommand that the words name is the verb, and its one value the file
+abbrev pub Names : List Text → Asked → Type 0
+Names words asked = (rows : List Row) × (subcommand_of command_line words ≡ Some (name_of asked.verb, rows)) × (first_of (codes "FILE") rows ≡ Some (string_bytes asked.file))
+
+abbrev pub words_fault_number : WordsFault → ℕ
+words_fault_number (Usage text) = 1
+words_fault_number (Help text) = 2
+words_fault_number OutOfMemory = 3
+
+abbrev pub words_fault_name : WordsFault → List ℕ
+words_fault_name (Usage text) = codes "Usage"
+words_fault_name (Help text) = codes "Help"
+words_fault_name OutOfMemory = codes "OutOfMemory"

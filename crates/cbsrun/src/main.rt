@@ -1,0 +1,90 @@
+//! `cbsrun` runs task files: jobs on Constant Bandwidth Servers, under earliest deadline first.
+#![tactic(auto)]
+
+mod entries;
+mod fault;
+mod fault_lines;
+mod fields;
+mod file;
+mod input;
+mod line;
+mod output;
+mod pending;
+mod replay;
+mod run;
+mod run_error;
+mod task_file;
+#[cfg(test)]
+mod tests;
+mod top;
+mod words;
+
+use fault_lines::{write_read_fault, write_run_fault};
+use input::{FromRead, ReadError, read_all};
+use output::{ToWrite, write_pieces};
+use run::{BAD_FILE, DONE, RUN_FAULT, WRONG_WORDS, run_bytes};
+use run_error::RunError;
+use std::alloc::Global;
+use std::env;
+use std::fs::File;
+use std::io::ErrorKind;
+use std::process::ExitCode;
+use words::{Asked, WordsFault, read_words};
+
+/// The words of the command line.
+fn words_of(rt: &HostRuntime, alloc: Global) -> Result<Vec<String>, WordsFault> {
+    match env::args(rt) {
+        Ok(words) => Ok(words.collect(alloc)?),
+        Err(error) if error.kind() == ErrorKind::OutOfMemory => Err(WordsFault::OutOfMemory),
+        Err(_) => {
+            let text = String::from_str(alloc, "cbsrun: the command line is not UTF-8\n")?;
+            Err(WordsFault::Usage(text))
+        }
+    }
+}
+
+/// What the command line asks for.
+fn asked_of(rt: &HostRuntime, alloc: Global) -> Result<Asked, WordsFault> {
+    read_words(alloc, words_of(rt, alloc)?)
+}
+
+/// The bytes of a file. One that cannot be opened is a read fault.
+fn bytes_of(rt: &HostRuntime, alloc: Global, path: &str) -> Result<Vec<u8>, ReadError> {
+    let Ok(file) = File::open(rt, path) else {
+        return Err(ReadError::ReadFault);
+    };
+    read_all(alloc, &mut FromRead::new(file))
+}
+
+/// The status of a program that reads its words, its file and its steps.
+fn status(rt: &HostRuntime) -> u8 {
+    let alloc = rt.alloc();
+    let mut out = ToWrite::new(rt.stdout());
+    let mut err = ToWrite::new(rt.stderr());
+    let asked = match asked_of(rt, alloc) {
+        Ok(asked) => asked,
+        Err(WordsFault::Help(text)) => {
+            let _written = write_pieces(&mut out, &[text.as_str()]);
+            return DONE;
+        }
+        Err(WordsFault::Usage(text)) => {
+            let _written = write_pieces(&mut err, &[text.as_str()]);
+            return WRONG_WORDS;
+        }
+        Err(WordsFault::OutOfMemory) => {
+            let _written = write_run_fault(&mut err, RunError::OutOfMemory);
+            return RUN_FAULT;
+        }
+    };
+    match bytes_of(rt, alloc, asked.file.as_str()) {
+        Ok(bytes) => run_bytes(alloc, asked.verb, &bytes, &mut out, &mut err),
+        Err(fault) => {
+            let _written = write_read_fault(&mut err, fault);
+            BAD_FILE
+        }
+    }
+}
+
+fn main(rt: HostRuntime) -> ExitCode {
+    ExitCode::from(status(&rt))
+}

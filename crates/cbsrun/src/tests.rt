@@ -1,0 +1,7 @@
+//! The program's parts, run on worked examples.
+
+mod fakes;
+mod files;
+mod streams;
+mod traces;
+mod words;

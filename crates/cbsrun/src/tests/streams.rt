@@ -1,0 +1,134 @@
+//! Readers and writers that fail.
+
+use super::fakes::{Letters, Memory, ran};
+use crate::file::read_file;
+use crate::input::{FromRead, MAX_BYTES, ReadError, read_all};
+use crate::output::{ByteOutput, ToWrite, write_text};
+use crate::replay::replay;
+use crate::run::run_bytes;
+use crate::run_error::RunError;
+use crate::words::Verb;
+use std::alloc::Global;
+use std::test::Fail;
+
+const FIRST: &str = "\
+format = 1
+mode = \"soft\"
+bound = [1, 1]
+backlog = 4
+ring = 4
+server = [{ budget = 2, period = 5 }]
+step = [
+  { op = \"submit\", server = 0, job = \"sum\", units = [1, 2, 3] },
+  { op = \"run\" },
+  { op = \"run\" },
+  { op = \"run\" },
+]
+";
+
+const LINES: &str = "\
+@0 submit 0 job 0 accepted c=2 d=5
+@1 run 0 job 0 c=1 d=5
+@2 run 0 job 0 c=2 d=10
+@3 run 0 job 0 done 6 c=1 d=10
+";
+
+/// The front of the text that has room, and whether it is the whole.
+fn replayed(alloc: Global, room: usize, step: usize) -> Result<(Option<RunError>, Memory), Fail> {
+    let file = read_file(alloc, FIRST.as_bytes()).map_err(|_| "a good file")?;
+    let mut out = Memory::new(alloc, room, step);
+    match replay(alloc, file, &mut out) {
+        Ok(()) => Ok((None, out)),
+        Err(error) => Ok((Some(error), out)),
+    }
+}
+
+#[test]
+fn a_writer_that_fails_has_the_front(rt: HostRuntime) -> Result<(), Fail> {
+    let alloc = rt.alloc();
+    for (room, step, front) in [
+        (20, usize::MAX, "@0 submit 0 job 0 ac"),
+        (20, 1, "@0 submit 0 job 0 ac"),
+        (0, usize::MAX, ""),
+        (usize::MAX, 0, ""),
+    ] {
+        let (error, out) = replayed(alloc, room, step)?;
+        assert!(rt; error == Some(RunError::WriteFault) && out.holds(front));
+    }
+    let (error, out) = replayed(alloc, usize::MAX, 1)?;
+    assert!(rt; error == None && out.holds(LINES));
+    Ok(())
+}
+
+#[test]
+fn a_failing_output_has_its_status(rt: HostRuntime) {
+    let alloc = rt.alloc();
+    let mut out = Memory::new(alloc, 20, usize::MAX);
+    let mut err = Memory::ample(alloc);
+    let status = run_bytes(alloc, Verb::Replay, FIRST.as_bytes(), &mut out, &mut err);
+    assert!(rt; status == 4 && out.holds("@0 submit 0 job 0 ac"));
+    assert!(rt; err.holds("cbsrun: run fault 2 WriteFault\n"));
+
+    let mut out = Memory::new(alloc, 20, usize::MAX);
+    let mut err = Memory::new(alloc, 7, usize::MAX);
+    let status = run_bytes(alloc, Verb::Replay, FIRST.as_bytes(), &mut out, &mut err);
+    assert!(rt; status == 4 && err.holds("cbsrun:"));
+
+    let mut err = Memory::new(alloc, 0, usize::MAX);
+    let status = run_bytes(alloc, Verb::Replay, b"format = 3", &mut out, &mut err);
+    assert!(rt; status == 3 && err.holds(""));
+}
+
+/// How many bytes were read.
+fn count(read: Result<Vec<u8>, ReadError>) -> Result<usize, ReadError> {
+    match read {
+        Ok(bytes) => Ok(bytes.len()),
+        Err(error) => Err(error),
+    }
+}
+
+#[test]
+fn a_reader_gives_all_its_bytes(rt: HostRuntime) -> Result<(), Fail> {
+    let alloc = rt.alloc();
+    let bytes = read_all(alloc, &mut FromRead::new(b"abc".as_slice())).map_err(|_| "abc")?;
+    assert!(rt; bytes.as_slice() == b"abc".as_slice());
+    let none = read_all(alloc, &mut FromRead::new(b"".as_slice())).map_err(|_| "none")?;
+    assert!(rt; none.is_empty());
+    for (letters, bad, read) in [
+        (MAX_BYTES, 0, Ok(MAX_BYTES)),
+        (MAX_BYTES + 1, 0, Err(ReadError::TooLarge)),
+        (MAX_BYTES, 2, Err(ReadError::ReadFault)),
+    ] {
+        assert!(rt; count(read_all(alloc, &mut Letters::new(letters, bad))) == read);
+    }
+    Ok(())
+}
+
+#[test]
+fn long_traces_are_whole(rt: HostRuntime) -> Result<(), Fail> {
+    let alloc = rt.alloc();
+    let mut file = String::from_str(alloc, FIRST)?;
+    let mut lines = String::from_str(alloc, LINES)?;
+    file.truncate(FIRST.len() - 2);
+    for _ in 0..5000 {
+        file.push_str("  { op = \"run\" },\n")?;
+        lines.push_str("@3 run idle\n")?;
+    }
+    file.push_str("]\n")?;
+    let ran = ran(alloc, file.as_bytes());
+    assert!(rt; ran.status == 0 && ran.out.holds(lines.as_str()));
+    Ok(())
+}
+
+#[test]
+fn a_library_writer_is_written_to(rt: HostRuntime) -> Result<(), Fail> {
+    let alloc = rt.alloc();
+    let mut out = ToWrite::new(Vec::new(alloc));
+    assert!(rt; write_text(&mut out, b"abc").is_ok());
+    assert!(rt; matches!(out.write(b""), Ok(0)));
+    assert!(rt;
+        RunError::OutOfMemory.number() == 1 && RunError::OutOfMemory.name() == "OutOfMemory"
+    );
+    assert!(rt; ReadError::TooLarge.number() == 3 && ReadError::TooLarge.name() == "TooLarge");
+    Ok(())
+}

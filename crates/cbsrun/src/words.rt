@@ -1,0 +1,162 @@
+//! What the words of a command line ask for.
+
+ghost use Rattle.std.specs.Prelude.{◌≡◌, ℕ, IfOk, IfErr, map, string_bytes, true};
+ghost use Rattle.clap.specs.Words.{app_of, takes};
+ghost use Rattle.cbsrun.specs.Words.{command_line, Names, words_fault_number, words_fault_name};
+ghost use Rattle.cbsrun.specs.declared.words.WordsFault.TheVariants.{OutOfMemory};
+
+use clap::error::ErrorKind;
+use clap::{Arg, Command, Error};
+use std::alloc::{AllocError, Global};
+
+const ABOUT: &str =
+    "Runs Constant Bandwidth Servers under EDF: jobs on one thread, each server with \
+a budget of so many ticks in every period.";
+
+const TASK_FILES: &str = "\
+FILE is a task file, in TOML. It names the mode, the servers and the steps:
+
+  format = 1                               # the only format there is
+  mode = \"soft\"                            # or \"throttled\"
+  bound = [1, 1]                           # the bandwidths add up to at most 1/1
+  backlog = 4                              # unfinished jobs that a server may have
+  ring = 4                                 # messages that a client may have under way
+  server = [{ budget = 2, period = 5 }]    # 2 ticks in every 5
+  step = [
+    { op = \"submit\", server = 0, job = \"sum\", units = [1, 2, 3] },
+    { op = \"run\" },
+    { op = \"advance\", ticks = 3 },
+    { op = \"close\", server = 0 },
+  ]
+
+Saved as FIRST.toml, it is run by
+  cbsrun replay FIRST.toml
+
+Exit status:
+  0  done, or this help
+  2  the command line is wrong
+  3  the file could not be read, or has a fault
+  4  the run ended early: no memory, or the output could not be written";
+
+const REPLAY: &str = "Runs the steps of a task file, and writes a line for each";
+
+/// What to do.
+#[derive(Clone, Copy, Debug, PartialEq, Eq)]
+pub enum Verb {
+    /// Runs the steps of the file, and writes a line for each.
+    Replay,
+}
+
+/// What to do, and with which file.
+#[derive(Debug, Drop)]
+pub struct Asked {
+    /// What to do.
+    pub verb: Verb,
+    /// The name of the task file.
+    pub file: String,
+}
+
+/// Why the words ask for nothing, with the text to print.
+#[derive(Debug, Drop)]
+pub enum WordsFault {
+    /// The words are wrong: the text says in what, and how they go.
+    Usage(String),
+    /// The words ask for help: the text is the help.
+    Help(String),
+    /// There was no memory to read the words.
+    OutOfMemory,
+}
+
+impl WordsFault {
+    /// The fault's number, from 1.
+    pub fn number(&self) -> u8
+        ensures { result ≡ words_fault_number self.now }
+    {
+        match self {
+            WordsFault::Usage(_) => 1,
+            WordsFault::Help(_) => 2,
+            WordsFault::OutOfMemory => 3,
+        }
+    }
+
+    /// The fault's name.
+    pub fn name(&self) -> &'static str
+        ensures { result.now ≡ words_fault_name self.now }
+    {
+        match self {
+            WordsFault::Usage(_) => "Usage",
+            WordsFault::Help(_) => "Help",
+            WordsFault::OutOfMemory => "OutOfMemory",
+        }
+    }
+}
+
+impl From<AllocError> for WordsFault {
+    ghost from_gives = { λ _ e. e ≡ OutOfMemory };
+
+    fn from(_error: AllocError) -> WordsFault {
+        WordsFault::OutOfMemory
+    }
+}
+
+/// The command line of the program: a verb, and its file.
+fn command_line<'a>(alloc: Global) -> Result<Command<'a>, AllocError>
+    ensures { IfOk result (λ c. app_of c ≡ command_line) }
+{
+    let file = Arg::new(alloc, "FILE").help("The task file").required(true);
+    let replay = Command::new(alloc, "replay").about(REPLAY).arg(file)?;
+    Command::new(alloc, "cbsrun")
+        .about(ABOUT)
+        .after_help(TASK_FILES)
+        .subcommand_required(true)
+        .subcommand(replay)
+}
+
+/// The fault of a command line that `clap` refused.
+fn refused(alloc: Global, error: &Error) -> Result<WordsFault, AllocError> {
+    let text = error.to_string(alloc)?;
+    Ok(match error.kind() {
+        ErrorKind::OutOfMemory => WordsFault::OutOfMemory,
+        ErrorKind::DisplayHelp | ErrorKind::DisplayVersion => WordsFault::Help(text),
+        _ => WordsFault::Usage(text),
+    })
+}
+
+/// The fault of a command line with no verb or no file. `clap` refuses those itself.
+fn incomplete(alloc: Global) -> Result<WordsFault, AllocError> {
+    let text = String::from_str(alloc, "cbsrun: a verb and a file are wanted\n")?;
+    Ok(WordsFault::Usage(text))
+}
+
+/// What the words ask for, the program's name first.
+fn asked_by(alloc: Global, words: &[String]) -> Result<Asked, WordsFault>
+    ensures { IfOk result (Names (map string_bytes words.now)) }
+{
+    let command = command_line(alloc)?;
+    let matches = match command.try_get_matches_from(words) {
+        Ok(matches) => matches,
+        Err(error) => return Err(refused(alloc, &error)?),
+    };
+    let Some((name, inner)) = matches.subcommand() else {
+        return Err(incomplete(alloc)?);
+    };
+    let verb = match name {
+        "replay" => Verb::Replay,
+        _ => return Err(incomplete(alloc)?),
+    };
+    let Some(file) = inner.get_str("FILE") else {
+        return Err(incomplete(alloc)?);
+    };
+    let file = String::from_str(alloc, file)?;
+    Ok(Asked { verb, file })
+}
+
+/// What the words of a command line ask for: first the program's name, then a verb and a file.
+///
+/// Refuses with [`WordsFault::Usage`] where the words are wrong, with [`WordsFault::Help`] where
+/// they ask for help, and with [`WordsFault::OutOfMemory`].
+pub fn read_words(alloc: Global, words: Vec<String>) -> Result<Asked, WordsFault>
+    ensures { IfOk result (Names (map string_bytes words.items)) }
+{
+    asked_by(alloc, words.as_slice())
+}
