@@ -94,7 +94,7 @@ module _ {W : Type 0} (work : Meaning W) where
       let bounded = All_get (IsBounded core.backlog core.clock) core.servers s no_held ok.bounded lt in
       let here = AllZip-get (AgreesServer work) core.servers (world_after work M).accounts s no_held no_account agrees.world.servers lt in
       let given : IsRate (account {W = W} (map new_account M.setup.servers) s).terms.reservation.budget (account {W = W} (map new_account M.setup.servers) s).terms.reservation.period =
-          rw (here.terms, terms_after M.setup M.steps s) at bounded.lawful in
+      rw (here.terms, terms_after M.setup M.steps s) at bounded.lawful in
       let kept = holds_after work IsKept kept_job kept_unit kept_replenishment (λ a h. record { lawful = h.lawful; state = h.state; begun = h.begun }) N.setup N.steps s (kept_opened N.setup.servers s (rw same given)) in
       record {
         capped = kept.state.capped;

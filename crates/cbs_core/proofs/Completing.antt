@@ -75,9 +75,9 @@ module _ {W : Type 0} (work : Meaning W) where
       let first : take (length cs) (drop f X) ≡ map (λ (d : Completion). d.result) cs = rw wholes (part_of_more f (length cs) (map (whole work) b.accepted) (map (whole work) k.jobs.0) within) ∙ sym h.results in
       let second : take (length ds) (drop (f + length cs) X) ≡ map (λ (d : Completion). d.result) ds = rw (← h.finished) (sym k.results) in
       let both : take (length cs + length ds) (drop f X) ≡ map (λ (d : Completion). d.result) cs ++ map (λ (d : Completion). d.result) ds =
-          take-add (length cs) (length ds) (drop f X) ∙ rw (first, drop-drop (length cs) f X, second) refl in
+      take-add (length cs) (length ds) (drop f X) ∙ rw (first, drop-drop (length cs) f X, second) refl in
       let counted : numbers_from f (length cs + length ds) ≡ map (λ (d : Completion). d.seq) cs ++ map (λ (d : Completion). d.seq) ds =
-          numbers_from-append f (length cs) (length ds) ∙ rw (h.numbers, k.numbers, h.finished) refl in
+      numbers_from-append f (length cs) (length ds) ∙ rw (h.numbers, k.numbers, h.finished) refl in
       record {
         jobs = (h.jobs.0 ++ k.jobs.0, k.jobs.1 ∙ ap (λ xs. xs ++ k.jobs.0) h.jobs.1 ∙ append_assoc a.accepted h.jobs.0 k.jobs.0);
         numbers = rw n (map-append (λ (d : Completion). d.seq) cs ds ∙ sym counted);
@@ -175,11 +175,11 @@ module _ {W : Type 0} (work : Meaning W) where
             let count : finished work after ≡ finished work (account_in work M s) + 1 = let k : (held_at new.servers s).finished ≡ (held_at old.servers s).finished + 1 = rw here at counts.1 in omega arith in
             let told : Tells (account_in work M s) c = subst (λ t. Tells (account_in work M t) c) here (answer_tells M x r c answers is) in
             let wholes : map (whole work) after.accepted ≡ map (whole work) (account_in work M s).accepted ++ map (whole work) more.0 =
-                ap (map (whole work)) more.1 ∙ map-append (whole work) (account_in work M s).accepted more.0 in
+            ap (map (whole work)) more.1 ∙ map-append (whole work) (account_in work M s).accepted more.0 in
             let within : c.seq < length (map (whole work) (account_in work M s).accepted) = let w = told.within in omega (arith, length-map (account_in work M s).accepted (whole work)) in
             let found : take 1 (drop c.seq (map (whole work) after.accepted)) ≡ c.result ∷ [] =
-                rw wholes (part_of_more c.seq 1 (map (whole work) (account_in work M s).accepted) (map (whole work) more.0) (omega arith))
-                ∙ part_of_one c.seq (map (whole work) (account_in work M s).accepted) within ∙ ap (λ k. k ∷ []) (sym told.result) in
+            rw wholes (part_of_more c.seq 1 (map (whole work) (account_in work M s).accepted) (map (whole work) more.0) (omega arith))
+            ∙ part_of_one c.seq (map (whole work) (account_in work M s).accepted) within ∙ ap (λ k. k ∷ []) (sym told.result) in
             rw t record {
               jobs = more;
               numbers = ap (λ k. k ∷ []) seq;

@@ -28,9 +28,9 @@ module _ {W : Type 0} (work : Meaning W) where
   sleeps_refreshed : (until now : ℕ) (a : Account W) → now < until → Sleeps until a → Sleeps until (with_replenishment now a)
   sleeps_refreshed until now a lt h =
       let same : is_active work a ≡ true → after_replenishment a.terms.reservation now a.state ≡ a.state = λ t.
-          let l = h.later t in
-          let early : leb a.state.deadline now ≡ false = grind (arith, nat_tests) in
-          rw (h.marked t, early) in
+      let l = h.later t in
+      let early : leb a.state.deadline now ≡ false = grind (arith, nat_tests) in
+      rw (h.marked t, early) in
       record {
         marked = λ t. rw (same t) (h.marked t);
         later = λ t. rw (same t) (h.later t);
@@ -49,9 +49,9 @@ module _ {W : Type 0} (work : Meaning W) where
   unfolding ticks
   quiet_short w n few rest = λ m lt. none m (omega arith)
     where
-    none : (m : ℕ) → m < 1 → IsAtRest work (ticks m w)
-    none zero lt = rest
-    none (suc m) lt = absurd (omega arith)
+      none : (m : ℕ) → m < 1 → IsAtRest work (ticks m w)
+      none zero lt = rest
+      none (suc m) lt = absurd (omega arith)
 
   or_false : (a b : Bool) → (a || b) ≡ false → (a ≡ false) × (b ≡ false)
   or_false true b e = cc

@@ -51,5 +51,8 @@ module _ {W : Type 0} where
   -- the core's span is that of any list with which it agrees
   pub span_same : (work : Meaning W) (core : CoreHeld W) (backlog : ℕ) (w : World W) → AgreesWorld work core backlog w → held_span core.clock core.servers ≡ idle_span work w
   span_same work core backlog w agrees =
-      rw (agrees.clock, some_ready_same work core.servers w.accounts agrees.servers,
-          AllZip-same (AgreesServer work) (held_wait w.now) (wait work w) core.servers w.accounts agrees.servers (wait_same work w))
+      rw (
+        agrees.clock,
+        some_ready_same work core.servers w.accounts agrees.servers,
+        AllZip-same (AgreesServer work) (held_wait w.now) (wait work w) core.servers w.accounts agrees.servers (wait_same work w),
+      )

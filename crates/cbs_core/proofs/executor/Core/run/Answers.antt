@@ -1,7 +1,6 @@
 use Rattle.std.proofs.Common.{◌+◌, sym, ap}
 use Rattle.cbs_core.specs.Held.{held_at, no_held}
 use Rattle.cbs_core.specs.History.{world_after}
-
 use Rattle.cbs_core.specs.declared.reply.Reply.TheVariants as reply
 use Rattle.cbs_core.proofs.Bounds.{IsCore-run}
 use Rattle.cbs_core.proofs.Keeping.{runnable}
