@@ -1,7 +1,7 @@
 -- A job of a task file comes to what the job inside comes to.
-use Rattle.std.proofs.Common.{◌≡◌, ℕ, zero, suc, refl, List}
+use Rattle.std.proofs.Common.{◌≡◌, ℕ, zero, suc, refl}
 use Rattle.cbs_job.specs.Work.{whole, output_after}
-use Rattle.cbs_job.specs.Numbers.{Progress, stepped, summing, peaking}
+use Rattle.cbs_job.specs.Numbers.{Progress, summing, peaking}
 use Rattle.cbs_job.specs.Files.{of_files}
 use Rattle.cbs_job.specs.declared.file.FileJob.TheVariants.{Sum, Peak}
 

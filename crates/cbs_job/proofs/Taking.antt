@@ -1,10 +1,10 @@
 -- What taking numbers in comes to.
-use Rattle.std.proofs.Common.{◌≡◌, ℕ, zero, suc, ◌+◌, ◌≤◌, ◌<◌, max, List, [], ◌∷◌, length, sum, get_or, refl, sym, ◌∙◌, ap, arith, inl, inr, ◌⊎◌}
-use Rattle.std.specs.Prelude.{All, Contains}
+use Rattle.std.proofs.Common.{◌≡◌, ℕ, zero, suc, ◌+◌, ◌≤◌, ◌<◌, max, List, [], ◌∷◌, length, sum, refl, sym, ◌∙◌, ap, arith, inl, inr, ◌⊎◌}
+use Rattle.std.specs.Prelude.{All, Contains, take}
 use Rattle.std.proofs.lemmas.Bool.{cases_lt}
 use Rattle.std.proofs.lemmas.List.Elements.{All-cons, All-nil}
 use Rattle.std.proofs.lemmas.List.Sums.{sum_by-cons}
-use Rattle.cbs_job.specs.Work.{whole}
+use Rattle.cbs_job.specs.Work.{whole, output_after}
 use Rattle.cbs_job.specs.Numbers.{summing, peaking, IsPeak}
 
 sum_whole : (ns : List ℕ) (total : ℕ) → whole summing (record { numbers = ns; output = total }) ≡ total + sum ns
@@ -14,6 +14,19 @@ sum_whole (n ∷ ns) total = sum_whole ns (total + n) ∙ omega (arith, sum_by-c
 -- the whole result of adding up is the sum
 pub whole-summing : (ns : List ℕ) → whole summing (record { numbers = ns; output = 0 }) ≡ sum ns
 whole-summing ns = sum_whole ns 0 ∙ omega arith
+
+sum_none : (k total : ℕ) → output_after summing k (record { numbers = []; output = total }) ≡ total
+sum_none zero total = refl
+sum_none (suc k) total = sum_none k total
+
+sum_from : (k : ℕ) (ns : List ℕ) (total : ℕ) → output_after summing k (record { numbers = ns; output = total }) ≡ total + sum (take k ns)
+sum_from zero ns total = omega arith
+sum_from (suc k) [] total = sum_none k total ∙ omega arith
+sum_from (suc k) (n ∷ ns) total = sum_from k ns (total + n) ∙ omega (arith, sum_by-cons (λ m. m) n (take k ns))
+
+-- after k units of adding up the output is the sum of the first k numbers
+pub output_after-summing : (k : ℕ) (ns : List ℕ) → output_after summing k (record { numbers = ns; output = 0 }) ≡ sum (take k ns)
+output_after-summing k ns = sum_from k ns 0 ∙ omega arith
 
 -- what seeking comes to from a greatest number so far
 record IsPeakFrom (greatest : ℕ) (ns : List ℕ) (peak : ℕ) : Type 0 where
@@ -27,11 +40,13 @@ max_cases a b = elim (cases_lt a b) [ inl lt ↦ inr (omega arith) | inr ge ↦ 
 contains_later : (n : ℕ) (ns : List ℕ) (m : ℕ) → Contains ns m → Contains (n ∷ ns) m
 contains_later n ns m c = (suc c.0, omega (arith, c.1), c.2)
 
-peak_from : (ns : List ℕ) (greatest : ℕ) → IsPeakFrom greatest ns (whole peaking (record { numbers = ns; output = greatest }))
-peak_from [] greatest = record { above = omega arith; bound = All-nil _; from = inl refl }
-peak_from (n ∷ ns) greatest =
-    let r = peak_from ns (max greatest n) in
-    let m = whole peaking (record { numbers = ns; output = max greatest n }) in
+peak_none : (k greatest : ℕ) → output_after peaking k (record { numbers = []; output = greatest }) ≡ greatest
+peak_none zero greatest = refl
+peak_none (suc k) greatest = peak_none k greatest
+
+-- one number more at the front
+peak_cons : (n : ℕ) (ns : List ℕ) (greatest m : ℕ) → IsPeakFrom (max greatest n) ns m → IsPeakFrom greatest (n ∷ ns) m
+peak_cons n ns greatest m r =
     let a : max greatest n ≤ m = r.above in
     record {
       above = omega (arith, a);
@@ -42,6 +57,18 @@ peak_from (n ∷ ns) greatest =
       ];
     }
 
+peak_nil : (greatest m : ℕ) → m ≡ greatest → IsPeakFrom greatest [] m
+peak_nil greatest m e = record { above = omega (arith, e); bound = All-nil _; from = inl e }
+
+peak_from : (ns : List ℕ) (greatest : ℕ) → IsPeakFrom greatest ns (whole peaking (record { numbers = ns; output = greatest }))
+peak_from [] greatest = peak_nil greatest _ refl
+peak_from (n ∷ ns) greatest = peak_cons n ns greatest _ (peak_from ns (max greatest n))
+
+peak_so_far : (k : ℕ) (ns : List ℕ) (greatest : ℕ) → IsPeakFrom greatest (take k ns) (output_after peaking k (record { numbers = ns; output = greatest }))
+peak_so_far zero ns greatest = peak_nil greatest _ refl
+peak_so_far (suc k) [] greatest = peak_nil greatest _ (peak_none k greatest)
+peak_so_far (suc k) (n ∷ ns) greatest = peak_cons n (take k ns) greatest _ (peak_so_far k ns (max greatest n))
+
 contains_peak : (ns : List ℕ) (m : ℕ) → IsPeakFrom 0 ns m → 0 < length ns → Contains ns m
 contains_peak [] m p some = absurd (omega arith)
 contains_peak (n ∷ ns) m p some = elim p.from [
@@ -49,11 +76,18 @@ contains_peak (n ∷ ns) m p some = elim p.from [
   | inr c ↦ c
 ]
 
-none_peak : (ns : List ℕ) → ns ≡ [] → whole peaking (record { numbers = ns; output = 0 }) ≡ 0
-none_peak ns e = rw e refl
+none_peak : (ns : List ℕ) (m : ℕ) → IsPeakFrom 0 ns m → ns ≡ [] → m ≡ 0
+none_peak [] m p e = elim p.from [ inl none ↦ none | inr c ↦ let lt : c.0 < 0 = c.1 in absurd (omega (arith, lt)) ]
+none_peak (n ∷ ns) m p e = let l : suc (length ns) ≡ 0 = ap length e in absurd (omega (arith, l))
+
+-- what is reached from 0 is the greatest, or 0
+from_zero : (ns : List ℕ) (m : ℕ) → IsPeakFrom 0 ns m → IsPeak ns m
+from_zero ns m p = record { bound = p.bound; member = contains_peak ns m p; none = none_peak ns m p }
 
 -- the whole result of seeking the greatest is the greatest, or 0
 pub IsPeak-whole-peaking : (ns : List ℕ) → IsPeak ns (whole peaking (record { numbers = ns; output = 0 }))
-IsPeak-whole-peaking ns =
-    let r = peak_from ns 0 in
-    record { bound = r.bound; member = contains_peak ns _ r; none = none_peak ns }
+IsPeak-whole-peaking ns = from_zero ns _ (peak_from ns 0)
+
+-- after k units of seeking the greatest the output is the greatest of the first k numbers, or 0
+pub IsPeak-output_after-peaking : (k : ℕ) (ns : List ℕ) → IsPeak (take k ns) (output_after peaking k (record { numbers = ns; output = 0 }))
+IsPeak-output_after-peaking k ns = from_zero (take k ns) _ (peak_so_far k ns 0)

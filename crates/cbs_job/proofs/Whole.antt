@@ -1,5 +1,5 @@
 -- The whole result stays through the units.
-use Rattle.std.proofs.Common.{◌≡◌, ℕ, zero, suc, ◌-◌, ◌<◌, refl, sym, ◌∙◌, arith}
+use Rattle.std.proofs.Common.{◌≡◌, ℕ, zero, suc, ◌-◌, ◌<◌, refl, arith}
 use Rattle.cbs_job.specs.Work.{Meaning, Lowers, whole}
 
 whole_kept_at : {W : Type 0} (work : Meaning W) (n : ℕ) (w : W) → work.left w ≡ n → 0 < n → work.left (work.after w) ≡ n - 1 → whole work (work.after w) ≡ whole work w

@@ -20,6 +20,7 @@ abbrev pub file_after : FileJob → FileJob
 file_after (Sum p) = Sum (summing.after p)
 file_after (Peak p) = Peak (peaking.after p)
 
+-- what the calls of such a job mean
 abbrev pub of_files : Meaning FileJob
 of_files = record { left = file_left; output = file_output; after = file_after }
 

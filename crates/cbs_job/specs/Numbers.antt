@@ -1,6 +1,7 @@
 -- Jobs over a list of numbers, of which each unit takes one.
 use Rattle.std.specs.Prelude.{◌≡◌, ℕ, ◌+◌, ◌-◌, ◌≤◌, ◌<◌, max, List, [], ◌∷◌, length, All, Contains}
-use Rattle.std.proofs.Common.{arith}
+use Rattle.std.proofs.Common.{refl, sym}
+use Rattle.std.proofs.Math.Numerals.{sub-one}
 use Rattle.cbs_job.specs.Work.{Meaning, Lowers}
 
 -- how far such a job has come: the numbers not yet stepped over, and the output so far
@@ -17,9 +18,10 @@ stepped take_in (n ∷ ns) output = record { numbers = ns; output = take_in outp
 abbrev pub taking_in : (ℕ → ℕ → ℕ) → Meaning Progress
 taking_in take_in = record { left = λ p. length p.numbers; output = λ p. p.output; after = λ p. stepped take_in p.numbers p.output }
 
+-- one unit leaves one number less
 lowers_by : (f : ℕ → ℕ → ℕ) (ns : List ℕ) (output : ℕ) → 0 < length ns → length (stepped f ns output).numbers ≡ length ns - 1
-lowers_by f [] output some = absurd (omega arith)
-lowers_by f (n ∷ ns) output some = omega arith
+lowers_by f [] output some = refl
+lowers_by f (n ∷ ns) output some = sym (sub-one (length (n ∷ ns)))
 
 -- taking numbers in keeps the law of work
 pub taking_in_lowers : (f : ℕ → ℕ → ℕ) → Lowers (taking_in f)

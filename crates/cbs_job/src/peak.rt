@@ -1,7 +1,7 @@
 //! A job that seeks the greatest number.
 
-ghost use Rattle.std.specs.Prelude.{◌≡◌, ◌≤◌, ℕ, List, length, drop};
-ghost use Rattle.cbs_job.specs.Work.{whole};
+ghost use Rattle.std.specs.Prelude.{◌≡◌, ◌≤◌, ℕ, List, length, take, drop};
+ghost use Rattle.cbs_job.specs.Work.{whole, output_after};
 ghost use Rattle.cbs_job.specs.Numbers.{Progress, peaking, IsPeak};
 
 use crate::work::Work;
@@ -25,11 +25,12 @@ impl Model for PeakJob {
 
 impl PeakJob {
     /// The greatest of at most 4,294,967,295 numbers: as many units, and the greatest as the result,
-    /// or 0 where there is none.
+    /// or 0 where there is none. After k units the output is the greatest of the first k numbers.
     pub fn new(numbers: Vec<u32>) -> PeakJob
         requires { length numbers.items ≤ 4294967295 }
         ensures value { result ≡ record { numbers = numbers.items; output = 0 } }
         ensures left { peaking.left result ≡ length numbers.items }
+        ensures so_far { (k : ℕ) → IsPeak (take k numbers.items) (output_after peaking k result) }
         ensures whole { IsPeak numbers.items (whole peaking result) }
     {
         PeakJob {

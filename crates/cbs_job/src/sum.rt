@@ -1,7 +1,7 @@
 //! A job that adds numbers up.
 
-ghost use Rattle.std.specs.Prelude.{◌≡◌, ◌≤◌, ◌*◌, ℕ, List, length, drop, sum};
-ghost use Rattle.cbs_job.specs.Work.{whole};
+ghost use Rattle.std.specs.Prelude.{◌≡◌, ◌≤◌, ◌*◌, ℕ, List, length, take, drop, sum};
+ghost use Rattle.cbs_job.specs.Work.{whole, output_after};
 ghost use Rattle.cbs_job.specs.Numbers.{Progress, summing};
 
 use crate::work::Work;
@@ -25,10 +25,12 @@ impl Model for SumJob {
 
 impl SumJob {
     /// The sum of at most 4,294,967,295 numbers: as many units, and their total as the result.
+    /// After k units the output is the total of the first k numbers.
     pub fn new(numbers: Vec<u32>) -> SumJob
         requires { length numbers.items ≤ 4294967295 }
         ensures value { result ≡ record { numbers = numbers.items; output = 0 } }
         ensures left { summing.left result ≡ length numbers.items }
+        ensures so_far { (k : ℕ) → output_after summing k result ≡ sum (take k numbers.items) }
         ensures whole { whole summing result ≡ sum numbers.items }
     {
         SumJob {

@@ -6,3 +6,6 @@ mod server_state;
 
 pub use mode::Mode;
 pub use server_state::{LIMIT, MAX_DEADLINE, ServerState};
+
+#[cfg(test)]
+mod tests;

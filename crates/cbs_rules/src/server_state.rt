@@ -48,7 +48,8 @@ impl ServerState {
         }
     }
 
-    /// A job arrives at the idle server, at tick `now`.
+    /// A job arrives at the idle server, at tick `now`, at most [`LIMIT`]. The server must not be
+    /// throttled.
     ///
     /// With c the budget and d the deadline, the server is renewed if `d <= now`, or if
     /// `c * T >= (d - now) * Q` (soft; Abeni and Buttazzo, RTSS 1998) or `c * T > (d - now) * Q`
@@ -87,6 +88,9 @@ impl ServerState {
 
     /// Uses one tick of the budget. With the last one a soft server gets a whole budget at once and
     /// its deadline is postponed by a period; a throttled one is throttled.
+    ///
+    /// A tick must be left, and the server must not be throttled; its deadline must be at most
+    /// [`MAX_DEADLINE`].
     pub fn consume(&mut self, mode: Mode)
         requires some { 0 < self.old.state.budget }
         requires free { self.old.state.throttled ≡ false }
@@ -115,6 +119,8 @@ impl ServerState {
     /// Replenishes the server at tick `now`: if it is throttled and its deadline has come, it gets Q
     /// ticks more, its deadline is postponed by a period, and it may run again. It is once, even
     /// where the deadline stays in the past; so a jump of the clock by n ticks is the same as n ticks.
+    ///
+    /// The deadline that is postponed must be at most [`MAX_DEADLINE`].
     pub fn replenish(&mut self, now: u64)
         requires { self.old.state.throttled ≡ true → self.old.state.deadline ≤ now → self.old.state.deadline ≤ MAX_DEADLINE }
         ensures rule { self.new ≡ record { reservation = self.old.reservation; state = after_replenishment self.old.reservation now self.old.state } }
@@ -147,7 +153,7 @@ impl ServerState {
         self.budget
     }
 
-    /// The tick by which it may use them.
+    /// The tick by which it may use them, 0 before its first job.
     pub fn deadline(&self) -> u64
         ensures { result ≡ self.now.state.deadline }
     {
