@@ -25,7 +25,8 @@ module _ {W : Type 0} where
   all_twice k m [] h = refl
   all_twice k m (a ∷ accounts) h = rw (refreshed_twice k m a h, all_twice k m accounts h)
 
-  abbrev jumped : ℕ → World W → World W
+  -- the world after a jump by n ticks
+  abbrev pub jumped : ℕ → World W → World W
   jumped n w = record { now = w.now + n; accounts = map (with_replenishment (w.now + n)) w.accounts }
 
   -- n ticks are one jump
@@ -52,8 +53,8 @@ IsCore-jump core n servers rooms ok late e = rw e record {
   small = ok.small;
   clock = late;
   bounded = AllByRecursion-map (IsBounded core.backlog core.clock) (IsBounded core.backlog (core.clock + n)) (held_with_replenishment (core.clock + n)) core.servers ok.bounded (λ h b. record {
-    short = b.short;
-    early = deadline-replenished-le h.terms.reservation (core.clock + n) (core.clock + n + (core.clock + n + 1) * 1000000000) h.state (let d = b.early in omega arith) (let p = b.short in omega arith);
+    lawful = b.lawful;
+    early = deadline-replenished-le h.terms.reservation (core.clock + n) (core.clock + n + (core.clock + n + 1) * 1000000000) h.state (let d = b.early in omega arith) (let p = b.lawful.short in omega arith);
     few_done = let f = b.few_done in omega arith;
     few_jobs = b.few_jobs;
     counts = b.counts;

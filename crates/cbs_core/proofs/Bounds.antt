@@ -11,9 +11,9 @@ use Rattle.cbs_rules.specs.declared.mode.Mode.{Mode}
 use Rattle.cbs_rules.specs.declared.mode.Mode.TheVariants.{Soft, Throttled}
 use Rattle.cbs_rules.specs.declared.server_state.TheConstants.{LIMIT, MAX_DEADLINE}
 use Rattle.cbs_core.specs.Lists.{changed_at}
-use Rattle.cbs_core.specs.Held.{Held, CoreHeld}
+use Rattle.cbs_core.specs.Held.{Held, CoreHeld, held_at, no_held}
 use Rattle.cbs_core.specs.Queued.{jobs_run}
-use Rattle.cbs_core.specs.Holding.{held_at, no_held, held_with_unit, held_with_replenishment, IsBounded, IsCore}
+use Rattle.cbs_core.specs.Holding.{held_with_unit, held_with_replenishment, IsBounded, IsCore}
 use Rattle.cbs_core.proofs.Lists.{All_get, length-changed_at, AllByRecursion-changed, AllByRecursion-map}
 
 pub deadline-consumed-le : (mode : Mode) (r : Rate) (s : State) → (after_unit mode r s).deadline ≤ s.deadline + r.period
@@ -33,7 +33,7 @@ jobs_served-le work (job ∷ jobs) = elim (cases_Bool (eqb (work.left (work.afte
 module _ {W : Type 0} (work : Meaning W) (backlog now : ℕ) where
   later : (h : Held W) → IsBounded backlog now h → IsBounded backlog (now + 1) h
   later h b = record {
-    short = b.short;
+    lawful = b.lawful;
     early = let e = b.early in omega arith;
     few_done = let f = b.few_done in omega arith;
     few_jobs = b.few_jobs;
@@ -45,8 +45,8 @@ module _ {W : Type 0} (work : Meaning W) (backlog now : ℕ) where
       let s = jobs_served-le work h.jobs in
       let c = b.counts in
       record {
-        short = b.short;
-        early = let e = b.early in let p = b.short in omega (arith, deadline-consumed-le h.terms.mode h.terms.reservation h.state);
+        lawful = b.lawful;
+        early = let e = b.early in let p = b.lawful.short in omega (arith, deadline-consumed-le h.terms.mode h.terms.reservation h.state);
         few_done = let f = b.few_done in omega arith;
         few_jobs = let f = b.few_jobs in omega arith;
         counts = omega arith;
@@ -54,8 +54,8 @@ module _ {W : Type 0} (work : Meaning W) (backlog now : ℕ) where
 
   refreshed_bounded : (h : Held W) → IsBounded backlog (now + 1) h → IsBounded backlog (now + 1) (held_with_replenishment (now + 1) h)
   refreshed_bounded h b = record {
-    short = b.short;
-    early = deadline-replenished-le h.terms.reservation (now + 1) (now + 1 + (now + 1 + 1) * 1000000000) h.state b.early (let p = b.short in omega arith);
+    lawful = b.lawful;
+    early = deadline-replenished-le h.terms.reservation (now + 1) (now + 1 + (now + 1 + 1) * 1000000000) h.state b.early (let p = b.lawful.short in omega arith);
     few_done = b.few_done;
     few_jobs = b.few_jobs;
     counts = b.counts;

@@ -6,19 +6,9 @@ use Rattle.std.proofs.lemmas.Bool.Decides.{nat_tests}
 use Rattle.std.specs.List.{HoldsAt}
 use Rattle.std.proofs.lemmas.List.{get_or-map}
 use Rattle.cbs_core.specs.Lists.{first_below, all_below}
-use Rattle.cbs_core.specs.Choice.{Rank, rank_at, is_before, is_first, chosen_among}
+use Rattle.cbs_core.specs.Choice.{Rank, rank_at, is_before, is_first, chosen_among, IsEarliest, IsChoice}
 use Rattle.cbs_core.specs.Held.{Held}
 use Rattle.cbs_core.specs.Holding.{is_held_ready, held_rank, better_of}
-
--- s is the best of the first n
-pub record IsBest (ranks : List Rank) (n s : ℕ) : Type 0 where
-  pub within : s < n
-  pub ready : (rank_at ranks s).ready ≡ true
-  pub first : (r : ℕ) → r < n → (rank_at ranks r).ready ≡ true → is_before ranks s r ≡ true
-
-abbrev pub BestBelow : List Rank → ℕ → Option ℕ → Type 0
-BestBelow ranks n None = (r : ℕ) → r < n → (rank_at ranks r).ready ≡ false
-BestBelow ranks n (Some s) = IsBest ranks n s
 
 all_below-is : (p : ℕ → Bool) (n : ℕ) → ((r : ℕ) → r < n → p r ≡ true) → all_below p n ≡ true
 all_below-is p zero h = refl
@@ -50,13 +40,13 @@ all_below-not p (suc n) s lt h =
       | inr ge ↦ let e : n ≡ s = omega arith in rw (e, h) (and_false (all_below p s))
     ]
 
-first_by : (ranks : List Rank) (s : ℕ) → IsBest ranks (length ranks) s → is_first ranks s ≡ true
+first_by : (ranks : List Rank) (s : ℕ) → IsEarliest ranks (length ranks) s → is_first ranks s ≡ true
 first_by ranks s best =
     let each : (r : ℕ) → r < length ranks → (not (rank_at ranks r).ready || is_before ranks s r) ≡ true =
     λ r lt. elim (cases_Bool (rank_at ranks r).ready) [ inl t ↦ rw (t, best.first r lt t) | inr f ↦ rw f ] in
     rw (best.ready, all_below-is (λ r. not (rank_at ranks r).ready || is_before ranks s r) (length ranks) each)
 
-earlier_not : (ranks : List Rank) (s : ℕ) → IsBest ranks (length ranks) s → (r : ℕ) → r < s → is_first ranks r ≡ false
+earlier_not : (ranks : List Rank) (s : ℕ) → IsEarliest ranks (length ranks) s → (r : ℕ) → r < s → is_first ranks r ≡ false
 earlier_not ranks s best r lt =
     elim (cases_Bool (rank_at ranks r).ready) [
       | inl t ↦
@@ -67,7 +57,7 @@ earlier_not ranks s best r lt =
       | inr f ↦ rw f
     ]
 
-pub chosen_best : (ranks : List Rank) (best : Option ℕ) → BestBelow ranks (length ranks) best → best ≡ chosen_among ranks
+pub chosen_best : (ranks : List Rank) (best : Option ℕ) → IsChoice ranks (length ranks) best → best ≡ chosen_among ranks
 chosen_best ranks None none = sym (first_below-none (is_first ranks) (length ranks) (λ r lt. rw (none r lt)))
 chosen_best ranks (Some s) best = sym (first_below-is (is_first ranks) (length ranks) s best.within (first_by ranks s best) (earlier_not ranks s best))
 
@@ -81,28 +71,28 @@ before_later : (ranks : List Rank) (i b : ℕ) → b < i → (rank_at ranks b).d
 before_later ranks i b lt le = grind (arith, nat_tests)
 
 module _ (ranks : List Rank) (i : ℕ) where
-  best_none : ((r : ℕ) → r < i → (rank_at ranks r).ready ≡ false) → (rank_at ranks i).ready ≡ true → IsBest ranks (i + 1) i
+  best_none : ((r : ℕ) → r < i → (rank_at ranks r).ready ≡ false) → (rank_at ranks i).ready ≡ true → IsEarliest ranks (i + 1) i
   best_none none t = record {
     within = omega arith;
     ready = t;
     first = below_more (λ r. (rank_at ranks r).ready ≡ true → is_before ranks i r ≡ true) i (λ r lt on. let off = none r lt in cc) (λ _. before_itself ranks i);
   }
 
-  best_new : (b : ℕ) → IsBest ranks i b → (rank_at ranks i).ready ≡ true → (rank_at ranks i).deadline < (rank_at ranks b).deadline → IsBest ranks (i + 1) i
+  best_new : (b : ℕ) → IsEarliest ranks i b → (rank_at ranks i).ready ≡ true → (rank_at ranks i).deadline < (rank_at ranks b).deadline → IsEarliest ranks (i + 1) i
   best_new b best t lt = record {
     within = omega arith;
     ready = t;
     first = below_more (λ r. (rank_at ranks r).ready ≡ true → is_before ranks i r ≡ true) i (λ r below on. before_along ranks i b r lt (best.first r below on)) (λ _. before_itself ranks i);
   }
 
-  best_old : (b : ℕ) → IsBest ranks i b → ((rank_at ranks i).ready ≡ true → (rank_at ranks b).deadline ≤ (rank_at ranks i).deadline) → IsBest ranks (i + 1) b
+  best_old : (b : ℕ) → IsEarliest ranks i b → ((rank_at ranks i).ready ≡ true → (rank_at ranks b).deadline ≤ (rank_at ranks i).deadline) → IsEarliest ranks (i + 1) b
   best_old b best le = record {
     within = let w = best.within in omega arith;
     ready = best.ready;
     first = below_more (λ r. (rank_at ranks r).ready ≡ true → is_before ranks b r ≡ true) i best.first (λ on. before_later ranks i b best.within (le on));
   }
 
-  pub better_best : (best : Option ℕ) → BestBelow ranks i best → BestBelow ranks (i + 1) (better_of ranks best i)
+  pub better_best : (best : Option ℕ) → IsChoice ranks i best → IsChoice ranks (i + 1) (better_of ranks best i)
   better_best None h =
       elim (cases_Bool (rank_at ranks i).ready) [
         | inl t ↦ rw t (best_none h t)
@@ -114,15 +104,15 @@ module _ (ranks : List Rank) (i : ℕ) where
         | inr f ↦ rw f (best_old b h (λ on. grind (arith, nat_tests)))
       ]
 
-  pub best_within : (n : ℕ) (best : Option ℕ) → BestBelow ranks n best → IfSome best (λ b. b < n)
+  pub best_within : (n : ℕ) (best : Option ℕ) → IsChoice ranks n best → IfSome best (λ b. b < n)
   best_within n None h = tt
   best_within n (Some b) h = h.within
 
-pub best_within_held : {W : Type 0} (hs : List (Held W)) (n : ℕ) (best : Option ℕ) → n ≡ length hs → BestBelow (map held_rank hs) n best → IfSome best (λ s. s < length hs)
+pub best_within_held : {W : Type 0} (hs : List (Held W)) (n : ℕ) (best : Option ℕ) → n ≡ length hs → IsChoice (map held_rank hs) n best → IfSome best (λ s. s < length hs)
 best_within_held hs n None e h = tt
 best_within_held hs n (Some b) e h = let w = h.within in omega arith
 
-pub best_ready_held : {W : Type 0} (hs : List (Held W)) (n : ℕ) (best : Option ℕ) → n ≡ length hs → BestBelow (map held_rank hs) n best → IfSome best (λ s. HoldsAt (λ h. is_held_ready h ≡ true) hs s)
+pub best_ready_held : {W : Type 0} (hs : List (Held W)) (n : ℕ) (best : Option ℕ) → n ≡ length hs → IsChoice (map held_rank hs) n best → IfSome best (λ s. HoldsAt (λ h. is_held_ready h ≡ true) hs s)
 best_ready_held hs n None e h = tt
 best_ready_held hs n (Some b) e h = λ d.
     let w = h.within in

@@ -6,8 +6,8 @@ use Rattle.cbs_core.specs.Lists.{changed_at}
 use Rattle.cbs_core.specs.Accounts.{Account, no_account, with_close}
 use Rattle.cbs_core.specs.History.{World, account, close_refusal_at, close_refusal, after_closing, next, close_reply, reply_to}
 use Rattle.cbs_core.specs.Agreement.{AgreesServer, AgreesWorld}
-use Rattle.cbs_core.specs.Held.{Held, CoreHeld}
-use Rattle.cbs_core.specs.Holding.{held_at, no_held, held_with_close, held_close_refusal_at, held_close_refusal, IsBounded, IsCore}
+use Rattle.cbs_core.specs.Held.{Held, CoreHeld, held_at, no_held}
+use Rattle.cbs_core.specs.Holding.{held_with_close, held_close_refusal_at, held_close_refusal, IsBounded, IsCore}
 use Rattle.cbs_core.specs.declared.error.CoreError.{CoreError}
 use Rattle.cbs_core.specs.declared.step.Step.TheVariants.{Close}
 use Rattle.cbs_core.proofs.Lists.{AllByRecursion-changed, AllZip-changed_at, length-changed_at}
@@ -31,7 +31,7 @@ IsCore-shut core s servers rooms ok e = rw e record {
   small = ok.small;
   clock = ok.clock;
   bounded = AllByRecursion-changed (IsBounded core.backlog core.clock) (IsBounded core.backlog core.clock) held_with_close core.servers s ok.bounded
-      (λ h b. record { short = b.short; early = b.early; few_done = b.few_done; few_jobs = b.few_jobs; counts = b.counts }) (λ h b. b);
+      (λ h b. record { lawful = b.lawful; early = b.early; few_done = b.few_done; few_jobs = b.few_jobs; counts = b.counts }) (λ h b. b);
 }
 
 module _ {W : Type 0} (work : Meaning W) (core : CoreHeld W) (backlog : ℕ) (w : World W) (agrees : AgreesWorld work core backlog w) (s : ℕ)

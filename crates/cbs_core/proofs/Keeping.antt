@@ -1,5 +1,5 @@
 -- What each server keeps, through a job, a unit, a replenishment and a close.
-use Rattle.std.proofs.Common.{◌≡◌, ℕ, suc, ◌+◌, ◌-◌, ◌≤◌, ◌<◌, true, false, List, [], ◌∷◌, ◌++◌, length, map, set, get_or, refl, sym, ◌∙◌, ap, arith, eqb, ltb, length-append, ◌||◌, inl, inr, Option, is_some}
+use Rattle.std.proofs.Common.{◌≡◌, ℕ, suc, ◌+◌, ◌-◌, ◌≤◌, ◌<◌, Bool, true, false, List, [], ◌∷◌, ◌++◌, length, map, set, get_or, refl, sym, ◌∙◌, ap, arith, eqb, ltb, length-append, ◌||◌, inl, inr, Option, is_some}
 use Rattle.std.proofs.lemmas.Bool.{cases_Bool}
 use Rattle.std.proofs.lemmas.Bool.Decides.{nat_tests}
 use Rattle.std.specs.List.{AllByRecursion}
@@ -9,13 +9,13 @@ use Rattle.cbs_rules.specs.Rules.{State, IsState, after_arrival, after_unit, aft
 use Rattle.cbs_rules.specs.declared.mode.Mode.{Mode}
 use Rattle.cbs_rules.specs.declared.mode.Mode.TheVariants.{Soft, Throttled}
 use Rattle.cbs_core.specs.Lists.{changed_at}
-use Rattle.cbs_core.specs.Held.{Held}
+use Rattle.cbs_core.specs.Held.{Held, held_at, no_held}
 use Rattle.cbs_core.specs.Queued.{jobs_run, result_run}
-use Rattle.cbs_core.specs.Holding.{Head, held_of, helds, held_at, no_held, head_with_job, head_with_unit, held_with_job, held_with_unit, held_with_close, held_with_replenishment, is_held_ready, IsServer, IsServers}
+use Rattle.cbs_core.specs.Holding.{Head, held_of, helds, head_with_job, head_with_unit, held_with_job, held_with_unit, held_with_close, held_with_replenishment, is_held_ready, IsServer, IsServers}
 use Rattle.cbs_core.proofs.Lists.{AllByRecursion-changed_at, AllByRecursion-map}
 use Rattle.cbs_core.proofs.Zipping.{helds-set, helds-set_head}
 
-IsState-after_arrival : (mode : Mode) (r : Rate) (now : ℕ) (s : State) → IsRate r.budget r.period → IsState r s → s.throttled ≡ false → IsState r (after_arrival mode r now s)
+pub IsState-after_arrival : (mode : Mode) (r : Rate) (now : ℕ) (s : State) → IsRate r.budget r.period → IsState r s → s.throttled ≡ false → IsState r (after_arrival mode r now s)
 IsState-after_arrival mode r now s ok is free = record {
   capped = let a = is.capped in grind (arith, nat_tests);
   spent = let a = is.spent in let b = is.unmarked in grind (arith, nat_tests);
@@ -24,7 +24,7 @@ IsState-after_arrival mode r now s ok is free = record {
   unmarked = let a = is.unmarked in let b = ok.some in let c = ok.within in grind (arith, nat_tests);
 }
 
-IsState-after_unit : (mode : Mode) (r : Rate) (s : State) → IsRate r.budget r.period → IsState r s → s.throttled ≡ false → 0 < s.deadline → IsState r (after_unit mode r s)
+pub IsState-after_unit : (mode : Mode) (r : Rate) (s : State) → IsRate r.budget r.period → IsState r s → s.throttled ≡ false → 0 < s.deadline → IsState r (after_unit mode r s)
 IsState-after_unit Soft r s ok is free begun = record {
   capped = let a = is.capped in grind (arith, nat_tests);
   spent = let a = is.spent in grind (arith, nat_tests);
@@ -40,7 +40,7 @@ IsState-after_unit Throttled r s ok is free begun = record {
   unmarked = let a = is.unmarked in grind (arith, nat_tests);
 }
 
-IsState-after_replenishment : (r : Rate) (now : ℕ) (s : State) → IsRate r.budget r.period → IsState r s → IsState r (after_replenishment r now s)
+pub IsState-after_replenishment : (r : Rate) (now : ℕ) (s : State) → IsRate r.budget r.period → IsState r s → IsState r (after_replenishment r now s)
 IsState-after_replenishment r now s ok is = record {
   capped = let a = is.capped in let b = is.spent in grind (arith, nat_tests);
   spent = let a = is.spent in grind (arith, nat_tests);
@@ -49,14 +49,14 @@ IsState-after_replenishment r now s ok is = record {
   unmarked = let a = is.unmarked in grind (arith, nat_tests);
 }
 
-begun_after_unit : (mode : Mode) (r : Rate) (s : State) → 0 < s.deadline → 0 < (after_unit mode r s).deadline
+pub begun_after_unit : (mode : Mode) (r : Rate) (s : State) → 0 < s.deadline → 0 < (after_unit mode r s).deadline
 begun_after_unit Soft r s begun = grind (arith, nat_tests)
 begun_after_unit Throttled r s begun = grind (arith, nat_tests)
 
-begun_after_arrival : (mode : Mode) (r : Rate) (now : ℕ) (s : State) → IsRate r.budget r.period → 0 < (after_arrival mode r now s).deadline
+pub begun_after_arrival : (mode : Mode) (r : Rate) (now : ℕ) (s : State) → IsRate r.budget r.period → 0 < (after_arrival mode r now s).deadline
 begun_after_arrival mode r now s ok = let b = ok.some in let c = ok.within in grind (arith, nat_tests)
 
-begun_after_replenishment : (r : Rate) (now : ℕ) (s : State) → 0 < s.deadline → 0 < (after_replenishment r now s).deadline
+pub begun_after_replenishment : (r : Rate) (now : ℕ) (s : State) → 0 < s.deadline → 0 < (after_replenishment r now s).deadline
 begun_after_replenishment r now s begun = grind (arith, nat_tests)
 
 AllByRecursion-push : {W : Type 0} (P : W → Type 0) (ws : List W) (w : W) → AllByRecursion P ws → P w → AllByRecursion P (ws ++ w ∷ [])
@@ -143,10 +143,10 @@ module _ {W : Type 0} (work : Meaning W) where
     here : head ≡ get_or heads s head
     here = read ∙ ap (λ k. get_or heads k head) same
 
-    pub job_taken : (now n : ℕ) (job : W) (head' : Head) (lists' : List (List W)) → length lists ≡ length heads → n ≡ length (get_or lists s [])
-        → head' ≡ head_with_job now (ltb 0 n) head → lists' ≡ set lists s (get_or lists s [] ++ job ∷ [])
+    pub job_taken : (now : ℕ) (active : Bool) (job : W) (head' : Head) (lists' : List (List W)) → length lists ≡ length heads → active ≡ ltb 0 (length (get_or lists s []))
+        → head' ≡ head_with_job now active head → lists' ≡ set lists s (get_or lists s [] ++ job ∷ [])
         → helds (set heads i head') lists' ≡ changed_at (held_with_job now job) (helds heads lists) s
-    job_taken now n job head' lists' queued count h l =
+    job_taken now active job head' lists' queued count h l =
         rw (same, h, l, count)
         (helds-set (held_with_job now job) heads lists s (head_with_job now (ltb 0 (length (get_or lists s []))) head) head (get_or lists s [] ++ job ∷ []) within queued
         (ap (λ x. held_of (head_with_job now (ltb 0 (length (get_or lists s []))) x) (get_or lists s [] ++ job ∷ [])) here))

@@ -82,7 +82,7 @@ IsCore-opened {W = W} mode rates backlog servers rooms few small lawful e = rw e
   few = rw (length-map (terms_of mode rates) (new_held {W = W}), length-map {B = Terms} rates (λ (r : Rate). record { mode = mode; reservation = r })) few;
   small = small;
   clock = omega arith;
-  bounded = AllByRecursion-map (λ (t : Terms). t.reservation.period ≤ 1000000000) (IsBounded backlog 0) new_held (terms_of mode rates)
-      (AllByRecursion-map (λ (r : Rate). IsRate r.budget r.period) (λ (t : Terms). t.reservation.period ≤ 1000000000) (λ r. record { mode = mode; reservation = r }) rates lawful (λ r ok. ok.short))
-      (λ t short. record { short = short; early = omega arith; few_done = omega arith; few_jobs = omega arith; counts = refl });
+  bounded = AllByRecursion-map (λ (t : Terms). IsRate t.reservation.budget t.reservation.period) (IsBounded backlog 0) new_held (terms_of mode rates)
+      (AllByRecursion-map (λ (r : Rate). IsRate r.budget r.period) (λ (t : Terms). IsRate t.reservation.budget t.reservation.period) (λ r. record { mode = mode; reservation = r }) rates lawful (λ r ok. ok))
+      (λ t ok. record { lawful = ok; early = omega arith; few_done = omega arith; few_jobs = omega arith; counts = refl });
 }

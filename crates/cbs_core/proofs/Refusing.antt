@@ -4,8 +4,8 @@ use Rattle.std.specs.Prelude.{if◌then◌else◌}
 use Rattle.std.specs.Bool.{then_some}
 use Rattle.std.proofs.lemmas.Bool.{cases_Bool}
 use Rattle.std.proofs.lemmas.Bool.Decides.{nat_tests}
-use Rattle.cbs_core.specs.Held.{Held}
-use Rattle.cbs_core.specs.Holding.{Head, helds, held_at, held_refusal, held_refusal_at, held_close_refusal, held_close_refusal_at}
+use Rattle.cbs_core.specs.Held.{Held, held_at}
+use Rattle.cbs_core.specs.Holding.{Head, helds, held_refusal, held_refusal_at, held_close_refusal, held_close_refusal_at}
 use Rattle.cbs_core.specs.declared.error.CoreError.TheVariants as error
 use Rattle.cbs_core.proofs.Zipping.{jobs_at, within_heads}
 

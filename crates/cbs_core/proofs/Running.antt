@@ -1,16 +1,17 @@
 -- A run, an advance and a submit keep agreement.
 use Rattle.std.proofs.Common.{◌≡◌, ℕ, ◌+◌, ◌≤◌, ◌<◌, List, length, map, refl, ap, sym, ◌∙◌, arith, true, false, Bool, leb, ltb, cond, Option, Some, None}
+use Rattle.std.proofs.lemmas.List.{length-map}
 use Rattle.std.proofs.lemmas.Bool.Decides.{nat_tests}
 use Rattle.cbs_job.specs.Work.{Meaning, Lowers}
 use Rattle.cbs_rules.specs.declared.server_state.TheConstants.{LIMIT}
 use Rattle.cbs_core.specs.Lists.{changed_at}
-use Rattle.cbs_core.specs.Choice.{chosen_among}
+use Rattle.cbs_core.specs.Choice.{chosen_among, IsChoice}
 use Rattle.cbs_core.specs.Accounts.{no_account, with_unit, with_replenishment}
-use Rattle.cbs_core.specs.History.{World, account, rank, chosen, runner, after_run, next, unit_reply, run_reply}
+use Rattle.cbs_core.specs.History.{World, account, rank, ranks_of, chosen, runner, after_run, next, unit_reply, run_reply}
 use Rattle.cbs_core.specs.Agreement.{AgreesServer, AgreesWorld}
-use Rattle.cbs_core.specs.Held.{Held, CoreHeld}
+use Rattle.cbs_core.specs.Held.{Held, CoreHeld, held_at, no_held}
 use Rattle.cbs_core.specs.Queued.{result_run}
-use Rattle.cbs_core.specs.Holding.{held_rank, held_at, no_held, held_with_unit, held_with_replenishment, ran_of, IsServer}
+use Rattle.cbs_core.specs.Holding.{held_rank, held_with_unit, held_with_replenishment, ran_of, IsServer}
 use Rattle.cbs_core.specs.declared.reply.Ran.{Ran}
 use Rattle.cbs_core.specs.declared.reply.Ran.TheVariants as ran
 use Rattle.cbs_core.specs.declared.step.Step.TheVariants.{Run}
@@ -24,6 +25,13 @@ cond_same false = refl
 module _ {W : Type 0} (work : Meaning W) (core : CoreHeld W) (backlog : ℕ) (w : World W) (agrees : AgreesWorld work core backlog w) where
   pub choice_agrees : chosen_among (map held_rank core.servers) ≡ chosen work w.accounts
   choice_agrees = ap chosen_among (AllZip-same (AgreesServer work) held_rank (rank work) core.servers w.accounts agrees.servers (rank_agrees work))
+
+  -- a choice among what is held is one among what is known
+  pub choice_same : (o : Option ℕ) → IsChoice (map held_rank core.servers) (length (map held_rank core.servers)) o → IsChoice (ranks_of work w.accounts) (length w.accounts) o
+  choice_same o h =
+      let same : map held_rank core.servers ≡ ranks_of work w.accounts = AllZip-same (AgreesServer work) held_rank (rank work) core.servers w.accounts agrees.servers (rank_agrees work) in
+      let size : length (ranks_of work w.accounts) ≡ length w.accounts = length-map w.accounts (rank work) in
+      rw size at (rw same at h)
 
   module _ (o : Option ℕ) (e : o ≡ chosen_among (map held_rank core.servers)) where
     pub reply_by : run_reply work w (chosen work w.accounts) ≡ run_reply work w o

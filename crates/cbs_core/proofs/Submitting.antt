@@ -12,8 +12,8 @@ use Rattle.cbs_core.specs.History.{History, World, account, refusal_at, submit_r
 use Rattle.cbs_core.specs.Agreement.{AgreesServer, AgreesWorld, Agrees}
 use Rattle.cbs_core.specs.Replies.{IsAccepted, RoomAnswers}
 use Rattle.cbs_core.specs.Errors.{is_out_of_memory}
-use Rattle.cbs_core.specs.Held.{Held, CoreHeld}
-use Rattle.cbs_core.specs.Holding.{held_at, no_held, held_with_job, held_refusal_at, held_refusal, IsBounded, IsCore}
+use Rattle.cbs_core.specs.Held.{Held, CoreHeld, held_at, no_held}
+use Rattle.cbs_core.specs.Holding.{held_with_job, held_refusal_at, held_refusal, IsBounded, IsCore}
 use Rattle.cbs_core.specs.declared.error.CoreError.{CoreError}
 use Rattle.cbs_core.specs.declared.error.CoreError.TheVariants as error
 use Rattle.cbs_core.specs.declared.reply.Reply.TheVariants as reply
@@ -77,8 +77,8 @@ IsCore-joined core s job servers rooms ok free e = rw e record {
   small = ok.small;
   clock = ok.clock;
   bounded = AllByRecursion-changed_at (IsBounded core.backlog core.clock) (held_with_job core.clock job) core.servers s no_held ok.bounded (λ b. record {
-    short = b.short;
-    early = deadline-joined-le _ (held_at core.servers s).state (held_at core.servers s).terms core.clock _ b.early (let p = b.short in omega arith);
+    lawful = b.lawful;
+    early = deadline-joined-le _ (held_at core.servers s).state (held_at core.servers s).terms core.clock _ b.early (let p = b.lawful.short in omega arith);
     few_done = b.few_done;
     few_jobs = let r = free.room no_held in omega (arith, length-append (held_at core.servers s).jobs (job ∷ []));
     counts = let c = b.counts in omega (arith, length-append (held_at core.servers s).jobs (job ∷ []));

@@ -2,8 +2,8 @@
 use Rattle.std.proofs.Common.{◌≡◌, ℕ, zero, suc, ◌≤◌, ◌<◌, List, [], ◌∷◌, length, map, get_or, set, refl, sym, ◌∙◌, ap, arith, Some, None}
 use Rattle.std.specs.Prelude.{slice_get}
 use Rattle.cbs_core.specs.Lists.{changed_at}
-use Rattle.cbs_core.specs.Held.{Held}
-use Rattle.cbs_core.specs.Holding.{Head, held_of, helds, held_at, no_held}
+use Rattle.cbs_core.specs.Held.{Held, held_at, no_held}
+use Rattle.cbs_core.specs.Holding.{Head, held_of, helds}
 
 module _ {W : Type 0} where
   pub length-helds : (hs : List Head) (ls : List (List W)) → length (helds hs ls) ≡ length hs

@@ -1,5 +1,5 @@
 -- Which server runs: earliest deadline first (Liu and Layland, JACM 1973), and of equal deadlines the lower number.
-use Rattle.std.specs.Prelude.{ℕ, Bool, false, not, ◌&&◌, ◌||◌, eqb, leb, ltb, List, length, get_or, Option}
+use Rattle.std.specs.Prelude.{◌≡◌, ℕ, ◌<◌, Bool, true, false, not, ◌&&◌, ◌||◌, eqb, leb, ltb, List, length, get_or, Option, Some, None}
 use Rattle.cbs_core.specs.Lists.{all_below, first_below}
 
 -- what the choice looks at in each server
@@ -24,3 +24,14 @@ is_first ranks s = (rank_at ranks s).ready && all_below (λ r. not (rank_at rank
 -- the chosen server: the ready one that is before every ready server, and none where nobody is ready
 abbrev pub chosen_among : List Rank → Option ℕ
 chosen_among ranks = first_below (is_first ranks) (length ranks)
+
+-- of the first n servers, s is ready, and its pair of deadline and number is at most that of each that is ready
+pub record IsEarliest (ranks : List Rank) (n s : ℕ) : Type 0 where
+  pub within : s < n
+  pub ready : (rank_at ranks s).ready ≡ true
+  pub first : (r : ℕ) → r < n → (rank_at ranks r).ready ≡ true → is_before ranks s r ≡ true
+
+-- the choice among the first n servers: nobody where nobody is ready, and else the earliest
+abbrev pub IsChoice : List Rank → ℕ → Option ℕ → Type 0
+IsChoice ranks n None = (r : ℕ) → r < n → (rank_at ranks r).ready ≡ false
+IsChoice ranks n (Some s) = IsEarliest ranks n s

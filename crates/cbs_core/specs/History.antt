@@ -34,9 +34,13 @@ module _ {W : Type 0} where
   abbrev pub rank : Meaning W → Account W → Rank
   rank work a = record { ready = is_ready work a; deadline = a.state.deadline }
 
+  -- what the choice sees of all servers
+  abbrev pub ranks_of : Meaning W → List (Account W) → List Rank
+  ranks_of work accounts = map (rank work) accounts
+
   -- the chosen server
   abbrev pub chosen : Meaning W → List (Account W) → Option ℕ
-  chosen work accounts = chosen_among (map (rank work) accounts)
+  chosen work accounts = chosen_among (ranks_of work accounts)
 
   -- one tick: the clock grows by one, and then each server is replenished that is due
   abbrev pub tick : World W → World W

@@ -1,13 +1,13 @@
 -- What the calls do to what is held of a server. Private words of this crate: public clauses speak of agreement.
-use Rattle.std.specs.Prelude.{◌≡◌, ℕ, ◌+◌, ◌-◌, ◌*◌, ◌≤◌, ◌<◌, Bool, true, false, not, ◌&&◌, ◌||◌, leb, ltb, if◌then◌else◌, List, [], ◌∷◌, ◌++◌, length, get_or, slice_get, Option, Some, None, Result, Ok, Err}
+use Rattle.std.specs.Prelude.{◌≡◌, ◌≢◌, ℕ, ◌+◌, ◌-◌, ◌*◌, ◌≤◌, ◌<◌, Bool, true, false, not, ◌&&◌, ◌||◌, leb, ltb, if◌then◌else◌, List, [], ◌∷◌, ◌++◌, length, slice_get, Option, Some, None, Result, Ok, Err}
 use Rattle.std.specs.List.{AllByRecursion}
 use Rattle.cbs_job.specs.Work.{Meaning}
+use Rattle.cbs_job.specs.declared.completion.Completion.{Completion}
 use Rattle.cbs_rate.specs.Rate.{IsRate}
 use Rattle.cbs_rules.specs.Rules.{State, Terms, IsState, fresh_state, after_arrival, after_unit, after_replenishment}
-use Rattle.cbs_rules.specs.declared.mode.Mode.TheVariants.{Soft}
 use Rattle.cbs_rules.specs.declared.server_state.TheConstants.{LIMIT}
 use Rattle.cbs_core.specs.Choice.{Rank, rank_at}
-use Rattle.cbs_core.specs.Held.{Held, CoreHeld}
+use Rattle.cbs_core.specs.Held.{Held, CoreHeld, held_at}
 use Rattle.cbs_core.specs.Queued.{jobs_run}
 use Rattle.cbs_core.specs.declared.error.CoreError.{CoreError}
 use Rattle.cbs_core.specs.declared.error.CoreError.TheVariants as error
@@ -126,14 +126,6 @@ module _ {W : Type 0} where
   abbrev pub held_close_refusal : List (Held W) → ℕ → Option CoreError
   held_close_refusal hs s = held_close_refusal_at (slice_get hs s)
 
--- what is held where there is no such server
-abbrev pub no_held : {W : Type 0} → Held W
-no_held = held_of (record { terms = record { mode = Soft; reservation = record { budget = 0; period = 0 } }; state = fresh_state; closed = true; accepted = 0; finished = 0 }) []
-
--- what is held of server s
-abbrev pub held_at : {W : Type 0} → List (Held W) → ℕ → Held W
-held_at hs s = get_or hs s no_held
-
 -- what a Run is answered after a unit of job seq of server s, by what that unit found
 abbrev pub ran_of : ℕ → ℕ → Option ℕ → Ran
 ran_of s seq None = ran.Unit s seq
@@ -160,7 +152,7 @@ pub record IsServers {W : Type 0} (work : Meaning W) (heads : List Head) (lists 
 
 -- what each server keeps against the clock and the backlog
 pub record IsBounded {W : Type 0} (backlog now : ℕ) (h : Held W) : Type 0 where
-  pub short : h.terms.reservation.period ≤ 1000000000
+  pub lawful : IsRate h.terms.reservation.budget h.terms.reservation.period
   pub early : h.state.deadline ≤ now + (now + 1) * 1000000000
   pub few_done : h.finished ≤ now
   pub few_jobs : length h.jobs ≤ backlog
@@ -172,3 +164,11 @@ pub record IsCore {W : Type 0} (core : CoreHeld W) : Type 0 where
   pub small : core.backlog ≤ 4096
   pub clock : core.clock ≤ LIMIT
   pub bounded : AllByRecursion (IsBounded core.backlog core.clock) core.servers
+
+module _ {W : Type 0} where
+  -- the counts of finished jobs go on by the completion, if there is one, and it has the number that they had
+  abbrev pub CountsOn : Option Completion → List (Held W) → List (Held W) → Type 0
+  CountsOn None old new = (s : ℕ) → (held_at new s).finished ≡ (held_at old s).finished
+  CountsOn (Some c) old new =
+      (c.seq ≡ (held_at old c.server).finished) × ((held_at new c.server).finished ≡ (held_at old c.server).finished + 1)
+      × ((s : ℕ) → s ≢ c.server → (held_at new s).finished ≡ (held_at old s).finished)

@@ -5,8 +5,11 @@ pub mod Errors
 pub mod Held
 pub mod History
 pub mod Holding
+pub mod Laws
 pub mod Lists
 pub mod Queued
+pub mod Quiet
 pub mod Replies
 pub mod Setups
+pub mod Spans
 pub mod Views

@@ -1,11 +1,15 @@
 //! The core: all servers, and the clock.
 
-ghost use Rattle.std.specs.Prelude.{◌≡◌, ℕ, ◌<◌, true, false, Ok, Err, IfOk, IfErr, OnOk, OnErr, IsOk, slice_get, [], MatchResult, Some, None, ◌⊎◌};
-ghost use Rattle.cbs_core.specs.History.{History, ◌⊕◌, world_after, reply_in, chosen, submit_refusal};
+ghost use Rattle.std.specs.Prelude.{◌≡◌, ℕ, ◌+◌, ◌*◌, ◌<◌, ◌≤◌, true, false, Ok, Err, IfOk, IfErr, OnOk, OnErr, length, slice_get, [], MatchOption, MatchResult, Some, None, ◌⊎◌};
+ghost use Rattle.cbs_core.specs.Quiet.{IsAtRest, IsIdleSpan};
+ghost use Rattle.cbs_core.specs.Choice.{IsChoice};
+ghost use Rattle.cbs_core.specs.History.{History, ◌⊕◌, world_after, reply_in, ranks_of, chosen, submit_refusal};
 ghost use Rattle.cbs_core.specs.Agreement.{Agrees};
 ghost use Rattle.cbs_core.specs.Replies.{submitted, advanced, closed, lacks_memory, IsAccepted, Answers, AnswersAll, grown, grown_by, RoomAnswers};
 ghost use Rattle.cbs_core.specs.Views.{view_reply};
-ghost use Rattle.cbs_core.specs.Held.{room_of, KeepsRoom};
+ghost use Rattle.cbs_core.specs.Laws.{account_in, completion_in, completions_of, Completes, NoneAfterClose, IsWithinBudget};
+ghost use Rattle.cbs_core.specs.Holding.{CountsOn};
+ghost use Rattle.cbs_core.specs.Held.{room_of, KeepsRoom, held_at, TakesJob, ClosesServer, OthersSame, AllSame, DoesRun};
 ghost use Rattle.cbs_core.specs.Setups.{terms_of, new_refusal};
 
 use crate::error::CoreError;
@@ -112,6 +116,8 @@ impl<W: Work, A: Allocator> Core<W, A> {
         ensures still { lacks_memory result ≡ true → (M : History W) → Agrees W.meaning self.old M → Agrees W.meaning self.new M }
         ensures room { 0 < room_of self.old.rooms server → lacks_memory result ≡ false }
 
+        ensures job { IfOk result (λ number. TakesJob task number (held_at self.old.servers server) (held_at self.new.servers server)
+            × OthersSame server self.old.servers self.new.servers) }
         ensures unchanged { OnErr result (self.new ≡ record self.old { rooms = self.new.rooms }) }
         ensures kept { OnErr result (KeepsRoom self.old.rooms self.new.rooms) }
     {
@@ -134,6 +140,7 @@ impl<W: Work, A: Allocator> Core<W, A> {
     pub fn run(&mut self) -> Ran
         ensures reply { (M : History W) → Agrees W.meaning self.old M → Reply.Ran result ≡ reply_in W.meaning M Step.Run }
         ensures state { (M : History W) → Agrees W.meaning self.old M → Agrees W.meaning self.new (M ⊕ Step.Run) }
+        ensures job { DoesRun W.meaning result self.old self.new }
         ensures kept { KeepsRoom self.old.rooms self.new.rooms }
     {
         let Some(server) = self.servers.choose() else {
@@ -155,6 +162,8 @@ impl<W: Work, A: Allocator> Core<W, A> {
     pub fn advance(&mut self, n: u64) -> Result<(), CoreError>
         ensures reply { (M : History W) → Agrees W.meaning self.old M → advanced result ≡ reply_in W.meaning M (Step.Advance n) }
         ensures state { (M : History W) → Agrees W.meaning self.old M → Agrees W.meaning self.new (M ⊕ Step.Advance n) }
+        ensures jobs { AllSame self.old.servers self.new.servers }
+        ensures unchanged { OnErr result (self.new ≡ self.old) }
         ensures kept { KeepsRoom self.old.rooms self.new.rooms }
     {
         if n > LIMIT - self.clock {
@@ -174,6 +183,9 @@ impl<W: Work, A: Allocator> Core<W, A> {
     pub fn close(&mut self, server: u16) -> Result<(), CoreError>
         ensures reply { (M : History W) → Agrees W.meaning self.old M → closed result ≡ reply_in W.meaning M (Step.Close server) }
         ensures state { (M : History W) → Agrees W.meaning self.old M → Agrees W.meaning self.new (M ⊕ Step.Close server) }
+        ensures closed { OnOk result (ClosesServer (held_at self.old.servers server) (held_at self.new.servers server)
+            × OthersSame server self.old.servers self.new.servers) }
+        ensures unchanged { OnErr result (self.new ≡ self.old) }
         ensures kept { KeepsRoom self.old.rooms self.new.rooms }
     {
         if let Some(error) = self.servers.close_refusal(server) {
@@ -193,14 +205,28 @@ impl<W: Work, A: Allocator> Core<W, A> {
     /// The chosen server: the ready one with the least deadline, of equal deadlines the lower
     /// number; `None` where nobody is ready.
     pub fn ready(&self) -> Option<u16>
-        ensures { (M : History W) → Agrees W.meaning self.now M → result ≡ chosen W.meaning (world_after W.meaning M).accounts }
+        ensures chosen { (M : History W) → Agrees W.meaning self.now M → result ≡ chosen W.meaning (world_after W.meaning M).accounts }
+        ensures earliest { (M : History W) → Agrees W.meaning self.now M
+            → IsChoice (ranks_of W.meaning (world_after W.meaning M).accounts) (length (world_after W.meaning M).accounts) result }
     {
         self.servers.choose()
     }
 
+    /// For how many ticks nobody will be ready: `None` if somebody is now, and else the greatest number
+    /// of ticks, up to the clock's end, by which the clock may be advanced with nobody ready before
+    /// the last of them. An advance by it takes no time from anybody.
+    pub fn idle_span(&self) -> Option<u64>
+        ensures { (M : History W) → Agrees W.meaning self.now M
+            → MatchOption result (¬ IsAtRest W.meaning (world_after W.meaning M)) (IsIdleSpan W.meaning (world_after W.meaning M)) }
+    {
+        self.servers.idle_span(self.clock)
+    }
+
     /// What a server shows, or [`CoreError::NoSuchServer`].
     pub fn view(&self, server: u16) -> Result<ServerView, CoreError>
-        ensures { (M : History W) → Agrees W.meaning self.now M → result ≡ view_reply W.meaning (slice_get (world_after W.meaning M).accounts server) }
+        ensures view { (M : History W) → Agrees W.meaning self.now M → result ≡ view_reply W.meaning (slice_get (world_after W.meaning M).accounts server) }
+        ensures early { (M : History W) → Agrees W.meaning self.now M
+            → IfOk result (λ view. let now = (world_after W.meaning M).now in view.deadline ≤ now + (now + 1) * 1000000000) }
     {
         self.servers.view(server)
     }
@@ -220,6 +246,15 @@ impl<W: Work, A: Allocator> Core<W, A> {
             → AnswersAll W.meaning M steps.items replies.items) }
         ensures state { IfOk result (λ replies. (M : History W) → Agrees W.meaning self.old M
             → Agrees W.meaning self.new (grown_by M steps.items replies.items)) }
+
+        // What the replies mean for each server, over the whole list.
+        ensures completions { IfOk result (λ replies. (M : History W) → Agrees W.meaning self.old M → (s : ℕ)
+            → Completes W.meaning (account_in W.meaning M s) (account_in W.meaning (grown_by M steps.items replies.items) s) (completions_of s replies.items)) }
+        ensures closes { IfOk result (λ replies. (M : History W) → Agrees W.meaning self.old M → (s : ℕ)
+            → NoneAfterClose s (account_in W.meaning M s).closed steps.items replies.items) }
+        ensures budgets { IfOk result (λ replies. (M : History W) → Agrees W.meaning self.old M → (s : ℕ) → s < length self.old.servers
+            → IsWithinBudget W.meaning (account_in W.meaning (grown_by M steps.items replies.items) s)) }
+
         ensures back { IfErr result (λ refused. refused.steps ≡ steps) }
         ensures unchanged { OnErr result (self.new ≡ self.old) }
     {
@@ -240,6 +275,7 @@ impl<W: Work, A: Allocator> Core<W, A> {
     fn step(&mut self, step: Step<W>) -> Reply<W>
         ensures reply { (M : History W) → Agrees W.meaning self.old M → Answers W.meaning M step result }
         ensures state { (M : History W) → Agrees W.meaning self.old M → Agrees W.meaning self.new (grown M step result) }
+        ensures counts { CountsOn (completion_in result) self.old.servers self.new.servers }
     {
         match step {
             Step::Submit(server, task) => submit_reply(self.submit(server, task)),

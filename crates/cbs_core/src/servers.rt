@@ -4,11 +4,12 @@ ghost use Rattle.std.specs.Prelude.{◌≡◌, ℕ, ◌+◌, ◌<◌, ◌≤◌,
 ghost use Rattle.std.specs.List.{All, HoldsAt};
 ghost use Rattle.cbs_rate.specs.Plan.{IsPlan};
 ghost use Rattle.cbs_core.specs.Lists.{changed_at};
-ghost use Rattle.cbs_core.specs.Choice.{chosen_among};
-ghost use Rattle.cbs_core.specs.Held.{room_of, KeepsRoom};
+ghost use Rattle.cbs_core.specs.Choice.{chosen_among, IsChoice};
+ghost use Rattle.cbs_core.specs.Held.{room_of, KeepsRoom, held_at};
 ghost use Rattle.cbs_core.specs.Queued.{result_run};
+ghost use Rattle.cbs_core.specs.Spans.{held_wait, held_span};
 ghost use Rattle.cbs_core.specs.Setups.{terms_of};
-ghost use Rattle.cbs_core.specs.Holding.{IsServers, new_held, is_held_ready, held_rank, better_of, held_with_job, held_with_unit, held_with_close, held_with_replenishment, held_view_reply, held_refusal, held_close_refusal, ran_of, held_at, IsServer, head_with_replenishment};
+ghost use Rattle.cbs_core.specs.Holding.{IsServers, new_held, is_held_active, is_held_ready, held_rank, better_of, held_with_job, held_with_unit, held_with_close, held_with_replenishment, held_view_reply, held_refusal, held_close_refusal, ran_of, IsServer, head_with_replenishment};
 
 use crate::error::CoreError;
 use crate::queues::Queues;
@@ -63,12 +64,28 @@ impl<W: Work, A: Allocator> Servers<W, A> {
         self.heads.len() as u16
     }
 
+    /// Whether a server has a job.
+    fn is_active(&self, server: u16) -> bool
+        requires { server < length self.now.held }
+        ensures { result ≡ is_held_active (held_at self.now.held server) }
+    {
+        self.queues.len(server) > 0
+    }
+
+    /// Whether a server waits to be replenished.
+    fn is_throttled(&self, server: u16) -> bool
+        requires { server < length self.now.held }
+        ensures { result ≡ (held_at self.now.held server).state.throttled }
+    {
+        self.heads[usize::from(server)].is_throttled()
+    }
+
     /// Whether a server has a job and is not throttled.
     fn is_ready(&self, server: u16) -> bool
         requires { server < length self.now.held }
         ensures { result ≡ is_held_ready (held_at self.now.held server) }
     {
-        self.queues.len(server) > 0 && !self.heads[usize::from(server)].is_throttled()
+        self.is_active(server) && !self.is_throttled(server)
     }
 
     /// The tick by which a server may use its budget.
@@ -97,6 +114,7 @@ impl<W: Work, A: Allocator> Servers<W, A> {
     /// The ready server with the least deadline, and of several the first.
     pub fn choose(&self) -> Option<u16>
         ensures first { result ≡ chosen_among (map held_rank self.now.held) }
+        ensures choice { IsChoice (map held_rank self.now.held) (length (map held_rank self.now.held)) result }
         ensures within { IfSome result (λ s. s < length self.now.held) }
         ensures ready { IfSome result (λ s. HoldsAt (λ h. is_held_ready h ≡ true) self.now.held s) }
     {
@@ -105,6 +123,34 @@ impl<W: Work, A: Allocator> Servers<W, A> {
             best = self.better(best, server);
         }
         best
+    }
+
+    /// After how many ticks a server that is not ready may be.
+    fn wait(&self, server: u16, now: u64) -> u64
+        requires within { server < length self.now.held }
+        requires clock { now ≤ LIMIT }
+        ensures { result ≡ held_wait now (held_at self.now.held server) }
+    {
+        if self.is_active(server) {
+            self.deadline(server).saturating_sub(now).max(1)
+        } else {
+            LIMIT - now
+        }
+    }
+
+    /// How many ticks nobody will be ready, up to the clock's end, or `None` if somebody is now.
+    pub fn idle_span(&self, now: u64) -> Option<u64>
+        requires { now ≤ LIMIT }
+        ensures { result ≡ held_span now self.now.held }
+    {
+        let mut least = LIMIT - now;
+        for server in 0..self.len() {
+            if self.is_ready(server) {
+                return None;
+            }
+            least = least.min(self.wait(server, now));
+        }
+        Some(least)
     }
 
     /// Why a submit to a server is refused, if it is.
@@ -161,7 +207,7 @@ impl<W: Work, A: Allocator> Servers<W, A> {
         ensures number { result ≡ (held_at self.old.held server).accepted }
         ensures some { 0 < W.meaning.left task }
     {
-        let active = self.queues.len(server) > 0;
+        let active = self.is_active(server);
         self.queues.push(server, task);
         let head = &mut self.heads[usize::from(server)];
         let number = head.accepted();

@@ -153,12 +153,10 @@ module _ (a b g l : ℕ) (a_some : 0 < a) (b_some : 0 < b) (gcd : IsGcd a b g) (
   b_is : g * (b / g) ≡ b
   b_is = mul-div_cancel' g gcd.1
 
-  g_some : 0 < g
-  g_some = some_from_dvd g a gcd.0 a_some
-
   turned : (x y : ℕ) → g * x ≡ a → g * y ≡ b → x * b ≡ a * y
   turned x y e f = rw (← e, ← f) (omega arith)
 
+  -- each divides the other
   l_dvd : l ∣ a / g * b
   l_dvd = divides (a / g * b) (rw (turned (a / g) (b / g) a_is b_is) (dvd-mul_right a (b / g))) (dvd-mul_left b (a / g))
 

@@ -10,7 +10,7 @@ use Rattle.cbs_rate.specs.declared.plan.Plan.TheInside.{Inside}
 use Rattle.cbs_rate.specs.Bound.{Fraction, IsBound}
 use Rattle.cbs_rate.specs.Rate.{Rate, IsRate}
 use Rattle.cbs_rate.specs.Plan.{IsPlan, IsLeastCommonMultiple, share, total_share, all_periods, common_multiple, fits, admit_refusal}
-use Rattle.cbs_rate.specs.Running.{planned, IsRunning}
+use Rattle.cbs_rate.specs.Sums.{planned, IsSummed}
 use Rattle.cbs_rate.proofs.Lists.{AllByRecursion-push}
 use Rattle.cbs_rate.proofs.Multiples.{AllLawful, common_multiple-nil, common_multiple-least, common_multiple-push}
 use Rattle.cbs_rate.proofs.Shares.{fits_common, at_most_one, sum_next, old_share-le, new_share-le}
@@ -31,57 +31,57 @@ room_left n full e none few = elim (eqb_tells n 64) [
   | inr h ↦ let differ = h.1 in omega arith
 ]
 
--- A running plan of fewer than 64 rates is asked to take r, of this budget and period, and `next` is the least common
+-- A summed plan of fewer than 64 rates is asked to take r, of this budget and period, and `next` is the least common
 -- multiple then.
 pub record IsAsked (p : Inside) (r : Rate) (budget period next : ℕ) : Type 0 where
-  running : IsRunning p
+  summed : IsSummed p
   ok : IsRate r.budget r.period
   budget_is : budget ≡ r.budget
   period_is : period ≡ r.period
   next_is : next ≡ common_multiple (p.rates.items ++ r ∷ [])
   room : length p.rates.items < 64
 
-module _ {p : Inside} (r : Rate) (running : IsRunning p) (ok : IsRate r.budget r.period) where
+module _ {p : Inside} (r : Rate) (summed : IsSummed p) (ok : IsRate r.budget r.period) where
   lawful_next : AllLawful (p.rates.items ++ r ∷ [])
-  lawful_next = AllByRecursion-push (λ x. IsRate x.budget x.period) p.rates.items r running.plan.lawful ok
+  lawful_next = AllByRecursion-push (λ x. IsRate x.budget x.period) p.rates.items r summed.plan.lawful ok
 
   pub least_next : IsLeastCommonMultiple (common_multiple (p.rates.items ++ r ∷ [])) (p.rates.items ++ r ∷ [])
   least_next = common_multiple-least (p.rates.items ++ r ∷ []) lawful_next
 
   pub common_some : 0 < p.common
-  common_some = rw running.common ((common_multiple-least p.rates.items running.plan.lawful).some)
+  common_some = rw summed.common ((common_multiple-least p.rates.items summed.plan.lawful).some)
 
   -- the least common multiple, by way of the greatest common divisor
   pub asked_of : {budget period next : ℕ} {full : Bool} → budget ≡ r.budget → period ≡ r.period → ((g : ℕ) × IsGcd p.common period g × (next ≡ p.common / g * period))
       → full ≡ eqb (length p.rates.items) 64 → full ≡ false → IsAsked p r budget period next
   asked_of {full = full} budget_is period_is quotient full_is free = record {
-    running = running;
+    summed = summed;
     ok = ok;
     budget_is = budget_is;
     period_is = period_is;
     next_is =
-        let q = rw (period_is, running.common) at quotient in
-        q.2 ∙ common_multiple-push p.rates.items r q.0 running.plan.lawful ok q.1;
-    room = room_left (length p.rates.items) full full_is free running.plan.few;
+        let q = rw (period_is, summed.common) at quotient in
+        q.2 ∙ common_multiple-push p.rates.items r q.0 summed.plan.lawful ok q.1;
+    room = room_left (length p.rates.items) full full_is free summed.plan.few;
   }
 
 module _ {p : Inside} {r : Rate} {budget period next : ℕ} (asked : IsAsked p r budget period next) where
   pub taken-le : p.taken * (next / p.common) ≤ next
-  taken-le = rw (asked.running.taken, asked.running.common, asked.next_is) (old_share-le p.rates.items r asked.running.plan.lawful asked.ok asked.running.plan.at_most_one)
+  taken-le = rw (asked.summed.taken, asked.summed.common, asked.next_is) (old_share-le p.rates.items r asked.summed.plan.lawful asked.ok asked.summed.plan.at_most_one)
 
   pub added-le : budget * (next / period) ≤ next
-  added-le = rw (asked.budget_is, asked.period_is, asked.next_is) (new_share-le p.rates.items r asked.running.plan.lawful asked.ok)
+  added-le = rw (asked.budget_is, asked.period_is, asked.next_is) (new_share-le p.rates.items r asked.summed.plan.lawful asked.ok)
 
   -- the sum over the new least common multiple
   taken_next : p.taken * (next / p.common) + budget * (next / period) ≡ sum_by (share next) (p.rates.items ++ r ∷ [])
   taken_next =
-      rw (asked.budget_is, asked.period_is, asked.running.taken, asked.running.common, asked.next_is) (sum_next p.rates.items r asked.running.plan.lawful asked.ok)
+      rw (asked.budget_is, asked.period_is, asked.summed.taken, asked.summed.common, asked.next_is) (sum_next p.rates.items r asked.summed.plan.lawful asked.ok)
 
   -- over the product of all periods as over the least common multiple
   fits_next : (p.bound.den * total_share (p.rates.items ++ r ∷ []) ≤ p.bound.num * all_periods (p.rates.items ++ r ∷ []))
       ↔ (p.bound.den * (p.taken * (next / p.common) + budget * (next / period)) ≤ p.bound.num * next)
   fits_next =
-      rw (taken_next, asked.next_is) (fits_common p.bound.num p.bound.den (p.rates.items ++ r ∷ []) (lawful_next r asked.running asked.ok))
+      rw (taken_next, asked.next_is) (fits_common p.bound.num p.bound.den (p.rates.items ++ r ∷ []) (lawful_next r asked.summed asked.ok))
 
   pub refusal_fine : 1_000_000_000_000_000_000 < next → admit_refusal (planned p) r ≡ Some PeriodsTooFine
   refusal_fine fine =
@@ -107,15 +107,15 @@ module _ {p : Inside} {r : Rate} {budget period next : ℕ} (asked : IsAsked p r
     pub refusal_none : admit_refusal (planned p) r ≡ None
     refusal_none = by_bound true coarse (le-leb _ _ (fits_next.1 within))
 
-    pub running_next : IsBound p.bound.num p.bound.den
-        → IsRunning (record { bound = p.bound; rates = record { items = p.rates.items ++ r ∷ [] }; common = next; taken = p.taken * (next / p.common) + budget * (next / period) })
-    running_next bounded = record {
+    pub summed_next : IsBound p.bound.num p.bound.den
+        → IsSummed (record { bound = p.bound; rates = record { items = p.rates.items ++ r ∷ [] }; common = next; taken = p.taken * (next / p.common) + budget * (next / period) })
+    summed_next bounded = record {
       plan =
           let whole = fits_next.1 within in
           let few = asked.room in
           record {
             few = rw length-append (omega arith);
-            lawful = lawful_next r asked.running asked.ok;
+            lawful = lawful_next r asked.summed asked.ok;
             coarse = rw asked.next_is at coarse;
             fits = le-leb _ _ whole;
             at_most_one =

@@ -3,4 +3,4 @@ pub mod Errors
 pub mod Plan
 pub mod Rate
 pub mod Refusals
-pub mod Running
+pub mod Sums

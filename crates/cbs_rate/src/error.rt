@@ -53,14 +53,14 @@ impl RateError {
 #[derive(Clone, Copy, Debug, PartialEq, Eq, Error)]
 pub enum AdmitError {
     /// The plan has [`MAX_SERVERS`](crate::MAX_SERVERS) servers already.
-    #[error("the plan has 64 servers already")]
+    #[error("the plan has 64 servers already, and takes no more")]
     TooManyServers,
     /// The least common multiple of all periods would pass
     /// [`MAX_COMMON_MULTIPLE`](crate::MAX_COMMON_MULTIPLE).
     #[error("the least common multiple of all periods would pass 10^18: choose periods that share more factors")]
     PeriodsTooFine,
     /// The total bandwidth, the new reservation included, would pass the plan's bound.
-    #[error("the total bandwidth would pass the plan's bound")]
+    #[error("the total bandwidth would pass the plan's bound: a smaller budget or a longer period may fit")]
     OverBound,
 }
 

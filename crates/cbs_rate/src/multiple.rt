@@ -17,7 +17,7 @@ fn greatest_common_divisor(a: u64, b: u64) -> u64
     divisor
 }
 
-/// The least positive number that both divide.
+/// The least common multiple of both: one over their greatest common divisor, times the other.
 pub(crate) fn least_common_multiple(a: u64, b: u64) -> u128
     requires { 0 < a }
     ensures { (g : ℕ) × IsGcd a b g × (result ≡ a / g * b) }

@@ -19,7 +19,8 @@ pub const MAX_COMMON_MULTIPLE: u64 = 1_000_000_000_000_000_000;
 
 /// The reservations of at most [`MAX_SERVERS`] servers, numbered from 0 in the order in which they
 /// were admitted. Their total bandwidth, the sum of budget over period, is at most the plan's bound,
-/// and the least common multiple of their periods at most [`MAX_COMMON_MULTIPLE`].
+/// and the least common multiple of their periods at most [`MAX_COMMON_MULTIPLE`]. They lie in the
+/// plan itself: no call takes memory.
 #[derive(Debug, Drop)]
 pub struct Plan {
     bound: Bound,
@@ -35,11 +36,11 @@ impl Model for Plan {
 
     ghost Value = { Planned };
 
-    ghost use Rattle.cbs_rate.specs.Running.{planned, IsRunning};
+    ghost use Rattle.cbs_rate.specs.Sums.{planned, IsSummed};
 
     ghost view = { planned };
 
-    ghost invariant = { IsRunning };
+    ghost invariant = { IsSummed };
 }
 
 impl Plan {

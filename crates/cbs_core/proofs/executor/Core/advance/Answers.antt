@@ -2,6 +2,7 @@ use Rattle.std.proofs.Common.{◌≡◌, ◌+◌, ◌≤◌, ◌<◌, arith}
 use Rattle.cbs_rules.specs.declared.server_state.TheConstants.{LIMIT}
 use Rattle.cbs_core.specs.History.{world_after}
 use Rattle.cbs_core.proofs.Advancing.{IsCore-jump, advance_agrees, advance_none}
+use Rattle.cbs_core.proofs.Doing.{same_replenished, all_same}
 use Rattle.cbs_core.proofs.executor.Core.advance.Goals as goal
 
 pub invariant_of-self : goal.invariant_of-self
@@ -22,3 +23,9 @@ returns-else-n-gt0-clause-state g c = λ M agrees.
     let early : c.self.inside.clock + c.args.n ≤ LIMIT = let k = c.self.invariant.clock in omega arith in
     let none : c.args.n ≡ 0 = omega arith in
     record { world = rw (advance_none g.W.Work.meaning _ M.setup.backlog (world_after g.W.Work.meaning M) inside c.args.n early none) agrees.world }
+
+pub returns-then-n-gt0-clause-jobs : goal.returns-then-n-gt0-clause-jobs
+returns-then-n-gt0-clause-jobs g c = rw (← c.self.view_is, c.replenish.ensures.held) (same_replenished (c.self.inside.clock + c.args.n) c.self.inside.servers.held)
+
+pub returns-else-n-gt0-clause-jobs : goal.returns-else-n-gt0-clause-jobs
+returns-else-n-gt0-clause-jobs g c = all_same c.args.self.now.servers

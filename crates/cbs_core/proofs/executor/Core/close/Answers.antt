@@ -2,6 +2,7 @@ use Rattle.std.proofs.Common.{sym, refl, None}
 use Rattle.cbs_core.specs.History.{world_after}
 use Rattle.cbs_core.proofs.Refusing.{close_within}
 use Rattle.cbs_core.proofs.Closing.{close_replied, close_left, close_agrees, IsCore-shut}
+use Rattle.cbs_core.proofs.Doing.{closed_server}
 use Rattle.cbs_core.proofs.executor.Core.close.Goals as goal
 
 pub returns-in-Some-clause-reply : goal.returns-in-Some-clause-reply
@@ -32,3 +33,8 @@ returns-clause-state g c = λ M agrees.
       world = close_agrees g.W.Work.meaning _ M.setup.backlog (world_after g.W.Work.meaning M) inside c.args.server None c.in_default.ensures c.close.new.self.held c.close.new.self.rooms refl
           (close_within c.self.inside.servers.held c.args.server (sym c.in_default.ensures)) c.close.ensures.held;
     }
+
+pub returns-clause-closed : goal.returns-clause-closed
+returns-clause-closed g c =
+    rw (← c.self.view_is)
+    (closed_server c.self.inside.servers.held c.close.new.self.held c.args.server (close_within c.self.inside.servers.held c.args.server (sym c.in_default.ensures)) c.close.ensures.held)

@@ -1,10 +1,12 @@
-use Rattle.std.proofs.Common.{sym, ap}
+use Rattle.std.proofs.Common.{◌+◌, sym, ap}
+use Rattle.cbs_core.specs.Held.{held_at, no_held}
 use Rattle.cbs_core.specs.History.{world_after}
-use Rattle.cbs_core.specs.Holding.{held_at, no_held}
+
 use Rattle.cbs_core.specs.declared.reply.Reply.TheVariants as reply
 use Rattle.cbs_core.proofs.Bounds.{IsCore-run}
 use Rattle.cbs_core.proofs.Keeping.{runnable}
 use Rattle.cbs_core.proofs.Running.{idle_next, reply_by, next_late, end_reply, unit_agrees, unit_ran}
+use Rattle.cbs_core.proofs.Doing.{did_run}
 use Rattle.cbs_core.proofs.executor.Core.run.Goals as goal
 
 pub returns-in_default-clause-reply : goal.returns-in_default-clause-reply
@@ -46,3 +48,11 @@ returns-clause-state g c = λ M agrees.
       world = unit_agrees g.W.Work.meaning _ M.setup.backlog (world_after g.W.Work.meaning M) inside c.in-Some.server c.replenish.new.self.held c.replenish.new.self.rooms c.in-Some.ensures.first c.if-self-ge-LIMIT.false c.in-Some.ensures.within g.met.W.Work.lowers ok run.some
           (rw c.run_first-ran.ensures.held at c.replenish.ensures.held);
     }
+
+pub returns-clause-job : goal.returns-clause-job
+returns-clause-job g c =
+    let ok = c.run_first-ran.ensures.server in
+    let run = runnable g.W.Work.meaning (held_at c.self.inside.servers.held c.in-Some.server) ok (c.in-Some.ensures.ready no_held) in
+    rw (← c.self.view_is)
+    (did_run g.W.Work.meaning g.met.W.Work.lowers _ _ c.in-Some.server (c.self.inside.clock + 1) c.run_first-ran.result c.in-Some.ensures.within ok run.some c.run_first-ran.ensures.ran
+    (rw c.run_first-ran.ensures.held at c.replenish.ensures.held))

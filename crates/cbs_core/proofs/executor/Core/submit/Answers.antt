@@ -1,10 +1,8 @@
 use Rattle.std.proofs.Common.{sym, None, refl}
-use Rattle.cbs_core.specs.Accounts.{no_account}
 use Rattle.cbs_core.specs.History.{world_after}
-use Rattle.cbs_core.specs.Agreement.{AgreesServer}
-use Rattle.cbs_core.proofs.Lists.{All_get, AllZip-length}
-use Rattle.cbs_core.proofs.Paid.{paid_after, IsPaid}
+use Rattle.cbs_core.proofs.Paid.{paid_after}
 use Rattle.cbs_core.proofs.Submitting.{not_refused, submit_replied, submit_left, submit_answered, submit_agrees, submit_accepted, IsCore-joined, few_jobs}
+use Rattle.cbs_core.proofs.Doing.{took_job}
 use Rattle.cbs_core.proofs.executor.Core.submit.Goals as goal
 
 pub returns-in-Some-clause-reply : goal.returns-in-Some-clause-reply
@@ -47,9 +45,14 @@ returns-clause-state g c = λ _ M agrees.
     let inside = rw (← c.self.view_is) at agrees.world in
     let within = (not_refused c.self.inside.backlog c.self.inside.servers.held c.args.server (sym c.in_default.ensures)).within in
     let w = world_after g.W.Work.meaning M in
-    let paid = All_get (IsPaid g.W.Work.meaning) w.accounts c.args.server no_account (paid_after g.W.Work.meaning M.setup M.steps)
-    (rw (← AllZip-length (AgreesServer g.W.Work.meaning) c.self.inside.servers.held w.accounts inside.servers) within) in
+    let paid = paid_after g.W.Work.meaning M.setup M.steps c.args.server in
     record {
       world = submit_agrees g.W.Work.meaning _ M.setup.backlog w inside c.args.server c.args.task None c.in_default.ensures c.accept.new.self.held c.accept.new.self.rooms refl within
           (rw c.reserve.ensures.held at c.accept.ensures.held) paid c.accept.ensures.some;
     }
+
+pub returns-clause-job : goal.returns-clause-job
+returns-clause-job g c =
+    rw (← c.self.view_is)
+    (took_job c.self.inside.servers.held c.accept.new.self.held c.args.server c.self.inside.clock c.accept.result c.args.task
+    (not_refused c.self.inside.backlog c.self.inside.servers.held c.args.server (sym c.in_default.ensures)).within (rw c.reserve.ensures.held at c.accept.ensures.number) (rw c.reserve.ensures.held at c.accept.ensures.held))

@@ -1,12 +1,9 @@
 use Rattle.std.proofs.Common.{◌<◌, length, rules, ◌∙◌, ap}
 use Rattle.std.proofs.lemmas.List.{length-set}
 use Rattle.cbs_core.specs.Holding.{held_with_job}
-use Rattle.cbs_core.proofs.Zipping.{within_heads, within_lists, held_at-helds}
+use Rattle.cbs_core.proofs.Zipping.{within_heads, within_lists, held_at-helds, jobs_at}
 use Rattle.cbs_core.proofs.Keeping.{job_taken, IsServers-changed, IsServer-with_job}
 use Rattle.cbs_core.proofs.servers.Servers.accept.Goals as goal
-
-pub len-active-requires : goal.len-active-requires
-len-active-requires g c = within_lists c.self.inside.heads.items c.self.inside.queues.lists c.args.server c.self.invariant.queued (rw (← c.self.view_is) at c.requires.within)
 
 pub push-requires-clause-within : goal.push-requires-clause-within
 push-requires-clause-within g c = within_lists c.self.inside.heads.items c.self.inside.queues.lists c.args.server c.self.invariant.queued (rw (← c.self.view_is) at c.requires.within)
@@ -24,17 +21,19 @@ accept-requires-clause-few g c =
 pub invariant_of-self : goal.invariant_of-self
 invariant_of-self g c =
     let within = within_heads c.self.inside.heads.items c.self.inside.queues.lists c.args.server (rw (← c.self.view_is) at c.requires.within) in
+    let active = rw (jobs_at c.self.inside.heads.items c.self.inside.queues.lists c.args.server within) at (rw (← c.self.view_is) at c.is_active-active.ensures) in
     let taken = job_taken g.W.Work.meaning c.self.inside.heads.items c.self.inside.queues.lists c.from.result c.args.server c.index_mut-head.result.now c.from.ensures within c.index_mut-head.ensures.value
-    c.args.now c.len-active.result c.args.task c.accept.new.self c.push.new.self.lists c.self.invariant.queued c.len-active.ensures c.accept.ensures c.push.ensures.lists in
+    c.args.now c.is_active-active.result c.args.task c.accept.new.self c.push.new.self.lists c.self.invariant.queued active c.accept.ensures c.push.ensures.lists in
     IsServers-changed g.W.Work.meaning (held_with_job c.args.now c.args.task) c.self.inside.heads.items _ c.self.inside.queues.lists c.push.new.self.lists c.args.server c.self.invariant
     (length-set _ _ _) (ap length c.push.ensures.lists ∙ length-set _ _ _) taken (IsServer-with_job g.W.Work.meaning c.args.now c.args.task _ c.push.ensures.some)
 
 pub returns-clause-held : goal.returns-clause-held
 returns-clause-held g c =
     let within = within_heads c.self.inside.heads.items c.self.inside.queues.lists c.args.server (rw (← c.self.view_is) at c.requires.within) in
+    let active = rw (jobs_at c.self.inside.heads.items c.self.inside.queues.lists c.args.server within) at (rw (← c.self.view_is) at c.is_active-active.ensures) in
     rw (← c.self.view_is)
     (job_taken g.W.Work.meaning c.self.inside.heads.items c.self.inside.queues.lists c.from.result c.args.server c.index_mut-head.result.now c.from.ensures within c.index_mut-head.ensures.value
-    c.args.now c.len-active.result c.args.task c.accept.new.self c.push.new.self.lists c.self.invariant.queued c.len-active.ensures c.accept.ensures c.push.ensures.lists)
+    c.args.now c.is_active-active.result c.args.task c.accept.new.self c.push.new.self.lists c.self.invariant.queued active c.accept.ensures c.push.ensures.lists)
 
 pub returns-clause-number : goal.returns-clause-number
 returns-clause-number g c =

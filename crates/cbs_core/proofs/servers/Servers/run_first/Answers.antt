@@ -1,6 +1,7 @@
 use Rattle.std.proofs.Common.{◌<◌, length, rules, ◌∙◌, ap}
 use Rattle.std.proofs.lemmas.List.{length-set}
-use Rattle.cbs_core.specs.Holding.{helds, held_at, no_held, held_with_unit, IsServer}
+use Rattle.cbs_core.specs.Held.{held_at, no_held}
+use Rattle.cbs_core.specs.Holding.{helds, held_with_unit, IsServer}
 use Rattle.cbs_core.proofs.Lists.{All_get}
 use Rattle.cbs_core.proofs.Zipping.{within_heads, held_at-helds, jobs_at}
 use Rattle.cbs_core.proofs.Keeping.{runnable, unit_run, IsServers-changed, IsServer-with_unit}

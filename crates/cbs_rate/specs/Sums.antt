@@ -8,7 +8,7 @@ abbrev pub planned : Inside → Planned
 planned p = record { bound = p.bound; rates = p.rates.items }
 
 -- the least common multiple of all periods, and the ticks that all servers together may run in as many
-pub record IsRunning (p : Inside) : Type 0 where
+pub record IsSummed (p : Inside) : Type 0 where
   pub plan : IsPlan (planned p)
   pub common : p.common ≡ common_multiple p.rates.items
   pub taken : p.taken ≡ sum_by (share p.common) p.rates.items

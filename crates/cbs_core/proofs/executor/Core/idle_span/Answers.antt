@@ -1,0 +1,10 @@
+use Rattle.std.proofs.Common.{◌∙◌}
+use Rattle.cbs_core.specs.History.{world_after}
+use Rattle.cbs_core.proofs.Spans.{span_same}
+use Rattle.cbs_core.proofs.Resting.{span_is}
+use Rattle.cbs_core.proofs.executor.Core.idle_span.Goals as goal
+
+pub returns : goal.returns
+returns g c = λ M agrees.
+    let inside = rw (← c.self.view_is) at agrees.world in
+    span_is g.W.Work.meaning (world_after g.W.Work.meaning M) _ (c.idle_span.ensures ∙ span_same g.W.Work.meaning _ M.setup.backlog (world_after g.W.Work.meaning M) inside)

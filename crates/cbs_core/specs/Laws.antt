@@ -1,0 +1,71 @@
+-- What holds of whole runs.
+use Rattle.std.specs.Prelude.{◌≡◌, ℕ, zero, suc, ◌+◌, ◌≤◌, ◌<◌, Bool, true, ◌||◌, eqb, if◌then◌else◌, List, [], ◌∷◌, ◌++◌, length, map, take, drop, Option, Some, None}
+use Rattle.cbs_job.specs.Work.{Meaning, whole}
+use Rattle.cbs_job.specs.declared.completion.Completion.{Completion}
+use Rattle.cbs_core.specs.Accounts.{Account, finished, is_ready}
+use Rattle.cbs_core.specs.History.{History, account, world_after}
+use Rattle.cbs_core.specs.Replies.{IsAccepted}
+use Rattle.cbs_core.specs.declared.step.Step.{Step}
+use Rattle.cbs_core.specs.declared.step.Step.TheVariants as step
+use Rattle.cbs_core.specs.declared.reply.Ran.{Ran}
+use Rattle.cbs_core.specs.declared.reply.Ran.TheVariants as ran
+use Rattle.cbs_core.specs.declared.reply.Reply.{Reply}
+use Rattle.cbs_core.specs.declared.reply.Reply.TheVariants as reply
+
+-- the completion that a Run's answer tells, if it tells one
+abbrev pub completion_ran : Ran → Option Completion
+completion_ran (ran.Done c) = Some c
+completion_ran _ = None
+
+-- the completion alone, if it is one of server s
+abbrev pub completion_of : ℕ → Option Completion → List Completion
+completion_of s None = []
+completion_of s (Some c) = if eqb c.server s then c ∷ [] else []
+
+-- k, k + 1, and so on: n numbers
+abbrev pub numbers_from : ℕ → ℕ → List ℕ
+numbers_from k zero = []
+numbers_from k (suc n) = k ∷ numbers_from (k + 1) n
+
+module _ {W : Type 0} where
+  -- what is known of server s after the history
+  abbrev pub account_in : Meaning W → History W → ℕ → Account W
+  account_in work M s = account (world_after work M).accounts s
+
+  -- the completion that a reply tells, if it tells one
+  abbrev pub completion_in : Reply W → Option Completion
+  completion_in (reply.Ran r) = completion_ran r
+  completion_in (reply.Accepted q) = None
+  completion_in (reply.NotAccepted e) = None
+  completion_in reply.Advanced = None
+  completion_in reply.Closed = None
+  completion_in (reply.Refused e) = None
+
+  -- the completions of server s among the replies, in order
+  abbrev pub completions_of : ℕ → List (Reply W) → List Completion
+  completions_of s [] = []
+  completions_of s (r ∷ rs) = completion_of s (completion_in r) ++ completions_of s rs
+
+  -- From what was known of a server to what is known later, these were its completions: the accepted jobs stay, in
+  -- order, and more may follow; the completions are numbered on from the finished jobs, without gap or repeat; each
+  -- carries the whole result of the accepted job of its number; and these jobs are the ones that are now finished, too.
+  pub record Completes (work : Meaning W) (before after : Account W) (completions : List Completion) : Type 0 where
+    pub jobs : (more : List W) × (after.accepted ≡ before.accepted ++ more)
+    pub numbers : map (λ c. c.seq) completions ≡ numbers_from (finished work before) (length completions)
+    pub results : map (λ c. c.result) completions ≡ take (length completions) (drop (finished work before) (map (whole work) after.accepted))
+    pub finished : finished work after ≡ finished work before + length completions
+
+  -- once server s is closed, no submit to it is accepted: of these steps and their replies, where s was closed before or not
+  abbrev pub NoneAfterClose : ℕ → Bool → List (Step W) → List (Reply W) → Type 0
+  NoneAfterClose s closed [] rs = Unit {0}
+  NoneAfterClose s closed (x ∷ xs) [] = Unit {0}
+  NoneAfterClose s closed (step.Submit t job ∷ xs) (r ∷ rs) = (closed ≡ true → t ≡ s → ¬ IsAccepted r) × NoneAfterClose s closed xs rs
+  NoneAfterClose s closed (step.Close t ∷ xs) (r ∷ rs) = NoneAfterClose s (closed || eqb t s) xs rs
+  NoneAfterClose s closed (step.Run ∷ xs) (r ∷ rs) = NoneAfterClose s closed xs rs
+  NoneAfterClose s closed (step.Advance n ∷ xs) (r ∷ rs) = NoneAfterClose s closed xs rs
+
+  -- the budget of a server: never more than its reservation's; some while it is ready, and none while it is throttled
+  pub record IsWithinBudget (work : Meaning W) (a : Account W) : Type 0 where
+    pub capped : a.state.budget ≤ a.terms.reservation.budget
+    pub ready : is_ready work a ≡ true → 0 < a.state.budget
+    pub throttled : a.state.throttled ≡ true → a.state.budget ≡ 0
