@@ -3,15 +3,12 @@
 use Rattle.std.specs.Prelude.{ℕ, ℤ, length, codes, bytes_eq, if◌then◌else◌, List, [], ◌∷◌, Result, Ok, Err}
 use Rattle.toml.specs.Data.{Data, Members}
 use Rattle.cbs_rate.specs.Rate.{Rate}
-use Rattle.cbs_rate.specs.declared.reservation.TheConstants.{MAX_PERIOD}
-use Rattle.cbs_job.specs.declared.task.TheConstants.{MAX_UNITS}
 use Rattle.cbs_job.specs.declared.file.FileJob.{FileJob}
 use Rattle.cbs_job.specs.declared.file.FileJob.TheVariants.{Sum, Peak}
 use Rattle.cbs_core.specs.declared.step.Step.{Step}
 use Rattle.cbs_core.specs.declared.step.Step.TheVariants as step
 use Rattle.cbsrun.specs.declared.entries.Operation.{Operation}
 use Rattle.cbsrun.specs.declared.entries.Operation.TheVariants.{Submit, Run, Advance, Close}
-use Rattle.cbsrun.specs.declared.entries.TheConstants.{MAX_TICKS}
 use Rattle.cbsrun.specs.declared.fault.FileKind.{FileKind}
 use Rattle.cbsrun.specs.declared.fault.FileKind.TheVariants.{OutOfRange}
 use Rattle.cbsrun.specs.Fields.{◌>>=◌, known, present, whole, all_whole, number, text, items, members, within, below, sized, each}
@@ -21,7 +18,7 @@ use Rattle.cbsrun.specs.Fields.{◌>>=◌, known, present, whole, all_whole, num
 -- a period of 1 to 1000000000 ticks, and a budget of 1 to the period
 abbrev pub reservation : ℤ → ℤ → Result Rate FileKind
 reservation budget_number period_number = do
-  period ← within 1 MAX_PERIOD period_number
+  period ← within 1 1000000000 period_number
   budget ← within 1 period budget_number
   Ok (record { budget = budget; period = period })
 
@@ -64,7 +61,7 @@ submit_entry servers table = do
   unit_values ← items units_value
   _ ← all_whole unit_values
   server ← below servers server_number
-  _ ← sized 1 MAX_UNITS unit_values
+  _ ← sized 1 1000000 unit_values
   units ← each (number 0 4294967295) unit_values
   job ← job_of kind units
   Ok (step.Submit server job)
@@ -79,7 +76,7 @@ advance_entry table = do
   _ ← known (codes "op" ∷ codes "ticks" ∷ []) table
   ticks_value ← present (codes "ticks") table
   ticks_number ← whole ticks_value
-  ticks ← within 0 MAX_TICKS ticks_number
+  ticks ← within 0 1000000000 ticks_number
   Ok (step.Advance ticks)
 
 unfoldable pub close_entry : ℕ → Members → Result (Step FileJob) FileKind

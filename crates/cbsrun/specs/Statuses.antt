@@ -8,7 +8,6 @@ use Rattle.cbsrun.specs.TaskFiles.{File}
 use Rattle.cbsrun.specs.Traces.{trace, AppendsLines}
 use Rattle.cbsrun.specs.Writes.{AppendsFront}
 use Rattle.cbsrun.specs.declared.fault.FileFault.{FileFault}
-use Rattle.cbsrun.specs.declared.run.TheConstants.{DONE, BAD_FILE, RUN_FAULT}
 use Rattle.cbsrun.specs.declared.run_error.RunError.{RunError}
 use Rattle.cbsrun.specs.declared.run_error.RunError.TheVariants.{OutOfMemory}
 use Rattle.cbsrun.specs.declared.words.Verb.{Verb}
@@ -43,6 +42,6 @@ pub record StopsShort (f : File) (error : RunError) (old new : Writer) (text : L
 
 -- a run over the bytes ended with the status, and left out and err so
 pub data Ran (verb : Verb) (bytes : List ℕ) (out out' err err' : Writer) : ℕ → Type 0 where
-  done : (f : File) → file bytes ≡ Ok f → Writes out out' (output_of verb f) → IsUntouched err err' → Ran verb bytes out out' err err' DONE
-  refused : (fault : FileFault) → (fault ≡ no_memory) ⊎ (file bytes ≡ Err fault) → IsUntouched out out' → TriesToWrite err err' (file_line fault) → Ran verb bytes out out' err err' BAD_FILE
-  stopped : (f : File) (error : RunError) → file bytes ≡ Ok f → StopsShort f error out out' (output_of verb f) → TriesToWrite err err' (run_line error) → Ran verb bytes out out' err err' RUN_FAULT
+  done : (f : File) → file bytes ≡ Ok f → Writes out out' (output_of verb f) → IsUntouched err err' → Ran verb bytes out out' err err' 0
+  refused : (fault : FileFault) → (fault ≡ no_memory) ⊎ (file bytes ≡ Err fault) → IsUntouched out out' → TriesToWrite err err' (file_line fault) → Ran verb bytes out out' err err' 3
+  stopped : (f : File) (error : RunError) → file bytes ≡ Ok f → StopsShort f error out out' (output_of verb f) → TriesToWrite err err' (run_line error) → Ran verb bytes out out' err err' 4

@@ -3,12 +3,10 @@ use Rattle.std.specs.Prelude.{ℕ, ℤ, codes, bytes_eq, map, if◌then◌else�
 use Rattle.toml.specs.Data.{Data, Members}
 use Rattle.toml.specs.View.{view}
 use Rattle.cbs_rate.specs.Bound.{Fraction}
-use Rattle.cbs_rate.specs.declared.bound.TheConstants.{MAX_DENOMINATOR}
 use Rattle.cbs_rules.specs.declared.mode.Mode.{Mode}
 use Rattle.cbs_rules.specs.declared.mode.Mode.TheVariants.{Soft, Throttled}
 use Rattle.cbsrun.specs.declared.fault.FileKind.{FileKind}
 use Rattle.cbsrun.specs.declared.fault.FileKind.TheVariants.{OutOfRange}
-use Rattle.cbsrun.specs.declared.top.TheConstants.{FORMAT, MAX_BACKLOG, MAX_RING}
 use Rattle.cbsrun.specs.declared.top.TopTable.{TopTable}
 use Rattle.cbsrun.specs.Fields.{◌>>=◌, known, present, whole, all_whole, text, items, within}
 
@@ -21,7 +19,7 @@ mode_of word =
 -- D from 1 to 1000000, and N from 1 to D
 abbrev pub bound : ℤ → ℤ → Result Fraction FileKind
 bound num_number den_number = do
-  den ← within 1 MAX_DENOMINATOR den_number
+  den ← within 1 1000000 den_number
   num ← within 1 den num_number
   Ok (record { num = num; den = den })
 
@@ -48,7 +46,7 @@ unfoldable pub top_table : Members → Result TopData FileKind
 top_table table = do
   format_value ← present (codes "format") table
   format_number ← whole format_value
-  _ ← within FORMAT FORMAT format_number
+  _ ← within 1 1 format_number
   _ ← known (codes "format" ∷ codes "mode" ∷ codes "bound" ∷ codes "backlog" ∷ codes "ring" ∷ codes "server" ∷ codes "step" ∷ []) table
   mode_value ← present (codes "mode") table
   bound_value ← present (codes "bound") table
@@ -65,8 +63,8 @@ top_table table = do
   steps ← items step_value
   mode ← mode_of mode_word
   bound ← bound_of bound_values
-  backlog ← within 1 MAX_BACKLOG backlog_number
-  ring ← within 1 MAX_RING ring_number
+  backlog ← within 1 4096 backlog_number
+  ring ← within 1 1024 ring_number
   Ok (record { mode = mode; bound = bound; backlog = backlog; ring = ring; servers = servers; steps = steps })
 
 -- the top table that the code holds

@@ -1,6 +1,6 @@
 -- The command line as `clap` sees it.
 use Rattle.std.specs.Prelude.{◌≡◌, ℕ, List, codes, true, Some, string_bytes}
-use Rattle.clap.specs.Words.{App, Row, Rule, Text, first_of, new_app, new_rule, subcommand_of, with_rule, with_subcommand}
+use Rattle.clap.specs.Words.{App, Row, Rule, Text, first_of, new_app, new_rule, subcommand_of, takes, with_rule, with_subcommand}
 use Rattle.cbsrun.specs.declared.words.Verb.{Verb}
 use Rattle.cbsrun.specs.declared.words.Verb.TheVariants.{Replay}
 use Rattle.cbsrun.specs.declared.words.Asked.{Asked}
@@ -29,6 +29,12 @@ name_of Replay = codes "replay"
 -- the subcommand that the words name is the verb, and its one value the file
 abbrev pub Names : List Text → Asked → Type 0
 Names words asked = (rows : List Row) × (subcommand_of command_line words ≡ Some (name_of asked.verb, rows)) × (first_of (codes "FILE") rows ≡ Some (string_bytes asked.file))
+
+-- the command takes the words, and they name a verb and a file
+pub record AreTaken (words : List Text) : Type 0 where
+  pub taken : takes command_line words ≡ true
+  pub asked : Asked
+  pub named : Names words asked
 
 abbrev pub words_fault_number : WordsFault → ℕ
 words_fault_number (Usage text) = 1

@@ -69,7 +69,7 @@ fn operation_of(word: &str) -> Result<Operation, FileKind>
 
 /// The job of this kind over the numbers.
 fn job_of(kind: &str, numbers: Vec<u32>) -> Result<FileJob, FileKind>
-    requires { length numbers.items ≤ MAX_UNITS }
+    requires { length numbers.items ≤ 1000000 }
     ensures { result ≡ job_of kind.now numbers.items }
 {
     match kind {

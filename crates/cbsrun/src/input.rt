@@ -117,10 +117,10 @@ pub fn read_all<R: ByteInput>(alloc: Global, reader: &mut R) -> Result<Vec<u8>, 
     requires { R.failed reader.old < 2 ^ 64 - 1 }
     // At Ok these are the bytes up to the end.
     ensures ok { IfOk result (λ v. Consumes (R.left reader.old) (R.left reader.new) v.items × IsAtEnd (R.left reader.new)) }
-    ensures small { IfOk result (λ v. length v.items ≤ MAX_BYTES) }
+    ensures small { IfOk result (λ v. length v.items ≤ 16777216) }
     // At a refusal some bytes came: too many exactly at TooLarge.
     ensures refused { IfErr result (λ e. (came : List ℕ) × Consumes (R.left reader.old) (R.left reader.new) came
-        × ((e ≡ ReadError.TooLarge) ↔ (MAX_BYTES < length came))) }
+        × ((e ≡ ReadError.TooLarge) ↔ (16777216 < length came))) }
     // A read fault is one call that failed, and nothing else is.
     ensures fault { R.failed reader.new ≡ R.failed reader.old + (if is_read_fault result then 1 else 0) }
 {

@@ -69,8 +69,8 @@ fn bound_of(values: &[Value]) -> Result<Bound, FileKind>
 #[tactic(auto, unfolding(crate::specs::Tops::top_table))]
 pub fn top_table(table: &Table) -> Result<TopTable<'_>, FileKind>
     ensures value { seen top_view result ≡ top_table (table_view table.now) }
-    ensures backlog { IfOk result (λ t. (1 ≤ t.backlog) × (t.backlog ≤ MAX_BACKLOG)) }
-    ensures ring { IfOk result (λ t. (1 ≤ t.ring) × (t.ring ≤ MAX_RING)) }
+    ensures backlog { IfOk result (λ t. (1 ≤ t.backlog) × (t.backlog ≤ 4096)) }
+    ensures ring { IfOk result (λ t. (1 ≤ t.ring) × (t.ring ≤ 1024)) }
 {
     let format = whole(present(table, "format")?)?;
     within(FORMAT, FORMAT, format)?;

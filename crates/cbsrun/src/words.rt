@@ -1,8 +1,8 @@
 //! What the words of a command line ask for.
 
-ghost use Rattle.std.specs.Prelude.{◌≡◌, ℕ, IfOk, IfErr, map, string_bytes, true};
-ghost use Rattle.clap.specs.Words.{app_of, takes};
-ghost use Rattle.cbsrun.specs.Words.{command_line, Names, words_fault_number, words_fault_name};
+ghost use Rattle.std.specs.Prelude.{◌≡◌, IfOk, IfErr, map, string_bytes};
+ghost use Rattle.clap.specs.Words.{app_of, kind_of};
+ghost use Rattle.cbsrun.specs.Words.{command_line, Names, AreTaken, words_fault_number, words_fault_name};
 ghost use Rattle.cbsrun.specs.declared.words.WordsFault.TheVariants.{OutOfMemory};
 
 use clap::error::ErrorKind;
@@ -113,7 +113,9 @@ fn command_line<'a>(alloc: Global) -> Result<Command<'a>, AllocError>
 }
 
 /// The fault of a command line that `clap` refused.
-fn refused(alloc: Global, error: &Error) -> Result<WordsFault, AllocError> {
+fn refused(alloc: Global, error: &Error) -> Result<WordsFault, AllocError>
+    ensures { kind_of error.now ≡ ErrorKind.OutOfMemory → IfOk result (λ w. w ≡ OutOfMemory) }
+{
     let text = error.to_string(alloc)?;
     Ok(match error.kind() {
         ErrorKind::OutOfMemory => WordsFault::OutOfMemory,
@@ -130,7 +132,8 @@ fn incomplete(alloc: Global) -> Result<WordsFault, AllocError> {
 
 /// What the words ask for, the program's name first.
 fn asked_by(alloc: Global, words: &[String]) -> Result<Asked, WordsFault>
-    ensures { IfOk result (Names (map string_bytes words.now)) }
+    ensures ok { IfOk result (Names (map string_bytes words.now)) }
+    ensures refused { IfErr result (λ e. AreTaken (map string_bytes words.now) → e ≡ OutOfMemory) }
 {
     let command = command_line(alloc)?;
     let matches = match command.try_get_matches_from(words) {
@@ -156,7 +159,9 @@ fn asked_by(alloc: Global, words: &[String]) -> Result<Asked, WordsFault>
 /// Refuses with [`WordsFault::Usage`] where the words are wrong, with [`WordsFault::Help`] where
 /// they ask for help, and with [`WordsFault::OutOfMemory`].
 pub fn read_words(alloc: Global, words: Vec<String>) -> Result<Asked, WordsFault>
-    ensures { IfOk result (Names (map string_bytes words.items)) }
+    ensures ok { IfOk result (Names (map string_bytes words.items)) }
+    // Words that name a verb and a file are refused only for want of memory.
+    ensures refused { IfErr result (λ e. AreTaken (map string_bytes words.items) → e ≡ OutOfMemory) }
 {
     asked_by(alloc, words.as_slice())
 }
