@@ -7,6 +7,7 @@ pub record Rank : Type 0 where
   pub ready : Bool
   pub deadline : ℕ
 
+-- the rank of server s; beyond the last nobody is ready
 abbrev pub rank_at : List Rank → ℕ → Rank
 rank_at ranks s = get_or ranks s (record { ready = false; deadline = 0 })
 

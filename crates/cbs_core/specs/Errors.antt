@@ -3,6 +3,7 @@ use Rattle.std.specs.Prelude.{ℕ, List, codes, Bool, true, false}
 use Rattle.cbs_core.specs.declared.error.CoreError.{CoreError}
 use Rattle.cbs_core.specs.declared.error.CoreError.TheVariants.{BadBacklog, OutOfMemory, NoSuchServer, Closed, BacklogFull, ClockEnd}
 
+-- the number of each error
 abbrev pub core_error_number : CoreError → ℕ
 core_error_number BadBacklog = 1
 core_error_number OutOfMemory = 2
@@ -11,6 +12,7 @@ core_error_number Closed = 4
 core_error_number BacklogFull = 5
 core_error_number ClockEnd = 6
 
+-- the name of each error, as text
 abbrev pub core_error_name : CoreError → List ℕ
 core_error_name BadBacklog = codes "BadBacklog"
 core_error_name OutOfMemory = codes "OutOfMemory"

@@ -63,6 +63,7 @@ module _ {W : Type 0} where
       else if leb backlog (backlog_of work a) then Some error.BacklogFull
       else None
 
+  -- the same of server s
   abbrev pub submit_refusal : Meaning W → ℕ → List (Account W) → ℕ → Option CoreError
   submit_refusal work backlog accounts s = refusal_at work backlog (slice_get accounts s)
 
@@ -71,6 +72,7 @@ module _ {W : Type 0} where
   close_refusal_at None = Some error.NoSuchServer
   close_refusal_at (Some a) = if a.closed then Some error.Closed else None
 
+  -- the same of server s
   abbrev pub close_refusal : List (Account W) → ℕ → Option CoreError
   close_refusal accounts s = close_refusal_at (slice_get accounts s)
 

@@ -57,25 +57,32 @@ head_with_job now active h = record {
 abbrev pub head_with_unit : Bool → Head → Head
 head_with_unit done h = record { terms = h.terms; state = after_unit h.terms.mode h.terms.reservation h.state; closed = h.closed; accepted = h.accepted; finished = if done then h.finished + 1 else h.finished }
 
+-- the head after a replenishment, if one is due
 abbrev pub head_with_replenishment : ℕ → Head → Head
 head_with_replenishment now h = record { terms = h.terms; state = after_replenishment h.terms.reservation now h.state; closed = h.closed; accepted = h.accepted; finished = h.finished }
 
+-- the head after a close
 abbrev pub head_with_close : Head → Head
 head_with_close h = record { terms = h.terms; state = h.state; closed = true; accepted = h.accepted; finished = h.finished }
 
 module _ {W : Type 0} where
+  -- a new server holds no job
   abbrev pub new_held : Terms → Held W
   new_held terms = held_of (new_head terms) []
 
+  -- a server that holds a job is active
   abbrev pub is_held_active : Held W → Bool
   is_held_active h = ltb 0 (length h.jobs)
 
+  -- active and not throttled
   abbrev pub is_held_ready : Held W → Bool
   is_held_ready h = is_held_active h && not h.state.throttled
 
+  -- what the choice looks at
   abbrev pub held_rank : Held W → Rank
   held_rank h = record { ready = is_held_ready h; deadline = h.state.deadline }
 
+  -- after a job came in: the arrival rule applies where the server was idle and not throttled
   abbrev pub held_with_job : ℕ → W → Held W → Held W
   held_with_job now job h = record {
     terms = h.terms;
@@ -86,6 +93,7 @@ module _ {W : Type 0} where
     jobs = h.jobs ++ job ∷ [];
   }
 
+  -- after a unit of the first job
   abbrev pub held_with_unit : Meaning W → Held W → Held W
   held_with_unit work h = record {
     terms = h.terms;
@@ -96,9 +104,11 @@ module _ {W : Type 0} where
     jobs = jobs_run work h.jobs;
   }
 
+  -- after a close
   abbrev pub held_with_close : Held W → Held W
   held_with_close h = record { terms = h.terms; state = h.state; closed = true; accepted = h.accepted; finished = h.finished; jobs = h.jobs }
 
+  -- after a replenishment, if one is due
   abbrev pub held_with_replenishment : ℕ → Held W → Held W
   held_with_replenishment now h = record { terms = h.terms; state = after_replenishment h.terms.reservation now h.state; closed = h.closed; accepted = h.accepted; finished = h.finished; jobs = h.jobs }
 
@@ -106,10 +116,12 @@ module _ {W : Type 0} where
   abbrev pub held_view : Held W → ServerView
   held_view h = record { budget = h.state.budget; deadline = h.state.deadline; throttled = h.state.throttled; closed = h.closed; accepted = h.accepted; finished = h.finished }
 
+  -- what a view is answered
   abbrev pub held_view_reply : Option (Held W) → Result ServerView CoreError
   held_view_reply None = Err error.NoSuchServer
   held_view_reply (Some h) = Ok (held_view h)
 
+  -- why a submit to the server is refused, if it is
   abbrev pub held_refusal_at : ℕ → Option (Held W) → Option CoreError
   held_refusal_at backlog None = Some error.NoSuchServer
   held_refusal_at backlog (Some h) = if h.closed then Some error.Closed else if leb backlog (length h.jobs) then Some error.BacklogFull else None
@@ -118,6 +130,7 @@ module _ {W : Type 0} where
   abbrev pub held_refusal : ℕ → List (Held W) → ℕ → Option CoreError
   held_refusal backlog hs s = held_refusal_at backlog (slice_get hs s)
 
+  -- why a close of the server is refused, if it is
   abbrev pub held_close_refusal_at : Option (Held W) → Option CoreError
   held_close_refusal_at None = Some error.NoSuchServer
   held_close_refusal_at (Some h) = if h.closed then Some error.Closed else None

@@ -14,6 +14,7 @@ module _ {W : Type 0} where
   abbrev pub held_wait : ℕ → Held W → ℕ
   held_wait now h = if is_held_active h then max 1 (h.state.deadline - now) else LIMIT - now
 
+  -- whether somebody is ready
   abbrev pub held_some_ready : List (Held W) → Bool
   held_some_ready [] = false
   held_some_ready (h ∷ hs) = is_held_ready h || held_some_ready hs

@@ -22,6 +22,7 @@ reservation budget_number period_number = do
   budget ← within 1 period budget_number
   Ok (record { budget = budget; period = period })
 
+-- the reservation that an entry of `server` spells
 unfoldable pub server_entry : Data → Result Rate FileKind
 server_entry entry = do
   table ← members entry
@@ -50,6 +51,7 @@ job_of kind numbers =
     else if bytes_eq kind (codes "peak") then Ok (Peak (record { numbers = numbers; output = 0 }))
     else Err OutOfRange
 
+-- a submit of a job over 1 to 1000000 numbers, each 0 to 4294967295, to one of so many servers
 unfoldable pub submit_entry : ℕ → Members → Result (Step FileJob) FileKind
 submit_entry servers table = do
   _ ← known (codes "op" ∷ codes "server" ∷ codes "job" ∷ codes "units" ∷ []) table
@@ -66,11 +68,13 @@ submit_entry servers table = do
   job ← job_of kind units
   Ok (step.Submit server job)
 
+-- a run has no other key
 unfoldable pub run_entry : Members → Result (Step FileJob) FileKind
 run_entry table = do
   _ ← known (codes "op" ∷ []) table
   Ok step.Run
 
+-- an advance by 0 to 1000000000 ticks
 unfoldable pub advance_entry : Members → Result (Step FileJob) FileKind
 advance_entry table = do
   _ ← known (codes "op" ∷ codes "ticks" ∷ []) table
@@ -79,6 +83,7 @@ advance_entry table = do
   ticks ← within 0 1000000000 ticks_number
   Ok (step.Advance ticks)
 
+-- a close of one of so many servers
 unfoldable pub close_entry : ℕ → Members → Result (Step FileJob) FileKind
 close_entry servers table = do
   _ ← known (codes "op" ∷ codes "server" ∷ []) table
@@ -94,6 +99,7 @@ entry_for servers table Run = run_entry table
 entry_for servers table Advance = advance_entry table
 entry_for servers table Close = close_entry servers table
 
+-- the step that an entry of `step` spells: its word decides which other keys it has
 unfoldable pub step_entry : ℕ → Data → Result (Step FileJob) FileKind
 step_entry servers entry = do
   table ← members entry

@@ -5,6 +5,7 @@ use Rattle.cbsrun.specs.declared.fault.FileKind.TheVariants.{NotToml, UnknownKey
 use Rattle.cbsrun.specs.declared.fault.Place.{Place}
 use Rattle.cbsrun.specs.declared.fault.Place.TheVariants.{Top, Server, Step}
 
+-- the number of each kind of fault
 abbrev pub file_kind_number : FileKind → ℕ
 file_kind_number NotToml = 1
 file_kind_number UnknownKey = 2
@@ -14,6 +15,7 @@ file_kind_number OutOfRange = 5
 file_kind_number NotAdmitted = 6
 file_kind_number OutOfMemory = 7
 
+-- the name of each kind of fault
 abbrev pub file_kind_name : FileKind → List ℕ
 file_kind_name NotToml = codes "NotToml"
 file_kind_name UnknownKey = codes "UnknownKey"
@@ -23,6 +25,7 @@ file_kind_name OutOfRange = codes "OutOfRange"
 file_kind_name NotAdmitted = codes "NotAdmitted"
 file_kind_name OutOfMemory = codes "OutOfMemory"
 
+-- a place, as it is written: the top table, or the entry of this number of `server` or `step`
 abbrev pub place_text : Place → List ℕ
 place_text Top = codes "top"
 place_text (Server i) = codes "server " ++ decimal i

@@ -6,6 +6,7 @@ use Rattle.cbsrun.specs.declared.fault.FileKind.{FileKind}
 use Rattle.cbsrun.specs.declared.fault.FileKind.TheVariants.{UnknownKey, MissingKey, WrongType, OutOfRange}
 
 infixl 10 ◌>>=◌
+-- a test, and then the next on its value: the first fault stands
 abbrev pub ◌>>=◌ : {E A B : Type 0} → Result A E → (A → Result B E) → Result B E
 (Ok x) >>= f = f x
 (Err e) >>= f = Err e
@@ -20,6 +21,7 @@ abbrev pub are_known : List (List ℕ) → Members → Bool
 are_known keys no_members = true
 are_known keys (member k d ms) = list_any (λ l. bytes_eq l k) keys && are_known keys ms
 
+-- the table has no other keys than these
 abbrev pub known : List (List ℕ) → Members → Result (Unit {0}) FileKind
 known keys ms = if are_known keys ms then Ok tt else Err UnknownKey
 
@@ -28,6 +30,7 @@ abbrev pub found : Option Data → Result Data FileKind
 found None = Err MissingKey
 found (Some d) = Ok d
 
+-- the value at the key, which the table has to have
 abbrev pub present : List ℕ → Members → Result Data FileKind
 present key ms = found (get_member key ms)
 
@@ -41,14 +44,17 @@ abbrev pub whole : Data → Result ℤ FileKind
 whole (integer z) = Ok z
 whole _ = Err WrongType
 
+-- the bytes of a text
 abbrev pub text : Data → Result (List ℕ) FileKind
 text (string s) = Ok s
 text _ = Err WrongType
 
+-- the entries of an array
 abbrev pub items : Data → Result (List Data) FileKind
 items (array ds) = Ok (list_of ds)
 items _ = Err WrongType
 
+-- the members of a table
 abbrev pub members : Data → Result Members FileKind
 members (table ms) = Ok ms
 members _ = Err WrongType
@@ -88,6 +94,7 @@ each_from i f (x ∷ xs) = do
   ys ← each_from (i + 1) f xs
   Ok (y ∷ ys)
 
+-- f of each element, or the first fault
 abbrev pub each : {E A B : Type 0} → (A → Result B E) → List A → Result (List B) E
 each f = each_from 0 (λ _. f)
 

@@ -15,6 +15,7 @@ use Rattle.cbsrun.specs.Fields.{◌>>=◌, each_from}
 use Rattle.cbsrun.specs.TaskFiles.{File}
 use Rattle.cbsrun.specs.Tops.{top_table}
 
+-- memory was refused while reading
 abbrev pub no_memory : FileFault
 no_memory = record { kind = OutOfMemory; place = Top }
 
@@ -23,6 +24,7 @@ abbrev pub faulty : Place → FileKind → FileFault
 faulty place OutOfMemory = no_memory
 faulty place kind = record { kind = kind; place = place }
 
+-- a result whose fault stands at this place
 abbrev pub at : {A : Type 0} → Place → Result A FileKind → Result A FileFault
 at place (Ok x) = Ok x
 at place (Err kind) = Err (faulty place kind)
@@ -32,6 +34,7 @@ abbrev pub or_not_toml : Option Members → Result Members FileKind
 or_not_toml (Some table) = Ok table
 or_not_toml None = Err NotToml
 
+-- the top table, where the bytes are UTF-8 and TOML
 abbrev pub document : List ℕ → Result Members FileKind
 document bytes = if is_utf8 bytes then or_not_toml (parse_document bytes) else Err NotToml
 

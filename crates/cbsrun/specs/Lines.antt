@@ -11,12 +11,14 @@ use Rattle.cbsrun.specs.declared.line.Answer.{Answer}
 use Rattle.cbsrun.specs.declared.line.Answer.TheVariants.{Accepted, Refused, Ran as OfRun, Made}
 use Rattle.cbsrun.specs.declared.line.Line.{Line}
 
+-- what was asked
 abbrev pub call_text : Call → List ℕ
 call_text (Submit server) = codes "submit " ++ decimal server
 call_text Run = codes "run"
 call_text (Advance ticks) = codes "advance " ++ decimal ticks
 call_text (Close server) = codes "close " ++ decimal server
 
+-- what was answered
 abbrev pub answer_text : Answer → List ℕ
 answer_text (Accepted seq) = codes " job " ++ decimal seq ++ codes " accepted"
 answer_text (Refused error) = codes " refused " ++ core_error_name error
@@ -38,5 +40,6 @@ shown_server call (OfRun (ran.Unit server seq)) = Some server
 shown_server call (OfRun (ran.Done done)) = Some done.server
 shown_server call answer = None
 
+-- the whole line, ended by a line feed
 abbrev pub line_text : Line → List ℕ
 line_text l = codes "@" ++ decimal l.clock ++ codes " " ++ call_text l.call ++ answer_text l.answer ++ state_text l.state.server ++ codes "\n"

@@ -10,11 +10,13 @@ is_read_fault (Err OutOfMemory) = false
 is_read_fault (Err ReadFault) = true
 is_read_fault (Err TooLarge) = false
 
+-- the number of each read fault
 abbrev pub read_error_number : ReadError → ℕ
 read_error_number OutOfMemory = 1
 read_error_number ReadFault = 2
 read_error_number TooLarge = 3
 
+-- the name of each read fault
 abbrev pub read_error_name : ReadError → List ℕ
 read_error_name OutOfMemory = codes "OutOfMemory"
 read_error_name ReadFault = codes "ReadFault"

@@ -3,10 +3,12 @@ use Rattle.std.specs.Prelude.{ℕ, List, codes, Bool, true, false, Result, Ok, E
 use Rattle.cbsrun.specs.declared.run_error.RunError.{RunError}
 use Rattle.cbsrun.specs.declared.run_error.RunError.TheVariants.{OutOfMemory, WriteFault}
 
+-- the number of each run fault
 abbrev pub run_error_number : RunError → ℕ
 run_error_number OutOfMemory = 1
 run_error_number WriteFault = 2
 
+-- the name of each run fault
 abbrev pub run_error_name : RunError → List ℕ
 run_error_name OutOfMemory = codes "OutOfMemory"
 run_error_name WriteFault = codes "WriteFault"

@@ -10,6 +10,7 @@ use Rattle.cbsrun.specs.declared.fault.FileKind.TheVariants.{OutOfRange}
 use Rattle.cbsrun.specs.declared.top.TopTable.{TopTable}
 use Rattle.cbsrun.specs.Fields.{◌>>=◌, known, present, whole, all_whole, text, items, within}
 
+-- the mode that a word names
 abbrev pub mode_of : List ℕ → Result Mode FileKind
 mode_of word =
     if bytes_eq word (codes "soft") then Ok Soft

@@ -23,6 +23,7 @@ required a = record a { top = record a.top { subcommand_required = true } }
 abbrev pub command_line : App
 command_line = with_subcommand (required (new_app (codes "cbsrun"))) replay.top
 
+-- the word of each verb
 abbrev pub name_of : Verb → Text
 name_of Replay = codes "replay"
 
@@ -36,11 +37,13 @@ pub record AreTaken (words : List Text) : Type 0 where
   pub asked : Asked
   pub named : Names words asked
 
+-- the number of each fault of the words
 abbrev pub words_fault_number : WordsFault → ℕ
 words_fault_number (Usage text) = 1
 words_fault_number (Help text) = 2
 words_fault_number OutOfMemory = 3
 
+-- the name of each fault of the words
 abbrev pub words_fault_name : WordsFault → List ℕ
 words_fault_name (Usage text) = codes "Usage"
 words_fault_name (Help text) = codes "Help"
