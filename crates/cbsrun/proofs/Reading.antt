@@ -1,5 +1,5 @@
 -- A file's tables, read one after another.
-use Rattle.std.proofs.Common.{◌≡◌, ℕ, ◌+◌, ◌<◌, ◌≤◌, List, [], ◌∷◌, ◌++◌, length, map, drop, get_or, Result, Ok, Err, inl, inr, refl, sym, ap, ◌∙◌, arith}
+use Rattle.std.proofs.Common.{◌≡◌, ℕ, ◌+◌, ◌<◌, ◌≤◌, List, length, map, drop, get_or, Result, Ok, Err, inl, inr, refl, sym, ap, ◌∙◌}
 use Rattle.std.proofs.lemmas.List.{drop_more}
 use Rattle.std.proofs.Math.ListN.{drop_of_length-le}
 use Rattle.std.specs.Prelude.{◌⊎◌}
@@ -10,7 +10,7 @@ use Rattle.cbsrun.specs.declared.fault.FileKind.TheVariants.{OutOfMemory}
 use Rattle.cbsrun.specs.declared.fault.FileFault.{FileFault}
 use Rattle.cbsrun.specs.declared.fault.Place.{Place}
 use Rattle.cbsrun.specs.declared.fault.Place.TheVariants.{Server}
-use Rattle.cbsrun.specs.Fields.{Gives, seen, ◌>>=◌}
+use Rattle.cbsrun.specs.Fields.{Gives, seen}
 use Rattle.cbsrun.specs.Files.{at, faulty, no_memory, plan_from, admitted_entry}
 
 -- ---- a table at its place

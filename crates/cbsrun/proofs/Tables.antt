@@ -1,5 +1,5 @@
 -- The keys of the map of a table, beside the members that it stands for.
-use Rattle.std.proofs.Common.{Some, Ok, ◌≡◌, ℕ, Bool, ◌&&◌, ◌||◌, List, [], ◌∷◌, map, Bor, String, Global, bytes_eq, string_bytes, refl, ap, ◌∙◌}
+use Rattle.std.proofs.Common.{Some, Ok, ◌≡◌, ℕ, Bool, ◌&&◌, ◌||◌, List, [], ◌∷◌, map, Bor, String, Global, bytes_eq, string_bytes, refl, ap}
 use Rattle.std.specs.List.{list_any, list_all}
 use Rattle.std.specs.Map.{keys_of}
 use Rattle.std.proofs.lemmas.Option.{same_Some}

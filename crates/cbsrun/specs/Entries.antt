@@ -1,6 +1,6 @@
 -- What one entry of a task file's arrays spells: a server or a step. Each table is tested in four turns: a key that it may not
 -- have, a key that it lacks, a value of another type, a value out of range.
-use Rattle.std.specs.Prelude.{ℕ, ℤ, length, codes, bytes_eq, if◌then◌else◌, List, [], ◌∷◌, Result, Ok, Err}
+use Rattle.std.specs.Prelude.{ℕ, ℤ, codes, bytes_eq, if◌then◌else◌, List, [], ◌∷◌, Result, Ok, Err}
 use Rattle.toml.specs.Data.{Data, Members}
 use Rattle.cbs_rate.specs.Rate.{Rate}
 use Rattle.cbs_job.specs.declared.file.FileJob.{FileJob}

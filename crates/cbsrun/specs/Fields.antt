@@ -1,7 +1,7 @@
 -- The tests of one table, in their order. A test answers a value, or the kind of fault.
-use Rattle.std.specs.Prelude.{◌≡◌, ℕ, ℤ, pos, negsuc, Bool, true, false, ◌&&◌, ◌+◌, ◌⊎◌, length, not, nat_le, nat_lt, if◌then◌else◌, List, [], ◌∷◌, bytes_eq, Option, Some, None, is_some, Result, Ok, Err}
+use Rattle.std.specs.Prelude.{◌≡◌, ℕ, ℤ, pos, negsuc, Bool, true, ◌&&◌, ◌+◌, ◌⊎◌, length, nat_le, nat_lt, if◌then◌else◌, List, [], ◌∷◌, bytes_eq, Option, Some, None, is_some, Result, Ok, Err}
 use Rattle.std.specs.List.{list_any, list_all}
-use Rattle.toml.specs.Data.{Data, as_integer, string, integer, array, table, Items, no_items, item, Members, no_members, member, same_key, get_member}
+use Rattle.toml.specs.Data.{Data, as_integer, string, integer, array, table, Items, no_items, item, Members, no_members, member, get_member}
 use Rattle.cbsrun.specs.declared.fault.FileKind.{FileKind}
 use Rattle.cbsrun.specs.declared.fault.FileKind.TheVariants.{UnknownKey, MissingKey, WrongType, OutOfRange}
 

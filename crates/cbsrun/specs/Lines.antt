@@ -2,7 +2,6 @@
 -- accepted a job or ran.
 use Rattle.std.specs.Prelude.{ℕ, List, [], ◌++◌, codes, decimal, Option, Some, None, if◌then◌else◌}
 use Rattle.cbs_core.specs.Errors.{core_error_name}
-use Rattle.cbs_core.specs.declared.reply.Ran.{Ran}
 use Rattle.cbs_core.specs.declared.reply.Ran.TheVariants as ran
 use Rattle.cbs_core.specs.declared.view.ServerView.{ServerView}
 use Rattle.cbsrun.specs.declared.line.Call.{Call}

@@ -1,4 +1,4 @@
-use Rattle.std.proofs.Common.{◌≡◌, Bool, true, false, map, is_some, sym, ◌∙◌}
+use Rattle.std.proofs.Common.{◌≡◌, true, false, map, is_some, sym, ◌∙◌}
 use Rattle.std.specs.List.{list_all}
 use Rattle.toml.specs.Data.{as_integer}
 use Rattle.toml.specs.View.{view}

@@ -1,4 +1,4 @@
-use Rattle.std.proofs.Common.{◌≡◌, Bool, true, false, map, sym, ◌∙◌}
+use Rattle.std.proofs.Common.{◌≡◌, true, false, map, sym, ◌∙◌}
 use Rattle.toml.specs.View.{table_view}
 use Rattle.cbsrun.specs.Fields.{are_known}
 use Rattle.cbsrun.proofs.Tables.{are_known-view}

@@ -1,8 +1,8 @@
-use Rattle.std.proofs.Common.{◌≡◌, Ok, Err, sym, ◌∙◌, ap}
+use Rattle.std.proofs.Common.{sym, ◌∙◌}
 use Rattle.std.proofs.lemmas.Result.{err_from_is_err_and}
 use Rattle.toml.specs.View.{view}
 use Rattle.cbsrun.specs.declared.fault.Place.TheVariants.{Server}
-use Rattle.cbsrun.specs.Files.{admitted_entry, at}
+use Rattle.cbsrun.specs.Files.{admitted_entry}
 use Rattle.cbsrun.proofs.Reading.{seen_at, seen_at_err, plan_on, plan_ends, plan_done}
 use Rattle.cbsrun.proofs.file.plan_of.Goals as goal
 

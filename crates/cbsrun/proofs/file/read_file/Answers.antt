@@ -1,4 +1,4 @@
-use Rattle.std.proofs.Common.{◌≡◌, rules, Ok, map, [], sym, ◌∙◌, length, refl, ap}
+use Rattle.std.proofs.Common.{◌≡◌, rules, Ok, map, [], sym, ◌∙◌, length, refl}
 use Rattle.toml.specs.View.{view, table_view}
 use Rattle.cbsrun.specs.declared.fault.Place.TheVariants.{Top, Step as AtStep}
 use Rattle.cbsrun.specs.Entries.{step_entry}

@@ -1,5 +1,4 @@
-use Rattle.std.proofs.Common.{◌≡◌, ◌<◌, ◌≤◌, ◌++◌, length, take, length-append, length-take, arith, refl}
-use Rattle.cbsrun.specs.declared.input.ReadError.TheVariants.{OutOfMemory, TooLarge}
+use Rattle.std.proofs.Common.{◌++◌, take, length-append, length-take, arith, refl}
 use Rattle.cbsrun.proofs.Writing.{Consumes-then}
 use Rattle.cbsrun.proofs.input.read_all.Goals as goal
 

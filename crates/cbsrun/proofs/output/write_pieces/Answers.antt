@@ -1,4 +1,4 @@
-use Rattle.std.proofs.Common.{◌≡◌, ◌<◌, List, Bor, ℕ, length, rules, ◌++◌, ◌+◌, drop, get_or, [], ◌∙◌, ap}
+use Rattle.std.proofs.Common.{◌≡◌, ◌<◌, List, Bor, ℕ, length, ◌++◌, ◌+◌, drop, get_or, [], ◌∙◌, ap}
 use Rattle.std.proofs.lemmas.Result.{err_from_is_err_and}
 use Rattle.std.proofs.lemmas.List.{drop_more}
 use Rattle.std.proofs.Math.ListN.{drop_of_length-le}

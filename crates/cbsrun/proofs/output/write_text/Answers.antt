@@ -1,5 +1,5 @@
 use Rattle.std.proofs.lemmas.Result.{err_from_is_err_and}
-use Rattle.std.proofs.Common.{length, take, drop, arith, length-drop, ◌∙◌, ◌+◌, ap, sym}
+use Rattle.std.proofs.Common.{take, drop, arith, length-drop, ◌∙◌, ◌+◌, ap, sym}
 use Rattle.std.proofs.lemmas.List.{take_rest, take-append-drop}
 use Rattle.std.proofs.Math.Seq.{take-add}
 use Rattle.cbsrun.proofs.Writing.{Appends-then, Appends-kept}

@@ -1,4 +1,4 @@
-use Rattle.std.proofs.Common.{◌≡◌, ap, ◌∙◌, string_bytes}
+use Rattle.std.proofs.Common.{◌≡◌, ap, ◌∙◌}
 use Rattle.std.proofs.lemmas.Result.{on_ok_weaker}
 use Rattle.cbs_job.specs.Files.{of_files}
 use Rattle.cbs_core.specs.History.{◌⊕◌, world_after, reply_in}

@@ -1,4 +1,4 @@
-use Rattle.std.proofs.Common.{◌≡◌, Err, ap, arith}
+use Rattle.std.proofs.Common.{Err, ap, arith}
 use Rattle.cbsrun.specs.Statuses.{done, refused, stopped}
 use Rattle.cbsrun.proofs.Running.{tries, untouched, output_is}
 use Rattle.cbsrun.proofs.run.run_bytes.Goals as goal

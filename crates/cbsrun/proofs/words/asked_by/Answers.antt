@@ -1,6 +1,6 @@
 use Rattle.std.proofs.Common.{rules, ◌≡◌, ◌∙◌, ap, sym, true, refl, codes, map, Option, Some, None, List, string_bytes}
 use Rattle.std.specs.Prelude.{option_map}
-use Rattle.clap.specs.Words.{App, Row, Text, is_simple, subcommand_of, subcommand_rows_of, subcommand_name_of, rows_of, found_of, first_of, first_value, takes}
+use Rattle.clap.specs.Words.{App, Row, Text, is_simple, subcommand_of, subcommand_rows_of, subcommand_name_of, rows_of, found_of, first_of, takes}
 use Rattle.clap.proofs.OnLiterals.{clap_on_literals}
 use Rattle.clap.proofs.WalkLemmas.{first_value-rows}
 use Rattle.cbsrun.specs.Words.{command_line, name_of}

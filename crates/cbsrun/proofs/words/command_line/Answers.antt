@@ -2,7 +2,7 @@ use Rattle.std.proofs.Common.{rules, ap, ap₂, codes, ◌≡◌, ◌∙◌}
 use Rattle.std.proofs.lemmas.Result.{IfOk-weaker}
 use Rattle.clap.specs.Words.{App, app_of, new_app, rule_of, with_rule, with_subcommand}
 use Rattle.clap.specs.Simple.{app_of_fields}
-use Rattle.cbsrun.specs.Words.{file, replay, required, command_line}
+use Rattle.cbsrun.specs.Words.{file, replay, required}
 use Rattle.cbsrun.proofs.words.command_line.Goals as goal
 
 pub returns : goal.returns
