@@ -1,8 +1,7 @@
 -- What a list of steps leaves, and what each step is answered.
 use Rattle.std.specs.Prelude.{ℕ, zero, suc, ◌+◌, eqb, leb, ltb, if◌then◌else◌, List, [], ◌∷◌, length, map, get_or, slice_get, Option, Some, None}
 use Rattle.cbs_job.specs.Work.{Meaning, whole}
-use Rattle.cbs_rules.specs.Rules.{Terms}
-use Rattle.cbs_rules.specs.declared.server_state.TheConstants.{LIMIT}
+use Rattle.cbs_rules.specs.Rules.{clock_end, Terms}
 use Rattle.cbs_core.specs.declared.error.CoreError.{CoreError}
 use Rattle.cbs_core.specs.declared.error.CoreError.TheVariants as error
 use Rattle.cbs_core.specs.declared.step.Step.{Step}
@@ -78,7 +77,7 @@ module _ {W : Type 0} where
 
   -- the server of a Run that runs: the chosen one, if the clock is not at its end
   abbrev pub runner : Meaning W → World W → Option ℕ
-  runner work w = if ltb w.now LIMIT then chosen work w.accounts else None
+  runner work w = if ltb w.now clock_end then chosen work w.accounts else None
 
   -- what a submit to s leaves, by why it is refused
   abbrev pub after_submit : Meaning W → World W → ℕ → W → Option CoreError → World W
@@ -99,7 +98,7 @@ module _ {W : Type 0} where
   abbrev pub next : Meaning W → ℕ → World W → Step W → World W
   next work backlog w (Submit s job) = after_submit work w s job (submit_refusal work backlog w.accounts s)
   next work backlog w Run = after_run w (runner work w)
-  next work backlog w (Advance n) = if leb (w.now + n) LIMIT then ticks n w else w
+  next work backlog w (Advance n) = if leb (w.now + n) clock_end then ticks n w else w
   next work backlog w (Close s) = after_closing w s (close_refusal w.accounts s)
 
   -- what a unit of server s is answered: the job at the front got it, and is done where it was the last that it needs
@@ -113,7 +112,7 @@ module _ {W : Type 0} where
   -- what a Run is answered, by the chosen server
   abbrev pub run_reply : Meaning W → World W → Option ℕ → Ran
   run_reply work w None = ran.Idle
-  run_reply work w (Some s) = if leb LIMIT w.now then ran.ClockEnd else unit_reply work (account w.accounts s) s
+  run_reply work w (Some s) = if leb clock_end w.now then ran.ClockEnd else unit_reply work (account w.accounts s) s
 
   -- what a Submit is answered, by why it is refused: the job's number, or the job back
   abbrev pub submit_reply : World W → ℕ → W → Option CoreError → Reply W
@@ -129,7 +128,7 @@ module _ {W : Type 0} where
   abbrev pub reply_to : Meaning W → ℕ → World W → Step W → Reply W
   reply_to work backlog w (Submit s job) = submit_reply w s job (submit_refusal work backlog w.accounts s)
   reply_to work backlog w Run = reply.Ran (run_reply work w (chosen work w.accounts))
-  reply_to work backlog w (Advance n) = if leb (w.now + n) LIMIT then reply.Advanced else reply.Refused error.ClockEnd
+  reply_to work backlog w (Advance n) = if leb (w.now + n) clock_end then reply.Advanced else reply.Refused error.ClockEnd
   reply_to work backlog w (Close s) = close_reply (close_refusal w.accounts s)
 
   -- what a list of steps leaves, the newest step first

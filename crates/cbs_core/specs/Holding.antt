@@ -4,8 +4,7 @@ use Rattle.std.specs.List.{AllByRecursion}
 use Rattle.cbs_job.specs.Work.{Meaning}
 use Rattle.cbs_job.specs.declared.completion.Completion.{Completion}
 use Rattle.cbs_rate.specs.Rate.{IsRate}
-use Rattle.cbs_rules.specs.Rules.{State, Terms, IsState, fresh_state, after_arrival, after_unit, after_replenishment}
-use Rattle.cbs_rules.specs.declared.server_state.TheConstants.{LIMIT}
+use Rattle.cbs_rules.specs.Rules.{clock_end, State, Terms, IsState, fresh_state, after_arrival, after_unit, after_replenishment}
 use Rattle.cbs_core.specs.Choice.{Rank, rank_at}
 use Rattle.cbs_core.specs.Held.{Held, CoreHeld, held_at}
 use Rattle.cbs_core.specs.Queued.{jobs_run}
@@ -175,7 +174,7 @@ pub record IsBounded {W : Type 0} (backlog now : ℕ) (h : Held W) : Type 0 wher
 pub record IsCore {W : Type 0} (core : CoreHeld W) : Type 0 where
   pub few : length core.servers ≤ 64
   pub small : core.backlog ≤ 4096
-  pub clock : core.clock ≤ LIMIT
+  pub clock : core.clock ≤ clock_end
   pub bounded : AllByRecursion (IsBounded core.backlog core.clock) core.servers
 
 module _ {W : Type 0} where

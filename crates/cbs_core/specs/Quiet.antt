@@ -2,7 +2,7 @@
 use Rattle.std.specs.Prelude.{◌≡◌, ℕ, ◌-◌, ◌≤◌, ◌<◌, false}
 use Rattle.std.specs.List.{AllByRecursion}
 use Rattle.cbs_job.specs.Work.{Meaning}
-use Rattle.cbs_rules.specs.declared.server_state.TheConstants.{LIMIT}
+use Rattle.cbs_rules.specs.Rules.{clock_end}
 use Rattle.cbs_core.specs.Accounts.{is_ready}
 use Rattle.cbs_core.specs.History.{World, ticks}
 
@@ -18,6 +18,6 @@ module _ {W : Type 0} where
   -- nobody is ready, and n is the greatest number of ticks up to the clock's end by which an advance is quiet
   pub record IsIdleSpan (work : Meaning W) (w : World W) (n : ℕ) : Type 0 where
     pub at_rest : IsAtRest work w
-    pub within : n ≤ LIMIT - w.now
+    pub within : n ≤ clock_end - w.now
     pub quiet : IsQuiet work w n
-    pub greatest : (k : ℕ) → k ≤ LIMIT - w.now → IsQuiet work w k → k ≤ n
+    pub greatest : (k : ℕ) → k ≤ clock_end - w.now → IsQuiet work w k → k ≤ n

@@ -3,7 +3,6 @@ use Rattle.std.specs.Prelude.{ℕ, ◌||◌, eqb, ltb, if◌then◌else◌, List
 use Rattle.cbs_rate.specs.Rate.{Rate}
 use Rattle.cbs_rules.specs.Rules.{Terms}
 use Rattle.cbs_rules.specs.declared.mode.Mode.{Mode}
-use Rattle.cbs_core.specs.declared.executor.TheConstants.{MAX_BACKLOG}
 use Rattle.cbs_core.specs.declared.error.CoreError.{CoreError}
 use Rattle.cbs_core.specs.declared.error.CoreError.TheVariants as error
 
@@ -11,6 +10,6 @@ use Rattle.cbs_core.specs.declared.error.CoreError.TheVariants as error
 abbrev pub terms_of : Mode → List Rate → List Terms
 terms_of mode rates = map (λ r. record { mode = mode; reservation = r }) rates
 
--- why a backlog is refused, if it is
+-- why a backlog is refused, if it is: it is 1 to 4096 jobs
 abbrev pub new_refusal : ℕ → Option CoreError
-new_refusal backlog = if eqb backlog 0 || ltb MAX_BACKLOG backlog then Some error.BadBacklog else None
+new_refusal backlog = if eqb backlog 0 || ltb 4096 backlog then Some error.BadBacklog else None

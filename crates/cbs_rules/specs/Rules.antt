@@ -6,6 +6,10 @@ use Rattle.cbs_rate.specs.Rate.{Rate}
 use Rattle.cbs_rules.specs.declared.mode.Mode.{Mode}
 use Rattle.cbs_rules.specs.declared.mode.Mode.TheVariants.{Soft, Throttled}
 
+-- the clock's end, in ticks
+abbrev pub clock_end : ℕ
+clock_end = 1000000000
+
 -- the mode and the reservation that a server was given
 pub record Terms : Type 0 where
   pub mode : Mode
