@@ -4,7 +4,7 @@ use Rattle.std.specs.Prelude.{if◌then◌else◌}
 use Rattle.std.specs.Bool.{then_some}
 use Rattle.std.proofs.lemmas.Bool.{cases_Bool}
 use Rattle.std.proofs.lemmas.Bool.Decides.{nat_tests}
-use Rattle.cbs_core.specs.Held.{Held, held_at}
+use Rattle.cbs_core.specs.Held.{Held, CoreHeld, HasPlace, held_at}
 use Rattle.cbs_core.specs.Holding.{Head, helds, held_refusal, held_refusal_at, held_close_refusal, held_close_refusal_at}
 use Rattle.cbs_core.specs.declared.error.CoreError.TheVariants as error
 use Rattle.cbs_core.proofs.Zipping.{jobs_at, within_heads}
@@ -45,3 +45,25 @@ then_some_is false = refl
 
 pub closed_refusal : (b closed : Bool) → b ≡ closed → then_some b error.Closed ≡ (if closed then Some error.Closed else None)
 closed_refusal b closed e = rw e (then_some_is closed)
+
+-- a server with a place does not refuse
+module _ {W : Type 0} where
+  place_one : (backlog : ℕ) (h : Held W) → h.closed ≡ false → length h.jobs < backlog → held_refusal_at backlog (Some h) ≡ None
+  place_one backlog h unclosed few = let f : leb backlog (length h.jobs) ≡ false = grind (arith, nat_tests) in rw (unclosed, f) refl
+
+  place_at : (backlog : ℕ) (hs : List (Held W)) (s : ℕ) → s < length hs → (held_at hs s).closed ≡ false → length (held_at hs s).jobs < backlog → held_refusal backlog hs s ≡ None
+  place_at backlog [] s lt unclosed few = absurd (omega arith)
+  place_at backlog (h ∷ hs) zero lt unclosed few = place_one backlog h unclosed few
+  place_at backlog (h ∷ hs) (suc s) lt unclosed few = place_at backlog hs s (omega arith) unclosed few
+
+  pub place_free : (core : CoreHeld W) (s : ℕ) → HasPlace core s → held_refusal core.backlog core.servers s ≡ None
+  place_free core s p = place_at core.backlog core.servers s p.within p.unclosed p.few
+
+  free_one : (backlog : ℕ) (h : Held W) → held_refusal_at backlog (Some h) ≡ None → h.closed ≡ false
+  free_one backlog h e = elim (cases_Bool h.closed) [ inl t ↦ let f : Some error.Closed ≡ None = rw t at e in cc | inr n ↦ n ]
+
+  -- a server that does not refuse is open
+  pub free_unclosed : (backlog : ℕ) (hs : List (Held W)) (s : ℕ) → held_refusal backlog hs s ≡ None → (held_at hs s).closed ≡ false
+  free_unclosed backlog [] s e = cc
+  free_unclosed backlog (h ∷ hs) zero e = free_one backlog h e
+  free_unclosed backlog (h ∷ hs) (suc s) e = free_unclosed backlog hs s e

@@ -1,5 +1,5 @@
 -- What a core holds.
-use Rattle.std.specs.Prelude.{◌≡◌, ◌≢◌, ℕ, ◌+◌, ◌<◌, Bool, true, List, [], ◌∷◌, ◌++◌, map, get_or}
+use Rattle.std.specs.Prelude.{◌≡◌, ◌≢◌, ℕ, ◌+◌, ◌<◌, Bool, true, false, List, [], ◌∷◌, ◌++◌, length, map, get_or}
 use Rattle.cbs_job.specs.Work.{Meaning, whole}
 use Rattle.cbs_job.specs.declared.completion.Completion.{Completion}
 use Rattle.cbs_rules.specs.Rules.{State, Terms, fresh_state}
@@ -39,6 +39,13 @@ no_held = record { terms = record { mode = Soft; reservation = record { budget =
 -- what is held of server s
 abbrev pub held_at : {W : Type 0} → List (Held W) → ℕ → Held W
 held_at hs s = get_or hs s no_held
+
+-- the next job of s is taken with no allocation: there is such a server, it is open, its backlog is not full, and it has room
+pub record HasPlace {W : Type 0} (core : CoreHeld W) (s : ℕ) : Type 0 where
+  pub within : s < length core.servers
+  pub unclosed : (held_at core.servers s).closed ≡ false
+  pub few : length (held_at core.servers s).jobs < core.backlog
+  pub room : 0 < room_of core.rooms s
 
 -- jobs, counts and close of a server are as before; its budget and deadline may differ
 pub record SameJobs {W : Type 0} (old new : Held W) : Type 0 where

@@ -1,6 +1,6 @@
 //! The core: all servers, and the clock.
 
-ghost use Rattle.std.specs.Prelude.{◌≡◌, ℕ, ◌+◌, ◌*◌, ◌<◌, ◌≤◌, true, false, Ok, Err, IfOk, IfErr, OnOk, OnErr, length, slice_get, [], MatchOption, MatchResult, Some, None, ◌⊎◌};
+ghost use Rattle.std.specs.Prelude.{◌≡◌, ℕ, ◌+◌, ◌*◌, ◌<◌, ◌≤◌, true, false, Ok, Err, IfOk, IfErr, OnOk, OnErr, IsOk, length, slice_get, [], MatchOption, MatchResult, Some, None, ◌⊎◌};
 ghost use Rattle.cbs_core.specs.Quiet.{IsAtRest, IsIdleSpan};
 ghost use Rattle.cbs_core.specs.Choice.{IsChoice};
 ghost use Rattle.cbs_core.specs.History.{History, ◌⊕◌, world_after, reply_in, ranks_of, chosen, submit_refusal};
@@ -9,7 +9,7 @@ ghost use Rattle.cbs_core.specs.Replies.{submitted, advanced, closed, lacks_memo
 ghost use Rattle.cbs_core.specs.Views.{view_reply};
 ghost use Rattle.cbs_core.specs.Laws.{account_in, completion_in, completions_of, Completes, NoneAfterClose, IsWithinBudget};
 ghost use Rattle.cbs_core.specs.Holding.{CountsOn};
-ghost use Rattle.cbs_core.specs.Held.{room_of, KeepsRoom, held_at, TakesJob, ClosesServer, OthersSame, AllSame, DoesRun};
+ghost use Rattle.cbs_core.specs.Held.{room_of, KeepsRoom, HasPlace, held_at, TakesJob, ClosesServer, OthersSame, AllSame, DoesRun};
 ghost use Rattle.cbs_core.specs.Setups.{terms_of, new_refusal};
 
 use crate::error::CoreError;
@@ -84,7 +84,7 @@ impl<W: Work, A: Allocator> Core<W, A> {
         ensures answer { (M : History W) → Agrees W.meaning self.old M
             → RoomAnswers (submit_refusal W.meaning M.setup.backlog (world_after W.meaning M).accounts server) result }
         ensures state { (M : History W) → Agrees W.meaning self.old M → Agrees W.meaning self.new M }
-        ensures room { OnOk result (0 < room_of self.new.rooms server) }
+        ensures place { OnOk result (HasPlace self.new server) }
         ensures kept { KeepsRoom self.old.rooms self.new.rooms }
         ensures same { self.new ≡ record self.old { rooms = self.new.rooms } }
     {
@@ -115,6 +115,7 @@ impl<W: Work, A: Allocator> Core<W, A> {
             → IsAccepted (reply_in W.meaning M (Step.Submit server task)) }
         ensures still { lacks_memory result ≡ true → (M : History W) → Agrees W.meaning self.old M → Agrees W.meaning self.new M }
         ensures room { 0 < room_of self.old.rooms server → lacks_memory result ≡ false }
+        ensures succeeds { HasPlace self.old server → IsOk result }
 
         ensures job { IfOk result (λ number. TakesJob task number (held_at self.old.servers server) (held_at self.new.servers server)
             × OthersSame server self.old.servers self.new.servers) }

@@ -1,6 +1,8 @@
-use Rattle.std.proofs.Common.{sym, refl, None, inl, inr}
+use Rattle.std.proofs.Common.{◌<◌, rules, sym, refl, None, inl, inr}
 use Rattle.cbs_core.specs.History.{world_after}
 use Rattle.cbs_core.proofs.Submitting.{not_refused, refusal_same}
+use Rattle.cbs_core.specs.Held.{room_of, no_held}
+use Rattle.cbs_core.proofs.Refusing.{free_unclosed}
 use Rattle.cbs_core.proofs.executor.Core.make_room.Goals as goal
 
 pub returns-in-Some-clause-answer : goal.returns-in-Some-clause-answer
@@ -20,3 +22,15 @@ pub returns-clause-answer : goal.returns-clause-answer
 returns-clause-answer g c = λ M agrees.
     let inside = rw (← c.self.view_is) at agrees.world in
     rw (refusal_same g.W.Work.meaning _ M.setup.backlog (world_after g.W.Work.meaning M) inside c.args.server None c.in_default.ensures) (inl refl)
+
+pub returns-clause-place : goal.returns-clause-place
+returns-clause-place g c =
+    let free = sym c.in_default.ensures in
+    let open_here = not_refused c.self.inside.backlog c.self.inside.servers.held c.args.server free in
+    let room : 0 < room_of c.reserve.new.self.rooms c.args.server = search rules in
+    record {
+      within = rw c.reserve.ensures.held open_here.within;
+      unclosed = rw c.reserve.ensures.held (free_unclosed c.self.inside.backlog c.self.inside.servers.held c.args.server free);
+      few = rw c.reserve.ensures.held (open_here.room no_held);
+      room = room;
+    }

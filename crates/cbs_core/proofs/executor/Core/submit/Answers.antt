@@ -3,6 +3,7 @@ use Rattle.cbs_core.specs.History.{world_after}
 use Rattle.cbs_core.proofs.Paid.{paid_after}
 use Rattle.cbs_core.proofs.Submitting.{not_refused, submit_replied, submit_left, submit_answered, submit_agrees, submit_accepted, IsCore-joined, few_jobs}
 use Rattle.cbs_core.proofs.Doing.{took_job}
+use Rattle.cbs_core.proofs.Refusing.{place_free}
 use Rattle.cbs_core.proofs.executor.Core.submit.Goals as goal
 
 pub returns-in-Some-clause-reply : goal.returns-in-Some-clause-reply
@@ -56,3 +57,9 @@ returns-clause-job g c =
     rw (← c.self.view_is)
     (took_job c.self.inside.servers.held c.accept.new.self.held c.args.server c.self.inside.clock c.accept.result c.args.task
     (not_refused c.self.inside.backlog c.self.inside.servers.held c.args.server (sym c.in_default.ensures)).within (rw c.reserve.ensures.held at c.accept.ensures.number) (rw c.reserve.ensures.held at c.accept.ensures.held))
+
+pub returns-in-Some-clause-succeeds : goal.returns-in-Some-clause-succeeds
+returns-in-Some-clause-succeeds g c = λ place.
+    let refused = c.in-Some.ensures in
+    let free = place_free _ c.args.server (rw (← c.self.view_is) at place) in
+    cc
