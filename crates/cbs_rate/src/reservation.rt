@@ -69,8 +69,8 @@ impl Reservation {
         self.period
     }
 
-    /// Whether this bandwidth, the budget over the period, is at most that of `other`, exactly:
-    /// `Q1 * T2 <= Q2 * T1`.
+    /// Whether this bandwidth, the budget over the period, is at most that of `other`, exactly: this budget
+    /// times the other's period is at most the other's budget times this period.
     pub fn at_most(&self, other: &Reservation) -> bool
         ensures { IsTrue result ↔ (self.now.budget * other.now.period ≤ other.now.budget * self.now.period) }
     {
