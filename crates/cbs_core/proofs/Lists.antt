@@ -1,6 +1,7 @@
 -- Two lists, place by place.
 use Rattle.std.proofs.Common.{◌≡◌, ℕ, zero, suc, ◌<◌, List, [], ◌∷◌, length, map, get_or, refl, ap, arith}
 use Rattle.std.specs.List.{AllZip, AllByRecursion}
+use Rattle.std.proofs.lemmas.List.{length-map}
 use Rattle.cbs_core.specs.Lists.{changed_at}
 
 pub length-changed_at : {X : Type 0} (f : X → X) (xs : List X) (i : ℕ) → length (changed_at f xs i) ≡ length xs
@@ -61,3 +62,6 @@ pub AllByRecursion-changed_at : {X : Type 0} (P : X → Type 0) (f : X → X) (x
 AllByRecursion-changed_at P f [] i d all h = tt
 AllByRecursion-changed_at P f (x ∷ xs) zero d all h = (h all.0, all.1)
 AllByRecursion-changed_at P f (x ∷ xs) (suc i) d all h = (all.0, AllByRecursion-changed_at P f xs i d all.1 h)
+
+-- no change of one element or of all changes how many there are
+pub ruleset counted = (length-changed_at, length-map)

@@ -4,8 +4,9 @@ use Rattle.std.specs.Prelude.{if◌then◌else◌}
 use Rattle.std.specs.Bool.{then_some}
 use Rattle.std.proofs.lemmas.Bool.{cases_Bool}
 use Rattle.std.proofs.lemmas.Bool.Decides.{nat_tests}
-use Rattle.cbs_core.specs.Held.{Held, CoreHeld, HasPlace, held_at}
+use Rattle.cbs_core.specs.Held.{Held, CoreHeld, HasPlace, IsRefusedBy, held_at}
 use Rattle.cbs_core.specs.Holding.{Head, helds, held_refusal, held_refusal_at, held_close_refusal, held_close_refusal_at}
+use Rattle.cbs_core.specs.declared.error.CoreError.{CoreError}
 use Rattle.cbs_core.specs.declared.error.CoreError.TheVariants as error
 use Rattle.cbs_core.proofs.Zipping.{jobs_at, within_heads}
 
@@ -14,6 +15,12 @@ module _ {W : Type 0} where
   close_within [] s e = cc
   close_within (h ∷ hs) zero e = omega arith
   close_within (h ∷ hs) (suc s) e = let r = close_within hs s e in omega arith
+
+  -- a server that is open does not refuse to be closed
+  pub close_free : (hs : List (Held W)) (s : ℕ) → s < length hs → (held_at hs s).closed ≡ false → held_close_refusal hs s ≡ None
+  close_free [] s lt unclosed = absurd (omega arith)
+  close_free (h ∷ hs) zero lt unclosed = rw unclosed refl
+  close_free (h ∷ hs) (suc s) lt unclosed = close_free hs s (omega arith) unclosed
 
   refusal_one : (h : Held W) (backlog : ℕ) → held_close_refusal_at (Some h) ≡ None → held_refusal_at backlog (Some h) ≡ (if leb backlog (length h.jobs) then Some error.BacklogFull else None)
   refusal_one h backlog e = elim (cases_Bool h.closed) [
@@ -67,3 +74,30 @@ module _ {W : Type 0} where
   free_unclosed backlog [] s e = cc
   free_unclosed backlog (h ∷ hs) zero e = free_one backlog h e
   free_unclosed backlog (h ∷ hs) (suc s) e = free_unclosed backlog hs s e
+
+-- a refusal in words of what is held
+module _ {W : Type 0} (backlog clock : ℕ) (rooms : List ℕ) where
+  abbrev core_of : List (Held W) → CoreHeld W
+  core_of hs = record { backlog = backlog; clock = clock; servers = hs; rooms = rooms }
+
+  refused_behind : (h : Held W) (hs : List (Held W)) (s : ℕ) (e : CoreError) → IsRefusedBy (core_of hs) s e → IsRefusedBy (core_of (h ∷ hs)) (suc s) e
+  refused_behind h hs s error.NoSuchServer r = omega arith
+  refused_behind h hs s error.Closed r = let l = r.0 in (omega arith, r.1)
+  refused_behind h hs s error.BacklogFull r = let l = r.0 in (omega arith, r.1, r.2)
+  refused_behind h hs s error.OutOfMemory r = let l = r.0 in (omega arith, r.1, r.2)
+  refused_behind h hs s error.BadBacklog r = r
+  refused_behind h hs s error.ClockEnd r = r
+
+  refused_first : (h : Held W) (hs : List (Held W)) (e : CoreError) → held_refusal_at backlog (Some h) ≡ Some e → IsRefusedBy (core_of (h ∷ hs)) 0 e
+  refused_first h hs e k = elim (cases_Bool h.closed) [
+    | inl t ↦ let n : error.Closed ≡ e = let f : Some error.Closed ≡ Some e = rw t at k in cc in rw (← n) (omega arith, t)
+    | inr o ↦ elim (cases_Bool (leb backlog (length h.jobs))) [
+      | inl t ↦ let n : error.BacklogFull ≡ e = let f : Some error.BacklogFull ≡ Some e = rw (o, t) at k in cc in rw (← n) (omega arith, o, grind (arith, nat_tests))
+      | inr f ↦ let g : None ≡ Some e = rw (o, f) at k in cc
+    ]
+  ]
+
+  pub refused_by : (hs : List (Held W)) (s : ℕ) (e : CoreError) → held_refusal backlog hs s ≡ Some e → IsRefusedBy (core_of hs) s e
+  refused_by [] s e k = let n : error.NoSuchServer ≡ e = cc in rw (← n) (omega arith)
+  refused_by (h ∷ hs) zero e k = refused_first h hs e k
+  refused_by (h ∷ hs) (suc s) e k = refused_behind h hs s e (refused_by hs s e k)

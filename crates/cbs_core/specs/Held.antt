@@ -1,9 +1,11 @@
 -- What a core holds.
-use Rattle.std.specs.Prelude.{◌≡◌, ◌≢◌, ℕ, ◌+◌, ◌<◌, Bool, true, false, List, [], ◌∷◌, ◌++◌, length, map, get_or}
+use Rattle.std.specs.Prelude.{◌≡◌, ◌≢◌, ℕ, ◌+◌, ◌<◌, ◌≤◌, Bool, true, false, List, [], ◌∷◌, ◌++◌, length, map, get_or}
 use Rattle.cbs_job.specs.Work.{Meaning, whole}
 use Rattle.cbs_job.specs.declared.completion.Completion.{Completion}
 use Rattle.cbs_rules.specs.Rules.{State, Terms, fresh_state}
 use Rattle.cbs_rules.specs.declared.mode.Mode.TheVariants.{Soft}
+use Rattle.cbs_core.specs.declared.error.CoreError.{CoreError}
+use Rattle.cbs_core.specs.declared.error.CoreError.TheVariants as error
 use Rattle.cbs_core.specs.declared.reply.Ran.{Ran}
 use Rattle.cbs_core.specs.declared.reply.Ran.TheVariants as ran
 
@@ -46,6 +48,17 @@ pub record HasPlace {W : Type 0} (core : CoreHeld W) (s : ℕ) : Type 0 where
   pub unclosed : (held_at core.servers s).closed ≡ false
   pub few : length (held_at core.servers s).jobs < core.backlog
   pub room : 0 < room_of core.rooms s
+
+-- why the next job of s is refused, in words of what is held. Memory is wanted only where nothing else refuses
+abbrev pub IsRefusedBy : {W : Type 0} → CoreHeld W → ℕ → CoreError → Type 0
+IsRefusedBy core s error.NoSuchServer = length core.servers ≤ s
+IsRefusedBy core s error.Closed = (s < length core.servers) × ((held_at core.servers s).closed ≡ true)
+IsRefusedBy core s error.BacklogFull =
+    (s < length core.servers) × ((held_at core.servers s).closed ≡ false) × (core.backlog ≤ length (held_at core.servers s).jobs)
+IsRefusedBy core s error.OutOfMemory =
+    (s < length core.servers) × ((held_at core.servers s).closed ≡ false) × (length (held_at core.servers s).jobs < core.backlog)
+IsRefusedBy core s error.BadBacklog = ⊥
+IsRefusedBy core s error.ClockEnd = ⊥
 
 -- jobs, counts and close of a server are as before; its budget and deadline may differ
 pub record SameJobs {W : Type 0} (old new : Held W) : Type 0 where

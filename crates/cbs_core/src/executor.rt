@@ -9,7 +9,7 @@ ghost use Rattle.cbs_core.specs.Replies.{submitted, advanced, closed, lacks_memo
 ghost use Rattle.cbs_core.specs.Views.{view_reply};
 ghost use Rattle.cbs_core.specs.Laws.{account_in, completion_in, completions_of, Completes, NoneAfterClose, IsWithinBudget};
 ghost use Rattle.cbs_core.specs.Holding.{CountsOn};
-ghost use Rattle.cbs_core.specs.Held.{room_of, KeepsRoom, HasPlace, held_at, TakesJob, ClosesServer, OthersSame, AllSame, DoesRun};
+ghost use Rattle.cbs_core.specs.Held.{room_of, KeepsRoom, HasPlace, IsRefusedBy, held_at, TakesJob, ClosesServer, OthersSame, AllSame, DoesRun};
 ghost use Rattle.cbs_core.specs.Setups.{terms_of, new_refusal};
 
 use crate::error::CoreError;
@@ -85,6 +85,7 @@ impl<W: Work, A: Allocator> Core<W, A> {
             → RoomAnswers (submit_refusal W.meaning M.setup.backlog (world_after W.meaning M).accounts server) result }
         ensures state { (M : History W) → Agrees W.meaning self.old M → Agrees W.meaning self.new M }
         ensures place { OnOk result (HasPlace self.new server) }
+        ensures refused { IfErr result (IsRefusedBy self.old server) }
         ensures kept { KeepsRoom self.old.rooms self.new.rooms }
         ensures same { self.new ≡ record self.old { rooms = self.new.rooms } }
     {
@@ -103,6 +104,7 @@ impl<W: Work, A: Allocator> Core<W, A> {
     /// was closed; [`CoreError::BacklogFull`] where it has as many unfinished jobs as it may have;
     /// [`CoreError::OutOfMemory`] where an allocation is refused. The job then comes back, and
     /// nothing changed.
+    #[tactic(auto, using(crate::proofs::Lists::counted))]
     pub fn submit(&mut self, server: u16, task: Task<W>) -> Result<u64, SubmitRefused<W>>
         ensures reply { lacks_memory result ≡ false → (M : History W) → Agrees W.meaning self.old M
             → submitted result ≡ reply_in W.meaning M (Step.Submit server task) }
@@ -119,6 +121,7 @@ impl<W: Work, A: Allocator> Core<W, A> {
 
         ensures job { IfOk result (λ number. TakesJob task number (held_at self.old.servers server) (held_at self.new.servers server)
             × OthersSame server self.old.servers self.new.servers) }
+        ensures count { length self.new.servers ≡ length self.old.servers }
         ensures unchanged { OnErr result (self.new ≡ record self.old { rooms = self.new.rooms }) }
         ensures kept { OnErr result (KeepsRoom self.old.rooms self.new.rooms) }
     {
@@ -138,10 +141,12 @@ impl<W: Work, A: Allocator> Core<W, A> {
     ///
     /// Answers [`Ran::Idle`] where no server is ready, and then [`Ran::ClockEnd`] where the clock
     /// stands at [`LIMIT`]; both change nothing.
+    #[tactic(auto, using(crate::proofs::Lists::counted))]
     pub fn run(&mut self) -> Ran
         ensures reply { (M : History W) → Agrees W.meaning self.old M → Reply.Ran result ≡ reply_in W.meaning M Step.Run }
         ensures state { (M : History W) → Agrees W.meaning self.old M → Agrees W.meaning self.new (M ⊕ Step.Run) }
         ensures job { DoesRun W.meaning result self.old self.new }
+        ensures count { length self.new.servers ≡ length self.old.servers }
         ensures kept { KeepsRoom self.old.rooms self.new.rooms }
     {
         let Some(server) = self.servers.choose() else {
@@ -160,10 +165,12 @@ impl<W: Work, A: Allocator> Core<W, A> {
     ///
     /// Refuses by [`CoreError::ClockEnd`] where the clock would pass [`LIMIT`], and then changes
     /// nothing. An advance by 0 is accepted and changes nothing.
+    #[tactic(auto, using(crate::proofs::Lists::counted))]
     pub fn advance(&mut self, n: u64) -> Result<(), CoreError>
         ensures reply { (M : History W) → Agrees W.meaning self.old M → advanced result ≡ reply_in W.meaning M (Step.Advance n) }
         ensures state { (M : History W) → Agrees W.meaning self.old M → Agrees W.meaning self.new (M ⊕ Step.Advance n) }
         ensures jobs { AllSame self.old.servers self.new.servers }
+        ensures count { length self.new.servers ≡ length self.old.servers }
         ensures unchanged { OnErr result (self.new ≡ self.old) }
         ensures kept { KeepsRoom self.old.rooms self.new.rooms }
     {
@@ -181,11 +188,14 @@ impl<W: Work, A: Allocator> Core<W, A> {
     ///
     /// Refuses by [`CoreError::NoSuchServer`], or by [`CoreError::Closed`] where it was closed
     /// before, and then changes nothing.
+    #[tactic(auto, using(crate::proofs::Lists::counted))]
     pub fn close(&mut self, server: u16) -> Result<(), CoreError>
         ensures reply { (M : History W) → Agrees W.meaning self.old M → closed result ≡ reply_in W.meaning M (Step.Close server) }
         ensures state { (M : History W) → Agrees W.meaning self.old M → Agrees W.meaning self.new (M ⊕ Step.Close server) }
         ensures closed { OnOk result (ClosesServer (held_at self.old.servers server) (held_at self.new.servers server)
             × OthersSame server self.old.servers self.new.servers) }
+        ensures count { length self.new.servers ≡ length self.old.servers }
+        ensures succeeds { (server < length self.old.servers) × ((held_at self.old.servers server).closed ≡ false) → IsOk result }
         ensures unchanged { OnErr result (self.new ≡ self.old) }
         ensures kept { KeepsRoom self.old.rooms self.new.rooms }
     {
@@ -198,7 +208,8 @@ impl<W: Work, A: Allocator> Core<W, A> {
 
     /// The clock, in ticks: 0 to [`LIMIT`].
     pub fn now(&self) -> u64
-        ensures { (M : History W) → Agrees W.meaning self.now M → result ≡ (world_after W.meaning M).now }
+        ensures now { (M : History W) → Agrees W.meaning self.now M → result ≡ (world_after W.meaning M).now }
+        ensures most { result ≤ LIMIT }
     {
         self.clock
     }
@@ -211,6 +222,14 @@ impl<W: Work, A: Allocator> Core<W, A> {
             → IsChoice (ranks_of W.meaning (world_after W.meaning M).accounts) (length (world_after W.meaning M).accounts) result }
     {
         self.servers.choose()
+    }
+
+    /// How many servers there are: at most 64, numbered from 0.
+    pub fn servers(&self) -> u16
+        ensures value { result ≡ length self.now.servers }
+        ensures few { result ≤ 64 }
+    {
+        self.servers.len()
     }
 
     /// For how many ticks nobody will be ready: `None` if somebody is now, and else the greatest number

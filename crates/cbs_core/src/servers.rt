@@ -57,7 +57,7 @@ impl<W: Work, A: Allocator + Clone> Servers<W, A> {
 
 impl<W: Work, A: Allocator> Servers<W, A> {
     /// How many servers there are.
-    fn len(&self) -> u16
+    pub fn len(&self) -> u16
         ensures value { result ≡ length self.now.held }
         ensures few { result ≤ 64 }
     {

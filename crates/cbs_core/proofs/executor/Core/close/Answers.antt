@@ -1,6 +1,6 @@
 use Rattle.std.proofs.Common.{sym, refl, None}
 use Rattle.cbs_core.specs.History.{world_after}
-use Rattle.cbs_core.proofs.Refusing.{close_within}
+use Rattle.cbs_core.proofs.Refusing.{close_within, close_free}
 use Rattle.cbs_core.proofs.Closing.{close_replied, close_left, close_agrees, IsCore-shut}
 use Rattle.cbs_core.proofs.Doing.{closed_server}
 use Rattle.cbs_core.proofs.executor.Core.close.Goals as goal
@@ -38,3 +38,10 @@ pub returns-clause-closed : goal.returns-clause-closed
 returns-clause-closed g c =
     rw (← c.self.view_is)
     (closed_server c.self.inside.servers.held c.close.new.self.held c.args.server (close_within c.self.inside.servers.held c.args.server (sym c.in_default.ensures)) c.close.ensures.held)
+
+pub returns-in-Some-clause-succeeds : goal.returns-in-Some-clause-succeeds
+returns-in-Some-clause-succeeds g c = λ free.
+    let refused = c.in-Some.ensures in
+    let open_here = rw (← c.self.view_is) at free in
+    let none = close_free c.self.inside.servers.held c.args.server open_here.0 open_here.1 in
+    cc

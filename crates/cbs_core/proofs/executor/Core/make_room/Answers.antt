@@ -2,7 +2,7 @@ use Rattle.std.proofs.Common.{◌<◌, rules, sym, refl, None, inl, inr}
 use Rattle.cbs_core.specs.History.{world_after}
 use Rattle.cbs_core.proofs.Submitting.{not_refused, refusal_same}
 use Rattle.cbs_core.specs.Held.{room_of, no_held}
-use Rattle.cbs_core.proofs.Refusing.{free_unclosed}
+use Rattle.cbs_core.proofs.Refusing.{free_unclosed, refused_by}
 use Rattle.cbs_core.proofs.executor.Core.make_room.Goals as goal
 
 pub returns-in-Some-clause-answer : goal.returns-in-Some-clause-answer
@@ -34,3 +34,12 @@ returns-clause-place g c =
       few = rw c.reserve.ensures.held (open_here.room no_held);
       room = room;
     }
+
+pub returns-in-Some-clause-refused : goal.returns-in-Some-clause-refused
+returns-in-Some-clause-refused g c = rw (← c.self.view_is) (refused_by c.self.inside.backlog c.self.inside.clock c.self.inside.servers.rooms c.self.inside.servers.held c.args.server c.in-Some.error (sym c.in-Some.ensures))
+
+pub returns-then-is_err-clause-refused : goal.returns-then-is_err-clause-refused
+returns-then-is_err-clause-refused g c =
+    let free = sym c.in_default.ensures in
+    let open_here = not_refused c.self.inside.backlog c.self.inside.servers.held c.args.server free in
+    rw (← c.self.view_is) (open_here.within, free_unclosed c.self.inside.backlog c.self.inside.servers.held c.args.server free, open_here.room no_held)
