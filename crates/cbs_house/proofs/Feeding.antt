@@ -1,0 +1,155 @@
+-- What is kept of feeds, one call after another.
+use Rattle.std.proofs.Common.{◌≡◌, ℕ, zero, suc, ◌<◌, ◌≤◌, ◌++◌, List, [], ◌∷◌, length, get_or, map, refl, ap, ap₂, sym, ◌∙◌, subst, arith}
+use Rattle.std.proofs.Math.ListN.{set}
+use Rattle.std.proofs.lemmas.Bool.{false≢true}
+use Rattle.std.proofs.lemmas.List.{append-nil, length-map}
+use Rattle.std.proofs.lemmas.List.Elements.{All-nil, All-cons, All-head, All-tail, All-weaker}
+use Rattle.std.specs.List.{All}
+use Rattle.cbs_job.specs.declared.work.Work.{Ghosts}
+use Rattle.cbs_house.specs.declared.client.Client.{Client}
+use Rattle.cbs_house.specs.declared.feed.Feed.{Feed}
+use Rattle.cbs_house.specs.declared.house.House.{House}
+use Rattle.cbs_house.specs.Clients.{server_of, sent_by, SameClient}
+use Rattle.cbs_house.specs.Houses.{rings_of}
+use Rattle.cbs_house.specs.Messages.{jobs_among, has_end}
+use Rattle.cbs_house.specs.Opened.{IsUnused}
+use Rattle.cbs_house.specs.Ringed.{IsOpened}
+use Rattle.cbs_house.specs.Rings.{Ring}
+use Rattle.cbs_house.specs.Rounds.{Ready}
+use Rattle.cbs_house.specs.Feeds.{client_of, left, all_jobs, IsOrderly, KeepsFeed, KeepsFeeds}
+use Rattle.cbs_house.proofs.Looking.{prefix_along, prefix_same}
+
+module _ {W A : Type 0} {g : Ghosts W} where
+  pub keeps_feed : (f : Feed W A g) → KeepsFeed f f
+  keeps_feed f = record { client = (refl, refl); jobs = refl; sent = ([], append-nil (sent_by f.client)); orderly = λ o. o }
+
+  pub keeps_feed_on : (a b c : Feed W A g) → KeepsFeed a b → KeepsFeed b c → KeepsFeed a c
+  keeps_feed_on a b c p q = record {
+    client = (q.client.0 ∙ p.client.0, q.client.1 ∙ p.client.1);
+    jobs = q.jobs ∙ p.jobs;
+    sent = prefix_along (sent_by a.client) (sent_by b.client) (sent_by c.client) p.sent q.sent;
+    orderly = λ o. q.orderly (p.orderly o);
+  }
+
+  -- a look by the client keeps its feed
+  pub keeps_looked : (a b : Feed W A g) → SameClient a.client b.client → sent_by b.client ≡ sent_by a.client → left b ≡ left a → KeepsFeed a b
+  keeps_looked a b c e l = record {
+    client = c;
+    jobs = ap (λ ms. jobs_among ms ++ left b) e ∙ ap (λ ws. jobs_among (sent_by a.client) ++ ws) l;
+    sent = prefix_same (sent_by a.client) (sent_by b.client) e;
+    orderly = λ o t. l ∙ o (ap has_end (sym e) ∙ t);
+  }
+
+  pub feeds_same : (fs : List (Feed W A g)) → KeepsFeeds fs fs
+  unfolding KeepsFeeds
+  feeds_same [] = tt
+  feeds_same (f ∷ fs) = (keeps_feed f, feeds_same fs)
+
+  pub feeds_on : (a b c : List (Feed W A g)) → KeepsFeeds a b → KeepsFeeds b c → KeepsFeeds a c
+  unfolding KeepsFeeds
+  feeds_on [] [] c p q = q
+  feeds_on [] (y ∷ b) c p q = absurd p
+  feeds_on (x ∷ a) [] c p q = absurd p
+  feeds_on (x ∷ a) (y ∷ b) [] p q = absurd q
+  feeds_on (x ∷ a) (y ∷ b) (z ∷ c) p q = (keeps_feed_on x y z p.0 q.0, feeds_on a b c p.1 q.1)
+
+  pub feeds_one : (a b : Feed W A g) → KeepsFeed a b → KeepsFeeds (a ∷ []) (b ∷ [])
+  unfolding KeepsFeeds
+  feeds_one a b p = (p, tt)
+
+  pub feeds_both : (a b c d : List (Feed W A g)) → KeepsFeeds a b → KeepsFeeds c d → KeepsFeeds (a ++ c) (b ++ d)
+  unfolding KeepsFeeds
+  feeds_both [] [] c d p q = q
+  feeds_both [] (y ∷ b) c d p q = absurd p
+  feeds_both (x ∷ a) [] c d p q = absurd p
+  feeds_both (x ∷ a) (y ∷ b) c d p q = (p.0, feeds_both a b c d p.1 q)
+
+  -- one of the feeds is changed, and kept
+  pub feeds_set : (fs : List (Feed W A g)) (i : ℕ) (f d : Feed W A g) → i < length fs → KeepsFeed (get_or fs i d) f → KeepsFeeds fs (set fs i f)
+  unfolding KeepsFeeds
+  feeds_set [] i f d l p = absurd (omega arith)
+  feeds_set (x ∷ fs) zero f d l p = (p, feeds_same fs)
+  feeds_set (x ∷ fs) (suc i) f d l p = (keeps_feed x, feeds_set fs i f d (omega arith) p)
+
+  pub feeds_count : (a b : List (Feed W A g)) → KeepsFeeds a b → length b ≡ length a
+  unfolding KeepsFeeds
+  feeds_count [] [] p = refl
+  feeds_count [] (y ∷ b) p = absurd p
+  feeds_count (x ∷ a) [] p = absurd p
+  feeds_count (x ∷ a) (y ∷ b) p = ap suc (feeds_count a b p.1)
+
+  pub feeds_orderly : (a b : List (Feed W A g)) → KeepsFeeds a b → All IsOrderly a → All IsOrderly b
+  unfolding KeepsFeeds
+  feeds_orderly [] [] p o = o
+  feeds_orderly [] (y ∷ b) p o = absurd p
+  feeds_orderly (x ∷ a) [] p o = absurd p
+  feeds_orderly (x ∷ a) (y ∷ b) p o = All-cons IsOrderly y b (p.0.orderly (All-head IsOrderly x a o)) (feeds_orderly a b p.1 (All-tail IsOrderly x a o))
+
+  -- feeds that are kept have the same servers, and the same jobs
+  pub feeds_servers : (a b : List (Feed W A g)) → KeepsFeeds a b → map (λ f. server_of (client_of f)) b ≡ map (λ f. server_of (client_of f)) a
+  unfolding KeepsFeeds
+  feeds_servers [] [] p = refl
+  feeds_servers [] (y ∷ b) p = absurd p
+  feeds_servers (x ∷ a) [] p = absurd p
+  feeds_servers (x ∷ a) (y ∷ b) p = ap₂ ◌∷◌ p.0.client.0 (feeds_servers a b p.1)
+
+  pub feeds_jobs : (a b : List (Feed W A g)) → KeepsFeeds a b → map all_jobs b ≡ map all_jobs a
+  unfolding KeepsFeeds
+  feeds_jobs [] [] p = refl
+  feeds_jobs [] (y ∷ b) p = absurd p
+  feeds_jobs (x ∷ a) [] p = absurd p
+  feeds_jobs (x ∷ a) (y ∷ b) p = ap₂ ◌∷◌ p.0.jobs (feeds_jobs a b p.1)
+
+  opened_same : (rings rings' : List (Ring A)) (a b : Feed W A g) → rings' ≡ rings → KeepsFeed a b → IsOpened rings a.client → IsOpened rings' b.client
+  opened_same rings rings' a b e p o = rw (e, p.client.0, p.client.1) o
+
+  pub feeds_opened : (rings rings' : List (Ring A)) (a b : List (Feed W A g)) → rings' ≡ rings → KeepsFeeds a b → All (λ f. IsOpened rings f.client) a → All (λ f. IsOpened rings' f.client) b
+  unfolding KeepsFeeds
+  feeds_opened rings rings' [] [] e p o = All-nil (λ f. IsOpened rings' f.client)
+  feeds_opened rings rings' [] (y ∷ b) e p o = absurd p
+  feeds_opened rings rings' (x ∷ a) [] e p o = absurd p
+  feeds_opened rings rings' (x ∷ a) (y ∷ b) e p o =
+      All-cons (λ f. IsOpened rings' f.client) y b (opened_same rings rings' x y e p.0 (All-head (λ f. IsOpened rings f.client) x a o)) (feeds_opened rings rings' a b e p.1 (All-tail (λ f. IsOpened rings f.client) x a o))
+
+  -- feeds that are kept stay ready, as long as the rings are the same
+  pub ready_on : (h h' : House W A g) (a b : List (Feed W A g)) → rings_of h' ≡ rings_of h → KeepsFeeds a b → Ready h a → Ready h' b
+  ready_on h h' a b e p r = record {
+    few = omega (arith, r.few, feeds_count a b p);
+    orderly = feeds_orderly a b p r.orderly;
+    opened = feeds_opened (rings_of h) (rings_of h') a b e p r.opened;
+  }
+
+module _ {W A : Type 0} {g : Ghosts W} where
+  -- a client of ready feeds was opened with the house
+  pub ready_at : (h : House W A g) (fs : List (Feed W A g)) (i : ℕ) (d : Feed W A g) → Ready h fs → i < length fs → IsOpened (rings_of h) (get_or fs i d).client
+  ready_at h fs i d r l = r.opened i d l
+
+  -- one feed is changed and kept, and the house keeps its rings
+  pub ready_set : (h h' : House W A g) (fs : List (Feed W A g)) (i : ℕ) (f d : Feed W A g) → rings_of h' ≡ rings_of h → i < length fs → KeepsFeed (get_or fs i d) f → Ready h fs → Ready h' (set fs i f)
+  ready_set h h' fs i f d e l k r = ready_on h h' fs (set fs i f) e (feeds_set fs i f d l k) r
+
+module _ {X Y : Type 0} where
+  all_of_map : (P : Y → Type 0) (f : X → Y) (xs : List X) → All P (map f xs) → All (λ x. P (f x)) xs
+  all_of_map P f [] h = All-nil (λ x. P (f x))
+  all_of_map P f (x ∷ xs) h = All-cons (λ y. P (f y)) x xs (All-head P (f x) (map f xs) h) (all_of_map P f xs (All-tail P (f x) (map f xs) h))
+
+module _ {W A : Type 0} {g : Ghosts W} where
+  unused_orderly : (ring : ℕ) (f : Feed W A g) → IsUnused ring (client_of f) → IsOrderly f
+  unused_orderly ring f u = λ e. absurd (false≢true (sym (ap has_end u.sent) ∙ e))
+
+  pub unused_jobs : (ring : ℕ) (f : Feed W A g) → IsUnused ring (client_of f) → all_jobs f ≡ left f
+  unused_jobs ring f u = ap (λ ms. jobs_among ms ++ left f) u.sent
+
+  module _ (ring : ℕ) (fs : List (Feed W A g)) (cs : List (Client W A g)) (clients : map client_of fs ≡ cs) (unused : All (IsUnused ring) cs) where
+    pub feeds_unused : All (λ f. IsUnused ring (client_of f)) fs
+    feeds_unused = all_of_map (IsUnused ring) client_of fs (subst (λ xs. All (IsUnused ring) xs) (sym clients) unused)
+
+    -- feeds of new clients may be served
+    pub ready_new : (h : House W A g) → length cs ≤ 64 → All (IsOpened (rings_of h)) cs → Ready h fs
+    ready_new h few opened = record {
+      few = omega (arith, few, ap length clients, length-map fs (client_of {W = W}));
+      orderly = All-weaker (λ f. IsUnused ring (client_of f)) IsOrderly (unused_orderly ring) fs feeds_unused;
+      opened = all_of_map (IsOpened (rings_of h)) client_of fs (subst (λ xs. All (IsOpened (rings_of h)) xs) (sym clients) opened);
+    }
+
+pub ruleset fed = (keeps_looked, keeps_feed, keeps_feed_on, feeds_same, feeds_on, feeds_one, feeds_both, feeds_count, feeds_orderly)

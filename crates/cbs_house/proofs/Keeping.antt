@@ -1,0 +1,159 @@
+-- How each change of its parts keeps what is true of a house.
+use Rattle.std.proofs.Common.{◌≡◌, ◌≢◌, ℕ, zero, suc, ◌<◌, ◌+◌, false, List, [], ◌∷◌, ◌++◌, length, map, refl, ap, sym, ◌∙◌, arith, inl, inr, length-append}
+use Rattle.std.proofs.lemmas.List.{append_assoc, map-append, length-map, get_or_past}
+use Rattle.std.specs.List.{All}
+use Rattle.std.proofs.lemmas.Bool.{cases_eq, cases_lt}
+use Rattle.cbs_job.specs.Work.{Meaning, whole}
+use Rattle.cbs_job.specs.declared.completion.Completion.{Completion}
+use Rattle.cbs_core.specs.Held.{Held, CoreHeld, held_at, no_held, SameJobs, TakesJob, RunsJob, FinishesJob, ClosesServer, DoesRun}
+use Rattle.cbs_core.specs.declared.reply.Ran.{Ran}
+use Rattle.cbs_core.specs.declared.reply.Ran.TheVariants as ran
+use Rattle.cbs_house.specs.declared.message.Message.{Message}
+use Rattle.cbs_house.specs.declared.message.Message.TheVariants.{Job, End}
+use Rattle.cbs_house.specs.declared.rings.Rings.{Rings}
+use Rattle.cbs_house.specs.Collected.{Shelved, shelf_at, no_shelf, SameShelf, IsComplete, IsNext}
+use Rattle.cbs_house.specs.Housed.{KeepsServer, Housed}
+use Rattle.cbs_house.specs.Messages.{jobs_among}
+use Rattle.cbs_house.specs.Ringed.{rings_in, popped}
+use Rattle.cbs_house.specs.Steps.{HasHistory}
+use Rattle.cbs_house.proofs.Messages.{jobs_among-job, jobs_among-end, has_end-job, has_end-end, end_is_last-more}
+
+module _ {W : Type 0} (work : Meaning W) (h h' : Held W) (ms ms' : List (Message W)) (rs rs' : List ℕ) (k : KeepsServer work h ms rs) where
+  pub keeps_same : SameJobs h h' → ms' ≡ ms → rs' ≡ rs → KeepsServer work h' ms' rs'
+  keeps_same s e f = rw (e, f) (record {
+    outputs = rw s.jobs k.outputs;
+    accepted = s.accepted ∙ k.accepted;
+    finished = s.finished ∙ k.finished;
+    closed = s.closed ∙ k.closed;
+    last = k.last;
+  })
+
+  pub keeps_job : (job : W) (q : ℕ) → TakesJob job q h h' → h.closed ≡ false → ms' ≡ ms ++ Job job ∷ [] → rs' ≡ rs → KeepsServer work h' ms' rs'
+  keeps_job job q t unclosed e f = rw (e, f) (record {
+    outputs = rw (t.jobs, jobs_among-job ms job, map-append (whole work) h.jobs (job ∷ []), map-append (whole work) (jobs_among ms) (job ∷ []), ← append_assoc rs (map (whole work) h.jobs) (whole work job ∷ []), k.outputs) refl;
+    accepted = let a = t.accepted in let b = k.accepted in rw (jobs_among-job ms job) (omega (arith, length-append (jobs_among ms) (job ∷ [])));
+    finished = t.finished ∙ k.finished;
+    closed = t.closed ∙ (k.closed ∙ sym (has_end-job ms job));
+    last = end_is_last-more ms (Job job) (sym k.closed ∙ unclosed);
+  })
+
+  pub keeps_end : ClosesServer h h' → h.closed ≡ false → ms' ≡ ms ++ End ∷ [] → rs' ≡ rs → KeepsServer work h' ms' rs'
+  keeps_end t unclosed e f = rw (e, f) (record {
+    outputs = rw (t.jobs, jobs_among-end ms) k.outputs;
+    accepted = rw (jobs_among-end ms) (t.accepted ∙ k.accepted);
+    finished = t.finished ∙ k.finished;
+    closed = t.closed ∙ sym (has_end-end ms);
+    last = end_is_last-more ms End (sym k.closed ∙ unclosed);
+  })
+
+  pub keeps_unit : (q : ℕ) → RunsJob work q h h' → ms' ≡ ms → rs' ≡ rs → KeepsServer work h' ms' rs'
+  keeps_unit q t e f = rw (e, f) (record {
+    outputs = rw t.results k.outputs;
+    accepted = t.accepted ∙ k.accepted;
+    finished = t.finished ∙ k.finished;
+    closed = t.closed ∙ k.closed;
+    last = k.last;
+  })
+
+  pub keeps_done : (c : Completion) → FinishesJob work c h h' → ms' ≡ ms → rs' ≡ rs ++ c.result ∷ [] → KeepsServer work h' ms' rs'
+  keeps_done c t e f = rw (e, f) (record {
+    outputs = append_assoc rs (c.result ∷ []) (map (whole work) h'.jobs) ∙ rw (← t.results) k.outputs;
+    accepted = t.accepted ∙ k.accepted;
+    finished = let a = t.finished in let b = k.finished in omega (arith, length-append rs (c.result ∷ []));
+    closed = t.closed ∙ k.closed;
+    last = k.last;
+  })
+
+  -- the jobs held and the results are as many as the jobs received
+  pub counts : length rs + length h.jobs ≡ length (jobs_among ms)
+  counts = let e = ap length k.outputs in omega (arith, length-append rs (map (whole work) h.jobs), length-map h.jobs (whole work), length-map (jobs_among ms) (whole work), e)
+
+-- a server that holds a job is there
+within_held : {W : Type 0} (work : Meaning W) (hs : List (Held W)) (s r : ℕ) (rs : List ℕ) → map (whole work) (held_at hs s).jobs ≡ r ∷ rs → s < length hs
+within_held work [] s r rs e = cc
+within_held work (h ∷ hs) zero r rs e = omega arith
+within_held work (h ∷ hs) (suc s) r rs e = let l = within_held work hs s r rs e in omega arith
+
+module _ {W A : Type 0} (work : Meaning W) (core core' : CoreHeld W) (rings rings' : Rings W A) (shelves shelves' : List Shelved) (h : Housed work core rings shelves) where
+  -- one server is changed, and the others are as before
+  pub housed_one :
+      (t : ℕ) → rings_in rings' ≡ rings_in rings → length shelves' ≡ length shelves → length core'.servers ≡ length core.servers → HasHistory work core'
+      → (t < length core.servers → KeepsServer work (held_at core'.servers t) (popped rings' t) (shelf_at shelves' t).results)
+      → (t < length core.servers → (shelf_at shelves' t).announced ≡ (held_at core'.servers t).accepted)
+      → ((s : ℕ) → s ≢ t → SameJobs (held_at core.servers s) (held_at core'.servers s))
+      → ((s : ℕ) → s ≢ t → popped rings' s ≡ popped rings s)
+      → ((s : ℕ) → s ≢ t → SameShelf (shelf_at shelves s) (shelf_at shelves' s))
+      → Housed work core' rings' shelves'
+  housed_one t r n c history here told cores messages results = record {
+    ring_count = ap length r ∙ (h.ring_count ∙ sym c);
+    shelf_count = n ∙ (h.shelf_count ∙ sym c);
+    servers = λ s l. elim (cases_eq s t) [
+      | inl e ↦ rw e (here (omega (arith, e, c, l)))
+      | inr ne ↦ keeps_same work (held_at core.servers s) (held_at core'.servers s) (popped rings s) (popped rings' s) (shelf_at shelves s).results (shelf_at shelves' s).results
+          (h.servers s (omega (arith, c, l))) (cores s ne) (messages s ne) (results s ne).results
+    ];
+    announced = λ s l. elim (cases_eq s t) [
+      | inl e ↦ rw e (told (omega (arith, e, c, l)))
+      | inr ne ↦ (results s ne).announced ∙ (h.announced s (omega (arith, c, l)) ∙ sym (cores s ne).accepted)
+    ];
+    history = history;
+  }
+
+  -- all servers are as before
+  pub housed_all :
+      rings_in rings' ≡ rings_in rings → length shelves' ≡ length shelves → length core'.servers ≡ length core.servers → HasHistory work core'
+      → ((s : ℕ) → SameJobs (held_at core.servers s) (held_at core'.servers s))
+      → ((s : ℕ) → popped rings' s ≡ popped rings s)
+      → ((s : ℕ) → SameShelf (shelf_at shelves s) (shelf_at shelves' s))
+      → Housed work core' rings' shelves'
+  housed_all r n c history cores messages results = record {
+    ring_count = ap length r ∙ (h.ring_count ∙ sym c);
+    shelf_count = n ∙ (h.shelf_count ∙ sym c);
+    servers = λ s l. keeps_same work (held_at core.servers s) (held_at core'.servers s) (popped rings s) (popped rings' s) (shelf_at shelves s).results (shelf_at shelves' s).results
+        (h.servers s (omega (arith, c, l))) (cores s) (messages s) (results s).results;
+    announced = λ s l. (results s).announced ∙ (h.announced s (omega (arith, c, l)) ∙ sym (cores s).accepted);
+    history = history;
+  }
+
+  -- a run that finished no job
+  pub housed_ran : (r : Ran) → ((c : Completion) → r ≡ ran.Done c → ⊥) → DoesRun work r core core' → length core'.servers ≡ length core.servers → HasHistory work core'
+      → rings_in rings' ≡ rings_in rings → ((s : ℕ) → popped rings' s ≡ popped rings s) → shelves' ≡ shelves → Housed work core' rings' shelves'
+  housed_ran ran.Idle n d c history r m e = housed_all r (ap length e) c history (λ s. rw d (record { jobs = refl; accepted = refl; finished = refl; closed = refl })) m (λ s. rw e (record { results = refl; announced = refl }))
+  housed_ran ran.ClockEnd n d c history r m e = housed_all r (ap length e) c history (λ s. rw d (record { jobs = refl; accepted = refl; finished = refl; closed = refl })) m (λ s. rw e (record { results = refl; announced = refl }))
+  housed_ran (ran.Unit t q) n d c history r m e =
+      housed_one t r (ap length e) c history
+      (λ l. keeps_unit work (held_at core.servers t) (held_at core'.servers t) (popped rings t) (popped rings' t) (shelf_at shelves t).results (shelf_at shelves' t).results (h.servers t l) q d.0 (m t) (rw e refl))
+      (λ l. rw e (h.announced t l ∙ sym d.0.accepted))
+      d.1 (λ s ne. m s) (λ s ne. rw e (record { results = refl; announced = refl }))
+  housed_ran (ran.Done x) n d c history r m e = absurd (n x refl)
+
+  -- a finished job is the next one whose result is awaited
+  pub finished_next : (x : Completion) → FinishesJob work x (held_at core.servers x.server) (held_at core'.servers x.server) → IsNext shelves x
+  finished_next x f =
+      let s = x.server in
+      let l = within_held work core.servers s x.result (map (whole work) (held_at core'.servers s).jobs) f.results in
+      let k = h.servers s l in
+      let all = counts work (held_at core.servers s) (held_at core'.servers s) (popped rings s) (popped rings s) (shelf_at shelves s).results (shelf_at shelves s).results k in
+      let some : length (held_at core.servers s).jobs ≡ length (held_at core'.servers s).jobs + 1 =
+      let e = ap length f.results in omega (arith, e, length-map (held_at core.servers s).jobs (whole work), length-map (held_at core'.servers s).jobs (whole work)) in
+      record {
+        known = omega (arith, h.shelf_count, l);
+        number = f.number ∙ k.finished;
+        announced = let a = k.finished in let b = k.accepted in let n = f.number in omega (arith, h.announced s l, all, some);
+      }
+
+no_jobs : {W : Type 0} (n m : ℕ) (ws : List W) → n + length ws ≡ m → m ≡ n → ws ≡ []
+no_jobs n m [] e k = refl
+no_jobs n m (w ∷ ws) e k = absurd (omega (arith, e, k))
+
+-- where every completion that was announced was taken, no job is held
+pub held_none : {W A : Type 0} (work : Meaning W) (core : CoreHeld W) (rings : Rings W A) (shelves : List Shelved) → Housed work core rings shelves → All IsComplete shelves → (s : ℕ) → (held_at core.servers s).jobs ≡ []
+held_none work core rings shelves h complete s = elim (cases_lt s (length core.servers)) [
+  | inl l ↦
+      let k = h.servers s l in
+      let shelf = shelf_at shelves s in
+      let all = counts work (held_at core.servers s) (held_at core.servers s) (popped rings s) (popped rings s) shelf.results shelf.results k in
+      let done = complete s no_shelf (omega (arith, h.shelf_count, l)) in
+      no_jobs (length shelf.results) (length (jobs_among (popped rings s))) (held_at core.servers s).jobs all (sym k.accepted ∙ (sym (h.announced s l) ∙ done))
+  | inr ge ↦ ap (λ x. x.jobs) (get_or_past core.servers s no_held ge)
+]

@@ -1,0 +1,11 @@
+pub mod Messages
+pub mod Places
+pub mod Looking
+pub mod Stepping
+pub mod Keeping
+pub mod Making
+pub mod Draining
+pub mod Moving
+pub mod Feeding
+pub mod Served
+pub mod Newness

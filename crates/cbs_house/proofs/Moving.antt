@@ -1,0 +1,144 @@
+-- Moves of a house, one after another.
+use Rattle.std.proofs.Common.{◌≡◌, ℕ, ◌+◌, ◌<◌, List, [], ◌∷◌, ◌++◌, length, get_or, refl, ◌∙◌, ap₂, arith}
+use Rattle.std.proofs.Math.ListN.{set}
+use Rattle.std.specs.List.{AllWithin}
+use Rattle.std.proofs.lemmas.List.Elements.{AllWithin-more_set}
+use Rattle.std.proofs.lemmas.List.{append-nil}
+use Rattle.cbs_job.specs.Work.{Meaning}
+use Rattle.cbs_job.specs.declared.work.Work.{Ghosts}
+use Rattle.cbs_core.specs.Agreement.{Agrees}
+use Rattle.cbs_core.specs.History.{History}
+use Rattle.cbs_core.specs.declared.step.Step.{Step}
+use Rattle.cbs_core.specs.declared.step.Step.TheVariants.{Submit, Run, Advance, Close}
+use Rattle.cbs_house.specs.Clients.{server_of}
+use Rattle.cbs_house.specs.declared.feed.Feed.{Feed}
+use Rattle.cbs_house.specs.declared.house.House.{House}
+use Rattle.cbs_house.specs.declared.poll.Poll.{Poll}
+use Rattle.cbs_house.specs.declared.poll.Poll.TheVariants.{Nothing, Took, Closed, Full, OutOfMemory, NoSuchServer}
+use Rattle.cbs_house.specs.Houses.{core_of, rings_of, received, known, Made, Moves, LooksOnly, Polled}
+use Rattle.cbs_house.specs.Rounds.{popped_by, ServesOn, IsSettled}
+use Rattle.cbs_house.specs.Steps.{messages_of, pops_of, pops, MayRound, MayDrain, MayServe}
+use Rattle.cbs_house.proofs.Making.{made_both, made_nothing, made_look}
+use Rattle.cbs_house.proofs.Looking.{prefix_along}
+use Rattle.cbs_house.proofs.Stepping.{pops-append, allowed_both, allowed_weaker}
+
+none_taken : {W : Type 0} (s : ℕ) (xs : List (Step W)) → pops xs ≡ 0 → messages_of s xs ≡ []
+none_taken s [] e = refl
+none_taken s (Submit t job ∷ xs) e = absurd (omega (arith, e))
+none_taken s (Run ∷ xs) e = none_taken s xs (omega (arith, e))
+none_taken s (Advance n ∷ xs) e = none_taken s xs (omega (arith, e))
+none_taken s (Close t ∷ xs) e = absurd (omega (arith, e))
+
+module _ {W A : Type 0} {g : Ghosts W} (work : Meaning W) (P : History W → Step W → Type 0) where
+  pub moves_nothing : (a : House W A g) → Moves work P a a 0
+  moves_nothing a = record { some = ([], made_nothing work a, λ M agrees. tt, refl) }
+
+  pub moves_both : (a b c : House W A g) (m n : ℕ) → Moves work P a b m → Moves work P b c n → Moves work P a c (m + n)
+  moves_both a b c m n p q =
+      let x = p.some in
+      let y = q.some in
+      record {
+        some = (
+          x.0 ++ y.0,
+          made_both work a b c x.0 y.0 x.1 y.1,
+          allowed_both work P (core_of a) (core_of b) x.0 y.0 x.1.steps x.2 y.2,
+          pops-append x.0 y.0 ∙ ap₂ ◌+◌ x.3 y.3,
+        );
+      }
+
+  pub moves_step : (a b : House W A g) (x : Step W) → Made work a b (x ∷ []) → ((M : History W) → Agrees work (core_of a) M → P M x) → Moves work P a b (pops_of x)
+  moves_step a b x m p = record { some = (x ∷ [], m, λ M agrees. (p M agrees, tt), omega arith) }
+
+  -- what takes no message receives none
+  pub moves_none : (a b : House W A g) → Moves work P a b 0 → (s : ℕ) → received b s ≡ received a s
+  moves_none a b m s = let x = m.some in x.1.received s ∙ rw (none_taken s x.0 x.3) (append-nil (received a s))
+
+  pub moves_at : (a b : House W A g) (m n : ℕ) → Moves work P a b m → m ≡ n → Moves work P a b n
+  moves_at a b m n p e = rw e at p
+
+module _ {W A : Type 0} {g : Ghosts W} (work : Meaning W) (P Q : History W → Step W → Type 0) where
+  pub moves_weaker : (a b : House W A g) (n : ℕ) → ((N : History W) (x : Step W) → P N x → Q N x) → Moves work P a b n → Moves work Q a b n
+  moves_weaker a b n w p = let x = p.some in record { some = (x.0, x.1, allowed_weaker work P Q (core_of a) x.0 w x.2, x.3) }
+
+module _ {W A : Type 0} {g : Ghosts W} (work : Meaning W) (P : History W → Step W → Type 0) where
+  -- what makes no step
+  pub moves_made : (a b : House W A g) → Made work a b [] → Moves work P a b 0
+  moves_made a b m = record { some = ([], m, λ M agrees. tt, refl) }
+
+  pub moves_rings : (a b : House W A g) (n : ℕ) → Moves work P a b n → rings_of b ≡ rings_of a
+  moves_rings a b n m = m.some.1.rings
+
+module _ {W : Type 0} (work : Meaning W) where
+  round_serves : (N : History W) (x : Step W) → MayRound N x → MayServe work N x
+  round_serves N (Submit t job) p = tt
+  round_serves N Run p = tt
+  round_serves N (Advance n) p = absurd p
+  round_serves N (Close t) p = tt
+
+  drain_serves : (N : History W) (x : Step W) → MayDrain work N x → MayServe work N x
+  drain_serves N (Submit t job) p = tt
+  drain_serves N Run p = tt
+  drain_serves N (Advance n) p = p
+  drain_serves N (Close t) p = tt
+
+module _ {W A : Type 0} {g : Ghosts W} (work : Meaning W) where
+  -- a poll in a round
+  pub polled_moves : (a b : House W A g) (s : ℕ) (p : Poll) → Polled work a s p b → Moves work MayRound a b (popped_by p)
+  polled_moves a b s Nothing k = moves_made work MayRound a b k.0
+  polled_moves a b s Full k = moves_made work MayRound a b k.0
+  polled_moves a b s OutOfMemory k = moves_made work MayRound a b k.0
+  polled_moves a b s NoSuchServer k = moves_made work MayRound a b k.0
+  polled_moves a b s (Took q) k = moves_step work MayRound a b (Submit s k.0) k.1 (λ M agrees. tt)
+  polled_moves a b s Closed k = moves_step work MayRound a b (Close s) k.0 (λ M agrees. tt)
+
+  -- a run in a round
+  pub ran_moves : (a b : House W A g) → Made work a b (Run ∷ []) → Moves work MayRound a b 0
+  ran_moves a b m = moves_step work MayRound a b Run m (λ M agrees. tt)
+
+  -- steps of serving, one list after another
+  pub serves_none : (a : House W A g) → ServesOn work a a
+  serves_none a = record { moves = (0, moves_nothing work (MayServe work) a) }
+
+  pub serves_then : (a b c : House W A g) → ServesOn work a b → ServesOn work b c → ServesOn work a c
+  serves_then a b c p q = record { moves = (p.moves.0 + q.moves.0, moves_both work (MayServe work) a b c p.moves.0 q.moves.0 p.moves.1 q.moves.1) }
+
+  pub serves_round : (a b : House W A g) (n : ℕ) → Moves work MayRound a b n → ServesOn work a b
+  serves_round a b n m = record { moves = (n, moves_weaker work MayRound (MayServe work) a b n (round_serves work) m) }
+
+  pub serves_drain : (a b : House W A g) (n : ℕ) → Moves work (MayDrain work) a b n → ServesOn work a b
+  serves_drain a b n m = record { moves = (n, moves_weaker work (MayDrain work) (MayServe work) a b n (drain_serves work) m) }
+
+  pub serves_poll : (a b : House W A g) (s : ℕ) (p : Poll) → Polled work a s p b → ServesOn work a b
+  serves_poll a b s p k = serves_round a b (popped_by p) (polled_moves a b s p k)
+
+  pub serves_look : (a b : House W A g) → LooksOnly a b → ServesOn work a b
+  serves_look a b l = record { moves = (0, moves_made work (MayServe work) a b (made_look work a b l)) }
+
+  pub serves_rings : (a b : House W A g) → ServesOn work a b → rings_of b ≡ rings_of a
+  serves_rings a b m = moves_rings work (MayServe work) a b m.moves.0 m.moves.1
+
+pub ruleset serving = (serves_none, serves_then, serves_round, serves_drain, serves_poll, serves_look)
+
+module _ {W A : Type 0} {g : Ghosts W} where
+  pub looks_none : (a : House W A g) → LooksOnly a a
+  looks_none a = record { core = refl; rings = refl; received = λ s. refl; results = λ s. refl; known = λ s. ([], append-nil (known a s)) }
+
+  pub looks_then : (a b c : House W A g) → LooksOnly a b → LooksOnly b c → LooksOnly a c
+  looks_then a b c p q = record {
+    core = q.core ∙ p.core;
+    rings = q.rings ∙ p.rings;
+    received = λ s. q.received s ∙ p.received s;
+    results = λ s. q.results s ∙ p.results s;
+    known = λ s. prefix_along (known a s) (known b s) (known c s) (p.known s) (q.known s);
+  }
+
+  -- what was settled stays so while nothing is popped
+  pub looks_settled : (a b : House W A g) (f : Feed W A g) → LooksOnly a b → IsSettled a f → IsSettled b f
+  looks_settled a b f l h = l.received (server_of f.client) ∙ h
+
+  -- one more feed is settled, and what was settled stays
+  pub settled_more :
+      (a b : House W A g) (fs : List (Feed W A g)) (i : ℕ) (f : Feed W A g) → i < length fs → LooksOnly a b → AllWithin (IsSettled a) fs 0 i → IsSettled b f
+      → AllWithin (IsSettled b) (set fs i f) 0 (i + 1)
+  settled_more a b fs i f l look old new =
+      AllWithin-more_set fs i f l (IsSettled b) (λ k d p q. looks_settled a b (get_or fs k d) look (old k d p q)) new

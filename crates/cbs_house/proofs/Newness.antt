@@ -1,0 +1,103 @@
+-- A new house.
+use Rattle.std.proofs.Common.{◌≡◌, ℕ, ◌+◌, ◌<◌, List, [], ◌∷◌, ◌++◌, length, map, get_or, Some, refl, zero-add, ap, sym, ◌∙◌, arith}
+use Rattle.std.specs.Prelude.{slice_get}
+use Rattle.std.specs.List.{All, AllZip, range_with_len}
+use Rattle.std.proofs.lemmas.List.{length-map, map-id, map-append, get_or-map}
+use Rattle.std.proofs.lemmas.List.FromFn.{map-range_with_len_more, length-range_with_len, get_or-range_with_len}
+use Rattle.std.proofs.lemmas.List.Elements.{recursion_from_All, All-weaker, All-same, All-push}
+use Rattle.std.proofs.lemmas.Option.{slice_get-get_or}
+use Rattle.rtrb.specs.Ring.{received, known_items}
+use Rattle.cbs_job.specs.Work.{Meaning, whole}
+use Rattle.cbs_job.specs.declared.work.Work.{Ghosts}
+use Rattle.cbs_rules.specs.Rules.{Terms}
+use Rattle.cbs_core.specs.Accounts.{new_account, no_account}
+use Rattle.cbs_core.specs.Agreement.{AgreesServer, Agrees}
+use Rattle.cbs_core.specs.Held.{Held, CoreHeld, held_at, no_held}
+use Rattle.cbs_core.specs.History.{Setup}
+use Rattle.cbs_core.proofs.Lists.{AllZip-get, AllZip-length}
+use Rattle.cbs_house.specs.declared.client.Client.{Client}
+use Rattle.cbs_house.specs.declared.rings.Rings.{Rings}
+use Rattle.cbs_house.specs.Clients.{server_of, ring_of}
+use Rattle.cbs_house.specs.Collected.{Shelved, SameShelf, no_shelf, shelf_at}
+use Rattle.cbs_house.specs.Housed.{KeepsServer, Housed}
+use Rattle.cbs_house.specs.Opened.{IsNewEnd}
+use Rattle.cbs_house.specs.Ringed.{rings_in, popped, seen, IsOpened}
+use Rattle.cbs_house.specs.Rings.{Ring}
+use Rattle.cbs_house.proofs.Places.{at_all, at_map}
+
+-- nothing was popped, and nothing seen
+module _ {W A : Type 0} where
+  pub new_rings : (r : Rings W A) → All IsNewEnd r.ends.items → (s : ℕ) → (popped r s ≡ []) × (seen r s ≡ [])
+  new_rings r a s =
+      let es = r.ends.items in (
+        at_all received [] es (recursion_from_All (λ c. received c ≡ []) es (All-weaker IsNewEnd (λ c. received c ≡ []) (λ c k. k.popped) es a)) s,
+        at_all known_items [] es (recursion_from_All (λ c. known_items c ≡ []) es (All-weaker IsNewEnd (λ c. known_items c ≡ []) (λ c k. k.seen) es a)) s,
+      )
+
+no_jobs : {W : Type 0} (work : Meaning W) (ws : List W) → map (whole work) ws ≡ [] → ws ≡ []
+no_jobs work [] e = refl
+no_jobs work (w ∷ ws) e = cc
+
+module _ {W : Type 0} (work : Meaning W) where
+  new_server : (h : Held W) (t : Terms) → AgreesServer work h (new_account t) → KeepsServer work h [] []
+  new_server h t a = let none = no_jobs work h.jobs a.results in record {
+    outputs = rw none refl;
+    accepted = a.accepted_count;
+    finished = a.finished_count;
+    closed = a.closed;
+    last = refl;
+  }
+
+  module _ (core : CoreHeld W) (setup : Setup) (agrees : Agrees work core (record { setup = setup; steps = [] })) where
+    zipped : AllZip (AgreesServer work) core.servers (map new_account setup.servers)
+    zipped = agrees.world.servers
+
+    pub new_count : length core.servers ≡ length setup.servers
+    new_count = AllZip-length (AgreesServer work) core.servers (map new_account setup.servers) zipped ∙ length-map setup.servers new_account
+
+    pub new_kept : (s : ℕ) → s < length core.servers → KeepsServer work (held_at core.servers s) [] []
+    new_kept s l =
+        let t : Terms = (no_account {W = W}).terms in
+        let here = AllZip-get (AgreesServer work) core.servers (map new_account setup.servers) s no_held (new_account t) zipped l in
+        new_server (held_at core.servers s) (get_or setup.servers s t) (rw (get_or-map new_account setup.servers s t (new_account t) (omega (arith, new_count, l))) at here)
+
+    pub housed_new : {A : Type 0} (r : Rings W A) (shelves : List Shelved)
+        → length (rings_in r) ≡ length core.servers → length shelves ≡ length core.servers → All IsNewEnd r.ends.items → ((s : ℕ) → SameShelf no_shelf (shelf_at shelves s))
+        → Housed work core r shelves
+    housed_new r shelves rings count new empty = record {
+      ring_count = rings;
+      shelf_count = count;
+      servers = λ s l. rw ((new_rings r new s).0, (empty s).results) (new_kept s l);
+      announced = λ s l. (empty s).announced ∙ sym (new_kept s l).accepted;
+      history = λ none. none (record { setup = setup; steps = [] }) agrees;
+    }
+
+range_next : (n : ℕ) → range_with_len 0 (n + 1) ≡ range_with_len 0 n ++ n ∷ []
+range_next n = sym (map-id (range_with_len 0 (n + 1))) ∙ (map-range_with_len_more (λ (x : ℕ). x) 0 n n (omega arith) ∙ ap (λ xs. xs ++ n ∷ []) (map-id (range_with_len 0 n)))
+
+module _ {X Y Z : Type 0} where
+  -- one more of each of two lists
+  pub map_pushed : (f : X → Z) (h : Y → Z) (xs xs' : List X) (ys ys' : List Y) (x : X) (y : Y) → xs' ≡ xs ++ x ∷ [] → ys' ≡ ys ++ y ∷ [] → f x ≡ h y → map f xs ≡ map h ys → map f xs' ≡ map h ys'
+  map_pushed f h xs xs' ys ys' x y a b e k =
+      ap (map f) a ∙ (map-append f xs (x ∷ []) ∙ (ap (λ zs. zs ++ f x ∷ []) k ∙ (ap (λ z. map h ys ++ z ∷ []) e ∙ (sym (map-append h ys (y ∷ [])) ∙ ap (map h) (sym b)))))
+
+pub numbered_pushed : {X : Type 0} (f : X → ℕ) (xs xs' : List X) (x : X) (n : ℕ) → xs' ≡ xs ++ x ∷ [] → f x ≡ n → map f xs ≡ range_with_len 0 n → map f xs' ≡ range_with_len 0 (n + 1)
+numbered_pushed f xs xs' x n a e k =
+    ap (map f) a ∙ (map-append f xs (x ∷ []) ∙ (ap (λ zs. zs ++ f x ∷ []) k ∙ (ap (λ z. range_with_len 0 n ++ z ∷ []) e ∙ sym (range_next n))))
+
+pub All_pushed : {X : Type 0} (P : X → Type 0) (xs xs' : List X) (x : X) → xs' ≡ xs ++ x ∷ [] → P x → All P xs → All P xs'
+All_pushed P xs xs' x a p h = All-same P xs' (xs ++ x ∷ []) a (All-push P xs x h p)
+
+pub same_count : {X Y : Type 0} (f : X → Y) (h : X → ℕ) (zs : List Y) (xs : List X) (n : ℕ) → zs ≡ map f xs → map h xs ≡ range_with_len 0 n → length zs ≡ n
+same_count f h zs xs n a b = ap length a ∙ (length-map xs f ∙ (sym (length-map xs h) ∙ (ap length b ∙ length-range_with_len 0 n)))
+
+module _ {W A : Type 0} {g : Ghosts W} where
+  pub all_opened : (rings : List (Ring A)) (cs : List (Client W A g)) (n : ℕ) → rings ≡ map ring_of cs → map server_of cs ≡ range_with_len 0 n → All (IsOpened rings) cs
+  all_opened rings cs n a b k d l =
+      let count : length cs ≡ n = sym (length-map cs (server_of {W = W})) ∙ (ap length b ∙ length-range_with_len 0 n) in
+      let c = get_or cs k d in
+      let here : server_of c ≡ k =
+      sym (at_map server_of cs k d 0 l) ∙ (ap (λ xs. get_or xs k 0) b ∙ (get_or-range_with_len 0 n k 0 (omega (arith, count, l)) ∙ zero-add k)) in
+      let ring : slice_get (map ring_of cs) k ≡ Some (ring_of c) =
+      slice_get-get_or (map ring_of cs) k (ring_of c) (omega (arith, length-map cs (ring_of {W = W}), l)) ∙ ap (λ r. Some r) (at_map ring_of cs k d (ring_of c) l) in
+      ap (λ (x : ℕ). slice_get rings x) here ∙ (ap (λ rs. slice_get rs k) a ∙ ring)

@@ -1,0 +1,29 @@
+use Rattle.std.proofs.Common.{◌∷◌, [], refl}
+use Rattle.cbs_core.specs.declared.step.Step.TheVariants.{Advance}
+use Rattle.cbs_house.proofs.Keeping.{housed_all}
+use Rattle.cbs_house.proofs.Looking.{prefix_refl}
+use Rattle.cbs_house.proofs.Stepping.{history_kept}
+use Rattle.cbs_house.specs.Houses.{known}
+use Rattle.cbs_house.proofs.house.House.advance.Goals as goal
+
+pub invariant_of-self : goal.invariant_of-self
+invariant_of-self g c =
+    let work = g.W.Work.meaning in
+    let old = c.args.self.now in
+    let a = c.advance.ensures in
+    record {
+      housed = housed_all work old.core c.advance.new.self old.rings old.rings old.collector old.collector old.housed refl refl a.count
+          (history_kept work old.core c.advance.new.self (Advance c.args.n ∷ []) old.housed.history a.state) a.jobs (λ s. refl) (λ s. record { results = refl; announced = refl });
+    }
+
+pub returns-in-Err-clause-refused : goal.returns-in-Err-clause-refused
+returns-in-Err-clause-refused g c = (
+  refl,
+  record {
+    core = c.in-Err.ensures.unchanged;
+    rings = refl;
+    received = λ s. refl;
+    results = λ s. refl;
+    known = λ s. prefix_refl (known c.args.self.now s);
+  },
+)

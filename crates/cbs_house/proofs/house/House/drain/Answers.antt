@@ -1,0 +1,22 @@
+use Rattle.cbs_house.specs.Steps.{MayDrain}
+use Rattle.cbs_house.proofs.Moving.{moves_nothing, moves_both, moves_none, moves_rings}
+use Rattle.cbs_house.proofs.house.House.drain.Goals as goal
+
+pub loop-self-init : goal.loop-self-init
+loop-self-init g c = moves_nothing g.W.Work.meaning (MayDrain g.W.Work.meaning) c.args.self.now
+
+pub loop-self-preserved : goal.loop-self-preserved
+loop-self-preserved g c =
+    moves_both g.W.Work.meaning (MayDrain g.W.Work.meaning) c.args.self.now c.loop-self.self c.go_on.new.self 0 0 c.loop-self.invariant c.go_on.ensures.moves
+
+pub returns-then-now-eq-LIMIT-clause-received : goal.returns-then-now-eq-LIMIT-clause-received
+returns-then-now-eq-LIMIT-clause-received g c = moves_none g.W.Work.meaning (MayDrain g.W.Work.meaning) c.args.self.now c.loop-self.self c.loop-self.invariant
+
+pub returns-clause-received : goal.returns-clause-received
+returns-clause-received g c = moves_none g.W.Work.meaning (MayDrain g.W.Work.meaning) c.args.self.now c.loop-self.self c.loop-self.invariant
+
+pub returns-then-now-eq-LIMIT-clause-rings : goal.returns-then-now-eq-LIMIT-clause-rings
+returns-then-now-eq-LIMIT-clause-rings g c = moves_rings g.W.Work.meaning (MayDrain g.W.Work.meaning) c.args.self.now c.loop-self.self 0 c.loop-self.invariant
+
+pub returns-clause-rings : goal.returns-clause-rings
+returns-clause-rings g c = moves_rings g.W.Work.meaning (MayDrain g.W.Work.meaning) c.args.self.now c.loop-self.self 0 c.loop-self.invariant

@@ -1,0 +1,42 @@
+use Rattle.cbs_core.specs.History.{world_after}
+use Rattle.cbs_core.specs.declared.step.Step.TheVariants.{Run, Advance}
+use Rattle.cbs_house.specs.Steps.{MayDrain}
+use Rattle.cbs_house.proofs.Draining.{run_later, advance_later, busy_by, later_by}
+use Rattle.cbs_house.proofs.Moving.{moves_step}
+use Rattle.cbs_house.proofs.house.House.go_on.Goals as goal
+
+pub returns-in-None-clause-moves : goal.returns-in-None-clause-moves
+returns-in-None-clause-moves g c =
+    let work = g.W.Work.meaning in
+    let old = c.args.self.now in
+    moves_step work (MayDrain work) old c.run.new.self Run c.run.ensures.made
+    (λ M agrees. record {
+      busy = busy_by work old.core M agrees c.requires.busy;
+      early = rw agrees.world.clock at c.requires.early;
+      ready = c.in-None.ensures M agrees;
+    })
+
+pub returns-in-None-clause-later : goal.returns-in-None-clause-later
+returns-in-None-clause-later g c =
+    let work = g.W.Work.meaning in
+    let old = c.args.self.now in
+    later_by work old.core c.run.new.self.core Run old.housed.history c.run.ensures.made.steps
+    (λ M agrees. run_later work M.setup.backlog (world_after work M) (c.in-None.ensures M agrees) (rw agrees.world.clock at c.requires.early))
+
+pub returns-in-Ok-clause-moves : goal.returns-in-Ok-clause-moves
+returns-in-Ok-clause-moves g c =
+    let work = g.W.Work.meaning in
+    let old = c.args.self.now in
+    moves_step work (MayDrain work) old c.advance.new.self (Advance c.in-Some.span) c.in-Ok.ensures.made
+    (λ M agrees. record {
+      busy = busy_by work old.core M agrees c.requires.busy;
+      early = rw agrees.world.clock at c.requires.early;
+      span = c.in-Some.ensures M agrees;
+    })
+
+pub returns-in-Ok-clause-later : goal.returns-in-Ok-clause-later
+returns-in-Ok-clause-later g c =
+    let work = g.W.Work.meaning in
+    let old = c.args.self.now in
+    later_by work old.core c.advance.new.self.core (Advance c.in-Some.span) old.housed.history c.in-Ok.ensures.made.steps
+    (λ M agrees. advance_later work M.setup.backlog (world_after work M) c.in-Some.span (c.in-Some.ensures M agrees) (rw agrees.world.clock at c.requires.early))

@@ -1,0 +1,29 @@
+use Rattle.std.proofs.Common.{sym, ◌≡◌, ◌∙◌, length}
+use Rattle.std.proofs.lemmas.List.{length-map}
+use Rattle.cbs_core.specs.History.{Setup}
+use Rattle.cbs_core.specs.Setups.{terms_of}
+use Rattle.cbs_house.specs.Clients.{server_of, ring_of}
+use Rattle.cbs_house.specs.Ringed.{rings_in}
+use Rattle.cbs_house.proofs.Newness.{new_rings, new_count, housed_new, same_count, all_opened}
+use Rattle.cbs_house.proofs.opening.open_house.Goals as goal
+
+pub invariant_of-house : goal.invariant_of-house
+invariant_of-house g c =
+    let core = c.in-Ok.core in
+    let setup : Setup = record { servers = terms_of c.args.mode c.args.plan.rates; backlog = c.args.backlog } in
+    let made = c.in-Ok-open_rings in
+    let agrees = c.in-Ok.ensures.start in
+    let count : length core.servers ≡ c.len-servers.result = new_count g.W.Work.meaning core setup agrees ∙ (length-map c.args.plan.rates _ ∙ sym c.len-servers.ensures.value) in
+    record {
+      housed = housed_new g.W.Work.meaning core setup agrees made.rings c.in-Ok-new.collector
+          (same_count ring_of server_of (rings_in made.rings) made.clients.items c.len-servers.result made.ensures.rings made.ensures.clients ∙ sym count)
+          (c.in-Ok-new.ensures.count ∙ sym count) made.ensures.new c.in-Ok-new.ensures.empty;
+    }
+
+pub returns-clause-empty : goal.returns-clause-empty
+returns-clause-empty g c = λ s. let r = new_rings c.in-Ok-open_rings.rings c.in-Ok-open_rings.ensures.new s in (r.0, r.1, (c.in-Ok-new.ensures.empty s).results)
+
+pub returns-clause-opened : goal.returns-clause-opened
+returns-clause-opened g c =
+    let made = c.in-Ok-open_rings in
+    all_opened (rings_in made.rings) made.clients.items c.len-servers.result made.ensures.rings made.ensures.clients

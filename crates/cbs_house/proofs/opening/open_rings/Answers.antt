@@ -1,0 +1,24 @@
+use Rattle.std.proofs.Common.{sym, ◌∙◌}
+use Rattle.cbs_house.specs.Clients.{server_of, ring_of}
+use Rattle.cbs_house.specs.Opened.{IsNewEnd, IsUnused}
+use Rattle.cbs_house.specs.Rings.{consumer_ring}
+use Rattle.cbs_house.proofs.Looking.{pair_ring}
+use Rattle.cbs_house.proofs.Newness.{map_pushed, numbered_pushed, All_pushed}
+use Rattle.cbs_house.proofs.opening.open_rings.Goals as goal
+
+pub loop-server-preserved : goal.loop-server-preserved
+loop-server-preserved g c =
+    let l = c.loop-server in
+    let made = c.in_ok-producer in
+    let client = c.new-in-loop-server.result in
+    let is = c.new-in-loop-server.ensures in
+    let ends' = c.push.new.self.items in
+    let clients' = c.push-in-loop-server.new.self.items in
+    let a = c.in_ok-push.ensures.items in
+    let b = c.in_ok-push-2.ensures.items in
+    record {
+      new = All_pushed IsNewEnd l.ends.items ends' made.consumer a (record { popped = made.ensures.consumer.0; seen = made.ensures.consumer.1 }) l.invariant.new;
+      rings = map_pushed consumer_ring ring_of l.ends.items ends' l.clients.items clients' made.consumer client a b (pair_ring made.producer made.consumer made.ensures.pair ∙ sym is.ring) l.invariant.rings;
+      clients = numbered_pushed server_of l.clients.items clients' client l.server b is.server l.invariant.clients;
+      unused = All_pushed (IsUnused c.args.places) l.clients.items clients' client b (record { sent = is.sent; free = is.free ∙ made.ensures.producer.1 }) l.invariant.unused;
+    }

@@ -1,0 +1,15 @@
+use Rattle.std.proofs.Common.{◌≡◌, map}
+use Rattle.std.specs.List.{All, range_with_len}
+use Rattle.cbs_house.specs.Clients.{server_of, ring_of}
+use Rattle.cbs_house.specs.Opened.{IsNewEnd, IsUnused}
+use Rattle.cbs_house.specs.Rings.{consumer_ring}
+use Rattle.cbs_house.proofs.opening.open_rings.Given as goal
+
+abbrev pub invariant-loop-server : goal.invariant-loop-server
+invariant-loop-server g l =
+    record {
+      new : All IsNewEnd l.ends.items;
+      rings : map consumer_ring l.ends.items ≡ map ring_of l.clients.items;
+      clients : map server_of l.clients.items ≡ range_with_len 0 l.server;
+      unused : All (IsUnused l.places) l.clients.items;
+    }

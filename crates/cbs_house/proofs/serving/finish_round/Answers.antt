@@ -1,0 +1,33 @@
+use Rattle.cbs_house.proofs.Moving.{serves_then, serves_drain, serves_look}
+use Rattle.cbs_house.proofs.Served.{all_served}
+use Rattle.cbs_house.proofs.serving.finish_round.Goals as goal
+
+pub returns-in_err-drain-clause-steps : goal.returns-in_err-drain-clause-steps
+returns-in_err-drain-clause-steps g c =
+    let work = g.W.Work.meaning in
+    let t = c.take_rest in
+    serves_then work c.args.house.now t.new.house c.drain.new.self t.ensures.steps (serves_drain work t.new.house c.drain.new.self 0 c.drain.ensures.moves)
+
+pub returns-then-settled-clause-steps : goal.returns-then-settled-clause-steps
+returns-then-settled-clause-steps g c =
+    let work = g.W.Work.meaning in
+    let t = c.take_rest in
+    let s = c.all_settled-settled in
+    serves_then work c.args.house.now c.drain.new.self s.new.house
+    (serves_then work c.args.house.now t.new.house c.drain.new.self t.ensures.steps (serves_drain work t.new.house c.drain.new.self 0 c.drain.ensures.moves))
+    (serves_look work c.drain.new.self s.new.house s.ensures.looked)
+
+pub returns-else-settled-clause-steps : goal.returns-else-settled-clause-steps
+returns-else-settled-clause-steps g c =
+    let work = g.W.Work.meaning in
+    let t = c.take_rest in
+    let s = c.all_settled-settled in
+    serves_then work c.args.house.now c.drain.new.self s.new.house
+    (serves_then work c.args.house.now t.new.house c.drain.new.self t.ensures.steps (serves_drain work t.new.house c.drain.new.self 0 c.drain.ensures.moves))
+    (serves_look work c.drain.new.self s.new.house s.ensures.looked)
+
+pub returns-then-settled-clause-served : goal.returns-then-settled-clause-served
+returns-then-settled-clause-served g c = λ done.
+    let s = c.all_settled-settled in
+    let h = s.new.house in
+    all_served g.W.Work.meaning h h.housed s.new.feeds (λ k. rw s.ensures.looked.core (c.in_ok-drain.ensures.ok k)) s.ensures.ready (c.all_done.ensures done) (s.ensures.settled c.if-settled.true)

@@ -1,0 +1,28 @@
+-- What a contract sees of a client.
+use Rattle.std.specs.Prelude.{ℕ, ◌≡◌, List}
+use Rattle.rtrb.specs.Ring.{sent, known_free}
+use Rattle.cbs_job.specs.declared.work.Work.{Ghosts}
+use Rattle.cbs_house.specs.declared.message.Message.{Message}
+use Rattle.cbs_house.specs.declared.client.Client.{Client}
+use Rattle.cbs_house.specs.Rings.{Ring, producer_ring}
+
+module _ {W A : Type 0} {g : Ghosts W} where
+  -- the client's server
+  abbrev pub server_of : Client W A g → ℕ
+  server_of c = c.server
+
+  -- the ring that the client pushes into
+  abbrev pub ring_of : Client W A g → Ring A
+  ring_of c = producer_ring c.ring
+
+  -- the messages that the client's ring took, oldest first
+  abbrev pub sent_by : Client W A g → List (Message W)
+  sent_by c = sent c.ring
+
+  -- how many free places of its ring the client knows of
+  abbrev pub free : Client W A g → ℕ
+  free c = known_free c.ring
+
+  -- the same server and the same ring
+  abbrev pub SameClient : Client W A g → Client W A g → Type 0
+  SameClient old new = (server_of new ≡ server_of old) × (ring_of new ≡ ring_of old)

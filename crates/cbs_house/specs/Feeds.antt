@@ -1,0 +1,59 @@
+-- What a contract sees of a feed.
+use Rattle.std.specs.Prelude.{ℕ, ◌≡◌, ◌+◌, Bool, true, cond, List, [], ◌++◌, length}
+use Rattle.std.specs.List.{sum_by, AllZip}
+use mathlib.Core.List.{IsPrefix}
+use Rattle.cbs_job.specs.declared.work.Work.{Ghosts}
+use Rattle.cbs_house.specs.declared.client.Client.{Client}
+use Rattle.cbs_house.specs.declared.feed.Feed.{Feed}
+use Rattle.cbs_house.specs.Clients.{sent_by, SameClient}
+use Rattle.cbs_house.specs.Messages.{jobs_among, has_end}
+
+module _ {W A : Type 0} {g : Ghosts W} where
+  -- the feed's client
+  abbrev pub client_of : Feed W A g → Client W A g
+  client_of f = f.client
+
+  -- the jobs that the feed has not sent, in order
+  abbrev pub left : Feed W A g → List W
+  left f = f.jobs.items
+
+  -- the jobs that the feed's client sent, and then those that are left
+  abbrev pub all_jobs : Feed W A g → List W
+  all_jobs f = jobs_among (sent_by f.client) ++ left f
+
+  -- whether the feed's client has ended
+  abbrev pub has_ended : Feed W A g → Bool
+  has_ended f = has_end (sent_by f.client)
+
+  -- the client has not ended unless no job is left
+  abbrev pub IsOrderly : Feed W A g → Type 0
+  IsOrderly f = has_ended f ≡ true → left f ≡ []
+
+  -- no job is left, and the client has ended
+  pub record IsDone (f : Feed W A g) : Type 0 where
+    pub ended : has_ended f ≡ true
+    pub none_left : left f ≡ []
+
+  -- how many messages the feed has still to send: its jobs, and then the end
+  abbrev pub unsent : Feed W A g → ℕ
+  unsent f = length (left f) + cond (has_ended f) 0 1
+
+  -- what every call keeps of a feed: its server and ring; all its jobs, sent or left, in order; what was sent, to which more
+  -- may be added behind; and that the client does not end before its jobs
+  pub record KeepsFeed (old new : Feed W A g) : Type 0 where
+    pub client : SameClient old.client new.client
+    pub jobs : all_jobs new ≡ all_jobs old
+    pub sent : IsPrefix (sent_by old.client) (sent_by new.client)
+    pub orderly : IsOrderly old → IsOrderly new
+
+  -- the same of each of several feeds
+  unfoldable pub KeepsFeeds : List (Feed W A g) → List (Feed W A g) → Type 0
+  KeepsFeeds old new = AllZip KeepsFeed old new
+
+  -- how many messages the feeds' clients have sent
+  abbrev pub messages : List (Feed W A g) → ℕ
+  messages fs = sum_by (λ f. length (sent_by f.client)) fs
+
+  -- how many messages the feeds have still to send
+  abbrev pub all_unsent : List (Feed W A g) → ℕ
+  all_unsent fs = sum_by unsent fs

@@ -1,0 +1,29 @@
+-- What is true of a house at all times.
+use Rattle.std.specs.Prelude.{ℕ, ◌≡◌, ◌<◌, true, List, ◌++◌, length, map}
+use Rattle.cbs_job.specs.Work.{Meaning, whole}
+use Rattle.cbs_core.specs.Held.{Held, CoreHeld, held_at}
+use Rattle.cbs_house.specs.declared.message.Message.{Message}
+use Rattle.cbs_house.specs.declared.rings.Rings.{Rings}
+use Rattle.cbs_house.specs.Collected.{Shelved, shelf_at}
+use Rattle.cbs_house.specs.Messages.{jobs_among, has_end, end_is_last}
+use Rattle.cbs_house.specs.Ringed.{rings_in, popped}
+use Rattle.cbs_house.specs.Steps.{HasHistory}
+
+-- what a house keeps of one server: its results, and then what the jobs held come to, are what the jobs received come to, in
+-- order; it accepted each job received, and finished as many as it has results; and it is closed exactly where an end was
+-- received, which is then the last message
+pub record KeepsServer {W : Type 0} (work : Meaning W) (h : Held W) (received : List (Message W)) (results : List ℕ) : Type 0 where
+  pub outputs : results ++ map (whole work) h.jobs ≡ map (whole work) (jobs_among received)
+  pub accepted : h.accepted ≡ length (jobs_among received)
+  pub finished : h.finished ≡ length results
+  pub closed : h.closed ≡ has_end received
+  pub last : end_is_last received ≡ true
+
+-- what is true of the parts of a house: a ring and a shelf for each server, a place for the result of each accepted job, and
+-- a history that the core agrees with
+pub record Housed {W A : Type 0} (work : Meaning W) (core : CoreHeld W) (rings : Rings W A) (collector : List Shelved) : Type 0 where
+  pub ring_count : length (rings_in rings) ≡ length core.servers
+  pub shelf_count : length collector ≡ length core.servers
+  pub servers : (s : ℕ) → s < length core.servers → KeepsServer work (held_at core.servers s) (popped rings s) (shelf_at collector s).results
+  pub announced : (s : ℕ) → s < length core.servers → (shelf_at collector s).announced ≡ (held_at core.servers s).accepted
+  pub history : HasHistory work core

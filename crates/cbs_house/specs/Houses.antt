@@ -1,0 +1,116 @@
+-- What a contract sees of a house.
+use Rattle.std.specs.Prelude.{ℕ, ◌≡◌, ◌≢◌, ◌⊎◌, ◌≤◌, ◌<◌, true, false, Result, Ok, Err, List, [], ◌∷◌, ◌++◌, length}
+use mathlib.Core.List.{IsPrefix}
+use Rattle.cbs_job.specs.Work.{Meaning}
+use Rattle.cbs_job.specs.declared.work.Work.{Ghosts}
+use Rattle.cbs_core.specs.Held.{CoreHeld, HasPlace, held_at}
+use Rattle.cbs_core.specs.History.{History}
+use Rattle.cbs_core.specs.declared.error.CoreError.{CoreError}
+use Rattle.cbs_core.specs.declared.reply.Ran.{Ran}
+use Rattle.cbs_core.specs.declared.reply.Ran.TheVariants as ran
+use Rattle.cbs_core.specs.declared.step.Step.{Step}
+use Rattle.cbs_core.specs.declared.step.Step.TheVariants as step
+use Rattle.cbs_core.specs.declared.view.ServerView.{ServerView}
+use Rattle.cbs_house.specs.declared.error.HouseError.{HouseError}
+use Rattle.cbs_house.specs.declared.error.HouseError.TheVariants as house_error
+use Rattle.cbs_house.specs.declared.house.House.{House}
+use Rattle.cbs_house.specs.declared.message.Message.{Message}
+use Rattle.cbs_house.specs.declared.poll.Poll.{Poll}
+use Rattle.cbs_house.specs.declared.poll.Poll.TheVariants.{Nothing, Took, Closed, Full, OutOfMemory, NoSuchServer}
+use Rattle.cbs_house.specs.Collected.{shelf_at}
+use Rattle.cbs_house.specs.Messages.{jobs_among}
+use Rattle.cbs_house.specs.Ringed.{rings_in, popped, seen}
+use Rattle.cbs_house.specs.Rings.{Ring}
+use Rattle.cbs_house.specs.Steps.{Follows, AllAllowed, messages_of, pops}
+
+module _ {W A : Type 0} {g : Ghosts W} where
+  -- what the house's core holds
+  abbrev pub core_of : House W A g → CoreHeld W
+  core_of h = h.core
+
+  -- the ring that was opened for each server
+  abbrev pub rings_of : House W A g → List (Ring A)
+  rings_of h = rings_in h.rings
+
+  -- the messages received for server s, oldest first
+  abbrev pub received : House W A g → ℕ → List (Message W)
+  received h s = popped h.rings s
+
+  -- the messages that the house knows to stand in the ring of server s, oldest first
+  abbrev pub known : House W A g → ℕ → List (Message W)
+  known h s = seen h.rings s
+
+  -- the results of server s, in order
+  abbrev pub results_of : House W A g → ℕ → List ℕ
+  results_of h s = (shelf_at h.collector s).results
+
+  -- The house made these steps: whatever history its core agreed with, it now agrees with that and then the steps; the rings
+  -- are the same; what was received for each server is what the steps took, in order; and what is known to stand in a ring
+  -- gets shorter by a pop alone, from its front.
+  pub record Made (work : Meaning W) (old new : House W A g) (xs : List (Step W)) : Type 0 where
+    pub steps : Follows work (core_of old) (core_of new) xs
+    pub rings : rings_of new ≡ rings_of old
+    pub received : (s : ℕ) → received new s ≡ received old s ++ messages_of s xs
+    pub known : (s : ℕ) → IsPrefix (known old s) (messages_of s xs ++ known new s)
+
+  -- the house looked at its rings, and nothing else
+  pub record LooksOnly (old new : House W A g) : Type 0 where
+    pub core : core_of new ≡ core_of old
+    pub rings : rings_of new ≡ rings_of old
+    pub received : (s : ℕ) → received new s ≡ received old s
+    pub results : (s : ℕ) → results_of new s ≡ results_of old s
+    pub known : (s : ℕ) → IsPrefix (known old s) (known new s)
+
+-- what a view is answered, by what the core answers
+abbrev pub view_answer : Result ServerView CoreError → Result ServerView HouseError
+view_answer (Ok view) = Ok view
+view_answer (Err e) = Err house_error.NoSuchServer
+
+-- the core holds a job: an accepted job is not finished
+abbrev pub HoldsJob : {W : Type 0} → CoreHeld W → Type 0
+HoldsJob core = (s : ℕ) × (0 < length (held_at core.servers s).jobs)
+
+-- the core holds no job: every accepted job is finished
+abbrev pub HoldsNoJob : {W : Type 0} → CoreHeld W → Type 0
+HoldsNoJob core = (s : ℕ) → (held_at core.servers s).jobs ≡ []
+
+-- server s is there and open
+pub record IsOpen {W : Type 0} (core : CoreHeld W) (s : ℕ) : Type 0 where
+  pub within : s < length core.servers
+  pub unclosed : (held_at core.servers s).closed ≡ false
+
+-- a job of server s would be accepted
+pub record Accepts {W : Type 0} (core : CoreHeld W) (s : ℕ) : Type 0 where
+  pub is_open : IsOpen core s
+  pub few : length (held_at core.servers s).jobs < core.backlog
+
+module _ {W A : Type 0} {g : Ghosts W} where
+  -- the house made some steps that each may stand where they stand, and they took n messages
+  pub record Moves (work : Meaning W) (allowed : History W → Step W → Type 0) (old new : House W A g) (n : ℕ) : Type 0 where
+    pub some : (xs : List (Step W)) × Made work old new xs × AllAllowed work allowed (core_of old) xs × (pops xs ≡ n)
+
+  -- What a poll of server s did, by its answer. The first four pop nothing: nothing is seen or the server is closed; a message
+  -- is seen, and the backlog is full; a message is seen, and the backlog is not full, but there is no memory; there is no such
+  -- server. Else the next message is popped: a job is accepted, as the number that it has among the jobs received; an end
+  -- closes the server.
+  abbrev pub Polled : Meaning W → House W A g → ℕ → Poll → House W A g → Type 0
+  Polled work old s Nothing new = Made work old new [] × (s < length (core_of old).servers) × (((held_at (core_of old).servers s).closed ≡ true) ⊎ (known new s ≡ []))
+  Polled work old s Full new =
+      Made work old new [] × IsOpen (core_of old) s × (0 < length (known new s)) × ((core_of old).backlog ≤ length (held_at (core_of old).servers s).jobs)
+  Polled work old s OutOfMemory new = Made work old new [] × Accepts (core_of old) s × (0 < length (known new s))
+  Polled work old s NoSuchServer new = Made work old new [] × (length (core_of old).servers ≤ s)
+  Polled work old s (Took q) new = (job : W) × Made work old new (step.Submit s job ∷ []) × Accepts (core_of old) s × (q ≡ length (jobs_among (received old s)))
+  Polled work old s Closed new = Made work old new (step.Close s ∷ []) × Accepts (core_of old) s
+
+  -- the next message of server s is seen, and there is a place for it and for a result
+  pub record CanTake (h : House W A g) (s : ℕ) : Type 0 where
+    pub place : HasPlace (core_of h) s
+    pub spare : 0 < (shelf_at h.collector s).spare
+    pub next : 0 < length (known h s)
+
+  -- what a run did to the results, by its answer: a completion is put behind those of its server
+  abbrev pub Collects : Ran → House W A g → House W A g → Type 0
+  Collects ran.Idle old new = (s : ℕ) → results_of new s ≡ results_of old s
+  Collects ran.ClockEnd old new = (s : ℕ) → results_of new s ≡ results_of old s
+  Collects (ran.Unit t q) old new = (s : ℕ) → results_of new s ≡ results_of old s
+  Collects (ran.Done c) old new = (results_of new c.server ≡ results_of old c.server ++ c.result ∷ []) × ((s : ℕ) → s ≢ c.server → results_of new s ≡ results_of old s)

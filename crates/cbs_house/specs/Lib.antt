@@ -1,0 +1,12 @@
+pub mod Errors
+pub mod Messages
+pub mod Rings
+pub mod Clients
+pub mod Collected
+pub mod Steps
+pub mod Ringed
+pub mod Housed
+pub mod Houses
+pub mod Feeds
+pub mod Rounds
+pub mod Opened

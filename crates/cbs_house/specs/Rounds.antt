@@ -1,0 +1,65 @@
+-- What a contract says of rounds, and of serving.
+use Rattle.std.specs.Prelude.{ℕ, ◌≡◌, ◌≤◌, List, length, map}
+use Rattle.std.specs.List.{All}
+use Rattle.cbs_job.specs.Work.{Meaning, whole}
+use Rattle.cbs_job.specs.declared.work.Work.{Ghosts}
+use Rattle.cbs_rules.specs.Rules.{clock_end}
+use Rattle.cbs_house.specs.declared.error.HouseError.{HouseError}
+use Rattle.cbs_house.specs.declared.error.HouseError.TheVariants.{BadBacklog, BadRing, OutOfMemory, NoSuchServer, ClockEnd, Stalled}
+use Rattle.cbs_house.specs.declared.feed.Feed.{Feed}
+use Rattle.cbs_house.specs.declared.house.House.{House}
+use Rattle.cbs_house.specs.declared.poll.Poll.{Poll}
+use Rattle.cbs_house.specs.declared.poll.Poll.TheVariants as poll
+use Rattle.cbs_house.specs.Clients.{server_of, sent_by}
+use Rattle.cbs_house.specs.Feeds.{IsOrderly, IsDone, all_jobs}
+use Rattle.cbs_house.specs.Houses.{core_of, rings_of, received, results_of, HoldsJob, Moves}
+use Rattle.cbs_house.specs.Ringed.{IsOpened}
+use Rattle.cbs_house.specs.Steps.{MayServe}
+
+-- how many messages a poll popped
+abbrev pub popped_by : Poll → ℕ
+popped_by (poll.Took q) = 1
+popped_by poll.Closed = 1
+popped_by poll.Nothing = 0
+popped_by poll.Full = 0
+popped_by poll.OutOfMemory = 0
+popped_by poll.NoSuchServer = 0
+
+-- an error by which serving may stop
+abbrev pub IsStop : HouseError → Type 0
+IsStop OutOfMemory = Unit {0}
+IsStop ClockEnd = Unit {0}
+IsStop Stalled = Unit {0}
+IsStop BadBacklog = ⊥
+IsStop BadRing = ⊥
+IsStop NoSuchServer = ⊥
+
+module _ {W A : Type 0} {g : Ghosts W} where
+  -- feeds that may be served by the house: at most 64, each with a client that was opened with the house and that has not
+  -- ended unless no job is left
+  pub record Ready (h : House W A g) (fs : List (Feed W A g)) : Type 0 where
+    pub few : length fs ≤ 64
+    pub orderly : All IsOrderly fs
+    pub opened : All (λ f. IsOpened (rings_of h) f.client) fs
+
+  -- the house made some steps of serving
+  pub record ServesOn (work : Meaning W) (old new : House W A g) : Type 0 where
+    pub moves : (n : ℕ) × Moves work (MayServe work) old new n
+
+  -- all that the feed's client sent was received
+  abbrev pub IsSettled : House W A g → Feed W A g → Type 0
+  IsSettled h f = received h (server_of f.client) ≡ sent_by f.client
+
+  -- the feed is done, and the results of its server are what all its jobs come to, in order
+  pub record IsServed (work : Meaning W) (h : House W A g) (f : Feed W A g) : Type 0 where
+    pub done : IsDone f
+    pub results : results_of h (server_of f.client) ≡ map (whole work) (all_jobs f)
+
+  -- why serving stops early, and how it leaves the house: the clock is at its end with a job unfinished
+  abbrev pub Stops : HouseError → House W A g → Type 0
+  Stops OutOfMemory h = Unit {0}
+  Stops ClockEnd h = ((core_of h).clock ≡ clock_end) × HoldsJob (core_of h)
+  Stops Stalled h = Unit {0}
+  Stops BadBacklog h = ⊥
+  Stops BadRing h = ⊥
+  Stops NoSuchServer h = ⊥

@@ -1,0 +1,151 @@
+//! A client: its end of a ring.
+
+ghost use Rattle.std.specs.Prelude.{◌≡◌, true, length};
+ghost use Rattle.rtrb.specs.Ring.{sent};
+ghost use Rattle.cbs_house.specs.Messages.{jobs_among, has_end, end_is_last};
+
+use crate::error::SendError;
+use crate::message::Message;
+use cbs_job::{Task, Work};
+use rtrb::Producer;
+use std::alloc::{Allocator, Global};
+
+/// The client of one server. It sends jobs over a ring of its own, from any thread, and never waits.
+#[derive(Drop)]
+pub struct Client<W: Work, A: Allocator = Global> {
+    pub(crate) server: u16,
+    // how many jobs were sent
+    count: u64,
+    ended: bool,
+    pub(crate) ring: Producer<Message<W>, A>,
+    ghost counted: { count ≡ length (jobs_among (sent ring)) },
+    ghost marked: { ended ≡ has_end (sent ring) },
+    ghost last: { end_is_last (sent ring) ≡ true },
+}
+
+/// A job that was not sent, handed back.
+#[derive(Drop)]
+pub struct SendRefused<W: Work> {
+    /// Why it was refused.
+    pub error: SendError,
+    /// The job, as it was given.
+    pub task: Task<W>,
+}
+
+impl<W: Work, A: Allocator> Client<W, A> {
+    ghost use Rattle.std.specs.Prelude.{◌≡◌, ◌<◌, ◌≤◌, ◌+◌, ◌-◌, ◌^◌, true, false, [], ◌∷◌, ◌++◌, length, IsTrue, ◌↔◌, ◌⊎◌, IfOk, IfErr, OnOk, OnErr, IsOk, MatchResult};
+    ghost use Rattle.rtrb.specs.Ring.{sent, known_free};
+    ghost use Rattle.cbs_house.specs.Messages.{jobs_among, has_end, end_is_last};
+    ghost use Rattle.cbs_house.specs.Rings.{producer_ring};
+    ghost use Rattle.cbs_house.specs.Clients.{server_of, ring_of, sent_by, free, SameClient};
+    ghost use Rattle.cbs_house.specs.declared.message.Message.TheVariants.{Job, End};
+
+    /// The client of a server, at its end of a new ring.
+    pub(crate) fn new(server: u16, ring: Producer<Message<W>, A>) -> Client<W, A>
+        requires { sent ring ≡ [] }
+        ensures server { server_of result ≡ server }
+        ensures ring { ring_of result ≡ producer_ring ring }
+        ensures sent { sent_by result ≡ [] }
+        ensures free { free result ≡ known_free ring }
+    {
+        Client {
+            server,
+            count: 0,
+            ended: false,
+            ring,
+        }
+    }
+
+    /// The number of the client's server.
+    pub fn server(&self) -> u16
+        ensures { result ≡ server_of self.now }
+    {
+        self.server
+    }
+
+    /// How many jobs the client has sent.
+    pub fn sent(&self) -> u64
+        ensures { result ≡ length (jobs_among (sent_by self.now)) }
+    {
+        self.count
+    }
+
+    /// Whether the client has ended: it sends no further job.
+    pub fn ended(&self) -> bool
+        ensures ended { result ≡ has_end (sent_by self.now) }
+        ensures last { end_is_last (sent_by self.now) ≡ true }
+    {
+        self.ended
+    }
+
+    /// Whether there is a place for the next message. Where there is, that message is not refused for
+    /// want of one.
+    pub(crate) fn has_room(&mut self) -> bool
+        ensures same { SameClient self.old self.new × (sent_by self.new ≡ sent_by self.old) }
+        ensures room { IsTrue result → (0 < free self.new) × (length (jobs_among (sent_by self.new)) < 2 ^ 64 - 1) }
+    {
+        self.count < u64::MAX && !self.ring.is_full()
+    }
+
+    /// Sends a job, and answers the job's number among the sent jobs of the client.
+    ///
+    /// Refuses, in this order: [`SendError::Ended`] where the client has ended;
+    /// [`SendError::RingFull`] where the ring has no free place, or the client has sent `u64::MAX`
+    /// jobs. The job then comes back, and nothing was sent.
+    #[tactic(auto, using(crate::proofs::Messages::pushed))]
+    pub fn send(&mut self, task: Task<W>) -> Result<u64, SendRefused<W>>
+        ensures same { SameClient self.old self.new }
+        ensures ok { IfOk result (λ number. (number ≡ length (jobs_among (sent_by self.old))) × (sent_by self.new ≡ sent_by self.old ++ Job task ∷ [])) }
+        ensures back { IfErr result (λ refused. (refused.task ≡ task) × (sent_by self.new ≡ sent_by self.old)) }
+        ensures ended { MatchResult result (λ _. has_end (sent_by self.old) ≡ false)
+            (λ refused. (refused.error ≡ SendError.Ended) ↔ (has_end (sent_by self.old) ≡ true)) }
+        // A place that is known to be free is one that the next message takes.
+        ensures free { (has_end (sent_by self.old) ≡ false) × (0 < free self.old) × (length (jobs_among (sent_by self.old)) < 2 ^ 64 - 1) → IsOk result }
+        ensures left { free self.old ≤ free self.new + 1 }
+        ensures full { IfErr result (λ refused. (refused.error ≡ SendError.RingFull)
+            → (free self.new ≡ 0) ⊎ (length (jobs_among (sent_by self.old)) ≡ 2 ^ 64 - 1)) }
+    {
+        if self.ended {
+            return Err(SendRefused {
+                error: SendError::Ended,
+                task,
+            });
+        }
+        if self.count == u64::MAX || self.ring.is_full() {
+            return Err(SendRefused {
+                error: SendError::RingFull,
+                task,
+            });
+        }
+        self.ring.push_reserved(Message::Job(task));
+        let number = self.count;
+        self.count += 1;
+        Ok(number)
+    }
+
+    /// Sends the end, which closes the server once the house takes it, behind the jobs: after it the
+    /// client sends nothing.
+    ///
+    /// Refuses, in this order: [`SendError::Ended`] where the client has ended;
+    /// [`SendError::RingFull`] where the ring has no free place. Then nothing was sent.
+    #[tactic(auto, using(crate::proofs::Messages::pushed))]
+    pub fn end(&mut self) -> Result<(), SendError>
+        ensures same { SameClient self.old self.new }
+        ensures ok { OnOk result (sent_by self.new ≡ sent_by self.old ++ End ∷ []) }
+        ensures back { OnErr result (sent_by self.new ≡ sent_by self.old) }
+        ensures ended { MatchResult result (λ _. has_end (sent_by self.old) ≡ false)
+            (λ error. (error ≡ SendError.Ended) ↔ (has_end (sent_by self.old) ≡ true)) }
+        ensures free { (has_end (sent_by self.old) ≡ false) × (0 < free self.old) → IsOk result }
+        ensures full { IfErr result (λ error. (error ≡ SendError.RingFull) → free self.new ≡ 0) }
+    {
+        if self.ended {
+            return Err(SendError::Ended);
+        }
+        if self.ring.is_full() {
+            return Err(SendError::RingFull);
+        }
+        self.ring.push_reserved(Message::End);
+        self.ended = true;
+        Ok(())
+    }
+}

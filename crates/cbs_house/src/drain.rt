@@ -1,0 +1,61 @@
+//! Running until no accepted job is unfinished.
+
+use crate::error::HouseError;
+use crate::house::House;
+use cbs_core::LIMIT;
+use cbs_job::Work;
+use std::alloc::Allocator;
+
+impl<W: Work, A: Allocator> House<W, A> {
+    ghost use Rattle.std.specs.Prelude.{ℕ, ◌≡◌, ◌<◌, true, false, [], OnOk, IfErr};
+    ghost use Rattle.cbs_house.specs.Houses.{core_of, rings_of, received, HoldsJob, HoldsNoJob, Moves};
+    ghost use Rattle.cbs_house.specs.Steps.{MayDrain};
+
+    /// Runs until no accepted job is unfinished. Where nobody is ready it advances the clock by the
+    /// idle span, so that no time is lost; it takes no message.
+    ///
+    /// Refuses by [`HouseError::ClockEnd`] where the clock stands at [`LIMIT`] with a job unfinished.
+    /// The steps made stay made.
+    pub fn drain(&mut self) -> Result<(), HouseError>
+        ensures moves { Moves W.meaning (MayDrain W.meaning) self.old self.new 0 }
+        ensures received { (s : ℕ) → received self.new s ≡ received self.old s }
+        ensures rings { rings_of self.new ≡ rings_of self.old }
+        ensures ok { OnOk result (HoldsNoJob (core_of self.new)) }
+        ensures end { IfErr result (λ error. (error ≡ HouseError.ClockEnd) × ((core_of self.new).clock ≡ LIMIT) × HoldsJob (core_of self.new)) }
+    {
+        while self.is_busy() {
+            if self.now() == LIMIT {
+                return Err(HouseError::ClockEnd);
+            }
+            self.go_on();
+        }
+        Ok(())
+    }
+
+    /// Whether an accepted job is not finished.
+    fn is_busy(&self) -> bool
+        ensures some { result ≡ true → HoldsJob (core_of self.now) }
+        ensures none { result ≡ false → HoldsNoJob (core_of self.now) }
+    {
+        self.collector.is_waiting()
+    }
+
+    /// Runs where somebody is ready, and else advances by the idle span. The clock is later then.
+    fn go_on(&mut self)
+        requires busy { HoldsJob (core_of self.old) }
+        requires early { (core_of self.old).clock < LIMIT }
+        ensures moves { Moves W.meaning (MayDrain W.meaning) self.old self.new 0 }
+        ensures later { (core_of self.old).clock < (core_of self.new).clock }
+    {
+        match self.idle_span() {
+            None => {
+                self.run();
+            }
+            Some(span) => {
+                let Ok(()) = self.advance(span) else {
+                    unreachable!()
+                };
+            }
+        }
+    }
+}

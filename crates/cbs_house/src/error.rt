@@ -1,0 +1,140 @@
+//! Why the house, a client or a collector refuses.
+
+ghost use Rattle.std.specs.Prelude.{◌≡◌};
+
+use thiserror::Error;
+
+/// Why the house refuses a call.
+#[derive(Clone, Copy, Debug, PartialEq, Eq, Error)]
+pub enum HouseError {
+    /// The backlog is not within 1 to 4096 jobs.
+    #[error("the backlog is not within 1 to 4096 jobs")]
+    BadBacklog,
+    /// The ring is not within 1 to [`MAX_RING`](crate::MAX_RING) messages.
+    #[error("the ring is not within 1 to 1024 messages")]
+    BadRing,
+    /// An allocation was refused.
+    #[error("out of memory")]
+    OutOfMemory,
+    /// No server has that number.
+    #[error("there is no such server")]
+    NoSuchServer,
+    /// The clock would pass its end, or stands there with a job unfinished.
+    #[error("the clock is at its end, at 1000000000 ticks")]
+    ClockEnd,
+    /// The clients sent too little in too many rounds.
+    #[error("the clients stopped sending before they had sent all")]
+    Stalled,
+}
+
+impl HouseError {
+    ghost use Rattle.cbs_house.specs.Errors.{house_error_number, house_error_name};
+
+    /// The error's number, from 1.
+    pub fn number(self) -> u8
+        ensures { result ≡ house_error_number self }
+    {
+        match self {
+            HouseError::BadBacklog => 1,
+            HouseError::BadRing => 2,
+            HouseError::OutOfMemory => 3,
+            HouseError::NoSuchServer => 4,
+            HouseError::ClockEnd => 5,
+            HouseError::Stalled => 6,
+        }
+    }
+
+    /// The error's name, as it is written in this program.
+    pub fn name(self) -> &'static str
+        ensures { result.now ≡ house_error_name self }
+    {
+        match self {
+            HouseError::BadBacklog => "BadBacklog",
+            HouseError::BadRing => "BadRing",
+            HouseError::OutOfMemory => "OutOfMemory",
+            HouseError::NoSuchServer => "NoSuchServer",
+            HouseError::ClockEnd => "ClockEnd",
+            HouseError::Stalled => "Stalled",
+        }
+    }
+}
+
+/// Why a client sends no message.
+#[derive(Clone, Copy, Debug, PartialEq, Eq, Error)]
+pub enum SendError {
+    /// The client has ended.
+    #[error("the client has ended")]
+    Ended,
+    /// The ring has no free place.
+    #[error("the ring is full")]
+    RingFull,
+}
+
+impl SendError {
+    ghost use Rattle.cbs_house.specs.Errors.{send_error_number, send_error_name};
+
+    /// The error's number, from 1.
+    pub fn number(self) -> u8
+        ensures { result ≡ send_error_number self }
+    {
+        match self {
+            SendError::Ended => 1,
+            SendError::RingFull => 2,
+        }
+    }
+
+    /// The error's name, as it is written in this program.
+    pub fn name(self) -> &'static str
+        ensures { result.now ≡ send_error_name self }
+    {
+        match self {
+            SendError::Ended => "Ended",
+            SendError::RingFull => "RingFull",
+        }
+    }
+}
+
+/// Why a collector refuses a call.
+#[derive(Clone, Copy, Debug, PartialEq, Eq, Error)]
+pub enum CollectError {
+    /// No server has that number.
+    #[error("the completion is of no known server")]
+    Stranger,
+    /// The job's result was taken before.
+    #[error("the result of the job was taken before")]
+    Double,
+    /// The job is not the next one, or was not announced.
+    #[error("the completion comes too early")]
+    Early,
+    /// An allocation was refused.
+    #[error("out of memory")]
+    OutOfMemory,
+}
+
+impl CollectError {
+    ghost use Rattle.cbs_house.specs.Errors.{collect_error_number, collect_error_name};
+
+    /// The error's number, from 1.
+    pub fn number(self) -> u8
+        ensures { result ≡ collect_error_number self }
+    {
+        match self {
+            CollectError::Stranger => 1,
+            CollectError::Double => 2,
+            CollectError::Early => 3,
+            CollectError::OutOfMemory => 4,
+        }
+    }
+
+    /// The error's name, as it is written in this program.
+    pub fn name(self) -> &'static str
+        ensures { result.now ≡ collect_error_name self }
+    {
+        match self {
+            CollectError::Stranger => "Stranger",
+            CollectError::Double => "Double",
+            CollectError::Early => "Early",
+            CollectError::OutOfMemory => "OutOfMemory",
+        }
+    }
+}

@@ -1,0 +1,109 @@
+//! A client with the jobs that it has still to send.
+
+ghost use Rattle.std.specs.Prelude.{◌≡◌, IfOk, length, map};
+ghost use Rattle.cbs_house.specs.Feeds.{client_of, left};
+
+use crate::client::Client;
+use crate::gate::Gate;
+use cbs_job::{Task, Work};
+use std::alloc::{AllocError, Allocator, Global};
+use std::collections::VecDeque;
+
+/// A client, and the jobs that it has still to send, in order. Behind them it ends.
+#[derive(Drop)]
+pub struct Feed<W: Work, A: Allocator = Global> {
+    pub(crate) client: Client<W, A>,
+    pub(crate) jobs: VecDeque<Task<W>, A>,
+}
+
+impl<W: Work, A: Allocator> Feed<W, A> {
+    ghost use Rattle.std.specs.Prelude.{◌≡◌, ◌+◌, true, IsTrue, ◌↔◌, length, if◌then◌else◌};
+    ghost use Rattle.std.specs.Borrow.{Lends, sem};
+    ghost use Rattle.cbs_house.specs.contracts.feed.Feed.{the_row};
+    ghost use Rattle.cbs_house.specs.contracts.client.Client.{the_row as client_row};
+    ghost use Rattle.cbs_house.specs.Clients.{server_of, sent_by};
+    ghost use Rattle.cbs_house.specs.Feeds.{client_of, left, has_ended, IsOrderly, IsDone, KeepsFeed};
+
+    /// A feed of these jobs, in order. It takes no memory.
+    pub fn new(client: Client<W, A>, jobs: Vec<Task<W>, A>) -> Feed<W, A>
+        ensures client { client_of result ≡ client }
+        ensures left { left result ≡ jobs.items }
+    {
+        Feed {
+            client,
+            jobs: VecDeque::from(jobs),
+        }
+    }
+
+    /// The client, to look at it or to settle it.
+    pub fn client(&mut self) -> &mut Client<W, A>
+        ensures* writes_back { sem 𝓛 (Lends (the_row W.row A.row W.Work A.Allocator) (client_row W.row A.row W.Work A.Allocator) self.entry result (λ c. record self.old { client = c })) }
+        ensures value { result.now ≡ client_of self.old }
+    {
+        &mut self.client
+    }
+
+    /// How many jobs are not sent yet.
+    pub fn left(&self) -> u64
+        ensures { result ≡ length (left self.now) }
+    {
+        self.jobs.len() as u64
+    }
+
+    /// Whether all is sent: no job is left, and the client has ended.
+    pub fn done(&self) -> bool
+        ensures { IsTrue result ↔ IsDone self.now }
+    {
+        self.jobs.is_empty() && self.client.ended()
+    }
+
+    /// One turn: asks the gate, and where it says true tries the next message. Whether one was sent.
+    #[tactic(auto, using(crate::proofs::Messages::pushed))]
+    pub(crate) fn turn<G: Gate>(&mut self, gate: &G) -> bool
+        requires { IsOrderly self.old }
+        ensures kept { KeepsFeed self.old self.new }
+        ensures count { length (sent_by self.new.client) ≡ length (sent_by self.old.client) + (if result then 1 else 0) }
+    {
+        if self.client.ended() {
+            return false;
+        }
+        let may_send = gate.before_send(self.client.server(), self.client.sent());
+        if !may_send || !self.client.has_room() {
+            return false;
+        }
+        match self.jobs.pop_front() {
+            Some(task) => {
+                let Ok(_) = self.client.send(task) else {
+                    unreachable!()
+                };
+            }
+            None => {
+                let Ok(()) = self.client.end() else {
+                    unreachable!()
+                };
+            }
+        }
+        true
+    }
+}
+
+/// A feed for each client, with the list of jobs at its place.
+pub fn feeds_of<W: Work, A: Allocator + Copy>(
+    alloc: A,
+    clients: Vec<Client<W, A>, A>,
+    lists: Vec<Vec<Task<W>, A>, A>,
+) -> Result<Vec<Feed<W, A>, A>, AllocError>
+    requires { length lists.items ≡ length clients.items }
+    ensures clients { IfOk result (λ feeds. map client_of feeds.items ≡ clients.items) }
+    ensures jobs { IfOk result (λ feeds. map left feeds.items ≡ map (λ jobs. jobs.items) lists.items) }
+{
+    let mut feeds = Vec::with_capacity(alloc, clients.len())?;
+    let mut lists = VecDeque::from(lists);
+    for client in clients {
+        let Some(jobs) = lists.pop_front() else {
+            unreachable!()
+        };
+        feeds.push(Feed::new(client, jobs))?;
+    }
+    Ok(feeds)
+}

@@ -1,0 +1,29 @@
+//! What watches a round.
+
+use crate::poll::Poll;
+
+/// Watches a round, and may hold sends back. It is asked and told from several threads.
+pub trait Gate {
+    /// Whether the client of `server` may try its next message now. `number` is how many jobs it has
+    /// sent before that message, which may be the end.
+    fn before_send(&self, server: u16, number: u64) -> bool;
+
+    /// Told of the answer of each poll of a round.
+    fn answered(&self, server: u16, poll: Poll);
+}
+
+/// The gate that holds nothing back.
+#[derive(Clone, Copy, Debug)]
+pub struct OpenGate;
+
+ghost use Rattle.std.specs.Prelude.{◌≡◌, true};
+
+impl Gate for OpenGate {
+    fn before_send(&self, _server: u16, _number: u64) -> bool
+        ensures { result ≡ true }
+    {
+        true
+    }
+
+    fn answered(&self, _server: u16, _poll: Poll) {}
+}

@@ -1,0 +1,216 @@
+//! The house: the core with its ends of the rings, and the results.
+
+ghost use Rattle.cbs_house.specs.Housed.{Housed};
+
+use crate::client::Client;
+use crate::collector::Collector;
+use crate::error::HouseError;
+use crate::message::Message;
+use crate::poll::Poll;
+use crate::rings::Rings;
+use cbs_core::{Core, CoreError, LIMIT, Ran, ServerView};
+use cbs_job::Work;
+use std::alloc::{Allocator, Global};
+
+/// A house: it owns the core, takes the messages of the clients, and keeps the results.
+///
+/// All its calls are made from one thread. It meets the clients at their rings alone.
+#[derive(Drop)]
+pub struct House<W: Work, A: Allocator = Global> {
+    pub(crate) core: Core<W, A>,
+    pub(crate) rings: Rings<W, A>,
+    pub(crate) collector: Collector<A>,
+    ghost housed: { Housed W.meaning core rings collector },
+}
+
+impl<W: Work, A: Allocator> House<W, A> {
+    ghost use Rattle.std.specs.Prelude.{ℕ, ◌≡◌, ◌≢◌, ◌<◌, ◌≤◌, ◌+◌, ◌*◌, [], ◌∷◌, ◌++◌, length, slice_get, Ok, Err, Some, None, IfSome, IfNone, IfOk, IfErr, OnOk, OnErr, MatchResult, MatchOption};
+    ghost use Rattle.cbs_core.specs.Agreement.{Agrees};
+    ghost use Rattle.cbs_core.specs.History.{History, ◌⊕◌, world_after, reply_in};
+    ghost use Rattle.cbs_core.specs.Quiet.{IsAtRest, IsIdleSpan};
+    ghost use Rattle.cbs_core.specs.Held.{held_at};
+    ghost use Rattle.cbs_core.specs.Views.{view_reply};
+    ghost use Rattle.cbs_core.specs.declared.reply.Reply.TheVariants as reply;
+    ghost use Rattle.cbs_core.specs.declared.step.Step.TheVariants as step;
+    ghost use Rattle.cbs_house.specs.Clients.{server_of, sent_by, free, SameClient};
+    ghost use Rattle.cbs_house.specs.Housed.{KeepsServer};
+    ghost use Rattle.cbs_house.specs.Houses.{core_of, rings_of, received, known, results_of, view_answer, Made, LooksOnly, Polled, CanTake, Collects};
+    ghost use Rattle.cbs_house.specs.Ringed.{IsOpened};
+
+    /// How many servers there are.
+    pub(crate) fn servers(&self) -> u16
+        ensures value { result ≡ length (core_of self.now).servers }
+        ensures few { result ≤ 64 }
+    {
+        self.core.servers()
+    }
+
+    /// Whether a server is there and closed.
+    pub(crate) fn is_closed(&self, server: u16) -> bool {
+        self.core.view(server).is_ok_and(|view| view.closed)
+    }
+
+    /// How many messages stand in a client's ring. The client must have been opened with this house.
+    ///
+    /// The caller holds both ends of the ring, so the number is exact: what was received and what
+    /// stands in the ring are, in order, all that the client sent.
+    pub fn settle(&mut self, client: &mut Client<W, A>) -> u64
+        requires { IsOpened (rings_of self.old) client.old }
+        ensures looked { LooksOnly self.old self.new }
+        ensures client { SameClient client.old client.new × (sent_by client.new ≡ sent_by client.old) × (free client.old ≤ free client.new) }
+        ensures value { result ≡ length (known self.new (server_of client.new)) }
+        ensures lawful { sent_by client.new ≡ received self.new (server_of client.new) ++ known self.new (server_of client.new) }
+    {
+        self.rings.settle(client) as u64
+    }
+
+    /// Looks for the next message of a server, and takes it: a job is given to the core, an end closes
+    /// the server. There is room for a message before it is popped, so none is lost.
+    ///
+    /// Answers, in this order: [`Poll::NoSuchServer`]; [`Poll::Nothing`] where the server is closed or
+    /// no message is seen; [`Poll::Full`] where the backlog of the server is full, whatever the next
+    /// message is; [`Poll::OutOfMemory`] where an allocation is refused. These pop nothing. Else
+    /// [`Poll::Took`] with the job's number, which is the one that the client was told; or
+    /// [`Poll::Closed`].
+    pub fn poll(&mut self, server: u16) -> Poll
+        ensures polled { Polled W.meaning self.old server result self.new }
+        ensures rings { rings_of self.new ≡ rings_of self.old }
+        ensures results { (s : ℕ) → results_of self.new s ≡ results_of self.old s }
+    {
+        if let Some(answer) = self.prepare(server) {
+            return answer;
+        }
+        self.take_next(server)
+    }
+
+    /// Pops nothing: gives an answer, or makes room for a message that is seen.
+    fn prepare(&mut self, server: u16) -> Option<Poll>
+        ensures made { Made W.meaning self.old self.new [] }
+        ensures core { core_of self.new ≡ record (core_of self.old) { rooms = (core_of self.new).rooms } }
+        ensures results { (s : ℕ) → results_of self.new s ≡ results_of self.old s }
+        ensures some { IfSome result (λ answer. Polled W.meaning self.old server answer self.new) }
+        ensures none { IfNone result (CanTake self.new server) }
+    {
+        let index = usize::from(server);
+        if index >= self.rings.len() {
+            return Some(Poll::NoSuchServer);
+        }
+        if self.rings.look(index) == 0 {
+            return Some(Poll::Nothing);
+        }
+        match self.core.make_room(server) {
+            Ok(()) => {}
+            Err(CoreError::Closed) => return Some(Poll::Nothing),
+            Err(CoreError::BacklogFull) => return Some(Poll::Full),
+            Err(CoreError::OutOfMemory) => return Some(Poll::OutOfMemory),
+            Err(_) => unreachable!(),
+        }
+        match self.collector.make_room(server) {
+            Ok(()) => None,
+            Err(_) => Some(Poll::OutOfMemory),
+        }
+    }
+
+    /// Pops the next message, which was seen, and gives it to the core, which has room for it.
+    fn take_next(&mut self, server: u16) -> Poll
+        requires { CanTake self.old server }
+        ensures polled { Polled W.meaning self.old server result self.new }
+        ensures rings { rings_of self.new ≡ rings_of self.old }
+        ensures results { (s : ℕ) → results_of self.new s ≡ results_of self.old s }
+    {
+        match self.rings.take(server) {
+            Message::Job(task) => {
+                let Ok(number) = self.core.submit(server, task) else {
+                    unreachable!()
+                };
+                let Ok(()) = self.collector.expect(server) else {
+                    unreachable!()
+                };
+                Poll::Took(number)
+            }
+            Message::End => {
+                let Ok(()) = self.core.close(server) else {
+                    unreachable!()
+                };
+                Poll::Closed
+            }
+        }
+    }
+
+    /// Runs one unit of the job at the front of the chosen server, as [`Core::run`]; a completion is
+    /// put in the results.
+    pub fn run(&mut self) -> Ran
+        ensures reply { (M : History W) → Agrees W.meaning (core_of self.old) M → reply.Ran result ≡ reply_in W.meaning M step.Run }
+        ensures made { Made W.meaning self.old self.new (step.Run ∷ []) }
+        ensures rings { rings_of self.new ≡ rings_of self.old }
+        ensures collects { Collects result self.old self.new }
+    {
+        let ran = self.core.run();
+        if let Ran::Done(done) = ran {
+            match self.collector.take(done) {
+                Ok(()) => {}
+                Err(_) => unreachable!(),
+            }
+        }
+        ran
+    }
+
+    /// Lets `n` ticks pass, by one jump, as [`Core::advance`].
+    ///
+    /// Refuses by [`HouseError::ClockEnd`] where the clock would pass [`LIMIT`], and then changes
+    /// nothing.
+    pub fn advance(&mut self, n: u64) -> Result<(), HouseError>
+        ensures made { OnOk result (Made W.meaning self.old self.new (step.Advance n ∷ [])) }
+        ensures rings { rings_of self.new ≡ rings_of self.old }
+        ensures results { (s : ℕ) → results_of self.new s ≡ results_of self.old s }
+        ensures refused { IfErr result (λ error. (error ≡ HouseError.ClockEnd) × LooksOnly self.old self.new) }
+        ensures end { (M : History W) → Agrees W.meaning (core_of self.old) M → MatchResult result
+            (λ _. (world_after W.meaning M).now + n ≤ LIMIT) (λ _. LIMIT < (world_after W.meaning M).now + n) }
+    {
+        match self.core.advance(n) {
+            Ok(()) => Ok(()),
+            Err(_) => Err(HouseError::ClockEnd),
+        }
+    }
+
+    /// The clock, in ticks: 0 to [`LIMIT`].
+    pub fn now(&self) -> u64
+        ensures now { (M : History W) → Agrees W.meaning (core_of self.now) M → result ≡ (world_after W.meaning M).now }
+        ensures clock { result ≡ (core_of self.now).clock }
+        ensures most { result ≤ LIMIT }
+    {
+        self.core.now()
+    }
+
+    /// For how many ticks nobody will be ready, as [`Core::idle_span`].
+    pub fn idle_span(&self) -> Option<u64>
+        ensures { (M : History W) → Agrees W.meaning (core_of self.now) M
+            → MatchOption result (¬ IsAtRest W.meaning (world_after W.meaning M)) (IsIdleSpan W.meaning (world_after W.meaning M)) }
+    {
+        self.core.idle_span()
+    }
+
+    /// What a server shows, or [`HouseError::NoSuchServer`].
+    pub fn view(&self, server: u16) -> Result<ServerView, HouseError>
+        ensures { (M : History W) → Agrees W.meaning (core_of self.now) M
+            → result ≡ view_answer (view_reply W.meaning (slice_get (world_after W.meaning M).accounts server)) }
+    {
+        match self.core.view(server) {
+            Ok(view) => Ok(view),
+            Err(_) => Err(HouseError::NoSuchServer),
+        }
+    }
+
+    /// The results of a server, in the order of its jobs, or [`HouseError::NoSuchServer`].
+    pub fn results(&self, server: u16) -> Result<&[u64], HouseError>
+        ensures ok { IfOk result (λ results. (server < length (core_of self.now).servers) × (results.now ≡ results_of self.now server)) }
+        ensures error { IfErr result (λ error. (error ≡ HouseError.NoSuchServer) × (length (core_of self.now).servers ≤ server)) }
+        // At all times: with what the jobs held come to, they are what the jobs received come to.
+        ensures keeps { IfOk result (λ results. KeepsServer W.meaning (held_at (core_of self.now).servers server) (received self.now server) results.now) }
+    {
+        match self.collector.results(server) {
+            Some(results) => Ok(results),
+            None => Err(HouseError::NoSuchServer),
+        }
+    }
+}

@@ -1,0 +1,33 @@
+//! The house: one thread that serves the jobs of many clients, each over a ring of its own.
+#![tactic(auto)]
+
+mod client;
+mod collector;
+mod drain;
+mod error;
+mod feed;
+mod gate;
+mod house;
+mod message;
+mod opening;
+mod poll;
+mod rings;
+mod round;
+mod senders;
+mod serving;
+mod shelf;
+
+pub use client::{Client, SendRefused};
+pub use collector::Collector;
+pub use error::{CollectError, HouseError, SendError};
+pub use feed::{Feed, feeds_of};
+pub use gate::{Gate, OpenGate};
+pub use house::House;
+pub use message::Message;
+pub use opening::{MAX_RING, open_house};
+pub use poll::Poll;
+pub use round::{Round, serve_round};
+pub use serving::serve;
+
+#[cfg(test)]
+mod tests;

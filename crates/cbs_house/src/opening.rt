@@ -1,0 +1,92 @@
+//! Opening a house with its clients.
+
+ghost use Rattle.std.specs.Prelude.{ℕ, ◌≡◌, ◌≤◌, ◌⊎◌, [], length, map, Some, None, IfOk, MatchResult};
+ghost use Rattle.std.specs.List.{All, range_with_len};
+ghost use Rattle.cbs_core.specs.Agreement.{Agrees};
+ghost use Rattle.cbs_core.specs.Setups.{terms_of};
+ghost use Rattle.cbs_house.specs.Clients.{server_of, ring_of};
+ghost use Rattle.cbs_house.specs.Houses.{core_of, rings_of, received, known, results_of};
+ghost use Rattle.cbs_house.specs.Opened.{open_refusal, IsNewEnd, IsUnused};
+ghost use Rattle.cbs_house.specs.Ringed.{rings_in, IsOpened};
+
+use crate::client::Client;
+use crate::collector::Collector;
+use crate::error::HouseError;
+use crate::house::House;
+use crate::rings::Rings;
+use cbs_core::{Core, MAX_BACKLOG};
+use cbs_job::Work;
+use cbs_rate::Plan;
+use cbs_rules::Mode;
+use rtrb::RingBuffer;
+use std::alloc::{AllocError, Allocator};
+
+/// The most messages that a ring has places for.
+pub const MAX_RING: u64 = 1024;
+
+/// Opens a house whose servers have the reservations of the plan, all with the same mode, each with
+/// at most `backlog` unfinished jobs; and one client for each server, in order of their numbers,
+/// each with a ring of `ring` places.
+///
+/// Refuses, in this order: [`HouseError::BadBacklog`] where the backlog is not within 1 to
+/// [`MAX_BACKLOG`]; [`HouseError::BadRing`] where the ring is not within 1 to [`MAX_RING`];
+/// [`HouseError::OutOfMemory`] where an allocation is refused.
+pub fn open_house<W: Work, A: Allocator + Copy>(
+    alloc: A,
+    plan: Plan,
+    mode: Mode,
+    backlog: u64,
+    ring: u64,
+) -> Result<(House<W, A>, Vec<Client<W, A>, A>), HouseError>
+    ensures agrees { IfOk result (λ r. Agrees W.meaning (core_of r.0) (record { setup = record { servers = terms_of mode plan.rates; backlog = backlog }; steps = [] })) }
+    ensures empty { IfOk result (λ r. (s : ℕ) → (received r.0 s ≡ []) × (known r.0 s ≡ []) × (results_of r.0 s ≡ [])) }
+    ensures clients { IfOk result (λ r. map server_of r.1.items ≡ range_with_len 0 (length plan.rates)) }
+    ensures unused { IfOk result (λ r. All (IsUnused ring) r.1.items) }
+    ensures opened { IfOk result (λ r. All (IsOpened (rings_of r.0)) r.1.items) }
+    ensures refusal { MatchResult result (λ _. open_refusal backlog ring ≡ None)
+        (λ e. (open_refusal backlog ring ≡ Some e) ⊎ ((open_refusal backlog ring ≡ None) × (e ≡ HouseError.OutOfMemory))) }
+{
+    if backlog == 0 || backlog > MAX_BACKLOG {
+        return Err(HouseError::BadBacklog);
+    }
+    if ring == 0 || ring > MAX_RING {
+        return Err(HouseError::BadRing);
+    }
+    let servers = plan.len() as u16;
+    let Ok(core) = Core::new(alloc, plan, mode, backlog) else {
+        return Err(HouseError::OutOfMemory);
+    };
+    let Ok(collector) = Collector::new(alloc, servers) else {
+        return Err(HouseError::OutOfMemory);
+    };
+    let Ok((rings, clients)) = open_rings(alloc, servers, ring as usize) else {
+        return Err(HouseError::OutOfMemory);
+    };
+    let house = House {
+        core,
+        rings,
+        collector,
+    };
+    Ok((house, clients))
+}
+
+/// A ring for each of so many servers: the house's ends, and the clients with theirs.
+fn open_rings<W: Work, A: Allocator + Copy>(
+    alloc: A,
+    servers: u16,
+    places: usize,
+) -> Result<(Rings<W, A>, Vec<Client<W, A>, A>), AllocError>
+    ensures new { IfOk result (λ r. All IsNewEnd r.0.ends.items) }
+    ensures rings { IfOk result (λ r. rings_in r.0 ≡ map ring_of r.1.items) }
+    ensures clients { IfOk result (λ r. map server_of r.1.items ≡ range_with_len 0 servers) }
+    ensures unused { IfOk result (λ r. All (IsUnused places) r.1.items) }
+{
+    let mut ends = Vec::with_capacity(alloc, usize::from(servers))?;
+    let mut clients = Vec::with_capacity(alloc, usize::from(servers))?;
+    for server in 0..servers {
+        let (producer, consumer) = RingBuffer::new(alloc, places)?;
+        ends.push(consumer)?;
+        clients.push(Client::new(server, producer))?;
+    }
+    Ok((Rings { ends }, clients))
+}

@@ -1,0 +1,142 @@
+//! A round: the senders and the house at once.
+
+ghost use Rattle.std.specs.Prelude.{◌≡◌, ◌+◌, ◌*◌, ◌≤◌, length};
+ghost use Rattle.std.specs.List.{All};
+ghost use Rattle.std.specs.Thread.{IsSync, IsSend};
+ghost use Rattle.cbs_house.specs.Feeds.{IsOrderly, KeepsFeeds, messages};
+ghost use Rattle.cbs_house.specs.Houses.{Moves};
+ghost use Rattle.cbs_house.specs.Rounds.{popped_by, Ready};
+ghost use Rattle.cbs_house.specs.Steps.{MayRound};
+
+use crate::feed::Feed;
+use crate::gate::Gate;
+use crate::house::House;
+use crate::poll::Poll;
+use crate::senders::send_all;
+use cbs_job::Work;
+use std::thread::{Threads, join_mut};
+
+/// How many messages a round moved, ends included.
+#[derive(Clone, Copy, Debug, PartialEq, Eq)]
+pub struct Round {
+    /// How many the feeds sent.
+    pub sent: u64,
+    /// How many the house took, of all servers.
+    pub took: u64,
+}
+
+/// Lets the senders of all feeds and the house take turns, all at once.
+///
+/// A sender's turn asks the gate, and where it says true tries the next message once; it stops when
+/// its feed is done, or after `turns` turns. A turn of the house polls each server once, in order,
+/// and tells the gate each answer, and then runs once; it stops when the end of every feed was
+/// taken, or after `turns` turns. Nothing is refused: where a poll finds no memory it popped
+/// nothing, and the next turn polls again.
+///
+/// There are at most 64 feeds, each with a client that was opened with this house and that has not
+/// ended unless no job is left; `turns` is at most 1000000000.
+pub fn serve_round<R: Threads + Sync, G: Gate + Sync, W: Work + Send>(
+    rt: &R,
+    house: &mut House<W>,
+    feeds: &mut [Feed<W>],
+    turns: u64,
+    gate: &G,
+) -> Round
+    requires ready { Ready house.old feeds.old }
+    requires turns { turns ≤ 1000000000 }
+    ensures ready { Ready house.new feeds.new }
+    ensures feeds { KeepsFeeds feeds.old feeds.new }
+    ensures sent { messages feeds.new ≡ messages feeds.old + result.sent }
+    ensures took { Moves W.meaning MayRound house.old house.new result.took }
+{
+    let mut servers = [0u16; 64];
+    let wanted = servers_of(feeds, &mut servers);
+    let (sent, took) = both_sides(rt, gate, turns, wanted, feeds, house);
+    Round { sent, took }
+}
+
+/// The servers of the feeds.
+fn servers_of<'a, W: Work>(feeds: &[Feed<W>], servers: &'a mut [u16; 64]) -> &'a [u16]
+    requires { length feeds.now ≤ 64 }
+{
+    for (index, feed) in feeds.iter().enumerate() {
+        servers[index] = feed.client.server();
+    }
+    &servers[..feeds.len()]
+}
+
+// The two sides at once: the senders, and the house. A function of its own, so that what its
+// closures require is what it is given.
+fn both_sides<R: Threads + Sync, G: Gate + Sync, W: Work + Send>(
+    rt: &R,
+    gate: &G,
+    turns: u64,
+    wanted: &[u16],
+    feeds: &mut [Feed<W>],
+    house: &mut House<W>,
+) -> (u64, u64)
+    requires few { length feeds.old ≤ 64 }
+    requires turns { turns ≤ 1000000000 }
+    requires orderly { All IsOrderly feeds.old }
+    ensures feeds { KeepsFeeds feeds.old feeds.new }
+    ensures sent { messages feeds.new ≡ messages feeds.old + result.0 }
+    ensures took { Moves W.meaning MayRound house.old house.new result.1 }
+{
+    join_mut(
+        rt,
+        &mut || -> u64
+            requires { IsSync R.row × IsSync G.row × IsSend W.row × (length feeds.now ≤ 64) × (turns ≤ 1000000000) × All IsOrderly feeds.now }
+            ensures { KeepsFeeds feeds.entry.now feeds.exit.now × (messages feeds.exit.now ≡ messages feeds.entry.now + result) }
+        { send_all(rt, gate, turns, feeds) },
+        &mut || -> u64
+            requires { turns ≤ 1000000000 }
+            ensures { Moves W.meaning MayRound house.entry.now house.exit.now result }
+        { house_turns(gate, turns, wanted, house) },
+    )
+}
+
+/// The turns of the house, until the wanted servers are closed. How many messages it took.
+fn house_turns<G: Gate, W: Work>(gate: &G, turns: u64, wanted: &[u16], house: &mut House<W>) -> u64
+    requires { turns ≤ 1000000000 }
+    ensures { Moves W.meaning MayRound house.old house.new result }
+{
+    let mut took = 0;
+    for _ in 0..turns {
+        if all_closed(house, wanted) {
+            break;
+        }
+        took += house_turn(gate, house);
+    }
+    took
+}
+
+/// Whether all these servers are closed.
+fn all_closed<W: Work>(house: &House<W>, servers: &[u16]) -> bool {
+    servers.iter().all(|server| house.is_closed(*server))
+}
+
+/// One turn of the house: it polls each server once, and runs once. How many messages it took.
+fn house_turn<G: Gate, W: Work>(gate: &G, house: &mut House<W>) -> u64
+    ensures moves { Moves W.meaning MayRound house.old house.new result }
+    ensures most { result ≤ 64 }
+{
+    let mut took = 0;
+    for server in 0..house.servers() {
+        let poll = house.poll(server);
+        gate.answered(server, poll);
+        took += count(poll);
+    }
+    house.run();
+    took
+}
+
+/// How many messages a poll popped.
+fn count(poll: Poll) -> u64
+    ensures value { result ≡ popped_by poll }
+    ensures most { result ≤ 1 }
+{
+    match poll {
+        Poll::Took(_) | Poll::Closed => 1,
+        Poll::Nothing | Poll::Full | Poll::OutOfMemory | Poll::NoSuchServer => 0,
+    }
+}

@@ -1,0 +1,89 @@
+//! The senders' side of a round.
+
+ghost use Rattle.std.specs.Prelude.{◌≡◌, ◌+◌, ◌*◌, ◌<◌, ◌≤◌, length};
+ghost use Rattle.std.specs.List.{All};
+ghost use Rattle.std.specs.Thread.{IsSync, IsSend};
+ghost use Rattle.cbs_house.specs.Clients.{sent_by};
+ghost use Rattle.cbs_house.specs.Feeds.{IsOrderly, KeepsFeed, KeepsFeeds, messages};
+
+use crate::feed::Feed;
+use crate::gate::Gate;
+use cbs_job::Work;
+use std::thread::{Threads, join_mut};
+
+/// One sender: takes turns until its feed is done. How many messages it sent.
+#[tactic(auto, using(crate::proofs::Feeding::fed))]
+fn send_turns<W: Work, G: Gate>(feed: &mut Feed<W>, gate: &G, turns: u64) -> u64
+    requires { IsOrderly feed.old }
+    ensures kept { KeepsFeed feed.old feed.new }
+    ensures count { length (sent_by feed.new.client) ≡ length (sent_by feed.old.client) + result }
+    ensures most { result ≤ turns }
+{
+    let mut sent = 0;
+    for _ in 0..turns {
+        if feed.done() {
+            break;
+        }
+        if feed.turn(gate) {
+            sent += 1;
+        }
+    }
+    sent
+}
+
+/// The senders of all feeds, each in a part of its own of the joins. How many messages they sent.
+#[cycle(senders)]
+#[tactic(auto, using(crate::proofs::Feeding::fed))]
+pub fn send_all<R: Threads + Sync, G: Gate + Sync, W: Work + Send>(
+    rt: &R,
+    gate: &G,
+    turns: u64,
+    feeds: &mut [Feed<W>],
+) -> u64
+    requires few { length feeds.old ≤ 64 }
+    requires turns { turns ≤ 1000000000 }
+    requires orderly { All IsOrderly feeds.old }
+    ensures kept { KeepsFeeds feeds.old feeds.new }
+    ensures count { messages feeds.new ≡ messages feeds.old + result }
+    ensures most { result ≤ 1000000000 * length feeds.old }
+{
+    if feeds.len() < 2 {
+        return match feeds.first_mut() {
+            Some(feed) => send_turns(feed, gate, turns),
+            None => 0,
+        };
+    }
+    let (front, back) = feeds.split_at_mut(feeds.len() / 2);
+    let (a, b) = send_both(rt, gate, turns, front, back);
+    a + b
+}
+
+// The senders of two parts, at once. A function of its own, so that what its closures require is
+// what it is given.
+#[cycle(senders)]
+fn send_both<R: Threads + Sync, G: Gate + Sync, W: Work + Send>(
+    rt: &R,
+    gate: &G,
+    turns: u64,
+    front: &mut [Feed<W>],
+    back: &mut [Feed<W>],
+) -> (u64, u64)
+    requires few { (length front.old + length back.old ≤ 64) × (0 < length front.old) × (0 < length back.old) }
+    requires turns { turns ≤ 1000000000 }
+    requires orderly { All IsOrderly front.old × All IsOrderly back.old }
+    ensures kept { KeepsFeeds front.old front.new × KeepsFeeds back.old back.new }
+    ensures count { (messages front.new ≡ messages front.old + result.0) × (messages back.new ≡ messages back.old + result.1) }
+    ensures most { (result.0 ≤ 1000000000 * length front.old) × (result.1 ≤ 1000000000 * length back.old) }
+{
+    join_mut(
+        rt,
+        &mut || -> u64
+            requires { IsSync R.row × IsSync G.row × IsSend W.row × (length front.now ≤ 64) × (turns ≤ 1000000000) × All IsOrderly front.now }
+            ensures { KeepsFeeds front.entry.now front.exit.now × (messages front.exit.now ≡ messages front.entry.now + result) × (result ≤ 1000000000 * length front.entry.now) }
+        { send_all(rt, gate, turns, front) },
+        &mut || -> u64
+            requires { IsSync R.row × IsSync G.row × IsSend W.row × (length back.now ≤ 64) × (turns ≤ 1000000000) × All IsOrderly back.now }
+            ensures { KeepsFeeds back.entry.now back.exit.now × (messages back.exit.now ≡ messages back.entry.now + result) × (result ≤ 1000000000 * length back.entry.now) }
+        { send_all(rt, gate, turns, back) },
+    )
+}

@@ -1,0 +1,180 @@
+//! Serving feeds to their end.
+
+ghost use Rattle.std.specs.Prelude.{ℕ, ◌≡◌, ◌+◌, ◌<◌, ◌≤◌, true, length, IsTrue, IfOk, OnOk, IfErr};
+ghost use Rattle.std.specs.List.{All};
+ghost use Rattle.cbs_house.specs.Clients.{sent_by};
+ghost use Rattle.cbs_house.specs.Feeds.{IsDone, KeepsFeed, KeepsFeeds, all_unsent, unsent};
+ghost use Rattle.cbs_house.specs.Houses.{core_of, rings_of, results_of, HoldsNoJob, LooksOnly, Polled};
+ghost use Rattle.cbs_house.specs.Ringed.{IsOpened};
+ghost use Rattle.cbs_house.specs.Rounds.{Ready, ServesOn, IsSettled, IsServed, Stops};
+
+use crate::error::HouseError;
+use crate::feed::Feed;
+use crate::gate::Gate;
+use crate::house::House;
+use crate::poll::Poll;
+use crate::round::serve_round;
+use cbs_job::Work;
+use std::thread::Threads;
+
+/// How many turns each round of serving has.
+const TURNS: u64 = 10_000;
+
+/// Serves the feeds until each is done and all its jobs are finished: the results of its server are
+/// then those of all its jobs, in order, each once, whatever the threads did.
+///
+/// It makes rounds of 10000 turns ([`serve_round`]). After each it takes what stands in the rings,
+/// and drains.
+///
+/// Refuses by [`HouseError::OutOfMemory`] where there is no memory to take what stands in a ring; by
+/// [`HouseError::ClockEnd`] where the clock stands at its end with a job unfinished; and by
+/// [`HouseError::Stalled`] where that is not enough after one round more than the feeds had messages
+/// to send. No job is lost then: each is in its feed, its ring, the core or the results, and the
+/// feeds may be served again.
+///
+/// There are at most 64 feeds, each with a client that was opened with this house and that has not
+/// ended unless no job is left.
+#[tactic(auto, using(crate::proofs::Feeding::fed))]
+pub fn serve<R: Threads + Sync, G: Gate + Sync, W: Work + Send>(
+    rt: &R,
+    house: &mut House<W>,
+    feeds: &mut [Feed<W>],
+    gate: &G,
+) -> Result<(), HouseError>
+    requires ready { Ready house.old feeds.old }
+    ensures ready { Ready house.new feeds.new }
+    ensures feeds { KeepsFeeds feeds.old feeds.new }
+    ensures steps { ServesOn W.meaning house.old house.new }
+    ensures served { OnOk result (All (IsServed W.meaning house.new) feeds.new) }
+    ensures stops { IfErr result (λ error. Stops error house.new) }
+{
+    for _ in 0..rounds_for(feeds) {
+        serve_round(rt, house, feeds, TURNS, gate);
+        if finish_round(house, feeds)? {
+            return Ok(());
+        }
+    }
+    Err(HouseError::Stalled)
+}
+
+/// How many rounds feeds are given: one, and one for each message that they have still to send.
+fn rounds_for<W: Work>(feeds: &[Feed<W>]) -> u128
+    requires { length feeds.now ≤ 64 }
+    ensures { result ≡ all_unsent feeds.now + 1 }
+{
+    let mut rounds = 1;
+    for feed in feeds {
+        rounds += u128::from(feed.left());
+        if !feed.client.ended() {
+            rounds += 1;
+        }
+    }
+    rounds
+}
+
+/// Takes and finishes what a round left. Whether all is served.
+#[tactic(auto, using(crate::proofs::Feeding::fed))]
+fn finish_round<W: Work>(house: &mut House<W>, feeds: &mut [Feed<W>]) -> Result<bool, HouseError>
+    requires ready { Ready house.old feeds.old }
+    ensures ready { Ready house.new feeds.new }
+    ensures feeds { KeepsFeeds feeds.old feeds.new }
+    ensures steps { ServesOn W.meaning house.old house.new }
+    ensures served { IfOk result (λ all. IsTrue all → All (IsServed W.meaning house.new) feeds.new) }
+    ensures stops { IfErr result (λ error. Stops error house.new) }
+{
+    take_rest(house, feeds)?;
+    house.drain()?;
+    let settled = all_settled(house, feeds);
+    Ok(settled && all_done(feeds))
+}
+
+/// Takes what stands in the rings of the feeds.
+fn take_rest<W: Work>(house: &mut House<W>, feeds: &mut [Feed<W>]) -> Result<(), HouseError>
+    requires ready { Ready house.old feeds.old }
+    ensures ready { Ready house.new feeds.new }
+    ensures feeds { KeepsFeeds feeds.old feeds.new }
+    ensures steps { ServesOn W.meaning house.old house.new }
+    ensures stops { IfErr result (λ error. Stops error house.new) }
+{
+    for index in 0..feeds.len() {
+        take_ring(house, &mut feeds[index])?;
+    }
+    Ok(())
+}
+
+/// Takes what stands in the ring of one feed.
+fn take_ring<W: Work>(house: &mut House<W>, feed: &mut Feed<W>) -> Result<(), HouseError>
+    requires opened { IsOpened (rings_of house.old) feed.old.client }
+    ensures feed { KeepsFeed feed.old feed.new }
+    ensures steps { ServesOn W.meaning house.old house.new }
+    ensures stops { IfErr result (λ error. Stops error house.new) }
+{
+    for _ in 0..settle_feed(house, feed) {
+        take_message(house, feed.client.server())?;
+    }
+    Ok(())
+}
+
+/// Takes the next message of a server, and drains first where its backlog is full.
+#[tactic(auto, using(crate::proofs::Moving::serving))]
+fn take_message<W: Work>(house: &mut House<W>, server: u16) -> Result<(), HouseError>
+    ensures steps { ServesOn W.meaning house.old house.new }
+    ensures stops { IfErr result (λ error. Stops error house.new) }
+{
+    match house.poll(server) {
+        Poll::Full => {
+            house.drain()?;
+            memory_for(house.poll(server))
+        }
+        poll => memory_for(poll),
+    }
+}
+
+/// Whether a poll found memory.
+fn memory_for(poll: Poll) -> Result<(), HouseError>
+    ensures { IfErr result (λ error. error ≡ HouseError.OutOfMemory) }
+{
+    match poll {
+        Poll::OutOfMemory => Err(HouseError::OutOfMemory),
+        _ => Ok(()),
+    }
+}
+
+/// Whether nothing stands in any ring of the feeds. Nothing is popped, so that what was seen of one
+/// ring stays.
+fn all_settled<W: Work>(house: &mut House<W>, feeds: &mut [Feed<W>]) -> bool
+    requires ready { Ready house.old feeds.old }
+    ensures ready { Ready house.new feeds.new }
+    ensures feeds { KeepsFeeds feeds.old feeds.new }
+    ensures looked { LooksOnly house.old house.new }
+    ensures settled { IsTrue result → All (IsSettled house.new) feeds.new }
+{
+    for index in 0..feeds.len() {
+        if settle_feed(house, &mut feeds[index]) > 0 {
+            return false;
+        }
+    }
+    true
+}
+
+/// How many messages stand in the ring of a feed.
+fn settle_feed<W: Work>(house: &mut House<W>, feed: &mut Feed<W>) -> u64
+    requires opened { IsOpened (rings_of house.old) feed.old.client }
+    ensures feed { KeepsFeed feed.old feed.new }
+    ensures looked { LooksOnly house.old house.new }
+    ensures settled { result ≡ 0 → IsSettled house.new feed.new }
+{
+    house.settle(&mut feed.client)
+}
+
+/// Whether all feeds are done.
+fn all_done<W: Work>(feeds: &[Feed<W>]) -> bool
+    ensures { IsTrue result → All IsDone feeds.now }
+{
+    for feed in feeds {
+        if !feed.done() {
+            return false;
+        }
+    }
+    true
+}
