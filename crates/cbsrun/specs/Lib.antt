@@ -7,6 +7,8 @@ pub mod Files
 pub mod Lines
 pub mod Reads
 pub mod Runs
+pub mod Served
+pub mod Shares
 pub mod Statuses
 pub mod TaskFiles
 pub mod Tops

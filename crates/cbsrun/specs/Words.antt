@@ -2,7 +2,7 @@
 use Rattle.std.specs.Prelude.{◌≡◌, ℕ, List, codes, true, Some, string_bytes}
 use Rattle.clap.specs.Words.{App, Row, Rule, Text, first_of, new_app, new_rule, subcommand_of, takes, with_rule, with_subcommand}
 use Rattle.cbsrun.specs.declared.words.Verb.{Verb}
-use Rattle.cbsrun.specs.declared.words.Verb.TheVariants.{Replay}
+use Rattle.cbsrun.specs.declared.words.Verb.TheVariants.{Replay, Serve}
 use Rattle.cbsrun.specs.declared.words.Asked.{Asked}
 use Rattle.cbsrun.specs.declared.words.WordsFault.{WordsFault}
 use Rattle.cbsrun.specs.declared.words.WordsFault.TheVariants.{Usage, Help, OutOfMemory}
@@ -11,21 +11,22 @@ use Rattle.cbsrun.specs.declared.words.WordsFault.TheVariants.{Usage, Help, OutO
 abbrev pub file : Rule
 file = record (new_rule (codes "FILE")) { required = true }
 
--- the verb and its file
-abbrev pub replay : App
-replay = with_rule (new_app (codes "replay")) file
+-- a verb of this name, and its file
+abbrev pub on_file : Text → App
+on_file name = with_rule (new_app name) file
 
 -- a subcommand is required
 abbrev pub required : App → App
 required a = record a { top = record a.top { subcommand_required = true } }
 
--- the program: one verb, which is required
+-- the program: two verbs, of which one is required
 abbrev pub command_line : App
-command_line = with_subcommand (required (new_app (codes "cbsrun"))) replay.top
+command_line = with_subcommand (with_subcommand (required (new_app (codes "cbsrun"))) (on_file (codes "replay")).top) (on_file (codes "serve")).top
 
 -- the word of each verb
 abbrev pub name_of : Verb → Text
 name_of Replay = codes "replay"
+name_of Serve = codes "serve"
 
 -- the subcommand that the words name is the verb, and its one value the file
 abbrev pub Names : List Text → Asked → Type 0

@@ -13,6 +13,9 @@ mod pending;
 mod replay;
 mod run;
 mod run_error;
+mod serve;
+mod served;
+mod shares;
 mod task_file;
 #[cfg(test)]
 mod tests;
@@ -29,6 +32,7 @@ use std::env;
 use std::fs::File;
 use std::io::ErrorKind;
 use std::process::ExitCode;
+use std::thread::Threads;
 use words::{Asked, WordsFault, read_words};
 
 /// The words of the command line.
@@ -56,8 +60,8 @@ fn bytes_of(rt: &HostRuntime, alloc: Global, path: &str) -> Result<Vec<u8>, Read
     read_all(alloc, &mut FromRead::new(file))
 }
 
-/// The status of a program that reads its words, its file and its steps.
-fn status(rt: &HostRuntime) -> u8 {
+/// The status of a program that reads its words, its file and its steps. It serves on `threads`.
+fn status<R: Threads + Sync>(rt: &HostRuntime, threads: &R) -> u8 {
     let alloc = rt.alloc();
     let mut out = ToWrite::new(rt.stdout());
     let mut err = ToWrite::new(rt.stderr());
@@ -77,7 +81,7 @@ fn status(rt: &HostRuntime) -> u8 {
         }
     };
     match bytes_of(rt, alloc, asked.file.as_str()) {
-        Ok(bytes) => run_bytes(alloc, asked.verb, &bytes, &mut out, &mut err),
+        Ok(bytes) => run_bytes(threads, alloc, asked.verb, &bytes, &mut out, &mut err),
         Err(fault) => {
             let _written = write_read_fault(&mut err, fault);
             BAD_FILE
@@ -86,5 +90,5 @@ fn status(rt: &HostRuntime) -> u8 {
 }
 
 fn main(rt: HostRuntime) -> ExitCode {
-    ExitCode::from(status(&rt))
+    ExitCode::from(status(&rt, &rt))
 }

@@ -1,6 +1,6 @@
 //! The trace of a task file, written to a writer.
 
-ghost use Rattle.std.specs.Prelude.{◌≡◌, ◌+◌, ◌-◌, ◌<◌, ◌^◌, OnOk, OnErr, IfOk, IsErrOf, Option, string_bytes, if◌then◌else◌};
+ghost use Rattle.std.specs.Prelude.{◌≡◌, ◌+◌, ◌-◌, ◌<◌, ◌^◌, ◌⊎◌, OnOk, OnErr, IfOk, IfErr, IsErrOf, Option, string_bytes, if◌then◌else◌};
 ghost use Rattle.std.specs.Io.KnownBytes.{Appends};
 ghost use Rattle.cbs_job.specs.Files.{of_files};
 ghost use Rattle.cbs_core.specs.Agreement.{Agrees};
@@ -115,6 +115,7 @@ pub fn replay<O: ByteOutput>(alloc: Global, file: TaskFile, out: &mut O) -> Resu
     ensures ok { OnOk result (Appends (O.written out.old) (O.written out.new) (trace file)) }
     ensures front { OnErr result (AppendsFront (O.written out.old) (O.written out.new) (trace file)) }
     ensures whole_lines { IsErrOf result RunError.OutOfMemory → AppendsLines (O.written out.old) (O.written out.new) file }
+    ensures errors { IfErr result (λ e. (e ≡ RunError.OutOfMemory) ⊎ (e ≡ RunError.WriteFault)) }
     // A write fault is one call that failed, and nothing else is.
     ensures fault { O.failed out.new ≡ O.failed out.old + (if is_write_fault result then 1 else 0) }
 {

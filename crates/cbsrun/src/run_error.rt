@@ -16,6 +16,12 @@ pub enum RunError {
     /// A write failed, or took no byte.
     #[error("the output could not be written")]
     WriteFault,
+    /// The clock came to its end, and a job was unfinished.
+    #[error("the clock came to its end with a job unfinished")]
+    ClockEnd,
+    /// The clients sent nothing more, before all was sent.
+    #[error("the clients sent nothing more, before all was sent")]
+    Stalled,
 }
 
 impl RunError {
@@ -28,6 +34,8 @@ impl RunError {
         match self {
             RunError::OutOfMemory => 1,
             RunError::WriteFault => 2,
+            RunError::ClockEnd => 3,
+            RunError::Stalled => 4,
         }
     }
 
@@ -38,6 +46,8 @@ impl RunError {
         match self {
             RunError::OutOfMemory => "OutOfMemory",
             RunError::WriteFault => "WriteFault",
+            RunError::ClockEnd => "ClockEnd",
+            RunError::Stalled => "Stalled",
         }
     }
 }

@@ -2,6 +2,7 @@
 
 mod fakes;
 mod files;
+mod serving;
 mod streams;
 mod traces;
 mod words;

@@ -1,8 +1,9 @@
 //! What the words of a command line ask for.
 
-ghost use Rattle.std.specs.Prelude.{◌≡◌, IfOk, IfErr, map, string_bytes};
+ghost use Rattle.std.specs.Prelude.{◌≡◌, ◌≢◌, false, IfOk, IfErr, MatchOption, map, string_bytes};
 ghost use Rattle.clap.specs.Words.{app_of, kind_of};
-ghost use Rattle.cbsrun.specs.Words.{command_line, Names, AreTaken, words_fault_number, words_fault_name};
+ghost use Rattle.clap.specs.declared.builder.command.Command.TheViews.{out-Command};
+ghost use Rattle.cbsrun.specs.Words.{command_line, on_file, name_of, Names, AreTaken, words_fault_number, words_fault_name};
 ghost use Rattle.cbsrun.specs.declared.words.WordsFault.TheVariants.{OutOfMemory};
 
 use clap::error::ErrorKind;
@@ -31,20 +32,28 @@ FILE is a task file, in TOML. It names the mode, the servers and the steps:
 
 Saved as FIRST.toml, it is run by
   cbsrun replay FIRST.toml
+  cbsrun serve FIRST.toml
 
 Exit status:
   0  done, or this help
   2  the command line is wrong
   3  the file could not be read, or has a fault
-  4  the run ended early: no memory, or the output could not be written";
+  4  the run ended early: no memory, the output could not be written, or, in
+     serve, the clock came to its end or the clients stalled";
 
 const REPLAY: &str = "Runs the steps of a task file, and writes a line for each";
+
+const SERVE: &str = "Gives each server's submits to a client of its own, serves them all, \
+and writes the results of each server";
 
 /// What to do.
 #[derive(Clone, Copy, Debug, PartialEq, Eq)]
 pub enum Verb {
     /// Runs the steps of the file, and writes a line for each.
     Replay,
+    /// Gives each server's submits to a client of its own, serves them all, and writes the results of
+    /// each server.
+    Serve,
 }
 
 /// What to do, and with which file.
@@ -99,17 +108,38 @@ impl From<AllocError> for WordsFault {
     }
 }
 
+/// A verb of this name, and its file.
+fn on_file<'a>(alloc: Global, name: &'a str, about: &'a str) -> Result<Command<'a>, AllocError>
+    ensures app { IfOk result (λ c. app_of c ≡ on_file name.now) }
+    ensures local { IfOk result (λ c. (out-Command c).has_globals ≡ false) }
+{
+    let file = Arg::new(alloc, "FILE").help("The task file").required(true);
+    Command::new(alloc, name).about(about).arg(file)
+}
+
 /// The command line of the program: a verb, and its file.
 fn command_line<'a>(alloc: Global) -> Result<Command<'a>, AllocError>
     ensures { IfOk result (λ c. app_of c ≡ command_line) }
 {
-    let file = Arg::new(alloc, "FILE").help("The task file").required(true);
-    let replay = Command::new(alloc, "replay").about(REPLAY).arg(file)?;
+    let replay = on_file(alloc, "replay", REPLAY)?;
+    let serve = on_file(alloc, "serve", SERVE)?;
     Command::new(alloc, "cbsrun")
         .about(ABOUT)
         .after_help(TASK_FILES)
         .subcommand_required(true)
-        .subcommand(replay)
+        .subcommand(replay)?
+        .subcommand(serve)
+}
+
+/// The verb of this name, if there is one.
+fn verb_of(name: &str) -> Option<Verb>
+    ensures { MatchOption result ((verb : Verb) → name_of verb ≢ name.now) (λ verb. name_of verb ≡ name.now) }
+{
+    match name {
+        "replay" => Some(Verb::Replay),
+        "serve" => Some(Verb::Serve),
+        _ => None,
+    }
 }
 
 /// The fault of a command line that `clap` refused.
@@ -143,9 +173,8 @@ fn asked_by(alloc: Global, words: &[String]) -> Result<Asked, WordsFault>
     let Some((name, inner)) = matches.subcommand() else {
         return Err(incomplete(alloc)?);
     };
-    let verb = match name {
-        "replay" => Verb::Replay,
-        _ => return Err(incomplete(alloc)?),
+    let Some(verb) = verb_of(name) else {
+        return Err(incomplete(alloc)?);
     };
     let Some(file) = inner.get_str("FILE") else {
         return Err(incomplete(alloc)?);

@@ -9,6 +9,7 @@ use crate::words::Verb;
 use std::alloc::Global;
 use std::io;
 use std::io::ErrorKind;
+use std::thread::Threads;
 
 /// A writer that takes at most `step` bytes a call and `room` in all, and then fails.
 #[derive(Drop)]
@@ -118,10 +119,10 @@ pub struct Outcome {
     pub err: Memory,
 }
 
-/// Replays a file into ample memory.
-pub fn ran(alloc: Global, file: &[u8]) -> Outcome {
+/// Does with a file what the verb says, into ample memory.
+pub fn ran<R: Threads + Sync>(rt: &R, alloc: Global, verb: Verb, file: &[u8]) -> Outcome {
     let mut out = Memory::ample(alloc);
     let mut err = Memory::ample(alloc);
-    let status = run_bytes(alloc, Verb::Replay, file, &mut out, &mut err);
+    let status = run_bytes(rt, alloc, verb, file, &mut out, &mut err);
     Outcome { status, out, err }
 }

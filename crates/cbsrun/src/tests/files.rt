@@ -3,10 +3,12 @@
 use super::fakes::ran;
 use crate::fault::{FileFault, FileKind, Place};
 use crate::file::read_file;
+use crate::words::Verb;
 use cbs_core::Step;
 use cbs_rules::Mode;
 use std::alloc::Global;
 use std::test::Fail;
+use std::thread::Threads;
 
 const HEAD: &str = "format = 1\nmode = \"soft\"\nbound = [1, 1]\nbacklog = 4\nring = 4\n";
 
@@ -19,12 +21,12 @@ struct Faulty {
     fault: &'static str,
 }
 
-fn is_refused(alloc: Global, row: &Faulty) -> Result<bool, Fail> {
+fn is_refused<R: Threads + Sync>(rt: &R, alloc: Global, row: &Faulty) -> Result<bool, Fail> {
     let [head, server, step] = row.parts;
     let fault = row.fault;
     let file = format!(in alloc; "{head}{server}{step}")?;
     let line = format!(in alloc; "cbsrun: file fault {fault}\n")?;
-    let ran = ran(alloc, file.as_bytes());
+    let ran = ran(rt, alloc, Verb::Replay, file.as_bytes());
     Ok(ran.status == 3 && ran.out.holds("") && ran.err.holds(line.as_str()))
 }
 
@@ -124,9 +126,9 @@ fn faults_have_their_places(rt: HostRuntime) -> Result<(), Fail> {
         ),
     ] {
         let fault = row.fault;
-        assert!(rt; is_refused(alloc, row)?, "{fault}");
+        assert!(rt; is_refused(&rt, alloc, row)?, "{fault}");
     }
-    let not_text = ran(alloc, b"\xff\xfe");
+    let not_text = ran(&rt, alloc, Verb::Replay, b"\xff\xfe");
     assert!(rt; not_text.status == 3 && not_text.out.holds(""));
     assert!(rt; not_text.err.holds("cbsrun: file fault 1 NotToml at top\n"));
     Ok(())
@@ -165,7 +167,7 @@ fn other_spellings_are_the_same_file(rt: HostRuntime) -> Result<(), Fail> {
             lines,
         ),
     ] {
-        let ran = ran(alloc, file.as_bytes());
+        let ran = ran(&rt, alloc, Verb::Replay, file.as_bytes());
         // A number with a leading zero is no TOML.
         let status = if lines.is_empty() { 3 } else { 0 };
         assert!(rt; ran.status == status && ran.out.holds(lines), "{file}");
@@ -173,7 +175,7 @@ fn other_spellings_are_the_same_file(rt: HostRuntime) -> Result<(), Fail> {
     let file = format!(in alloc;
         "{third}server = [{{ budget = 333333333, period = 1000000000 }}]\nstep = []\n"
     )?;
-    let ran = ran(alloc, file.as_bytes());
+    let ran = ran(&rt, alloc, Verb::Replay, file.as_bytes());
     assert!(rt; ran.status == 0 && ran.out.holds("") && ran.err.holds(""));
     Ok(())
 }

@@ -65,17 +65,31 @@ fn a_failing_output_has_its_status(rt: HostRuntime) {
     let alloc = rt.alloc();
     let mut out = Memory::new(alloc, 20, usize::MAX);
     let mut err = Memory::ample(alloc);
-    let status = run_bytes(alloc, Verb::Replay, FIRST.as_bytes(), &mut out, &mut err);
+    let status = run_bytes(
+        &rt,
+        alloc,
+        Verb::Replay,
+        FIRST.as_bytes(),
+        &mut out,
+        &mut err,
+    );
     assert!(rt; status == 4 && out.holds("@0 submit 0 job 0 ac"));
     assert!(rt; err.holds("cbsrun: run fault 2 WriteFault\n"));
 
     let mut out = Memory::new(alloc, 20, usize::MAX);
     let mut err = Memory::new(alloc, 7, usize::MAX);
-    let status = run_bytes(alloc, Verb::Replay, FIRST.as_bytes(), &mut out, &mut err);
+    let status = run_bytes(
+        &rt,
+        alloc,
+        Verb::Replay,
+        FIRST.as_bytes(),
+        &mut out,
+        &mut err,
+    );
     assert!(rt; status == 4 && err.holds("cbsrun:"));
 
     let mut err = Memory::new(alloc, 0, usize::MAX);
-    let status = run_bytes(alloc, Verb::Replay, b"format = 3", &mut out, &mut err);
+    let status = run_bytes(&rt, alloc, Verb::Replay, b"format = 3", &mut out, &mut err);
     assert!(rt; status == 3 && err.holds(""));
 }
 
@@ -115,7 +129,7 @@ fn long_traces_are_whole(rt: HostRuntime) -> Result<(), Fail> {
         lines.push_str("@3 run idle\n")?;
     }
     file.push_str("]\n")?;
-    let ran = ran(alloc, file.as_bytes());
+    let ran = ran(&rt, alloc, Verb::Replay, file.as_bytes());
     assert!(rt; ran.status == 0 && ran.out.holds(lines.as_str()));
     Ok(())
 }

@@ -1,8 +1,10 @@
 //! Traces of whole files, and what the lines say.
 
 use super::fakes::ran;
+use crate::words::Verb;
 use std::alloc::Global;
 use std::test::Fail;
+use std::thread::Threads;
 
 const SOFT: &str = "format = 1\nmode = \"soft\"\nbound = [1, 1]\nbacklog = 4\nring = 4\n";
 
@@ -333,10 +335,10 @@ const NO_SERVER: Row = Row {
     lines: "@0 run idle\n@0 advance 0\n",
 };
 
-fn gives(alloc: Global, row: &Row) -> Result<bool, Fail> {
+fn gives<R: Threads + Sync>(rt: &R, alloc: Global, row: &Row) -> Result<bool, Fail> {
     let (head, server, step) = (row.head, row.server, row.step);
     let file = format!(in alloc; "{head}server = [{server}]\nstep = [{step}]\n")?;
-    let ran = ran(alloc, file.as_bytes());
+    let ran = ran(rt, alloc, Verb::Replay, file.as_bytes());
     Ok(ran.status == 0 && ran.out.holds(row.lines) && ran.err.holds(""))
 }
 
@@ -363,7 +365,7 @@ fn files_give_their_lines(rt: HostRuntime) -> Result<(), Fail> {
         NO_SERVER,
     ] {
         let name = row.name;
-        assert!(rt; gives(alloc, row)?, "{name}");
+        assert!(rt; gives(&rt, alloc, row)?, "{name}");
     }
     Ok(())
 }

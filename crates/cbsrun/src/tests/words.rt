@@ -35,12 +35,18 @@ fn a_verb_and_a_file_are_wanted(rt: HostRuntime) -> Result<(), Fail> {
         .ok()
         .ok_or("replay")?;
     assert!(rt; asked.verb == Verb::Replay && asked.file.as_str() == "a.toml");
+    let asked = read_words(alloc, words(alloc, "cbsrun serve a.toml")?)
+        .ok()
+        .ok_or("serve")?;
+    assert!(rt; asked.verb == Verb::Serve && asked.file.as_str() == "a.toml");
     for line in [
         "",
         "cbsrun",
         "cbsrun replay",
+        "cbsrun serve",
         "cbsrun replay a.toml b.toml",
-        "cbsrun serve a.toml",
+        "cbsrun serve a.toml b.toml",
+        "cbsrun run a.toml",
         "cbsrun replay --fast a.toml",
     ] {
         let (number, name, text) = fault(alloc, line)?;
@@ -54,6 +60,7 @@ fn a_verb_and_a_file_are_wanted(rt: HostRuntime) -> Result<(), Fail> {
         "cbsrun -h",
         "cbsrun help",
         "cbsrun replay --help",
+        "cbsrun serve --help",
     ] {
         let (number, name, text) = fault(alloc, line)?;
         assert!(rt; number == 2 && name == "Help" && !text.is_empty(), "{line}");
@@ -68,9 +75,11 @@ fn help_teaches(rt: HostRuntime) -> Result<(), Fail> {
     for part in [
         "Constant Bandwidth Servers under EDF",
         "replay",
+        "serve",
         "task file",
         "units = [1, 2, 3]",
         "cbsrun replay FIRST.toml",
+        "cbsrun serve FIRST.toml",
         "Exit status:",
     ] {
         assert!(rt; help.as_str().contains(part), "{part}");
