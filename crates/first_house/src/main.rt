@@ -1,0 +1,40 @@
+//! The shortest program with a house: one client sends two jobs, and their results are read.
+#![tactic(auto)]
+
+use anyhow::{Context, Result};
+use cbs_house::{Client, open_house};
+use cbs_job::{SumJob, Task};
+use cbs_rate::{Bound, Plan, Reservation};
+use cbs_rules::Mode;
+use std::alloc::Global;
+
+/// Sends a job that adds these two numbers up, one a tick.
+fn send(alloc: Global, client: &mut Client<SumJob>, numbers: [u32; 2]) -> Result<u64> {
+    let work = SumJob::new(Vec::from_array(alloc, numbers)?);
+    let task = Task::new(work).map_err(|refused| refused.error)?;
+    let number = client.send(task).map_err(|refused| refused.error)?;
+    Ok(number)
+}
+
+fn main(rt: HostRuntime) -> Result<()> {
+    let alloc = rt.alloc();
+    let mut plan = Plan::new(Bound::new(1, 1)?);
+    plan.admit(Reservation::new(2, 5)?)?;
+    let (mut house, mut clients) = open_house(alloc, plan, Mode::Soft, 4, 4)?;
+    let mut client = clients.pop().context("a client for each server")?;
+
+    send(alloc, &mut client, [2, 3])?;
+    send(alloc, &mut client, [40, 2])?;
+    client.end()?;
+
+    for _message in 0..3 {
+        house.poll(0);
+    }
+    house.drain()?;
+
+    for result in house.results(0)? {
+        println!(rt; "{result}")?;
+    }
+    println!(rt; "finished at tick {}", house.now())?;
+    Ok(())
+}
