@@ -61,6 +61,14 @@ module _ {W A : Type 0} {g : Ghosts W} where
     pub results : (s : ℕ) → results_of new s ≡ results_of old s
     pub known : (s : ℕ) → IsPrefix (known old s) (known new s)
 
+  -- nothing of the house changed
+  pub record SameHouse (old new : House W A g) : Type 0 where
+    pub core : core_of new ≡ core_of old
+    pub rings : rings_of new ≡ rings_of old
+    pub received : (s : ℕ) → received new s ≡ received old s
+    pub known : (s : ℕ) → known new s ≡ known old s
+    pub results : (s : ℕ) → results_of new s ≡ results_of old s
+
 -- what a view is answered, by what the core answers
 abbrev pub view_answer : Result ServerView CoreError → Result ServerView HouseError
 view_answer (Ok view) = Ok view

@@ -1,12 +1,12 @@
 //! A client with the jobs that it has still to send.
 
-ghost use Rattle.std.specs.Prelude.{◌≡◌, IfOk, length, map};
+ghost use Rattle.std.specs.Prelude.{◌≡◌, MatchResult, length, map};
 ghost use Rattle.cbs_house.specs.Feeds.{client_of, left};
 
 use crate::client::Client;
 use crate::gate::Gate;
 use cbs_job::{Task, Work};
-use std::alloc::{AllocError, Allocator, Global};
+use std::alloc::{Allocator, Global};
 use std::collections::VecDeque;
 
 /// A client, and the jobs that it has still to send, in order. Behind them it ends.
@@ -87,23 +87,36 @@ impl<W: Work, A: Allocator> Feed<W, A> {
     }
 }
 
-/// A feed for each client, with the list of jobs at its place.
+/// Clients and lists of jobs of which no feeds were made, handed back.
+#[derive(Drop)]
+pub struct FeedsRefused<W: Work, A: Allocator = Global> {
+    /// The clients, as they were given.
+    pub clients: Vec<Client<W, A>, A>,
+    /// The lists of jobs, as they were given.
+    pub lists: Vec<Vec<Task<W>, A>, A>,
+}
+
+/// A feed for each client, with the list of jobs at its place. There are as many lists as clients.
+///
+/// Where no memory is found for the list of feeds, the clients and the lists come back.
 pub fn feeds_of<W: Work, A: Allocator + Copy>(
     alloc: A,
     clients: Vec<Client<W, A>, A>,
     lists: Vec<Vec<Task<W>, A>, A>,
-) -> Result<Vec<Feed<W, A>, A>, AllocError>
+) -> Result<Vec<Feed<W, A>, A>, FeedsRefused<W, A>>
     requires { length lists.items ≡ length clients.items }
-    ensures clients { IfOk result (λ feeds. map client_of feeds.items ≡ clients.items) }
-    ensures jobs { IfOk result (λ feeds. map left feeds.items ≡ map (λ jobs. jobs.items) lists.items) }
+    ensures clients { MatchResult result (λ feeds. map client_of feeds.items ≡ clients.items) (λ refused. refused.clients ≡ clients) }
+    ensures jobs { MatchResult result (λ feeds. map left feeds.items ≡ map (λ jobs. jobs.items) lists.items) (λ refused. refused.lists ≡ lists) }
 {
-    let mut feeds = Vec::with_capacity(alloc, clients.len())?;
+    let Ok(mut feeds) = Vec::with_capacity(alloc, clients.len()) else {
+        return Err(FeedsRefused { clients, lists });
+    };
     let mut lists = VecDeque::from(lists);
     for client in clients {
         let Some(jobs) = lists.pop_front() else {
             unreachable!()
         };
-        feeds.push(Feed::new(client, jobs))?;
+        feeds.push_reserved(Feed::new(client, jobs));
     }
     Ok(feeds)
 }

@@ -34,11 +34,11 @@ impl<W: Work, A: Allocator> House<W, A> {
     ghost use Rattle.cbs_core.specs.declared.step.Step.TheVariants as step;
     ghost use Rattle.cbs_house.specs.Clients.{server_of, sent_by, free, SameClient};
     ghost use Rattle.cbs_house.specs.Housed.{KeepsServer};
-    ghost use Rattle.cbs_house.specs.Houses.{core_of, rings_of, received, known, results_of, view_answer, Made, LooksOnly, Polled, CanTake, Collects};
+    ghost use Rattle.cbs_house.specs.Houses.{core_of, rings_of, received, known, results_of, view_answer, Made, LooksOnly, SameHouse, Polled, CanTake, Collects};
     ghost use Rattle.cbs_house.specs.Ringed.{IsOpened};
 
-    /// How many servers there are.
-    pub(crate) fn servers(&self) -> u16
+    /// How many servers there are, at most 64. Their numbers are those below it.
+    pub fn servers(&self) -> u16
         ensures value { result ≡ length (core_of self.now).servers }
         ensures few { result ≤ 64 }
     {
@@ -163,7 +163,7 @@ impl<W: Work, A: Allocator> House<W, A> {
         ensures made { OnOk result (Made W.meaning self.old self.new (step.Advance n ∷ [])) }
         ensures rings { rings_of self.new ≡ rings_of self.old }
         ensures results { (s : ℕ) → results_of self.new s ≡ results_of self.old s }
-        ensures refused { IfErr result (λ error. (error ≡ HouseError.ClockEnd) × LooksOnly self.old self.new) }
+        ensures refused { IfErr result (λ error. (error ≡ HouseError.ClockEnd) × SameHouse self.old self.new) }
         ensures end { (M : History W) → Agrees W.meaning (core_of self.old) M → MatchResult result
             (λ _. (world_after W.meaning M).now + n ≤ LIMIT) (λ _. LIMIT < (world_after W.meaning M).now + n) }
     {
@@ -192,8 +192,10 @@ impl<W: Work, A: Allocator> House<W, A> {
 
     /// What a server shows, or [`HouseError::NoSuchServer`].
     pub fn view(&self, server: u16) -> Result<ServerView, HouseError>
-        ensures { (M : History W) → Agrees W.meaning (core_of self.now) M
+        ensures view { (M : History W) → Agrees W.meaning (core_of self.now) M
             → result ≡ view_answer (view_reply W.meaning (slice_get (world_after W.meaning M).accounts server)) }
+        ensures early { (M : History W) → Agrees W.meaning (core_of self.now) M
+            → IfOk result (λ view. let now = (world_after W.meaning M).now in view.deadline ≤ now + (now + 1) * 1000000000) }
     {
         match self.core.view(server) {
             Ok(view) => Ok(view),

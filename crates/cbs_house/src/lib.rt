@@ -20,7 +20,7 @@ mod shelf;
 pub use client::{Client, SendRefused};
 pub use collector::Collector;
 pub use error::{CollectError, HouseError, SendError};
-pub use feed::{Feed, feeds_of};
+pub use feed::{Feed, FeedsRefused, feeds_of};
 pub use gate::{Gate, OpenGate};
 pub use house::House;
 pub use message::Message;

@@ -82,7 +82,9 @@ fn results_of<R: Threads + Sync>(
     let Ok((mut house, clients)) = open_house(alloc, plan, mode, backlog, ring) else {
         return Err(RunError::OutOfMemory);
     };
-    let mut feeds = feeds_of(alloc, clients, jobs)?;
+    let Ok(mut feeds) = feeds_of(alloc, clients, jobs) else {
+        return Err(RunError::OutOfMemory);
+    };
     match serve(rt, &mut house, &mut feeds, &OpenGate) {
         Ok(()) => {
             let results = results_in(alloc, &house, servers)?;

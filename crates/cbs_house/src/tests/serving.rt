@@ -37,7 +37,9 @@ fn opened<R: Abort>(
     if clients.len() > 64 || clients.len() != lists.len() {
         return Err("a list for each of at most 64 servers")?;
     }
-    let feeds = feeds_of(alloc, clients, lists)?;
+    let Ok(feeds) = feeds_of(alloc, clients, lists) else {
+        return Err("memory")?;
+    };
     Ok((house, feeds))
 }
 

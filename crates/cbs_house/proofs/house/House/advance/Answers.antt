@@ -1,9 +1,7 @@
 use Rattle.std.proofs.Common.{◌∷◌, [], refl}
 use Rattle.cbs_core.specs.declared.step.Step.TheVariants.{Advance}
 use Rattle.cbs_house.proofs.Keeping.{housed_all}
-use Rattle.cbs_house.proofs.Looking.{prefix_refl}
 use Rattle.cbs_house.proofs.Stepping.{history_kept}
-use Rattle.cbs_house.specs.Houses.{known}
 use Rattle.cbs_house.proofs.house.House.advance.Goals as goal
 
 pub invariant_of-self : goal.invariant_of-self
@@ -23,7 +21,7 @@ returns-in-Err-clause-refused g c = (
     core = c.in-Err.ensures.unchanged;
     rings = refl;
     received = λ s. refl;
+    known = λ s. refl;
     results = λ s. refl;
-    known = λ s. prefix_refl (known c.args.self.now s);
   },
 )
