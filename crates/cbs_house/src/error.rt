@@ -22,8 +22,8 @@ pub enum HouseError {
     /// The clock would pass its end, or stands there with a job unfinished.
     #[error("the clock is at its end, at 1000000000 ticks")]
     ClockEnd,
-    /// The clients sent too little in too many rounds.
-    #[error("the clients stopped sending before they had sent all")]
+    /// The clients did not send all, in as many rounds as they are given.
+    #[error("the clients did not send all in the rounds that they are given")]
     Stalled,
 }
 

@@ -13,6 +13,6 @@ pub enum Poll {
     Full,
     /// A message is seen, but there is no memory for it. Nothing was popped.
     OutOfMemory,
-    /// There is no such server.
+    /// There is no such server. Nothing was popped.
     NoSuchServer,
 }

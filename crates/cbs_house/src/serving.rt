@@ -24,7 +24,8 @@ const TURNS: u64 = 10_000;
 /// then those of all its jobs, in order, each once, whatever the threads did.
 ///
 /// It makes rounds of 10000 turns ([`serve_round`]). After each it takes what stands in the rings,
-/// and drains.
+/// and drains; the gate is not told of the polls that it makes then. With no feed it makes one round,
+/// and drains what the house holds.
 ///
 /// Refuses by [`HouseError::OutOfMemory`] where there is no memory to take what stands in a ring; by
 /// [`HouseError::ClockEnd`] where the clock stands at its end with a job unfinished; and by

@@ -10,7 +10,7 @@ use thiserror::Error;
 /// Why a run ends early.
 #[derive(Clone, Copy, Debug, PartialEq, Eq, Error)]
 pub enum RunError {
-    /// There was no memory for a job or a line.
+    /// An allocation was refused: for the core or the house, a job, a result or a line.
     #[error("out of memory while running")]
     OutOfMemory,
     /// A write failed, or took no byte.
@@ -19,8 +19,8 @@ pub enum RunError {
     /// The clock came to its end, and a job was unfinished.
     #[error("the clock came to its end with a job unfinished")]
     ClockEnd,
-    /// The clients sent nothing more, before all was sent.
-    #[error("the clients sent nothing more, before all was sent")]
+    /// The clients did not send all, in as many rounds as they are given.
+    #[error("the clients did not send all in the rounds that they are given")]
     Stalled,
 }
 

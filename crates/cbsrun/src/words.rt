@@ -21,7 +21,7 @@ FILE is a task file, in TOML. It names the mode, the servers and the steps:
   mode = \"soft\"                            # or \"throttled\"
   bound = [1, 1]                           # the bandwidths add up to at most 1/1
   backlog = 4                              # unfinished jobs that a server may have
-  ring = 4                                 # messages that a client may have under way
+  ring = 4                                 # places in a client's ring of messages
   server = [{ budget = 2, period = 5 }]    # 2 ticks in every 5
   step = [
     { op = \"submit\", server = 0, job = \"sum\", units = [1, 2, 3] },
