@@ -44,7 +44,7 @@ impl CoreError {
         }
     }
 
-    /// The error's name, as it is written in this program.
+    /// The error's name: that of its variant.
     pub fn name(self) -> &'static str
         ensures { result.now ≡ core_error_name self }
     {

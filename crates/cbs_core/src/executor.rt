@@ -103,7 +103,7 @@ impl<W: Work, A: Allocator> Core<W, A> {
     /// Refuses, in this order: [`CoreError::NoSuchServer`]; [`CoreError::Closed`] where the server
     /// was closed; [`CoreError::BacklogFull`] where it has as many unfinished jobs as it may have;
     /// [`CoreError::OutOfMemory`] where an allocation is refused. The job then comes back, and
-    /// nothing changed.
+    /// nothing changed, but that room for it may have been made.
     #[tactic(auto, using(crate::proofs::Lists::counted))]
     pub fn submit(&mut self, server: u16, task: Task<W>) -> Result<u64, SubmitRefused<W>>
         ensures reply { lacks_memory result ≡ false → (M : History W) → Agrees W.meaning self.old M
@@ -209,6 +209,7 @@ impl<W: Work, A: Allocator> Core<W, A> {
     /// The clock, in ticks: 0 to [`LIMIT`].
     pub fn now(&self) -> u64
         ensures now { (M : History W) → Agrees W.meaning self.now M → result ≡ (world_after W.meaning M).now }
+        ensures clock { result ≡ self.now.clock }
         ensures most { result ≤ LIMIT }
     {
         self.clock
@@ -275,6 +276,7 @@ impl<W: Work, A: Allocator> Core<W, A> {
         ensures budgets { IfOk result (λ replies. (M : History W) → Agrees W.meaning self.old M → (s : ℕ) → s < length self.old.servers
             → IsWithinBudget W.meaning (account_in W.meaning (grown_by M steps.items replies.items) s)) }
 
+        ensures count { length self.new.servers ≡ length self.old.servers }
         ensures back { IfErr result (λ refused. refused.steps ≡ steps) }
         ensures unchanged { OnErr result (self.new ≡ self.old) }
     {
@@ -296,6 +298,7 @@ impl<W: Work, A: Allocator> Core<W, A> {
         ensures reply { (M : History W) → Agrees W.meaning self.old M → Answers W.meaning M step result }
         ensures state { (M : History W) → Agrees W.meaning self.old M → Agrees W.meaning self.new (grown M step result) }
         ensures counts { CountsOn (completion_in result) self.old.servers self.new.servers }
+        ensures count { length self.new.servers ≡ length self.old.servers }
     {
         match step {
             Step::Submit(server, task) => submit_reply(self.submit(server, task)),

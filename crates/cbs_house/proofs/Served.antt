@@ -7,7 +7,7 @@ use Rattle.cbs_job.specs.declared.work.Work.{Ghosts}
 use Rattle.cbs_house.specs.Clients.{server_of, sent_by}
 use Rattle.cbs_house.specs.Feeds.{IsDone, all_jobs}
 use Rattle.cbs_house.specs.Housed.{Housed}
-use Rattle.cbs_house.specs.Houses.{core_of, rings_of, received, results_of, HoldsNoJob}
+use Rattle.cbs_house.specs.Houses.{core_of, rings_of, received, results_of, HoldsNoJob, AllFinished}
 use Rattle.cbs_house.specs.Messages.{jobs_among}
 use Rattle.cbs_house.specs.Ringed.{IsOpened}
 use Rattle.cbs_house.specs.Rounds.{Ready, IsSettled, IsServed}
@@ -16,15 +16,18 @@ use Rattle.cbs_house.specs.declared.house.House.{House}
 use Rattle.cbs_house.proofs.Looking.{opened_within}
 
 module _ {W A : Type 0} {g : Ghosts W} (work : Meaning W) (h : House W A g) (housed : Housed work h.core h.rings h.collector) where
+  -- where no job is held, every job received is finished
+  pub none_held : HoldsNoJob (core_of h) → AllFinished work h
+  none_held none s l = sym (append-nil (results_of h s)) ∙ (ap (λ ws. results_of h s ++ map (whole work) ws) (sym (none s)) ∙ (housed.servers s l).outputs)
+
   served_at : (f : Feed W A g) → HoldsNoJob (core_of h) → IsOpened (rings_of h) f.client → IsDone f → IsSettled h f → IsServed work h f
   served_at f none opened done settled =
       let s = server_of f.client in
       let l : s < length (core_of h).servers = omega (arith, housed.ring_count, opened_within (rings_of h) f.client opened) in
-      let k = housed.servers s l in
       let all : jobs_among (received h s) ≡ all_jobs f = ap jobs_among settled ∙ (sym (append-nil (jobs_among (sent_by f.client))) ∙ ap (λ ws. jobs_among (sent_by f.client) ++ ws) (sym done.none_left)) in
       record {
         done = done;
-        results = sym (append-nil (results_of h s)) ∙ (ap (λ ws. results_of h s ++ map (whole work) ws) (sym (none s)) ∙ (k.outputs ∙ ap (map (whole work)) all));
+        results = none_held none s l ∙ ap (map (whole work)) all;
       }
 
   -- where no job is held, all feeds are done and all their messages received, all is served

@@ -1,7 +1,7 @@
 -- What a contract sees of a house.
-use Rattle.std.specs.Prelude.{ℕ, ◌≡◌, ◌≢◌, ◌⊎◌, ◌≤◌, ◌<◌, true, false, Result, Ok, Err, List, [], ◌∷◌, ◌++◌, length}
+use Rattle.std.specs.Prelude.{ℕ, ◌≡◌, ◌≢◌, ◌⊎◌, ◌≤◌, ◌<◌, true, false, Result, Ok, Err, List, [], ◌∷◌, ◌++◌, length, map}
 use mathlib.Core.List.{IsPrefix}
-use Rattle.cbs_job.specs.Work.{Meaning}
+use Rattle.cbs_job.specs.Work.{Meaning, whole}
 use Rattle.cbs_job.specs.declared.work.Work.{Ghosts}
 use Rattle.cbs_core.specs.Held.{CoreHeld, HasPlace, held_at}
 use Rattle.cbs_core.specs.History.{History}
@@ -81,6 +81,11 @@ HoldsJob core = (s : ℕ) × (0 < length (held_at core.servers s).jobs)
 -- the core holds no job: every accepted job is finished
 abbrev pub HoldsNoJob : {W : Type 0} → CoreHeld W → Type 0
 HoldsNoJob core = (s : ℕ) → (held_at core.servers s).jobs ≡ []
+
+module _ {W A : Type 0} {g : Ghosts W} where
+  -- every job received is finished: the results of each server are what those jobs come to, in order
+  abbrev pub AllFinished : Meaning W → House W A g → Type 0
+  AllFinished work h = (s : ℕ) → s < length (core_of h).servers → results_of h s ≡ map (whole work) (jobs_among (received h s))
 
 -- server s is there and open
 pub record IsOpen {W : Type 0} (core : CoreHeld W) (s : ℕ) : Type 0 where

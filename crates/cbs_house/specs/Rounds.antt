@@ -55,7 +55,8 @@ module _ {W A : Type 0} {g : Ghosts W} where
     pub done : IsDone f
     pub results : results_of h (server_of f.client) ≡ map (whole work) (all_jobs f)
 
-  -- why serving stops early, and how it leaves the house: the clock is at its end with a job unfinished
+  -- how serving leaves the house where it stops early: by ClockEnd the clock is at its end with a job unfinished; by the other
+  -- two nothing is said
   abbrev pub Stops : HouseError → House W A g → Type 0
   Stops OutOfMemory h = Unit {0}
   Stops ClockEnd h = ((core_of h).clock ≡ clock_end) × HoldsJob (core_of h)

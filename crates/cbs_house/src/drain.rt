@@ -8,11 +8,12 @@ use std::alloc::Allocator;
 
 impl<W: Work, A: Allocator> House<W, A> {
     ghost use Rattle.std.specs.Prelude.{ℕ, ◌≡◌, ◌<◌, true, false, [], OnOk, IfErr};
-    ghost use Rattle.cbs_house.specs.Houses.{core_of, rings_of, received, HoldsJob, HoldsNoJob, Moves};
+    ghost use Rattle.cbs_house.specs.Houses.{core_of, rings_of, received, HoldsJob, HoldsNoJob, AllFinished, Moves};
     ghost use Rattle.cbs_house.specs.Steps.{MayDrain};
 
     /// Runs until no accepted job is unfinished. Where nobody is ready it advances the clock by the
-    /// idle span, so that no time is lost; it takes no message.
+    /// idle span, so that no time is lost; it takes no message. At `Ok` the results of each server are
+    /// those of all its jobs received.
     ///
     /// Refuses by [`HouseError::ClockEnd`] where the clock stands at [`LIMIT`] with a job unfinished.
     /// The steps made stay made.
@@ -21,6 +22,7 @@ impl<W: Work, A: Allocator> House<W, A> {
         ensures received { (s : ℕ) → received self.new s ≡ received self.old s }
         ensures rings { rings_of self.new ≡ rings_of self.old }
         ensures ok { OnOk result (HoldsNoJob (core_of self.new)) }
+        ensures finished { OnOk result (AllFinished W.meaning self.new) }
         ensures end { IfErr result (λ error. (error ≡ HouseError.ClockEnd) × ((core_of self.new).clock ≡ LIMIT) × HoldsJob (core_of self.new)) }
     {
         while self.is_busy() {

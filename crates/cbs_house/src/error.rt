@@ -20,7 +20,7 @@ pub enum HouseError {
     #[error("there is no such server")]
     NoSuchServer,
     /// The clock would pass its end, or stands there with a job unfinished.
-    #[error("the clock is at its end, at 1000000000 ticks")]
+    #[error("the clock would pass its end, 1000000000 ticks, or stands there with a job unfinished")]
     ClockEnd,
     /// The clients did not send all, in as many rounds as they are given.
     #[error("the clients did not send all in the rounds that they are given")]
@@ -44,7 +44,7 @@ impl HouseError {
         }
     }
 
-    /// The error's name, as it is written in this program.
+    /// The error's name: that of its variant.
     pub fn name(self) -> &'static str
         ensures { result.now ≡ house_error_name self }
     {
@@ -65,7 +65,7 @@ pub enum SendError {
     /// The client has ended.
     #[error("the client has ended")]
     Ended,
-    /// The ring has no free place.
+    /// The ring has no free place, or the client has sent 2^64 - 1 jobs.
     #[error("the ring is full")]
     RingFull,
 }
@@ -83,7 +83,7 @@ impl SendError {
         }
     }
 
-    /// The error's name, as it is written in this program.
+    /// The error's name: that of its variant.
     pub fn name(self) -> &'static str
         ensures { result.now ≡ send_error_name self }
     {
@@ -98,7 +98,7 @@ impl SendError {
 #[derive(Clone, Copy, Debug, PartialEq, Eq, Error)]
 pub enum CollectError {
     /// No server has that number.
-    #[error("the completion is of no known server")]
+    #[error("there is no such server")]
     Stranger,
     /// The job's result was taken before.
     #[error("the result of the job was taken before")]
@@ -126,7 +126,7 @@ impl CollectError {
         }
     }
 
-    /// The error's name, as it is written in this program.
+    /// The error's name: that of its variant.
     pub fn name(self) -> &'static str
         ensures { result.now ≡ collect_error_name self }
     {

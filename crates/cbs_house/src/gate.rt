@@ -2,7 +2,9 @@
 
 use crate::poll::Poll;
 
-/// Watches a round, and may hold sends back. It is asked and told from several threads.
+/// Watches a round, and may hold sends back. It is asked and told from several threads, and must not
+/// wait in one call for another: where the system makes no thread, the parts of a round run one after
+/// the other, and it would wait for ever.
 pub trait Gate {
     /// Whether the client of `server` may try its next message now. `number` is how many jobs it has
     /// sent before that message, which may be the end.

@@ -31,7 +31,8 @@ pub struct Round {
 /// its feed is done, or after `turns` turns. A turn of the house polls each server once, in order,
 /// and tells the gate each answer, and then runs once; it stops when the end of every feed was
 /// taken, or after `turns` turns. Nothing is refused: where a poll finds no memory it popped
-/// nothing, and the next turn polls again.
+/// nothing, and the next turn polls again. Where the system makes no thread, the sides, or some
+/// senders, take their turns one after the other.
 ///
 /// There are at most 64 feeds, each with a client that was opened with this house and that has not
 /// ended unless no job is left; `turns` is at most 1000000000.

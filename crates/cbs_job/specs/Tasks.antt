@@ -7,7 +7,7 @@ use Rattle.cbs_job.specs.declared.task.TaskError.TheVariants.{EmptyJob, TooLong}
 abbrev pub task_refusal : ℕ → Option TaskError
 task_refusal left = if eqb left 0 then Some EmptyJob else if ltb 1000000 left then Some TooLong else None
 
--- the number that stands for the error in what the program prints
+-- the error's number, from 1
 abbrev pub task_error_number : TaskError → ℕ
 task_error_number EmptyJob = 1
 task_error_number TooLong = 2

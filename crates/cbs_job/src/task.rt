@@ -49,7 +49,7 @@ impl TaskError {
         }
     }
 
-    /// The error's name, as it is written in this program.
+    /// The error's name: that of its variant.
     pub fn name(self) -> &'static str
         ensures { result.now ≡ task_error_name self }
     {

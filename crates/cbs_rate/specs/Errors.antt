@@ -5,7 +5,7 @@ use Rattle.cbs_rate.specs.declared.error.RateError.TheVariants.{ZeroBudget, Peri
 use Rattle.cbs_rate.specs.declared.error.AdmitError.{AdmitError}
 use Rattle.cbs_rate.specs.declared.error.AdmitError.TheVariants.{TooManyServers, PeriodsTooFine, OverBound}
 
--- the number that stands for the error in what the program prints
+-- the error's number, from 1
 abbrev pub rate_error_number : RateError → ℕ
 rate_error_number ZeroBudget = 1
 rate_error_number PeriodTooLong = 2
@@ -19,7 +19,7 @@ rate_error_name PeriodTooLong = codes "PeriodTooLong"
 rate_error_name BudgetOverPeriod = codes "BudgetOverPeriod"
 rate_error_name BadBound = codes "BadBound"
 
--- the number that stands for the error in what the program prints
+-- the error's number, from 1
 abbrev pub admit_error_number : AdmitError → ℕ
 admit_error_number TooManyServers = 1
 admit_error_number PeriodsTooFine = 2

@@ -36,7 +36,7 @@ impl RateError {
         }
     }
 
-    /// The error's name, as it is written in this program.
+    /// The error's name: that of its variant.
     pub fn name(self) -> &'static str
         ensures { result.now ≡ rate_error_name self }
     {
@@ -76,7 +76,7 @@ impl AdmitError {
         }
     }
 
-    /// The error's name, as it is written in this program.
+    /// The error's name: that of its variant.
     pub fn name(self) -> &'static str
         ensures { result.now ≡ admit_error_name self }
     {

@@ -27,7 +27,7 @@ serve-requires-clause-ready g c κs within =
     let cs = c.in-Ok.clients.items in
     let count : length cs ≡ length c.args.plan.rates = sym (length-map cs server_of) ∙ (ap length c.in-Ok.ensures.clients ∙ length-range_with_len 0 (length c.args.plan.rates)) in
     let few : length cs ≤ 64 = let l = c.len-servers.ensures.lawful in omega (arith, count, l.few) in
-    rw c.deref_mut.ensures.value (ready_new c.args.file.ring c.in_ok-feeds.feeds.items cs c.in_ok-feeds.ensures.clients c.in-Ok.ensures.unused c.in-Ok.house few c.in-Ok.ensures.opened)
+    rw c.deref_mut.ensures.value (ready_new c.args.file.ring c.in-Ok-feeds_of.feeds.items cs c.in-Ok-feeds_of.ensures.clients c.in-Ok.ensures.unused c.in-Ok.house few c.in-Ok.ensures.opened)
 
 pub results_in-requires : goal.results_in-requires
 results_in-requires g c =
@@ -37,7 +37,7 @@ results_in-requires g c =
 
 pub returns-in-Ok-serve-clause-ok : goal.returns-in-Ok-serve-clause-ok
 returns-in-Ok-serve-clause-ok g c =
-    let f = c.in_ok-feeds in
+    let f = c.in-Ok-feeds_of in
     let s = c.in-Ok-serve.ensures in
     results_are c.args.file.ring f.feeds.items c.in-Ok.clients.items f.ensures.clients c.in-Ok.ensures.unused of_files c.serve.new.house c.len-servers.result c.serve.new.feeds _ _
     (rw c.len-servers.ensures.value c.in-Ok.ensures.clients) f.ensures.jobs (rw c.deref_mut.ensures.value at s.feeds) s.served c.in_ok-results-in-Ok-serve.ensures

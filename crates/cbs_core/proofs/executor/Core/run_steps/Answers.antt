@@ -16,6 +16,7 @@ loop-step-init g c = record {
   finite = tt;
   count = search (rules, common_steps);
   split = search (rules, common_steps);
+  servers = refl;
   room = search (rules, common_steps);
   replies = λ M agrees. search (rules, common_steps);
   state = λ M agrees. search (rules, common_steps);
@@ -32,6 +33,7 @@ loop-step-preserved g c =
       finite = tt;
       count = omega (arith, ap length c.in-Some.ensures.steps.0, c.in-Some.ensures.steps.1, c.loop-step.invariant.count);
       split = c.loop-step.invariant.split ∙ ap (λ xs. c.loop-step.yielded ++ xs) c.in-Some.ensures.steps.0 ∙ sym (append_assoc c.loop-step.yielded (c.in-Some.step ∷ []) (into_iter_items c.next.new.self));
+      servers = c.step-reply.ensures.count ∙ c.loop-step.invariant.servers;
       room = omega (arith, c.push_reserved.ensures.len, c.push_reserved.ensures.capacity, c.in-Some.ensures.steps.1, c.loop-step.invariant.room);
       replies = λ M agrees.
           rw c.push_reserved.ensures.items

@@ -12,6 +12,7 @@ invariant-loop-step g l = record {
   finite : (goal.iterator-loop-step g).is_finite l.step-iterator;
   count : into_iter_len l.step-iterator ≡ length (into_iter_items l.step-iterator);
   split : l.fn.steps.items ≡ l.yielded ++ into_iter_items l.step-iterator;
+  servers : length l.self.servers ≡ length l.fn.self.servers;
   room : vec_len l.replies + into_iter_len l.step-iterator ≤ vec_capacity l.replies;
   replies : (M : History g.row.W.Denot) → Agrees g.W.Work.meaning l.fn.self M → AnswersAll g.W.Work.meaning M l.yielded l.replies.items;
   state : (M : History g.row.W.Denot) → Agrees g.W.Work.meaning l.fn.self M → Agrees g.W.Work.meaning l.self (grown_by M l.yielded l.replies.items);

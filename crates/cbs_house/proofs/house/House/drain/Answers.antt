@@ -1,5 +1,7 @@
+use Rattle.std.proofs.Common.{rules}
 use Rattle.cbs_house.specs.Steps.{MayDrain}
 use Rattle.cbs_house.proofs.Moving.{moves_nothing, moves_both, moves_none, moves_rings}
+use Rattle.cbs_house.proofs.Served.{none_held}
 use Rattle.cbs_house.proofs.house.House.drain.Goals as goal
 
 pub loop-self-init : goal.loop-self-init
@@ -20,3 +22,6 @@ returns-then-now-eq-LIMIT-clause-rings g c = moves_rings g.W.Work.meaning (MayDr
 
 pub returns-clause-rings : goal.returns-clause-rings
 returns-clause-rings g c = moves_rings g.W.Work.meaning (MayDrain g.W.Work.meaning) c.args.self.now c.loop-self.self 0 c.loop-self.invariant
+
+pub returns-clause-finished : goal.returns-clause-finished
+returns-clause-finished g c = none_held g.W.Work.meaning c.loop-self.self c.loop-self.self.housed (c.is_busy.ensures.none (search rules))

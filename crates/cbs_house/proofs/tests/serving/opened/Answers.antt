@@ -6,4 +6,4 @@ pub returns : goal.returns
 returns g c =
     let cs = c.in-Ok.clients.items in
     let few : length cs ≤ 64 = search rules in
-    ready_new c.args.ring c.in_ok-feeds.feeds.items cs c.in_ok-feeds.ensures.clients c.in-Ok.ensures.unused c.in-Ok.house few c.in-Ok.ensures.opened
+    ready_new c.args.ring c.in-Ok-feeds_of.feeds.items cs c.in-Ok-feeds_of.ensures.clients c.in-Ok.ensures.unused c.in-Ok.house few c.in-Ok.ensures.opened
