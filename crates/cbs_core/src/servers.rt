@@ -1,7 +1,7 @@
 //! All servers with their jobs: the choice among them, and what the rules do to them.
 
-ghost use Rattle.std.specs.Prelude.{◌≡◌, ℕ, ◌+◌, ◌<◌, ◌≤◌, ◌^◌, IfSome, IfOk, IfErr, OnOk, OnErr, IsOk, length, map, slice_get, get_or, true, false};
-ghost use Rattle.std.specs.List.{All, HoldsAt};
+ghost use Rattle.std.specs.Prelude.{◌≡◌, ◌+◌, ◌<◌, ◌≤◌, ◌^◌, IfSome, IfOk, OnOk, IsOk, length, map, slice_get, true};
+ghost use Rattle.std.specs.List.{HoldsAt};
 ghost use Rattle.cbs_rate.specs.Plan.{IsPlan};
 ghost use Rattle.cbs_core.specs.Lists.{changed_at};
 ghost use Rattle.cbs_core.specs.Choice.{chosen_among, IsChoice};

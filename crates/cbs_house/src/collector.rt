@@ -1,6 +1,6 @@
 //! The results of all servers.
 
-ghost use Rattle.std.specs.Prelude.{ℕ, ◌≡◌, ◌<◌, ◌≤◌, ◌↔◌, ◌⊎◌, length, true, false, IfOk, OnOk, OnErr, IsOk, IfSome, MatchResult, MatchOption, Some, None};
+ghost use Rattle.std.specs.Prelude.{ℕ, ◌≡◌, ◌<◌, ◌≤◌, ◌↔◌, ◌⊎◌, length, true, false, IfOk, OnOk, OnErr, IsOk, MatchResult, MatchOption, Some, None};
 ghost use Rattle.std.specs.List.{All};
 ghost use Rattle.cbs_house.specs.Collected.{shelf_at, no_shelf, SameShelf, OtherShelvesSame, AllShelvesSame, Announces, TakesResult, IsWaiting, IsComplete, IsNext, take_refusal};
 

@@ -7,7 +7,7 @@ use cbs_job::Work;
 use std::alloc::Allocator;
 
 impl<W: Work, A: Allocator> House<W, A> {
-    ghost use Rattle.std.specs.Prelude.{ℕ, ◌≡◌, ◌<◌, true, false, [], OnOk, IfErr};
+    ghost use Rattle.std.specs.Prelude.{ℕ, ◌≡◌, ◌<◌, true, false, OnOk, IfErr};
     ghost use Rattle.cbs_house.specs.Houses.{core_of, rings_of, received, HoldsJob, HoldsNoJob, AllFinished, Moves};
     ghost use Rattle.cbs_house.specs.Steps.{MayDrain};
 

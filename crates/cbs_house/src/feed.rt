@@ -21,8 +21,8 @@ impl<W: Work, A: Allocator> Feed<W, A> {
     ghost use Rattle.std.specs.Borrow.{Lends, sem};
     ghost use Rattle.cbs_house.specs.contracts.feed.Feed.{the_row};
     ghost use Rattle.cbs_house.specs.contracts.client.Client.{the_row as client_row};
-    ghost use Rattle.cbs_house.specs.Clients.{server_of, sent_by};
-    ghost use Rattle.cbs_house.specs.Feeds.{client_of, left, has_ended, IsOrderly, IsDone, KeepsFeed};
+    ghost use Rattle.cbs_house.specs.Clients.{sent_by};
+    ghost use Rattle.cbs_house.specs.Feeds.{client_of, left, IsOrderly, IsDone, KeepsFeed};
 
     /// A feed of these jobs, in order. It takes no memory.
     pub fn new(client: Client<W, A>, jobs: Vec<Task<W>, A>) -> Feed<W, A>

@@ -24,9 +24,9 @@ pub struct House<W: Work, A: Allocator = Global> {
 }
 
 impl<W: Work, A: Allocator> House<W, A> {
-    ghost use Rattle.std.specs.Prelude.{ℕ, ◌≡◌, ◌≢◌, ◌<◌, ◌≤◌, ◌+◌, ◌*◌, [], ◌∷◌, ◌++◌, length, slice_get, Ok, Err, Some, None, IfSome, IfNone, IfOk, IfErr, OnOk, OnErr, MatchResult, MatchOption};
+    ghost use Rattle.std.specs.Prelude.{ℕ, ◌≡◌, ◌<◌, ◌≤◌, ◌+◌, ◌*◌, [], ◌∷◌, ◌++◌, length, slice_get, Ok, Err, Some, None, IfSome, IfNone, IfOk, IfErr, OnOk, MatchResult, MatchOption};
     ghost use Rattle.cbs_core.specs.Agreement.{Agrees};
-    ghost use Rattle.cbs_core.specs.History.{History, ◌⊕◌, world_after, reply_in};
+    ghost use Rattle.cbs_core.specs.History.{History, world_after, reply_in};
     ghost use Rattle.cbs_core.specs.Quiet.{IsAtRest, IsIdleSpan};
     ghost use Rattle.cbs_core.specs.Held.{held_at};
     ghost use Rattle.cbs_core.specs.Views.{view_reply};

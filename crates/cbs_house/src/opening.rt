@@ -1,6 +1,6 @@
 //! Opening a house with its clients.
 
-ghost use Rattle.std.specs.Prelude.{ℕ, ◌≡◌, ◌≤◌, ◌⊎◌, [], length, map, Some, None, IfOk, MatchResult};
+ghost use Rattle.std.specs.Prelude.{ℕ, ◌≡◌, ◌⊎◌, [], length, map, Some, None, IfOk, MatchResult};
 ghost use Rattle.std.specs.List.{All, range_with_len};
 ghost use Rattle.cbs_core.specs.Agreement.{Agrees};
 ghost use Rattle.cbs_core.specs.Setups.{terms_of};

@@ -1,10 +1,9 @@
 //! Serving feeds to their end.
 
-ghost use Rattle.std.specs.Prelude.{ℕ, ◌≡◌, ◌+◌, ◌<◌, ◌≤◌, true, length, IsTrue, IfOk, OnOk, IfErr};
+ghost use Rattle.std.specs.Prelude.{◌≡◌, ◌+◌, ◌≤◌, true, length, IsTrue, IfOk, OnOk, IfErr};
 ghost use Rattle.std.specs.List.{All};
-ghost use Rattle.cbs_house.specs.Clients.{sent_by};
-ghost use Rattle.cbs_house.specs.Feeds.{IsDone, KeepsFeed, KeepsFeeds, all_unsent, unsent};
-ghost use Rattle.cbs_house.specs.Houses.{core_of, rings_of, results_of, HoldsNoJob, LooksOnly, Polled};
+ghost use Rattle.cbs_house.specs.Feeds.{IsDone, KeepsFeed, KeepsFeeds, all_unsent};
+ghost use Rattle.cbs_house.specs.Houses.{rings_of, LooksOnly};
 ghost use Rattle.cbs_house.specs.Ringed.{IsOpened};
 ghost use Rattle.cbs_house.specs.Rounds.{Ready, ServesOn, IsSettled, IsServed, Stops};
 

@@ -1,6 +1,6 @@
 //! The results of one server.
 
-ghost use Rattle.std.specs.Prelude.{◌≡◌, ◌<◌, [], ◌∷◌, ◌++◌, length, OnOk, OnErr, IsOk, MatchResult, Some, None, true, false};
+ghost use Rattle.std.specs.Prelude.{◌≡◌, ◌<◌, OnOk, OnErr, IsOk, MatchResult, Some, None, true, false};
 ghost use Rattle.cbs_house.specs.Collected.{SameShelf, Announces, TakesResult, IsWaiting, IsComplete, shelf_refusal, no_shelf};
 
 use crate::error::CollectError;

@@ -1,6 +1,6 @@
 //! A job that seeks the greatest number.
 
-ghost use Rattle.std.specs.Prelude.{◌≡◌, ◌≤◌, ℕ, List, length, take, drop};
+ghost use Rattle.std.specs.Prelude.{◌≡◌, ◌≤◌, ℕ, length, take, drop};
 ghost use Rattle.cbs_job.specs.Work.{whole, output_after};
 ghost use Rattle.cbs_job.specs.Numbers.{Progress, peaking, IsPeak};
 

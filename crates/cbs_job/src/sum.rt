@@ -1,6 +1,6 @@
 //! A job that adds numbers up.
 
-ghost use Rattle.std.specs.Prelude.{◌≡◌, ◌≤◌, ◌*◌, ℕ, List, length, take, drop, sum};
+ghost use Rattle.std.specs.Prelude.{◌≡◌, ◌≤◌, ◌*◌, ℕ, length, take, drop, sum};
 ghost use Rattle.cbs_job.specs.Work.{whole, output_after};
 ghost use Rattle.cbs_job.specs.Numbers.{Progress, summing};
 

@@ -1,7 +1,6 @@
 //! Work that may be submitted.
 
-ghost use Rattle.std.specs.Prelude.{◌≡◌, ◌<◌, ◌≤◌, IfOk, IfErr, OnOk, OnErr, MatchResult, Some, None};
-ghost use Rattle.cbs_job.specs.Work.{whole};
+ghost use Rattle.std.specs.Prelude.{◌≡◌, ◌<◌, ◌≤◌, IfOk, IfErr, MatchResult, Some, None};
 
 use crate::running::Running;
 use crate::work::Work;

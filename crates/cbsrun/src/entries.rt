@@ -1,6 +1,6 @@
 //! The entries of a task file's arrays: one server, one step.
 
-ghost use Rattle.std.specs.Prelude.{◌≡◌, ℕ, ◌+◌, ◌≤◌, ◌<◌, ◌^◌, length, map, IfOk, MatchResult, Err, Some, None};
+ghost use Rattle.std.specs.Prelude.{◌≡◌, ℕ, ◌≤◌, length, IfOk, Err};
 ghost use Rattle.cbsrun.specs.declared.fault.FileKind.TheVariants.{OutOfMemory};
 ghost use Rattle.toml.specs.View.{view, table_view};
 ghost use Rattle.cbsrun.specs.Fields.{Gives};

@@ -5,7 +5,7 @@ ghost use Rattle.std.specs.Prelude.{is_some, bytes_eq, string_bytes};
 ghost use Rattle.std.specs.List.{list_any, list_all};
 ghost use Rattle.std.specs.BTreeMap.{keys as map_keys};
 ghost use Rattle.toml.specs.Data.{as_integer};
-ghost use Rattle.toml.specs.View.{view, table_view, array_view};
+ghost use Rattle.toml.specs.View.{view, table_view};
 ghost use Rattle.cbsrun.specs.Fields.{seen, known, present, whole, text, items, members, natural, within, below, all_whole, number, sized, each, Gives};
 
 use crate::fault::FileKind;

@@ -1,6 +1,6 @@
 //! A task file, read from its bytes.
 
-ghost use Rattle.std.specs.Prelude.{◌≡◌, ◌+◌, ◌≤◌, map, length, [], Ok, Err, IfOk, All};
+ghost use Rattle.std.specs.Prelude.{◌≡◌, ◌≤◌, map, [], Ok, Err, IfOk, All};
 ghost use Rattle.toml.specs.View.{view, table_view};
 ghost use Rattle.cbsrun.specs.declared.fault.FileKind.TheVariants.{OutOfMemory};
 ghost use Rattle.cbsrun.specs.declared.fault.Place.TheVariants.{Step as AtStep};

@@ -1,6 +1,6 @@
 //! One line of a trace.
 
-ghost use Rattle.std.specs.Prelude.{◌≡◌, ◌++◌, OnOk, Option, string_bytes};
+ghost use Rattle.std.specs.Prelude.{◌≡◌, OnOk, Option, string_bytes};
 ghost use Rattle.cbsrun.specs.Lines.{line_text, shown_server};
 
 use cbs_core::{CoreError, Ran, ServerView};

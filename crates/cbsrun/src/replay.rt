@@ -1,6 +1,6 @@
 //! The trace of a task file, written to a writer.
 
-ghost use Rattle.std.specs.Prelude.{◌≡◌, ◌+◌, ◌-◌, ◌<◌, ◌^◌, ◌⊎◌, OnOk, OnErr, IfOk, IfErr, IsErrOf, Option, string_bytes, if◌then◌else◌};
+ghost use Rattle.std.specs.Prelude.{◌≡◌, ◌+◌, ◌-◌, ◌<◌, ◌^◌, ◌⊎◌, OnOk, OnErr, IfOk, IfErr, IsErrOf, string_bytes, if◌then◌else◌};
 ghost use Rattle.std.specs.Io.KnownBytes.{Appends};
 ghost use Rattle.cbs_job.specs.Files.{of_files};
 ghost use Rattle.cbs_core.specs.Agreement.{Agrees};

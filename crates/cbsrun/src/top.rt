@@ -1,6 +1,6 @@
 //! The top table of a task file.
 
-ghost use Rattle.std.specs.Prelude.{◌≡◌, ◌≤◌, map, OnOk, IfOk};
+ghost use Rattle.std.specs.Prelude.{◌≡◌, ◌≤◌, map, IfOk};
 ghost use Rattle.toml.specs.View.{view, table_view};
 ghost use Rattle.cbsrun.specs.Fields.{seen};
 ghost use Rattle.cbsrun.specs.Tops.{mode_of, bound, bound_of, top_table, top_view};

@@ -1,6 +1,6 @@
 //! Readers and writers over memory that fail where they are told to.
 
-ghost use Rattle.std.specs.Prelude.{Some, None, ◌≡◌, ◌<◌, ◌^◌, ◌-◌};
+ghost use Rattle.std.specs.Prelude.{Some, None, ◌≡◌, ◌<◌, ◌-◌};
 
 use crate::input::ByteInput;
 use crate::output::ByteOutput;
