@@ -1,0 +1,9 @@
+use Rattle.std.proofs.Common.{◌≤◌, length, rules}
+use Rattle.cbs_house.proofs.Feeding.{ready_new}
+use Rattle.soak.proofs.opened.Goals as goal
+
+pub returns-2 : goal.returns-2
+returns-2 c =
+    let cs = c.in_ok-house.clients.items in
+    let few : length cs ≤ 64 = search rules in
+    ready_new c.args.load.ring c.in-Ok-feeds_of.feeds.items cs c.in-Ok-feeds_of.ensures.clients c.in_ok-house.ensures.unused c.in_ok-house.house few c.in_ok-house.ensures.opened

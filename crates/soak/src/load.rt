@@ -1,0 +1,98 @@
+//! A load: servers, and the jobs of their clients.
+
+use anyhow::{Context, Result, bail};
+use cbs_job::{FileJob, MAX_UNITS, PeakJob, SumJob, Task};
+use cbs_rate::{Bound, Plan, Reservation};
+use cbs_rules::Mode;
+use std::alloc::Global;
+use std::str::SplitWhitespace;
+
+/// What is served, and the seed of the delays.
+#[derive(Drop)]
+pub struct Load {
+    pub seed: u64,
+    pub mode: Mode,
+    pub backlog: u64,
+    pub ring: u64,
+    pub plan: Plan,
+    /// The jobs of each server, in order.
+    pub jobs: Vec<Vec<Task<FileJob>>>,
+}
+
+/// Reads a load. Its first line is `SEED MODE BACKLOG RING`, and each further one is
+/// `server BUDGET PERIOD`, or `job SERVER KIND NUMBERS..`, of a server above it.
+pub fn read_load(alloc: Global, text: &str) -> Result<Load> {
+    let mut lines = text.lines();
+    let first = lines.next().context("line 1: there is none")?;
+    let mut load = match read_first(alloc, &mut first.split_whitespace()) {
+        Ok(load) => load,
+        Err(error) => bail!("line 1: {error}"),
+    };
+    for (number, line) in (2..u64::MAX).zip(lines) {
+        if let Err(error) = read_line(alloc, &mut load, line) {
+            bail!("line {number}: {error}");
+        }
+    }
+    Ok(load)
+}
+
+/// A load with no server yet.
+fn read_first(alloc: Global, words: &mut SplitWhitespace<'_>) -> Result<Load> {
+    let seed = number(words)?;
+    let mode = match words.next() {
+        Some("soft") => Mode::Soft,
+        Some("throttled") => Mode::Throttled,
+        _ => bail!("neither soft nor throttled"),
+    };
+    Ok(Load {
+        seed,
+        mode,
+        backlog: number(words)?,
+        ring: number(words)?,
+        plan: Plan::new(Bound::new(1, 1)?),
+        jobs: Vec::new(alloc),
+    })
+}
+
+/// Takes one more server or one more job.
+fn read_line(alloc: Global, load: &mut Load, line: &str) -> Result<()> {
+    let mut words = line.split_whitespace();
+    match words.next() {
+        Some("server") => {
+            let reservation = Reservation::new(number(&mut words)?, number(&mut words)?)?;
+            load.plan.admit(reservation)?;
+            load.jobs.push(Vec::new(alloc))?;
+        }
+        Some("job") => {
+            let server = number(&mut words)? as usize;
+            let jobs = load.jobs.get_mut(server).context("no such server")?;
+            jobs.push(read_job(alloc, &mut words)?)?;
+        }
+        _ => bail!("neither a server nor a job"),
+    }
+    Ok(())
+}
+
+/// The job of a kind and its numbers.
+fn read_job(alloc: Global, words: &mut SplitWhitespace<'_>) -> Result<Task<FileJob>> {
+    let kind = words.next();
+    let mut numbers = Vec::new(alloc);
+    for word in words {
+        numbers.push(word.parse::<u32>()?)?;
+    }
+    if numbers.len() > MAX_UNITS as usize {
+        bail!("too many numbers");
+    }
+    let job = match kind {
+        Some("sum") => FileJob::Sum(SumJob::new(numbers)),
+        Some("peak") => FileJob::Peak(PeakJob::new(numbers)),
+        _ => bail!("neither a sum nor a peak"),
+    };
+    Ok(Task::new(job).map_err(|refused| refused.error)?)
+}
+
+/// The next word, a number.
+fn number(words: &mut SplitWhitespace<'_>) -> Result<u64> {
+    let word = words.next().context("a number is missing")?;
+    Ok(word.parse::<u64>()?)
+}
