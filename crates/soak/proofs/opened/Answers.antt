@@ -6,4 +6,4 @@ pub returns-2 : goal.returns-2
 returns-2 c =
     let cs = c.in_ok-house.clients.items in
     let few : length cs ≤ 64 = search rules in
-    ready_new c.args.load.ring c.in-Ok-feeds_of.feeds.items cs c.in-Ok-feeds_of.ensures.clients c.in_ok-house.ensures.unused c.in_ok-house.house few c.in_ok-house.ensures.opened
+    ready_new c.args.load.ring c.in-Ok.feeds.items cs c.in-Ok.ensures.clients c.in_ok-house.ensures.unused c.in_ok-house.house few c.in_ok-house.ensures.opened
