@@ -114,6 +114,17 @@ module _ {W A : Type 0} {g : Ghosts W} (work : Meaning W) where
   pub serves_look : (a b : House W A g) → LooksOnly a b → ServesOn work a b
   serves_look a b l = record { moves = (0, moves_made work (MayServe work) a b (made_look work a b l)) }
 
+  -- a drain behind what was taken, and a look behind that
+  pub serves_drained : (a b c : House W A g) → ServesOn work a b → Moves work (MayDrain work) b c 0 → ServesOn work a c
+  serves_drained a b c taken drained = serves_then a b c taken (serves_drain b c 0 drained)
+
+  pub serves_looked : (a b c : House W A g) → ServesOn work a b → LooksOnly b c → ServesOn work a c
+  serves_looked a b c done looked = serves_then a b c done (serves_look b c looked)
+
+  -- one more round, and what is done behind it
+  pub serves_more : (a b c d : House W A g) (n : ℕ) → ServesOn work a b → Moves work MayRound b c n → ServesOn work c d → ServesOn work a d
+  serves_more a b c d n before round rest = serves_then a c d (serves_then a b c before (serves_round b c n round)) rest
+
   pub serves_rings : (a b : House W A g) → ServesOn work a b → rings_of b ≡ rings_of a
   serves_rings a b m = moves_rings work (MayServe work) a b m.moves.0 m.moves.1
 

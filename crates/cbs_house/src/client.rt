@@ -136,6 +136,7 @@ impl<W: Work, A: Allocator> Client<W, A> {
         ensures ended { MatchResult result (λ _. has_end (sent_by self.old) ≡ false)
             (λ error. (error ≡ SendError.Ended) ↔ (has_end (sent_by self.old) ≡ true)) }
         ensures free { (has_end (sent_by self.old) ≡ false) × (0 < free self.old) → IsOk result }
+        ensures left { free self.old ≤ free self.new + 1 }
         ensures full { IfErr result (λ error. (error ≡ SendError.RingFull) → free self.new ≡ 0) }
     {
         if self.ended {

@@ -43,6 +43,17 @@ fn opened<R: Abort>(
     Ok((house, feeds))
 }
 
+/// Two servers at rings of one place, and feeds of three jobs and of one.
+fn two_feeds<R: Abort>(rt: &R, alloc: Global) -> Result<(House<SumJob>, Vec<Feed<SumJob>>), Fail>
+    ensures { IfOk result (λ r. Ready r.0 r.1.items) }
+{
+    let lists = vec![in alloc;
+        sums_of(rt, alloc, &[&[1], &[2], &[3]])?,
+        sums_of(rt, alloc, &[&[4]])?,
+    ]?;
+    opened(rt, alloc, &[(2, 5), (2, 5)], 1, lists)
+}
+
 /// How many messages stand in the ring of the feed at this index.
 fn standing(house: &mut House<SumJob>, feeds: &mut [Feed<SumJob>], index: usize) -> u64
     requires ready { Ready house.old feeds.old }
@@ -56,11 +67,7 @@ fn standing(house: &mut House<SumJob>, feeds: &mut [Feed<SumJob>], index: usize)
 #[test]
 fn both_sides_of_a_round_run_at_once(rt: HostRuntime) -> Result<(), Fail> {
     let alloc = rt.alloc();
-    let lists = vec![in alloc;
-        sums_of(&rt, alloc, &[&[1], &[2], &[3]])?,
-        sums_of(&rt, alloc, &[&[4]])?,
-    ]?;
-    let (mut house, mut feeds) = opened(&rt, alloc, &[(2, 5), (2, 5)], 1, lists)?;
+    let (mut house, mut feeds) = two_feeds(&rt, alloc)?;
     let gate = Meet::new(true);
     let round = serve_round(&rt, &mut house, &mut feeds, 1_000_000_000, &gate);
     assert_eq!(rt; round, Round { sent: 6, took: 6 });
@@ -74,11 +81,7 @@ fn both_sides_of_a_round_run_at_once(rt: HostRuntime) -> Result<(), Fail> {
 #[test]
 fn serving_runs_both_sides_at_once(rt: HostRuntime) -> Result<(), Fail> {
     let alloc = rt.alloc();
-    let lists = vec![in alloc;
-        sums_of(&rt, alloc, &[&[1], &[2], &[3]])?,
-        sums_of(&rt, alloc, &[&[4]])?,
-    ]?;
-    let (mut house, mut feeds) = opened(&rt, alloc, &[(2, 5), (2, 5)], 1, lists)?;
+    let (mut house, mut feeds) = two_feeds(&rt, alloc)?;
     let gate = Meet::new(false);
     assert_eq!(rt; serve(&rt, &mut house, &mut feeds, &gate), Ok(()));
     assert!(rt; gate.first.met() == 3);

@@ -1,30 +1,21 @@
-use Rattle.cbs_house.proofs.Moving.{serves_then, serves_drain, serves_look}
+use Rattle.cbs_house.proofs.Moving.{serves_drained, serves_looked}
 use Rattle.cbs_house.proofs.Served.{all_served}
 use Rattle.cbs_house.proofs.serving.finish_round.Goals as goal
 
 pub returns-in_err-drain-clause-steps : goal.returns-in_err-drain-clause-steps
-returns-in_err-drain-clause-steps g c =
-    let work = g.W.Work.meaning in
-    let t = c.take_rest in
-    serves_then work c.args.house.now t.new.house c.drain.new.self t.ensures.steps (serves_drain work t.new.house c.drain.new.self 0 c.drain.ensures.moves)
+returns-in_err-drain-clause-steps g c = serves_drained g.W.Work.meaning c.args.house.now c.take_rest.new.house c.drain.new.self c.take_rest.ensures.steps c.drain.ensures.moves
 
 pub returns-then-settled-clause-steps : goal.returns-then-settled-clause-steps
 returns-then-settled-clause-steps g c =
-    let work = g.W.Work.meaning in
-    let t = c.take_rest in
+    let drained = serves_drained g.W.Work.meaning c.args.house.now c.take_rest.new.house c.drain.new.self c.take_rest.ensures.steps c.drain.ensures.moves in
     let s = c.all_settled-settled in
-    serves_then work c.args.house.now c.drain.new.self s.new.house
-    (serves_then work c.args.house.now t.new.house c.drain.new.self t.ensures.steps (serves_drain work t.new.house c.drain.new.self 0 c.drain.ensures.moves))
-    (serves_look work c.drain.new.self s.new.house s.ensures.looked)
+    serves_looked g.W.Work.meaning c.args.house.now c.drain.new.self s.new.house drained s.ensures.looked
 
 pub returns-else-settled-clause-steps : goal.returns-else-settled-clause-steps
 returns-else-settled-clause-steps g c =
-    let work = g.W.Work.meaning in
-    let t = c.take_rest in
+    let drained = serves_drained g.W.Work.meaning c.args.house.now c.take_rest.new.house c.drain.new.self c.take_rest.ensures.steps c.drain.ensures.moves in
     let s = c.all_settled-settled in
-    serves_then work c.args.house.now c.drain.new.self s.new.house
-    (serves_then work c.args.house.now t.new.house c.drain.new.self t.ensures.steps (serves_drain work t.new.house c.drain.new.self 0 c.drain.ensures.moves))
-    (serves_look work c.drain.new.self s.new.house s.ensures.looked)
+    serves_looked g.W.Work.meaning c.args.house.now c.drain.new.self s.new.house drained s.ensures.looked
 
 pub returns-then-settled-clause-served : goal.returns-then-settled-clause-served
 returns-then-settled-clause-served g c = λ done.
