@@ -2,6 +2,7 @@
 
 mod collecting;
 mod meeting;
+mod memory;
 mod polling;
 mod serving;
 
