@@ -12,7 +12,7 @@ use Rattle.cbs_house.specs.declared.poll.Poll.{Poll}
 use Rattle.cbs_house.specs.declared.poll.Poll.TheVariants as poll
 use Rattle.cbs_house.specs.Clients.{server_of, sent_by}
 use Rattle.cbs_house.specs.Feeds.{IsOrderly, IsDone, all_jobs}
-use Rattle.cbs_house.specs.Houses.{core_of, rings_of, received, results_of, HoldsJob, Moves}
+use Rattle.cbs_house.specs.Houses.{core_of, rings_of, received, results_of, HoldsJob, HoldsNoJob, Moves}
 use Rattle.cbs_house.specs.Ringed.{IsOpened}
 use Rattle.cbs_house.specs.Steps.{MayServe}
 
@@ -55,12 +55,12 @@ module _ {W A : Type 0} {g : Ghosts W} where
     pub done : IsDone f
     pub results : results_of h (server_of f.client) ≡ map (whole work) (all_jobs f)
 
-  -- how serving leaves the house where it stops early: by ClockEnd the clock is at its end with a job unfinished; by the other
-  -- two nothing is said
+  -- how serving leaves the house where it stops early: by ClockEnd the clock is at its end with a job unfinished; by Stalled
+  -- every job received is finished; of want of memory nothing is said
   abbrev pub Stops : HouseError → House W A g → Type 0
   Stops OutOfMemory h = Unit {0}
   Stops ClockEnd h = ((core_of h).clock ≡ clock_end) × HoldsJob (core_of h)
-  Stops Stalled h = Unit {0}
+  Stops Stalled h = HoldsNoJob (core_of h)
   Stops BadBacklog h = ⊥
   Stops BadRing h = ⊥
   Stops NoSuchServer h = ⊥

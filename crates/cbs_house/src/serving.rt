@@ -3,7 +3,7 @@
 ghost use Rattle.std.specs.Prelude.{◌≡◌, ◌+◌, ◌≤◌, true, length, IsTrue, IfOk, OnOk, IfErr};
 ghost use Rattle.std.specs.List.{All};
 ghost use Rattle.cbs_house.specs.Feeds.{IsDone, KeepsFeed, KeepsFeeds, all_unsent};
-ghost use Rattle.cbs_house.specs.Houses.{rings_of, LooksOnly};
+ghost use Rattle.cbs_house.specs.Houses.{core_of, rings_of, HoldsNoJob, LooksOnly};
 ghost use Rattle.cbs_house.specs.Ringed.{IsOpened};
 ghost use Rattle.cbs_house.specs.Rounds.{Ready, ServesOn, IsSettled, IsServed, Stops};
 
@@ -79,6 +79,7 @@ fn finish_round<W: Work>(house: &mut House<W>, feeds: &mut [Feed<W>]) -> Result<
     ensures ready { Ready house.new feeds.new }
     ensures feeds { KeepsFeeds feeds.old feeds.new }
     ensures steps { ServesOn W.meaning house.old house.new }
+    ensures drained { OnOk result (HoldsNoJob (core_of house.new)) }
     ensures served { IfOk result (λ all. IsTrue all → All (IsServed W.meaning house.new) feeds.new) }
     ensures stops { IfErr result (λ error. Stops error house.new) }
 {

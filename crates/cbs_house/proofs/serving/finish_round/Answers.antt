@@ -17,8 +17,14 @@ returns-else-settled-clause-steps g c =
     let s = c.all_settled-settled in
     serves_looked g.W.Work.meaning c.args.house.now c.drain.new.self s.new.house drained s.ensures.looked
 
+pub returns-then-settled-clause-drained : goal.returns-then-settled-clause-drained
+returns-then-settled-clause-drained g c = λ k. rw c.all_settled-settled.ensures.looked.core (c.in_ok-drain.ensures.ok k)
+
+pub returns-else-settled-clause-drained : goal.returns-else-settled-clause-drained
+returns-else-settled-clause-drained g c = λ k. rw c.all_settled-settled.ensures.looked.core (c.in_ok-drain.ensures.ok k)
+
 pub returns-then-settled-clause-served : goal.returns-then-settled-clause-served
 returns-then-settled-clause-served g c = λ done.
     let s = c.all_settled-settled in
     let h = s.new.house in
-    all_served g.W.Work.meaning h h.housed s.new.feeds (λ k. rw s.ensures.looked.core (c.in_ok-drain.ensures.ok k)) s.ensures.ready (c.all_done.ensures done) (s.ensures.settled c.if-settled.true)
+    all_served g.W.Work.meaning h h.housed s.new.feeds (returns-then-settled-clause-drained g c) s.ensures.ready (c.all_done.ensures done) (s.ensures.settled c.if-settled.true)

@@ -1,9 +1,10 @@
+use Rattle.std.proofs.Common.{arith}
 use Rattle.cbs_house.proofs.Feeding.{feeds_same, feeds_on}
 use Rattle.cbs_house.proofs.Moving.{serves_none, serves_more}
 use Rattle.cbs_house.proofs.serving.serve.Goals as goal
 
 pub loop-init : goal.loop-init
-loop-init g c = record { ready = c.requires.ready; feeds = feeds_same c.args.feeds.now; steps = serves_none g.W.Work.meaning c.args.house.now }
+loop-init g c = record { ready = c.requires.ready; feeds = feeds_same c.args.feeds.now; steps = serves_none g.W.Work.meaning c.args.house.now; drained = λ p. absurd (omega (arith, p)) }
 
 pub returns-in_err-finish_round-clause-steps : goal.returns-in_err-finish_round-clause-steps
 returns-in_err-finish_round-clause-steps g c =
@@ -24,4 +25,5 @@ loop-preserved g c =
       ready = f.ensures.ready;
       feeds = feeds_on c.args.feeds.now r.new.feeds f.new.feeds (feeds_on c.args.feeds.now l.feeds r.new.feeds l.invariant.feeds r.ensures.feeds) f.ensures.feeds;
       steps = serves_more g.W.Work.meaning c.args.house.now l.house r.new.house f.new.house r.result.took l.invariant.steps r.ensures.took f.ensures.steps;
+      drained = λ p. c.in_ok-finish_round.ensures.drained;
     }
