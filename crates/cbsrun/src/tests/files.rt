@@ -14,119 +14,91 @@ const HEAD: &str = "format = 1\nmode = \"soft\"\nbound = [1, 1]\nbacklog = 4\nri
 
 const ONE: &str = "server = [{ budget = 2, period = 5 }]\n";
 
-/// A file in three parts, and its fault.
-#[derive(Clone, Copy)]
-struct Faulty {
-    parts: [&'static str; 3],
-    fault: &'static str,
-}
+const THIRD: &str = "format = 1\nmode = \"soft\"\nbound = [1, 3]\nbacklog = 4\nring = 4\n";
 
-fn is_refused<R: Threads + Sync>(rt: &R, alloc: Global, row: &Faulty) -> Result<bool, Fail> {
-    let [head, server, step] = row.parts;
-    let fault = row.fault;
-    let file = format!(in alloc; "{head}{server}{step}")?;
+const BACKLOG_OVER: &str =
+    "format = 1\nmode = \"soft\"\nbound = [1, 1]\nbacklog = 4097\nring = 4\n";
+
+/// What stands before `server`, the line of `server`, what stands behind it, and the fault.
+type Faulty = [&'static str; 4];
+
+const FAULTS_AT_TOP: [Faulty; 8] = [
+    ["", "", "", "3 MissingKey at top"],
+    ["format = 1\n", "mode = \"so", "", "1 NotToml at top"],
+    ["format = 3", "", "", "5 OutOfRange at top"],
+    ["format = \"1\"", "", "", "4 WrongType at top"],
+    [HEAD, "speed = 3", "", "2 UnknownKey at top"],
+    [HEAD, ONE, "", "3 MissingKey at top"],
+    [HEAD, "server = 2\n", "step = []", "4 WrongType at top"],
+    [BACKLOG_OVER, ONE, "step = []", "5 OutOfRange at top"],
+];
+
+/// The entries of `server`, and the fault.
+const FAULTS_AT_SERVERS: [(&str, &str, &str); 4] = [
+    (
+        HEAD,
+        "{ budget = 6, period = 5 }",
+        "5 OutOfRange at server 0",
+    ),
+    (
+        HEAD,
+        "{ budget = 1, period = 1 }, { budget = 1, period = 5 }",
+        "6 NotAdmitted at server 1",
+    ),
+    (
+        THIRD,
+        "{ budget = 333333334, period = 1000000000 }",
+        "6 NotAdmitted at server 0",
+    ),
+    (
+        THIRD,
+        "{ budget = 1, period = 3 }, { budget = 1, period = 1000000000 }",
+        "6 NotAdmitted at server 1",
+    ),
+];
+
+/// The entries of `step`, and the fault.
+const FAULTS_AT_STEPS: [(&str, &str); 8] = [
+    ("{ op = \"jump\" }", "5 OutOfRange at step 0"),
+    (
+        "{ op = \"run\" }, { op = \"run\", server = 0 }",
+        "2 UnknownKey at step 1",
+    ),
+    (
+        "{ op = \"submit\", server = 0, job = \"sum\", units = \"abc\" }",
+        "4 WrongType at step 0",
+    ),
+    (
+        "{ op = \"submit\", server = 0, job = \"sum\", units = [] }",
+        "5 OutOfRange at step 0",
+    ),
+    ("{ op = \"close\", server = 1 }", "5 OutOfRange at step 0"),
+    ("{ op = \"advance\", ticks = -1 }", "5 OutOfRange at step 0"),
+    ("{ server = 0 }", "3 MissingKey at step 0"),
+    (
+        "{ op = \"submit\", server = 0, job = \"sum\", units = [4294967296] }",
+        "5 OutOfRange at step 0",
+    ),
+];
+
+/// Whether a file is refused with this fault.
+fn is_refused<R: Threads + Sync>(
+    rt: &R,
+    alloc: Global,
+    file: &str,
+    fault: &str,
+) -> Result<bool, Fail> {
     let line = format!(in alloc; "cbsrun: file fault {fault}\n")?;
     let ran = ran(rt, alloc, Verb::Replay, file.as_bytes());
     Ok(ran.status == 3 && ran.out.holds("") && ran.err.holds(line.as_str()))
 }
 
-fn refused(parts: [&'static str; 3], fault: &'static str) -> Faulty {
-    Faulty { parts, fault }
-}
-
 #[test]
-fn faults_have_their_places(rt: HostRuntime) -> Result<(), Fail> {
+fn faults_at_the_top_are_found(rt: HostRuntime) -> Result<(), Fail> {
     let alloc = rt.alloc();
-    let backlog_over = "format = 1\nmode = \"soft\"\nbound = [1, 1]\nbacklog = 4097\nring = 4\n";
-    let third = "format = 1\nmode = \"soft\"\nbound = [1, 3]\nbacklog = 4\nring = 4\n";
-    for row in &[
-        refused(["", "", ""], "3 MissingKey at top"),
-        refused(["format = 1\n", "mode = \"so", ""], "1 NotToml at top"),
-        refused(["format = 3", "", ""], "5 OutOfRange at top"),
-        refused(["format = \"1\"", "", ""], "4 WrongType at top"),
-        refused([HEAD, "speed = 3", ""], "2 UnknownKey at top"),
-        refused([HEAD, ONE, ""], "3 MissingKey at top"),
-        refused([HEAD, "server = 2\n", "step = []"], "4 WrongType at top"),
-        refused([backlog_over, ONE, "step = []"], "5 OutOfRange at top"),
-        refused(
-            [HEAD, "server = [{ budget = 6, period = 5 }]\n", "step = []"],
-            "5 OutOfRange at server 0",
-        ),
-        refused(
-            [
-                HEAD,
-                "server = [{ budget = 1, period = 1 }, { budget = 1, period = 5 }]\n",
-                "step = []",
-            ],
-            "6 NotAdmitted at server 1",
-        ),
-        refused(
-            [HEAD, ONE, "step = [{ op = \"jump\" }]"],
-            "5 OutOfRange at step 0",
-        ),
-        refused(
-            [
-                HEAD,
-                ONE,
-                "step = [{ op = \"run\" }, { op = \"run\", server = 0 }]",
-            ],
-            "2 UnknownKey at step 1",
-        ),
-        refused(
-            [
-                HEAD,
-                ONE,
-                "step = [{ op = \"submit\", server = 0, job = \"sum\", units = \"abc\" }]",
-            ],
-            "4 WrongType at step 0",
-        ),
-        refused(
-            [
-                HEAD,
-                ONE,
-                "step = [{ op = \"submit\", server = 0, job = \"sum\", units = [] }]",
-            ],
-            "5 OutOfRange at step 0",
-        ),
-        refused(
-            [HEAD, ONE, "step = [{ op = \"close\", server = 1 }]"],
-            "5 OutOfRange at step 0",
-        ),
-        refused(
-            [HEAD, ONE, "step = [{ op = \"advance\", ticks = -1 }]"],
-            "5 OutOfRange at step 0",
-        ),
-        refused(
-            [HEAD, ONE, "step = [{ server = 0 }]"],
-            "3 MissingKey at step 0",
-        ),
-        refused(
-            [
-                HEAD,
-                ONE,
-                "step = [{ op = \"submit\", server = 0, job = \"sum\", units = [4294967296] }]",
-            ],
-            "5 OutOfRange at step 0",
-        ),
-        refused(
-            [
-                third,
-                "server = [{ budget = 333333334, period = 1000000000 }]\n",
-                "step = []",
-            ],
-            "6 NotAdmitted at server 0",
-        ),
-        refused(
-            [
-                third,
-                "server = [{ budget = 1, period = 3 }, { budget = 1, period = 1000000000 }]\n",
-                "step = []",
-            ],
-            "6 NotAdmitted at server 1",
-        ),
-    ] {
-        let fault = row.fault;
-        assert!(rt; is_refused(&rt, alloc, row)?, "{fault}");
+    for [head, server, step, fault] in FAULTS_AT_TOP {
+        let file = format!(in alloc; "{head}{server}{step}")?;
+        assert!(rt; is_refused(&rt, alloc, file.as_str(), fault)?, "{file}");
     }
     let not_text = ran(&rt, alloc, Verb::Replay, b"\xff\xfe");
     assert!(rt; not_text.status == 3 && not_text.out.holds(""));
@@ -135,45 +107,94 @@ fn faults_have_their_places(rt: HostRuntime) -> Result<(), Fail> {
 }
 
 #[test]
-fn other_spellings_are_the_same_file(rt: HostRuntime) -> Result<(), Fail> {
+fn faults_at_servers_and_steps_have_their_places(rt: HostRuntime) -> Result<(), Fail> {
     let alloc = rt.alloc();
-    let lines = "\
+    for (head, servers, fault) in FAULTS_AT_SERVERS {
+        let file = format!(in alloc; "{head}server = [{servers}]\nstep = []")?;
+        assert!(rt; is_refused(&rt, alloc, file.as_str(), fault)?, "{file}");
+    }
+    for (steps, fault) in FAULTS_AT_STEPS {
+        let file = format!(in alloc; "{HEAD}{ONE}step = [{steps}]")?;
+        assert!(rt; is_refused(&rt, alloc, file.as_str(), fault)?, "{file}");
+    }
+    Ok(())
+}
+
+const LINES: &str = "\
 @0 submit 0 job 0 accepted c=2 d=5
 @1 run 0 job 0 c=1 d=5
 @2 run 0 job 0 c=2 d=10
 @3 run 0 job 0 done 6 c=1 d=10
 ";
-    let third = "format = 1\nmode = \"soft\"\nbound = [1, 3]\nbacklog = 4\nring = 4\n";
-    for (file, lines) in [
-        (
-            "format = 0x1 # the format\nmode = 'soft'\nbound = [\n  1, # N\n  1,\n]\nbacklog = +4\nring = 0b100\n\
-             [[server]]\nbudget = 0o2\nperiod = 5\n\
-             [[step]]\nop = \"submit\"\nunits = [1, 2, 0x3]\nserver = 0\njob = 'sum'\n\
-             [[step]]\nop = \"run\"\n[[step]]\nop = \"run\"\n[[step]]\nop = \"run\"\n",
-            lines,
-        ),
-        (
-            "step = [{ server = 0, job = \"\"\"sum\"\"\", units = [0_1, 2, 3], op = \"submit\" },\n\
-             { op = \"run\" }, { op = \"run\" }, { op = \"\\u0072un\" }]\n\
-             server = [{ period = 5, budget = 2 }]\n\
-             ring = 1_0\nbacklog = 4_0_9_6\nbound = [1_000, 1_000]\nmode = \"soft\"\nformat = 1\n",
-            "",
-        ),
-        (
-            "step = [{ server = 0, job = \"\"\"sum\"\"\", units = [1, 2, 3], op = \"submit\" },\n\
-             { op = \"run\" }, { op = \"run\" }, { op = \"\\u0072un\" }]\n\
-             server = [{ period = 5, budget = 2 }]\n\
-             ring = 1_0\nbacklog = 4_0_9_6\nbound = [1_000, 1_000]\nmode = \"soft\"\nformat = 1\n",
-            lines,
-        ),
-    ] {
-        let ran = ran(&rt, alloc, Verb::Replay, file.as_bytes());
-        // A number with a leading zero is no TOML.
-        let status = if lines.is_empty() { 3 } else { 0 };
-        assert!(rt; ran.status == status && ran.out.holds(lines), "{file}");
-    }
+
+/// One file in tables with headers, in other bases, with comments and other quotes.
+const IN_TABLES: &str = "\
+format = 0x1 # the format
+mode = 'soft'
+bound = [
+  1, # N
+  1,
+]
+backlog = +4
+ring = 0b100
+[[server]]
+budget = 0o2
+period = 5
+[[step]]
+op = \"submit\"
+units = [1, 2, 0x3]
+server = 0
+job = 'sum'
+[[step]]
+op = \"run\"
+[[step]]
+op = \"run\"
+[[step]]
+op = \"run\"
+";
+
+/// The same file with its keys in another order, with underscores in numbers and an escape in a text,
+/// but for what stands between the parts: the first of the units.
+const BACKWARDS: [&str; 2] = [
+    "step = [{ server = 0, job = \"\"\"sum\"\"\", units = [",
+    ", 2, 3], op = \"submit\" },
+  { op = \"run\" }, { op = \"run\" }, { op = \"\\u0072un\" }]
+server = [{ period = 5, budget = 2 }]
+ring = 1_0
+backlog = 4_0_9_6
+bound = [1_000, 1_000]
+mode = \"soft\"
+format = 1
+",
+];
+
+#[test]
+fn other_spellings_are_the_same_file(rt: HostRuntime) -> Result<(), Fail> {
+    let alloc = rt.alloc();
+    let in_tables = ran(&rt, alloc, Verb::Replay, IN_TABLES.as_bytes());
+    assert!(rt; in_tables.status == 0 && in_tables.out.holds(LINES));
+
+    let [before, behind] = BACKWARDS;
+    let file = format!(in alloc; "{before}1{behind}")?;
+    let backwards = ran(&rt, alloc, Verb::Replay, file.as_bytes());
+    assert!(rt; backwards.status == 0 && backwards.out.holds(LINES));
+    Ok(())
+}
+
+#[test]
+fn a_number_with_a_leading_zero_is_no_toml(rt: HostRuntime) -> Result<(), Fail> {
+    let alloc = rt.alloc();
+    let [before, behind] = BACKWARDS;
+    let file = format!(in alloc; "{before}0_1{behind}")?;
+    assert!(rt; is_refused(&rt, alloc, file.as_str(), "1 NotToml at top")?);
+    Ok(())
+}
+
+#[test]
+fn a_bandwidth_just_within_the_bound_is_admitted(rt: HostRuntime) -> Result<(), Fail> {
+    let alloc = rt.alloc();
     let file = format!(in alloc;
-        "{third}server = [{{ budget = 333333333, period = 1000000000 }}]\nstep = []\n"
+        "{THIRD}server = [{{ budget = 333333333, period = 1000000000 }}]\nstep = []\n"
     )?;
     let ran = ran(&rt, alloc, Verb::Replay, file.as_bytes());
     assert!(rt; ran.status == 0 && ran.out.holds("") && ran.err.holds(""));

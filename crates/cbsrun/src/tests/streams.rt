@@ -1,6 +1,6 @@
 //! Readers and writers that fail.
 
-use super::fakes::{Letters, Memory, ran};
+use super::fakes::{Letters, Memory, Outcome, ran};
 use crate::file::read_file;
 use crate::input::{FromRead, MAX_BYTES, ReadError, read_all};
 use crate::output::{ByteOutput, ToWrite, write_text};
@@ -10,6 +10,7 @@ use crate::run_error::RunError;
 use crate::words::Verb;
 use std::alloc::Global;
 use std::test::Fail;
+use std::thread::Threads;
 
 const FIRST: &str = "\
 format = 1
@@ -60,37 +61,27 @@ fn a_writer_that_fails_has_the_front(rt: HostRuntime) -> Result<(), Fail> {
     Ok(())
 }
 
+/// The status of a replay of a file, where the output takes 20 bytes and the error output so many; and
+/// what they took.
+fn into_small<R: Threads + Sync>(rt: &R, alloc: Global, file: &str, room: usize) -> Outcome {
+    let mut out = Memory::new(alloc, 20, usize::MAX);
+    let mut err = Memory::new(alloc, room, usize::MAX);
+    let status = run_bytes(rt, alloc, Verb::Replay, file.as_bytes(), &mut out, &mut err);
+    Outcome { status, out, err }
+}
+
 #[test]
 fn a_failing_output_has_its_status(rt: HostRuntime) {
     let alloc = rt.alloc();
-    let mut out = Memory::new(alloc, 20, usize::MAX);
-    let mut err = Memory::ample(alloc);
-    let status = run_bytes(
-        &rt,
-        alloc,
-        Verb::Replay,
-        FIRST.as_bytes(),
-        &mut out,
-        &mut err,
-    );
-    assert!(rt; status == 4 && out.holds("@0 submit 0 job 0 ac"));
-    assert!(rt; err.holds("cbsrun: run fault 2 WriteFault\n"));
+    let failed = into_small(&rt, alloc, FIRST, usize::MAX);
+    assert!(rt; failed.status == 4 && failed.out.holds("@0 submit 0 job 0 ac"));
+    assert!(rt; failed.err.holds("cbsrun: run fault 2 WriteFault\n"));
 
-    let mut out = Memory::new(alloc, 20, usize::MAX);
-    let mut err = Memory::new(alloc, 7, usize::MAX);
-    let status = run_bytes(
-        &rt,
-        alloc,
-        Verb::Replay,
-        FIRST.as_bytes(),
-        &mut out,
-        &mut err,
-    );
-    assert!(rt; status == 4 && err.holds("cbsrun:"));
+    let both_failed = into_small(&rt, alloc, FIRST, 7);
+    assert!(rt; both_failed.status == 4 && both_failed.err.holds("cbsrun:"));
 
-    let mut err = Memory::new(alloc, 0, usize::MAX);
-    let status = run_bytes(&rt, alloc, Verb::Replay, b"format = 3", &mut out, &mut err);
-    assert!(rt; status == 3 && err.holds(""));
+    let unsaid = into_small(&rt, alloc, "format = 3", 0);
+    assert!(rt; unsaid.status == 3 && unsaid.out.holds("") && unsaid.err.holds(""));
 }
 
 /// How many bytes were read.
