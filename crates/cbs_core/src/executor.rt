@@ -76,7 +76,7 @@ impl<W: Work, A: Allocator + Clone> Core<W, A> {
 
 impl<W: Work, A: Allocator> Core<W, A> {
     /// Makes room for one more job of a server: the next [`submit`](Core::submit) on this core takes
-    /// no memory if it is on that server. Nothing else changes.
+    /// no memory if it is on that server. Where there is room, it succeeds. Nothing else changes.
     ///
     /// Refuses as a submit on that server would, and answers [`CoreError::OutOfMemory`] where an
     /// allocation is refused.
@@ -86,6 +86,7 @@ impl<W: Work, A: Allocator> Core<W, A> {
         ensures state { (M : History W) → Agrees W.meaning self.old M → Agrees W.meaning self.new M }
         ensures place { OnOk result (HasPlace self.new server) }
         ensures refused { IfErr result (IsRefusedBy self.old server) }
+        ensures succeeds { HasPlace self.old server → IsOk result }
         ensures kept { KeepsRoom self.old.rooms self.new.rooms }
         ensures same { self.new ≡ record self.old { rooms = self.new.rooms } }
     {

@@ -5,6 +5,7 @@ use cbs_rules::{LIMIT, Mode};
 use linked_list_allocator::LocalHeap;
 use std::alloc::{Allocator, Global};
 use std::process::Abort;
+use std::test::Fail;
 
 /// A plan of reservations, each a budget and a period.
 fn plan_of(rt: &impl Abort, rates: &[(u64, u64)]) -> Plan {
@@ -545,4 +546,24 @@ fn errors_have_numbers_and_names(rt: HostRuntime) {
         assert_eq!(rt; error.number(), number);
         assert_eq!(rt; error.name(), name);
     }
+}
+
+#[test]
+fn errors_say_what_is_wrong(rt: HostRuntime) -> Result<(), Fail> {
+    let alloc = rt.alloc();
+    for (error, text) in [
+        (
+            CoreError::BadBacklog,
+            "the backlog is not within 1 to 4096 jobs",
+        ),
+        (CoreError::OutOfMemory, "out of memory"),
+        (CoreError::NoSuchServer, "there is no such server"),
+        (CoreError::Closed, "the server is closed"),
+        (CoreError::BacklogFull, "the backlog of the server is full"),
+        (CoreError::ClockEnd, "the clock would pass 1000000000 ticks"),
+    ] {
+        let said = format!(in alloc; "{error}")?;
+        assert!(rt; said.as_str() == text, "{said}");
+    }
+    Ok(())
 }

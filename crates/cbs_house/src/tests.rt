@@ -1,6 +1,7 @@
 //! The house and its clients, run on worked examples.
 
 mod collecting;
+mod errors;
 mod meeting;
 mod memory;
 mod polling;

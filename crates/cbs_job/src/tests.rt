@@ -85,3 +85,22 @@ fn errors_have_numbers_and_names(rt: HostRuntime) {
         assert_eq!(rt; error.name(), name);
     }
 }
+
+#[test]
+fn errors_say_what_is_wrong(rt: HostRuntime) -> Result<(), Fail> {
+    let alloc = rt.alloc();
+    for (error, text) in [
+        (
+            TaskError::EmptyJob,
+            "the job is empty: a job has at least 1 unit",
+        ),
+        (
+            TaskError::TooLong,
+            "the job is too long: a job has at most 1000000 units",
+        ),
+    ] {
+        let said = format!(in alloc; "{error}")?;
+        assert!(rt; said.as_str() == text, "{said}");
+    }
+    Ok(())
+}

@@ -1,5 +1,6 @@
 use crate::{AdmitError, Bound, Plan, RateError, Reservation};
 use std::process::Abort;
+use std::test::Fail;
 
 /// Admits each of `asked`, a budget and a period, in turn to a new plan, and looks at what it answers.
 fn admits(
@@ -118,4 +119,54 @@ fn errors_have_numbers_and_names(rt: HostRuntime) {
         assert_eq!(rt; error.number(), number);
         assert_eq!(rt; error.name(), name);
     }
+}
+
+#[test]
+fn errors_say_what_is_wrong(rt: HostRuntime) -> Result<(), Fail> {
+    let alloc = rt.alloc();
+    for (error, text) in [
+        (
+            RateError::ZeroBudget,
+            "the budget is 0: a reservation needs a budget of at least 1 tick",
+        ),
+        (
+            RateError::PeriodTooLong,
+            "the period is longer than 1000000000 ticks",
+        ),
+        (
+            RateError::BudgetOverPeriod,
+            "the budget is larger than the period",
+        ),
+        (
+            RateError::BadBound,
+            "a bound N/D needs 1 <= N <= D <= 1000000",
+        ),
+    ] {
+        let said = format!(in alloc; "{error}")?;
+        assert!(rt; said.as_str() == text, "{said}");
+    }
+    Ok(())
+}
+
+#[test]
+fn refused_admissions_say_what_is_wrong(rt: HostRuntime) -> Result<(), Fail> {
+    let alloc = rt.alloc();
+    for (error, text) in [
+        (
+            AdmitError::TooManyServers,
+            "the plan has 64 servers already, and takes no more",
+        ),
+        (
+            AdmitError::PeriodsTooFine,
+            "the least common multiple of all periods would pass 10^18: choose periods that share more factors",
+        ),
+        (
+            AdmitError::OverBound,
+            "the total bandwidth would pass the plan's bound: a smaller budget or a longer period may fit",
+        ),
+    ] {
+        let said = format!(in alloc; "{error}")?;
+        assert!(rt; said.as_str() == text, "{said}");
+    }
+    Ok(())
 }

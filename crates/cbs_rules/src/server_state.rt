@@ -1,7 +1,7 @@
 //! Budget and deadline of one server, and the rules that change them.
 
 ghost use Rattle.std.specs.Prelude.{◌≡◌, ◌+◌, ◌≤◌, ◌<◌, ℕ, true, false};
-ghost use Rattle.cbs_rules.specs.Rules.{fresh_state, after_arrival, after_unit, after_replenishment, is_renewed, after_ticks, IsState};
+ghost use Rattle.cbs_rules.specs.Rules.{clock_end, latest_deadline, fresh_state, after_arrival, after_unit, after_replenishment, is_renewed, after_ticks, IsState};
 
 use crate::mode::Mode;
 use cbs_rate::Reservation;
@@ -56,7 +56,7 @@ impl ServerState {
     /// (throttled): its budget is then Q and its deadline `now + T`. Otherwise both stay.
     pub fn arrive_idle(&mut self, mode: Mode, now: u64)
         requires free { self.old.state.throttled ≡ false }
-        requires clock { now ≤ LIMIT }
+        requires clock { now ≤ clock_end }
         ensures { self.new ≡ record { reservation = self.old.reservation; state = after_arrival mode self.old.reservation now self.old.state } }
     {
         if self.is_renewed(mode, now) {
@@ -94,7 +94,7 @@ impl ServerState {
     pub fn consume(&mut self, mode: Mode)
         requires some { 0 < self.old.state.budget }
         requires free { self.old.state.throttled ≡ false }
-        requires room { self.old.state.deadline ≤ MAX_DEADLINE }
+        requires room { self.old.state.deadline ≤ latest_deadline }
         ensures { self.new ≡ record { reservation = self.old.reservation; state = after_unit mode self.old.reservation self.old.state } }
     {
         let reservation = self.reservation;
@@ -122,7 +122,7 @@ impl ServerState {
     ///
     /// The deadline that is postponed must be at most [`MAX_DEADLINE`].
     pub fn replenish(&mut self, now: u64)
-        requires { self.old.state.throttled ≡ true → self.old.state.deadline ≤ now → self.old.state.deadline ≤ MAX_DEADLINE }
+        requires { self.old.state.throttled ≡ true → self.old.state.deadline ≤ now → self.old.state.deadline ≤ latest_deadline }
         ensures rule { self.new ≡ record { reservation = self.old.reservation; state = after_replenishment self.old.reservation now self.old.state } }
         ensures ticks { (start n : ℕ) → 0 < n → now ≡ start + n → self.new.state ≡ after_ticks self.old.reservation start n self.old.state }
     {
@@ -131,7 +131,7 @@ impl ServerState {
 
     /// One budget and one period more, if the deadline of a throttled server has come.
     fn refill(&mut self, now: u64)
-        requires { self.old.state.throttled ≡ true → self.old.state.deadline ≤ now → self.old.state.deadline ≤ MAX_DEADLINE }
+        requires { self.old.state.throttled ≡ true → self.old.state.deadline ≤ now → self.old.state.deadline ≤ latest_deadline }
         ensures { self.new ≡ record { reservation = self.old.reservation; state = after_replenishment self.old.reservation now self.old.state } }
     {
         if self.throttled && self.deadline <= now {

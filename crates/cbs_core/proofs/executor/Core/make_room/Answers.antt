@@ -2,7 +2,7 @@ use Rattle.std.proofs.Common.{◌<◌, rules, sym, refl, None, inl, inr}
 use Rattle.cbs_core.specs.History.{world_after}
 use Rattle.cbs_core.proofs.Submitting.{not_refused, refusal_same}
 use Rattle.cbs_core.specs.Held.{room_of, no_held}
-use Rattle.cbs_core.proofs.Refusing.{free_unclosed, refused_by}
+use Rattle.cbs_core.proofs.Refusing.{free_unclosed, refused_by, place_free}
 use Rattle.cbs_core.proofs.executor.Core.make_room.Goals as goal
 
 pub returns-in-Some-clause-answer : goal.returns-in-Some-clause-answer
@@ -43,3 +43,9 @@ returns-then-is_err-clause-refused g c =
     let free = sym c.in_default.ensures in
     let open_here = not_refused c.self.inside.backlog c.self.inside.servers.held c.args.server free in
     rw (← c.self.view_is) (open_here.within, free_unclosed c.self.inside.backlog c.self.inside.servers.held c.args.server free, open_here.room no_held)
+
+pub returns-in-Some-clause-succeeds : goal.returns-in-Some-clause-succeeds
+returns-in-Some-clause-succeeds g c = λ place.
+    let refused = c.in-Some.ensures in
+    let free = place_free _ c.args.server (rw (← c.self.view_is) at place) in
+    cc
