@@ -14,7 +14,7 @@ use Rattle.cbs_house.specs.declared.rings.Rings.{Rings}
 use Rattle.cbs_house.specs.Collected.{Shelved, shelf_at, no_shelf, SameShelf, IsComplete, IsNext}
 use Rattle.cbs_house.specs.Housed.{KeepsServer, Housed}
 use Rattle.cbs_house.specs.Messages.{jobs_among}
-use Rattle.cbs_house.specs.Ringed.{rings_in, popped}
+use Rattle.cbs_house.specs.Ringed.{rings_in, received_in}
 use Rattle.cbs_house.specs.Steps.{HasHistory}
 use Rattle.cbs_house.proofs.Messages.{jobs_among-job, jobs_among-end, has_end-job, has_end-end, end_is_last-more}
 
@@ -78,10 +78,10 @@ module _ {W A : Type 0} (work : Meaning W) (core core' : CoreHeld W) (rings ring
   -- one server is changed, and the others are as before
   pub housed_one :
       (t : ℕ) → rings_in rings' ≡ rings_in rings → length shelves' ≡ length shelves → length core'.servers ≡ length core.servers → HasHistory work core'
-      → (t < length core.servers → KeepsServer work (held_at core'.servers t) (popped rings' t) (shelf_at shelves' t).results)
+      → (t < length core.servers → KeepsServer work (held_at core'.servers t) (received_in rings' t) (shelf_at shelves' t).results)
       → (t < length core.servers → (shelf_at shelves' t).announced ≡ (held_at core'.servers t).accepted)
       → ((s : ℕ) → s ≢ t → SameJobs (held_at core.servers s) (held_at core'.servers s))
-      → ((s : ℕ) → s ≢ t → popped rings' s ≡ popped rings s)
+      → ((s : ℕ) → s ≢ t → received_in rings' s ≡ received_in rings s)
       → ((s : ℕ) → s ≢ t → SameShelf (shelf_at shelves s) (shelf_at shelves' s))
       → Housed work core' rings' shelves'
   housed_one t r n c history here told cores messages results = record {
@@ -89,7 +89,7 @@ module _ {W A : Type 0} (work : Meaning W) (core core' : CoreHeld W) (rings ring
     shelf_count = n ∙ (h.shelf_count ∙ sym c);
     servers = λ s l. elim (cases_eq s t) [
       | inl e ↦ rw e (here (omega (arith, e, c, l)))
-      | inr ne ↦ keeps_same work (held_at core.servers s) (held_at core'.servers s) (popped rings s) (popped rings' s) (shelf_at shelves s).results (shelf_at shelves' s).results
+      | inr ne ↦ keeps_same work (held_at core.servers s) (held_at core'.servers s) (received_in rings s) (received_in rings' s) (shelf_at shelves s).results (shelf_at shelves' s).results
           (h.servers s (omega (arith, c, l))) (cores s ne) (messages s ne) (results s ne).results
     ];
     announced = λ s l. elim (cases_eq s t) [
@@ -103,13 +103,13 @@ module _ {W A : Type 0} (work : Meaning W) (core core' : CoreHeld W) (rings ring
   pub housed_all :
       rings_in rings' ≡ rings_in rings → length shelves' ≡ length shelves → length core'.servers ≡ length core.servers → HasHistory work core'
       → ((s : ℕ) → SameJobs (held_at core.servers s) (held_at core'.servers s))
-      → ((s : ℕ) → popped rings' s ≡ popped rings s)
+      → ((s : ℕ) → received_in rings' s ≡ received_in rings s)
       → ((s : ℕ) → SameShelf (shelf_at shelves s) (shelf_at shelves' s))
       → Housed work core' rings' shelves'
   housed_all r n c history cores messages results = record {
     ring_count = ap length r ∙ (h.ring_count ∙ sym c);
     shelf_count = n ∙ (h.shelf_count ∙ sym c);
-    servers = λ s l. keeps_same work (held_at core.servers s) (held_at core'.servers s) (popped rings s) (popped rings' s) (shelf_at shelves s).results (shelf_at shelves' s).results
+    servers = λ s l. keeps_same work (held_at core.servers s) (held_at core'.servers s) (received_in rings s) (received_in rings' s) (shelf_at shelves s).results (shelf_at shelves' s).results
         (h.servers s (omega (arith, c, l))) (cores s) (messages s) (results s).results;
     announced = λ s l. (results s).announced ∙ (h.announced s (omega (arith, c, l)) ∙ sym (cores s).accepted);
     history = history;
@@ -117,12 +117,12 @@ module _ {W A : Type 0} (work : Meaning W) (core core' : CoreHeld W) (rings ring
 
   -- a run that finished no job
   pub housed_ran : (r : Ran) → ((c : Completion) → r ≡ ran.Done c → ⊥) → DoesRun work r core core' → length core'.servers ≡ length core.servers → HasHistory work core'
-      → rings_in rings' ≡ rings_in rings → ((s : ℕ) → popped rings' s ≡ popped rings s) → shelves' ≡ shelves → Housed work core' rings' shelves'
+      → rings_in rings' ≡ rings_in rings → ((s : ℕ) → received_in rings' s ≡ received_in rings s) → shelves' ≡ shelves → Housed work core' rings' shelves'
   housed_ran ran.Idle n d c history r m e = housed_all r (ap length e) c history (λ s. rw d (record { jobs = refl; accepted = refl; finished = refl; closed = refl })) m (λ s. rw e (record { results = refl; announced = refl }))
   housed_ran ran.ClockEnd n d c history r m e = housed_all r (ap length e) c history (λ s. rw d (record { jobs = refl; accepted = refl; finished = refl; closed = refl })) m (λ s. rw e (record { results = refl; announced = refl }))
   housed_ran (ran.Unit t q) n d c history r m e =
       housed_one t r (ap length e) c history
-      (λ l. keeps_unit work (held_at core.servers t) (held_at core'.servers t) (popped rings t) (popped rings' t) (shelf_at shelves t).results (shelf_at shelves' t).results (h.servers t l) q d.0 (m t) (rw e refl))
+      (λ l. keeps_unit work (held_at core.servers t) (held_at core'.servers t) (received_in rings t) (received_in rings' t) (shelf_at shelves t).results (shelf_at shelves' t).results (h.servers t l) q d.0 (m t) (rw e refl))
       (λ l. rw e (h.announced t l ∙ sym d.0.accepted))
       d.1 (λ s ne. m s) (λ s ne. rw e (record { results = refl; announced = refl }))
   housed_ran (ran.Done x) n d c history r m e = absurd (n x refl)
@@ -133,7 +133,7 @@ module _ {W A : Type 0} (work : Meaning W) (core core' : CoreHeld W) (rings ring
       let s = x.server in
       let l = within_held work core.servers s x.result (map (whole work) (held_at core'.servers s).jobs) f.results in
       let k = h.servers s l in
-      let all = counts work (held_at core.servers s) (held_at core'.servers s) (popped rings s) (popped rings s) (shelf_at shelves s).results (shelf_at shelves s).results k in
+      let all = counts work (held_at core.servers s) (held_at core'.servers s) (received_in rings s) (received_in rings s) (shelf_at shelves s).results (shelf_at shelves s).results k in
       let some : length (held_at core.servers s).jobs ≡ length (held_at core'.servers s).jobs + 1 =
       let e = ap length f.results in omega (arith, e, length-map (held_at core.servers s).jobs (whole work), length-map (held_at core'.servers s).jobs (whole work)) in
       record {
@@ -152,8 +152,8 @@ held_none work core rings shelves h complete s = elim (cases_lt s (length core.s
   | inl l ↦
       let k = h.servers s l in
       let shelf = shelf_at shelves s in
-      let all = counts work (held_at core.servers s) (held_at core.servers s) (popped rings s) (popped rings s) shelf.results shelf.results k in
+      let all = counts work (held_at core.servers s) (held_at core.servers s) (received_in rings s) (received_in rings s) shelf.results shelf.results k in
       let done = complete s no_shelf (omega (arith, h.shelf_count, l)) in
-      no_jobs (length shelf.results) (length (jobs_among (popped rings s))) (held_at core.servers s).jobs all (sym k.accepted ∙ (sym (h.announced s l) ∙ done))
+      no_jobs (length shelf.results) (length (jobs_among (received_in rings s))) (held_at core.servers s).jobs all (sym k.accepted ∙ (sym (h.announced s l) ∙ done))
   | inr ge ↦ ap (λ x. x.jobs) (get_or_past core.servers s no_held ge)
 ]

@@ -59,14 +59,14 @@ module _ {T A P : Type 0} where
       (es : List (Consumer T A P)) (i : ℕ) (x y : Consumer T A P) → i < length es → y ≡ get_or es i y → ConsumerLooked y x
       → record {
         rings : map consumer_ring (set es i x) ≡ map consumer_ring es;
-        popped : (s : ℕ) → get_or (map received (set es i x)) s [] ≡ get_or (map received es) s [];
-        seen : (s : ℕ) → IsPrefix (get_or (map known_items es) s []) (get_or (map known_items (set es i x)) s []);
+        received : (s : ℕ) → get_or (map received (set es i x)) s [] ≡ get_or (map received es) s [];
+        known : (s : ℕ) → IsPrefix (get_or (map known_items es) s []) (get_or (map known_items (set es i x)) s []);
       }
   looked_at es i x y l r h =
       record {
         rings = map_set_kept consumer_ring es i x y l r (same_ring y x h.0);
-        popped = λ s. at_set_kept received es i x y s [] l r h.1;
-        seen = λ s. at_set_longer known_items es i x y s l r h.2;
+        received = λ s. at_set_kept received es i x y s [] l r h.1;
+        known = λ s. at_set_longer known_items es i x y s l r h.2;
       }
 
 pub ruleset ringed = (shown, prefix_refl, at_set_longer, map_set_kept, within_shown, same_ring)

@@ -21,17 +21,17 @@ use Rattle.cbs_house.specs.Clients.{server_of, ring_of}
 use Rattle.cbs_house.specs.Collected.{Shelved, SameShelf, no_shelf, shelf_at}
 use Rattle.cbs_house.specs.Housed.{KeepsServer, Housed}
 use Rattle.cbs_house.specs.Opened.{IsNewEnd}
-use Rattle.cbs_house.specs.Ringed.{rings_in, popped, seen, IsOpened}
+use Rattle.cbs_house.specs.Ringed.{rings_in, received_in, known_in, IsOpened}
 use Rattle.cbs_house.specs.Rings.{Ring}
 use Rattle.cbs_house.proofs.Places.{at_all, at_map}
 
 -- nothing was popped, and nothing seen
 module _ {W A : Type 0} where
-  pub new_rings : (r : Rings W A) → All IsNewEnd r.ends.items → (s : ℕ) → (popped r s ≡ []) × (seen r s ≡ [])
+  pub new_rings : (r : Rings W A) → All IsNewEnd r.ends.items → (s : ℕ) → (received_in r s ≡ []) × (known_in r s ≡ [])
   new_rings r a s =
       let es = r.ends.items in (
-        at_all received [] es (recursion_from_All (λ c. received c ≡ []) es (All-weaker IsNewEnd (λ c. received c ≡ []) (λ c k. k.popped) es a)) s,
-        at_all known_items [] es (recursion_from_All (λ c. known_items c ≡ []) es (All-weaker IsNewEnd (λ c. known_items c ≡ []) (λ c k. k.seen) es a)) s,
+        at_all received [] es (recursion_from_All (λ c. received c ≡ []) es (All-weaker IsNewEnd (λ c. received c ≡ []) (λ c k. k.received) es a)) s,
+        at_all known_items [] es (recursion_from_All (λ c. known_items c ≡ []) es (All-weaker IsNewEnd (λ c. known_items c ≡ []) (λ c k. k.known) es a)) s,
       )
 
 no_jobs : {W : Type 0} (work : Meaning W) (ws : List W) → map (whole work) ws ≡ [] → ws ≡ []

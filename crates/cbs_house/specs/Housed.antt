@@ -6,7 +6,7 @@ use Rattle.cbs_house.specs.declared.message.Message.{Message}
 use Rattle.cbs_house.specs.declared.rings.Rings.{Rings}
 use Rattle.cbs_house.specs.Collected.{Shelved, shelf_at}
 use Rattle.cbs_house.specs.Messages.{jobs_among, has_end, end_is_last}
-use Rattle.cbs_house.specs.Ringed.{rings_in, popped}
+use Rattle.cbs_house.specs.Ringed.{rings_in, received_in}
 use Rattle.cbs_house.specs.Steps.{HasHistory}
 
 -- what a house keeps of one server: its results, and then what the jobs held come to, are what the jobs received come to, in
@@ -24,6 +24,6 @@ pub record KeepsServer {W : Type 0} (work : Meaning W) (h : Held W) (received : 
 pub record Housed {W A : Type 0} (work : Meaning W) (core : CoreHeld W) (rings : Rings W A) (collector : List Shelved) : Type 0 where
   pub ring_count : length (rings_in rings) ≡ length core.servers
   pub shelf_count : length collector ≡ length core.servers
-  pub servers : (s : ℕ) → s < length core.servers → KeepsServer work (held_at core.servers s) (popped rings s) (shelf_at collector s).results
+  pub servers : (s : ℕ) → s < length core.servers → KeepsServer work (held_at core.servers s) (received_in rings s) (shelf_at collector s).results
   pub announced : (s : ℕ) → s < length core.servers → (shelf_at collector s).announced ≡ (held_at core.servers s).accepted
   pub history : HasHistory work core

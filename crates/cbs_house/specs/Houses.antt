@@ -19,7 +19,7 @@ use Rattle.cbs_house.specs.declared.poll.Poll.{Poll}
 use Rattle.cbs_house.specs.declared.poll.Poll.TheVariants.{Nothing, Took, Closed, Full, OutOfMemory, NoSuchServer}
 use Rattle.cbs_house.specs.Collected.{shelf_at}
 use Rattle.cbs_house.specs.Messages.{jobs_among}
-use Rattle.cbs_house.specs.Ringed.{rings_in, popped, seen}
+use Rattle.cbs_house.specs.Ringed.{rings_in, received_in, known_in}
 use Rattle.cbs_house.specs.Rings.{Ring}
 use Rattle.cbs_house.specs.Steps.{Follows, AllAllowed, messages_of, pops}
 
@@ -34,11 +34,11 @@ module _ {W A : Type 0} {g : Ghosts W} where
 
   -- the messages received for server s, oldest first
   abbrev pub received : House W A g → ℕ → List (Message W)
-  received h s = popped h.rings s
+  received h s = received_in h.rings s
 
   -- the messages that the house knows to stand in the ring of server s, oldest first
   abbrev pub known : House W A g → ℕ → List (Message W)
-  known h s = seen h.rings s
+  known h s = known_in h.rings s
 
   -- the results of server s, in order
   abbrev pub results_of : House W A g → ℕ → List ℕ

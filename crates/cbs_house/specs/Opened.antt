@@ -20,8 +20,8 @@ open_refusal backlog ring =
 module _ {W A : Type 0} where
   -- an end of a ring from which nothing was popped, and in which nothing was seen
   pub record IsNewEnd (c : Consumer (Message W) A AnyItems) : Type 0 where
-    pub popped : received c ≡ []
-    pub seen : known_items c ≡ []
+    pub received : received c ≡ []
+    pub known : known_items c ≡ []
 
 module _ {W A : Type 0} {g : Ghosts W} where
   -- a client that has sent nothing, and that knows so many free places in its ring

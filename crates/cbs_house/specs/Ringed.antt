@@ -15,18 +15,18 @@ module _ {W A : Type 0} where
   rings_in r = map consumer_ring r.ends.items
 
   -- the messages that were popped for server s, oldest first
-  abbrev pub popped : Rings W A → ℕ → List (Message W)
-  popped r s = get_or (map received r.ends.items) s []
+  abbrev pub received_in : Rings W A → ℕ → List (Message W)
+  received_in r s = get_or (map received r.ends.items) s []
 
   -- the messages that were seen in the ring of server s and not popped, oldest first
-  abbrev pub seen : Rings W A → ℕ → List (Message W)
-  seen r s = get_or (map known_items r.ends.items) s []
+  abbrev pub known_in : Rings W A → ℕ → List (Message W)
+  known_in r s = get_or (map known_items r.ends.items) s []
 
   -- nothing was popped, and no message that was seen is lost
   pub record Looked (old new : Rings W A) : Type 0 where
     pub rings : rings_in new ≡ rings_in old
-    pub popped : (s : ℕ) → popped new s ≡ popped old s
-    pub seen : (s : ℕ) → IsPrefix (seen old s) (seen new s)
+    pub received : (s : ℕ) → received_in new s ≡ received_in old s
+    pub known : (s : ℕ) → IsPrefix (known_in old s) (known_in new s)
 
 module _ {W A : Type 0} {g : Ghosts W} where
   -- the client pushes into the ring of its server

@@ -17,7 +17,7 @@ impl<W: Work, A: Allocator> Rings<W, A> {
     ghost use Rattle.rtrb.specs.Ring.{sent, ProducerLooked};
     ghost use Rattle.cbs_house.specs.Rings.{producer_ring};
     ghost use Rattle.cbs_house.specs.Clients.{server_of, sent_by, free, SameClient};
-    ghost use Rattle.cbs_house.specs.Ringed.{rings_in, popped, seen, IsOpened, Looked};
+    ghost use Rattle.cbs_house.specs.Ringed.{rings_in, received_in, known_in, IsOpened, Looked};
 
     /// How many rings there are.
     pub fn len(&self) -> usize
@@ -31,7 +31,7 @@ impl<W: Work, A: Allocator> Rings<W, A> {
     pub fn look(&mut self, server: usize) -> usize
         requires { server < length (rings_in self.old) }
         ensures looked { Looked self.old self.new }
-        ensures value { result ≡ length (seen self.new server) }
+        ensures value { result ≡ length (known_in self.new server) }
     {
         let end = &mut self.ends[server];
         end.slots()
@@ -39,22 +39,22 @@ impl<W: Work, A: Allocator> Rings<W, A> {
 
     /// Pops the next message of a server. One must have been seen.
     pub fn take(&mut self, server: u16) -> Message<W>
-        requires { 0 < length (seen self.old server) }
+        requires { 0 < length (known_in self.old server) }
         ensures rings { rings_in self.new ≡ rings_in self.old }
-        ensures popped { popped self.new server ≡ popped self.old server ++ result ∷ [] }
-        ensures seen { seen self.old server ≡ result ∷ seen self.new server }
-        ensures others { (s : ℕ) → s ≢ server → (popped self.new s ≡ popped self.old s) × (seen self.new s ≡ seen self.old s) }
+        ensures received { received_in self.new server ≡ received_in self.old server ++ result ∷ [] }
+        ensures known { known_in self.old server ≡ result ∷ known_in self.new server }
+        ensures others { (s : ℕ) → s ≢ server → (received_in self.new s ≡ received_in self.old s) × (known_in self.new s ≡ known_in self.old s) }
     {
         self.take_at(usize::from(server))
     }
 
     #[tactic(auto, using(crate::proofs::Looking::ringed))]
     fn take_at(&mut self, server: usize) -> Message<W>
-        requires { 0 < length (seen self.old server) }
+        requires { 0 < length (known_in self.old server) }
         ensures rings { rings_in self.new ≡ rings_in self.old }
-        ensures popped { popped self.new server ≡ popped self.old server ++ result ∷ [] }
-        ensures seen { seen self.old server ≡ result ∷ seen self.new server }
-        ensures others { (s : ℕ) → s ≢ server → (popped self.new s ≡ popped self.old s) × (seen self.new s ≡ seen self.old s) }
+        ensures received { received_in self.new server ≡ received_in self.old server ++ result ∷ [] }
+        ensures known { known_in self.old server ≡ result ∷ known_in self.new server }
+        ensures others { (s : ℕ) → s ≢ server → (received_in self.new s ≡ received_in self.old s) × (known_in self.new s ≡ known_in self.old s) }
     {
         let end = &mut self.ends[server];
         end.pop_known()
@@ -67,8 +67,8 @@ impl<W: Work, A: Allocator> Rings<W, A> {
         requires pair { slice_get (rings_in self.old) server ≡ Some (producer_ring ring.old) }
         ensures looked { Looked self.old self.new }
         ensures ring { ProducerLooked ring.old ring.new }
-        ensures value { result ≡ length (seen self.new server) }
-        ensures lawful { popped self.new server ++ seen self.new server ≡ sent ring.new }
+        ensures value { result ≡ length (known_in self.new server) }
+        ensures lawful { received_in self.new server ++ known_in self.new server ≡ sent ring.new }
     {
         let end = &mut self.ends[server];
         end.slots_beside(ring)
@@ -80,8 +80,8 @@ impl<W: Work, A: Allocator> Rings<W, A> {
         requires { IsOpened (rings_in self.old) client.old }
         ensures looked { Looked self.old self.new }
         ensures client { SameClient client.old client.new × (sent_by client.new ≡ sent_by client.old) × (free client.old ≤ free client.new) }
-        ensures value { result ≡ length (seen self.new (server_of client.new)) }
-        ensures lawful { popped self.new (server_of client.new) ++ seen self.new (server_of client.new) ≡ sent_by client.new }
+        ensures value { result ≡ length (known_in self.new (server_of client.new)) }
+        ensures lawful { received_in self.new (server_of client.new) ++ known_in self.new (server_of client.new) ≡ sent_by client.new }
     {
         let server = usize::from(client.server);
         self.beside(server, &mut client.ring)

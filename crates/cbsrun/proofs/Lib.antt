@@ -1,9 +1,6 @@
-pub mod Each
-pub mod Reading
 pub mod Replaying
 pub mod Running
 pub mod Serving
 pub mod Sharing
-pub mod Tables
 pub mod Writing
 pub mod Sending

@@ -8,7 +8,8 @@ use Rattle.cbs_core.specs.Agreement.{Agrees}
 use Rattle.cbs_core.specs.Held.{CoreHeld}
 use Rattle.cbs_core.specs.History.{History, ◌⊕◌}
 use Rattle.cbs_core.specs.declared.step.Step.{Step}
-use Rattle.cbsrun.specs.TaskFiles.{File}
+use Rattle.cbs_file.specs.TaskFiles.{File}
+use Rattle.cbsrun.specs.Statuses.{Writer, WritesLines}
 use Rattle.cbsrun.specs.Traces.{line_after, lines_after, start_of, trace, AppendsLines}
 use Rattle.cbsrun.specs.Writes.{AppendsFront, AppendsAllBut}
 use Rattle.cbsrun.proofs.Writing.{Appends-nothing, all_waits, waits_too, all_but_then, front_more, part_ends, part_done}
@@ -41,9 +42,11 @@ pub record SoFar (old now : Option (List ℕ)) (waiting : List ℕ) (core : Core
   pub lines : AppendsAllBut old now waiting (lines_after (start_of f) done)
 
 -- nothing was written, and no step is done
-pub none_done : (old : Option (List ℕ)) (f : File) → AppendsLines old old f
+pub nothing_written : (w : Writer) (f : File) → WritesLines f w w
 unfolding lines_after
-none_done old f = ([], f.steps, refl, Appends-nothing old)
+nothing_written w f =
+    let nothing = Appends-nothing w.written in
+    record { lines = ([], f.steps, refl, nothing); front = ([], trace f, nothing, refl); failed = refl }
 
 pub begins : (old : Option (List ℕ)) (core : CoreHeld FileJob) (f : File) → Agrees of_files core (start_of f) → SoFar old old [] core f f.steps
 unfolding grown lines_after

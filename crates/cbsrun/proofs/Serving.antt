@@ -10,7 +10,7 @@ use Rattle.cbs_job.specs.Work.{whole}
 use Rattle.cbs_job.specs.declared.file.FileJob.{FileJob}
 use Rattle.cbs_core.specs.declared.step.Step.{Step}
 use Rattle.cbsrun.specs.Served.{jobs_for, server_line, lines_from, served}
-use Rattle.cbsrun.specs.TaskFiles.{File}
+use Rattle.cbs_file.specs.TaskFiles.{File}
 
 module _ {X : Type 0} (view : X → List ℕ) (xs : List X) (i : ℕ) where
   -- one more line is written

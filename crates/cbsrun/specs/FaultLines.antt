@@ -1,9 +1,9 @@
 -- The lines of faults.
 use Rattle.std.specs.Prelude.{ℕ, List, ◌++◌, codes, decimal}
-use Rattle.cbsrun.specs.Faults.{file_kind_number, file_kind_name, place_text}
+use Rattle.cbs_file.specs.Faults.{file_kind_number, file_kind_name, place_text}
 use Rattle.cbsrun.specs.Reads.{read_error_number, read_error_name}
 use Rattle.cbsrun.specs.Runs.{run_error_number, run_error_name}
-use Rattle.cbsrun.specs.declared.fault.FileFault.{FileFault}
+use Rattle.cbs_file.specs.declared.fault.FileFault.{FileFault}
 use Rattle.cbsrun.specs.declared.input.ReadError.{ReadError}
 use Rattle.cbsrun.specs.declared.run_error.RunError.{RunError}
 

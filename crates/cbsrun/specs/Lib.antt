@@ -1,17 +1,11 @@
 pub mod Counted
-pub mod Entries
 pub mod FaultLines
-pub mod Faults
-pub mod Fields
-pub mod Files
 pub mod Lines
 pub mod Reads
 pub mod Runs
 pub mod Served
 pub mod Shares
 pub mod Statuses
-pub mod TaskFiles
-pub mod Tops
 pub mod Traces
 pub mod Words
 pub mod Writes

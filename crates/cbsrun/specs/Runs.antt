@@ -1,5 +1,5 @@
 -- Why a run ended early.
-use Rattle.std.specs.Prelude.{ℕ, List, codes, Bool, true, false, Result, Ok, Err}
+use Rattle.std.specs.Prelude.{ℕ, List, codes}
 use Rattle.cbsrun.specs.declared.run_error.RunError.{RunError}
 use Rattle.cbsrun.specs.declared.run_error.RunError.TheVariants.{OutOfMemory, WriteFault, ClockEnd, Stalled}
 
@@ -16,11 +16,3 @@ run_error_name OutOfMemory = codes "OutOfMemory"
 run_error_name WriteFault = codes "WriteFault"
 run_error_name ClockEnd = codes "ClockEnd"
 run_error_name Stalled = codes "Stalled"
-
--- a write failed
-abbrev pub is_write_fault : {A : Type 0} → Result A RunError → Bool
-is_write_fault (Ok x) = false
-is_write_fault (Err OutOfMemory) = false
-is_write_fault (Err WriteFault) = true
-is_write_fault (Err ClockEnd) = false
-is_write_fault (Err Stalled) = false

@@ -6,7 +6,7 @@ use Rattle.cbs_job.specs.Work.{whole}
 use Rattle.cbs_job.specs.declared.file.FileJob.{FileJob}
 use Rattle.cbs_core.specs.declared.step.Step.{Step}
 use Rattle.cbs_core.specs.declared.step.Step.TheVariants.{Submit, Run, Advance, Close}
-use Rattle.cbsrun.specs.TaskFiles.{File}
+use Rattle.cbs_file.specs.TaskFiles.{File}
 
 -- the job of a step that submits one to server s
 abbrev pub job_for : ℕ → Step FileJob → Option FileJob

@@ -13,7 +13,7 @@ use Rattle.cbs_core.specs.declared.step.Step.{Step}
 use Rattle.cbs_core.specs.declared.step.Step.TheVariants as step
 use Rattle.cbs_core.specs.declared.view.ServerView.{ServerView}
 use Rattle.cbsrun.specs.Lines.{line_text, shown_server}
-use Rattle.cbsrun.specs.TaskFiles.{File}
+use Rattle.cbs_file.specs.TaskFiles.{File}
 use Rattle.cbsrun.specs.declared.line.Answer.{Answer}
 use Rattle.cbsrun.specs.declared.line.Answer.TheVariants.{Accepted, Refused, Ran, Made}
 use Rattle.cbsrun.specs.declared.line.Call.{Call}

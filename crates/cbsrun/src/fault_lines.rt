@@ -5,10 +5,10 @@ ghost use Rattle.std.specs.Io.KnownBytes.{Appends};
 ghost use Rattle.cbsrun.specs.FaultLines.{read_line, file_line, run_line};
 ghost use Rattle.cbsrun.specs.Writes.{AppendsFront};
 
-use crate::fault::{FileFault, Place};
 use crate::input::ReadError;
 use crate::output::{ByteOutput, write_pieces};
 use crate::run_error::RunError;
+use cbs_file::{FileFault, Place};
 use itoa::Buffer;
 use std::io;
 

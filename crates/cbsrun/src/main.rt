@@ -1,11 +1,7 @@
 //! `cbsrun` runs task files: jobs on Constant Bandwidth Servers, under earliest deadline first.
 #![tactic(auto)]
 
-mod entries;
-mod fault;
 mod fault_lines;
-mod fields;
-mod file;
 mod input;
 mod line;
 mod output;
@@ -16,10 +12,8 @@ mod run_error;
 mod serve;
 mod served;
 mod shares;
-mod task_file;
 #[cfg(test)]
 mod tests;
-mod top;
 mod words;
 
 use fault_lines::{write_read_fault, write_run_fault};

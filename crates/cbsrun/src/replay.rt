@@ -1,21 +1,20 @@
 //! The trace of a task file, written to a writer.
 
-ghost use Rattle.std.specs.Prelude.{◌≡◌, ◌+◌, ◌-◌, ◌<◌, ◌^◌, ◌⊎◌, OnOk, OnErr, IfOk, IfErr, IsErrOf, string_bytes, if◌then◌else◌};
-ghost use Rattle.std.specs.Io.KnownBytes.{Appends};
+ghost use Rattle.std.specs.Prelude.{◌≡◌, ◌-◌, ◌<◌, ◌^◌, OnOk, IfOk, string_bytes};
 ghost use Rattle.cbs_job.specs.Files.{of_files};
 ghost use Rattle.cbs_core.specs.Agreement.{Agrees};
 ghost use Rattle.cbs_core.specs.History.{History, ◌⊕◌, world_after, reply_in};
 ghost use Rattle.cbs_core.specs.Replies.{advanced, closed};
-ghost use Rattle.cbsrun.specs.Runs.{is_write_fault};
-ghost use Rattle.cbsrun.specs.Traces.{call_of, answer_of, line_in, line_after, trace, AppendsLines};
-ghost use Rattle.cbsrun.specs.Writes.{AppendsFront};
+ghost use Rattle.cbsrun.specs.Statuses.{Leaves};
+ghost use Rattle.cbsrun.specs.Traces.{call_of, answer_of, line_in, line_after};
 
 use crate::line::{Answer, Call, Line, State, shown_server, write_line};
 use crate::output::ByteOutput;
 use crate::pending::Pending;
 use crate::run_error::RunError;
-use crate::task_file::TaskFile;
+use crate::words::Verb;
 use cbs_core::{Core, CoreError, Step};
+use cbs_file::{Parts, TaskFile};
 use cbs_job::{FileJob, Task};
 use std::alloc::{AllocError, Global};
 
@@ -112,20 +111,16 @@ fn take_step(
 /// then what is written is the front of the whole text.
 pub fn replay<O: ByteOutput>(alloc: Global, file: TaskFile, out: &mut O) -> Result<(), RunError>
     requires { O.failed out.old < 2 ^ 64 - 1 }
-    ensures ok { OnOk result (Appends (O.written out.old) (O.written out.new) (trace file)) }
-    ensures front { OnErr result (AppendsFront (O.written out.old) (O.written out.new) (trace file)) }
-    ensures whole_lines { IsErrOf result RunError.OutOfMemory → AppendsLines (O.written out.old) (O.written out.new) file }
-    ensures errors { IfErr result (λ e. (e ≡ RunError.OutOfMemory) ⊎ (e ≡ RunError.WriteFault)) }
-    // A write fault is one call that failed, and nothing else is.
-    ensures fault { O.failed out.new ≡ O.failed out.old + (if is_write_fault result then 1 else 0) }
+    ensures { Leaves Verb.Replay file result
+        (record { written = O.written out.old; failed = O.failed out.old }) (record { written = O.written out.new; failed = O.failed out.new }) }
 {
-    let TaskFile {
+    let Parts {
         mode,
         plan,
         backlog,
         steps,
         ..
-    } = file;
+    } = file.into_parts();
     let Ok(mut core) = Core::new(alloc, plan, mode, backlog) else {
         return Err(RunError::OutOfMemory);
     };

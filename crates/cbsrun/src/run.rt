@@ -1,16 +1,15 @@
 //! One run: from the bytes of a file to a status.
 
 ghost use Rattle.std.specs.Prelude.{◌+◌, ◌-◌, ◌<◌, ◌^◌};
-ghost use Rattle.cbsrun.specs.Statuses.{Leaves, Ran};
+ghost use Rattle.cbsrun.specs.Statuses.{Leaves, Ends};
 
 use crate::fault_lines::{write_file_fault, write_run_fault};
-use crate::file::read_file;
 use crate::output::ByteOutput;
 use crate::replay::replay;
 use crate::run_error::RunError;
 use crate::serve::serve_file;
-use crate::task_file::TaskFile;
 use crate::words::Verb;
+use cbs_file::{TaskFile, read_file};
 use std::alloc::Global;
 use std::thread::Threads;
 
@@ -60,7 +59,7 @@ pub fn run_bytes<R: Threads + Sync, O: ByteOutput, E: ByteOutput>(
 ) -> u8
     requires out { O.failed out.old < 2 ^ 64 - 1 }
     requires err { E.failed err.old < 2 ^ 64 - 1 }
-    ensures { Ran verb bytes.now
+    ensures { Ends verb bytes.now
         (record { written = O.written out.old; failed = O.failed out.old }) (record { written = O.written out.new; failed = O.failed out.new })
         (record { written = E.written err.old; failed = E.failed err.old }) (record { written = E.written err.new; failed = E.failed err.new })
         result }

@@ -12,8 +12,8 @@ use crate::output::{ByteOutput, write_text};
 use crate::run_error::RunError;
 use crate::served::served_text;
 use crate::shares::jobs_by_server;
-use crate::task_file::TaskFile;
 use crate::words::Verb;
+use cbs_file::{Parts, TaskFile};
 use cbs_house::{House, HouseError, OpenGate, feeds_of, open_house, serve};
 use cbs_job::{FileJob, Task};
 use cbs_rate::Plan;
@@ -107,13 +107,13 @@ pub fn serve_file<R: Threads + Sync, O: ByteOutput>(
     ensures { Leaves Verb.Serve file result
         (record { written = O.written out.old; failed = O.failed out.old }) (record { written = O.written out.new; failed = O.failed out.new }) }
 {
-    let TaskFile {
+    let Parts {
         mode,
         plan,
         backlog,
         ring,
         steps,
-    } = file;
+    } = file.into_parts();
     let jobs = jobs_by_server(alloc, plan.len() as u16, steps)?;
     let limits = Limits {
         mode,

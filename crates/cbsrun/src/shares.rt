@@ -4,7 +4,7 @@ ghost use Rattle.std.specs.Prelude.{◌≡◌, ℕ, [], ◌∷◌, ◌++◌, All
 ghost use Rattle.std.specs.List.{range_with_len};
 ghost use Rattle.cbsrun.specs.Served.{jobs_for};
 ghost use Rattle.cbsrun.specs.Shares.{listed};
-ghost use Rattle.cbsrun.specs.TaskFiles.{NamesServer};
+ghost use Rattle.cbs_file.specs.TaskFiles.{NamesServer};
 
 use cbs_core::Step;
 use cbs_job::{FileJob, Task};

@@ -1,10 +1,9 @@
 //! Task files: faulty ones, other spellings, and what a good one holds.
 
 use super::fakes::ran;
-use crate::fault::{FileFault, FileKind, Place};
-use crate::file::read_file;
 use crate::words::Verb;
 use cbs_core::Step;
+use cbs_file::{FileFault, FileKind, Place, read_file};
 use cbs_rules::Mode;
 use std::alloc::Global;
 use std::test::Fail;

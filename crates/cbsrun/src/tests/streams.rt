@@ -1,13 +1,13 @@
 //! Readers and writers that fail.
 
 use super::fakes::{Letters, Memory, Outcome, ran};
-use crate::file::read_file;
 use crate::input::{FromRead, MAX_BYTES, ReadError, read_all};
 use crate::output::{ByteOutput, ToWrite, write_text};
 use crate::replay::replay;
 use crate::run::run_bytes;
 use crate::run_error::RunError;
 use crate::words::Verb;
+use cbs_file::read_file;
 use std::alloc::Global;
 use std::test::Fail;
 use std::thread::Threads;

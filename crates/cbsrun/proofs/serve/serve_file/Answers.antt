@@ -3,7 +3,7 @@ use Rattle.std.proofs.lemmas.List.{length-map}
 use Rattle.std.proofs.lemmas.List.FromFn.{length-map-range_with_len}
 use Rattle.std.proofs.lemmas.Result.{err_from_is_err_and}
 use Rattle.cbsrun.specs.Served.{jobs_for, served}
-use Rattle.cbsrun.specs.TaskFiles.{File}
+use Rattle.cbs_file.specs.TaskFiles.{File}
 use Rattle.cbsrun.proofs.Serving.{results_count, served_is}
 use Rattle.cbsrun.proofs.serve.serve_file.Goals as goal
 

@@ -5,7 +5,7 @@ use Rattle.std.proofs.lemmas.List.FromFn.{fill_by_all}
 use Rattle.std.specs.Vec.Iter.{into_iter_items}
 use Rattle.cbsrun.specs.Served.{jobs_for}
 use Rattle.cbsrun.specs.Shares.{listed}
-use Rattle.cbsrun.specs.TaskFiles.{NamesServer}
+use Rattle.cbs_file.specs.TaskFiles.{NamesServer}
 use Rattle.cbsrun.proofs.Sharing.{none_shared, shares_on}
 use Rattle.cbsrun.proofs.shares.jobs_by_server.Goals as goal
 

@@ -3,7 +3,7 @@ use Rattle.std.specs.Prelude.{All}
 use Rattle.std.specs.Vec.Iter.{into_iter_items, into_iter_len}
 use Rattle.cbsrun.specs.Served.{jobs_for}
 use Rattle.cbsrun.specs.Shares.{listed}
-use Rattle.cbsrun.specs.TaskFiles.{NamesServer}
+use Rattle.cbs_file.specs.TaskFiles.{NamesServer}
 use Rattle.cbsrun.proofs.shares.jobs_by_server.Given as goal
 
 abbrev pub invariant-loop-step : goal.invariant-loop-step

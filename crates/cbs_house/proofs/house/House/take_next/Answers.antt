@@ -18,7 +18,7 @@ invariant_of-self g c =
     record {
       housed = housed_one work old.core c.submit.new.self old.rings c.take.new.self old.collector c.expect.new.self h s t.rings e.others.1 u.count
           (history_kept work old.core c.submit.new.self (Submit s c.in-Job.task ∷ []) h.history (u.state refl))
-          (λ l. keeps_job work _ _ _ _ _ _ (h.servers s l) c.in-Job.task c.in-Ok.number u.job.0 c.requires.place.unclosed t.popped told.results)
+          (λ l. keeps_job work _ _ _ _ _ _ (h.servers s l) c.in-Job.task c.in-Ok.number u.job.0 c.requires.place.unclosed t.received told.results)
           (λ l. let n = u.job.0.accepted in let m = told.announced in omega (arith, h.announced s l))
           u.job.1 (λ r ne. (t.others r ne).0) e.others.0;
     }
@@ -35,7 +35,7 @@ invariant_of-self-in-End g c =
     record {
       housed = housed_one work old.core c.close.new.self old.rings c.take.new.self old.collector old.collector h s t.rings refl k.count
           (history_kept work old.core c.close.new.self (Close s ∷ []) h.history k.state)
-          (λ l. keeps_end work _ _ _ _ _ _ (h.servers s l) done.0 c.requires.place.unclosed t.popped refl)
+          (λ l. keeps_end work _ _ _ _ _ _ (h.servers s l) done.0 c.requires.place.unclosed t.received refl)
           (λ l. h.announced s l ∙ sym done.0.accepted)
           done.1 (λ r ne. (t.others r ne).0) (λ r ne. record { results = refl; announced = refl });
     }
@@ -52,7 +52,7 @@ returns-in-Ok-expect-clause-polled g c =
     let u = c.in-Ok.ensures in
     let place = c.requires.place in (
       c.in-Job.task,
-      made_job g.W.Work.meaning old _ s c.in-Job.task t.rings t.popped t.seen t.others (u.state refl),
+      made_job g.W.Work.meaning old _ s c.in-Job.task t.rings t.received t.known t.others (u.state refl),
       record { is_open = record { within = place.within; unclosed = place.unclosed }; few = place.few },
       u.job.0.number ∙ (old.housed.servers s place.within).accepted,
     )
@@ -61,6 +61,6 @@ pub returns-in-Ok-close-clause-polled : goal.returns-in-Ok-close-clause-polled
 returns-in-Ok-close-clause-polled g c =
     let t = c.in-End.ensures in
     let place = c.requires.place in (
-      made_end g.W.Work.meaning c.args.self.now _ c.args.server t.rings t.popped t.seen t.others c.close.ensures.state,
+      made_end g.W.Work.meaning c.args.self.now _ c.args.server t.rings t.received t.known t.others c.close.ensures.state,
       record { is_open = record { within = place.within; unclosed = place.unclosed }; few = place.few },
     )

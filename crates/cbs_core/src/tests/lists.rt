@@ -1,0 +1,177 @@
+//! Lists of steps, and their replies.
+
+use super::memory::filled;
+use super::{core_of, done, state, sum_of};
+use crate::{Core, CoreError, Ran, Reply, Step};
+use cbs_job::SumJob;
+use cbs_rules::{LIMIT, Mode};
+use linked_list_allocator::LocalHeap;
+use std::alloc::{Allocator, Global};
+use std::process::Abort;
+
+/// A step that submits a sum of one number, or another step.
+#[derive(Clone, Copy)]
+enum Asked {
+    Submit(u16, u32),
+    Run,
+    Advance(u64),
+    Close(u16),
+}
+
+/// A reply, with no job in it.
+#[derive(Clone, Copy, Debug, PartialEq, Eq)]
+enum Told {
+    Accepted(u64),
+    NotAccepted(CoreError),
+    Ran(Ran),
+    Advanced,
+    Closed,
+    Refused(CoreError),
+}
+
+/// The list of these steps.
+fn steps_of<A: Allocator>(
+    rt: &impl Abort,
+    global: Global,
+    alloc: A,
+    asked: &[Asked],
+) -> Vec<Step<SumJob>, A> {
+    let mut steps = Vec::with_capacity(alloc, asked.len()).expect(rt, "memory");
+    for &step in asked {
+        let step = match step {
+            Asked::Submit(server, number) => Step::Submit(server, sum_of(rt, global, &[number])),
+            Asked::Run => Step::Run,
+            Asked::Advance(n) => Step::Advance(n),
+            Asked::Close(server) => Step::Close(server),
+        };
+        steps.push(step).ok().expect(rt, "memory");
+    }
+    steps
+}
+
+/// A reply without its job.
+fn without_job(reply: &Reply<SumJob>) -> Told {
+    match reply {
+        Reply::Accepted(number) => Told::Accepted(*number),
+        Reply::NotAccepted(refused) => Told::NotAccepted(refused.error),
+        Reply::Ran(ran) => Told::Ran(*ran),
+        Reply::Advanced => Told::Advanced,
+        Reply::Closed => Told::Closed,
+        Reply::Refused(error) => Told::Refused(*error),
+    }
+}
+
+/// Does steps, and looks for these replies.
+fn answers<A: Allocator + Clone>(
+    rt: &impl Abort,
+    core: &mut Core<SumJob, A>,
+    steps: Vec<Step<SumJob>, A>,
+    wanted: &[Told],
+) {
+    let replies = core.run_steps(steps).ok().expect(rt, "replies");
+    assert_eq!(rt; replies.len(), wanted.len());
+    for (reply, &want) in replies.iter().zip(wanted) {
+        assert_eq!(rt; without_job(reply), want);
+    }
+}
+
+#[test]
+fn steps_are_answered_in_order(rt: HostRuntime) {
+    let alloc = rt.alloc();
+    let mut core = core_of(&rt, alloc, Mode::Soft, &[(2, 5), (2, 5)], 4);
+    let asked = [
+        Asked::Submit(0, 7),
+        Asked::Submit(1, 9),
+        Asked::Run,
+        Asked::Run,
+    ];
+    let wanted = [
+        Told::Accepted(0),
+        Told::Accepted(0),
+        Told::Ran(done(0, 0, 7)),
+        Told::Ran(done(1, 0, 9)),
+    ];
+    answers(&rt, &mut core, steps_of(&rt, alloc, alloc, &asked), &wanted);
+    assert_eq!(rt; core.now(), 2);
+    assert_eq!(rt; state(&rt, &core, 0), (1, 5, false));
+    assert_eq!(rt; state(&rt, &core, 1), (1, 5, false));
+}
+
+#[test]
+fn each_step_has_its_reply(rt: HostRuntime) {
+    let alloc = rt.alloc();
+    let mut core = core_of(&rt, alloc, Mode::Soft, &[(2, 5)], 1);
+    let asked = [
+        Asked::Submit(0, 4),
+        Asked::Submit(0, 5),
+        Asked::Close(0),
+        Asked::Close(0),
+        Asked::Advance(LIMIT),
+        Asked::Advance(1),
+        Asked::Run,
+    ];
+    let wanted = [
+        Told::Accepted(0),
+        Told::NotAccepted(CoreError::BacklogFull),
+        Told::Closed,
+        Told::Refused(CoreError::Closed),
+        Told::Advanced,
+        Told::Refused(CoreError::ClockEnd),
+        Told::Ran(Ran::ClockEnd),
+    ];
+    answers(&rt, &mut core, steps_of(&rt, alloc, alloc, &asked), &wanted);
+}
+
+#[test]
+fn steps_that_find_no_memory_come_back(rt: HostRuntime) {
+    let alloc = rt.alloc();
+    let heap = LocalHeap::new(alloc, 1 << 12).expect(&rt, "a heap");
+    let mut core = core_of(&rt, &heap, Mode::Soft, &[(2, 5)], 4);
+    let asked = [Asked::Advance(3), Asked::Submit(0, 4), Asked::Run];
+    let steps = steps_of(&rt, alloc, &heap, &asked);
+    let before = core.view(0);
+    let ballast = filled(&rt, alloc, &heap);
+    let refused = core.run_steps(steps).err().expect(&rt, "the steps");
+    assert_eq!(rt; core.view(0), before);
+    assert_eq!(rt; (core.now(), core.ready()), (0, None));
+    drop(ballast);
+    let wanted = [Told::Advanced, Told::Accepted(0), Told::Ran(done(0, 0, 4))];
+    answers(&rt, &mut core, refused.steps, &wanted);
+}
+
+#[test]
+fn a_step_that_finds_no_memory_is_marked(rt: HostRuntime) {
+    let alloc = rt.alloc();
+    let heap = LocalHeap::new(alloc, 1 << 12).expect(&rt, "a heap");
+    let mut core = core_of(&rt, &heap, Mode::Soft, &[(2, 5), (2, 5)], 4);
+    let asked = [
+        Asked::Submit(0, 1),
+        Asked::Submit(1, 2),
+        Asked::Submit(0, 3),
+        Asked::Run,
+        Asked::Run,
+        Asked::Run,
+    ];
+    let wanted = [
+        Told::Accepted(0),
+        Told::NotAccepted(CoreError::OutOfMemory),
+        Told::Accepted(1),
+        Told::Ran(done(0, 0, 1)),
+        Told::Ran(done(0, 1, 3)),
+        Told::Ran(Ran::Idle),
+    ];
+    let steps = steps_of(&rt, alloc, &heap, &asked);
+    assert_eq!(rt; core.make_room(0), Ok(()));
+
+    // What is left of the heap is as long as the replies: only the second server finds no memory.
+    let replies: Vec<Reply<SumJob>, &LocalHeap> = Vec::with_capacity(&heap, asked.len()).expect(
+        &rt, "memory",
+    );
+    let ballast = filled(&rt, alloc, &heap);
+    drop(replies);
+    answers(&rt, &mut core, steps, &wanted);
+    assert_eq!(rt; core.now(), 2);
+    assert_eq!(rt; state(&rt, &core, 0), (2, 10, false));
+    assert_eq!(rt; state(&rt, &core, 1), (0, 0, false));
+    drop(ballast);
+}

@@ -1,0 +1,117 @@
+//! Jobs of each kind in each memory, and memory that is refused.
+
+use super::{accepts, core_of, done, plan_of, refuses, state, sum_of};
+use crate::{Core, CoreError, Ran};
+use cbs_job::{FileJob, PeakJob, SumJob, Task, Work};
+use cbs_rules::Mode;
+use linked_list_allocator::LocalHeap;
+use std::alloc::{Allocator, Global};
+use std::process::Abort;
+
+/// Takes all memory of a heap, and gives what holds it.
+pub fn filled<'a>(rt: &impl Abort, alloc: Global, heap: &'a LocalHeap) -> Vec<Vec<u8, &'a LocalHeap>> {
+    let mut ballast = Vec::new(alloc);
+    for _block in 0..heap.size() {
+        let Ok(block) = Vec::with_capacity(heap, 1) else {
+            break;
+        };
+        ballast.push(block).ok().expect(rt, "memory");
+    }
+    assert_eq!(rt; heap.free(), 0);
+    ballast
+}
+
+/// The task that seeks the greatest of these numbers.
+fn peak_of(rt: &impl Abort, alloc: Global, numbers: &[u32]) -> Task<PeakJob> {
+    assert!(rt; numbers.len() < 100);
+    let numbers = Vec::from_slice(alloc, numbers).expect(rt, "memory");
+    Task::new(PeakJob::new(numbers)).ok().expect(rt, "a task")
+}
+
+/// Runs a task of three units, and looks at its result.
+fn comes_to<W: Work, A: Allocator + Clone>(rt: &impl Abort, alloc: A, task: Task<W>, output: u64) {
+    let mut core = core_of(rt, alloc, Mode::Soft, &[(2, 5)], 4);
+    let answer = core.submit(0, task);
+    assert!(rt; matches!(answer, Ok(0)));
+    assert_eq!(rt; core.run(), Ran::Unit { server: 0, seq: 0 });
+    assert_eq!(rt; core.run(), Ran::Unit { server: 0, seq: 0 });
+    assert_eq!(rt; core.run(), done(0, 0, output));
+    assert_eq!(rt; state(rt, &core, 0), (1, 10, false));
+}
+
+/// Runs a sum and a peak, each as itself and as a job of a task file.
+fn all_come_to<A: Allocator + Clone + Copy>(rt: &impl Abort, global: Global, alloc: A) {
+    comes_to(rt, alloc, sum_of(rt, global, &[1, 2, 3]), 6);
+    comes_to(rt, alloc, peak_of(rt, global, &[4, 9, 2]), 9);
+    let sum = SumJob::new(Vec::from_slice(global, &[1, 2, 3]).expect(rt, "memory"));
+    let peak = PeakJob::new(Vec::from_slice(global, &[4, 9, 2]).expect(rt, "memory"));
+    for (job, output) in [(FileJob::Sum(sum), 6), (FileJob::Peak(peak), 9)] {
+        comes_to(rt, alloc, Task::new(job).ok().expect(rt, "a task"), output);
+    }
+}
+
+#[test]
+fn jobs_of_any_kind_run_in_any_memory(rt: HostRuntime) {
+    let alloc = rt.alloc();
+    all_come_to(&rt, alloc, alloc);
+    let heap = LocalHeap::new(alloc, 1 << 12).expect(&rt, "a heap");
+    all_come_to(&rt, alloc, &heap);
+}
+
+#[test]
+fn a_core_takes_memory_or_says_so(rt: HostRuntime) {
+    let alloc = rt.alloc();
+    let mut enough = 0;
+    for size in 1..256 {
+        let heap = LocalHeap::new(alloc, 16 * size).expect(&rt, "a heap");
+        let plan = plan_of(&rt, &[(2, 5), (2, 5)]);
+        let core = Core::<SumJob, &LocalHeap>::new(&heap, plan, Mode::Soft, 4);
+        let Some(error) = core.err() else {
+            enough = size;
+            break;
+        };
+        assert_eq!(rt; error, CoreError::OutOfMemory);
+        assert_eq!(rt; heap.used(), 0);
+    }
+    assert!(rt; enough > 1);
+}
+
+#[test]
+fn a_job_that_finds_no_memory_comes_back(rt: HostRuntime) {
+    let alloc = rt.alloc();
+    let heap = LocalHeap::new(alloc, 1 << 12).expect(&rt, "a heap");
+    let mut core = core_of(&rt, &heap, Mode::Soft, &[(2, 5)], 4);
+    let before = core.view(0);
+    let ballast = filled(&rt, alloc, &heap);
+    let four = sum_of(&rt, alloc, &[4]);
+    refuses(&rt, &mut core, 0, four, CoreError::OutOfMemory, 4);
+    assert_eq!(rt; core.make_room(0), Err(CoreError::OutOfMemory));
+    assert_eq!(rt; core.view(0), before);
+    assert_eq!(rt; (core.now(), core.ready()), (0, None));
+    drop(ballast);
+    accepts(&rt, &mut core, 0, sum_of(&rt, alloc, &[4]), 0);
+    assert_eq!(rt; core.run(), done(0, 0, 4));
+}
+
+#[test]
+fn room_is_enough_for_the_next_job(rt: HostRuntime) {
+    let alloc = rt.alloc();
+    let heap = LocalHeap::new(alloc, 1 << 12).expect(&rt, "a heap");
+    let mut core = core_of(&rt, &heap, Mode::Throttled, &[(2, 5), (2, 5)], 4);
+    let ballast = filled(&rt, alloc, &heap);
+    assert_eq!(rt; core.make_room(1), Err(CoreError::OutOfMemory));
+    drop(ballast);
+    assert_eq!(rt; core.make_room(1), Ok(()));
+    let ballast = filled(&rt, alloc, &heap);
+    assert_eq!(rt; core.advance(3), Ok(()));
+    assert_eq!(rt; core.close(0), Ok(()));
+    assert_eq!(rt; core.run(), Ran::Idle);
+    accepts(&rt, &mut core, 1, sum_of(&rt, alloc, &[4, 5, 6]), 0);
+    assert_eq!(rt; core.close(1), Ok(()));
+    assert_eq!(rt; core.run(), Ran::Unit { server: 1, seq: 0 });
+    assert_eq!(rt; core.run(), Ran::Unit { server: 1, seq: 0 });
+    assert_eq!(rt; core.idle_span(), Some(3));
+    assert_eq!(rt; core.advance(3), Ok(()));
+    assert_eq!(rt; core.run(), done(1, 0, 15));
+    drop(ballast);
+}

@@ -1,0 +1,99 @@
+//! Who runs, and for how long nobody does.
+
+use super::{accepts, core_of, done, state, sum_of};
+use crate::{Core, Ran};
+use cbs_job::SumJob;
+use cbs_rules::Mode;
+use std::alloc::Global;
+use std::process::Abort;
+
+/// A throttled server with one unit of its job left and no budget.
+fn exhausted(rt: &impl Abort, alloc: Global) -> Core<SumJob> {
+    let mut core = core_of(rt, alloc, Mode::Throttled, &[(2, 5)], 4);
+    accepts(rt, &mut core, 0, sum_of(rt, alloc, &[1, 2, 3]), 0);
+    for &(ran, now, budget, throttled) in &[
+        (Ran::Unit { server: 0, seq: 0 }, 1, 1, false),
+        (Ran::Unit { server: 0, seq: 0 }, 2, 0, true),
+        (Ran::Idle, 2, 0, true),
+    ] {
+        assert_eq!(rt; core.run(), ran);
+        assert_eq!(rt; core.now(), now);
+        assert_eq!(rt; state(rt, &core, 0), (budget, 5, throttled));
+    }
+    core
+}
+
+#[test]
+fn a_jump_is_its_ticks(rt: HostRuntime) {
+    let alloc = rt.alloc();
+    let mut jump = exhausted(&rt, alloc);
+    let mut ticks = exhausted(&rt, alloc);
+    assert_eq!(rt; jump.advance(7), Ok(()));
+    for _tick in 0..7 {
+        assert_eq!(rt; ticks.advance(1), Ok(()));
+    }
+    assert_eq!(rt; state(&rt, &jump, 0), (2, 10, false));
+    assert_eq!(rt; jump.view(0), ticks.view(0));
+    assert_eq!(rt; (jump.now(), ticks.now()), (9, 9));
+    assert_eq!(rt; jump.run(), done(0, 0, 6));
+    assert_eq!(rt; jump.now(), 10);
+    assert_eq!(rt; state(&rt, &jump, 0), (1, 10, false));
+}
+
+#[test]
+fn the_idle_span_ends_where_somebody_is_ready(rt: HostRuntime) {
+    let alloc = rt.alloc();
+    let mut core = core_of(&rt, alloc, Mode::Soft, &[(2, 5), (2, 5)], 4);
+    assert_eq!(rt; core.idle_span(), Some(1_000_000_000));
+    accepts(&rt, &mut core, 0, sum_of(&rt, alloc, &[7]), 0);
+    accepts(&rt, &mut core, 1, sum_of(&rt, alloc, &[9]), 0);
+    assert_eq!(rt; core.idle_span(), None);
+    assert_eq!(rt; exhausted(&rt, alloc).idle_span(), Some(3));
+}
+
+#[test]
+fn the_earliest_deadline_runs(rt: HostRuntime) {
+    let alloc = rt.alloc();
+    let mut core = core_of(&rt, alloc, Mode::Soft, &[(2, 5), (3, 5)], 4);
+    accepts(&rt, &mut core, 0, sum_of(&rt, alloc, &[1, 1, 1]), 0);
+    accepts(&rt, &mut core, 1, sum_of(&rt, alloc, &[1, 1, 1, 1]), 0);
+    for &(ran, server, budget, deadline) in &[
+        (Ran::Unit { server: 0, seq: 0 }, 0, 1, 5),
+        (Ran::Unit { server: 0, seq: 0 }, 0, 2, 10),
+        (Ran::Unit { server: 1, seq: 0 }, 1, 2, 5),
+        (Ran::Unit { server: 1, seq: 0 }, 1, 1, 5),
+        (Ran::Unit { server: 1, seq: 0 }, 1, 3, 10),
+        (done(0, 0, 3), 0, 1, 10),
+        (done(1, 0, 4), 1, 2, 10),
+    ] {
+        assert_eq!(rt; core.ready(), Some(server));
+        assert_eq!(rt; core.run(), ran);
+        assert_eq!(rt; state(&rt, &core, server), (budget, deadline, false));
+    }
+    assert_eq!(rt; core.now(), 7);
+}
+
+#[test]
+fn three_throttled_servers_take_turns(rt: HostRuntime) {
+    let alloc = rt.alloc();
+    let mut core = core_of(&rt, alloc, Mode::Throttled, &[(1, 6), (1, 3), (1, 2)], 4);
+    for server in 0..3 {
+        accepts(&rt, &mut core, server, sum_of(&rt, alloc, &[1, 1]), 0);
+    }
+    for &(ran, server, deadline) in &[
+        (Ran::Unit { server: 2, seq: 0 }, 2, 2),
+        (Ran::Unit { server: 1, seq: 0 }, 1, 3),
+        (done(2, 0, 2), 2, 4),
+        (Ran::Unit { server: 0, seq: 0 }, 0, 6),
+        (done(1, 0, 2), 1, 6),
+        (Ran::Idle, 1, 6),
+    ] {
+        assert_eq!(rt; core.run(), ran);
+        assert_eq!(rt; state(&rt, &core, server), (0, deadline, true));
+    }
+    assert_eq!(rt; core.idle_span(), Some(1));
+    assert_eq!(rt; core.advance(1), Ok(()));
+    assert_eq!(rt; core.run(), done(0, 0, 2));
+    assert_eq!(rt; core.now(), 7);
+    assert_eq!(rt; state(&rt, &core, 0), (0, 12, true));
+}

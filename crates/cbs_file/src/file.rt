@@ -1,0 +1,120 @@
+//! A task file, read from its bytes.
+
+ghost use Rattle.std.specs.Prelude.{◌≡◌, ◌≤◌, map, [], Ok, Err, IfOk, All};
+ghost use Rattle.toml.specs.View.{view, table_view};
+ghost use Rattle.cbs_file.specs.declared.fault.FileKind.TheVariants.{OutOfMemory};
+ghost use Rattle.cbs_file.specs.declared.fault.Place.TheVariants.{Step as AtStep};
+ghost use Rattle.cbs_file.specs.Entries.{step_entry};
+ghost use Rattle.cbs_file.specs.Fields.{Gives, seen, each_from};
+ghost use Rattle.cbs_file.specs.TaskFiles.{NamesServer};
+ghost use Rattle.cbs_file.specs.Files.{document, file, faulty, at, admitted_entry, plan_from, no_memory};
+
+use crate::entries::{server_entry, step_entry};
+use crate::fault::{FileFault, FileKind, Place};
+use crate::task_file::TaskFile;
+use crate::top::top_table;
+use cbs_core::Step;
+use cbs_job::FileJob;
+use cbs_rate::{Bound, Plan};
+use std::alloc::Global;
+use toml::{Table, Value};
+
+/// The top table of a TOML document.
+fn document(alloc: Global, bytes: &[u8]) -> Result<Table, FileKind>
+    ensures { Gives OutOfMemory table_view result (document bytes.now) }
+{
+    match toml::table_from_slice(alloc, bytes) {
+        Ok(table) => Ok(table),
+        Err(error) if error.is_memory() => Err(FileKind::OutOfMemory),
+        Err(_) => Err(FileKind::NotToml),
+    }
+}
+
+/// The fault at its place; want of memory stands at the top.
+fn faulty(place: Place, kind: FileKind) -> FileFault
+    ensures { result ≡ faulty place kind }
+{
+    match kind {
+        FileKind::OutOfMemory => FileFault {
+            kind: FileKind::OutOfMemory,
+            place: Place::Top,
+        },
+        kind => FileFault { kind, place },
+    }
+}
+
+/// What was read of the table at this place.
+fn at<T>(place: Place, read: Result<T, FileKind>) -> Result<T, FileFault>
+    ensures { result ≡ at place read }
+{
+    match read {
+        Ok(value) => Ok(value),
+        Err(kind) => Err(faulty(place, kind)),
+    }
+}
+
+/// Admits the server of one entry to the plan.
+fn admit_entry(plan: &mut Plan, entry: &Value) -> Result<(), FileKind>
+    ensures { seen (λ _. plan.new) result ≡ admitted_entry plan.old (view entry.now) }
+{
+    let reservation = server_entry(entry)?;
+    match plan.admit(reservation) {
+        Ok(_) => Ok(()),
+        Err(_) => Err(FileKind::NotAdmitted),
+    }
+}
+
+/// The plan of the entries of `server`.
+fn plan_of(bound: Bound, entries: &[Value]) -> Result<Plan, FileFault>
+    ensures { result ≡ plan_from 0 (record { bound = bound; rates = [] }) (map view entries.now) }
+{
+    let mut plan = Plan::new(bound);
+    for (i, entry) in entries.iter().enumerate() {
+        at(Place::Server(i as u64), admit_entry(&mut plan, entry))?;
+    }
+    Ok(plan)
+}
+
+/// The steps of the entries of `step`, in a file with so many servers.
+fn steps_of(alloc: Global, servers: u64, entries: &[Value]) -> Result<Vec<Step<FileJob>>, FileFault>
+    requires { servers ≤ 64 }
+    ensures steps { Gives no_memory (λ v. v.items) result
+        (each_from 0 (λ i entry. at (AtStep i) (step_entry servers entry)) (map view entries.now)) }
+    ensures named { IfOk result (λ v. All (NamesServer servers) v.items) }
+{
+    let mut steps = Vec::new(alloc);
+    for (i, entry) in entries.iter().enumerate() {
+        let step = at(Place::Step(i as u64), step_entry(alloc, servers, entry))?;
+        let Ok(()) = steps.push(step) else {
+            return Err(faulty(Place::Top, FileKind::OutOfMemory));
+        };
+    }
+    Ok(steps)
+}
+
+/// The task file that the bytes spell, or its first fault.
+///
+/// The bytes are parsed as TOML; then the top table is tested, then each entry of `server` in order,
+/// then each entry of `step`. In each table the tests are, over all its keys: a key that it may not
+/// have, a key that is missing, a value of the wrong type, a value out of range. An entry of
+/// `server` is then admitted to the plan. [`FileKind::OutOfMemory`] may come at any time, and stands
+/// at the top.
+#[tactic(auto, unfolding(crate::specs::Files::file))]
+pub fn read_file(alloc: Global, bytes: &[u8]) -> Result<TaskFile, FileFault>
+    ensures { Gives no_memory (λ f. f) result (file bytes.now) }
+{
+    let table = at(Place::Top, document(alloc, bytes))?;
+    let top = match top_table(&table) {
+        Ok(top) => top,
+        Err(kind) => return Err(faulty(Place::Top, kind)),
+    };
+    let plan = plan_of(top.bound, top.servers)?;
+    let steps = steps_of(alloc, plan.len() as u64, top.steps)?;
+    Ok(TaskFile {
+        mode: top.mode,
+        plan,
+        backlog: top.backlog,
+        ring: top.ring,
+        steps,
+    })
+}

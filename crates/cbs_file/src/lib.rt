@@ -1,0 +1,14 @@
+//! Task files: the plan and mode of some servers, the limits of their queues, and a list of steps, read from the bytes of a
+//! TOML document.
+#![tactic(auto)]
+
+mod entries;
+mod fault;
+mod fields;
+mod file;
+mod task_file;
+mod top;
+
+pub use fault::{FileFault, FileKind, Place};
+pub use file::read_file;
+pub use task_file::{Parts, TaskFile};
