@@ -1,5 +1,5 @@
 -- What a run leaves, by its status.
-use Rattle.std.specs.Prelude.{◌≡◌, ◌⊎◌, ⊥, ℕ, ◌+◌, List, Option, Result, Ok, Err}
+use Rattle.std.specs.Prelude.{◌≡◌, ◌⊎◌, ℕ, ◌+◌, List, Option, Result, Ok, Err}
 use Rattle.std.specs.Io.KnownBytes.{Appends, Keeps}
 use Rattle.cbsrun.specs.FaultLines.{file_line, run_line}
 use Rattle.cbs_file.specs.Files.{file, no_memory}

@@ -1,4 +1,4 @@
-use Rattle.std.proofs.Common.{◌≡◌, [], arith, ap, sym, ◌∙◌, length, rules, refl}
+use Rattle.std.proofs.Common.{◌≡◌, ◌+◌, [], arith, ap, sym, ◌∙◌, length, rules, refl}
 use Rattle.std.proofs.lemmas.List.{nil_from_length}
 use Rattle.std.proofs.lemmas.Result.{err_from_is_err_and}
 use Rattle.std.specs.Vec.Iter.{into_iter_items}
@@ -10,12 +10,14 @@ pub returns-in_default : goal.returns-in_default
 returns-in_default g c = nothing_written _ c.args.file
 
 pub returns-in_err-pending : goal.returns-in_err-pending
-returns-in_err-pending g c = nothing_written _ c.args.file
+returns-in_err-pending g c =
+    let p = err_from_is_err_and c.from_residual.result c.from_residual.ensures.1 in
+    rw (p.1, p.2) (nothing_written _ c.args.file)
 
 pub loop-step-init : goal.loop-step-init
 loop-step-init g c =
-    let begun = begins (g.O.ByteOutput.written c.args.out.now) c.in-Ok.core c.args.file (rw (← c.file.view_is) c.in-Ok.ensures.start) in
-    let steps : into_iter_items c.into_iter-step-iterator.result ≡ c.args.file.steps = c.into_iter-step-iterator.ensures.into_iter_gives.0 ∙ ap (λ (f : File). f.steps) c.file.view_is in
+    let begun = begins (g.O.ByteOutput.written c.args.out.now) c.in-Ok.core c.args.file (rw (← c.into_parts-mode.ensures.value) c.in-Ok.ensures.start) in
+    let steps : into_iter_items c.into_iter-step-iterator.result ≡ c.args.file.steps = c.into_iter-step-iterator.ensures.into_iter_gives.0 ∙ ap (λ (f : File). f.steps) c.into_parts-mode.ensures.value in
     record {
       can = tt;
       finite = tt;
@@ -36,7 +38,7 @@ returns-in_default-take_step g c =
     record {
       lines = flushed _ c.loop-step.invariant.so_far wrote.0;
       front = lines_front _ c.loop-step.invariant.so_far wrote.0;
-      failed = wrote.1.1 ∙ c.loop-step.invariant.none_failed;
+      failed = wrote.2 ∙ c.loop-step.invariant.none_failed;
     }
 
 pub loop-step-preserved : goal.loop-step-preserved
@@ -67,4 +69,4 @@ pub returns : goal.returns
 returns g c =
     let none : into_iter_items c.loop-step.step-iterator ≡ [] = nil_from_length _ (sym c.loop-step.invariant.count ∙ c.in-None.ensures.steps.0) in
     let wrote = c.in_ok-flush-2.ensures.ok in
-    (all_done _ c.loop-step.invariant.so_far none wrote.0, wrote.1.1 ∙ c.loop-step.invariant.none_failed)
+    (all_done _ c.loop-step.invariant.so_far none wrote.0, wrote.2 ∙ c.loop-step.invariant.none_failed)
