@@ -51,8 +51,8 @@ module _ {W A : Type 0} {g : Ghosts W} where
   KeepsFeeds old new = AllZip KeepsFeed old new
 
   -- how many messages the feeds' clients have sent
-  abbrev pub messages : List (Feed W A g) → ℕ
-  messages fs = sum_by (λ f. length (sent_by f.client)) fs
+  abbrev pub all_sent : List (Feed W A g) → ℕ
+  all_sent fs = sum_by (λ f. length (sent_by f.client)) fs
 
   -- how many messages the feeds have still to send
   abbrev pub all_unsent : List (Feed W A g) → ℕ

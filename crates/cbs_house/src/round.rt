@@ -3,7 +3,7 @@
 ghost use Rattle.std.specs.Prelude.{◌≡◌, ◌+◌, ◌*◌, ◌≤◌, length};
 ghost use Rattle.std.specs.List.{All};
 ghost use Rattle.std.specs.Thread.{IsSync, IsSend};
-ghost use Rattle.cbs_house.specs.Feeds.{IsOrderly, KeepsFeeds, messages};
+ghost use Rattle.cbs_house.specs.Feeds.{IsOrderly, KeepsFeeds, all_sent};
 ghost use Rattle.cbs_house.specs.Houses.{Moves};
 ghost use Rattle.cbs_house.specs.Rounds.{popped_by, Ready};
 ghost use Rattle.cbs_house.specs.Steps.{MayRound};
@@ -47,7 +47,7 @@ pub fn serve_round<R: Threads + Sync, G: Gate + Sync, W: Work + Send>(
     requires turns { turns ≤ 1000000000 }
     ensures ready { Ready house.new feeds.new }
     ensures feeds { KeepsFeeds feeds.old feeds.new }
-    ensures sent { messages feeds.new ≡ messages feeds.old + result.sent }
+    ensures sent { all_sent feeds.new ≡ all_sent feeds.old + result.sent }
     ensures took { Moves W.meaning MayRound house.old house.new result.took }
 {
     let mut servers = [0u16; 64];
@@ -80,14 +80,14 @@ fn both_sides<R: Threads + Sync, G: Gate + Sync, W: Work + Send>(
     requires turns { turns ≤ 1000000000 }
     requires orderly { All IsOrderly feeds.old }
     ensures feeds { KeepsFeeds feeds.old feeds.new }
-    ensures sent { messages feeds.new ≡ messages feeds.old + result.0 }
+    ensures sent { all_sent feeds.new ≡ all_sent feeds.old + result.0 }
     ensures took { Moves W.meaning MayRound house.old house.new result.1 }
 {
     join_mut(
         rt,
         &mut || -> u64
             requires { IsSync R.row × IsSync G.row × IsSend W.row × (length feeds.now ≤ 64) × (turns ≤ 1000000000) × All IsOrderly feeds.now }
-            ensures { KeepsFeeds feeds.entry.now feeds.exit.now × (messages feeds.exit.now ≡ messages feeds.entry.now + result) }
+            ensures { KeepsFeeds feeds.entry.now feeds.exit.now × (all_sent feeds.exit.now ≡ all_sent feeds.entry.now + result) }
         { send_all(rt, gate, turns, feeds) },
         &mut || -> u64
             requires { turns ≤ 1000000000 }

@@ -4,7 +4,7 @@ ghost use Rattle.std.specs.Prelude.{◌≡◌, ◌+◌, ◌*◌, ◌<◌, ◌≤
 ghost use Rattle.std.specs.List.{All};
 ghost use Rattle.std.specs.Thread.{IsSync, IsSend};
 ghost use Rattle.cbs_house.specs.Clients.{sent_by};
-ghost use Rattle.cbs_house.specs.Feeds.{IsOrderly, KeepsFeed, KeepsFeeds, messages};
+ghost use Rattle.cbs_house.specs.Feeds.{IsOrderly, KeepsFeed, KeepsFeeds, all_sent};
 
 use crate::feed::Feed;
 use crate::gate::Gate;
@@ -44,7 +44,7 @@ pub fn send_all<R: Threads + Sync, G: Gate + Sync, W: Work + Send>(
     requires turns { turns ≤ 1000000000 }
     requires orderly { All IsOrderly feeds.old }
     ensures kept { KeepsFeeds feeds.old feeds.new }
-    ensures count { messages feeds.new ≡ messages feeds.old + result }
+    ensures count { all_sent feeds.new ≡ all_sent feeds.old + result }
     ensures most { result ≤ 1000000000 * length feeds.old }
 {
     if feeds.len() < 2 {
@@ -72,18 +72,18 @@ fn send_both<R: Threads + Sync, G: Gate + Sync, W: Work + Send>(
     requires turns { turns ≤ 1000000000 }
     requires orderly { All IsOrderly front.old × All IsOrderly back.old }
     ensures kept { KeepsFeeds front.old front.new × KeepsFeeds back.old back.new }
-    ensures count { (messages front.new ≡ messages front.old + result.0) × (messages back.new ≡ messages back.old + result.1) }
+    ensures count { (all_sent front.new ≡ all_sent front.old + result.0) × (all_sent back.new ≡ all_sent back.old + result.1) }
     ensures most { (result.0 ≤ 1000000000 * length front.old) × (result.1 ≤ 1000000000 * length back.old) }
 {
     join_mut(
         rt,
         &mut || -> u64
             requires { IsSync R.row × IsSync G.row × IsSend W.row × (length front.now ≤ 64) × (turns ≤ 1000000000) × All IsOrderly front.now }
-            ensures { KeepsFeeds front.entry.now front.exit.now × (messages front.exit.now ≡ messages front.entry.now + result) × (result ≤ 1000000000 * length front.entry.now) }
+            ensures { KeepsFeeds front.entry.now front.exit.now × (all_sent front.exit.now ≡ all_sent front.entry.now + result) × (result ≤ 1000000000 * length front.entry.now) }
         { send_all(rt, gate, turns, front) },
         &mut || -> u64
             requires { IsSync R.row × IsSync G.row × IsSend W.row × (length back.now ≤ 64) × (turns ≤ 1000000000) × All IsOrderly back.now }
-            ensures { KeepsFeeds back.entry.now back.exit.now × (messages back.exit.now ≡ messages back.entry.now + result) × (result ≤ 1000000000 * length back.entry.now) }
+            ensures { KeepsFeeds back.entry.now back.exit.now × (all_sent back.exit.now ≡ all_sent back.entry.now + result) × (result ≤ 1000000000 * length back.entry.now) }
         { send_all(rt, gate, turns, back) },
     )
 }

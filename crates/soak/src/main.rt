@@ -5,7 +5,7 @@
 mod gate;
 mod load;
 
-ghost use Rattle.std.specs.Prelude.{length, IfOk};
+ghost use Rattle.std.specs.Prelude.{IfOk};
 ghost use Rattle.cbs_house.specs.Rounds.{Ready};
 
 use anyhow::{Result, bail, ensure};

@@ -1,5 +1,6 @@
 //! Task files: faulty ones, other spellings, and what a good one holds.
 
+use super::FIRST_LINES;
 use super::fakes::ran;
 use crate::words::Verb;
 use cbs_core::Step;
@@ -119,14 +120,7 @@ fn faults_at_servers_and_steps_have_their_places(rt: HostRuntime) -> Result<(), 
     Ok(())
 }
 
-const LINES: &str = "\
-@0 submit 0 job 0 accepted c=2 d=5
-@1 run 0 job 0 c=1 d=5
-@2 run 0 job 0 c=2 d=10
-@3 run 0 job 0 done 6 c=1 d=10
-";
-
-/// One file in tables with headers, in other bases, with comments and other quotes.
+/// The first example in tables with headers, in other bases, with comments and other quotes.
 const IN_TABLES: &str = "\
 format = 0x1 # the format
 mode = 'soft'
@@ -171,12 +165,12 @@ format = 1
 fn other_spellings_are_the_same_file(rt: HostRuntime) -> Result<(), Fail> {
     let alloc = rt.alloc();
     let in_tables = ran(&rt, alloc, Verb::Replay, IN_TABLES.as_bytes());
-    assert!(rt; in_tables.status == 0 && in_tables.out.holds(LINES));
+    assert!(rt; in_tables.status == 0 && in_tables.out.holds(FIRST_LINES));
 
     let [before, behind] = BACKWARDS;
     let file = format!(in alloc; "{before}1{behind}")?;
     let backwards = ran(&rt, alloc, Verb::Replay, file.as_bytes());
-    assert!(rt; backwards.status == 0 && backwards.out.holds(LINES));
+    assert!(rt; backwards.status == 0 && backwards.out.holds(FIRST_LINES));
     Ok(())
 }
 

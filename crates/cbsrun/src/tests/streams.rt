@@ -1,6 +1,7 @@
 //! Readers and writers that fail.
 
 use super::fakes::{Letters, Memory, Outcome, ran};
+use super::{FIRST, FIRST_LINES};
 use crate::input::{FromRead, MAX_BYTES, ReadError, read_all};
 use crate::output::{ByteOutput, ToWrite, write_text};
 use crate::replay::replay;
@@ -11,28 +12,6 @@ use cbs_file::read_file;
 use std::alloc::Global;
 use std::test::Fail;
 use std::thread::Threads;
-
-const FIRST: &str = "\
-format = 1
-mode = \"soft\"
-bound = [1, 1]
-backlog = 4
-ring = 4
-server = [{ budget = 2, period = 5 }]
-step = [
-  { op = \"submit\", server = 0, job = \"sum\", units = [1, 2, 3] },
-  { op = \"run\" },
-  { op = \"run\" },
-  { op = \"run\" },
-]
-";
-
-const LINES: &str = "\
-@0 submit 0 job 0 accepted c=2 d=5
-@1 run 0 job 0 c=1 d=5
-@2 run 0 job 0 c=2 d=10
-@3 run 0 job 0 done 6 c=1 d=10
-";
 
 /// The front of the text that has room, and whether it is the whole.
 fn replayed(alloc: Global, room: usize, step: usize) -> Result<(Option<RunError>, Memory), Fail> {
@@ -57,7 +36,7 @@ fn a_writer_that_fails_has_the_front(rt: HostRuntime) -> Result<(), Fail> {
         assert!(rt; error == Some(RunError::WriteFault) && out.holds(front));
     }
     let (error, out) = replayed(alloc, usize::MAX, 1)?;
-    assert!(rt; error == None && out.holds(LINES));
+    assert!(rt; error == None && out.holds(FIRST_LINES));
     Ok(())
 }
 
@@ -113,7 +92,7 @@ fn a_reader_gives_all_its_bytes(rt: HostRuntime) -> Result<(), Fail> {
 fn long_traces_are_whole(rt: HostRuntime) -> Result<(), Fail> {
     let alloc = rt.alloc();
     let mut file = String::from_str(alloc, FIRST)?;
-    let mut lines = String::from_str(alloc, LINES)?;
+    let mut lines = String::from_str(alloc, FIRST_LINES)?;
     file.truncate(FIRST.len() - 2);
     for _ in 0..5000 {
         file.push_str("  { op = \"run\" },\n")?;

@@ -30,24 +30,6 @@ const NO_STEP: Row = Row {
     lines: "",
 };
 
-const SOFT_POSTPONED: Row = Row {
-    name: "a soft server postpones its deadline",
-    head: SOFT,
-    server: "{ budget = 2, period = 5 }",
-    step: "
-  { op = \"submit\", server = 0, job = \"sum\", units = [1, 2, 3] },
-  { op = \"run\" },
-  { op = \"run\" },
-  { op = \"run\" },
-",
-    lines: "\
-@0 submit 0 job 0 accepted c=2 d=5
-@1 run 0 job 0 c=1 d=5
-@2 run 0 job 0 c=2 d=10
-@3 run 0 job 0 done 6 c=1 d=10
-",
-};
-
 const LONG_PERIOD: Row = Row {
     name: "the longest period",
     head: SOFT,
@@ -84,16 +66,19 @@ const TWO_SERVERS: Row = Row {
 ",
 };
 
-const SOFT_RENEWED: Row = Row {
-    name: "a soft server is renewed where its budget is just as much as the time allows",
-    head: SOFT,
-    server: "{ budget = 2, period = 4 }",
-    step: "
+/// A job comes while the server's budget is just as much as the time to its deadline allows.
+const ARRIVAL_AT_THE_LIMIT: &str = "
   { op = \"submit\", server = 0, job = \"sum\", units = [1] },
   { op = \"run\" },
   { op = \"advance\", ticks = 1 },
   { op = \"submit\", server = 0, job = \"sum\", units = [1] },
-",
+";
+
+const SOFT_RENEWED: Row = Row {
+    name: "a soft server is renewed by such an arrival",
+    head: SOFT,
+    server: "{ budget = 2, period = 4 }",
+    step: ARRIVAL_AT_THE_LIMIT,
     lines: "\
 @0 submit 0 job 0 accepted c=2 d=4
 @1 run 0 job 0 done 1 c=1 d=4
@@ -106,12 +91,7 @@ const THROTTLED_NOT_RENEWED: Row = Row {
     name: "a throttled server is not",
     head: THROTTLED,
     server: "{ budget = 2, period = 4 }",
-    step: "
-  { op = \"submit\", server = 0, job = \"sum\", units = [1] },
-  { op = \"run\" },
-  { op = \"advance\", ticks = 1 },
-  { op = \"submit\", server = 0, job = \"sum\", units = [1] },
-",
+    step: ARRIVAL_AT_THE_LIMIT,
     lines: "\
 @0 submit 0 job 0 accepted c=2 d=4
 @1 run 0 job 0 done 1 c=1 d=4
@@ -347,7 +327,6 @@ fn files_give_their_lines(rt: HostRuntime) -> Result<(), Fail> {
     let alloc = rt.alloc();
     for row in &[
         NO_STEP,
-        SOFT_POSTPONED,
         LONG_PERIOD,
         TWO_SERVERS,
         SOFT_RENEWED,
