@@ -55,9 +55,11 @@ pub returns-in_err-push : goal.returns-in_err-push
 returns-in_err-push g c =
     let p = err_from_is_err_and c.from_residual-in_err-push.result c.from_residual-in_err-push.ensures.1 in
     let failed = c.in_err-push.ensures.err in
-    rw (p.1, p.2) (failed.0 ∙ ap (λ n. n + 1) c.loop-step.invariant.none_failed,
-        pushed_front _ c.as_str.result.now c.in-Some.step _ c.in-Some.ensures.steps.0 c.loop-step.invariant.so_far
-        (λ M agrees. c.as_str.ensures.value ∙ c.in-Ok-take_step.ensures.line M agrees) failed.1)
+    rw (p.1, p.2) (
+      failed.0 ∙ ap (λ n. n + 1) c.loop-step.invariant.none_failed,
+      pushed_front _ c.as_str.result.now c.in-Some.step _ c.in-Some.ensures.steps.0 c.loop-step.invariant.so_far
+          (λ M agrees. c.as_str.ensures.value ∙ c.in-Ok-take_step.ensures.line M agrees) failed.1,
+    )
 
 pub returns-in_err-flush-2 : goal.returns-in_err-flush-2
 returns-in_err-flush-2 g c =
