@@ -1,22 +1,19 @@
 -- Clients that send the jobs of a file, and the results of all of them.
-use Rattle.std.proofs.Common.{◌≡◌, ℕ, ◌+◌, ◌<◌, ◌≤◌, List, [], ◌∷◌, ◌++◌, length, map, refl, sym, ap, ap₂, ◌∙◌, subst, arith}
+use Rattle.std.proofs.Common.{◌≡◌, ℕ, ◌+◌, List, [], ◌∷◌, ◌++◌, length, map, refl, sym, ap, ap₂, ◌∙◌, arith}
 use Rattle.std.specs.List.{All, range_with_len}
-use Rattle.std.proofs.lemmas.Bool.{false≢true}
-use Rattle.std.proofs.lemmas.List.{length-map, map-append}
-use Rattle.std.proofs.lemmas.List.FromFn.{length-range_with_len, map-range_with_len_more}
+use Rattle.std.proofs.lemmas.List.{map-append}
+use Rattle.std.proofs.lemmas.List.FromFn.{map-range_with_len_more}
 use Rattle.std.proofs.lemmas.List.Elements.{All-head, All-tail, All-weaker}
 use Rattle.std.proofs.lemmas.Simd.{map-map}
 use Rattle.cbs_job.specs.Work.{Meaning, whole}
 use Rattle.cbs_job.specs.declared.work.Work.{Ghosts}
 use Rattle.cbs_core.specs.Agreement.{Agrees}
 use Rattle.cbs_core.specs.History.{Setup}
-use Rattle.cbs_house.specs.Clients.{server_of, sent_by}
-use Rattle.cbs_house.specs.Feeds.{client_of, left, all_jobs, IsOrderly, KeepsFeeds}
-use Rattle.cbs_house.specs.Houses.{core_of, rings_of, results_of}
-use Rattle.cbs_house.specs.Messages.{jobs_among, has_end}
+use Rattle.cbs_house.specs.Clients.{server_of}
+use Rattle.cbs_house.specs.Feeds.{client_of, left, all_jobs, KeepsFeeds}
+use Rattle.cbs_house.specs.Houses.{core_of, results_of}
 use Rattle.cbs_house.specs.Opened.{IsUnused}
-use Rattle.cbs_house.specs.Ringed.{IsOpened}
-use Rattle.cbs_house.specs.Rounds.{Ready, IsServed, ServesOn}
+use Rattle.cbs_house.specs.Rounds.{IsServed, ServesOn}
 use Rattle.cbs_house.specs.declared.client.Client.{Client}
 use Rattle.cbs_house.specs.declared.feed.Feed.{Feed}
 use Rattle.cbs_house.specs.declared.house.House.{House}

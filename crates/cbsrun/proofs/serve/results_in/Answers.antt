@@ -1,4 +1,4 @@
-use Rattle.std.proofs.Common.{◌∙◌, ap}
+use Rattle.std.proofs.Common.{◌∙◌}
 use Rattle.cbs_house.specs.Houses.{results_of}
 use Rattle.cbsrun.proofs.Sending.{results_more}
 use Rattle.cbsrun.proofs.serve.results_in.Goals as goal

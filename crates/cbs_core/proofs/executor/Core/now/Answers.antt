@@ -1,5 +1,3 @@
-use Rattle.std.proofs.Common.{◌≤◌}
-use Rattle.cbs_rules.specs.declared.server_state.TheConstants.{LIMIT}
 use Rattle.cbs_core.proofs.executor.Core.now.Goals as goal
 
 pub returns-clause-now : goal.returns-clause-now
