@@ -18,6 +18,9 @@ use Rattle.cbs_house.specs.Ringed.{rings_in, received_in}
 use Rattle.cbs_house.specs.Steps.{HasHistory}
 use Rattle.cbs_house.proofs.Messages.{jobs_among-job, jobs_among-end, has_end-job, has_end-end, end_is_last-more}
 
+pub same_shelf : (h : Shelved) → SameShelf h h
+same_shelf h = record { results = refl; announced = refl; spare = λ l. l }
+
 module _ {W : Type 0} (work : Meaning W) (h h' : Held W) (ms ms' : List (Message W)) (rs rs' : List ℕ) (k : KeepsServer work h ms rs) where
   pub keeps_same : SameJobs h h' → ms' ≡ ms → rs' ≡ rs → KeepsServer work h' ms' rs'
   keeps_same s e f = rw (e, f) (record {
@@ -118,13 +121,13 @@ module _ {W A : Type 0} (work : Meaning W) (core core' : CoreHeld W) (rings ring
   -- a run that finished no job
   pub housed_ran : (r : Ran) → ((c : Completion) → r ≡ ran.Done c → ⊥) → DoesRun work r core core' → length core'.servers ≡ length core.servers → HasHistory work core'
       → rings_in rings' ≡ rings_in rings → ((s : ℕ) → received_in rings' s ≡ received_in rings s) → shelves' ≡ shelves → Housed work core' rings' shelves'
-  housed_ran ran.Idle n d c history r m e = housed_all r (ap length e) c history (λ s. rw d (record { jobs = refl; accepted = refl; finished = refl; closed = refl })) m (λ s. rw e (record { results = refl; announced = refl }))
-  housed_ran ran.ClockEnd n d c history r m e = housed_all r (ap length e) c history (λ s. rw d (record { jobs = refl; accepted = refl; finished = refl; closed = refl })) m (λ s. rw e (record { results = refl; announced = refl }))
+  housed_ran ran.Idle n d c history r m e = housed_all r (ap length e) c history (λ s. rw d (record { jobs = refl; accepted = refl; finished = refl; closed = refl })) m (λ s. rw e (same_shelf _))
+  housed_ran ran.ClockEnd n d c history r m e = housed_all r (ap length e) c history (λ s. rw d (record { jobs = refl; accepted = refl; finished = refl; closed = refl })) m (λ s. rw e (same_shelf _))
   housed_ran (ran.Unit t q) n d c history r m e =
       housed_one t r (ap length e) c history
       (λ l. keeps_unit work (held_at core.servers t) (held_at core'.servers t) (received_in rings t) (received_in rings' t) (shelf_at shelves t).results (shelf_at shelves' t).results (h.servers t l) q d.0 (m t) (rw e refl))
       (λ l. rw e (h.announced t l ∙ sym d.0.accepted))
-      d.1 (λ s ne. m s) (λ s ne. rw e (record { results = refl; announced = refl }))
+      d.1 (λ s ne. m s) (λ s ne. rw e (same_shelf _))
   housed_ran (ran.Done x) n d c history r m e = absurd (n x refl)
 
   -- a finished job is the next one whose result is awaited

@@ -19,10 +19,11 @@ no_shelf = record { results = []; announced = 0; spare = 0 }
 abbrev pub shelf_at : List Shelved → ℕ → Shelved
 shelf_at c s = get_or c s no_shelf
 
--- results and announcements of a server are as before
+-- results and announcements of a server are as before, and where one more could be announced with no allocation, it still can
 pub record SameShelf (old new : Shelved) : Type 0 where
   pub results : new.results ≡ old.results
   pub announced : new.announced ≡ old.announced
+  pub spare : 0 < old.spare → 0 < new.spare
 
 -- results and announcements of every server but s are as before
 abbrev pub OtherShelvesSame : ℕ → List Shelved → List Shelved → Type 0
@@ -37,10 +38,11 @@ pub record Announces (old new : Shelved) : Type 0 where
   pub results : new.results ≡ old.results
   pub announced : new.announced ≡ old.announced + 1
 
--- a result was taken, behind the others
+-- a result was taken, behind the others, and where one more could be announced with no allocation, it still can
 pub record TakesResult (result : ℕ) (old new : Shelved) : Type 0 where
   pub results : new.results ≡ old.results ++ result ∷ []
   pub announced : new.announced ≡ old.announced
+  pub spare : 0 < old.spare → 0 < new.spare
 
 -- a completion was announced and not taken
 abbrev pub IsWaiting : Shelved → Type 0

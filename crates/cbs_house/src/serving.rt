@@ -46,6 +46,7 @@ pub fn serve<R: Threads + Sync, G: Gate + Sync, W: Work + Send>(
     ensures feeds { KeepsFeeds feeds.old feeds.new }
     ensures steps { ServesOn W.meaning house.old house.new }
     ensures served { OnOk result (All (IsServed W.meaning house.new) feeds.new) }
+    ensures drained { OnOk result (HoldsNoJob (core_of house.new)) }
     ensures stops { IfErr result (λ error. Stops error house.new) }
 {
     for _ in 0..rounds_for(feeds) {

@@ -1,6 +1,6 @@
 use Rattle.std.proofs.Common.{◌∙◌, ◌∷◌, [], refl, sym, arith}
 use Rattle.cbs_core.specs.declared.step.Step.TheVariants.{Submit, Close}
-use Rattle.cbs_house.proofs.Keeping.{housed_one, keeps_job, keeps_end}
+use Rattle.cbs_house.proofs.Keeping.{housed_one, keeps_job, keeps_end, same_shelf}
 use Rattle.cbs_house.proofs.Making.{made_job, made_end, on_ok, not_refused}
 use Rattle.cbs_house.proofs.Stepping.{history_kept}
 use Rattle.cbs_house.proofs.house.House.take_next.Goals as goal
@@ -37,7 +37,7 @@ invariant_of-self-in-End g c =
           (history_kept work old.core c.close.new.self (Close s ∷ []) h.history k.state)
           (λ l. keeps_end work _ _ _ _ _ _ (h.servers s l) done.0 c.requires.place.unclosed t.received refl)
           (λ l. h.announced s l ∙ sym done.0.accepted)
-          done.1 (λ r ne. (t.others r ne).0) (λ r ne. record { results = refl; announced = refl });
+          done.1 (λ r ne. (t.others r ne).0) (λ r ne. same_shelf _);
     }
 
 pub unreachable-requires-in_default-close : goal.unreachable-requires-in_default-close
