@@ -30,7 +30,7 @@ pub record CoreHeld (W : Type 0) : Type 0 where
 abbrev pub room_of : List ℕ → ℕ → ℕ
 room_of rooms s = get_or rooms s 0
 
--- no server loses its room
+-- a server that had room for a job has room for one still
 abbrev pub KeepsRoom : List ℕ → List ℕ → Type 0
 KeepsRoom old new = (t : ℕ) → 0 < room_of old t → 0 < room_of new t
 

@@ -97,7 +97,8 @@ fn steps_of(alloc: Global, servers: u64, entries: &[Value]) -> Result<Vec<Step<F
 /// The bytes are parsed as TOML; then the top table is tested, then each entry of `server` in order,
 /// then each entry of `step`. In each table the tests are, over all its keys: a key that it may not
 /// have, a key that is missing, a value of the wrong type, a value out of range. An entry of
-/// `server` is then admitted to the plan. [`FileKind::OutOfMemory`] may come at any time, and stands
+/// `server` is then admitted to the plan. The `format` of the top table, and the `op` of a step, are
+/// tested before the other keys. [`FileKind::OutOfMemory`] may come at any time, and stands
 /// at the top.
 #[tactic(auto, unfolding(crate::specs::Files::file))]
 pub fn read_file(alloc: Global, bytes: &[u8]) -> Result<TaskFile, FileFault>

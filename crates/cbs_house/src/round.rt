@@ -48,6 +48,7 @@ pub fn serve_round<R: Threads + Sync, G: Gate + Sync, W: Work + Send>(
     ensures ready { Ready house.new feeds.new }
     ensures feeds { KeepsFeeds feeds.old feeds.new }
     ensures sent { all_sent feeds.new ≡ all_sent feeds.old + result.sent }
+    ensures most { result.sent ≤ turns * length feeds.old }
     ensures took { Moves W.meaning MayRound house.old house.new result.took }
 {
     let mut servers = [0u16; 64];
@@ -81,13 +82,14 @@ fn both_sides<R: Threads + Sync, G: Gate + Sync, W: Work + Send>(
     requires orderly { All IsOrderly feeds.old }
     ensures feeds { KeepsFeeds feeds.old feeds.new }
     ensures sent { all_sent feeds.new ≡ all_sent feeds.old + result.0 }
+    ensures most { result.0 ≤ turns * length feeds.old }
     ensures took { Moves W.meaning MayRound house.old house.new result.1 }
 {
     join_mut(
         rt,
         &mut || -> u64
             requires { IsSync R.row × IsSync G.row × IsSend W.row × (length feeds.now ≤ 64) × (turns ≤ 1000000000) × All IsOrderly feeds.now }
-            ensures { KeepsFeeds feeds.entry.now feeds.exit.now × (all_sent feeds.exit.now ≡ all_sent feeds.entry.now + result) }
+            ensures { KeepsFeeds feeds.entry.now feeds.exit.now × (all_sent feeds.exit.now ≡ all_sent feeds.entry.now + result) × (result ≤ turns * length feeds.entry.now) }
         { send_all(rt, gate, turns, feeds) },
         &mut || -> u64
             requires { turns ≤ 1000000000 }

@@ -45,7 +45,7 @@ pub fn send_all<R: Threads + Sync, G: Gate + Sync, W: Work + Send>(
     requires orderly { All IsOrderly feeds.old }
     ensures kept { KeepsFeeds feeds.old feeds.new }
     ensures count { all_sent feeds.new ≡ all_sent feeds.old + result }
-    ensures most { result ≤ 1000000000 * length feeds.old }
+    ensures most { result ≤ turns * length feeds.old }
 {
     if feeds.len() < 2 {
         return match feeds.first_mut() {
@@ -73,17 +73,17 @@ fn send_both<R: Threads + Sync, G: Gate + Sync, W: Work + Send>(
     requires orderly { All IsOrderly front.old × All IsOrderly back.old }
     ensures kept { KeepsFeeds front.old front.new × KeepsFeeds back.old back.new }
     ensures count { (all_sent front.new ≡ all_sent front.old + result.0) × (all_sent back.new ≡ all_sent back.old + result.1) }
-    ensures most { (result.0 ≤ 1000000000 * length front.old) × (result.1 ≤ 1000000000 * length back.old) }
+    ensures most { (result.0 ≤ turns * length front.old) × (result.1 ≤ turns * length back.old) }
 {
     join_mut(
         rt,
         &mut || -> u64
             requires { IsSync R.row × IsSync G.row × IsSend W.row × (length front.now ≤ 64) × (turns ≤ 1000000000) × All IsOrderly front.now }
-            ensures { KeepsFeeds front.entry.now front.exit.now × (all_sent front.exit.now ≡ all_sent front.entry.now + result) × (result ≤ 1000000000 * length front.entry.now) }
+            ensures { KeepsFeeds front.entry.now front.exit.now × (all_sent front.exit.now ≡ all_sent front.entry.now + result) × (result ≤ turns * length front.entry.now) }
         { send_all(rt, gate, turns, front) },
         &mut || -> u64
             requires { IsSync R.row × IsSync G.row × IsSend W.row × (length back.now ≤ 64) × (turns ≤ 1000000000) × All IsOrderly back.now }
-            ensures { KeepsFeeds back.entry.now back.exit.now × (all_sent back.exit.now ≡ all_sent back.entry.now + result) × (result ≤ 1000000000 * length back.entry.now) }
+            ensures { KeepsFeeds back.entry.now back.exit.now × (all_sent back.exit.now ≡ all_sent back.entry.now + result) × (result ≤ turns * length back.entry.now) }
         { send_all(rt, gate, turns, back) },
     )
 }

@@ -10,8 +10,8 @@ use Rattle.cbs_rules.specs.declared.mode.Mode.TheVariants.{Soft, Throttled}
 abbrev pub clock_end : ℕ
 clock_end = 1000000000
 
--- the latest deadline to which a period may still be added, in ticks: it is past that of every server while the clock is at
--- most at its end, and with a period it fits 64 bits
+-- the latest deadline to which a period may still be added, in ticks: no unit before the clock's end and no replenishment
+-- starts from a later one, and with a period it fits 64 bits
 abbrev pub latest_deadline : ℕ
 latest_deadline = 1000000001000000000
 

@@ -6,7 +6,7 @@ pub enum Mode {
     /// It gets a whole budget at once, and its deadline is postponed by a period: it may use time that
     /// nobody else needs. The Constant Bandwidth Server of Abeni and Buttazzo, RTSS 1998.
     Soft,
-    /// It waits until its deadline, and is then replenished: it never gets more than its share.
-    /// Modelled on Linux's SCHED_DEADLINE.
+    /// It waits until its deadline, and is then replenished: it gets one budget for each deadline, and
+    /// no more before that deadline has come. Modelled on Linux's SCHED_DEADLINE.
     Throttled,
 }

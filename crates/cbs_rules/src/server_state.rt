@@ -10,8 +10,8 @@ use std::marker::Model;
 /// The clock's end, in ticks.
 pub const LIMIT: u64 = 1_000_000_000;
 
-/// The latest deadline to which a period may still be added, in ticks. No server of an executor
-/// passes it while the clock is at most [`LIMIT`].
+/// The latest deadline to which a period may still be added, in ticks. No unit and no replenishment
+/// of an executor starts from a later one.
 pub const MAX_DEADLINE: u64 = 1_000_000_001_000_000_000;
 
 /// Budget, deadline and the mark 'throttled' of one server, with its reservation.

@@ -10,7 +10,7 @@ use thiserror::Error;
 /// Why a run ends early.
 #[derive(Clone, Copy, Debug, PartialEq, Eq, Error)]
 pub enum RunError {
-    /// An allocation was refused: for the core or the house, a job, a result or a line.
+    /// An allocation was refused: for the command line, the core or the house, a job, a result or a line.
     #[error("out of memory while running")]
     OutOfMemory,
     /// A write failed, or took no byte.

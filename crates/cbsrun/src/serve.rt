@@ -96,7 +96,8 @@ fn results_of<R: Threads + Sync>(
 
 /// Serves the submits of a task file, and writes the results of each server.
 ///
-/// Nothing is written but the whole text, or a front of it where the write fails.
+/// Refuses with [`RunError::OutOfMemory`], [`RunError::ClockEnd`] and [`RunError::Stalled`], where
+/// nothing is written, and with [`RunError::WriteFault`], where a front of the text is.
 pub fn serve_file<R: Threads + Sync, O: ByteOutput>(
     rt: &R,
     alloc: Global,

@@ -1,5 +1,6 @@
 //! The program's parts, run on worked examples.
 
+mod errors;
 mod fakes;
 mod files;
 mod serving;

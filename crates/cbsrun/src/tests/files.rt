@@ -212,7 +212,7 @@ fn a_file_holds_what_it_spells(rt: HostRuntime) -> Result<(), Fail> {
 }
 
 #[test]
-fn faults_say_what_is_wrong(rt: HostRuntime) -> Result<(), Fail> {
+fn a_fault_has_its_place(rt: HostRuntime) -> Result<(), Fail> {
     let alloc = rt.alloc();
     let fault = match read_file(alloc, b"format = 2") {
         Ok(_) => None,
