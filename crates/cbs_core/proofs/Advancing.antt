@@ -1,5 +1,5 @@
 -- One jump is its ticks.
-use Rattle.std.proofs.Common.{◌≡◌, ℕ, zero, suc, ◌+◌, ◌*◌, ◌≤◌, ◌<◌, List, [], ◌∷◌, map, refl, ap, ◌∙◌, arith, true, false, leb}
+use Rattle.std.proofs.Common.{◌≡◌, ℕ, zero, suc, ◌+◌, ◌*◌, ◌≤◌, ◌<◌, List, [], ◌∷◌, map, refl, ap, ◌∙◌, arith, true, leb}
 use Rattle.std.proofs.lemmas.Bool.Decides.{nat_tests}
 use Rattle.std.proofs.lemmas.List.{length-map}
 use Rattle.cbs_job.specs.Work.{Meaning}
@@ -62,8 +62,6 @@ IsCore-jump core n servers rooms ok late e = rw e record {
 }
 
 module _ {W : Type 0} (work : Meaning W) (core : CoreHeld W) (backlog : ℕ) (w : World W) (agrees : AgreesWorld work core backlog w) (n : ℕ) where
-  pub advance_refused : LIMIT < core.clock + n → (reply_to work backlog w (Advance n) ≡ reply.Refused error.ClockEnd) × (next work backlog w (Advance n) ≡ w)
-  advance_refused late = let f : leb (w.now + n) LIMIT ≡ false = let c = agrees.clock in grind (arith, nat_tests) in (rw f, rw f)
 
   within : core.clock + n ≤ LIMIT → leb (w.now + n) LIMIT ≡ true
   within early = let c = agrees.clock in grind (arith, nat_tests)

@@ -17,10 +17,6 @@ use Rattle.cbs_core.specs.Holding.{is_held_ready, held_rank, held_with_job, held
 use Rattle.cbs_core.specs.declared.reply.Ran.TheVariants as ran
 use Rattle.cbs_core.proofs.Finished.{count_done, count_done-le, count_done_within, count_done_beyond, count_done-is}
 
-length-with_first : (n : ℕ) (xs : List ℕ) → length (with_first n xs) ≡ length xs
-length-with_first n [] = refl
-length-with_first n (x ∷ xs) = refl
-
 -- what stands at the front of the rest
 need_next : {W : Type 0} (f : W → ℕ) (xs : List W) (k : ℕ) (y : W) (ys : List W) → drop k xs ≡ y ∷ ys → sum_by f (take (suc k) xs) ≡ sum_by f (take k xs) + f y
 need_next f [] zero y ys e = cc

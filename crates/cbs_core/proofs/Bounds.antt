@@ -1,5 +1,5 @@
 -- Deadlines and counts stay within their limits.
-use Rattle.std.proofs.Common.{◌≡◌, ℕ, ◌+◌, ◌*◌, ◌^◌, ◌≤◌, ◌<◌, List, [], ◌∷◌, length, map, arith, eqb, inl, inr}
+use Rattle.std.proofs.Common.{◌≡◌, ℕ, ◌+◌, ◌*◌, ◌≤◌, ◌<◌, List, [], ◌∷◌, length, map, arith, eqb, inl, inr}
 use Rattle.std.proofs.lemmas.Bool.Decides.{nat_tests}
 use Rattle.std.proofs.lemmas.Bool.{cases_Bool}
 use Rattle.std.proofs.lemmas.List.{length-map}
@@ -9,12 +9,12 @@ use Rattle.cbs_rate.specs.Rate.{Rate}
 use Rattle.cbs_rules.specs.Rules.{State, after_unit, after_replenishment}
 use Rattle.cbs_rules.specs.declared.mode.Mode.{Mode}
 use Rattle.cbs_rules.specs.declared.mode.Mode.TheVariants.{Soft, Throttled}
-use Rattle.cbs_rules.specs.declared.server_state.TheConstants.{LIMIT, MAX_DEADLINE}
+use Rattle.cbs_rules.specs.declared.server_state.TheConstants.{LIMIT}
 use Rattle.cbs_core.specs.Lists.{changed_at}
-use Rattle.cbs_core.specs.Held.{Held, CoreHeld, held_at, no_held}
+use Rattle.cbs_core.specs.Held.{Held, CoreHeld}
 use Rattle.cbs_core.specs.Queued.{jobs_run}
 use Rattle.cbs_core.specs.Holding.{held_with_unit, held_with_replenishment, IsBounded, IsCore}
-use Rattle.cbs_core.proofs.Lists.{All_get, length-changed_at, AllByRecursion-changed, AllByRecursion-map}
+use Rattle.cbs_core.proofs.Lists.{length-changed_at, AllByRecursion-changed, AllByRecursion-map}
 
 pub deadline-consumed-le : (mode : Mode) (r : Rate) (s : State) → (after_unit mode r s).deadline ≤ s.deadline + r.period
 deadline-consumed-le Soft r s = grind (arith, nat_tests)
@@ -77,10 +77,3 @@ IsCore-run work core s servers rooms ok early e = rw e record {
   clock = omega arith;
   bounded = run_bounded work core.backlog core.clock core.servers s ok.bounded;
 }
-
--- a period may be added to a deadline before the clock's end, and another job counted as finished
-pub room_to_run : {W : Type 0} (core : CoreHeld W) (s : ℕ) → IsCore core → core.clock < LIMIT → s < length core.servers
-    → ((held_at core.servers s).state.deadline ≤ MAX_DEADLINE) × ((held_at core.servers s).finished + 1 < 2 ^ 64)
-room_to_run core s ok early lt =
-    let b = All_get (IsBounded core.backlog core.clock) core.servers s no_held ok.bounded lt in
-    (let e = b.early in omega arith, let f = b.few_done in omega arith)

@@ -1,39 +1,19 @@
 -- One step after another.
-use Rattle.std.proofs.Common.{◌≡◌, ℕ, List, [], ◌∷◌, ◌++◌, refl, ap, ◌∙◌, true, false, Result, Ok, Err, inl, inr, append-nil}
-use Rattle.std.proofs.lemmas.Bool.{cases_Bool}
+use Rattle.std.proofs.Common.{◌≡◌, ℕ, List, [], ◌∷◌, ◌++◌, refl, ◌∙◌, Result, Ok, Err, append-nil}
 use Rattle.cbs_job.specs.Work.{Meaning}
-use Rattle.cbs_core.specs.History.{History, ◌⊕◌, reply_in}
+use Rattle.cbs_core.specs.History.{History}
 use Rattle.cbs_core.specs.Agreement.{Agrees}
-use Rattle.cbs_core.specs.Replies.{submitted, lacks_memory, IsAccepted, is_lack, grown, Answers, grown_by, AnswersAll}
+use Rattle.cbs_core.specs.Replies.{submitted, lacks_memory, is_lack, grown, Answers, grown_by, AnswersAll}
 use Rattle.cbs_core.specs.Held.{CoreHeld}
 use Rattle.cbs_core.specs.declared.step.Step.{Step}
 use Rattle.cbs_core.specs.declared.reply.Reply.{Reply}
 use Rattle.cbs_core.specs.declared.reply.SubmitRefused.{SubmitRefused}
 use Rattle.cbs_core.specs.declared.error.CoreError.TheVariants as error
-use Rattle.cbs_core.specs.declared.step.Step.TheVariants.{Submit}
 
 module _ {W : Type 0} (work : Meaning W) where
   lack_is : (r : Result ℕ (SubmitRefused W)) → is_lack (submitted r) ≡ lacks_memory r
   lack_is (Ok q) = refl
   lack_is (Err e) = refl
-
-  pub submit_answers : (M : History W) (s : ℕ) (job : W) (r : Result ℕ (SubmitRefused W))
-      → (lacks_memory r ≡ false → submitted r ≡ reply_in work M (Submit s job))
-      → (lacks_memory r ≡ true → r ≡ Err (record { error = error.OutOfMemory; task = job }))
-      → (lacks_memory r ≡ true → IsAccepted (reply_in work M (Submit s job)))
-      → Answers work M (Submit s job) (submitted r)
-  submit_answers M s job r h i j = elim (cases_Bool (lacks_memory r)) [
-    | inl t ↦ rw (lack_is r, t) (ap submitted (i t), j t)
-    | inr f ↦ rw (lack_is r, f) (h f)
-  ]
-
-  pub submit_grown : (core : CoreHeld W) (M : History W) (s : ℕ) (job : W) (r : Result ℕ (SubmitRefused W))
-      → (lacks_memory r ≡ false → Agrees work core (M ⊕ Submit s job)) → (lacks_memory r ≡ true → Agrees work core M)
-      → Agrees work core (grown M (Submit s job) (submitted r))
-  submit_grown core M s job r h i = elim (cases_Bool (lacks_memory r)) [
-    | inl t ↦ rw (lack_is r, t) (i t)
-    | inr f ↦ rw (lack_is r, f) (h f)
-  ]
 
   pub AnswersAll-push : (M : History W) (xs : List (Step W)) (rs : List (Reply W)) (x : Step W) (r : Reply W)
       → AnswersAll work M xs rs → Answers work (grown_by M xs rs) x r → AnswersAll work M (xs ++ x ∷ []) (rs ++ r ∷ [])

@@ -1,6 +1,6 @@
 -- A submit keeps agreement.
-use Rattle.std.proofs.Common.{◌≡◌, ℕ, zero, suc, ◌+◌, ◌^◌, ◌≤◌, ◌<◌, List, [], ◌∷◌, length, get_or, refl, ap, sym, ◌∙◌, arith, true, false, Bool, leb, Option, Some, None, inl, inr, length-append, ◌||◌, Result, Ok, Err}
-use Rattle.std.specs.Prelude.{if◌then◌else◌, IfErr}
+use Rattle.std.proofs.Common.{◌≡◌, ℕ, zero, suc, ◌+◌, ◌^◌, ◌≤◌, ◌<◌, List, [], ◌∷◌, length, get_or, refl, ap, sym, ◌∙◌, arith, true, false, Bool, leb, Option, Some, None, inl, inr, length-append, ◌||◌}
+use Rattle.std.specs.Prelude.{if◌then◌else◌}
 use Rattle.std.proofs.lemmas.Bool.{cases_lt, cases_Bool}
 use Rattle.std.proofs.lemmas.Bool.Decides.{nat_tests}
 use Rattle.std.specs.List.{AllZip}
@@ -8,9 +8,9 @@ use Rattle.cbs_job.specs.Work.{Meaning}
 use Rattle.cbs_rules.specs.Rules.{State, Terms, after_arrival}
 use Rattle.cbs_core.specs.Lists.{changed_at}
 use Rattle.cbs_core.specs.Accounts.{Account, need, no_account, with_job}
-use Rattle.cbs_core.specs.History.{History, World, account, refusal_at, submit_refusal, after_submit, next, submit_reply, reply_to}
-use Rattle.cbs_core.specs.Agreement.{AgreesServer, AgreesWorld, Agrees}
-use Rattle.cbs_core.specs.Replies.{IsAccepted, RoomAnswers}
+use Rattle.cbs_core.specs.History.{World, account, refusal_at, submit_refusal, after_submit, next, submit_reply, reply_to}
+use Rattle.cbs_core.specs.Agreement.{AgreesServer, AgreesWorld}
+use Rattle.cbs_core.specs.Replies.{IsAccepted}
 use Rattle.cbs_core.specs.Errors.{is_out_of_memory}
 use Rattle.cbs_core.specs.Held.{Held, CoreHeld, held_at, no_held}
 use Rattle.cbs_core.specs.Holding.{held_with_job, held_refusal_at, held_refusal, IsBounded, IsCore}
@@ -95,10 +95,6 @@ pub refusal_same : {W : Type 0} (work : Meaning W) (core : CoreHeld W) (backlog 
     → o ≡ held_refusal core.backlog core.servers s → submit_refusal work backlog w.accounts s ≡ o
 refusal_same work core backlog w agrees s o e = sym (e ∙ (rw agrees.same_backlog (refusal_agrees work backlog core.servers w.accounts s agrees.servers)))
 
-pub made_or_not : (r : Result (Unit {0}) CoreError) → IfErr r (λ e. e ≡ error.OutOfMemory) → RoomAnswers None r
-made_or_not (Ok u) named = inl refl
-made_or_not (Err e) named = inr (ap Err named)
-
 module _ {W : Type 0} (work : Meaning W) (core : CoreHeld W) (backlog : ℕ) (w : World W) (agrees : AgreesWorld work core backlog w) (s : ℕ) (job : W)
     (o : Option CoreError) (e : o ≡ held_refusal core.backlog core.servers s) where
   same_refusal : submit_refusal work backlog w.accounts s ≡ o
@@ -129,7 +125,3 @@ module _ {W : Type 0} (work : Meaning W) (core : CoreHeld W) (backlog : ℕ) (w 
 
   pub submit_accepted : o ≡ None → IsAccepted (reply_to work backlog w (Submit s job))
   submit_accepted none = (length (account w.accounts s).accepted, submit_replied ∙ ap (submit_reply w s job) none)
-
--- agreement does not look at the rooms
-pub Agrees-rooms : {W : Type 0} (work : Meaning W) (core later : CoreHeld W) (M : History W) → later ≡ record core { rooms = later.rooms } → Agrees work core M → Agrees work later M
-Agrees-rooms work core later M e agrees = rw e record { world = record { same_backlog = agrees.world.same_backlog; clock = agrees.world.clock; servers = agrees.world.servers } }

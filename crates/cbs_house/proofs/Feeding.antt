@@ -120,9 +120,6 @@ module _ {W A : Type 0} {g : Ghosts W} where
   }
 
 module _ {W A : Type 0} {g : Ghosts W} where
-  -- a client of ready feeds was opened with the house
-  pub ready_at : (h : House W A g) (fs : List (Feed W A g)) (i : ℕ) (d : Feed W A g) → Ready h fs → i < length fs → IsOpened (rings_of h) (get_or fs i d).client
-  ready_at h fs i d r l = r.opened i d l
 
   -- one feed is changed and kept, and the house keeps its rings
   pub ready_set : (h h' : House W A g) (fs : List (Feed W A g)) (i : ℕ) (f d : Feed W A g) → rings_of h' ≡ rings_of h → i < length fs → KeepsFeed (get_or fs i d) f → Ready h fs → Ready h' (set fs i f)

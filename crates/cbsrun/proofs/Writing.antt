@@ -53,10 +53,6 @@ waits_too old now waiting text part so_far = (so_far.0, so_far.1, sym (append_as
 pub all_waits : (old : Option (List ℕ)) (text : List ℕ) → AppendsAllBut old old text text
 all_waits old text = ([], Appends-nothing old, refl)
 
--- the whole text was written
-pub none_waits : (old new : Option (List ℕ)) (text : List ℕ) → Appends old new text → AppendsAllBut old new [] text
-none_waits old new text wrote = (text, wrote, append-nil text)
-
 -- a front of a front
 pub front_more : (old new : Option (List ℕ)) (text part : List ℕ) → AppendsFront old new text → AppendsFront old new (text ++ part)
 front_more old new text part (front, rest, wrote, parts) = (front, rest ++ part, wrote, ap (λ t. t ++ part) parts ∙ append_assoc front rest part)
