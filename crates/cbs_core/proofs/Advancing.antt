@@ -62,7 +62,6 @@ IsCore-jump core n servers rooms ok late e = rw e record {
 }
 
 module _ {W : Type 0} (work : Meaning W) (core : CoreHeld W) (backlog : ℕ) (w : World W) (agrees : AgreesWorld work core backlog w) (n : ℕ) where
-
   within : core.clock + n ≤ LIMIT → leb (w.now + n) LIMIT ≡ true
   within early = let c = agrees.clock in grind (arith, nat_tests)
 

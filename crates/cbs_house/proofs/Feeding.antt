@@ -120,7 +120,6 @@ module _ {W A : Type 0} {g : Ghosts W} where
   }
 
 module _ {W A : Type 0} {g : Ghosts W} where
-
   -- one feed is changed and kept, and the house keeps its rings
   pub ready_set : (h h' : House W A g) (fs : List (Feed W A g)) (i : ℕ) (f d : Feed W A g) → rings_of h' ≡ rings_of h → i < length fs → KeepsFeed (get_or fs i d) f → Ready h fs → Ready h' (set fs i f)
   ready_set h h' fs i f d e l k r = ready_on h h' fs (set fs i f) e (feeds_set fs i f d l k) r
