@@ -135,7 +135,25 @@ impl<W: Work, A: Allocator> Core<W, A> {
                 task,
             });
         }
-        Ok(self.servers.accept(server, self.clock, task))
+        Ok(self.submit_reserved(server, task))
+    }
+
+    /// Gives a job to a server that has room for it, as [`make_room`](Core::make_room) leaves it at
+    /// `Ok`, and answers the job's number among the accepted jobs of the server. It takes no memory.
+    ///
+    /// The server must be there and open, its backlog not full, and room made.
+    #[tactic(auto, using(crate::proofs::Lists::counted))]
+    pub fn submit_reserved(&mut self, server: u16, task: Task<W>) -> u64
+        requires { HasPlace self.old server }
+        ensures reply { (M : History W) → Agrees W.meaning self.old M
+            → Reply.Accepted result ≡ reply_in W.meaning M (Step.Submit server task) }
+        ensures state { (M : History W) → Agrees W.meaning self.old M
+            → Agrees W.meaning self.new (M ⊕ Step.Submit server task) }
+        ensures job { TakesJob task result (held_at self.old.servers server) (held_at self.new.servers server)
+            × OthersSame server self.old.servers self.new.servers }
+        ensures count { length self.new.servers ≡ length self.old.servers }
+    {
+        self.servers.accept(server, self.clock, task)
     }
 
     /// Runs one unit of the job at the front of the chosen server, which takes one tick.
@@ -203,8 +221,23 @@ impl<W: Work, A: Allocator> Core<W, A> {
         if let Some(error) = self.servers.close_refusal(server) {
             return Err(error);
         }
-        self.servers.close(server);
+        self.close_open(server);
         Ok(())
+    }
+
+    /// Closes a server that is there and open, as [`close`](Core::close) does.
+    #[tactic(auto, using(crate::proofs::Lists::counted))]
+    pub fn close_open(&mut self, server: u16)
+        requires within { server < length self.old.servers }
+        requires unclosed { (held_at self.old.servers server).closed ≡ false }
+        ensures reply { (M : History W) → Agrees W.meaning self.old M → Reply.Closed ≡ reply_in W.meaning M (Step.Close server) }
+        ensures state { (M : History W) → Agrees W.meaning self.old M → Agrees W.meaning self.new (M ⊕ Step.Close server) }
+        ensures closed { ClosesServer (held_at self.old.servers server) (held_at self.new.servers server)
+            × OthersSame server self.old.servers self.new.servers }
+        ensures count { length self.new.servers ≡ length self.old.servers }
+        ensures kept { KeepsRoom self.old.rooms self.new.rooms }
+    {
+        self.servers.close(server);
     }
 
     /// The clock, in ticks: 0 to [`LIMIT`].
@@ -294,8 +327,8 @@ impl<W: Work, A: Allocator> Core<W, A> {
         Ok(replies)
     }
 
-    /// Does one step.
-    fn step(&mut self, step: Step<W>) -> Reply<W>
+    /// Does one step, and answers it.
+    pub fn step(&mut self, step: Step<W>) -> Reply<W>
         ensures reply { (M : History W) → Agrees W.meaning self.old M → Answers W.meaning M step result }
         ensures state { (M : History W) → Agrees W.meaning self.old M → Agrees W.meaning self.new (grown M step result) }
         ensures counts { CountsOn (completion_in result) self.old.servers self.new.servers }

@@ -15,30 +15,6 @@ returns-in-Some-clause-state g c = λ M agrees.
     let inside = rw (← c.self.view_is) at agrees.world in
     record { world = rw (close_left g.W.Work.meaning _ M.setup.backlog (world_after g.W.Work.meaning M) inside c.args.server _ c.in-Some.ensures) agrees.world }
 
-pub close-requires : goal.close-requires
-close-requires g c = close_within c.self.inside.servers.held c.args.server (sym c.in_default.ensures)
-
-pub invariant_of-self : goal.invariant_of-self
-invariant_of-self g c = IsCore-shut _ c.args.server _ _ c.self.invariant c.close.ensures.held
-
-pub returns-clause-reply : goal.returns-clause-reply
-returns-clause-reply g c = λ M agrees.
-    let inside = rw (← c.self.view_is) at agrees.world in
-    sym (close_replied g.W.Work.meaning _ M.setup.backlog (world_after g.W.Work.meaning M) inside c.args.server None c.in_default.ensures)
-
-pub returns-clause-state : goal.returns-clause-state
-returns-clause-state g c = λ M agrees.
-    let inside = rw (← c.self.view_is) at agrees.world in
-    record {
-      world = close_agrees g.W.Work.meaning _ M.setup.backlog (world_after g.W.Work.meaning M) inside c.args.server None c.in_default.ensures c.close.new.self.held c.close.new.self.rooms refl
-          (close_within c.self.inside.servers.held c.args.server (sym c.in_default.ensures)) c.close.ensures.held;
-    }
-
-pub returns-clause-closed : goal.returns-clause-closed
-returns-clause-closed g c =
-    rw (← c.self.view_is)
-    (closed_server c.self.inside.servers.held c.close.new.self.held c.args.server (close_within c.self.inside.servers.held c.args.server (sym c.in_default.ensures)) c.close.ensures.held)
-
 pub returns-in-Some-clause-succeeds : goal.returns-in-Some-clause-succeeds
 returns-in-Some-clause-succeeds g c = λ free.
     let refused = c.in-Some.ensures in
