@@ -1,10 +1,10 @@
 -- What is known of one server after some steps. No job is kept as partly run here: there are only counts against sums.
-use Rattle.std.specs.Prelude.{ℕ, ◌+◌, ◌-◌, Bool, true, false, not, ◌&&◌, ◌||◌, leb, ltb, if◌then◌else◌, List, [], ◌∷◌, ◌++◌, length, take, drop}
+use Rattle.std.specs.Prelude.{ℕ, ◌+◌, Bool, true, false, leb, List, [], ◌∷◌, ◌++◌, length, take, drop}
 use Rattle.std.specs.List.{sum_by}
 use Rattle.cbs_job.specs.Work.{Meaning}
-use Rattle.cbs_rules.specs.Rules.{State, Terms, fresh_state, after_arrival, after_unit, after_replenishment}
-use Rattle.cbs_rules.specs.declared.mode.Mode.TheVariants.{Soft}
+use Rattle.cbs_rules.specs.Rules.{State, Terms, fresh_state, after_unit, after_replenishment}
 use Rattle.cbs_core.specs.Lists.{greatest}
+use Rattle.cbs_core.specs.Faces.{Face, no_face, arrived}
 
 -- the mode and reservation that the server was given, the jobs accepted for it, in order, the units that it got,
 -- its budget, deadline and mark, and whether it was closed
@@ -28,17 +28,9 @@ module _ {W : Type 0} where
   abbrev pub unfinished : Meaning W → Account W → List W
   unfinished work a = drop (finished work a) a.accepted
 
-  -- how many accepted jobs are not finished: the backlog of the server
-  abbrev pub backlog_of : Meaning W → Account W → ℕ
-  backlog_of work a = length a.accepted - finished work a
-
-  -- active: an accepted job is not finished. Else the server is idle
-  abbrev pub is_active : Meaning W → Account W → Bool
-  is_active work a = ltb (finished work a) (length a.accepted)
-
-  -- ready: active and not throttled
-  abbrev pub is_ready : Meaning W → Account W → Bool
-  is_ready work a = is_active work a && not a.state.throttled
+  -- what the server shows beside its jobs
+  abbrev pub face_of : Meaning W → Account W → Face
+  face_of work a = record { terms = a.terms; state = a.state; closed = a.closed; accepted = length a.accepted; finished = finished work a }
 
   -- a server at the start
   abbrev pub new_account : Terms → Account W
@@ -46,26 +38,20 @@ module _ {W : Type 0} where
 
   -- what is known where there is no such server
   abbrev pub no_account : Account W
-  no_account = record { terms = record { mode = Soft; reservation = record { budget = 0; period = 0 } }; accepted = []; got = 0; state = fresh_state; closed = true }
+  no_account = record { terms = no_face.terms; accepted = []; got = 0; state = fresh_state; closed = true }
 
-  -- one more job is accepted; the arrival rule applies where the server was idle and not throttled
-  abbrev pub with_job : Meaning W → ℕ → W → Account W → Account W
-  with_job work now job a = record {
-    terms = a.terms;
-    accepted = a.accepted ++ job ∷ [];
-    got = a.got;
-    state = if is_active work a || a.state.throttled then a.state else after_arrival a.terms.mode a.terms.reservation now a.state;
-    closed = a.closed;
-  }
+  -- one more job is accepted
+  abbrev pub account_with_job : Meaning W → ℕ → W → Account W → Account W
+  account_with_job work now job a = record a { accepted = a.accepted ++ job ∷ []; state = arrived now (face_of work a) }
 
   -- one more unit is got, by the unit rule
-  abbrev pub with_unit : Account W → Account W
-  with_unit a = record { terms = a.terms; accepted = a.accepted; got = a.got + 1; state = after_unit a.terms.mode a.terms.reservation a.state; closed = a.closed }
+  abbrev pub account_with_unit : Account W → Account W
+  account_with_unit a = record a { got = a.got + 1; state = after_unit a.terms.mode a.terms.reservation a.state }
 
   -- replenished, if a replenishment is due
-  abbrev pub with_replenishment : ℕ → Account W → Account W
-  with_replenishment now a = record { terms = a.terms; accepted = a.accepted; got = a.got; state = after_replenishment a.terms.reservation now a.state; closed = a.closed }
+  abbrev pub account_with_replenishment : ℕ → Account W → Account W
+  account_with_replenishment now a = record a { state = after_replenishment a.terms.reservation now a.state }
 
   -- closed: no job is accepted from here on
-  abbrev pub with_close : Account W → Account W
-  with_close a = record { terms = a.terms; accepted = a.accepted; got = a.got; state = a.state; closed = true }
+  abbrev pub account_with_close : Account W → Account W
+  account_with_close a = record a { closed = true }

@@ -1,5 +1,5 @@
 -- What a list of steps leaves, and what each step is answered.
-use Rattle.std.specs.Prelude.{ℕ, zero, suc, ◌+◌, eqb, leb, ltb, if◌then◌else◌, List, [], ◌∷◌, length, map, get_or, slice_get, Option, Some, None}
+use Rattle.std.specs.Prelude.{ℕ, zero, suc, ◌+◌, eqb, leb, ltb, if◌then◌else◌, List, [], ◌∷◌, length, map, get_or, Option, Some, None}
 use Rattle.cbs_job.specs.Work.{Meaning, whole}
 use Rattle.cbs_rules.specs.Rules.{clock_end, Terms}
 use Rattle.cbs_core.specs.declared.error.CoreError.{CoreError}
@@ -11,8 +11,9 @@ use Rattle.cbs_core.specs.declared.reply.Ran.TheVariants as ran
 use Rattle.cbs_core.specs.declared.reply.Reply.{Reply}
 use Rattle.cbs_core.specs.declared.reply.Reply.TheVariants as reply
 use Rattle.cbs_core.specs.Lists.{changed_at}
-use Rattle.cbs_core.specs.Choice.{Rank, chosen_among}
-use Rattle.cbs_core.specs.Accounts.{Account, need, finished, backlog_of, is_ready, new_account, no_account, with_job, with_unit, with_replenishment, with_close}
+use Rattle.cbs_core.specs.Choice.{chosen_among}
+use Rattle.cbs_core.specs.Faces.{Face, ranks, submit_refusal, close_refusal}
+use Rattle.cbs_core.specs.Accounts.{Account, need, finished, face_of, new_account, no_account, account_with_job, account_with_unit, account_with_replenishment, account_with_close}
 
 -- the clock, and what is known of each server
 pub record World (W : Type 0) : Type 0 where
@@ -29,21 +30,17 @@ module _ {W : Type 0} where
   abbrev pub account : List (Account W) → ℕ → Account W
   account accounts s = get_or accounts s no_account
 
-  -- what the choice sees of a server
-  abbrev pub rank : Meaning W → Account W → Rank
-  rank work a = record { ready = is_ready work a; deadline = a.state.deadline }
-
-  -- what the choice sees of all servers
-  abbrev pub ranks_of : Meaning W → List (Account W) → List Rank
-  ranks_of work accounts = map (rank work) accounts
+  -- what the servers show beside their jobs
+  abbrev pub faces : Meaning W → World W → List Face
+  faces work w = map (face_of work) w.accounts
 
   -- the chosen server
-  abbrev pub chosen : Meaning W → List (Account W) → Option ℕ
-  chosen work accounts = chosen_among (ranks_of work accounts)
+  abbrev pub chosen : Meaning W → World W → Option ℕ
+  chosen work w = chosen_among (ranks (faces work w))
 
   -- one tick: the clock grows by one, and then each server is replenished that is due
   abbrev pub tick : World W → World W
-  tick w = record { now = w.now + 1; accounts = map (with_replenishment (w.now + 1)) w.accounts }
+  tick w = record { now = w.now + 1; accounts = map (account_with_replenishment (w.now + 1)) w.accounts }
 
   -- n ticks, one after the other
   unfoldable pub ticks : ℕ → World W → World W
@@ -54,52 +51,31 @@ module _ {W : Type 0} where
   abbrev pub start : Setup → World W
   start setup = record { now = 0; accounts = map new_account setup.servers }
 
-  -- why a submit to a server is refused, if it is
-  abbrev pub refusal_at : Meaning W → ℕ → Option (Account W) → Option CoreError
-  refusal_at work backlog None = Some error.NoSuchServer
-  refusal_at work backlog (Some a) =
-      if a.closed then Some error.Closed
-      else if leb backlog (backlog_of work a) then Some error.BacklogFull
-      else None
-
-  -- the same of server s
-  abbrev pub submit_refusal : Meaning W → ℕ → List (Account W) → ℕ → Option CoreError
-  submit_refusal work backlog accounts s = refusal_at work backlog (slice_get accounts s)
-
-  -- why a close of a server is refused, if it is
-  abbrev pub close_refusal_at : Option (Account W) → Option CoreError
-  close_refusal_at None = Some error.NoSuchServer
-  close_refusal_at (Some a) = if a.closed then Some error.Closed else None
-
-  -- the same of server s
-  abbrev pub close_refusal : List (Account W) → ℕ → Option CoreError
-  close_refusal accounts s = close_refusal_at (slice_get accounts s)
-
   -- the server of a Run that runs: the chosen one, if the clock is not at its end
   abbrev pub runner : Meaning W → World W → Option ℕ
-  runner work w = if ltb w.now clock_end then chosen work w.accounts else None
+  runner work w = if ltb w.now clock_end then chosen work w else None
 
   -- what a submit to s leaves, by why it is refused
   abbrev pub after_submit : Meaning W → World W → ℕ → W → Option CoreError → World W
-  after_submit work w s job None = record { now = w.now; accounts = changed_at (with_job work w.now job) w.accounts s }
+  after_submit work w s job None = record w { accounts = changed_at (account_with_job work w.now job) w.accounts s }
   after_submit work w s job (Some e) = w
 
   -- what a Run leaves, by the server that runs: one unit, which takes one tick
   abbrev pub after_run : World W → Option ℕ → World W
   after_run w None = w
-  after_run w (Some s) = tick (record { now = w.now; accounts = changed_at with_unit w.accounts s })
+  after_run w (Some s) = tick (record w { accounts = changed_at account_with_unit w.accounts s })
 
   -- what a Close of s leaves, by why it is refused
   abbrev pub after_closing : World W → ℕ → Option CoreError → World W
-  after_closing w s None = record { now = w.now; accounts = changed_at with_close w.accounts s }
+  after_closing w s None = record w { accounts = changed_at account_with_close w.accounts s }
   after_closing w s (Some e) = w
 
   -- what one more step leaves
   abbrev pub next : Meaning W → ℕ → World W → Step W → World W
-  next work backlog w (Submit s job) = after_submit work w s job (submit_refusal work backlog w.accounts s)
+  next work backlog w (Submit s job) = after_submit work w s job (submit_refusal backlog (faces work w) s)
   next work backlog w Run = after_run w (runner work w)
   next work backlog w (Advance n) = if leb (w.now + n) clock_end then ticks n w else w
-  next work backlog w (Close s) = after_closing w s (close_refusal w.accounts s)
+  next work backlog w (Close s) = after_closing w s (close_refusal (faces work w) s)
 
   -- what a unit of server s is answered: the job at the front got it, and is done where it was the last that it needs
   abbrev pub unit_reply : Meaning W → Account W → ℕ → Ran
@@ -126,10 +102,10 @@ module _ {W : Type 0} where
 
   -- what a step is answered
   abbrev pub reply_to : Meaning W → ℕ → World W → Step W → Reply W
-  reply_to work backlog w (Submit s job) = submit_reply w s job (submit_refusal work backlog w.accounts s)
-  reply_to work backlog w Run = reply.Ran (run_reply work w (chosen work w.accounts))
+  reply_to work backlog w (Submit s job) = submit_reply w s job (submit_refusal backlog (faces work w) s)
+  reply_to work backlog w Run = reply.Ran (run_reply work w (chosen work w))
   reply_to work backlog w (Advance n) = if leb (w.now + n) clock_end then reply.Advanced else reply.Refused error.ClockEnd
-  reply_to work backlog w (Close s) = close_reply (close_refusal w.accounts s)
+  reply_to work backlog w (Close s) = close_reply (close_refusal (faces work w) s)
 
   -- what a list of steps leaves, the newest step first
   abbrev pub after : Meaning W → Setup → List (Step W) → World W
@@ -145,7 +121,7 @@ module _ {W : Type 0} where
   infixl 60 ◌⊕◌
   -- the history M and one more step x
   abbrev pub ◌⊕◌ : History W → Step W → History W
-  M ⊕ x = record { setup = M.setup; steps = x ∷ M.steps }
+  M ⊕ x = record M { steps = x ∷ M.steps }
 
   -- what the history leaves
   abbrev pub world_after : Meaning W → History W → World W

@@ -2,7 +2,8 @@
 use Rattle.std.specs.Prelude.{◌≡◌, ℕ, zero, suc, ◌+◌, ◌≤◌, ◌<◌, Bool, true, ◌||◌, eqb, if◌then◌else◌, List, [], ◌∷◌, ◌++◌, length, map, take, drop, Option, Some, None}
 use Rattle.cbs_job.specs.Work.{Meaning, whole}
 use Rattle.cbs_job.specs.declared.completion.Completion.{Completion}
-use Rattle.cbs_core.specs.Accounts.{Account, finished, is_ready}
+use Rattle.cbs_core.specs.Faces.{Face, is_ready}
+use Rattle.cbs_core.specs.Accounts.{Account, finished}
 use Rattle.cbs_core.specs.History.{History, account, world_after}
 use Rattle.cbs_core.specs.Replies.{IsAccepted}
 use Rattle.cbs_core.specs.declared.step.Step.{Step}
@@ -64,8 +65,8 @@ module _ {W : Type 0} where
   NoneAfterClose s closed (step.Run ∷ xs) (r ∷ rs) = NoneAfterClose s closed xs rs
   NoneAfterClose s closed (step.Advance n ∷ xs) (r ∷ rs) = NoneAfterClose s closed xs rs
 
-  -- the budget of a server: never more than its reservation's; some while it is ready, and none while it is throttled
-  pub record IsWithinBudget (work : Meaning W) (a : Account W) : Type 0 where
-    pub capped : a.state.budget ≤ a.terms.reservation.budget
-    pub ready : is_ready work a ≡ true → 0 < a.state.budget
-    pub throttled : a.state.throttled ≡ true → a.state.budget ≡ 0
+-- the budget of a server: never more than its reservation's; some while it is ready, and none while it is throttled
+pub record IsWithinBudget (f : Face) : Type 0 where
+  pub capped : f.state.budget ≤ f.terms.reservation.budget
+  pub ready : is_ready f ≡ true → 0 < f.state.budget
+  pub throttled : f.state.throttled ≡ true → f.state.budget ≡ 0

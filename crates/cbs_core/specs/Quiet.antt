@@ -3,13 +3,13 @@ use Rattle.std.specs.Prelude.{◌≡◌, ℕ, ◌-◌, ◌≤◌, ◌<◌, false
 use Rattle.std.specs.List.{AllByRecursion}
 use Rattle.cbs_job.specs.Work.{Meaning}
 use Rattle.cbs_rules.specs.Rules.{clock_end}
-use Rattle.cbs_core.specs.Accounts.{is_ready}
-use Rattle.cbs_core.specs.History.{World, ticks}
+use Rattle.cbs_core.specs.Faces.{is_ready}
+use Rattle.cbs_core.specs.History.{World, faces, ticks}
 
 module _ {W : Type 0} where
   -- nobody is ready
   abbrev pub IsAtRest : Meaning W → World W → Type 0
-  IsAtRest work w = AllByRecursion (λ a. is_ready work a ≡ false) w.accounts
+  IsAtRest work w = AllByRecursion (λ f. is_ready f ≡ false) (faces work w)
 
   -- an advance by n is quiet: nobody is ready before its last tick
   abbrev pub IsQuiet : Meaning W → World W → ℕ → Type 0

@@ -3,21 +3,22 @@
 ghost use Rattle.std.specs.Prelude.{◌≡◌, ℕ, ◌+◌, ◌*◌, ◌<◌, ◌≤◌, true, false, Ok, Err, IfOk, IfErr, OnOk, OnErr, IsOk, length, slice_get, [], MatchOption, MatchResult, Some, None, ◌⊎◌};
 ghost use Rattle.cbs_core.specs.Quiet.{IsAtRest, IsIdleSpan};
 ghost use Rattle.cbs_core.specs.Choice.{IsChoice};
-ghost use Rattle.cbs_core.specs.History.{History, ◌⊕◌, world_after, reply_in, ranks_of, chosen, submit_refusal};
+ghost use Rattle.cbs_core.specs.Faces.{face_at, ranks, submit_refusal, view_reply};
+ghost use Rattle.cbs_core.specs.History.{History, ◌⊕◌, faces, world_after, reply_in, chosen};
 ghost use Rattle.cbs_core.specs.Agreement.{Agrees};
 ghost use Rattle.cbs_core.specs.Replies.{submitted, advanced, closed, lacks_memory, IsAccepted, Answers, AnswersAll, grown, grown_by, RoomAnswers};
-ghost use Rattle.cbs_core.specs.Views.{view_reply};
 ghost use Rattle.cbs_core.specs.Laws.{account_in, completion_in, completions_of, Completes, NoneAfterClose, IsWithinBudget};
-ghost use Rattle.cbs_core.specs.Holding.{CountsOn};
-ghost use Rattle.cbs_core.specs.Held.{room_of, KeepsRoom, HasPlace, IsRefusedBy, held_at, TakesJob, ClosesServer, OthersSame, AllSame, DoesRun};
+ghost use Rattle.cbs_core.specs.Held.{room_of, KeepsRoom, IsOpen, HasRoom, IsRefusedBy, held_at, TakesJob, ClosesServer, OthersSame, AllSame, DoesRun, CountsOn};
+ghost use Rattle.cbs_core.specs.Queues.{ran_of};
 ghost use Rattle.cbs_core.specs.Setups.{terms_of, new_refusal};
 
 use crate::error::CoreError;
+use crate::queues::Queues;
 use crate::reply::{Ran, Reply, SubmitRefused};
 use crate::servers::Servers;
 use crate::step::{Step, StepsRefused};
 use crate::view::ServerView;
-use cbs_job::{Task, Work};
+use cbs_job::{Completion, Task, Work};
 use cbs_rate::Plan;
 use cbs_rules::{LIMIT, Mode};
 use std::alloc::{Allocator, Global};
@@ -35,18 +36,19 @@ pub struct Core<W: Work, A: Allocator = Global> {
     alloc: A,
     backlog: u64,
     clock: u64,
-    servers: Servers<W, A>,
+    servers: Servers<A>,
+    queues: Queues<W, A>,
 }
 
 impl<W: Work, A: Allocator> Model for Core<W, A> {
     ghost use Rattle.cbs_core.specs.Held.{CoreHeld};
-    ghost use Rattle.cbs_core.specs.Holding.{IsCore};
+    ghost use Rattle.cbs_core.specs.Invariant.{IsCore};
 
     ghost Value = { CoreHeld W };
 
-    ghost view = { λ c. record { backlog = c.backlog; clock = c.clock; servers = c.servers.held; rooms = c.servers.rooms } };
+    ghost view = { λ c. record { backlog = c.backlog; clock = c.clock; faces = c.servers; queues = c.queues.lists; rooms = c.queues.rooms } };
 
-    ghost invariant = { λ c. IsCore (record { backlog = c.backlog; clock = c.clock; servers = c.servers.held; rooms = c.servers.rooms }) };
+    ghost invariant = { λ c. IsCore W.meaning (record { backlog = c.backlog; clock = c.clock; faces = c.servers; queues = c.queues.lists; rooms = c.queues.rooms }) };
 }
 
 impl<W: Work, A: Allocator + Clone> Core<W, A> {
@@ -65,11 +67,15 @@ impl<W: Work, A: Allocator + Clone> Core<W, A> {
         let Ok(servers) = Servers::new(&alloc, &plan, mode) else {
             return Err(CoreError::OutOfMemory);
         };
+        let Ok(queues) = Queues::new(&alloc, servers.len()) else {
+            return Err(CoreError::OutOfMemory);
+        };
         Ok(Core {
             alloc,
             backlog,
             clock: 0,
             servers,
+            queues,
         })
     }
 }
@@ -82,18 +88,18 @@ impl<W: Work, A: Allocator> Core<W, A> {
     /// allocation is refused.
     pub fn make_room(&mut self, server: u16) -> Result<(), CoreError>
         ensures answer { (M : History W) → Agrees W.meaning self.old M
-            → RoomAnswers (submit_refusal W.meaning M.setup.backlog (world_after W.meaning M).accounts server) result }
+            → RoomAnswers (submit_refusal M.setup.backlog (faces W.meaning (world_after W.meaning M)) server) result }
         ensures state { (M : History W) → Agrees W.meaning self.old M → Agrees W.meaning self.new M }
-        ensures place { OnOk result (HasPlace self.new server) }
+        ensures room { OnOk result (HasRoom self.new server) }
         ensures refused { IfErr result (IsRefusedBy self.old server) }
-        ensures succeeds { HasPlace self.old server → IsOk result }
+        ensures succeeds { HasRoom self.old server → IsOk result }
         ensures kept { KeepsRoom self.old.rooms self.new.rooms }
         ensures same { self.new ≡ record self.old { rooms = self.new.rooms } }
     {
-        if let Some(error) = self.servers.refusal(self.backlog, server) {
+        if let Some(error) = self.servers.submit_refusal(self.backlog, server) {
             return Err(error);
         }
-        if self.servers.reserve(server).is_err() {
+        if self.queues.reserve(server).is_err() {
             return Err(CoreError::OutOfMemory);
         }
         Ok(())
@@ -118,18 +124,18 @@ impl<W: Work, A: Allocator> Core<W, A> {
             → IsAccepted (reply_in W.meaning M (Step.Submit server task)) }
         ensures still { lacks_memory result ≡ true → (M : History W) → Agrees W.meaning self.old M → Agrees W.meaning self.new M }
         ensures room { 0 < room_of self.old.rooms server → lacks_memory result ≡ false }
-        ensures succeeds { HasPlace self.old server → IsOk result }
+        ensures succeeds { HasRoom self.old server → IsOk result }
 
-        ensures job { IfOk result (λ number. TakesJob task number (held_at self.old.servers server) (held_at self.new.servers server)
-            × OthersSame server self.old.servers self.new.servers) }
-        ensures count { length self.new.servers ≡ length self.old.servers }
+        ensures job { IfOk result (λ number. TakesJob task number (held_at self.old server) (held_at self.new server)
+            × OthersSame server self.old self.new) }
+        ensures count { length self.new.faces ≡ length self.old.faces }
         ensures unchanged { OnErr result (self.new ≡ record self.old { rooms = self.new.rooms }) }
         ensures kept { OnErr result (KeepsRoom self.old.rooms self.new.rooms) }
     {
-        if let Some(error) = self.servers.refusal(self.backlog, server) {
+        if let Some(error) = self.servers.submit_refusal(self.backlog, server) {
             return Err(SubmitRefused { error, task });
         }
-        if self.servers.reserve(server).is_err() {
+        if self.queues.reserve(server).is_err() {
             return Err(SubmitRefused {
                 error: CoreError::OutOfMemory,
                 task,
@@ -144,16 +150,17 @@ impl<W: Work, A: Allocator> Core<W, A> {
     /// The server must be there and open, its backlog not full, and room made.
     #[tactic(auto, using(crate::proofs::Lists::counted))]
     pub fn submit_reserved(&mut self, server: u16, task: Task<W>) -> u64
-        requires { HasPlace self.old server }
+        requires { HasRoom self.old server }
         ensures reply { (M : History W) → Agrees W.meaning self.old M
             → Reply.Accepted result ≡ reply_in W.meaning M (Step.Submit server task) }
         ensures state { (M : History W) → Agrees W.meaning self.old M
             → Agrees W.meaning self.new (M ⊕ Step.Submit server task) }
-        ensures job { TakesJob task result (held_at self.old.servers server) (held_at self.new.servers server)
-            × OthersSame server self.old.servers self.new.servers }
-        ensures count { length self.new.servers ≡ length self.old.servers }
+        ensures job { TakesJob task result (held_at self.old server) (held_at self.new server)
+            × OthersSame server self.old self.new }
+        ensures count { length self.new.faces ≡ length self.old.faces }
     {
-        self.servers.accept(server, self.clock, task)
+        self.queues.push(server, task);
+        self.servers.accept(server, self.clock)
     }
 
     /// Runs one unit of the job at the front of the chosen server, which takes one tick.
@@ -165,7 +172,7 @@ impl<W: Work, A: Allocator> Core<W, A> {
         ensures reply { (M : History W) → Agrees W.meaning self.old M → Reply.Ran result ≡ reply_in W.meaning M Step.Run }
         ensures state { (M : History W) → Agrees W.meaning self.old M → Agrees W.meaning self.new (M ⊕ Step.Run) }
         ensures job { DoesRun W.meaning result self.old self.new }
-        ensures count { length self.new.servers ≡ length self.old.servers }
+        ensures count { length self.new.faces ≡ length self.old.faces }
         ensures kept { KeepsRoom self.old.rooms self.new.rooms }
     {
         let Some(server) = self.servers.choose() else {
@@ -175,9 +182,11 @@ impl<W: Work, A: Allocator> Core<W, A> {
             return Ran::ClockEnd;
         }
         self.clock += 1;
-        let ran = self.servers.run_first(server);
+        let result = self.queues.run_first(server);
+        let seq = self.servers.finished(server);
+        self.servers.use_tick(server, result.is_some());
         self.servers.replenish(self.clock);
-        ran
+        ran_from(server, seq, result)
     }
 
     /// Lets `n` ticks pass, by one jump.
@@ -188,8 +197,8 @@ impl<W: Work, A: Allocator> Core<W, A> {
     pub fn advance(&mut self, n: u64) -> Result<(), CoreError>
         ensures reply { (M : History W) → Agrees W.meaning self.old M → advanced result ≡ reply_in W.meaning M (Step.Advance n) }
         ensures state { (M : History W) → Agrees W.meaning self.old M → Agrees W.meaning self.new (M ⊕ Step.Advance n) }
-        ensures jobs { AllSame self.old.servers self.new.servers }
-        ensures count { length self.new.servers ≡ length self.old.servers }
+        ensures jobs { AllSame self.old self.new }
+        ensures count { length self.new.faces ≡ length self.old.faces }
         ensures unchanged { OnErr result (self.new ≡ self.old) }
         ensures kept { KeepsRoom self.old.rooms self.new.rooms }
     {
@@ -211,10 +220,10 @@ impl<W: Work, A: Allocator> Core<W, A> {
     pub fn close(&mut self, server: u16) -> Result<(), CoreError>
         ensures reply { (M : History W) → Agrees W.meaning self.old M → closed result ≡ reply_in W.meaning M (Step.Close server) }
         ensures state { (M : History W) → Agrees W.meaning self.old M → Agrees W.meaning self.new (M ⊕ Step.Close server) }
-        ensures closed { OnOk result (ClosesServer (held_at self.old.servers server) (held_at self.new.servers server)
-            × OthersSame server self.old.servers self.new.servers) }
-        ensures count { length self.new.servers ≡ length self.old.servers }
-        ensures succeeds { (server < length self.old.servers) × ((held_at self.old.servers server).closed ≡ false) → IsOk result }
+        ensures closed { OnOk result (ClosesServer (held_at self.old server) (held_at self.new server)
+            × OthersSame server self.old self.new) }
+        ensures count { length self.new.faces ≡ length self.old.faces }
+        ensures succeeds { IsOpen self.old server → IsOk result }
         ensures unchanged { OnErr result (self.new ≡ self.old) }
         ensures kept { KeepsRoom self.old.rooms self.new.rooms }
     {
@@ -228,13 +237,12 @@ impl<W: Work, A: Allocator> Core<W, A> {
     /// Closes a server that is there and open, as [`close`](Core::close) does.
     #[tactic(auto, using(crate::proofs::Lists::counted))]
     pub fn close_open(&mut self, server: u16)
-        requires within { server < length self.old.servers }
-        requires unclosed { (held_at self.old.servers server).closed ≡ false }
+        requires { IsOpen self.old server }
         ensures reply { (M : History W) → Agrees W.meaning self.old M → Reply.Closed ≡ reply_in W.meaning M (Step.Close server) }
         ensures state { (M : History W) → Agrees W.meaning self.old M → Agrees W.meaning self.new (M ⊕ Step.Close server) }
-        ensures closed { ClosesServer (held_at self.old.servers server) (held_at self.new.servers server)
-            × OthersSame server self.old.servers self.new.servers }
-        ensures count { length self.new.servers ≡ length self.old.servers }
+        ensures closed { ClosesServer (held_at self.old server) (held_at self.new server)
+            × OthersSame server self.old self.new }
+        ensures count { length self.new.faces ≡ length self.old.faces }
         ensures kept { KeepsRoom self.old.rooms self.new.rooms }
     {
         self.servers.close(server);
@@ -252,16 +260,16 @@ impl<W: Work, A: Allocator> Core<W, A> {
     /// The chosen server: the ready one with the least deadline, of equal deadlines the lower
     /// number; `None` where nobody is ready.
     pub fn ready(&self) -> Option<u16>
-        ensures chosen { (M : History W) → Agrees W.meaning self.now M → result ≡ chosen W.meaning (world_after W.meaning M).accounts }
+        ensures chosen { (M : History W) → Agrees W.meaning self.now M → result ≡ chosen W.meaning (world_after W.meaning M) }
         ensures earliest { (M : History W) → Agrees W.meaning self.now M
-            → IsChoice (ranks_of W.meaning (world_after W.meaning M).accounts) (length (world_after W.meaning M).accounts) result }
+            → IsChoice (ranks (faces W.meaning (world_after W.meaning M))) (length (faces W.meaning (world_after W.meaning M))) result }
     {
         self.servers.choose()
     }
 
     /// How many servers there are: at most 64, numbered from 0.
     pub fn servers(&self) -> u16
-        ensures value { result ≡ length self.now.servers }
+        ensures value { result ≡ length self.now.faces }
         ensures few { result ≤ 64 }
     {
         self.servers.len()
@@ -279,9 +287,11 @@ impl<W: Work, A: Allocator> Core<W, A> {
 
     /// What a server shows, or [`CoreError::NoSuchServer`].
     pub fn view(&self, server: u16) -> Result<ServerView, CoreError>
-        ensures view { (M : History W) → Agrees W.meaning self.now M → result ≡ view_reply W.meaning (slice_get (world_after W.meaning M).accounts server) }
+        ensures view { (M : History W) → Agrees W.meaning self.now M → result ≡ view_reply (slice_get (faces W.meaning (world_after W.meaning M)) server) }
         ensures early { (M : History W) → Agrees W.meaning self.now M
             → IfOk result (λ view. let now = (world_after W.meaning M).now in view.deadline ≤ now + (now + 1) * 1000000000) }
+        ensures budget { (M : History W) → Agrees W.meaning self.now M
+            → OnOk result (IsWithinBudget (face_at (faces W.meaning (world_after W.meaning M)) server)) }
     {
         self.servers.view(server)
     }
@@ -307,10 +317,10 @@ impl<W: Work, A: Allocator> Core<W, A> {
             → Completes W.meaning (account_in W.meaning M s) (account_in W.meaning (grown_by M steps.items replies.items) s) (completions_of s replies.items)) }
         ensures closes { IfOk result (λ replies. (M : History W) → Agrees W.meaning self.old M → (s : ℕ)
             → NoneAfterClose s (account_in W.meaning M s).closed steps.items replies.items) }
-        ensures budgets { IfOk result (λ replies. (M : History W) → Agrees W.meaning self.old M → (s : ℕ) → s < length self.old.servers
-            → IsWithinBudget W.meaning (account_in W.meaning (grown_by M steps.items replies.items) s)) }
+        ensures budgets { IfOk result (λ replies. (M : History W) → Agrees W.meaning self.old M → (s : ℕ) → s < length self.old.faces
+            → IsWithinBudget (face_at (faces W.meaning (world_after W.meaning (grown_by M steps.items replies.items))) s)) }
 
-        ensures count { length self.new.servers ≡ length self.old.servers }
+        ensures count { length self.new.faces ≡ length self.old.faces }
         ensures back { IfErr result (λ refused. refused.steps ≡ steps) }
         ensures unchanged { OnErr result (self.new ≡ self.old) }
     {
@@ -331,8 +341,8 @@ impl<W: Work, A: Allocator> Core<W, A> {
     pub fn step(&mut self, step: Step<W>) -> Reply<W>
         ensures reply { (M : History W) → Agrees W.meaning self.old M → Answers W.meaning M step result }
         ensures state { (M : History W) → Agrees W.meaning self.old M → Agrees W.meaning self.new (grown M step result) }
-        ensures counts { CountsOn (completion_in result) self.old.servers self.new.servers }
-        ensures count { length self.new.servers ≡ length self.old.servers }
+        ensures counts { CountsOn (completion_in result) self.old self.new }
+        ensures count { length self.new.faces ≡ length self.old.faces }
     {
         match step {
             Step::Submit(server, task) => submit_reply(self.submit(server, task)),
@@ -367,5 +377,19 @@ fn close_reply<W: Work>(answer: Result<(), CoreError>) -> Reply<W>
     match answer {
         Ok(()) => Reply::Closed,
         Err(error) => Reply::Refused(error),
+    }
+}
+
+/// What a Run is answered after a unit of a job, by the output that the unit found if it was the last.
+fn ran_from(server: u16, seq: u64, output: Option<u64>) -> Ran
+    ensures { result ≡ ran_of server seq output }
+{
+    match output {
+        None => Ran::Unit { server, seq },
+        Some(result) => Ran::Done(Completion {
+            server,
+            seq,
+            result,
+        }),
     }
 }

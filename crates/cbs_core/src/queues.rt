@@ -1,10 +1,11 @@
 //! The jobs of all servers, in one queue for each.
 
-ghost use Rattle.std.specs.Prelude.{◌≡◌, ◌-◌, ◌<◌, ◌≤◌, [], ◌∷◌, ◌++◌, length, replicate, slice_set, IfOk, OnOk, IsOk};
+ghost use Rattle.std.specs.Prelude.{◌≡◌, ◌-◌, ◌<◌, ◌≤◌, [], ◌∷◌, ◌++◌, length, replicate, IfOk, OnOk, IsOk};
 ghost use Rattle.std.specs.List.{AllByRecursion};
 ghost use Rattle.std.specs.VecDeque.{deque_len, deque_capacity};
 ghost use Rattle.cbs_core.specs.Held.{room_of, KeepsRoom};
-ghost use Rattle.cbs_core.specs.Queued.{Queued, list_at, jobs_run, result_run};
+ghost use Rattle.cbs_core.specs.Lists.{changed_at};
+ghost use Rattle.cbs_core.specs.Queues.{list_at, jobs_run, result_run};
 
 use cbs_job::{Running, Task, Work};
 use std::alloc::{AllocError, Allocator, Global};
@@ -20,7 +21,7 @@ pub struct Queues<W: Work, A: Allocator = Global> {
 impl<W: Work, A: Allocator> Model for Queues<W, A> {
     ghost use Rattle.std.specs.Prelude.{◌-◌, map};
     ghost use Rattle.std.specs.VecDeque.{deque_len, deque_capacity};
-    ghost use Rattle.cbs_core.specs.Queued.{Queued};
+    ghost use Rattle.cbs_core.specs.Queues.{Queued};
 
     ghost Value = { Queued W };
 
@@ -41,14 +42,6 @@ impl<W: Work, A: Allocator> Queues<W, A> {
         Ok(Queues { queues })
     }
 
-    /// How many jobs a server has.
-    pub fn len(&self, server: u16) -> u64
-        requires { server < length self.now.lists }
-        ensures { result ≡ length (list_at self.now server) }
-    {
-        self.queues[usize::from(server)].len() as u64
-    }
-
     /// Makes room for one more job of a server.
     pub fn reserve(&mut self, server: u16) -> Result<(), AllocError>
         requires { server < length self.old.lists }
@@ -65,7 +58,7 @@ impl<W: Work, A: Allocator> Queues<W, A> {
     pub fn push(&mut self, server: u16, task: Task<W>)
         requires within { server < length self.old.lists }
         requires room { 0 < room_of self.old.rooms server }
-        ensures lists { self.new.lists ≡ slice_set self.old.lists server (list_at self.old server ++ task ∷ []) }
+        ensures lists { self.new.lists ≡ changed_at (λ jobs. jobs ++ task ∷ []) self.old.lists server }
         ensures some { 0 < W.meaning.left task }
     {
         let queue = &mut self.queues[usize::from(server)];
@@ -75,10 +68,10 @@ impl<W: Work, A: Allocator> Queues<W, A> {
     /// Runs one unit of the first job of a server. If that was its last, the job leaves the queue,
     /// and its output is answered.
     pub fn run_first(&mut self, server: u16) -> Option<u64>
-        requires some { 0 < length (list_at self.old server) }
-        requires unfinished { AllByRecursion (λ w. 0 < W.meaning.left w) (list_at self.old server) }
-        ensures lists { self.new.lists ≡ slice_set self.old.lists server (jobs_run W.meaning (list_at self.old server)) }
-        ensures result { result ≡ result_run W.meaning (list_at self.old server) }
+        requires some { 0 < length (list_at self.old.lists server) }
+        requires unfinished { AllByRecursion (λ w. 0 < W.meaning.left w) (list_at self.old.lists server) }
+        ensures lists { self.new.lists ≡ changed_at (jobs_run W.meaning) self.old.lists server }
+        ensures result { result ≡ result_run W.meaning (list_at self.old.lists server) }
         ensures kept { KeepsRoom self.old.rooms self.new.rooms }
     {
         let queue = &mut self.queues[usize::from(server)];

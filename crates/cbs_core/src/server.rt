@@ -1,8 +1,10 @@
 //! One server, but for its jobs.
 
-ghost use Rattle.std.specs.Prelude.{◌≡◌, ◌+◌, ◌<◌, ◌≤◌, ◌^◌, true, false};
-ghost use Rattle.cbs_core.specs.Holding.{new_head, head_with_job, head_with_unit, head_with_replenishment, head_with_close};
+ghost use Rattle.std.specs.Prelude.{◌≡◌, ◌+◌, ◌<◌, ◌≤◌, ◌^◌, true, Some};
+ghost use Rattle.cbs_core.specs.Faces.{new_face, is_active, is_ready, backlog_of, refuses_close, refuses_submit, view_of, with_job, with_unit, with_replenishment, with_close};
+ghost use Rattle.cbs_core.specs.IdleSpans.{wait};
 
+use crate::error::CoreError;
 use crate::view::ServerView;
 use cbs_rate::Reservation;
 use cbs_rules::{LIMIT, MAX_DEADLINE, Mode, ServerState};
@@ -19,17 +21,20 @@ pub struct Server {
 }
 
 impl Model for Server {
-    ghost use Rattle.cbs_core.specs.Holding.{Head};
+    ghost use Rattle.std.specs.Prelude.{◌≤◌};
+    ghost use Rattle.cbs_core.specs.Faces.{Face};
 
-    ghost Value = { Head };
+    ghost Value = { Face };
 
     ghost view = { λ s. record { terms = record { mode = s.mode; reservation = s.state.reservation }; state = s.state.state; closed = s.closed; accepted = s.accepted; finished = s.finished } };
+
+    ghost invariant = { λ s. s.finished ≤ s.accepted };
 }
 
 impl Server {
     /// A server at its start.
     pub fn new(mode: Mode, reservation: Reservation) -> Server
-        ensures { result ≡ new_head (record { mode = mode; reservation = reservation }) }
+        ensures { result ≡ new_face (record { mode = mode; reservation = reservation }) }
     {
         Server {
             mode,
@@ -40,14 +45,7 @@ impl Server {
         }
     }
 
-    /// How many jobs it accepted.
-    pub fn accepted(&self) -> u64
-        ensures { result ≡ self.now.accepted }
-    {
-        self.accepted
-    }
-
-    /// How many of them are finished.
+    /// How many of its jobs are finished.
     pub fn finished(&self) -> u64
         ensures { result ≡ self.now.finished }
     {
@@ -61,39 +59,97 @@ impl Server {
         self.state.deadline()
     }
 
-    /// Whether it waits to be replenished.
-    pub fn is_throttled(&self) -> bool
-        ensures { result ≡ self.now.state.throttled }
+    /// Whether an accepted job is not finished.
+    fn is_active(&self) -> bool
+        ensures { result ≡ is_active self.now }
     {
-        self.state.throttled()
+        self.finished < self.accepted
     }
 
-    /// Whether it accepts no further job.
-    pub fn is_closed(&self) -> bool
-        ensures { result ≡ self.now.closed }
+    /// Whether it is active and not throttled.
+    pub fn is_ready(&self) -> bool
+        ensures { result ≡ is_ready self.now }
     {
-        self.closed
+        self.is_active() && !self.state.throttled()
     }
 
-    /// A job comes in at tick `now`, where the server was active or not.
-    pub fn accept(&mut self, now: u64, active: bool)
+    /// How many accepted jobs are not finished.
+    fn backlog(&self) -> u64
+        ensures { result ≡ backlog_of self.now }
+    {
+        self.accepted - self.finished
+    }
+
+    /// After how many ticks it may be ready, where it is not.
+    pub fn wait(&self, now: u64) -> u64
+        requires { now ≤ LIMIT }
+        ensures { result ≡ wait now self.now }
+    {
+        if self.is_active() {
+            self.deadline().saturating_sub(now).max(1)
+        } else {
+            LIMIT - now
+        }
+    }
+
+    /// Why a close is refused, if it is.
+    pub fn close_refusal(&self) -> Option<CoreError>
+        ensures { result ≡ refuses_close (Some self.now) }
+    {
+        if self.closed {
+            return Some(CoreError::Closed);
+        }
+        None
+    }
+
+    /// Why a submit is refused where the backlog may be so large, if it is.
+    pub fn submit_refusal(&self, backlog: u64) -> Option<CoreError>
+        ensures { result ≡ refuses_submit backlog (Some self.now) }
+    {
+        if self.closed {
+            return Some(CoreError::Closed);
+        }
+        if self.backlog() >= backlog {
+            return Some(CoreError::BacklogFull);
+        }
+        None
+    }
+
+    /// What it shows.
+    pub fn view(&self) -> ServerView
+        ensures { result ≡ view_of self.now }
+    {
+        ServerView {
+            budget: self.state.budget(),
+            deadline: self.state.deadline(),
+            throttled: self.state.throttled(),
+            closed: self.closed,
+            accepted: self.accepted,
+            finished: self.finished,
+        }
+    }
+
+    /// A job comes in at tick `now`. Answers the job's number.
+    pub fn accept(&mut self, now: u64) -> u64
         requires clock { now ≤ LIMIT }
         requires few { self.old.accepted + 1 < 2 ^ 64 }
-        ensures { self.new ≡ head_with_job now active self.old }
+        ensures face { self.new ≡ with_job now self.old }
+        ensures number { result ≡ self.old.accepted }
     {
-        if !active && !self.state.throttled() {
+        if !self.is_active() && !self.state.throttled() {
             self.state.arrive_idle(self.mode, now);
         }
+        let number = self.accepted;
         self.accepted += 1;
+        number
     }
 
     /// Uses one tick of the budget, for a unit that finished a job or did not.
     pub fn use_tick(&mut self, done: bool)
+        requires ready { is_ready self.old ≡ true }
         requires some { 0 < self.old.state.budget }
-        requires free { self.old.state.throttled ≡ false }
         requires room { self.old.state.deadline ≤ MAX_DEADLINE }
-        requires few { self.old.finished + 1 < 2 ^ 64 }
-        ensures { self.new ≡ head_with_unit done self.old }
+        ensures { self.new ≡ with_unit done self.old }
     {
         self.state.consume(self.mode);
         if done {
@@ -104,29 +160,15 @@ impl Server {
     /// Replenishes the server at tick `now`, if that is due.
     pub fn replenish(&mut self, now: u64)
         requires { now ≤ LIMIT }
-        ensures { self.new ≡ head_with_replenishment now self.old }
+        ensures { self.new ≡ with_replenishment now self.old }
     {
         self.state.replenish(now);
     }
 
     /// Accepts no further job.
     pub fn close(&mut self)
-        ensures { self.new ≡ head_with_close self.old }
+        ensures { self.new ≡ with_close self.old }
     {
         self.closed = true;
-    }
-
-    /// What it shows.
-    pub fn view(&self) -> ServerView
-        ensures { result ≡ record { budget = self.now.state.budget; deadline = self.now.state.deadline; throttled = self.now.state.throttled; closed = self.now.closed; accepted = self.now.accepted; finished = self.now.finished } }
-    {
-        ServerView {
-            budget: self.state.budget(),
-            deadline: self.state.deadline(),
-            throttled: self.state.throttled(),
-            closed: self.closed,
-            accepted: self.accepted,
-            finished: self.finished,
-        }
     }
 }

@@ -1,122 +1,82 @@
-//! All servers with their jobs: the choice among them, and what the rules do to them.
+//! All servers, but for their jobs: the choice among them, and what the rules do to them.
 
-ghost use Rattle.std.specs.Prelude.{◌≡◌, ◌+◌, ◌<◌, ◌≤◌, ◌^◌, IfSome, IfOk, OnOk, IsOk, length, map, slice_get, true};
-ghost use Rattle.std.specs.List.{HoldsAt};
+ghost use Rattle.std.specs.Prelude.{◌≡◌, ◌+◌, ◌-◌, ◌<◌, ◌≤◌, ◌^◌, IfSome, IfOk, OnOk, length, map, slice_get, true};
 ghost use Rattle.cbs_rate.specs.Plan.{IsPlan};
 ghost use Rattle.cbs_core.specs.Lists.{changed_at};
-ghost use Rattle.cbs_core.specs.Choice.{chosen_among, IsChoice};
-ghost use Rattle.cbs_core.specs.Held.{room_of, KeepsRoom, held_at};
-ghost use Rattle.cbs_core.specs.Queued.{result_run};
-ghost use Rattle.cbs_core.specs.Spans.{held_wait, held_span};
+ghost use Rattle.cbs_core.specs.Choice.{chosen_among, better_of, IsChoice};
+ghost use Rattle.cbs_core.specs.Faces.{new_face, face_at, is_ready, ranks, close_refusal, submit_refusal, view_reply, with_job, with_unit, with_replenishment, with_close};
+ghost use Rattle.cbs_core.specs.IdleSpans.{span_from};
 ghost use Rattle.cbs_core.specs.Setups.{terms_of};
-ghost use Rattle.cbs_core.specs.Holding.{IsServers, new_held, is_held_active, is_held_ready, held_rank, better_of, held_with_job, held_with_unit, held_with_close, held_with_replenishment, held_view_reply, held_refusal, held_close_refusal, ran_of, IsServer, head_with_replenishment};
 
 use crate::error::CoreError;
-use crate::queues::Queues;
-use crate::reply::Ran;
 use crate::server::Server;
 use crate::view::ServerView;
-use cbs_job::{Completion, Task, Work};
 use cbs_rate::Plan;
 use cbs_rules::{LIMIT, MAX_DEADLINE, Mode};
 use std::alloc::{AllocError, Allocator, Global};
 use std::marker::Model;
 
-/// All servers with their jobs.
+/// All servers, but for their jobs: at most 64.
 #[derive(Drop)]
-pub struct Servers<W: Work, A: Allocator = Global> {
-    heads: Vec<Server, A>,
-    queues: Queues<W, A>,
+pub struct Servers<A: Allocator = Global> {
+    servers: Vec<Server, A>,
 }
 
-impl<W: Work, A: Allocator> Model for Servers<W, A> {
-    ghost use Rattle.cbs_core.specs.Holding.{ServersHeld, helds, IsServers};
+impl<A: Allocator> Model for Servers<A> {
+    ghost use Rattle.std.specs.Prelude.{List, ◌≤◌, length};
+    ghost use Rattle.cbs_core.specs.Faces.{Face};
 
-    ghost Value = { ServersHeld W };
+    ghost Value = { List Face };
 
-    ghost view = { λ s. record { held = helds s.heads.items s.queues.lists; rooms = s.queues.rooms } };
+    ghost view = { λ s. s.servers.items };
 
-    ghost invariant = { λ s. IsServers W.meaning s.heads.items s.queues.lists };
+    ghost invariant = { λ s. length s.servers.items ≤ 64 };
 }
 
-impl<W: Work, A: Allocator + Clone> Servers<W, A> {
+impl<A: Allocator + Clone> Servers<A> {
     /// The servers of a plan, all with the same mode.
     pub fn new(alloc: &A, plan: &Plan, mode: Mode) -> Result<Self, AllocError>
-        ensures held { IfOk result (λ s. s.held ≡ map new_held (terms_of mode plan.now.rates)) }
+        ensures servers { IfOk result (λ s. s ≡ map new_face (terms_of mode plan.now.rates)) }
         ensures plan { OnOk result (IsPlan plan.now) }
     {
-        let mut heads = Vec::with_capacity(alloc.clone()?, plan.len())?;
+        let mut servers = Vec::with_capacity(alloc.clone()?, plan.len())?;
         for server in 0..plan.len() as u16 {
             let reservation = plan.get(server).unwrap();
-            heads.push(Server::new(mode, reservation))?;
+            servers.push(Server::new(mode, reservation))?;
         }
-        let queues = Queues::new(alloc, plan.len() as u16)?;
-        Ok(Servers { heads, queues })
+        Ok(Servers { servers })
     }
 }
 
-impl<W: Work, A: Allocator> Servers<W, A> {
+impl<A: Allocator> Servers<A> {
     /// How many servers there are.
     pub fn len(&self) -> u16
-        ensures value { result ≡ length self.now.held }
+        ensures value { result ≡ length self.now }
         ensures few { result ≤ 64 }
     {
-        self.heads.len() as u16
-    }
-
-    /// Whether a server has a job.
-    fn is_active(&self, server: u16) -> bool
-        requires { server < length self.now.held }
-        ensures { result ≡ is_held_active (held_at self.now.held server) }
-    {
-        self.queues.len(server) > 0
-    }
-
-    /// Whether a server waits to be replenished.
-    fn is_throttled(&self, server: u16) -> bool
-        requires { server < length self.now.held }
-        ensures { result ≡ (held_at self.now.held server).state.throttled }
-    {
-        self.heads[usize::from(server)].is_throttled()
-    }
-
-    /// Whether a server has a job and is not throttled.
-    fn is_ready(&self, server: u16) -> bool
-        requires { server < length self.now.held }
-        ensures { result ≡ is_held_ready (held_at self.now.held server) }
-    {
-        self.is_active(server) && !self.is_throttled(server)
-    }
-
-    /// The tick by which a server may use its budget.
-    fn deadline(&self, server: u16) -> u64
-        requires { server < length self.now.held }
-        ensures { result ≡ (held_at self.now.held server).state.deadline }
-    {
-        self.heads[usize::from(server)].deadline()
+        self.servers.len() as u16
     }
 
     /// The better of the best so far and a later server.
     fn better(&self, best: Option<u16>, server: u16) -> Option<u16>
-        requires within { server < length self.now.held }
+        requires within { server < length self.now }
         requires earlier { IfSome best (λ b. b < server) }
-        ensures { result ≡ better_of (map held_rank self.now.held) best server }
+        ensures { result ≡ better_of (ranks self.now) best server }
     {
-        if !self.is_ready(server) {
+        let later = &self.servers[usize::from(server)];
+        if !later.is_ready() {
             return best;
         }
         match best {
-            Some(earlier) if self.deadline(earlier) <= self.deadline(server) => best,
+            Some(earlier) if self.servers[usize::from(earlier)].deadline() <= later.deadline() => best,
             _ => Some(server),
         }
     }
 
     /// The ready server with the least deadline, and of several the first.
     pub fn choose(&self) -> Option<u16>
-        ensures first { result ≡ chosen_among (map held_rank self.now.held) }
-        ensures choice { IsChoice (map held_rank self.now.held) (length (map held_rank self.now.held)) result }
-        ensures within { IfSome result (λ s. s < length self.now.held) }
-        ensures ready { IfSome result (λ s. HoldsAt (λ h. is_held_ready h ≡ true) self.now.held s) }
+        ensures first { result ≡ chosen_among (ranks self.now) }
+        ensures choice { IsChoice (ranks self.now) (length self.now) result }
     {
         let mut best = None;
         for server in 0..self.len() {
@@ -125,154 +85,104 @@ impl<W: Work, A: Allocator> Servers<W, A> {
         best
     }
 
-    /// After how many ticks a server that is not ready may be.
-    fn wait(&self, server: u16, now: u64) -> u64
-        requires within { server < length self.now.held }
-        requires clock { now ≤ LIMIT }
-        ensures { result ≡ held_wait now (held_at self.now.held server) }
-    {
-        if self.is_active(server) {
-            self.deadline(server).saturating_sub(now).max(1)
-        } else {
-            LIMIT - now
-        }
-    }
-
     /// How many ticks nobody will be ready, up to the clock's end, or `None` if somebody is now.
     pub fn idle_span(&self, now: u64) -> Option<u64>
         requires { now ≤ LIMIT }
-        ensures { result ≡ held_span now self.now.held }
+        ensures { result ≡ span_from now (LIMIT - now) self.now }
     {
         let mut least = LIMIT - now;
-        for server in 0..self.len() {
-            if self.is_ready(server) {
+        for server in &self.servers {
+            if server.is_ready() {
                 return None;
             }
-            least = least.min(self.wait(server, now));
+            least = least.min(server.wait(now));
         }
         Some(least)
     }
 
     /// Why a submit to a server is refused, if it is.
-    pub fn refusal(&self, backlog: u64, server: u16) -> Option<CoreError>
-        ensures { result ≡ held_refusal backlog self.now.held server }
+    pub fn submit_refusal(&self, backlog: u64, server: u16) -> Option<CoreError>
+        ensures { result ≡ submit_refusal backlog self.now server }
     {
-        if let Some(error) = self.close_refusal(server) {
-            return Some(error);
+        match self.servers.get(usize::from(server)) {
+            Some(server) => server.submit_refusal(backlog),
+            None => Some(CoreError::NoSuchServer),
         }
-        if self.queues.len(server) >= backlog {
-            return Some(CoreError::BacklogFull);
-        }
-        None
     }
 
     /// Why a close of a server is refused, if it is.
     pub fn close_refusal(&self, server: u16) -> Option<CoreError>
-        ensures { result ≡ held_close_refusal self.now.held server }
+        ensures { result ≡ close_refusal self.now server }
     {
-        let Some(head) = self.heads.get(usize::from(server)) else {
-            return Some(CoreError::NoSuchServer);
-        };
-        head.is_closed().then_some(CoreError::Closed)
+        match self.servers.get(usize::from(server)) {
+            Some(server) => server.close_refusal(),
+            None => Some(CoreError::NoSuchServer),
+        }
     }
 
     /// What a server shows.
     pub fn view(&self, server: u16) -> Result<ServerView, CoreError>
-        ensures { result ≡ held_view_reply (slice_get self.now.held server) }
+        ensures { result ≡ view_reply (slice_get self.now server) }
     {
-        let Some(head) = self.heads.get(usize::from(server)) else {
-            return Err(CoreError::NoSuchServer);
-        };
-        Ok(head.view())
+        match self.servers.get(usize::from(server)) {
+            Some(server) => Ok(server.view()),
+            None => Err(CoreError::NoSuchServer),
+        }
     }
 
-    /// Makes room for one more job of a server.
-    pub fn reserve(&mut self, server: u16) -> Result<(), AllocError>
-        requires { server < length self.old.held }
-        ensures held { self.new.held ≡ self.old.held }
-        ensures room { OnOk result (0 < room_of self.new.rooms server) }
-        ensures kept { KeepsRoom self.old.rooms self.new.rooms }
-        ensures succeeds { 0 < room_of self.old.rooms server → IsOk result }
+    /// How many jobs of a server are finished.
+    pub fn finished(&self, server: u16) -> u64
+        requires { server < length self.now }
+        ensures { result ≡ (face_at self.now server).finished }
     {
-        self.queues.reserve(server)
+        self.servers[usize::from(server)].finished()
     }
 
-    /// Gives a server a job, at tick `now`, and answers the job's number. There must be room for it.
-    pub fn accept(&mut self, server: u16, now: u64, task: Task<W>) -> u64
-        requires within { server < length self.old.held }
+    /// A job comes in for a server, at tick `now`. Answers the job's number.
+    pub fn accept(&mut self, server: u16, now: u64) -> u64
+        requires within { server < length self.old }
         requires clock { now ≤ LIMIT }
-        requires few { (held_at self.old.held server).accepted + 1 < 2 ^ 64 }
-        requires room { 0 < room_of self.old.rooms server }
-        ensures held { self.new.held ≡ changed_at (held_with_job now task) self.old.held server }
-        ensures number { result ≡ (held_at self.old.held server).accepted }
-        ensures some { 0 < W.meaning.left task }
+        requires few { (face_at self.old server).accepted + 1 < 2 ^ 64 }
+        ensures servers { self.new ≡ changed_at (with_job now) self.old server }
+        ensures number { result ≡ (face_at self.old server).accepted }
     {
-        let active = self.is_active(server);
-        self.queues.push(server, task);
-        let head = &mut self.heads[usize::from(server)];
-        let number = head.accepted();
-        head.accept(now, active);
-        number
+        self.servers[usize::from(server)].accept(now)
     }
 
-    /// Runs one unit of the first job of a ready server.
-    pub fn run_first(&mut self, server: u16) -> Ran
-        requires within { server < length self.old.held }
-        requires ready { is_held_ready (held_at self.old.held server) ≡ true }
-        requires room { (held_at self.old.held server).state.deadline ≤ MAX_DEADLINE }
-        requires few { (held_at self.old.held server).finished + 1 < 2 ^ 64 }
-        ensures held { self.new.held ≡ changed_at (held_with_unit W.meaning) self.old.held server }
-        ensures ran { result ≡ ran_of server (held_at self.old.held server).finished (result_run W.meaning (held_at self.old.held server).jobs) }
-        ensures kept { KeepsRoom self.old.rooms self.new.rooms }
-        ensures server { IsServer W.meaning (held_at self.old.held server) }
+    /// A ready server uses one tick of its budget, for a unit that finished a job or did not.
+    pub fn use_tick(&mut self, server: u16, done: bool)
+        requires within { server < length self.old }
+        requires ready { is_ready (face_at self.old server) ≡ true }
+        requires some { 0 < (face_at self.old server).state.budget }
+        requires room { (face_at self.old server).state.deadline ≤ MAX_DEADLINE }
+        ensures { self.new ≡ changed_at (with_unit done) self.old server }
     {
-        let result = self.queues.run_first(server);
-        let head = &mut self.heads[usize::from(server)];
-        let seq = head.finished();
-        head.use_tick(result.is_some());
-        ran_from(server, seq, result)
+        self.servers[usize::from(server)].use_tick(done);
     }
 
     /// Replenishes every server that is due at tick `now`.
     pub fn replenish(&mut self, now: u64)
         requires { now ≤ LIMIT }
-        ensures held { self.new.held ≡ map (held_with_replenishment now) self.old.held }
-        ensures rooms { self.new.rooms ≡ self.old.rooms }
+        ensures { self.new ≡ map (with_replenishment now) self.old }
     {
-        replenish_all(&mut self.heads, now);
+        replenish_all(&mut self.servers, now);
     }
 
     /// Lets a server accept no further job.
     pub fn close(&mut self, server: u16)
-        requires { server < length self.old.held }
-        ensures held { self.new.held ≡ changed_at held_with_close self.old.held server }
-        ensures rooms { self.new.rooms ≡ self.old.rooms }
+        requires { server < length self.old }
+        ensures { self.new ≡ changed_at with_close self.old server }
     {
-        let head = &mut self.heads[usize::from(server)];
-        head.close();
+        self.servers[usize::from(server)].close();
     }
 }
 
 /// Replenishes every server that is due at tick `now`.
-fn replenish_all(heads: &mut [Server], now: u64)
+fn replenish_all(servers: &mut [Server], now: u64)
     requires { now ≤ LIMIT }
-    ensures { heads.new ≡ map (head_with_replenishment now) heads.old }
+    ensures { servers.new ≡ map (with_replenishment now) servers.old }
 {
-    for head in heads.iter_mut() {
-        head.replenish(now);
-    }
-}
-
-/// What a Run is answered after a unit of a job, by the output that the unit found if it was the last.
-fn ran_from(server: u16, seq: u64, output: Option<u64>) -> Ran
-    ensures { result ≡ ran_of server seq output }
-{
-    match output {
-        None => Ran::Unit { server, seq },
-        Some(result) => Ran::Done(Completion {
-            server,
-            seq,
-            result,
-        }),
+    for server in servers.iter_mut() {
+        server.replenish(now);
     }
 }

@@ -1,17 +1,19 @@
--- What the rest of this crate sees of the queues of jobs.
+-- What the rest of this crate sees of the queues of jobs. Private words of this crate.
 use Rattle.std.specs.Prelude.{ℕ, eqb, if◌then◌else◌, List, [], ◌∷◌, get_or, Option, Some, None}
 use Rattle.cbs_job.specs.Work.{Meaning}
+use Rattle.cbs_core.specs.declared.reply.Ran.{Ran}
+use Rattle.cbs_core.specs.declared.reply.Ran.TheVariants as ran
 
 -- the queue of each server, and for each server how many more jobs fit with no allocation
 pub record Queued (W : Type 0) : Type 0 where
   pub lists : List (List W)
   pub rooms : List ℕ
 
--- the queue of a server
-abbrev pub list_at : {W : Type 0} → Queued W → ℕ → List W
-list_at q s = get_or q.lists s []
-
 module _ {W : Type 0} where
+  -- the queue of a server
+  abbrev pub list_at : List (List W) → ℕ → List W
+  list_at lists s = get_or lists s []
+
   -- the jobs after a unit of the first, which goes where the unit was its last
   abbrev pub jobs_run : Meaning W → List W → List W
   jobs_run work [] = []
@@ -21,3 +23,8 @@ module _ {W : Type 0} where
   abbrev pub result_run : Meaning W → List W → Option ℕ
   result_run work [] = None
   result_run work (job ∷ jobs) = if eqb (work.left (work.after job)) 0 then Some (work.output (work.after job)) else None
+
+-- what a Run is answered after a unit of job seq of server s, by what that unit found
+abbrev pub ran_of : ℕ → ℕ → Option ℕ → Ran
+ran_of s seq None = ran.Unit s seq
+ran_of s seq (Some r) = ran.Done (record { server = s; seq = seq; result = r })

@@ -1,0 +1,58 @@
+-- The steps that follow a history, and where each may stand.
+use Rattle.std.specs.Prelude.{◌≡◌, ℕ, ◌<◌, true, List, [], ◌∷◌}
+use Rattle.cbs_job.specs.Work.{Meaning}
+use Rattle.cbs_rules.specs.Rules.{clock_end}
+use Rattle.cbs_core.specs.Faces.{face_at, is_active}
+use Rattle.cbs_core.specs.History.{World, History, ◌⊕◌, faces, world_after}
+use Rattle.cbs_core.specs.Agreement.{Agrees}
+use Rattle.cbs_core.specs.Quiet.{IsAtRest, IsIdleSpan}
+use Rattle.cbs_core.specs.Held.{CoreHeld}
+use Rattle.cbs_core.specs.declared.step.Step.{Step}
+use Rattle.cbs_core.specs.declared.step.Step.TheVariants.{Submit, Run, Advance, Close}
+
+module _ {W : Type 0} where
+  infixl 60 ◌⊕⊕◌
+  -- the history M, and then the steps in order
+  abbrev pub ◌⊕⊕◌ : History W → List (Step W) → History W
+  M ⊕⊕ [] = M
+  M ⊕⊕ (x ∷ xs) = (M ⊕ x) ⊕⊕ xs
+
+  -- each of the steps, made after M and those before it, may stand where it stands
+  abbrev pub EachAllowed : (History W → Step W → Type 0) → History W → List (Step W) → Type 0
+  EachAllowed allowed M [] = Unit {0}
+  EachAllowed allowed M (x ∷ xs) = allowed M x × EachAllowed allowed (M ⊕ x) xs
+
+  -- the core agrees with some history: it is not so that it agrees with none
+  abbrev pub HasHistory : Meaning W → CoreHeld W → Type 0
+  HasHistory work core = ¬ ((M : History W) → ¬ Agrees work core M)
+
+  -- whatever history the core agreed with, it agrees with it and then the steps
+  abbrev pub Follows : Meaning W → CoreHeld W → CoreHeld W → List (Step W) → Type 0
+  Follows work old new xs = (M : History W) → Agrees work old M → Agrees work new (M ⊕⊕ xs)
+
+  -- the steps, made from this core on, may each stand where they stand
+  abbrev pub AllAllowed : Meaning W → (History W → Step W → Type 0) → CoreHeld W → List (Step W) → Type 0
+  AllAllowed work allowed old xs = (M : History W) → Agrees work old M → EachAllowed allowed M xs
+
+  -- some server has an unfinished job
+  abbrev pub IsBusy : Meaning W → World W → Type 0
+  IsBusy work w = (s : ℕ) × (is_active (face_at (faces work w) s) ≡ true)
+
+  -- an advance by n takes nobody's time, and is needed: a job is unfinished, nobody is ready, and n is the idle span
+  pub record IsNeeded (work : Meaning W) (w : World W) (n : ℕ) : Type 0 where
+    pub busy : IsBusy work w
+    pub early : w.now < clock_end
+    pub span : IsIdleSpan work w n
+
+  -- a run that is not idle: a job is unfinished, somebody is ready, and the clock is not at its end
+  pub record IsUseful (work : Meaning W) (w : World W) : Type 0 where
+    pub busy : IsBusy work w
+    pub early : w.now < clock_end
+    pub ready : ¬ IsAtRest work w
+
+  -- where the steps of a drain stand: a run where somebody is ready, and else an advance by the idle span
+  abbrev pub MayDrain : Meaning W → History W → Step W → Type 0
+  MayDrain work M (Submit s job) = ⊥
+  MayDrain work M Run = IsUseful work (world_after work M)
+  MayDrain work M (Advance n) = IsNeeded work (world_after work M) n
+  MayDrain work M (Close s) = ⊥

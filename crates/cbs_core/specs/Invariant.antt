@@ -1,0 +1,27 @@
+-- What every core keeps. Private words of this crate: public clauses speak of agreement.
+use Rattle.std.specs.Prelude.{◌≡◌, ℕ, ◌+◌, ◌*◌, ◌≤◌, ◌<◌, true, List, length, map}
+use Rattle.std.specs.List.{AllByRecursion}
+use Rattle.cbs_job.specs.Work.{Meaning}
+use Rattle.cbs_rate.specs.Rate.{IsRate}
+use Rattle.cbs_rules.specs.Rules.{clock_end, IsState}
+use Rattle.cbs_core.specs.Faces.{Face, is_active, backlog_of}
+use Rattle.cbs_core.specs.Held.{CoreHeld}
+
+-- what each server keeps, against the backlog that it may have and the clock
+pub record IsServer (backlog now : ℕ) (f : Face) : Type 0 where
+  pub lawful : IsRate f.terms.reservation.budget f.terms.reservation.period
+  pub state : IsState f.terms.reservation f.state
+  pub begun : is_active f ≡ true → 0 < f.state.deadline
+  pub early : f.state.deadline ≤ now + (now + 1) * 1000000000
+  pub counted : f.finished ≤ f.accepted
+  pub few_done : f.finished ≤ now
+  pub few_jobs : backlog_of f ≤ backlog
+
+-- what each core keeps: each server holds as many jobs as its backlog is, and each has a unit left
+pub record IsCore {W : Type 0} (work : Meaning W) (core : CoreHeld W) : Type 0 where
+  pub few : length core.faces ≤ 64
+  pub small : core.backlog ≤ 4096
+  pub clock : core.clock ≤ clock_end
+  pub each : AllByRecursion (IsServer core.backlog core.clock) core.faces
+  pub queued : map length core.queues ≡ map backlog_of core.faces
+  pub unfinished : AllByRecursion (AllByRecursion (λ w. 0 < work.left w)) core.queues
