@@ -1,6 +1,6 @@
 -- What every core keeps. Private words of this crate: public clauses speak of agreement.
-use Rattle.std.specs.Prelude.{◌≡◌, ℕ, ◌+◌, ◌*◌, ◌≤◌, ◌<◌, true, List, length, map}
-use Rattle.std.specs.List.{AllByRecursion}
+use Rattle.std.specs.Prelude.{◌≡◌, ℕ, ◌+◌, ◌*◌, ◌≤◌, ◌<◌, true, List, length}
+use Rattle.std.specs.List.{AllByRecursion, AllZip}
 use Rattle.cbs_job.specs.Work.{Meaning}
 use Rattle.cbs_rate.specs.Rate.{IsRate}
 use Rattle.cbs_rules.specs.Rules.{clock_end, IsState}
@@ -17,11 +17,15 @@ pub record IsServer (backlog now : ℕ) (f : Face) : Type 0 where
   pub few_done : f.finished ≤ now
   pub few_jobs : backlog_of f ≤ backlog
 
--- what each core keeps: each server holds as many jobs as its backlog is, and each has a unit left
+-- a server holds as many jobs as its backlog is, and each has a unit left
+pub record HoldsBacklog {W : Type 0} (work : Meaning W) (jobs : List W) (f : Face) : Type 0 where
+  pub counted : length jobs ≡ backlog_of f
+  pub unfinished : AllByRecursion (λ w. 0 < work.left w) jobs
+
+-- what each core keeps
 pub record IsCore {W : Type 0} (work : Meaning W) (core : CoreHeld W) : Type 0 where
   pub few : length core.faces ≤ 64
   pub small : core.backlog ≤ 4096
   pub clock : core.clock ≤ clock_end
   pub each : AllByRecursion (IsServer core.backlog core.clock) core.faces
-  pub queued : map length core.queues ≡ map backlog_of core.faces
-  pub unfinished : AllByRecursion (AllByRecursion (λ w. 0 < work.left w)) core.queues
+  pub jobs : AllZip (HoldsBacklog work) core.queues core.faces

@@ -2,7 +2,8 @@
 use Rattle.std.specs.Prelude.{◌≡◌, ℕ, zero, suc, ◌+◌, ◌≤◌, ◌<◌, Bool, true, ◌||◌, eqb, if◌then◌else◌, List, [], ◌∷◌, ◌++◌, length, map, take, drop, Option, Some, None}
 use Rattle.cbs_job.specs.Work.{Meaning, whole}
 use Rattle.cbs_job.specs.declared.completion.Completion.{Completion}
-use Rattle.cbs_core.specs.Faces.{Face, is_ready}
+use Rattle.cbs_core.specs.Faces.{Face, face_at, is_ready}
+use Rattle.cbs_core.specs.Held.{CoreHeld}
 use Rattle.cbs_core.specs.Accounts.{Account, finished}
 use Rattle.cbs_core.specs.History.{History, account, world_after}
 use Rattle.cbs_core.specs.Replies.{IsAccepted}
@@ -70,3 +71,7 @@ pub record IsWithinBudget (f : Face) : Type 0 where
   pub capped : f.state.budget ≤ f.terms.reservation.budget
   pub ready : is_ready f ≡ true → 0 < f.state.budget
   pub throttled : f.state.throttled ≡ true → f.state.budget ≡ 0
+
+-- the budget of each server is within its reservation's
+abbrev pub KeepsBudgets : {W : Type 0} → CoreHeld W → Type 0
+KeepsBudgets core = (s : ℕ) → s < length core.faces → IsWithinBudget (face_at core.faces s)

@@ -7,7 +7,7 @@ ghost use Rattle.cbs_core.specs.Faces.{face_at, ranks, submit_refusal, view_repl
 ghost use Rattle.cbs_core.specs.History.{History, ◌⊕◌, faces, world_after, reply_in, chosen};
 ghost use Rattle.cbs_core.specs.Agreement.{Agrees};
 ghost use Rattle.cbs_core.specs.Replies.{submitted, advanced, closed, lacks_memory, IsAccepted, Answers, AnswersAll, grown, grown_by, RoomAnswers};
-ghost use Rattle.cbs_core.specs.Laws.{account_in, completion_in, completions_of, Completes, NoneAfterClose, IsWithinBudget};
+ghost use Rattle.cbs_core.specs.Laws.{account_in, completion_in, completions_of, Completes, NoneAfterClose, IsWithinBudget, KeepsBudgets};
 ghost use Rattle.cbs_core.specs.Held.{room_of, KeepsRoom, IsOpen, HasRoom, IsRefusedBy, held_at, TakesJob, ClosesServer, OthersSame, AllSame, DoesRun, CountsOn};
 ghost use Rattle.cbs_core.specs.Queues.{ran_of};
 ghost use Rattle.cbs_core.specs.Setups.{terms_of, new_refusal};
@@ -129,6 +129,7 @@ impl<W: Work, A: Allocator> Core<W, A> {
         ensures job { IfOk result (λ number. TakesJob task number (held_at self.old server) (held_at self.new server)
             × OthersSame server self.old self.new) }
         ensures count { length self.new.faces ≡ length self.old.faces }
+        ensures budgets { KeepsBudgets self.new }
         ensures unchanged { OnErr result (self.new ≡ record self.old { rooms = self.new.rooms }) }
         ensures kept { OnErr result (KeepsRoom self.old.rooms self.new.rooms) }
     {
@@ -158,6 +159,7 @@ impl<W: Work, A: Allocator> Core<W, A> {
         ensures job { TakesJob task result (held_at self.old server) (held_at self.new server)
             × OthersSame server self.old self.new }
         ensures count { length self.new.faces ≡ length self.old.faces }
+        ensures budgets { KeepsBudgets self.new }
     {
         self.queues.push(server, task);
         self.servers.accept(server, self.clock)
@@ -173,6 +175,7 @@ impl<W: Work, A: Allocator> Core<W, A> {
         ensures state { (M : History W) → Agrees W.meaning self.old M → Agrees W.meaning self.new (M ⊕ Step.Run) }
         ensures job { DoesRun W.meaning result self.old self.new }
         ensures count { length self.new.faces ≡ length self.old.faces }
+        ensures budgets { KeepsBudgets self.new }
         ensures kept { KeepsRoom self.old.rooms self.new.rooms }
     {
         let Some(server) = self.servers.choose() else {
@@ -199,6 +202,7 @@ impl<W: Work, A: Allocator> Core<W, A> {
         ensures state { (M : History W) → Agrees W.meaning self.old M → Agrees W.meaning self.new (M ⊕ Step.Advance n) }
         ensures jobs { AllSame self.old self.new }
         ensures count { length self.new.faces ≡ length self.old.faces }
+        ensures budgets { KeepsBudgets self.new }
         ensures unchanged { OnErr result (self.new ≡ self.old) }
         ensures kept { KeepsRoom self.old.rooms self.new.rooms }
     {
@@ -223,6 +227,7 @@ impl<W: Work, A: Allocator> Core<W, A> {
         ensures closed { OnOk result (ClosesServer (held_at self.old server) (held_at self.new server)
             × OthersSame server self.old self.new) }
         ensures count { length self.new.faces ≡ length self.old.faces }
+        ensures budgets { KeepsBudgets self.new }
         ensures succeeds { IsOpen self.old server → IsOk result }
         ensures unchanged { OnErr result (self.new ≡ self.old) }
         ensures kept { KeepsRoom self.old.rooms self.new.rooms }
@@ -243,6 +248,7 @@ impl<W: Work, A: Allocator> Core<W, A> {
         ensures closed { ClosesServer (held_at self.old server) (held_at self.new server)
             × OthersSame server self.old self.new }
         ensures count { length self.new.faces ≡ length self.old.faces }
+        ensures budgets { KeepsBudgets self.new }
         ensures kept { KeepsRoom self.old.rooms self.new.rooms }
     {
         self.servers.close(server);
@@ -343,6 +349,7 @@ impl<W: Work, A: Allocator> Core<W, A> {
         ensures state { (M : History W) → Agrees W.meaning self.old M → Agrees W.meaning self.new (grown M step result) }
         ensures counts { CountsOn (completion_in result) self.old self.new }
         ensures count { length self.new.faces ≡ length self.old.faces }
+        ensures budgets { KeepsBudgets self.new }
     {
         match step {
             Step::Submit(server, task) => submit_reply(self.submit(server, task)),

@@ -139,6 +139,7 @@ impl<A: Allocator> Servers<A> {
     }
 
     /// A job comes in for a server, at tick `now`. Answers the job's number.
+    #[tactic(auto, using(crate::proofs::Lists::written))]
     pub fn accept(&mut self, server: u16, now: u64) -> u64
         requires within { server < length self.old }
         requires clock { now ≤ LIMIT }
@@ -150,6 +151,7 @@ impl<A: Allocator> Servers<A> {
     }
 
     /// A ready server uses one tick of its budget, for a unit that finished a job or did not.
+    #[tactic(auto, using(crate::proofs::Lists::written))]
     pub fn use_tick(&mut self, server: u16, done: bool)
         requires within { server < length self.old }
         requires ready { is_ready (face_at self.old server) ≡ true }
@@ -169,6 +171,7 @@ impl<A: Allocator> Servers<A> {
     }
 
     /// Lets a server accept no further job.
+    #[tactic(auto, using(crate::proofs::Lists::written))]
     pub fn close(&mut self, server: u16)
         requires { server < length self.old }
         ensures { self.new ≡ changed_at with_close self.old server }

@@ -1,12 +1,12 @@
-use Rattle.std.proofs.Common.{◌∙◌, ◌++◌, ◌∷◌, [], sym, ap}
+use Rattle.std.proofs.Common.{◌++◌, ◌∷◌, []}
 use Rattle.std.specs.declared.collections.VecDeque.{VecDeque}
-use Rattle.cbs_core.proofs.Tables.{list_read, list_written, within_lists}
+use Rattle.cbs_core.proofs.Lists.{part_written}
+use Rattle.cbs_core.proofs.Tables.{within_lists}
 use Rattle.cbs_core.proofs.queues.Queues.push.Goals as goal
 
 pub returns-clause-lists : goal.returns-clause-lists
 returns-clause-lists g c =
     let f = λ (q : VecDeque g.row.W.Denot g.row.A.Denot). q.items in
-    let within = within_lists f c.self.inside.queues.items c.args.server (rw (← c.self.view_is) at c.requires.within) in
     rw (← c.self.view_is)
-    (list_written f c.self.inside.queues.items c.from.result c.args.server c.push_back_reserved.new.self _ c.from.ensures
-    ((rw c.start.ensures.work at c.push_back_reserved.ensures.items) ∙ ap (λ xs. xs ++ c.args.task ∷ []) (sym (list_read f c.self.inside.queues.items c.from.result c.args.server c.index_mut-queue.result.now c.from.ensures within c.index_mut-queue.ensures.value))))
+    (part_written f (λ jobs. jobs ++ c.args.task ∷ []) c.self.inside.queues.items c.from.result c.args.server c.index_mut-queue.result.now c.push_back_reserved.new.self c.from.ensures
+    (within_lists f c.self.inside.queues.items c.args.server (rw (← c.self.view_is) at c.requires.within)) c.index_mut-queue.ensures.value (rw c.start.ensures.work at c.push_back_reserved.ensures.items))

@@ -1,0 +1,118 @@
+-- The choice: by a scan, and in words of its own.
+use Rattle.std.proofs.Common.{◌≡◌, ℕ, zero, suc, ◌+◌, ◌≤◌, ◌<◌, Bool, true, false, List, length, map, refl, sym, arith, ltb, ◌||◌, ◌&&◌, not, inl, inr, Option, Some, None, below_more, subst}
+use Rattle.std.specs.Prelude.{IfSome}
+use Rattle.std.proofs.lemmas.Bool.{cases_lt, cases_Bool}
+use Rattle.std.proofs.lemmas.Bool.Decides.{nat_tests}
+use Rattle.cbs_core.specs.Lists.{first_below, all_below}
+use Rattle.cbs_core.specs.Choice.{Rank, rank_at, is_before, is_first, chosen_among, better_of, IsEarliest, IsChoice}
+
+all_below-is : (p : ℕ → Bool) (n : ℕ) → ((r : ℕ) → r < n → p r ≡ true) → all_below p n ≡ true
+all_below-is p zero h = refl
+all_below-is p (suc n) h = rw (all_below-is p n (λ r lt. h r (omega arith)), h n (omega arith))
+
+first_below-none : (p : ℕ → Bool) (n : ℕ) → ((r : ℕ) → r < n → p r ≡ false) → first_below p n ≡ None
+first_below-none p zero h = refl
+first_below-none p (suc n) h = rw (first_below-none p n (λ r lt. h r (omega arith)), h n (omega arith))
+
+first_below-is : (p : ℕ → Bool) (n s : ℕ) → s < n → p s ≡ true → ((r : ℕ) → r < s → p r ≡ false) → first_below p n ≡ Some s
+first_below-is p zero s lt h before = absurd (omega arith)
+first_below-is p (suc n) s lt h before =
+    elim (cases_lt s n) [
+      | inl below ↦ rw (first_below-is p n s below h before)
+      | inr ge ↦
+          let e : n ≡ s = omega arith in
+          rw (first_below-none p n (λ r below. before r (omega arith)), e, h)
+    ]
+
+and_false : (b : Bool) → (b && false) ≡ false
+and_false true = refl
+and_false false = refl
+
+all_below-not : (p : ℕ → Bool) (n s : ℕ) → s < n → p s ≡ false → all_below p n ≡ false
+all_below-not p zero s lt h = absurd (omega arith)
+all_below-not p (suc n) s lt h =
+    elim (cases_lt s n) [
+      | inl below ↦ rw (all_below-not p n s below h)
+      | inr ge ↦ let e : n ≡ s = omega arith in rw (e, h) (and_false (all_below p s))
+    ]
+
+first_by : (ranks : List Rank) (s : ℕ) → IsEarliest ranks (length ranks) s → is_first ranks s ≡ true
+first_by ranks s best =
+    let each : (r : ℕ) → r < length ranks → (not (rank_at ranks r).ready || is_before ranks s r) ≡ true =
+    λ r lt. elim (cases_Bool (rank_at ranks r).ready) [ inl t ↦ rw (t, best.first r lt t) | inr f ↦ rw f ] in
+    rw (best.ready, all_below-is (λ r. not (rank_at ranks r).ready || is_before ranks s r) (length ranks) each)
+
+earlier_not : (ranks : List Rank) (s : ℕ) → IsEarliest ranks (length ranks) s → (r : ℕ) → r < s → is_first ranks r ≡ false
+earlier_not ranks s best r lt =
+    elim (cases_Bool (rank_at ranks r).ready) [
+      | inl t ↦
+          let before = best.first r (let w = best.within in omega arith) t in
+          let not_before : is_before ranks r s ≡ false = grind (arith, nat_tests) in
+          let fails : (not (rank_at ranks s).ready || is_before ranks r s) ≡ false = rw (best.ready, not_before) in
+          rw (t, all_below-not (λ q. not (rank_at ranks q).ready || is_before ranks r q) (length ranks) s best.within fails)
+      | inr f ↦ rw f
+    ]
+
+pub chosen_best : (ranks : List Rank) (best : Option ℕ) → IsChoice ranks (length ranks) best → best ≡ chosen_among ranks
+chosen_best ranks None none = sym (first_below-none (is_first ranks) (length ranks) (λ r lt. rw (none r lt)))
+chosen_best ranks (Some s) best = sym (first_below-is (is_first ranks) (length ranks) s best.within (first_by ranks s best) (earlier_not ranks s best))
+
+before_itself : (ranks : List Rank) (i : ℕ) → is_before ranks i i ≡ true
+before_itself ranks i = grind (arith, nat_tests)
+
+before_along : (ranks : List Rank) (i b r : ℕ) → (rank_at ranks i).deadline < (rank_at ranks b).deadline → is_before ranks b r ≡ true → is_before ranks i r ≡ true
+before_along ranks i b r lt before = grind (arith, nat_tests)
+
+before_later : (ranks : List Rank) (i b : ℕ) → b < i → (rank_at ranks b).deadline ≤ (rank_at ranks i).deadline → is_before ranks b i ≡ true
+before_later ranks i b lt le = grind (arith, nat_tests)
+
+module _ (ranks : List Rank) (i : ℕ) where
+  best_none : ((r : ℕ) → r < i → (rank_at ranks r).ready ≡ false) → (rank_at ranks i).ready ≡ true → IsEarliest ranks (i + 1) i
+  best_none none t = record {
+    within = omega arith;
+    ready = t;
+    first = below_more (λ r. (rank_at ranks r).ready ≡ true → is_before ranks i r ≡ true) i (λ r lt on. let off = none r lt in cc) (λ _. before_itself ranks i);
+  }
+
+  best_new : (b : ℕ) → IsEarliest ranks i b → (rank_at ranks i).ready ≡ true → (rank_at ranks i).deadline < (rank_at ranks b).deadline → IsEarliest ranks (i + 1) i
+  best_new b best t lt = record {
+    within = omega arith;
+    ready = t;
+    first = below_more (λ r. (rank_at ranks r).ready ≡ true → is_before ranks i r ≡ true) i (λ r below on. before_along ranks i b r lt (best.first r below on)) (λ _. before_itself ranks i);
+  }
+
+  best_old : (b : ℕ) → IsEarliest ranks i b → ((rank_at ranks i).ready ≡ true → (rank_at ranks b).deadline ≤ (rank_at ranks i).deadline) → IsEarliest ranks (i + 1) b
+  best_old b best le = record {
+    within = let w = best.within in omega arith;
+    ready = best.ready;
+    first = below_more (λ r. (rank_at ranks r).ready ≡ true → is_before ranks b r ≡ true) i best.first (λ on. before_later ranks i b best.within (le on));
+  }
+
+  pub better_best : (best : Option ℕ) → IsChoice ranks i best → IsChoice ranks (i + 1) (better_of ranks best i)
+  better_best None h =
+      elim (cases_Bool (rank_at ranks i).ready) [
+        | inl t ↦ rw t (best_none h t)
+        | inr f ↦ rw f (below_more (λ r. (rank_at ranks r).ready ≡ false) i h f)
+      ]
+  better_best (Some b) h =
+      elim (cases_Bool ((rank_at ranks i).ready && ltb (rank_at ranks i).deadline (rank_at ranks b).deadline)) [
+        | inl t ↦ rw t (best_new b h (grind (arith, nat_tests)) (grind (arith, nat_tests)))
+        | inr f ↦ rw f (best_old b h (λ on. grind (arith, nat_tests)))
+      ]
+
+  pub best_within : (n : ℕ) (best : Option ℕ) → IsChoice ranks n best → IfSome best (λ b. b < n)
+  best_within n None h = tt
+  best_within n (Some b) h = h.within
+
+-- the best of the first n
+abbrev best_of : List Rank → ℕ → Option ℕ
+best_of ranks zero = None
+best_of ranks (suc n) = better_of ranks (best_of ranks n) n
+
+best_of_is : (ranks : List Rank) (n : ℕ) → IsChoice ranks n (best_of ranks n)
+best_of_is ranks zero = λ r lt. absurd (omega arith)
+best_of_is ranks (suc n) = let e : n + 1 ≡ suc n = omega arith in subst (λ k. IsChoice ranks k (best_of ranks (suc n))) e (better_best ranks n (best_of ranks n) (best_of_is ranks n))
+
+-- the chosen server is the choice in words of its own
+pub choice_is : (ranks : List Rank) → IsChoice ranks (length ranks) (chosen_among ranks)
+choice_is ranks = let h = best_of_is ranks (length ranks) in subst (λ o. IsChoice ranks (length ranks) o) (chosen_best ranks (best_of ranks (length ranks)) h) h

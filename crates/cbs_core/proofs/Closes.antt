@@ -1,0 +1,73 @@
+-- Once a server is closed, no submit to it is accepted.
+use Rattle.std.proofs.Common.{◌≡◌, ℕ, zero, suc, Bool, true, ◌||◌, eqb, List, [], ◌∷◌, refl, ◌∙◌, ap, arith, Option, Some, None, inl, inr}
+use Rattle.std.proofs.lemmas.Bool.{cases_Bool}
+use Rattle.std.proofs.lemmas.Bool.Decides.{nat_tests}
+use Rattle.cbs_job.specs.Work.{Meaning}
+use Rattle.std.proofs.Common.{map}
+use Rattle.cbs_core.specs.Faces.{Face, face_at, submit_refusal, close_refusal}
+use Rattle.cbs_core.specs.Accounts.{Account, face_of}
+use Rattle.cbs_core.specs.History.{History, ◌⊕◌, account, faces, world_after, submit_reply, after_closing, reply_in}
+use Rattle.cbs_core.specs.Replies.{is_lack, IsAccepted, HandsBack, grown, Answers, AnswersAll}
+use Rattle.cbs_core.specs.Laws.{account_in, NoneAfterClose}
+use Rattle.cbs_core.specs.declared.error.CoreError.{CoreError}
+use Rattle.cbs_core.specs.declared.error.CoreError.TheVariants as error
+use Rattle.cbs_core.specs.declared.step.Step.{Step}
+use Rattle.cbs_core.specs.declared.step.Step.TheVariants.{Submit, Run, Advance, Close}
+use Rattle.cbs_core.specs.declared.reply.Reply.{Reply}
+use Rattle.cbs_core.specs.declared.reply.Reply.TheVariants as reply
+use Rattle.cbs_core.proofs.Agreements.{account_face}
+use Rattle.cbs_core.proofs.Histories.{holds_next}
+
+module _ {W : Type 0} (work : Meaning W) where
+  closed_next : (M : History W) (x : Step W) (s : ℕ) → (account_in work M s).closed ≡ true → (account_in work (M ⊕ x) s).closed ≡ true
+  closed_next M x s h = holds_next work (λ a. a.closed ≡ true) (λ now j a k. k) (λ a ready k. k) (λ now a k. k) (λ a k. refl) M.setup.backlog (world_after work M) x s h
+
+  closed_grown : (M : History W) (x : Step W) (r : Reply W) (s : ℕ) → (account_in work M s).closed ≡ true → (account_in work (grown M x r) s).closed ≡ true
+  closed_grown M x r s h = elim (cases_Bool (is_lack r)) [ inl t ↦ rw t h | inr f ↦ rw f (closed_next M x s h) ]
+
+  -- a closed server refuses
+  closed_refuses : (backlog : ℕ) (fs : List Face) (s : ℕ) → (face_at fs s).closed ≡ true → (e : CoreError) × (submit_refusal backlog fs s ≡ Some e)
+  closed_refuses backlog [] s h = (error.NoSuchServer, refl)
+  closed_refuses backlog (f ∷ fs) zero h = (error.Closed, rw h refl)
+  closed_refuses backlog (f ∷ fs) (suc s) h = closed_refuses backlog fs s h
+
+  not_accepted : (M : History W) (s : ℕ) (job : W) (r : Reply W) → (account_in work M s).closed ≡ true → Answers work M (Submit s job) r → IsAccepted r → ⊥
+  not_accepted M s job r h answers accepted =
+      let refusal = closed_refuses M.setup.backlog (faces work (world_after work M)) s (ap (λ (f : Face). f.closed) (account_face work (world_after work M).accounts s) ∙ h) in
+      let is : reply_in work M (Submit s job) ≡ reply.NotAccepted (record { error = refusal.0; task = job }) = ap (submit_reply (world_after work M) s job) refusal.1 in
+      elim (cases_Bool (is_lack r)) [
+        | inl t ↦ let p : HandsBack (Submit s job) r × IsAccepted (reply_in work M (Submit s job)) = rw t at answers in let e = accepted.1 in let k = p.0 in cc
+        | inr f ↦ let p : r ≡ reply_in work M (Submit s job) = rw f at answers in let e = accepted.1 in cc
+      ]
+
+  -- a close closes
+  tail_closing : (now : ℕ) (a : Account W) (accounts : List (Account W)) (s : ℕ) (o : Option CoreError)
+      → account (after_closing (record { now = now; accounts = a ∷ accounts }) (suc s) o).accounts (suc s) ≡ account (after_closing (record { now = now; accounts = accounts }) s o).accounts s
+  tail_closing now a accounts s None = refl
+  tail_closing now a accounts s (Some e) = refl
+
+  closes_at : (now : ℕ) (accounts : List (Account W)) (s : ℕ) → (account (after_closing (record { now = now; accounts = accounts }) s (close_refusal (map (face_of work) accounts) s)).accounts s).closed ≡ true
+  closes_at now [] s = refl
+  closes_at now (a ∷ accounts) zero = elim (cases_Bool a.closed) [ inl t ↦ rw t refl | inr f ↦ rw f refl ]
+  closes_at now (a ∷ accounts) (suc s) = ap (λ (b : Account W). b.closed) (tail_closing now a accounts s (close_refusal (map (face_of work) accounts) s)) ∙ closes_at now accounts s
+
+  close_grown : (M : History W) (t s : ℕ) (r : Reply W) (closed : Bool) → (closed ≡ true → (account_in work M s).closed ≡ true) → Answers work M (Close t) r
+      → (closed || eqb t s) ≡ true → (account_in work (grown M (Close t) r) s).closed ≡ true
+  close_grown M t s r closed h answers either = elim (cases_Bool closed) [
+    | inl y ↦ closed_grown M (Close t) r s (h y)
+    | inr n ↦
+        let same : t ≡ s = let e : eqb t s ≡ true = rw n at either in grind (arith, nat_tests) in
+        elim (cases_Bool (is_lack r)) [
+          | inl l ↦ let p : ⊥ × IsAccepted (reply_in work M (Close t)) = rw l at answers in absurd p.0
+          | inr f ↦ rw (f, same) (closes_at (world_after work M).now (world_after work M).accounts s)
+        ]
+  ]
+
+  pub NoneAfterClose-all : (M : History W) (xs : List (Step W)) (rs : List (Reply W)) (s : ℕ) (closed : Bool) → AnswersAll work M xs rs → (closed ≡ true → (account_in work M s).closed ≡ true) → NoneAfterClose s closed xs rs
+  NoneAfterClose-all M [] rs s closed all h = tt
+  NoneAfterClose-all M (x ∷ xs) [] s closed all h = absurd all
+  NoneAfterClose-all M (Submit t job ∷ xs) (r ∷ rs) s closed all h =
+      ((λ y same accepted. not_accepted M t job r (rw same (h y)) all.0 accepted), NoneAfterClose-all (grown M (Submit t job) r) xs rs s closed all.1 (λ y. closed_grown M (Submit t job) r s (h y)))
+  NoneAfterClose-all M (Run ∷ xs) (r ∷ rs) s closed all h = NoneAfterClose-all (grown M Run r) xs rs s closed all.1 (λ y. closed_grown M Run r s (h y))
+  NoneAfterClose-all M (Advance n ∷ xs) (r ∷ rs) s closed all h = NoneAfterClose-all (grown M (Advance n) r) xs rs s closed all.1 (λ y. closed_grown M (Advance n) r s (h y))
+  NoneAfterClose-all M (Close t ∷ xs) (r ∷ rs) s closed all h = NoneAfterClose-all (grown M (Close t) r) xs rs s (closed || eqb t s) all.1 (close_grown M t s r closed h all.0)

@@ -1,0 +1,199 @@
+-- The completions of a server: they go on from its finished jobs.
+use Rattle.std.proofs.Common.{◌≡◌, ◌≢◌, ℕ, zero, suc, ◌+◌, ◌≤◌, ◌<◌, true, List, [], ◌∷◌, ◌++◌, length, map, take, drop, get_or, eqb, leb, refl, sym, ◌∙◌, ap, subst, arith, Option, Some, None, inl, inr, length-append, append_assoc, append-nil}
+use Rattle.std.proofs.lemmas.Bool.{cases_Bool}
+use Rattle.std.proofs.lemmas.Bool.Decides.{nat_tests}
+use Rattle.std.proofs.lemmas.List.{map-append, length-map, drop-drop}
+use Rattle.std.specs.List.{AllZip}
+use Rattle.cbs_job.specs.Work.{Meaning, whole}
+use Rattle.cbs_job.specs.declared.completion.Completion.{Completion}
+use Rattle.cbs_core.specs.Faces.{Face, is_ready, submit_refusal, close_refusal}
+use Rattle.cbs_core.specs.Accounts.{Account, finished, need, face_of}
+use Rattle.cbs_core.specs.History.{World, History, ◌⊕◌, account, faces, chosen, world_after, run_reply, unit_reply, submit_reply, close_reply, reply_in}
+use Rattle.cbs_core.specs.Agreement.{Agrees}
+use Rattle.cbs_core.specs.Replies.{is_lack, grown, grown_by, Answers, AnswersAll}
+use Rattle.cbs_core.specs.Laws.{account_in, completion_ran, completion_in, completion_of, completions_of, numbers_from, Completes}
+use Rattle.cbs_core.specs.Held.{CoreHeld, held_at, CountsOn}
+use Rattle.cbs_rules.specs.Rules.{clock_end}
+use Rattle.cbs_core.specs.declared.error.CoreError.{CoreError}
+use Rattle.cbs_core.specs.declared.step.Step.{Step}
+use Rattle.cbs_core.specs.declared.step.Step.TheVariants.{Submit, Run, Advance, Close}
+use Rattle.cbs_core.specs.declared.reply.Reply.{Reply}
+use Rattle.cbs_core.specs.declared.reply.Reply.TheVariants as reply
+use Rattle.cbs_core.proofs.FinishedJobs.{count_done-le}
+use Rattle.cbs_core.proofs.Histories.{holds_next, chosen_is_ready}
+use Rattle.cbs_core.proofs.Faces.{runnable}
+use Rattle.cbs_core.proofs.Agreements.{face_is}
+use Rattle.cbs_core.proofs.StepLists.{grown_by-push}
+
+-- lists of numbers, and parts of lists
+numbers_from-append : (k m n : ℕ) → numbers_from k (m + n) ≡ numbers_from k m ++ numbers_from (k + m) n
+numbers_from-append k zero n = let e : zero + n ≡ n = omega arith in let f : k + 0 ≡ k = omega arith in rw (e, f) refl
+numbers_from-append k (suc m) n =
+    let e : suc m + n ≡ suc (m + n) = omega arith in
+    let f : k + 1 + m ≡ k + suc m = omega arith in
+    rw e (ap (λ ns. k ∷ ns) (numbers_from-append (k + 1) m n ∙ ap (λ j. numbers_from (k + 1) m ++ numbers_from j n) f))
+
+take_nil : {X : Type 0} (n : ℕ) (xs : List X) → xs ≡ [] → take n xs ≡ []
+take_nil zero xs e = refl
+take_nil (suc n) [] e = refl
+take_nil (suc n) (x ∷ xs) e = cc
+
+take-add : {X : Type 0} (m n : ℕ) (xs : List X) → take (m + n) xs ≡ take m xs ++ take n (drop m xs)
+take-add zero n xs = let e : zero + n ≡ n = omega arith in rw e refl
+take-add (suc m) n [] = let e : suc m + n ≡ suc (m + n) = omega arith in rw e (sym (take_nil n [] refl))
+take-add (suc m) n (x ∷ xs) = let e : suc m + n ≡ suc (m + n) = omega arith in rw e (ap (λ ys. x ∷ ys) (take-add m n xs))
+
+-- a part within a list is a part of every longer list
+part_of_more : {X : Type 0} (k m : ℕ) (xs more : List X) → k + m ≤ length xs → take m (drop k (xs ++ more)) ≡ take m (drop k xs)
+part_of_more k zero xs more le = refl
+part_of_more zero (suc m) [] more le = absurd (omega arith)
+part_of_more zero (suc m) (x ∷ xs) more le = ap (λ ys. x ∷ ys) (part_of_more zero m xs more (omega arith))
+part_of_more (suc k) (suc m) [] more le = absurd (omega arith)
+part_of_more (suc k) (suc m) (x ∷ xs) more le = part_of_more k (suc m) xs more (omega arith)
+
+part_of_one : (k : ℕ) (xs : List ℕ) → k < length xs → take 1 (drop k xs) ≡ get_or xs k 0 ∷ []
+part_of_one k [] lt = absurd (omega arith)
+part_of_one zero (x ∷ xs) lt = refl
+part_of_one (suc k) (x ∷ xs) lt = part_of_one k xs (omega arith)
+
+module _ {W : Type 0} where
+  pub completions_of-push : (s : ℕ) (rs : List (Reply W)) (r : Reply W) → completions_of s (rs ++ r ∷ []) ≡ completions_of s rs ++ completion_of s (completion_in r)
+  completions_of-push s [] r = append-nil (completion_of s (completion_in r))
+  completions_of-push s (q ∷ rs) r = ap (λ cs. completion_of s (completion_in q) ++ cs) (completions_of-push s rs r) ∙ sym (append_assoc (completion_of s (completion_in q)) (completions_of s rs) (completion_of s (completion_in r)))
+
+module _ {W : Type 0} (work : Meaning W) where
+  pub Completes-none : (a : Account W) → Completes work a a []
+  Completes-none a = record { jobs = ([], sym (append-nil a.accepted)); numbers = refl; results = refl; finished = omega arith }
+
+  -- one run after another
+  pub Completes-append : (a b c : Account W) (cs ds : List Completion) → Completes work a b cs → Completes work b c ds → Completes work a c (cs ++ ds)
+  Completes-append a b c cs ds h k =
+      let n = length-append cs ds in
+      let f = finished work a in
+      let wholes : map (whole work) c.accepted ≡ map (whole work) b.accepted ++ map (whole work) k.jobs.0 = ap (map (whole work)) k.jobs.1 ∙ map-append (whole work) b.accepted k.jobs.0 in
+      let within : f + length cs ≤ length (map (whole work) b.accepted) = let e = h.finished in omega (arith, length-map b.accepted (whole work), count_done-le work.left b.accepted b.got) in
+      let X = map (whole work) c.accepted in
+      let first : take (length cs) (drop f X) ≡ map (λ (d : Completion). d.result) cs = rw wholes (part_of_more f (length cs) (map (whole work) b.accepted) (map (whole work) k.jobs.0) within) ∙ sym h.results in
+      let second : take (length ds) (drop (f + length cs) X) ≡ map (λ (d : Completion). d.result) ds = rw (← h.finished) (sym k.results) in
+      let both : take (length cs + length ds) (drop f X) ≡ map (λ (d : Completion). d.result) cs ++ map (λ (d : Completion). d.result) ds =
+      take-add (length cs) (length ds) (drop f X) ∙ rw (first, drop-drop (length cs) f X, second) refl in
+      let counted : numbers_from f (length cs + length ds) ≡ map (λ (d : Completion). d.seq) cs ++ map (λ (d : Completion). d.seq) ds =
+      numbers_from-append f (length cs) (length ds) ∙ rw (h.numbers, k.numbers, h.finished) refl in
+      record {
+        jobs = (h.jobs.0 ++ k.jobs.0, k.jobs.1 ∙ ap (λ xs. xs ++ k.jobs.0) h.jobs.1 ∙ append_assoc a.accepted h.jobs.0 k.jobs.0);
+        numbers = rw n (map-append (λ (d : Completion). d.seq) cs ds ∙ sym counted);
+        results = rw n (map-append (λ (d : Completion). d.result) cs ds ∙ sym both);
+        finished = rw n (let e = h.finished in let g = k.finished in omega arith);
+      }
+
+  -- the accepted jobs stay, and more may follow
+  accepted_next : (M : History W) (x : Step W) (s : ℕ) → (more : List W) × ((account_in work (M ⊕ x) s).accepted ≡ (account_in work M s).accepted ++ more)
+  accepted_next M x s =
+      let before = (account_in work M s).accepted in
+      holds_next work (λ a. (more : List W) × (a.accepted ≡ before ++ more))
+      (λ now j a h. (h.0 ++ j ∷ [], ap (λ xs. xs ++ j ∷ []) h.1 ∙ append_assoc before h.0 (j ∷ [])))
+      (λ a ready h. h) (λ now a h. h) (λ a h. h) M.setup.backlog (world_after work M) x s ([], sym (append-nil before))
+
+  accepted_grown : (M : History W) (x : Step W) (r : Reply W) (s : ℕ) → (more : List W) × ((account_in work (grown M x r) s).accepted ≡ (account_in work M s).accepted ++ more)
+  accepted_grown M x r s = elim (cases_Bool (is_lack r)) [ inl t ↦ rw t ([], sym (append-nil (account_in work M s).accepted)) | inr f ↦ rw f (accepted_next M x s) ]
+
+  finished_agrees : (core : CoreHeld W) (M : History W) → Agrees work core M → (s : ℕ) → (held_at core s).face.finished ≡ finished work (account_in work M s)
+  finished_agrees core M agrees s = sym (ap (λ (f : Face). f.finished) (face_is work core M.setup.backlog (world_after work M) agrees.world s))
+
+  -- a completion tells the whole result of the accepted job of its number
+  record Tells (a : Account W) (c : Completion) : Type 0 where
+    within : c.seq < length a.accepted
+    result : c.result ≡ get_or (map (whole work) a.accepted) c.seq 0
+
+  unit_is : (a : Account W) (s : ℕ) (c : Completion) → Some c ≡ completion_ran (unit_reply work a s) → c ≡ record { server = s; seq = finished work a; result = get_or (map (whole work) a.accepted) (finished work a) 0 }
+  unit_is a s c e = elim (cases_Bool (eqb (need work a (finished work a + 1)) (a.got + 1))) [
+    | inl t ↦ let k : Some c ≡ Some (record { server = s; seq = finished work a; result = get_or (map (whole work) a.accepted) (finished work a) 0 }) = rw t at e in cc
+    | inr f ↦ let k : Some c ≡ None = rw f at e in cc
+  ]
+
+  active_within : (a : Account W) → is_ready (face_of work a) ≡ true → finished work a < length a.accepted
+  active_within a ready = (runnable (face_of work a) ready).active
+
+  run_tells : (w : World W) (o : Option ℕ) (c : Completion) → ((s : ℕ) → o ≡ Some s → is_ready (face_of work (account w.accounts s)) ≡ true) → Some c ≡ completion_ran (run_reply work w o) → Tells (account w.accounts c.server) c
+  run_tells w None c ready e = cc
+  run_tells w (Some s) c ready e = elim (cases_Bool (leb clock_end w.now)) [
+    | inl t ↦ let k : Some c ≡ None = rw t at e in cc
+    | inr f ↦
+        let k : Some c ≡ completion_ran (unit_reply work (account w.accounts s) s) = rw f at e in
+        let is = unit_is (account w.accounts s) s c k in
+        rw is record { within = active_within (account w.accounts s) (ready s refl); result = refl }
+  ]
+
+  submit_none : (w : World W) (s : ℕ) (job : W) (o : Option CoreError) → completion_in (submit_reply w s job o) ≡ None
+  submit_none w s job None = refl
+  submit_none w s job (Some e) = refl
+
+  close_none : (o : Option CoreError) → completion_in {W = W} (close_reply o) ≡ None
+  close_none None = refl
+  close_none (Some e) = refl
+
+  reply_tells : (M : History W) (x : Step W) (c : Completion) → Some c ≡ completion_in (reply_in work M x) → Tells (account_in work M c.server) c
+  reply_tells M (Submit s job) c e = let n = submit_none (world_after work M) s job (submit_refusal M.setup.backlog (faces work (world_after work M)) s) in cc
+  reply_tells M Run c e = run_tells (world_after work M) (chosen work (world_after work M)) c (chosen_is_ready work (world_after work M)) e
+  reply_tells M (Advance n) c e = elim (cases_Bool (leb ((world_after work M).now + n) clock_end)) [ inl t ↦ let k : Some c ≡ None = rw t at e in cc | inr f ↦ let k : Some c ≡ None = rw f at e in cc ]
+  reply_tells M (Close s) c e = let n = close_none (close_refusal (faces work (world_after work M)) s) in cc
+
+  lack_none : (r : Reply W) → is_lack r ≡ true → completion_in r ≡ None
+  lack_none (reply.Accepted q) e = refl
+  lack_none (reply.NotAccepted x) e = refl
+  lack_none (reply.Ran q) e = cc
+  lack_none reply.Advanced e = refl
+  lack_none reply.Closed e = refl
+  lack_none (reply.Refused x) e = refl
+
+  answer_tells : (M : History W) (x : Step W) (r : Reply W) (c : Completion) → Answers work M x r → Some c ≡ completion_in r → Tells (account_in work M c.server) c
+  answer_tells M x r c answers e = elim (cases_Bool (is_lack r)) [
+    | inl t ↦ let n = lack_none r t in cc
+    | inr f ↦ let same : r ≡ reply_in work M x = rw f at answers in reply_tells M x c (e ∙ ap completion_in same)
+  ]
+
+  -- one step
+  pub step_completes : (M : History W) (x : Step W) (r : Reply W) (s : ℕ) (o : Option Completion) (old new : CoreHeld W) → o ≡ completion_in r → Answers work M x r → CountsOn o old new
+      → Agrees work old M → Agrees work new (grown M x r) → Completes work (account_in work M s) (account_in work (grown M x r) s) (completion_of s o)
+  step_completes M x r s None old new is answers counts agrees later =
+      let f = finished_agrees old M agrees s in
+      let g = finished_agrees new (grown M x r) later s in
+      let n = counts s in
+      record { jobs = accepted_grown M x r s; numbers = refl; results = refl; finished = omega arith }
+  step_completes M x r s (Some c) old new is answers counts agrees later =
+      let f = finished_agrees old M agrees s in
+      let g = finished_agrees new (grown M x r) later s in
+      let after = account_in work (grown M x r) s in
+      let more = accepted_grown M x r s in
+      elim (cases_Bool (eqb c.server s)) [
+        | inl t ↦
+            let here : c.server ≡ s = grind (arith, nat_tests) in
+            let seq : c.seq ≡ finished work (account_in work M s) = (rw here at counts.0) ∙ f in
+            let count : finished work after ≡ finished work (account_in work M s) + 1 = let k : (held_at new s).face.finished ≡ (held_at old s).face.finished + 1 = rw here at counts.1 in omega arith in
+            let told : Tells (account_in work M s) c = subst (λ t. Tells (account_in work M t) c) here (answer_tells M x r c answers is) in
+            let wholes : map (whole work) after.accepted ≡ map (whole work) (account_in work M s).accepted ++ map (whole work) more.0 =
+            ap (map (whole work)) more.1 ∙ map-append (whole work) (account_in work M s).accepted more.0 in
+            let within : c.seq < length (map (whole work) (account_in work M s).accepted) = let w = told.within in omega (arith, length-map (account_in work M s).accepted (whole work)) in
+            let found : take 1 (drop c.seq (map (whole work) after.accepted)) ≡ c.result ∷ [] =
+            rw wholes (part_of_more c.seq 1 (map (whole work) (account_in work M s).accepted) (map (whole work) more.0) (omega arith))
+            ∙ part_of_one c.seq (map (whole work) (account_in work M s).accepted) within ∙ ap (λ k. k ∷ []) (sym told.result) in
+            rw t record {
+              jobs = more;
+              numbers = ap (λ k. k ∷ []) seq;
+              results = sym (rw (← seq) found);
+              finished = count;
+            }
+        | inr n ↦
+            let other : s ≢ c.server = λ e. let y : eqb c.server s ≡ true = grind (arith, nat_tests) in cc in
+            let k = counts.2 s other in
+            rw n record { jobs = more; numbers = refl; results = refl; finished = omega arith }
+      ]
+
+  -- one step more
+  pub completes_more : (M : History W) (xs : List (Step W)) (rs : List (Reply W)) (x : Step W) (r : Reply W) (s : ℕ) → AnswersAll work M xs rs
+      → Completes work (account_in work M s) (account_in work (grown_by M xs rs) s) (completions_of s rs)
+      → Completes work (account_in work (grown_by M xs rs) s) (account_in work (grown (grown_by M xs rs) x r) s) (completion_of s (completion_in r))
+      → Completes work (account_in work M s) (account_in work (grown_by M (xs ++ x ∷ []) (rs ++ r ∷ [])) s) (completions_of s (rs ++ r ∷ []))
+  completes_more M xs rs x r s all before now =
+      rw (grown_by-push work M xs rs x r all, completions_of-push s rs r)
+      (Completes-append (account_in work M s) (account_in work (grown_by M xs rs) s) (account_in work (grown (grown_by M xs rs) x r) s) (completions_of s rs) (completion_of s (completion_in r)) before now)

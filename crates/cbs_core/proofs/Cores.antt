@@ -1,0 +1,167 @@
+-- What each core keeps, through each step.
+use Rattle.std.proofs.Common.{◌≡◌, ℕ, zero, suc, ◌+◌, ◌-◌, ◌*◌, ◌≤◌, ◌<◌, ◌^◌, true, List, [], ◌∷◌, ◌++◌, length, map, get_or, replicate, refl, sym, ◌∙◌, ap, arith, eqb, inl, inr, is_some, length-append}
+use Rattle.std.specs.Prelude.{if◌then◌else◌, slice_get, Result, IfOk, OnOk}
+use Rattle.std.proofs.lemmas.Bool.{cases_lt, cases_Bool}
+use Rattle.std.proofs.lemmas.Option.{slice_get-get_or, slice_get_past}
+use Rattle.std.proofs.lemmas.Bool.Decides.{nat_tests}
+use Rattle.std.proofs.lemmas.List.{length-map}
+use Rattle.std.specs.List.{AllByRecursion, AllZip}
+use Rattle.cbs_job.specs.Work.{Meaning}
+use Rattle.cbs_rate.specs.Rate.{Rate, IsRate}
+use Rattle.cbs_rules.specs.Rules.{clock_end, latest_deadline}
+use Rattle.cbs_rules.specs.declared.mode.Mode.{Mode}
+use Rattle.cbs_core.specs.Lists.{changed_at}
+use Rattle.cbs_core.specs.Faces.{Face, new_face, no_face, face_at, is_ready, backlog_of, with_job, with_unit, with_replenishment, with_close, view_reply}
+use Rattle.cbs_core.specs.Laws.{IsWithinBudget, KeepsBudgets}
+use Rattle.cbs_core.specs.declared.error.CoreError.{CoreError}
+use Rattle.cbs_core.specs.declared.view.ServerView.{ServerView}
+use Rattle.cbs_core.specs.Held.{CoreHeld, held_at, Accepts}
+use Rattle.cbs_core.specs.Queues.{list_at, jobs_run, result_run}
+use Rattle.cbs_core.specs.Setups.{terms_of}
+use Rattle.cbs_core.specs.Invariant.{IsServer, HoldsBacklog, IsCore}
+use Rattle.cbs_core.proofs.Faces.{server_new, server_later, server_replenished, server_closed, server_joined, server_run, runnable, budget_some, within_budget}
+use Rattle.cbs_core.proofs.Lists.{counted, length-changed_at, AllByRecursion-map, AllByRecursion-get, AllByRecursion-push, AllByRecursion-changed_at, AllZip-length, AllZip-get, AllZip-map, AllZip-changed_at, AllZip-changed_second}
+use Rattle.cbs_core.proofs.Plans.{length-faces}
+
+-- a new core
+module _ {W : Type 0} (work : Meaning W) (mode : Mode) (backlog : ℕ) where
+  all_new : (rates : List Rate) → AllByRecursion (λ r. IsRate r.budget r.period) rates → AllByRecursion (IsServer backlog 0) (map new_face (terms_of mode rates))
+  all_new [] ok = tt
+  all_new (r ∷ rates) ok = (server_new backlog 0 (record { mode = mode; reservation = r }) ok.0, all_new rates ok.1)
+
+  none_held : (rates : List Rate) → AllZip (HoldsBacklog work) (map {A = Rate} (λ r. []) rates) (map new_face (terms_of mode rates))
+  none_held [] = tt
+  none_held (r ∷ rates) = (record { counted = refl; unfinished = tt }, none_held rates)
+
+  empty_queues : (rates : List Rate) → replicate (length rates) [] ≡ map {A = Rate} {B = List W} (λ r. []) rates
+  empty_queues [] = refl
+  empty_queues (r ∷ rates) = ap (λ qs. [] ∷ qs) (empty_queues rates)
+
+  pub core_new : (rates : List Rate) (n : ℕ) (faces : List Face) (queues : List (List W)) (rooms : List ℕ) → length rates ≤ 64 → backlog ≤ 4096 → AllByRecursion (λ r. IsRate r.budget r.period) rates
+      → faces ≡ map new_face (terms_of mode rates) → n ≡ length faces → queues ≡ replicate n [] → IsCore work (record { backlog = backlog; clock = 0; faces = faces; queues = queues; rooms = rooms })
+  core_new rates n faces queues rooms few small ok shown count empty =
+      let size : n ≡ length rates = count ∙ ap length shown ∙ length-faces mode rates in
+      record {
+        few = rw (shown, length-faces mode rates) few;
+        small = small;
+        clock = omega arith;
+        each = rw shown (all_new rates ok);
+        jobs = rw (shown, empty, size, empty_queues rates) (none_held rates);
+      }
+
+module _ {W : Type 0} (work : Meaning W) (core : CoreHeld W) (ok : IsCore work core) where
+  pub server_at : (s : ℕ) → s < length core.faces → IsServer core.backlog core.clock (face_at core.faces s)
+  server_at s lt = AllByRecursion-get (IsServer core.backlog core.clock) core.faces s no_face ok.each lt
+
+  pub queue_count : length core.queues ≡ length core.faces
+  queue_count = AllZip-length (HoldsBacklog work) core.queues core.faces ok.jobs
+
+  pub backlog_at : (s : ℕ) → s < length core.faces → HoldsBacklog work (list_at core.queues s) (face_at core.faces s)
+  backlog_at s lt = AllZip-get (HoldsBacklog work) core.queues core.faces s [] no_face ok.jobs (let n = queue_count in omega arith)
+
+  -- the deadline that a view shows is within its limit
+  pub view_early : (s : ℕ) (r : Result ServerView CoreError) → r ≡ view_reply (slice_get core.faces s) → IfOk r (λ v. v.deadline ≤ core.clock + (core.clock + 1) * 1000000000)
+  view_early s r e = elim (cases_lt s (length core.faces)) [
+    | inl lt ↦ rw (e, slice_get-get_or core.faces s no_face lt) (server_at s lt).early
+    | inr ge ↦ rw (e, slice_get_past core.faces s ge) tt
+  ]
+
+  pub budgets_kept : KeepsBudgets core
+  budgets_kept s lt = within_budget core.backlog core.clock (face_at core.faces s) (server_at s lt)
+
+  -- and the budget is within its own
+  pub view_budget : (s : ℕ) (r : Result ServerView CoreError) → r ≡ view_reply (slice_get core.faces s) → OnOk r (IsWithinBudget (face_at core.faces s))
+  view_budget s r e = elim (cases_lt s (length core.faces)) [
+    | inl lt ↦ rw (e, slice_get-get_or core.faces s no_face lt) (budgets_kept s lt)
+    | inr ge ↦ rw (e, slice_get_past core.faces s ge) tt
+  ]
+
+  -- what a tick of a ready server may rest on
+  pub record MayUseTick (s : ℕ) : Type 0 where
+    pub some : 0 < (face_at core.faces s).state.budget
+    pub room : (face_at core.faces s).state.deadline ≤ latest_deadline
+
+  pub may_use_tick : (s : ℕ) → core.clock < clock_end → s < length core.faces → is_ready (face_at core.faces s) ≡ true → MayUseTick s
+  may_use_tick s early lt ready = let is = server_at s lt in let e = is.early in let k = ok.clock in record { some = budget_some core.backlog core.clock (face_at core.faces s) is ready; room = omega arith }
+
+  -- another number fits for the jobs of a server
+  pub few_jobs : (s : ℕ) → s < length core.faces → (face_at core.faces s).accepted + 1 < 2 ^ 64
+  few_jobs s lt = let b = server_at s lt in let c = b.counted in let f = b.few_done in let j = b.few_jobs in let k = ok.clock in let m = ok.small in omega arith
+
+  -- what a run may rest on
+  pub record Runs (s : ℕ) : Type 0 where
+    pub active : 0 < length (list_at core.queues s)
+    pub unfinished : AllByRecursion (λ w. 0 < work.left w) (list_at core.queues s)
+
+  pub ready_runs : (s : ℕ) → s < length core.faces → is_ready (face_at core.faces s) ≡ true → Runs s
+  ready_runs s lt ready = let h = backlog_at s lt in let c = h.counted in let a = (runnable (face_at core.faces s) ready).active in record { active = omega arith; unfinished = h.unfinished }
+
+  unfinished_run : (jobs : List W) → AllByRecursion (λ w. 0 < work.left w) jobs → AllByRecursion (λ w. 0 < work.left w) (jobs_run work jobs)
+  unfinished_run [] all = all
+  unfinished_run (job ∷ jobs) all = elim (cases_Bool (eqb (work.left (work.after job)) 0)) [ inl e ↦ rw e all.1 | inr e ↦ rw e (grind (arith, nat_tests), all.1) ]
+
+  counted_run : (jobs : List W) (f : Face) → 0 < length jobs → length jobs ≡ backlog_of f → length (jobs_run work jobs) ≡ backlog_of (with_unit (is_some (result_run work jobs)) f)
+  counted_run [] f some e = absurd (omega arith)
+  counted_run (job ∷ jobs) f some e = elim (cases_Bool (eqb (work.left (work.after job)) 0)) [ inl t ↦ rw t (omega arith) | inr n ↦ rw n (omega arith) ]
+
+  -- a run of server s, by what it does to faces and queues
+  pub core_run : (s : ℕ) (faces : List Face) (queues : List (List W)) (rooms : List ℕ) → core.clock < clock_end → s < length core.faces → is_ready (face_at core.faces s) ≡ true
+      → faces ≡ map (with_replenishment (core.clock + 1)) (changed_at (with_unit (is_some (result_run work (list_at core.queues s)))) core.faces s)
+      → queues ≡ changed_at (jobs_run work) core.queues s
+      → IsCore work (record { backlog = core.backlog; clock = core.clock + 1; faces = faces; queues = queues; rooms = rooms })
+  core_run s faces queues rooms early lt ready shown run =
+      let done = is_some (result_run work (list_at core.queues s)) in
+      let here = ready_runs s lt ready in
+      rw (shown, run) record {
+        few = omega (arith, ok.few, length-map (changed_at (with_unit done) core.faces s) (with_replenishment (core.clock + 1)), length-changed_at (with_unit done) core.faces s);
+        small = ok.small;
+        clock = omega arith;
+        each = AllByRecursion-map (IsServer core.backlog (core.clock + 1)) (IsServer core.backlog (core.clock + 1)) (with_replenishment (core.clock + 1)) (changed_at (with_unit done) core.faces s)
+            (AllByRecursion-changed_at (IsServer core.backlog core.clock) (IsServer core.backlog (core.clock + 1)) (with_unit done) core.faces s no_face ok.each
+            (λ f is. server_later core.backlog core.clock f is (core.clock + 1) (omega arith)) (λ is. server_run core.backlog core.clock (face_at core.faces s) is done ready))
+            (λ f is. server_replenished core.backlog (core.clock + 1) f is);
+        jobs = AllZip-map (HoldsBacklog work) (with_replenishment (core.clock + 1)) (changed_at (jobs_run work) core.queues s) (changed_at (with_unit done) core.faces s)
+            (AllZip-changed_at (HoldsBacklog work) core.queues core.faces s [] no_face (jobs_run work) (with_unit done) ok.jobs (let n = queue_count in omega arith)
+            (λ h. record { counted = counted_run (list_at core.queues s) (face_at core.faces s) here.active h.counted; unfinished = unfinished_run (list_at core.queues s) h.unfinished }))
+            (λ jobs f h. record { counted = h.counted; unfinished = h.unfinished });
+      }
+
+  -- a jump by n ticks
+  pub core_jumped : (n : ℕ) (faces : List Face) (rooms : List ℕ) → core.clock + n ≤ clock_end → faces ≡ map (with_replenishment (core.clock + n)) core.faces
+      → IsCore work (record { backlog = core.backlog; clock = core.clock + n; faces = faces; queues = core.queues; rooms = rooms })
+  core_jumped n faces rooms late shown = rw shown record {
+    few = omega (arith, ok.few, length-map core.faces (with_replenishment (core.clock + n)));
+    small = ok.small;
+    clock = late;
+    each = AllByRecursion-map (IsServer core.backlog core.clock) (IsServer core.backlog (core.clock + n)) (with_replenishment (core.clock + n)) core.faces ok.each
+        (λ f is. server_replenished core.backlog (core.clock + n) f (server_later core.backlog core.clock f is (core.clock + n) (omega arith)));
+    jobs = AllZip-map (HoldsBacklog work) (with_replenishment (core.clock + n)) core.queues core.faces ok.jobs (λ jobs f h. record { counted = h.counted; unfinished = h.unfinished });
+  }
+
+  -- one more job of server s
+  pub core_joined : (s : ℕ) (job : W) (faces : List Face) (queues : List (List W)) (rooms : List ℕ) → Accepts core s → 0 < work.left job
+      → faces ≡ changed_at (with_job core.clock) core.faces s → queues ≡ changed_at (λ jobs. jobs ++ job ∷ []) core.queues s
+      → IsCore work (record { backlog = core.backlog; clock = core.clock; faces = faces; queues = queues; rooms = rooms })
+  core_joined s job faces queues rooms accepts some shown joined = rw (shown, joined) record {
+    few = omega (arith, ok.few, length-changed_at (with_job core.clock) core.faces s);
+    small = ok.small;
+    clock = ok.clock;
+    each = AllByRecursion-changed_at (IsServer core.backlog core.clock) (IsServer core.backlog core.clock) (with_job core.clock) core.faces s no_face ok.each (λ f is. is)
+        (λ is. server_joined core.backlog core.clock (face_at core.faces s) is accepts.few);
+    jobs = AllZip-changed_at (HoldsBacklog work) core.queues core.faces s [] no_face (λ jobs. jobs ++ job ∷ []) (with_job core.clock) ok.jobs (let n = queue_count in let lt = accepts.is_open.within in omega arith)
+        (λ h. record {
+          counted = let c = h.counted in let k = (server_at s accepts.is_open.within).counted in omega (arith, length-append (list_at core.queues s) (job ∷ []));
+          unfinished = AllByRecursion-push (λ w. 0 < work.left w) (list_at core.queues s) job h.unfinished some;
+        });
+  }
+
+  -- server s is closed
+  pub core_closed : (s : ℕ) (faces : List Face) (rooms : List ℕ) → s < length core.faces → faces ≡ changed_at with_close core.faces s
+      → IsCore work (record { backlog = core.backlog; clock = core.clock; faces = faces; queues = core.queues; rooms = rooms })
+  core_closed s faces rooms lt shown = rw shown record {
+    few = omega (arith, ok.few, length-changed_at with_close core.faces s);
+    small = ok.small;
+    clock = ok.clock;
+    each = AllByRecursion-changed_at (IsServer core.backlog core.clock) (IsServer core.backlog core.clock) with_close core.faces s no_face ok.each (λ f is. is) (λ is. server_closed core.backlog core.clock (face_at core.faces s) is);
+    jobs = AllZip-changed_second (HoldsBacklog work) with_close core.queues core.faces s ok.jobs (λ jobs f h. record { counted = h.counted; unfinished = h.unfinished });
+  }

@@ -1,0 +1,98 @@
+-- What the calls do to the jobs of one server, and leave to the others.
+use Rattle.std.proofs.Common.{◌≡◌, ◌≢◌, ℕ, zero, suc, ◌+◌, ◌-◌, ◌<◌, List, [], ◌∷◌, ◌++◌, length, map, get_or, refl, ◌∙◌, ap, arith, eqb, inl, inr, is_some}
+use Rattle.std.proofs.lemmas.Bool.{cases_Bool}
+use Rattle.std.proofs.lemmas.Bool.Decides.{nat_tests}
+use Rattle.std.proofs.lemmas.List.{length-map}
+use Rattle.std.specs.List.{AllByRecursion}
+use Rattle.cbs_job.specs.Work.{Meaning, Lowers, whole}
+use Rattle.cbs_job.proofs.Whole.{whole_kept, output_whole}
+use Rattle.cbs_core.specs.Lists.{changed_at}
+use Rattle.cbs_core.specs.Faces.{Face, no_face, face_at, with_job, with_unit, with_replenishment, with_close}
+use Rattle.cbs_core.specs.Held.{CoreHeld, Held, held_at, SameJobs, TakesJob, RunsJob, FinishesJob, ClosesServer, OthersSame, AllSame, DoesRun}
+use Rattle.cbs_core.specs.Queues.{list_at, jobs_run, result_run, ran_of}
+use Rattle.cbs_core.specs.declared.reply.Ran.{Ran}
+use Rattle.cbs_core.specs.declared.reply.Ran.TheVariants as ran
+use Rattle.cbs_core.proofs.Lists.{length-changed_at, changed_here, changed_elsewhere}
+
+module _ {W : Type 0} where
+  pub all_same : (core : CoreHeld W) → AllSame core core
+  all_same core t = record { jobs = refl; accepted = refl; finished = refl; closed = refl }
+
+  -- a replenishment leaves jobs, counts and close
+  replenished_same : (now : ℕ) (faces : List Face) (s : ℕ) (jobs : List W) → SameJobs (record { face = face_at faces s; jobs = jobs }) (record { face = face_at (map (with_replenishment now) faces) s; jobs = jobs })
+  replenished_same now [] s jobs = record { jobs = refl; accepted = refl; finished = refl; closed = refl }
+  replenished_same now (f ∷ fs) zero jobs = record { jobs = refl; accepted = refl; finished = refl; closed = refl }
+  replenished_same now (f ∷ fs) (suc s) jobs = replenished_same now fs s jobs
+
+  module _ (old : CoreHeld W) (clock : ℕ) (faces : List Face) (queues : List (List W)) (rooms : List ℕ) where
+    abbrev new : CoreHeld W
+    new = record { backlog = old.backlog; clock = clock; faces = faces; queues = queues; rooms = rooms }
+
+    pub jumped_same : (now : ℕ) → faces ≡ map (with_replenishment now) old.faces → queues ≡ old.queues → AllSame old new
+    jumped_same now shown same t = rw (shown, same) (replenished_same now old.faces t (list_at old.queues t))
+
+    -- server s alone is changed
+    module _ (s : ℕ) (f : Face → Face) (g : List W → List W) (shown : faces ≡ changed_at f old.faces s) (jobs : queues ≡ changed_at g old.queues s) where
+      pub others_same : OthersSame s old new
+      others_same t ne = rw (shown, jobs, changed_elsewhere f old.faces s t no_face ne, changed_elsewhere g old.queues s t [] ne) record { jobs = refl; accepted = refl; finished = refl; closed = refl }
+
+      pub held_here : s < length old.faces → s < length old.queues → held_at new s ≡ record { face = f (face_at old.faces s); jobs = g (list_at old.queues s) }
+      held_here lt within = rw (shown, jobs, changed_here f old.faces s no_face lt, changed_here g old.queues s [] within) refl
+
+    pub took_job : (s q : ℕ) (job : W) → s < length old.faces → s < length old.queues → q ≡ (face_at old.faces s).accepted
+        → faces ≡ changed_at (with_job clock) old.faces s → queues ≡ changed_at (λ jobs. jobs ++ job ∷ []) old.queues s → TakesJob job q (held_at old s) (held_at new s) × OthersSame s old new
+    took_job s q job lt within number shown jobs =
+        let others = others_same s (with_job clock) (λ jobs. jobs ++ job ∷ []) shown jobs in
+        let here = held_here s (with_job clock) (λ jobs. jobs ++ job ∷ []) shown jobs lt within in
+        (rw here record { number = number; jobs = refl; accepted = refl; finished = refl; closed = refl }, others)
+
+    pub closed_server : (s : ℕ) → s < length old.faces → faces ≡ changed_at with_close old.faces s → queues ≡ old.queues → ClosesServer (held_at old s) (held_at new s) × OthersSame s old new
+    closed_server s lt shown same = (
+      rw (shown, same, changed_here with_close old.faces s no_face lt) record { jobs = refl; accepted = refl; finished = refl; closed = refl },
+      λ t ne. rw (shown, same, changed_elsewhere with_close old.faces s t no_face ne) record { jobs = refl; accepted = refl; finished = refl; closed = refl }
+    )
+
+  module _ (work : Meaning W) (law : Lowers work) (s : ℕ) (before after : CoreHeld W) (others : OthersSame s before after) where
+    -- what a unit of the first job of a list does
+    ran_jobs : (jobs : List W) (q : ℕ) (r : Ran) → 0 < length jobs → AllByRecursion (λ w. 0 < work.left w) jobs
+        → (held_at before s).jobs ≡ jobs → (held_at after s).jobs ≡ jobs_run work jobs → SameJobs (record { face = with_unit (is_some (result_run work jobs)) (held_at before s).face; jobs = (held_at after s).jobs }) (held_at after s)
+        → q ≡ (held_at before s).face.finished → r ≡ ran_of s q (result_run work jobs) → DoesRun work r before after
+    ran_jobs [] q r some all j j' late n is = absurd (omega arith)
+    ran_jobs (job ∷ jobs) q r some all j j' late n is = elim (cases_Bool (eqb (work.left (work.after job)) 0)) [
+      | inl last ↦
+          let none : work.left (work.after job) ≡ 0 = grind (arith, nat_tests) in
+          let found : work.output (work.after job) ≡ whole work job = output_whole work (work.after job) none ∙ whole_kept work law job all.0 in
+          let gone : (held_at after s).jobs ≡ jobs = rw last at j' in
+          let count : (held_at after s).face.finished ≡ (held_at before s).face.finished + 1 = rw last at late.finished in
+          let answer : r ≡ ran.Done (record { server = s; seq = q; result = work.output (work.after job) }) = rw last at is in
+          let here : FinishesJob work (record { server = s; seq = q; result = work.output (work.after job) }) (held_at before s) (held_at after s) =
+          record { number = n; results = rw (j, gone, found) refl; accepted = late.accepted; finished = count; closed = late.closed } in
+          rw answer (here, others)
+      | inr more ↦
+          let left : (held_at after s).jobs ≡ work.after job ∷ jobs = rw more at j' in
+          let count : (held_at after s).face.finished ≡ (held_at before s).face.finished = rw more at late.finished in
+          let answer : r ≡ ran.Unit s q = rw more at is in
+          let here : RunsJob work q (held_at before s) (held_at after s) =
+          record { number = n; results = rw (j, left, whole_kept work law job all.0) refl; accepted = late.accepted; finished = count; closed = late.closed } in
+          rw answer (here, others)
+    ]
+
+  -- a run of server s, and a replenishment of all
+  pub did_run : (work : Meaning W) → Lowers work → (old : CoreHeld W) (clock now : ℕ) (faces : List Face) (queues : List (List W)) (rooms : List ℕ) (s : ℕ) (r : Ran)
+      → s < length old.faces → s < length old.queues → 0 < length (list_at old.queues s) → AllByRecursion (λ w. 0 < work.left w) (list_at old.queues s)
+      → r ≡ ran_of s (face_at old.faces s).finished (result_run work (list_at old.queues s))
+      → faces ≡ map (with_replenishment now) (changed_at (with_unit (is_some (result_run work (list_at old.queues s)))) old.faces s) → queues ≡ changed_at (jobs_run work) old.queues s
+      → DoesRun work r old (record { backlog = old.backlog; clock = clock; faces = faces; queues = queues; rooms = rooms })
+  did_run work law old clock now faces queues rooms s r lt within some all is shown jobs =
+      let new : CoreHeld W = record { backlog = old.backlog; clock = clock; faces = faces; queues = queues; rooms = rooms } in
+      let f = with_unit (is_some (result_run work (list_at old.queues s))) in
+      let middle = changed_at f old.faces s in
+      let late : (t : ℕ) → SameJobs (record { face = face_at middle t; jobs = list_at queues t }) (held_at new t) = λ t. rw shown (replenished_same now middle t (list_at queues t)) in
+      let others : OthersSame s old new = λ t ne.
+      let k = late t in
+      let e = changed_elsewhere f old.faces s t no_face ne in
+      let j : list_at queues t ≡ list_at old.queues t = rw jobs (changed_elsewhere (jobs_run work) old.queues s t [] ne) in
+      record { jobs = j; accepted = k.accepted ∙ ap (λ (x : Face). x.accepted) e; finished = k.finished ∙ ap (λ (x : Face). x.finished) e; closed = k.closed ∙ ap (λ (x : Face). x.closed) e } in
+      let here : list_at queues s ≡ jobs_run work (list_at old.queues s) = rw jobs (changed_here (jobs_run work) old.queues s [] within) in
+      let there : SameJobs (record { face = f (face_at old.faces s); jobs = list_at queues s }) (held_at new s) = rw (changed_here f old.faces s no_face lt) at (late s) in
+      ran_jobs work law s old new others (list_at old.queues s) (face_at old.faces s).finished r some all refl here there refl is

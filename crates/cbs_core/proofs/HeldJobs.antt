@@ -1,0 +1,236 @@
+-- The jobs that are held of a server, against the jobs accepted and the units got.
+use Rattle.std.proofs.Common.{◌≡◌, ℕ, zero, suc, ◌+◌, ◌-◌, ◌≤◌, ◌<◌, List, [], ◌∷◌, ◌++◌, length, take, drop, map, get_or, refl, ap, sym, ◌∙◌, arith, eqb, length-append, length-drop, add-one, inl, inr, is_some}
+use Rattle.std.specs.Prelude.{if◌then◌else◌}
+use Rattle.std.proofs.lemmas.Bool.{cases_lt, cases_Bool}
+use Rattle.std.proofs.lemmas.Bool.Decides.{nat_tests}
+use Rattle.std.proofs.lemmas.List.{take_all, take-append-le, drop-append-le, drop-drop, map-append, length-map}
+use Rattle.std.proofs.lemmas.List.Sums.{sum_by-cons, sum_by-append, sum_by-take-le}
+use Rattle.std.specs.List.{sum_by, AllByRecursion}
+use Rattle.cbs_job.specs.Work.{Meaning, Lowers, whole}
+use Rattle.cbs_job.proofs.Whole.{whole_kept, output_whole}
+use Rattle.cbs_core.specs.Faces.{backlog_of, with_job, with_unit}
+use Rattle.cbs_core.specs.Accounts.{Account, need, finished, unfinished, face_of, account_with_job, account_with_unit}
+use Rattle.cbs_core.specs.History.{unit_reply}
+use Rattle.cbs_core.specs.Agreement.{with_first, AgreesJobs}
+use Rattle.cbs_core.specs.Queues.{jobs_run, result_run, ran_of}
+use Rattle.cbs_core.specs.declared.reply.Ran.TheVariants as ran
+use Rattle.cbs_core.proofs.FinishedJobs.{count_done, count_done-le, count_done_within, count_done_beyond, count_done-is}
+
+-- what stands at the front of the rest
+need_next : {W : Type 0} (f : W → ℕ) (xs : List W) (k : ℕ) (y : W) (ys : List W) → drop k xs ≡ y ∷ ys → sum_by f (take (suc k) xs) ≡ sum_by f (take k xs) + f y
+need_next f [] zero y ys e = cc
+need_next f (x ∷ xs) zero y ys e = let h : x ≡ y = cc in rw h (omega (arith, sum_by-cons f y []))
+need_next f [] (suc k) y ys e = cc
+need_next f (x ∷ xs) (suc k) y ys e = omega (arith, need_next f xs k y ys e, sum_by-cons f x (take (suc k) xs), sum_by-cons f x (take k xs))
+
+need_more : {W : Type 0} (f : W → ℕ) (xs : List W) (k : ℕ) (y : W) (ys : List W) → drop k xs ≡ y ∷ ys → sum_by f (take (k + 1) xs) ≡ sum_by f (take k xs) + f y
+need_more f xs k y ys e = rw add-one (need_next f xs k y ys e)
+
+drop_next : {W : Type 0} (xs : List W) (k : ℕ) (y : W) (ys : List W) → drop k xs ≡ y ∷ ys → drop (k + 1) xs ≡ ys
+drop_next xs k y ys e = sym (drop-drop 1 k xs) ∙ ap (drop 1) e
+
+positive_along : {W : Type 0} (f : W → ℕ) (xs ys : List W) → map f xs ≡ map f ys → AllByRecursion (λ w. 0 < f w) xs → AllByRecursion (λ w. 0 < f w) ys
+positive_along f xs [] e all = tt
+positive_along f [] (y ∷ ys) e all = cc
+positive_along f (x ∷ xs) (y ∷ ys) e all = let h : f x ≡ f y = cc in (let p = all.0 in omega arith, positive_along f xs ys (cc) all.1)
+
+-- after the last unit the output is the whole result
+output_last : {W : Type 0} (work : Meaning W) → Lowers work → (w : W) → 0 < work.left w → work.left (work.after w) ≡ 0 → work.output (work.after w) ≡ whole work w
+output_last work law w some none = output_whole work (work.after w) none ∙ whole_kept work law w some
+
+-- the jobs held are those left of the jobs xs by g units, of which k are finished
+pub record Parts {W : Type 0} (work : Meaning W) (jobs xs : List W) (g k : ℕ) : Type 0 where
+  pub count : count_done work.left xs g ≡ k
+  pub results : map (whole work) jobs ≡ map (whole work) (drop k xs)
+  pub lefts : map work.left jobs ≡ with_first (sum_by work.left (take (k + 1) xs) - g) (map work.left (drop k xs))
+
+module _ {W : Type 0} (work : Meaning W) (law : Lowers work) where
+  rest_lefts : (xs js ys : List W) (g k : ℕ) → map work.left js ≡ map work.left ys → drop k xs ≡ ys → sum_by work.left (take k xs) ≡ g
+      → map work.left js ≡ with_first (sum_by work.left (take (k + 1) xs) - g) (map work.left ys)
+  rest_lefts xs js [] g k e f s = e
+  rest_lefts xs js (z ∷ zs) g k e f s =
+      let n = need_more work.left xs k z zs f in
+      let m : sum_by work.left (take (k + 1) xs) - g ≡ work.left z = omega arith in
+      rw m e
+
+  last_more : (xs ys : List W) (g k : ℕ) → drop k xs ≡ ys → AllByRecursion (λ w. 0 < work.left w) ys → sum_by work.left (take k xs) ≡ g → k < length xs → g < sum_by work.left (take (k + 1) xs)
+  last_more xs [] g k d all full short = let e = ap length d in let f = length-drop k xs in absurd (omega arith)
+  last_more xs (z ∷ zs) g k d all full short = let n = need_more work.left xs k z zs d in let p = all.0 in omega arith
+
+  module _ (job : W) (js xs : List W) (g k : ℕ) (y : W) (ys : List W)
+      (c : count_done work.left xs g ≡ k) (short : k < length xs) (d : drop k xs ≡ y ∷ ys)
+      (v : whole work job ≡ whole work y) (w : map (whole work) js ≡ map (whole work) ys)
+      (l : work.left job ≡ sum_by work.left (take (k + 1) xs) - g) (ls : map work.left js ≡ map work.left ys)
+      (all : AllByRecursion (λ w. 0 < work.left w) (job ∷ js)) where
+    begun : sum_by work.left (take k xs) ≤ g
+    begun = rw c at (count_done_within work.left xs g)
+
+    beyond : g < sum_by work.left (take (k + 1) xs)
+    beyond = let b : k < length xs → g < sum_by work.left (take (k + 1) xs) = rw c at (count_done_beyond work.left xs g) in b short
+
+    less : work.left (work.after job) ≡ work.left job - 1
+    less = law job all.0
+
+    served_last : work.left (work.after job) ≡ 0 → Parts work js xs (g + 1) (k + 1)
+    served_last none =
+        let a = begun in
+        let b = beyond in
+        let e = less in
+        let full : sum_by work.left (take (k + 1) xs) ≡ g + 1 = let some = all.0 in omega arith in
+        let next : drop (k + 1) xs ≡ ys = drop_next xs k y ys d in
+        record {
+          count = count_done-is work.left xs (g + 1) (k + 1) (omega arith) (omega arith) (last_more xs ys (g + 1) (k + 1) next (positive_along work.left js ys ls all.1) full);
+          results = rw next w;
+          lefts = rw next (rest_lefts xs js ys (g + 1) (k + 1) ls next full);
+        }
+
+    served_some : 0 < work.left (work.after job) → Parts work (work.after job ∷ js) xs (g + 1) k
+    served_some some =
+        let a = begun in
+        let b = beyond in
+        let e = less in
+        let n : work.left (work.after job) ≡ sum_by work.left (take (k + 1) xs) - (g + 1) = omega arith in
+        let kept : whole work (work.after job) ≡ whole work y = whole_kept work law job all.0 ∙ v in
+        record {
+          count = count_done-is work.left xs (g + 1) k (omega arith) (omega arith) (λ _. omega arith);
+          results = rw d (cc);
+          lefts = rw d (cc);
+        }
+
+    test_served : eqb (work.left (work.after job)) 0 ≡ eqb (sum_by work.left (take (k + 1) xs)) (g + 1)
+    test_served = let b = beyond in let e = less in let some = all.0 in grind (arith, nat_tests)
+
+at_front : {W : Type 0} (f : W → ℕ) (xs : List W) (k : ℕ) (y : W) (ys : List W) → drop k xs ≡ y ∷ ys → get_or (map f xs) k 0 ≡ f y
+at_front f [] zero y ys e = cc
+at_front f (x ∷ xs) zero y ys e = let h : x ≡ y = cc in ap f h
+at_front f [] (suc k) y ys e = cc
+at_front f (x ∷ xs) (suc k) y ys e = at_front f xs k y ys e
+
+-- what a unit of the first job does
+pub record Served {W : Type 0} (work : Meaning W) (jobs xs : List W) (g k : ℕ) : Type 0 where
+  pub parts : Parts work (jobs_run work jobs) xs (g + 1) (if is_some (result_run work jobs) then k + 1 else k)
+  pub ran : (s : ℕ) → ran_of s k (result_run work jobs) ≡ (if eqb (sum_by work.left (take (k + 1) xs)) (g + 1) then ran.Done (record { server = s; seq = k; result = get_or (map (whole work) xs) k 0 }) else ran.Unit s k)
+
+served_cases : {W : Type 0} (work : Meaning W) → Lowers work → (jobs xs : List W) (g k : ℕ) (rest : List W)
+    → drop k xs ≡ rest → k ≤ length xs → count_done work.left xs g ≡ k
+    → map (whole work) jobs ≡ map (whole work) rest
+    → map work.left jobs ≡ with_first (sum_by work.left (take (k + 1) xs) - g) (map work.left rest)
+    → AllByRecursion (λ w. 0 < work.left w) jobs → 0 < length jobs → Served work jobs xs g k
+served_cases work law [] xs g k rest d le c v l all some = absurd (omega arith)
+served_cases work law (job ∷ js) xs g k [] d le c v l all some = cc
+served_cases work law (job ∷ js) xs g k (y ∷ ys) d le c v l all some =
+    let rest : length xs - k ≡ suc (length ys) = simp length-drop at (ap length d) in
+    let short : k < length xs = omega arith in
+    let v' : whole work job ≡ whole work y = cc in
+    let w' : map (whole work) js ≡ map (whole work) ys = cc in
+    let l' : work.left job ≡ sum_by work.left (take (k + 1) xs) - g = cc in
+    let ls' : map work.left js ≡ map work.left ys = cc in
+    let front = at_front (whole work) xs k y ys d in
+    let test = test_served work law job js xs g k y ys c short d v' w' l' ls' all in
+    elim (cases_Bool (eqb (work.left (work.after job)) 0)) [
+      | inl e ↦
+          let none : work.left (work.after job) ≡ 0 = grind (arith, nat_tests) in
+          let p = served_last work law job js xs g k y ys c short d v' w' l' ls' all none in
+          let found : work.output (work.after job) ≡ whole work job = output_last work law job all.0 none in
+          record {
+            parts = rw e p;
+            ran = λ s. rw (← test, e, front, found, v');
+          }
+      | inr e ↦
+          let left : 0 < work.left (work.after job) = grind (arith, nat_tests) in
+          let p = served_some work law job js xs g k y ys c short d v' w' l' ls' all left in
+          record {
+            parts = rw e p;
+            ran = λ s. rw (← test, e);
+          }
+    ]
+
+-- one more job
+module _ {W : Type 0} (work : Meaning W) (xs : List W) (g k : ℕ) (job : W)
+    (c : count_done work.left xs g ≡ k) (paid : g ≤ sum_by work.left xs) (some : 0 < work.left job) where
+  abbrev more : List W
+  more = xs ++ job ∷ []
+
+  joined_le : k ≤ length xs
+  joined_le = rw (← c) (count_done-le work.left xs g)
+
+  joined_begun : sum_by work.left (take k more) ≤ g
+  joined_begun = rw (take-append-le k xs (job ∷ []) joined_le) (rw c at (count_done_within work.left xs g))
+
+  joined_need : k < length xs → sum_by work.left (take (k + 1) more) ≡ sum_by work.left (take (k + 1) xs)
+  joined_need lt = rw (take-append-le (k + 1) xs (job ∷ []) (omega arith))
+
+  joined_last : length xs ≤ k → sum_by work.left (take (k + 1) more) ≡ sum_by work.left xs + work.left job
+  joined_last ge =
+      let n : length more ≤ k + 1 = omega (arith, length-append xs (job ∷ []), joined_le) in
+      rw (take_all (k + 1) more n, sum_by-append work.left xs (job ∷ [])) (omega (arith, sum_by-cons work.left job []))
+
+  joined_full : length xs ≤ k → g ≡ sum_by work.left xs
+  joined_full ge = let w = joined_begun in let e : take k xs ≡ xs = take_all k xs ge in
+      let f : sum_by work.left xs ≤ g = rw (← e) (rw c at (count_done_within work.left xs g)) in omega arith
+
+  joined_beyond : g < sum_by work.left (take (k + 1) more)
+  joined_beyond = elim (cases_lt k (length xs)) [
+    | inl lt ↦ let b : k < length xs → g < sum_by work.left (take (k + 1) xs) = rw c at (count_done_beyond work.left xs g) in rw (joined_need lt) (b lt)
+    | inr ge ↦ omega (arith, joined_last ge, joined_full ge)
+  ]
+
+  joined_count : count_done work.left more g ≡ k
+  joined_count = count_done-is work.left more g k (omega (arith, length-append xs (job ∷ []), joined_le)) joined_begun (λ _. joined_beyond)
+
+  joined_drop : drop k more ≡ drop k xs ++ job ∷ []
+  joined_drop = drop-append-le k xs (job ∷ []) joined_le
+
+  joined_lefts : (jobs rest : List W) → drop k xs ≡ rest → map work.left jobs ≡ with_first (sum_by work.left (take (k + 1) xs) - g) (map work.left rest)
+      → map work.left (jobs ++ job ∷ []) ≡ with_first (sum_by work.left (take (k + 1) more) - g) (map work.left (rest ++ job ∷ []))
+  joined_lefts [] [] d l =
+      let ge : length xs ≤ k = let e = ap length d in let f = length-drop k xs in omega arith in
+      let n : sum_by work.left (take (k + 1) more) - g ≡ work.left job = omega (arith, joined_last ge, joined_full ge) in
+      rw n
+  joined_lefts (j ∷ js) [] d l = cc
+  joined_lefts [] (y ∷ ys) d l = cc
+  joined_lefts (j ∷ js) (y ∷ ys) d l =
+      let lt : k < length xs = let e = ap length d in let f = length-drop k xs in omega arith in
+      let n = joined_need lt in
+      rw (n, map-append work.left js (job ∷ []), map-append work.left ys (job ∷ [])) (cc)
+
+  joined_parts : (jobs : List W) → map (whole work) jobs ≡ map (whole work) (drop k xs)
+      → map work.left jobs ≡ with_first (sum_by work.left (take (k + 1) xs) - g) (map work.left (drop k xs))
+      → Parts work (jobs ++ job ∷ []) more g k
+  joined_parts jobs v l = record {
+    count = joined_count;
+    results = rw (joined_drop, map-append (whole work) jobs (job ∷ []), map-append (whole work) (drop k xs) (job ∷ []), v);
+    lefts = rw joined_drop (joined_lefts jobs (drop k xs) refl l);
+  }
+
+module _ {W : Type 0} (work : Meaning W) (jobs : List W) (a : Account W) (agrees : AgreesJobs work jobs a) where
+  -- as many jobs are held as the backlog is
+  pub length_jobs : length jobs ≡ backlog_of (face_of work a)
+  length_jobs = let e = ap length agrees.results in simp (length-map, length-drop) at e
+
+  -- a unit of the first job
+  module _ (law : Lowers work) (some : 0 < length jobs) (left : AllByRecursion (λ w. 0 < work.left w) jobs) where
+    served_is : Served work jobs a.accepted a.got (finished work a)
+    served_is = served_cases work law jobs a.accepted a.got (finished work a) (unfinished work a) refl (count_done-le work.left a.accepted a.got) refl agrees.results agrees.lefts left some
+
+    pub unit_jobs : AgreesJobs work (jobs_run work jobs) (account_with_unit a)
+    unit_jobs = let p = served_is.parts in record { results = rw p.count p.results; lefts = rw p.count p.lefts }
+
+    pub unit_face : face_of work (account_with_unit a) ≡ with_unit (is_some (result_run work jobs)) (face_of work a)
+    unit_face = rw served_is.parts.count refl
+
+    pub unit_ran : (s : ℕ) → ran_of s (finished work a) (result_run work jobs) ≡ unit_reply work a s
+    unit_ran s = served_is.ran s
+
+  -- one more job
+  module _ (now : ℕ) (job : W) (paid : a.got ≤ need work a (length a.accepted)) (some : 0 < work.left job) where
+    joined_is : Parts work (jobs ++ job ∷ []) (a.accepted ++ job ∷ []) a.got (finished work a)
+    joined_is =
+        let p : a.got ≤ sum_by work.left a.accepted = omega (arith, paid, sum_by-take-le work.left a.accepted (length a.accepted)) in
+        joined_parts work a.accepted a.got (finished work a) job refl p some jobs agrees.results agrees.lefts
+
+    pub job_jobs : AgreesJobs work (jobs ++ job ∷ []) (account_with_job work now job a)
+    job_jobs = let p = joined_is in record { results = rw p.count p.results; lefts = rw p.count p.lefts }
+
+    pub job_face : face_of work (account_with_job work now job a) ≡ with_job now (face_of work a)
+    job_face = rw (joined_is.count, length-append a.accepted (job ∷ [])) refl

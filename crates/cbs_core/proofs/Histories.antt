@@ -1,0 +1,100 @@
+-- What a job, a unit, a replenishment and a close keep of a server holds after every history.
+use Rattle.std.proofs.Common.{◌≡◌, ℕ, zero, suc, ◌+◌, ◌<◌, Bool, List, [], ◌∷◌, length, map, refl, ap, sym, ◌∙◌, arith, true, false, leb, ltb, Option, Some, None, inl, inr}
+use Rattle.std.specs.Prelude.{if◌then◌else◌}
+use Rattle.std.proofs.lemmas.Bool.{cases_Bool}
+use Rattle.cbs_job.specs.Work.{Meaning}
+use Rattle.cbs_rules.specs.Rules.{clock_end}
+use Rattle.cbs_core.specs.Lists.{or_else, first_below, changed_at}
+use Rattle.cbs_core.specs.Choice.{Rank, rank_at, is_first, chosen_among}
+use Rattle.cbs_core.specs.Faces.{is_ready, ranks, submit_refusal, close_refusal}
+use Rattle.cbs_core.specs.Accounts.{Account, face_of, new_account, no_account, account_with_job, account_with_unit, account_with_replenishment, account_with_close}
+use Rattle.cbs_core.specs.History.{World, Setup, account, faces, chosen, tick, ticks, runner, after_submit, after_run, after_closing, next, after}
+use Rattle.cbs_core.proofs.Faces.{rank_ready}
+use Rattle.cbs_core.proofs.Agreements.{account_face}
+use Rattle.cbs_core.specs.declared.error.CoreError.{CoreError}
+use Rattle.cbs_core.specs.declared.step.Step.{Step}
+use Rattle.cbs_core.specs.declared.step.Step.TheVariants.{Submit, Run, Advance, Close}
+
+passes_case : (p : ℕ → Bool) (n s : ℕ) (o : Option ℕ) → ((t : ℕ) → o ≡ Some t → (p t ≡ true) × (t < n)) → or_else o (if p n then Some n else None) ≡ Some s → (p s ≡ true) × (s < suc n)
+passes_case p n s (Some t) h e =
+    let k : t ≡ s = cc in
+    let q = h t refl in
+    (rw (← k) q.0, let lt = q.1 in omega arith)
+passes_case p n s None h e = elim (cases_Bool (p n)) [
+  | inl t ↦ let f : Some n ≡ Some s = rw t at e in let k : n ≡ s = cc in (rw (← k) t, omega arith)
+  | inr f ↦ let g : None ≡ Some s = rw f at e in cc
+]
+
+first_below_passes : (p : ℕ → Bool) (n s : ℕ) → first_below p n ≡ Some s → (p s ≡ true) × (s < n)
+first_below_passes p zero s e = cc
+first_below_passes p (suc n) s e = passes_case p n s (first_below p n) (first_below_passes p n) e
+
+chosen_ready : (ranks : List Rank) (s : ℕ) → chosen_among ranks ≡ Some s → ((rank_at ranks s).ready ≡ true) × (s < length ranks)
+chosen_ready ranks s e =
+    let q = first_below_passes (is_first ranks) (length ranks) s e in
+    let t = q.0 in
+    (elim (cases_Bool (rank_at ranks s).ready) [ inl y ↦ y | inr n ↦ let f : false ≡ true = rw n at t in cc ], q.1)
+
+module _ {W : Type 0} (work : Meaning W) where
+  -- the chosen server is ready
+  pub chosen_is_ready : (w : World W) (s : ℕ) → chosen work w ≡ Some s → is_ready (face_of work (account w.accounts s)) ≡ true
+  chosen_is_ready w s e =
+      let q = chosen_ready (ranks (faces work w)) s e in
+      ap is_ready (sym (account_face work w.accounts s)) ∙ sym (rank_ready (faces work w) s) ∙ q.0
+
+  runner_chosen : (w : World W) (s : ℕ) → runner work w ≡ Some s → chosen work w ≡ Some s
+  runner_chosen w s e = elim (cases_Bool (ltb w.now clock_end)) [ inl t ↦ rw t at e | inr f ↦ let g : None ≡ Some s = rw f at e in cc ]
+
+  -- the server of a Run that runs is ready
+  pub runner_ready : (w : World W) (s : ℕ) → runner work w ≡ Some s → is_ready (face_of work (account w.accounts s)) ≡ true
+  runner_ready w s e = chosen_is_ready w s (runner_chosen w s e)
+
+  module _ (P : Account W → Type 0)
+      (job : (now : ℕ) (j : W) (a : Account W) → P a → P (account_with_job work now j a))
+      (unit : (a : Account W) → is_ready (face_of work a) ≡ true → P a → P (account_with_unit a))
+      (replenishment : (now : ℕ) (a : Account W) → P a → P (account_with_replenishment now a))
+      (close : (a : Account W) → P a → P (account_with_close a)) where
+    holds_changed : (f : Account W → Account W) (accounts : List (Account W)) (i s : ℕ) → (P (account accounts i) → P (f (account accounts i))) → P (account accounts s) → P (account (changed_at f accounts i) s)
+    holds_changed f [] i s k h = h
+    holds_changed f (a ∷ accounts) zero zero k h = k h
+    holds_changed f (a ∷ accounts) zero (suc s) k h = h
+    holds_changed f (a ∷ accounts) (suc i) zero k h = h
+    holds_changed f (a ∷ accounts) (suc i) (suc s) k h = holds_changed f accounts i s k h
+
+    holds_map : (f : Account W → Account W) (accounts : List (Account W)) (s : ℕ) → ((a : Account W) → P a → P (f a)) → P (account accounts s) → P (account (map f accounts) s)
+    holds_map f [] s k h = h
+    holds_map f (a ∷ accounts) zero k h = k a h
+    holds_map f (a ∷ accounts) (suc s) k h = holds_map f accounts s k h
+
+    holds_tick : (w : World W) (s : ℕ) → P (account w.accounts s) → P (account (tick w).accounts s)
+    holds_tick w s h = holds_map (account_with_replenishment (w.now + 1)) w.accounts s (replenishment (w.now + 1)) h
+
+    holds_ticks : (n : ℕ) (w : World W) (s : ℕ) → P (account w.accounts s) → P (account (ticks n w).accounts s)
+    unfolding ticks
+    holds_ticks zero w s h = h
+    holds_ticks (suc n) w s h = holds_ticks n (tick w) s (holds_tick w s h)
+
+    holds_submit : (w : World W) (t s : ℕ) (j : W) (o : Option CoreError) → P (account w.accounts s) → P (account (after_submit work w t j o).accounts s)
+    holds_submit w t s j None h = holds_changed (account_with_job work w.now j) w.accounts t s (job w.now j (account w.accounts t)) h
+    holds_submit w t s j (Some e) h = h
+
+    holds_close : (w : World W) (t s : ℕ) (o : Option CoreError) → P (account w.accounts s) → P (account (after_closing w t o).accounts s)
+    holds_close w t s None h = holds_changed account_with_close w.accounts t s (close (account w.accounts t)) h
+    holds_close w t s (Some e) h = h
+
+    holds_run : (w : World W) (s : ℕ) (o : Option ℕ) → ((t : ℕ) → o ≡ Some t → is_ready (face_of work (account w.accounts t)) ≡ true) → P (account w.accounts s) → P (account (after_run w o).accounts s)
+    holds_run w s None ready h = h
+    holds_run w s (Some t) ready h =
+        holds_tick (record w { accounts = changed_at account_with_unit w.accounts t }) s (holds_changed account_with_unit w.accounts t s (unit (account w.accounts t) (ready t refl)) h)
+
+    -- one step more
+    pub holds_next : (backlog : ℕ) (w : World W) (x : Step W) (s : ℕ) → P (account w.accounts s) → P (account (next work backlog w x).accounts s)
+    holds_next backlog w (Submit t j) s h = holds_submit w t s j (submit_refusal backlog (faces work w) t) h
+    holds_next backlog w Run s h = holds_run w s (runner work w) (runner_ready w) h
+    holds_next backlog w (Advance n) s h = elim (cases_Bool (leb (w.now + n) clock_end)) [ inl t ↦ rw t (holds_ticks n w s h) | inr f ↦ rw f h ]
+    holds_next backlog w (Close t) s h = holds_close w t s (close_refusal (faces work w) t) h
+
+    -- a whole history
+    pub holds_after : (setup : Setup) (M : List (Step W)) (s : ℕ) → P (account (map new_account setup.servers) s) → P (account (after work setup M).accounts s)
+    holds_after setup [] s h = h
+    holds_after setup (x ∷ M) s h = holds_next setup.backlog (after work setup M) x s (holds_after setup M s h)

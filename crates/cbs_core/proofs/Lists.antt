@@ -1,0 +1,113 @@
+-- Lists of which one element is changed, and two lists place by place.
+use Rattle.std.proofs.Common.{◌≡◌, ◌≢◌, ℕ, zero, suc, ◌<◌, List, [], ◌∷◌, ◌++◌, length, map, get_or, set, refl, ap, ◌∙◌, arith}
+use Rattle.std.proofs.lemmas.List.{length-map}
+use Rattle.std.specs.List.{AllZip, AllByRecursion}
+use Rattle.cbs_core.specs.Lists.{changed_at}
+
+pub length-changed_at : {X : Type 0} (f : X → X) (xs : List X) (i : ℕ) → length (changed_at f xs i) ≡ length xs
+length-changed_at f [] i = refl
+length-changed_at f (x ∷ xs) zero = refl
+length-changed_at f (x ∷ xs) (suc i) = ap suc (length-changed_at f xs i)
+
+-- no change of one element or of all changes how many there are
+pub ruleset counted = (length-changed_at, length-map)
+
+-- what stands where a change was made
+pub changed_here : {X : Type 0} (f : X → X) (xs : List X) (i : ℕ) (d : X) → i < length xs → get_or (changed_at f xs i) i d ≡ f (get_or xs i d)
+changed_here f [] i d lt = absurd (omega arith)
+changed_here f (x ∷ xs) zero d lt = refl
+changed_here f (x ∷ xs) (suc i) d lt = changed_here f xs i d (omega arith)
+
+-- all else stays
+pub changed_elsewhere : {X : Type 0} (f : X → X) (xs : List X) (i j : ℕ) (d : X) → j ≢ i → get_or (changed_at f xs i) j d ≡ get_or xs j d
+changed_elsewhere f [] i j d ne = refl
+changed_elsewhere f (x ∷ xs) zero zero d ne = absurd (ne refl)
+changed_elsewhere f (x ∷ xs) zero (suc j) d ne = refl
+changed_elsewhere f (x ∷ xs) (suc i) zero d ne = refl
+changed_elsewhere f (x ∷ xs) (suc i) (suc j) d ne = changed_elsewhere f xs i j d (λ e. ne (ap suc e))
+
+set_changed : {X Y : Type 0} (h : X → Y) (f : Y → Y) (xs : List X) (i : ℕ) (x y : X) → x ≡ get_or xs i x → h y ≡ f (h x) → i < length xs → map h (set xs i y) ≡ changed_at f (map h xs) i
+set_changed h f [] i x y read e lt = absurd (omega arith)
+set_changed h f (z ∷ zs) zero x y read e lt = ap (λ v. v ∷ map h zs) (e ∙ ap (λ v. f (h v)) read)
+set_changed h f (z ∷ zs) (suc i) x y read e lt = ap (λ ws. h z ∷ ws) (set_changed h f zs i x y read e (omega arith))
+
+-- an element that was read and written back, as a part of each is seen
+pub part_written : {X Y : Type 0} (h : X → Y) (f : Y → Y) (xs : List X) (i s : ℕ) (x y : X) → i ≡ s → s < length xs → x ≡ get_or xs i x → h y ≡ f (h x) → map h (set xs i y) ≡ changed_at f (map h xs) s
+part_written h f xs i s x y same lt read e = rw same (set_changed h f xs s x y (rw same at read) e lt)
+
+-- the same of whole elements
+pub written : {X : Type 0} (f : X → X) (xs : List X) (i s : ℕ) (x y : X) → i ≡ s → s < length xs → x ≡ get_or xs i x → y ≡ f x → set xs i y ≡ changed_at f xs s
+written f xs i s x y same lt read e = rw (same, e) (here f xs s x lt (rw same at read))
+  where
+    here : {X : Type 0} (f : X → X) (xs : List X) (i : ℕ) (x : X) → i < length xs → x ≡ get_or xs i x → set xs i (f x) ≡ changed_at f xs i
+    here f [] i x lt read = absurd (omega arith)
+    here f (z ∷ zs) zero x lt read = ap (λ v. f v ∷ zs) read
+    here f (z ∷ zs) (suc i) x lt read = ap (λ ws. z ∷ ws) (here f zs i x (omega arith) read)
+
+module _ {X Y : Type 0} (h : X → Y) (f : X → X) (g : Y → Y) where
+  -- a change, as a part of each element is seen
+  pub map-changed_at : (xs : List X) (i : ℕ) (d : X) → h (f (get_or xs i d)) ≡ g (h (get_or xs i d)) → map h (changed_at f xs i) ≡ changed_at g (map h xs) i
+  map-changed_at [] i d e = refl
+  map-changed_at (x ∷ xs) zero d e = ap (λ y. y ∷ map h xs) e
+  map-changed_at (x ∷ xs) (suc i) d e = ap (λ ys. h x ∷ ys) (map-changed_at xs i d e)
+
+  -- the same where all are changed
+  pub map-maps : (xs : List X) → ((x : X) → h (f x) ≡ g (h x)) → map h (map f xs) ≡ map g (map h xs)
+  map-maps [] e = refl
+  map-maps (x ∷ xs) e = rw (e x, map-maps xs e) refl
+
+pub AllByRecursion-weaker : {X : Type 0} (P Q : X → Type 0) (xs : List X) → AllByRecursion P xs → ((x : X) → P x → Q x) → AllByRecursion Q xs
+AllByRecursion-weaker P Q [] all k = tt
+AllByRecursion-weaker P Q (x ∷ xs) all k = (k x all.0, AllByRecursion-weaker P Q xs all.1 k)
+
+pub AllByRecursion-map : {X Y : Type 0} (P : X → Type 0) (Q : Y → Type 0) (f : X → Y) (xs : List X) → AllByRecursion P xs → ((x : X) → P x → Q (f x)) → AllByRecursion Q (map f xs)
+AllByRecursion-map P Q f [] all h = tt
+AllByRecursion-map P Q f (x ∷ xs) all h = (h x all.0, AllByRecursion-map P Q f xs all.1 h)
+
+pub AllByRecursion-get : {X : Type 0} (P : X → Type 0) (xs : List X) (i : ℕ) (d : X) → AllByRecursion P xs → i < length xs → P (get_or xs i d)
+AllByRecursion-get P [] i d all lt = absurd (omega arith)
+AllByRecursion-get P (x ∷ xs) zero d all lt = all.0
+AllByRecursion-get P (x ∷ xs) (suc i) d all lt = AllByRecursion-get P xs i d all.1 (omega arith)
+
+pub AllByRecursion-changed_at : {X : Type 0} (P Q : X → Type 0) (f : X → X) (xs : List X) (i : ℕ) (d : X) → AllByRecursion P xs → ((x : X) → P x → Q x) → (P (get_or xs i d) → Q (f (get_or xs i d))) → AllByRecursion Q (changed_at f xs i)
+AllByRecursion-changed_at P Q f [] i d all k h = tt
+AllByRecursion-changed_at P Q f (x ∷ xs) zero d all k h = (h all.0, AllByRecursion-weaker P Q xs all.1 k)
+AllByRecursion-changed_at P Q f (x ∷ xs) (suc i) d all k h = (k x all.0, AllByRecursion-changed_at P Q f xs i d all.1 k h)
+
+pub AllByRecursion-push : {X : Type 0} (P : X → Type 0) (xs : List X) (x : X) → AllByRecursion P xs → P x → AllByRecursion P (xs ++ x ∷ [])
+AllByRecursion-push P [] x all holds = (holds, all)
+AllByRecursion-push P (y ∷ ys) x all holds = (all.0, AllByRecursion-push P ys x all.1 holds)
+
+module _ {X Y : Type 0} (R : X → Y → Type 0) where
+  pub AllZip-length : (xs : List X) (ys : List Y) → AllZip R xs ys → length xs ≡ length ys
+  AllZip-length [] [] all = refl
+  AllZip-length [] (y ∷ ys) all = absurd all
+  AllZip-length (x ∷ xs) [] all = absurd all
+  AllZip-length (x ∷ xs) (y ∷ ys) all = ap suc (AllZip-length xs ys all.1)
+
+  pub AllZip-changed_at : (xs : List X) (ys : List Y) (i : ℕ) (d : X) (e : Y) (f : X → X) (g : Y → Y) → AllZip R xs ys → i < length xs → (R (get_or xs i d) (get_or ys i e) → R (f (get_or xs i d)) (g (get_or ys i e))) → AllZip R (changed_at f xs i) (changed_at g ys i)
+  AllZip-changed_at [] ys i d e f g all lt h = absurd (omega arith)
+  AllZip-changed_at (x ∷ xs) [] i d e f g all lt h = absurd all
+  AllZip-changed_at (x ∷ xs) (y ∷ ys) zero d e f g all lt h = (h all.0, all.1)
+  AllZip-changed_at (x ∷ xs) (y ∷ ys) (suc i) d e f g all lt h = (all.0, AllZip-changed_at xs ys i d e f g all.1 (omega arith) h)
+
+  pub AllZip-get : (xs : List X) (ys : List Y) (i : ℕ) (c : X) (d : Y) → AllZip R xs ys → i < length xs → R (get_or xs i c) (get_or ys i d)
+  AllZip-get [] ys i c d all lt = absurd (omega arith)
+  AllZip-get (z ∷ zs) [] i c d all lt = absurd all
+  AllZip-get (z ∷ zs) (y ∷ ys) zero c d all lt = all.0
+  AllZip-get (z ∷ zs) (y ∷ ys) (suc i) c d all lt = AllZip-get zs ys i c d all.1 (omega arith)
+
+  -- the second list is changed, and each pair stands as it stood
+  pub AllZip-map : (g : Y → Y) (xs : List X) (ys : List Y) → AllZip R xs ys → ((x : X) (y : Y) → R x y → R x (g y)) → AllZip R xs (map g ys)
+  AllZip-map g [] [] all h = tt
+  AllZip-map g [] (y ∷ ys) all h = absurd all
+  AllZip-map g (x ∷ xs) [] all h = absurd all
+  AllZip-map g (x ∷ xs) (y ∷ ys) all h = (h x y all.0, AllZip-map g xs ys all.1 h)
+
+  -- one of the second list is changed, and its pair stands as it stood
+  pub AllZip-changed_second : (g : Y → Y) (xs : List X) (ys : List Y) (i : ℕ) → AllZip R xs ys → ((x : X) (y : Y) → R x y → R x (g y)) → AllZip R xs (changed_at g ys i)
+  AllZip-changed_second g [] [] i all h = tt
+  AllZip-changed_second g [] (y ∷ ys) i all h = absurd all
+  AllZip-changed_second g (x ∷ xs) [] i all h = absurd all
+  AllZip-changed_second g (x ∷ xs) (y ∷ ys) zero all h = (h x y all.0, all.1)
+  AllZip-changed_second g (x ∷ xs) (y ∷ ys) (suc i) all h = (all.0, AllZip-changed_second g xs ys i all.1 h)

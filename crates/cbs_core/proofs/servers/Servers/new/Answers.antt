@@ -1,0 +1,26 @@
+use Rattle.std.proofs.Common.{◌≡◌, ◌≤◌, ◌++◌, ◌∷◌, [], length, rules, sym, ◌∙◌, ap, arith}
+use Rattle.std.proofs.lemmas.Grind.{common_steps}
+use Rattle.cbs_core.proofs.Plans.{is_within, faces_more, faces_all, length-faces}
+use Rattle.cbs_core.proofs.servers.Servers.new.Goals as goal
+
+pub unwrap-reservation-requires : goal.unwrap-reservation-requires
+unwrap-reservation-requires g c =
+    is_within c.args.plan.now.rates c.loop-server.server c.get.result c.get.ensures.value (let n = c.len-server-end.ensures.value in omega arith)
+
+pub loop-server-preserved : goal.loop-server-preserved
+loop-server-preserved g c =
+    let pushed : c.push.new.self.items ≡ c.loop-server.servers.items ++ c.new.result ∷ [] = search (rules, common_steps) in
+    faces_more c.args.mode c.args.plan.now.rates c.loop-server.server c.unwrap-reservation.result c.loop-server.servers.items c.push.new.self.items
+    (sym c.unwrap-reservation.ensures ∙ c.get.ensures.value) c.loop-server.invariant (rw c.new.ensures at pushed)
+
+pub invariant_of-result : goal.invariant_of-result
+invariant_of-result g c =
+    let all : length c.args.plan.now.rates ≤ c.loop-server.server = let m = c.len-server-end.ensures.value in omega arith in
+    let same = ap length (faces_all c.args.mode c.args.plan.now.rates c.loop-server.server c.loop-server.servers.items all c.loop-server.invariant) in
+    let few = c.len.ensures.lawful.few in
+    omega (arith, length-faces c.args.mode c.args.plan.now.rates)
+
+pub returns-clause-servers : goal.returns-clause-servers
+returns-clause-servers g c =
+    let all : length c.args.plan.now.rates ≤ c.loop-server.server = let m = c.len-server-end.ensures.value in omega arith in
+    faces_all c.args.mode c.args.plan.now.rates c.loop-server.server c.loop-server.servers.items all c.loop-server.invariant
