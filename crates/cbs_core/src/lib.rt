@@ -17,6 +17,3 @@ pub use executor::{Core, MAX_BACKLOG};
 pub use reply::{Ran, Reply, SubmitRefused};
 pub use step::{Step, StepsRefused};
 pub use view::ServerView;
-
-#[cfg(test)]
-mod tests;

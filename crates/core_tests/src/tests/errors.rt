@@ -1,6 +1,7 @@
 //! The numbers, names and texts of errors.
 
-use crate::CoreError;
+use super::same;
+use cbs_core::CoreError;
 use std::test::Fail;
 
 #[test]
@@ -14,8 +15,8 @@ fn errors_have_numbers_and_names(rt: HostRuntime) {
         (CoreError::ClockEnd, 6, "ClockEnd"),
     ];
     for &(error, number, name) in &errors {
-        assert_eq!(rt; error.number(), number);
-        assert_eq!(rt; error.name(), name);
+        same(&rt, "error.number()", error.number(), number);
+        same(&rt, "error.name()", error.name(), name);
     }
 }
 

@@ -6,12 +6,18 @@ mod lists;
 mod memory;
 mod scheduling;
 
-use crate::{Core, CoreError, Ran};
+use cbs_core::{Core, CoreError, Ran};
 use cbs_job::{Completion, MAX_UNITS, SumJob, Task, Work};
 use cbs_rate::{Bound, Plan, Reservation};
 use cbs_rules::Mode;
 use std::alloc::{Allocator, Global};
+use std::fmt::Debug;
 use std::process::Abort;
+
+/// Ends the test with the label and both values, unless they are the same.
+fn same<T: Debug + Drop + PartialEq>(rt: &impl Abort, label: &str, answer: T, wanted: T) {
+    assert!(rt; answer == wanted, "{label}: {answer:?}, not {wanted:?}");
+}
 
 /// A plan of reservations, each a budget and a period.
 fn plan_of(rt: &impl Abort, rates: &[(u64, u64)]) -> Plan {
@@ -94,6 +100,6 @@ fn refuses<A: Allocator>(
     output: u64,
 ) {
     let refused = core.submit(server, task).err().expect(rt, "a refusal");
-    assert_eq!(rt; refused.error, error);
-    assert_eq!(rt; whole(refused.task), output);
+    same(rt, "refused.error", refused.error, error);
+    same(rt, "whole(refused.task)", whole(refused.task), output);
 }

@@ -1,7 +1,7 @@
 //! Jobs of each kind in each memory, and memory that is refused.
 
-use super::{accepts, core_of, done, plan_of, refuses, state, sum_of};
-use crate::{Core, CoreError, Ran};
+use super::{accepts, core_of, done, plan_of, refuses, same, state, sum_of};
+use cbs_core::{Core, CoreError, Ran};
 use cbs_job::{FileJob, PeakJob, SumJob, Task, Work};
 use cbs_rules::Mode;
 use linked_list_allocator::LocalHeap;
@@ -21,7 +21,7 @@ pub fn filled<'a>(
         };
         ballast.push(block).ok().expect(rt, "memory");
     }
-    assert_eq!(rt; heap.free(), 0);
+    same(rt, "heap.free()", heap.free(), 0);
     ballast
 }
 
@@ -37,10 +37,25 @@ fn comes_to<W: Work, A: Allocator + Clone>(rt: &impl Abort, alloc: A, task: Task
     let mut core = core_of(rt, alloc, Mode::Soft, &[(2, 5)], 4);
     let answer = core.submit(0, task);
     assert!(rt; matches!(answer, Ok(0)));
-    assert_eq!(rt; core.run(), Ran::Unit { server: 0, seq: 0 });
-    assert_eq!(rt; core.run(), Ran::Unit { server: 0, seq: 0 });
-    assert_eq!(rt; core.run(), done(0, 0, output));
-    assert_eq!(rt; state(rt, &core, 0), (1, 10, false));
+    same(
+        rt,
+        "core.run()",
+        core.run(),
+        Ran::Unit { server: 0, seq: 0 },
+    );
+    same(
+        rt,
+        "core.run()",
+        core.run(),
+        Ran::Unit { server: 0, seq: 0 },
+    );
+    same(rt, "core.run()", core.run(), done(0, 0, output));
+    same(
+        rt,
+        "state(rt, &core, 0)",
+        state(rt, &core, 0),
+        (1, 10, false),
+    );
 }
 
 /// Runs a sum and a peak, each as itself and as a job of a task file.
@@ -74,8 +89,8 @@ fn a_core_takes_memory_or_says_so(rt: HostRuntime) {
             enough = size;
             break;
         };
-        assert_eq!(rt; error, CoreError::OutOfMemory);
-        assert_eq!(rt; heap.used(), 0);
+        same(&rt, "error", error, CoreError::OutOfMemory);
+        same(&rt, "heap.used()", heap.used(), 0);
     }
     assert!(rt; enough > 1);
 }
@@ -89,12 +104,22 @@ fn a_job_that_finds_no_memory_comes_back(rt: HostRuntime) {
     let ballast = filled(&rt, alloc, &heap);
     let four = sum_of(&rt, alloc, &[4]);
     refuses(&rt, &mut core, 0, four, CoreError::OutOfMemory, 4);
-    assert_eq!(rt; core.make_room(0), Err(CoreError::OutOfMemory));
-    assert_eq!(rt; core.view(0), before);
-    assert_eq!(rt; (core.now(), core.ready()), (0, None));
+    same(
+        &rt,
+        "core.make_room(0)",
+        core.make_room(0),
+        Err(CoreError::OutOfMemory),
+    );
+    same(&rt, "core.view(0)", core.view(0), before);
+    same(
+        &rt,
+        "core.now(), core.ready()",
+        (core.now(), core.ready()),
+        (0, None),
+    );
     drop(ballast);
     accepts(&rt, &mut core, 0, sum_of(&rt, alloc, &[4]), 0);
-    assert_eq!(rt; core.run(), done(0, 0, 4));
+    same(&rt, "core.run()", core.run(), done(0, 0, 4));
 }
 
 #[test]
@@ -103,19 +128,34 @@ fn room_is_enough_for_the_next_job(rt: HostRuntime) {
     let heap = LocalHeap::new(alloc, 1 << 12).expect(&rt, "a heap");
     let mut core = core_of(&rt, &heap, Mode::Throttled, &[(2, 5), (2, 5)], 4);
     let ballast = filled(&rt, alloc, &heap);
-    assert_eq!(rt; core.make_room(1), Err(CoreError::OutOfMemory));
+    same(
+        &rt,
+        "core.make_room(1)",
+        core.make_room(1),
+        Err(CoreError::OutOfMemory),
+    );
     drop(ballast);
-    assert_eq!(rt; core.make_room(1), Ok(()));
+    same(&rt, "core.make_room(1)", core.make_room(1), Ok(()));
     let ballast = filled(&rt, alloc, &heap);
-    assert_eq!(rt; core.advance(3), Ok(()));
-    assert_eq!(rt; core.close(0), Ok(()));
-    assert_eq!(rt; core.run(), Ran::Idle);
+    same(&rt, "core.advance(3)", core.advance(3), Ok(()));
+    same(&rt, "core.close(0)", core.close(0), Ok(()));
+    same(&rt, "core.run()", core.run(), Ran::Idle);
     accepts(&rt, &mut core, 1, sum_of(&rt, alloc, &[4, 5, 6]), 0);
-    assert_eq!(rt; core.close(1), Ok(()));
-    assert_eq!(rt; core.run(), Ran::Unit { server: 1, seq: 0 });
-    assert_eq!(rt; core.run(), Ran::Unit { server: 1, seq: 0 });
-    assert_eq!(rt; core.idle_span(), Some(3));
-    assert_eq!(rt; core.advance(3), Ok(()));
-    assert_eq!(rt; core.run(), done(1, 0, 15));
+    same(&rt, "core.close(1)", core.close(1), Ok(()));
+    same(
+        &rt,
+        "core.run()",
+        core.run(),
+        Ran::Unit { server: 1, seq: 0 },
+    );
+    same(
+        &rt,
+        "core.run()",
+        core.run(),
+        Ran::Unit { server: 1, seq: 0 },
+    );
+    same(&rt, "core.idle_span()", core.idle_span(), Some(3));
+    same(&rt, "core.advance(3)", core.advance(3), Ok(()));
+    same(&rt, "core.run()", core.run(), done(1, 0, 15));
     drop(ballast);
 }

@@ -1,8 +1,8 @@
 //! Lists of steps, and their replies.
 
 use super::memory::filled;
-use super::{core_of, done, state, sum_of};
-use crate::{Core, CoreError, Ran, Reply, Step};
+use super::{core_of, done, same, state, sum_of};
+use cbs_core::{Core, CoreError, Ran, Reply, Step};
 use cbs_job::SumJob;
 use cbs_rules::{LIMIT, Mode};
 use linked_list_allocator::LocalHeap;
@@ -69,9 +69,9 @@ fn answers<A: Allocator + Clone>(
     wanted: &[Told],
 ) {
     let replies = core.run_steps(steps).ok().expect(rt, "replies");
-    assert_eq!(rt; replies.len(), wanted.len());
+    same(rt, "replies.len()", replies.len(), wanted.len());
     for (reply, &want) in replies.iter().zip(wanted) {
-        assert_eq!(rt; without_job(reply), want);
+        same(rt, "without_job(reply)", without_job(reply), want);
     }
 }
 
@@ -92,9 +92,19 @@ fn steps_are_answered_in_order(rt: HostRuntime) {
         Told::Ran(done(1, 0, 9)),
     ];
     answers(&rt, &mut core, steps_of(&rt, alloc, alloc, &asked), &wanted);
-    assert_eq!(rt; core.now(), 2);
-    assert_eq!(rt; state(&rt, &core, 0), (1, 5, false));
-    assert_eq!(rt; state(&rt, &core, 1), (1, 5, false));
+    same(&rt, "core.now()", core.now(), 2);
+    same(
+        &rt,
+        "state(&rt, &core, 0)",
+        state(&rt, &core, 0),
+        (1, 5, false),
+    );
+    same(
+        &rt,
+        "state(&rt, &core, 1)",
+        state(&rt, &core, 1),
+        (1, 5, false),
+    );
 }
 
 #[test]
@@ -132,8 +142,13 @@ fn steps_that_find_no_memory_come_back(rt: HostRuntime) {
     let before = core.view(0);
     let ballast = filled(&rt, alloc, &heap);
     let refused = core.run_steps(steps).err().expect(&rt, "the steps");
-    assert_eq!(rt; core.view(0), before);
-    assert_eq!(rt; (core.now(), core.ready()), (0, None));
+    same(&rt, "core.view(0)", core.view(0), before);
+    same(
+        &rt,
+        "core.now(), core.ready()",
+        (core.now(), core.ready()),
+        (0, None),
+    );
     drop(ballast);
     let wanted = [Told::Advanced, Told::Accepted(0), Told::Ran(done(0, 0, 4))];
     answers(&rt, &mut core, refused.steps, &wanted);
@@ -161,7 +176,7 @@ fn a_step_that_finds_no_memory_is_marked(rt: HostRuntime) {
         Told::Ran(Ran::Idle),
     ];
     let steps = steps_of(&rt, alloc, &heap, &asked);
-    assert_eq!(rt; core.make_room(0), Ok(()));
+    same(&rt, "core.make_room(0)", core.make_room(0), Ok(()));
 
     // What is left of the heap is as long as the replies: only the second server finds no memory.
     let replies: Vec<Reply<SumJob>, &LocalHeap> = Vec::with_capacity(&heap, asked.len()).expect(
@@ -170,8 +185,18 @@ fn a_step_that_finds_no_memory_is_marked(rt: HostRuntime) {
     let ballast = filled(&rt, alloc, &heap);
     drop(replies);
     answers(&rt, &mut core, steps, &wanted);
-    assert_eq!(rt; core.now(), 2);
-    assert_eq!(rt; state(&rt, &core, 0), (2, 10, false));
-    assert_eq!(rt; state(&rt, &core, 1), (0, 0, false));
+    same(&rt, "core.now()", core.now(), 2);
+    same(
+        &rt,
+        "state(&rt, &core, 0)",
+        state(&rt, &core, 0),
+        (2, 10, false),
+    );
+    same(
+        &rt,
+        "state(&rt, &core, 1)",
+        state(&rt, &core, 1),
+        (0, 0, false),
+    );
     drop(ballast);
 }

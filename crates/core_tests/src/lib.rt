@@ -1,0 +1,5 @@
+//! Tests of cbs_core.
+#![tactic(auto)]
+
+#[cfg(test)]
+mod tests;
