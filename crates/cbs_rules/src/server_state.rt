@@ -89,12 +89,12 @@ impl ServerState {
     /// Uses one tick of the budget. With the last one a soft server gets a whole budget at once and
     /// its deadline is postponed by a period; a throttled one is throttled.
     ///
-    /// A tick must be left, and the server must not be throttled; its deadline must be at most
-    /// [`MAX_DEADLINE`].
+    /// A tick must be left, and the server must not be throttled. Where a period is added, with the
+    /// last tick of a soft server, its deadline must be at most [`MAX_DEADLINE`].
     pub fn consume(&mut self, mode: Mode)
         requires some { 0 < self.old.state.budget }
         requires free { self.old.state.throttled ≡ false }
-        requires room { self.old.state.deadline ≤ latest_deadline }
+        requires room { mode ≡ Mode.Soft → self.old.state.budget ≡ 1 → self.old.state.deadline ≤ latest_deadline }
         ensures { self.new ≡ record { reservation = self.old.reservation; state = after_unit mode self.old.reservation self.old.state } }
     {
         let reservation = self.reservation;
