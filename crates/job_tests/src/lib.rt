@@ -1,0 +1,5 @@
+//! Tests of cbs_job.
+#![tactic(auto)]
+
+#[cfg(test)]
+mod tests;

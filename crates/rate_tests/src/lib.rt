@@ -1,0 +1,5 @@
+//! Tests of cbs_rate.
+#![tactic(auto)]
+
+#[cfg(test)]
+mod tests;

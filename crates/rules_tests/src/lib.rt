@@ -1,0 +1,5 @@
+//! Tests of cbs_rules.
+#![tactic(auto)]
+
+#[cfg(test)]
+mod tests;
