@@ -1,3 +1,4 @@
 pub mod Each
-pub mod Reading
+pub mod Places
+pub mod PlanEntries
 pub mod Tables

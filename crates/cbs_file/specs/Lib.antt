@@ -3,4 +3,4 @@ pub mod Faults
 pub mod Fields
 pub mod Files
 pub mod TaskFiles
-pub mod Tops
+pub mod TopTables

@@ -13,25 +13,25 @@ use thiserror::Error;
 pub enum FileKind {
     /// The bytes are no TOML document, or no UTF-8.
     #[error("this is no TOML document")]
-    NotToml,
+    NotToml = 1,
     /// A table has a key that it may not have.
     #[error("a key is not one of this table's keys")]
-    UnknownKey,
+    UnknownKey = 2,
     /// A table lacks a key.
     #[error("a key of this table is missing")]
-    MissingKey,
+    MissingKey = 3,
     /// A value is of another type than its key wants.
     #[error("a value has the wrong type")]
-    WrongType,
+    WrongType = 4,
     /// A value is not in its key's range.
     #[error("a value is out of range")]
-    OutOfRange,
+    OutOfRange = 5,
     /// The plan does not take the server.
     #[error("the plan does not take this server: too many, too fine periods, or over the bound")]
-    NotAdmitted,
+    NotAdmitted = 6,
     /// There was no memory to read the file.
     #[error("out of memory")]
-    OutOfMemory,
+    OutOfMemory = 7,
 }
 
 impl FileKind {
@@ -39,15 +39,7 @@ impl FileKind {
     pub fn number(self) -> u8
         ensures { result ≡ file_kind_number self }
     {
-        match self {
-            FileKind::NotToml => 1,
-            FileKind::UnknownKey => 2,
-            FileKind::MissingKey => 3,
-            FileKind::WrongType => 4,
-            FileKind::OutOfRange => 5,
-            FileKind::NotAdmitted => 6,
-            FileKind::OutOfMemory => 7,
-        }
+        self as u8
     }
 
     /// The kind's name, as the program prints it.

@@ -1,3 +1,3 @@
-pub mod Filing
-pub mod Taking
+pub mod FileJobs
+pub mod Numbers
 pub mod Whole

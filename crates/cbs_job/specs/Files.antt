@@ -6,23 +6,23 @@ use Rattle.cbs_job.specs.declared.file.FileJob.{FileJob}
 use Rattle.cbs_job.specs.declared.file.FileJob.TheVariants.{Sum, Peak}
 
 -- the units left of the job inside
-abbrev pub file_left : FileJob → ℕ
-file_left (Sum p) = summing.left p
-file_left (Peak p) = peaking.left p
+abbrev pub left_inside : FileJob → ℕ
+left_inside (Sum p) = summing.left p
+left_inside (Peak p) = peaking.left p
 
 -- the output so far of the job inside
-abbrev pub file_output : FileJob → ℕ
-file_output (Sum p) = summing.output p
-file_output (Peak p) = peaking.output p
+abbrev pub output_inside : FileJob → ℕ
+output_inside (Sum p) = summing.output p
+output_inside (Peak p) = peaking.output p
 
 -- the same kind of job after one more unit of the job inside
-abbrev pub file_after : FileJob → FileJob
-file_after (Sum p) = Sum (summing.after p)
-file_after (Peak p) = Peak (peaking.after p)
+abbrev pub after_inside : FileJob → FileJob
+after_inside (Sum p) = Sum (summing.after p)
+after_inside (Peak p) = Peak (peaking.after p)
 
 -- what the calls of such a job mean
 abbrev pub of_files : Meaning FileJob
-of_files = record { left = file_left; output = file_output; after = file_after }
+of_files = record { left = left_inside; output = output_inside; after = after_inside }
 
 -- they keep the law of work
 pub of_files_lowers : Lowers of_files

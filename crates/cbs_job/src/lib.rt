@@ -16,6 +16,3 @@ pub use running::Running;
 pub use sum::SumJob;
 pub use task::{MAX_UNITS, Task, TaskError, TaskRefused};
 pub use work::Work;
-
-#[cfg(test)]
-mod tests;

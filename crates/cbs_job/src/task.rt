@@ -1,6 +1,7 @@
 //! Work that may be submitted.
 
-ghost use Rattle.std.specs.Prelude.{◌≡◌, ◌<◌, ◌≤◌, IfOk, IfErr, MatchResult, Some, None};
+ghost use Rattle.std.specs.Prelude.{◌≡◌, ◌<◌, ◌≤◌, IfOk, IfErr};
+ghost use Rattle.cbs_rate.specs.Refusals.{HandsBackBy};
 
 use crate::running::Running;
 use crate::work::Work;
@@ -29,10 +30,10 @@ impl<W: Work> Model for Task<W> {
 pub enum TaskError {
     /// No unit is left: there is nothing to run.
     #[error("the job is empty: a job has at least 1 unit")]
-    EmptyJob,
+    EmptyJob = 1,
     /// More than [`MAX_UNITS`] units are left.
     #[error("the job is too long: a job has at most 1000000 units")]
-    TooLong,
+    TooLong = 2,
 }
 
 impl TaskError {
@@ -42,10 +43,7 @@ impl TaskError {
     pub fn number(self) -> u8
         ensures { result ≡ task_error_number self }
     {
-        match self {
-            TaskError::EmptyJob => 1,
-            TaskError::TooLong => 2,
-        }
+        self as u8
     }
 
     /// The error's name: that of its variant.
@@ -78,7 +76,7 @@ impl<W: Work> Task<W> {
     pub fn new(work: W) -> Result<Task<W>, TaskRefused<W>>
         ensures ok { IfOk result (λ task. task ≡ work) }
         ensures back { IfErr result (λ refused. refused.work ≡ work) }
-        ensures refusal { MatchResult result (λ _. task_refusal (W.meaning.left work) ≡ None) (λ refused. task_refusal (W.meaning.left work) ≡ Some refused.error) }
+        ensures refusal { HandsBackBy (λ refused. refused.error) result (task_refusal (W.meaning.left work)) }
     {
         let left = work.left();
         if left == 0 {

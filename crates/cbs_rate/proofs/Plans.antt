@@ -111,16 +111,16 @@ module _ {p : Inside} {r : Rate} {budget period next : ℕ} (asked : IsAsked p r
         → IsSummed (record { bound = p.bound; rates = record { items = p.rates.items ++ r ∷ [] }; common = next; taken = p.taken * (next / p.common) + budget * (next / period) })
     summed_next bounded = record {
       plan =
-          let whole = fits_next.1 within in
+          let fitting = fits_next.1 within in
           let few = asked.room in
           record {
             few = rw length-append (omega arith);
             lawful = lawful_next r asked.summed asked.ok;
             coarse = rw asked.next_is at coarse;
-            fits = le-leb _ _ whole;
+            fits = le-leb _ _ fitting;
             at_most_one =
                 let a = bounded.some in let b = bounded.at_most_one in
-                at_most_one p.bound.num p.bound.den (total_share (p.rates.items ++ r ∷ [])) (all_periods (p.rates.items ++ r ∷ [])) b (omega arith) whole;
+                at_most_one p.bound.num p.bound.den (total_share (p.rates.items ++ r ∷ [])) (all_periods (p.rates.items ++ r ∷ [])) b (omega arith) fitting;
           };
       common = asked.next_is;
       taken = taken_next;

@@ -112,7 +112,7 @@ module _ (rates : List Rate) (r : Rate) (all : AllLawful rates) (ok : IsRate r.b
       rw (sum_by_push (share (common_multiple (rates ++ r ∷ []))) rates r, g) (omega arith)
 
   pub old_share-le : total_share rates ≤ all_periods rates → sum_by (share (common_multiple rates)) rates * (common_multiple (rates ++ r ∷ []) / common_multiple rates) ≤ common_multiple (rates ++ r ∷ [])
-  old_share-le whole =
+  old_share-le full =
       let n = common_multiple (rates ++ r ∷ []) / common_multiple rates in
       let fits = (fits_common 1 1 rates all).0 (omega arith) in
       let m = mul-le (sum_by (share (common_multiple rates)) rates) n (common_multiple rates) n (omega arith) (omega arith) in

@@ -43,12 +43,12 @@ impl Bound {
         Ok(Bound { num, den })
     }
 
-    /// Whether `part` of `whole` is at most this bound, exactly: the products are compared, and
+    /// Whether `taken` of `ticks` is at most this bound, exactly: the products are compared, and
     /// nothing is divided.
-    pub(crate) fn allows(self, part: u64, whole: u64) -> bool
-        ensures value { IsTrue result ↔ (self.den * part ≤ self.num * whole) }
+    pub(crate) fn allows(self, taken: u64, ticks: u64) -> bool
+        ensures value { IsTrue result ↔ (self.den * taken ≤ self.num * ticks) }
         ensures lawful { IsBound self.num self.den }
     {
-        u128::from(self.den) * u128::from(part) <= u128::from(self.num) * u128::from(whole)
+        u128::from(self.den) * u128::from(taken) <= u128::from(self.num) * u128::from(ticks)
     }
 }

@@ -10,17 +10,17 @@ use thiserror::Error;
 pub enum RateError {
     /// The budget is 0: a server with no budget would never run.
     #[error("the budget is 0: a reservation needs a budget of at least 1 tick")]
-    ZeroBudget,
+    ZeroBudget = 1,
     /// The period is longer than [`MAX_PERIOD`](crate::MAX_PERIOD).
     #[error("the period is longer than 1000000000 ticks")]
-    PeriodTooLong,
+    PeriodTooLong = 2,
     /// The budget is larger than the period: no processor has that much time.
     #[error("the budget is larger than the period")]
-    BudgetOverPeriod,
+    BudgetOverPeriod = 3,
     /// The bound is no fraction from above 0 to 1 with a denominator of at most
     /// [`MAX_DENOMINATOR`](crate::MAX_DENOMINATOR).
     #[error("a bound N/D needs 1 <= N <= D <= 1000000")]
-    BadBound,
+    BadBound = 4,
 }
 
 impl RateError {
@@ -28,12 +28,7 @@ impl RateError {
     pub fn number(self) -> u8
         ensures { result ≡ rate_error_number self }
     {
-        match self {
-            RateError::ZeroBudget => 1,
-            RateError::PeriodTooLong => 2,
-            RateError::BudgetOverPeriod => 3,
-            RateError::BadBound => 4,
-        }
+        self as u8
     }
 
     /// The error's name: that of its variant.
@@ -54,14 +49,14 @@ impl RateError {
 pub enum AdmitError {
     /// The plan has [`MAX_SERVERS`](crate::MAX_SERVERS) servers already.
     #[error("the plan has 64 servers already, and takes no more")]
-    TooManyServers,
+    TooManyServers = 1,
     /// The least common multiple of all periods would pass
     /// [`MAX_COMMON_MULTIPLE`](crate::MAX_COMMON_MULTIPLE).
     #[error("the least common multiple of all periods would pass 10^18: choose periods that share more factors")]
-    PeriodsTooFine,
+    PeriodsTooFine = 2,
     /// The total bandwidth, the new reservation included, would pass the plan's bound.
     #[error("the total bandwidth would pass the plan's bound: a smaller budget or a longer period may fit")]
-    OverBound,
+    OverBound = 3,
 }
 
 impl AdmitError {
@@ -69,11 +64,7 @@ impl AdmitError {
     pub fn number(self) -> u8
         ensures { result ≡ admit_error_number self }
     {
-        match self {
-            AdmitError::TooManyServers => 1,
-            AdmitError::PeriodsTooFine => 2,
-            AdmitError::OverBound => 3,
-        }
+        self as u8
     }
 
     /// The error's name: that of its variant.

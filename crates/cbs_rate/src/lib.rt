@@ -12,6 +12,3 @@ pub use bound::{Bound, MAX_DENOMINATOR};
 pub use error::{AdmitError, RateError};
 pub use plan::{MAX_COMMON_MULTIPLE, MAX_SERVERS, Plan};
 pub use reservation::{MAX_PERIOD, Reservation};
-
-#[cfg(test)]
-mod tests;

@@ -6,6 +6,3 @@ mod server_state;
 
 pub use mode::Mode;
 pub use server_state::{LIMIT, MAX_DEADLINE, ServerState};
-
-#[cfg(test)]
-mod tests;

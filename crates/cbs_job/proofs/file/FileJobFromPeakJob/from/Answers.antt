@@ -1,5 +1,5 @@
 use Rattle.std.proofs.Common.{refl}
-use Rattle.cbs_job.proofs.Filing.{whole-Peak}
+use Rattle.cbs_job.proofs.FileJobs.{whole-Peak}
 use Rattle.cbs_job.proofs.file.FileJobFromPeakJob.from.Goals as goal
 
 pub returns : goal.returns

@@ -1,4 +1,4 @@
-use Rattle.cbs_job.proofs.Taking.{IsPeak-whole-peaking, IsPeak-output_after-peaking}
+use Rattle.cbs_job.proofs.Numbers.{IsPeak-whole-peaking, IsPeak-output_after-peaking}
 use Rattle.cbs_job.proofs.peak.PeakJob.new.Goals as goal
 
 pub returns-clause-so_far : goal.returns-clause-so_far

@@ -1,4 +1,4 @@
-use Rattle.cbs_job.proofs.Taking.{whole-summing, output_after-summing}
+use Rattle.cbs_job.proofs.Numbers.{whole-summing, output_after-summing}
 use Rattle.cbs_job.proofs.sum.SumJob.new.Goals as goal
 
 pub returns-clause-so_far : goal.returns-clause-so_far

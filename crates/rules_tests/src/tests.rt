@@ -1,6 +1,12 @@
-use crate::{LIMIT, MAX_DEADLINE, Mode, ServerState};
 use cbs_rate::{MAX_PERIOD, Reservation};
+use cbs_rules::{LIMIT, MAX_DEADLINE, Mode, ServerState};
+use std::fmt::Debug;
 use std::process::Abort;
+
+/// Ends the test with the label and both values, unless they are the same.
+fn same<T: Debug + Drop + PartialEq>(rt: &impl Abort, label: &str, answer: T, wanted: T) {
+    assert!(rt; answer == wanted, "{label}: {answer:?}, not {wanted:?}");
+}
 
 /// What happens to a server, with the tick at which it does.
 #[derive(Clone, Copy)]
@@ -20,10 +26,8 @@ fn lives(
 ) {
     let reservation = Reservation::new(budget, period).expect(rt, "a reservation");
     let mut server = ServerState::fresh(reservation);
-    assert_eq!(rt;
-        (server.budget(), server.deadline(), server.throttled()),
-        (0, 0, false)
-    );
+    let state = (server.budget(), server.deadline(), server.throttled());
+    same(rt, "a new server", state, (0, 0, false));
     for (i, &(event, budget, deadline, throttled)) in life.iter().enumerate() {
         assert!(rt; server.deadline() <= MAX_DEADLINE);
         match event {
@@ -38,7 +42,7 @@ fn lives(
             Event::Replenish(now) => server.replenish(now),
         }
         let state = (server.budget(), server.deadline(), server.throttled());
-        assert_eq!(rt; state, (budget, deadline, throttled), "at event {i}");
+        same(rt, "event", (i, state), (i, (budget, deadline, throttled)));
     }
 }
 
@@ -109,6 +113,6 @@ fn a_throttled_server_follows_its_rules(rt: HostRuntime) {
 
 #[test]
 fn the_limits_are_those_of_a_clock_of_a_thousand_million_ticks(rt: HostRuntime) {
-    assert_eq!(rt; LIMIT, 1_000_000_000);
-    assert_eq!(rt; MAX_DEADLINE, (LIMIT + 1) * MAX_PERIOD);
+    same(&rt, "LIMIT", LIMIT, 1_000_000_000);
+    same(&rt, "MAX_DEADLINE", MAX_DEADLINE, (LIMIT + 1) * MAX_PERIOD);
 }

@@ -1,6 +1,17 @@
-use crate::{AdmitError, Bound, Plan, RateError, Reservation};
+use cbs_rate::{AdmitError, Bound, Plan, RateError, Reservation};
+use std::fmt::Debug;
 use std::process::Abort;
 use std::test::Fail;
+
+/// Ends the test with the label and both values, unless they are the same.
+fn same<T: Debug + Drop + PartialEq>(rt: &impl Abort, label: &str, answer: T, wanted: T) {
+    assert!(rt; answer == wanted, "{label}: {answer:?}, not {wanted:?}");
+}
+
+/// The reservation of `budget` in every `period`, which there has to be.
+fn reserved(rt: &impl Abort, budget: u64, period: u64) -> Reservation {
+    Reservation::new(budget, period).expect(rt, "a reservation")
+}
 
 /// Admits each of `asked`, a budget and a period, in turn to a new plan, and looks at what it answers.
 fn admits(
@@ -12,15 +23,16 @@ fn admits(
     let mut plan = Plan::new(Bound::new(bound.0, bound.1).expect(rt, "a bound"));
     assert!(rt; plan.is_empty());
     for &(budget, period, answer) in asked {
-        let reservation = Reservation::new(budget, period).expect(rt, "a reservation");
-        assert_eq!(rt; plan.admit(reservation), answer, "at {budget}/{period}");
+        let reservation = reserved(rt, budget, period);
+        let admitted = (budget, period, plan.admit(reservation));
+        same(rt, "admit", admitted, (budget, period, answer));
         if let Ok(server) = answer {
-            assert_eq!(rt; plan.get(server), Some(reservation));
+            same(rt, "get", plan.get(server), Some(reservation));
         }
     }
-    assert_eq!(rt; plan.len(), len);
-    assert_eq!(rt; plan.is_empty(), len == 0);
-    assert_eq!(rt; plan.get(64), None);
+    same(rt, "len", plan.len(), len);
+    same(rt, "is_empty", plan.is_empty(), len == 0);
+    same(rt, "get beyond the servers", plan.get(64), None);
 }
 
 #[test]
@@ -51,12 +63,13 @@ fn admits_exactly_up_to_the_limits(rt: HostRuntime) {
 #[test]
 fn refuses_the_sixty_fifth_server(rt: HostRuntime) {
     let mut plan = Plan::new(Bound::new(1, 1).expect(&rt, "a bound"));
-    let reservation = Reservation::new(1, 1000).expect(&rt, "a reservation");
+    let reservation = reserved(&rt, 1, 1000);
     for server in 0..64 {
-        assert_eq!(rt; plan.admit(reservation), Ok(server));
+        same(&rt, "admit", plan.admit(reservation), Ok(server));
     }
-    assert_eq!(rt; plan.admit(reservation), Err(AdmitError::TooManyServers));
-    assert_eq!(rt; plan.len(), 64);
+    let refused = plan.admit(reservation);
+    same(&rt, "admit", refused, Err(AdmitError::TooManyServers));
+    same(&rt, "len", plan.len(), 64);
 }
 
 #[test]
@@ -69,30 +82,22 @@ fn refuses_numbers_outside_the_limits(rt: HostRuntime) {
         (1, 0, RateError::BudgetOverPeriod),
     ];
     for &(budget, period, error) in &reservations {
-        assert_eq!(rt;
-            Reservation::new(budget, period),
-            Err(error),
-            "at {budget}/{period}"
-        );
+        let made = (budget, period, Reservation::new(budget, period));
+        same(&rt, "reservation", made, (budget, period, Err(error)));
     }
-    let longest = Reservation::new(1_000_000_000, 1_000_000_000).expect(&rt, "a reservation");
-    assert_eq!(rt;
-        (longest.budget(), longest.period()),
-        (1_000_000_000, 1_000_000_000)
-    );
+    let longest = reserved(&rt, 1_000_000_000, 1_000_000_000);
+    same(&rt, "budget", longest.budget(), 1_000_000_000);
+    same(&rt, "period", longest.period(), 1_000_000_000);
     for &(num, den) in &[(0, 1), (2, 1), (1, 1_000_001)] {
-        assert_eq!(rt;
-            Bound::new(num, den),
-            Err(RateError::BadBound),
-            "at {num}/{den}"
-        );
+        let made = (num, den, Bound::new(num, den));
+        same(&rt, "bound", made, (num, den, Err(RateError::BadBound)));
     }
 }
 
 #[test]
 fn compares_bandwidths_exactly(rt: HostRuntime) {
-    let third = Reservation::new(1, 3).expect(&rt, "a reservation");
-    let less = Reservation::new(333_333_333, 1_000_000_000).expect(&rt, "a reservation");
+    let third = reserved(&rt, 1, 3);
+    let less = reserved(&rt, 333_333_333, 1_000_000_000);
     assert!(rt; !third.at_most(&less));
     assert!(rt; less.at_most(&third));
     assert!(rt; third.at_most(&third));
@@ -107,8 +112,8 @@ fn errors_have_numbers_and_names(rt: HostRuntime) {
         (RateError::BadBound, 4, "BadBound"),
     ];
     for &(error, number, name) in &rates {
-        assert_eq!(rt; error.number(), number);
-        assert_eq!(rt; error.name(), name);
+        same(&rt, name, error.number(), number);
+        same(&rt, name, error.name(), name);
     }
     let admissions = [
         (AdmitError::TooManyServers, 1, "TooManyServers"),
@@ -116,8 +121,8 @@ fn errors_have_numbers_and_names(rt: HostRuntime) {
         (AdmitError::OverBound, 3, "OverBound"),
     ];
     for &(error, number, name) in &admissions {
-        assert_eq!(rt; error.number(), number);
-        assert_eq!(rt; error.name(), name);
+        same(&rt, name, error.number(), number);
+        same(&rt, name, error.name(), name);
     }
 }
 
@@ -143,7 +148,7 @@ fn errors_say_what_is_wrong(rt: HostRuntime) -> Result<(), Fail> {
         ),
     ] {
         let said = format!(in alloc; "{error}")?;
-        assert!(rt; said.as_str() == text, "{said}");
+        same(&rt, text, said.as_str(), text);
     }
     Ok(())
 }
@@ -166,7 +171,7 @@ fn refused_admissions_say_what_is_wrong(rt: HostRuntime) -> Result<(), Fail> {
         ),
     ] {
         let said = format!(in alloc; "{error}")?;
-        assert!(rt; said.as_str() == text, "{said}");
+        same(&rt, text, said.as_str(), text);
     }
     Ok(())
 }

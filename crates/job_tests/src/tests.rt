@@ -1,18 +1,24 @@
-use crate::{FileJob, PeakJob, SumJob, Task, TaskError, Work};
+use cbs_job::{FileJob, PeakJob, SumJob, Task, TaskError, Work};
+use std::fmt::Debug;
 use std::process::Abort;
 use std::test::Fail;
+
+/// Ends the test with the label and both values, unless they are the same.
+fn same<T: Debug + Drop + PartialEq>(rt: &impl Abort, label: &str, answer: T, wanted: T) {
+    assert!(rt; answer == wanted, "{label}: {answer:?}, not {wanted:?}");
+}
 
 /// Makes a task of `work`, and looks whether and why it is refused, and at the units left.
 fn answers<W: Work>(rt: &impl Abort, work: W, units: u32, refusal: Option<TaskError>) {
     match Task::new(work) {
         Ok(task) => {
-            assert_eq!(rt; None, refusal, "at {units} units");
-            assert_eq!(rt; task.left(), units);
-            assert_eq!(rt; task.start().left(), units);
+            same(rt, "task", (units, None), (units, refusal));
+            same(rt, "left of the task", task.left(), units);
+            same(rt, "left once started", task.start().left(), units);
         }
         Err(refused) => {
-            assert_eq!(rt; Some(refused.error), refusal, "at {units} units");
-            assert_eq!(rt; refused.work.left(), units);
+            same(rt, "task", (units, Some(refused.error)), (units, refusal));
+            same(rt, "left once refused", refused.work.left(), units);
         }
     }
 }
@@ -47,14 +53,14 @@ fn comes_to<W: Work>(rt: &impl Abort, work: W, outputs: &[u64]) {
     let mut running = task.start();
     let mut units = outputs.len();
     for &output in outputs {
-        assert_eq!(rt; running.output(), output);
+        same(rt, "output", (units, running.output()), (units, output));
         units = units.saturating_sub(1);
-        assert_eq!(rt; running.left() as usize, units);
+        same(rt, "left", running.left() as usize, units);
         if running.left() > 0 {
             running.step();
         }
     }
-    assert_eq!(rt; units, 0);
+    same(rt, "left at the end", units, 0);
 }
 
 #[test]
@@ -81,8 +87,8 @@ fn errors_have_numbers_and_names(rt: HostRuntime) {
         (TaskError::TooLong, 2, "TooLong"),
     ];
     for &(error, number, name) in &errors {
-        assert_eq!(rt; error.number(), number);
-        assert_eq!(rt; error.name(), name);
+        same(&rt, name, error.number(), number);
+        same(&rt, name, error.name(), name);
     }
 }
 
@@ -100,7 +106,7 @@ fn errors_say_what_is_wrong(rt: HostRuntime) -> Result<(), Fail> {
         ),
     ] {
         let said = format!(in alloc; "{error}")?;
-        assert!(rt; said.as_str() == text, "{said}");
+        same(&rt, text, said.as_str(), text);
     }
     Ok(())
 }
