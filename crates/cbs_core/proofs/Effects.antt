@@ -49,7 +49,7 @@ module _ {W : Type 0} where
     pub closed_server : (s : ℕ) → s < length old.faces → faces ≡ changed_at with_close old.faces s → queues ≡ old.queues → ClosesServer (held_at old s) (held_at new s) × OthersSame s old new
     closed_server s lt shown same = (
       rw (shown, same, changed_here with_close old.faces s no_face lt) record { jobs = refl; accepted = refl; finished = refl; closed = refl },
-      λ t ne. rw (shown, same, changed_elsewhere with_close old.faces s t no_face ne) record { jobs = refl; accepted = refl; finished = refl; closed = refl }
+      λ t ne. rw (shown, same, changed_elsewhere with_close old.faces s t no_face ne) record { jobs = refl; accepted = refl; finished = refl; closed = refl },
     )
 
   module _ (work : Meaning W) (law : Lowers work) (s : ℕ) (before after : CoreHeld W) (others : OthersSame s before after) where

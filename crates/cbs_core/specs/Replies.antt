@@ -73,8 +73,3 @@ module _ {W : Type 0} where
   AnswersAll work M [] (r ∷ rs) = ⊥
   AnswersAll work M (x ∷ xs) [] = ⊥
   AnswersAll work M (x ∷ xs) (r ∷ rs) = Answers work M x r × AnswersAll work (grown M x r) xs rs
-
--- what make_room answers, by why a submit is refused: that refusal, or else Ok, or that memory is refused
-abbrev pub RoomAnswers : Option CoreError → Result (Unit {0}) CoreError → Type 0
-RoomAnswers (Some e) r = r ≡ Err e
-RoomAnswers None r = (r ≡ Ok tt) ⊎ (r ≡ Err error.OutOfMemory)

@@ -9,22 +9,22 @@ use thiserror::Error;
 pub enum CoreError {
     /// The backlog is not within 1 to [`MAX_BACKLOG`](crate::MAX_BACKLOG).
     #[error("the backlog is not within 1 to 4096 jobs")]
-    BadBacklog,
+    BadBacklog = 1,
     /// An allocation was refused.
     #[error("out of memory")]
-    OutOfMemory,
+    OutOfMemory = 2,
     /// No server has that number.
     #[error("there is no such server")]
-    NoSuchServer,
+    NoSuchServer = 3,
     /// The server was closed.
     #[error("the server is closed")]
-    Closed,
+    Closed = 4,
     /// The server has as many unfinished jobs as it may have.
     #[error("the backlog of the server is full")]
-    BacklogFull,
+    BacklogFull = 5,
     /// The clock would pass [`LIMIT`](crate::LIMIT).
     #[error("the clock would pass 1000000000 ticks")]
-    ClockEnd,
+    ClockEnd = 6,
 }
 
 impl CoreError {
@@ -34,14 +34,7 @@ impl CoreError {
     pub fn number(self) -> u8
         ensures { result ≡ core_error_number self }
     {
-        match self {
-            CoreError::BadBacklog => 1,
-            CoreError::OutOfMemory => 2,
-            CoreError::NoSuchServer => 3,
-            CoreError::Closed => 4,
-            CoreError::BacklogFull => 5,
-            CoreError::ClockEnd => 6,
-        }
+        self as u8
     }
 
     /// The error's name: that of its variant.

@@ -1,12 +1,13 @@
 //! The core: all servers, and the clock.
 
 ghost use Rattle.std.specs.Prelude.{◌≡◌, ℕ, ◌+◌, ◌*◌, ◌<◌, ◌≤◌, true, false, Ok, Err, IfOk, IfErr, OnOk, OnErr, IsOk, length, slice_get, [], MatchOption, MatchResult, Some, None, ◌⊎◌};
+ghost use Rattle.cbs_rate.specs.Refusals.{RefusesByOrMemory};
 ghost use Rattle.cbs_core.specs.Quiet.{IsAtRest, IsIdleSpan};
 ghost use Rattle.cbs_core.specs.Choice.{IsChoice};
 ghost use Rattle.cbs_core.specs.Faces.{face_at, ranks, submit_refusal, view_reply};
 ghost use Rattle.cbs_core.specs.History.{History, ◌⊕◌, faces, world_after, reply_in, chosen};
 ghost use Rattle.cbs_core.specs.Agreement.{Agrees};
-ghost use Rattle.cbs_core.specs.Replies.{submitted, advanced, closed, lacks_memory, IsAccepted, Answers, AnswersAll, grown, grown_by, RoomAnswers};
+ghost use Rattle.cbs_core.specs.Replies.{submitted, advanced, closed, lacks_memory, IsAccepted, Answers, AnswersAll, grown, grown_by};
 ghost use Rattle.cbs_core.specs.Laws.{account_in, completion_in, completions_of, Completes, NoneAfterClose, IsWithinBudget, KeepsBudgets};
 ghost use Rattle.cbs_core.specs.Held.{room_of, KeepsRoom, IsOpen, HasRoom, IsRefusedBy, held_at, TakesJob, ClosesServer, OthersSame, AllSame, DoesRun, CountsOn};
 ghost use Rattle.cbs_core.specs.Queues.{ran_of};
@@ -59,7 +60,7 @@ impl<W: Work, A: Allocator + Clone> Core<W, A> {
     /// [`CoreError::OutOfMemory`] where an allocation is refused.
     pub fn new(alloc: A, plan: Plan, mode: Mode, backlog: u64) -> Result<Self, CoreError>
         ensures start { IfOk result (λ core. Agrees W.meaning core (record { setup = record { servers = terms_of mode plan.rates; backlog = backlog }; steps = [] })) }
-        ensures refusal { MatchResult result (λ _. new_refusal backlog ≡ None) (λ e. (new_refusal backlog ≡ Some e) ⊎ ((new_refusal backlog ≡ None) × (e ≡ CoreError.OutOfMemory))) }
+        ensures refusal { RefusesByOrMemory CoreError.OutOfMemory result (new_refusal backlog) }
     {
         if backlog == 0 || backlog > MAX_BACKLOG {
             return Err(CoreError::BadBacklog);
@@ -88,7 +89,7 @@ impl<W: Work, A: Allocator> Core<W, A> {
     /// allocation is refused.
     pub fn make_room(&mut self, server: u16) -> Result<(), CoreError>
         ensures answer { (M : History W) → Agrees W.meaning self.old M
-            → RoomAnswers (submit_refusal M.setup.backlog (faces W.meaning (world_after W.meaning M)) server) result }
+            → RefusesByOrMemory CoreError.OutOfMemory result (submit_refusal M.setup.backlog (faces W.meaning (world_after W.meaning M)) server) }
         ensures state { (M : History W) → Agrees W.meaning self.old M → Agrees W.meaning self.new M }
         ensures room { OnOk result (HasRoom self.new server) }
         ensures refused { IfErr result (IsRefusedBy self.old server) }

@@ -106,8 +106,8 @@ impl Server {
     pub fn submit_refusal(&self, backlog: u64) -> Option<CoreError>
         ensures { result ≡ refuses_submit backlog (Some self.now) }
     {
-        if self.closed {
-            return Some(CoreError::Closed);
+        if let Some(error) = self.close_refusal() {
+            return Some(error);
         }
         if self.backlog() >= backlog {
             return Some(CoreError::BacklogFull);

@@ -68,7 +68,8 @@ impl<A: Allocator> Servers<A> {
             return best;
         }
         match best {
-            Some(earlier) if self.servers[usize::from(earlier)].deadline() <= later.deadline() => best,
+            Some(earlier) if self.servers[usize::from(earlier)].deadline() <= later.deadline() =>
+                best,
             _ => Some(server),
         }
     }

@@ -9,7 +9,7 @@ use Rattle.cbs_core.proofs.executor.Core.make_room.Goals as goal
 pub returns-in-Some-clause-answer : goal.returns-in-Some-clause-answer
 returns-in-Some-clause-answer g c = λ M agrees.
     let inside = rw (← c.self.view_is) at agrees.world in
-    rw (same_refusal g.W.Work.meaning _ M.setup.backlog (world_after g.W.Work.meaning M) inside c.args.server _ c.in-Some.ensures) refl
+    rw (same_refusal g.W.Work.meaning _ M.setup.backlog (world_after g.W.Work.meaning M) inside c.args.server _ c.in-Some.ensures) (inl refl)
 
 pub returns-in-Some-clause-refused : goal.returns-in-Some-clause-refused
 returns-in-Some-clause-refused g c =
@@ -32,7 +32,7 @@ reserve-requires g c =
 pub returns-then-is_err-clause-answer : goal.returns-then-is_err-clause-answer
 returns-then-is_err-clause-answer g c = λ M agrees.
     let inside = rw (← c.self.view_is) at agrees.world in
-    rw (same_refusal g.W.Work.meaning _ M.setup.backlog (world_after g.W.Work.meaning M) inside c.args.server _ c.in_default.ensures) (inr refl)
+    rw (same_refusal g.W.Work.meaning _ M.setup.backlog (world_after g.W.Work.meaning M) inside c.args.server _ c.in_default.ensures) (inr (refl, refl))
 
 pub returns-then-is_err-clause-refused : goal.returns-then-is_err-clause-refused
 returns-then-is_err-clause-refused g c =
@@ -42,7 +42,7 @@ returns-then-is_err-clause-refused g c =
 pub returns-clause-answer : goal.returns-clause-answer
 returns-clause-answer g c = λ M agrees.
     let inside = rw (← c.self.view_is) at agrees.world in
-    rw (same_refusal g.W.Work.meaning _ M.setup.backlog (world_after g.W.Work.meaning M) inside c.args.server _ c.in_default.ensures) (inl refl)
+    rw (same_refusal g.W.Work.meaning _ M.setup.backlog (world_after g.W.Work.meaning M) inside c.args.server _ c.in_default.ensures) refl
 
 pub returns-clause-room : goal.returns-clause-room
 returns-clause-room g c =
