@@ -1,0 +1,122 @@
+-- The laws of the core that the crates above may cite.
+use Rattle.std.proofs.Common.{◌≡◌, ℕ, zero, suc, ◌+◌, ◌-◌, ◌<◌, ◌≤◌, true, false, leb, ltb, List, [], ◌∷◌, length, map, get_or, refl, sym, ◌∙◌, ap, arith, inl, inr, Option, Some, None}
+use Rattle.std.specs.Prelude.{if◌then◌else◌}
+use Rattle.std.specs.List.{AllByRecursion, AllZip}
+use Rattle.std.proofs.lemmas.Bool.{cases_lt}
+use Rattle.std.proofs.lemmas.Bool.Decides.{nat_tests}
+use Rattle.std.proofs.lemmas.List.{length-map}
+use Rattle.cbs_job.specs.Work.{Meaning, whole}
+use Rattle.cbs_rules.specs.Rules.{clock_end, Terms}
+use Rattle.cbs_core.specs.Choice.{rank_at}
+use Rattle.cbs_core.specs.Faces.{Face, new_face, face_at, is_active, is_ready, ranks}
+use Rattle.cbs_core.specs.Accounts.{Account, face_of, new_account, no_account}
+use Rattle.cbs_core.specs.History.{World, Setup, History, ◌⊕◌, account, faces, chosen, tick, ticks, after_run, next, world_after}
+use Rattle.cbs_core.specs.Agreement.{AgreesJobs, AgreesWorld, Agrees}
+use Rattle.cbs_core.specs.Quiet.{IsAtRest, IsQuiet, IsIdleSpan}
+use Rattle.cbs_core.specs.Held.{CoreHeld, held_at, HoldsJob}
+use Rattle.cbs_core.specs.Queues.{list_at}
+use Rattle.cbs_core.specs.Continuations.{IsBusy, HasHistory}
+use Rattle.cbs_core.specs.declared.step.Step.{Step}
+use Rattle.cbs_core.specs.declared.step.Step.TheVariants.{Run, Advance}
+use Rattle.cbs_core.proofs.Agreements.{account_face, ticks_none}
+use Rattle.cbs_core.proofs.Choices.{choice_is}
+use Rattle.cbs_core.proofs.HeldJobs.{length_jobs}
+use Rattle.cbs_core.proofs.Lists.{AllZip-length, AllZip-get}
+
+module _ {W : Type 0} (work : Meaning W) where
+  rest_from : (fs : List Face) → ((r : ℕ) → r < length (ranks fs) → (rank_at (ranks fs) r).ready ≡ false) → AllByRecursion (λ f. is_ready f ≡ false) fs
+  rest_from [] h = tt
+  rest_from (f ∷ fs) h = (h 0 (omega arith), rest_from fs (λ r lt. h (suc r) (omega arith)))
+
+  -- where nobody is chosen, nobody is ready
+  none_ready : (w : World W) → None ≡ chosen work w → IsAtRest work w
+  none_ready w e = rest_from (faces work w) (let h = choice_is (ranks (faces work w)) in rw (← e) at h)
+
+  run_takes : (w : World W) (o : Option ℕ) → o ≡ chosen work w → ¬ IsAtRest work w → w.now < clock_end → w.now < (after_run w (if ltb w.now clock_end then o else None)).now
+  run_takes w None e busy early = absurd (busy (none_ready w e))
+  run_takes w (Some s) e busy early = let t : ltb w.now clock_end ≡ true = grind (arith, nat_tests) in rw t (omega arith)
+
+  -- a run where somebody is ready takes a tick
+  pub run_later : (backlog : ℕ) (w : World W) → ¬ IsAtRest work w → w.now < clock_end → w.now < (next work backlog w Run).now
+  run_later backlog w busy early = run_takes w (chosen work w) refl busy early
+
+  ticks-now : (n : ℕ) (w : World W) → (ticks n w).now ≡ w.now + n
+  unfolding ticks
+  ticks-now zero w = omega arith
+  ticks-now (suc n) w = let h = ticks-now n (tick w) in omega (arith, h)
+
+  quiet_one : (w : World W) → IsAtRest work w → IsQuiet work w 1
+  quiet_one w rest zero lt = rw (ticks_none w) rest
+  quiet_one w rest (suc m) lt = absurd (omega arith)
+
+  -- an advance by the idle span takes a tick or more
+  pub advance_later : (backlog : ℕ) (w : World W) (n : ℕ) → IsIdleSpan work w n → w.now < clock_end → w.now < (next work backlog w (Advance n)).now
+  advance_later backlog w n span early =
+      let some = span.greatest 1 (omega arith) (quiet_one w span.at_rest) in
+      let within = span.within in
+      let t : leb (w.now + n) clock_end ≡ true = grind (arith, nat_tests) in
+      let e = ticks-now n w in
+      rw t (omega arith)
+
+  within_queues : (queues : List (List W)) (s : ℕ) → 0 < length (list_at queues s) → s < length queues
+  within_queues [] s some = absurd (omega arith)
+  within_queues (q ∷ qs) zero some = omega arith
+  within_queues (q ∷ qs) (suc s) some = let l = within_queues qs s some in omega arith
+
+  -- where the core holds a job, a job is unfinished
+  pub busy_by : (core : CoreHeld W) (M : History W) → Agrees work core M → HoldsJob core → IsBusy work (world_after work M)
+  busy_by core M agrees b =
+      let w = world_after work M in
+      let here = AllZip-get (AgreesJobs work) core.queues w.accounts b.0 [] no_account agrees.world.jobs (within_queues core.queues b.0 b.1) in
+      let count = length_jobs work (list_at core.queues b.0) (account w.accounts b.0) here in
+      let some = b.1 in
+      let active : is_active (face_of work (account w.accounts b.0)) ≡ true = grind (arith, nat_tests) in
+      (b.0, ap is_active (account_face work w.accounts b.0) ∙ active)
+
+  -- what is later by every history is later
+  pub later_by : (old new : CoreHeld W) (x : Step W) → HasHistory work old → ((M : History W) → Agrees work old M → Agrees work new (M ⊕ x))
+      → ((M : History W) → Agrees work old M → (world_after work M).now < (world_after work (M ⊕ x)).now) → old.clock < new.clock
+  later_by old new x h follows later = elim (cases_lt old.clock new.clock) [
+    | inl lt ↦ lt
+    | inr ge ↦ absurd (h (λ M agrees. let a = agrees.world.clock in let b = (follows M agrees).world.clock in let l = later M agrees in absurd (omega arith)))
+  ]
+
+-- what a new core holds of a server: no job
+pub record IsNew {W : Type 0} (core : CoreHeld W) (s : ℕ) : Type 0 where
+  pub jobs : (held_at core s).jobs ≡ []
+  pub accepted : (held_at core s).face.accepted ≡ 0
+  pub finished : (held_at core s).face.finished ≡ 0
+  pub unclosed : (held_at core s).face.closed ≡ false
+
+module _ {W : Type 0} (work : Meaning W) (core : CoreHeld W) (setup : Setup) (agrees : Agrees work core (record { setup = setup; steps = [] })) where
+  -- as many servers as were given
+  pub new_count : length core.faces ≡ length setup.servers
+  new_count = ap length agrees.world.shown ∙ length-map (map new_account setup.servers) (face_of work) ∙ length-map setup.servers new_account
+
+  no_jobs : (jobs : List W) → map (whole work) jobs ≡ [] → jobs ≡ []
+  no_jobs [] e = refl
+  no_jobs (j ∷ jobs) e = cc
+
+  new_jobs : (queues : List (List W)) (terms : List Terms) (s : ℕ) → AllZip (AgreesJobs work) queues (map new_account terms) → list_at queues s ≡ []
+  new_jobs [] terms s all = refl
+  new_jobs (q ∷ qs) [] s all = absurd all
+  new_jobs (q ∷ qs) (t ∷ ts) zero all = no_jobs q all.0.results
+  new_jobs (q ∷ qs) (t ∷ ts) (suc s) all = new_jobs qs ts s all.1
+
+  -- the face of a new server
+  record Starts (f : Face) : Type 0 where
+    accepted : f.accepted ≡ 0
+    finished : f.finished ≡ 0
+    unclosed : f.closed ≡ false
+
+  new_face_at : (terms : List Terms) (s : ℕ) → s < length terms → Starts (face_at (map (face_of work) (map new_account terms)) s)
+  new_face_at [] s lt = absurd (omega arith)
+  new_face_at (t ∷ ts) zero lt = record { accepted = refl; finished = refl; unclosed = refl }
+  new_face_at (t ∷ ts) (suc s) lt = new_face_at ts s (omega arith)
+
+  -- a server of a new core
+  pub new_server : (s : ℕ) → s < length core.faces → IsNew core s
+  new_server s lt =
+      let n = new_count in
+      let f = rw (← agrees.world.shown) at (new_face_at setup.servers s (omega arith)) in
+      record { jobs = new_jobs core.queues setup.servers s agrees.world.jobs; accepted = f.accepted; finished = f.finished; unclosed = f.unclosed }
