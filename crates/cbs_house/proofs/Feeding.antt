@@ -1,8 +1,8 @@
 -- What is kept of feeds, one call after another.
-use Rattle.std.proofs.Common.{◌≡◌, ℕ, zero, suc, ◌<◌, ◌≤◌, ◌++◌, List, [], ◌∷◌, length, get_or, map, refl, ap, ap₂, sym, ◌∙◌, subst, arith}
+use Rattle.std.proofs.Common.{◌≡◌, ℕ, zero, suc, ◌+◌, take, ◌<◌, ◌≤◌, ◌++◌, List, [], ◌∷◌, length, get_or, map, refl, ap, ap₂, sym, ◌∙◌, subst, arith}
 use Rattle.std.proofs.Math.ListN.{set}
 use Rattle.std.proofs.lemmas.Bool.{false≢true}
-use Rattle.std.proofs.lemmas.List.{append-nil, length-map}
+use Rattle.std.proofs.lemmas.List.{append-nil, length-map, get_or-map, take_more, take_more_set}
 use Rattle.std.proofs.lemmas.List.Elements.{All-nil, All-cons, All-head, All-tail, All-weaker}
 use Rattle.std.specs.List.{All}
 use Rattle.cbs_job.specs.declared.work.Work.{Ghosts}
@@ -16,7 +16,7 @@ use Rattle.cbs_house.specs.Opened.{IsUnused}
 use Rattle.cbs_house.specs.Ringed.{IsOpened}
 use Rattle.cbs_house.specs.Rings.{Ring}
 use Rattle.cbs_house.specs.Rounds.{Ready}
-use Rattle.cbs_house.specs.Feeds.{client_of, left, all_jobs, IsOrderly, KeepsFeed, KeepsFeeds}
+use Rattle.cbs_house.specs.Feeds.{client_of, left, all_jobs, IsOrderly, KeepsFeed, KeepsFeeds, SendsAtMost, EachSendsAtMost, SendsFeeds, servers_of}
 use Rattle.cbs_house.proofs.Looking.{prefix_along, prefix_same}
 
 module _ {W A : Type 0} {g : Ghosts W} where
@@ -100,8 +100,11 @@ module _ {W A : Type 0} {g : Ghosts W} where
   feeds_jobs (x ∷ a) [] p = absurd p
   feeds_jobs (x ∷ a) (y ∷ b) p = ap₂ ◌∷◌ p.0.jobs (feeds_jobs a b p.1)
 
-  opened_same : (rings rings' : List (Ring A)) (a b : Feed W A g) → rings' ≡ rings → KeepsFeed a b → IsOpened rings a.client → IsOpened rings' b.client
+  pub opened_same : (rings rings' : List (Ring A)) (a b : Feed W A g) → rings' ≡ rings → KeepsFeed a b → IsOpened rings a.client → IsOpened rings' b.client
   opened_same rings rings' a b e p o = rw (e, p.client.0, p.client.1) o
+
+  pub opened_moved : (a b : House W A g) (c : Client W A g) → rings_of b ≡ rings_of a → IsOpened (rings_of a) c → IsOpened (rings_of b) c
+  opened_moved a b c e o = rw e o
 
   pub feeds_opened : (rings rings' : List (Ring A)) (a b : List (Feed W A g)) → rings' ≡ rings → KeepsFeeds a b → All (λ f. IsOpened rings f.client) a → All (λ f. IsOpened rings' f.client) b
   unfolding KeepsFeeds
@@ -147,5 +150,45 @@ module _ {W A : Type 0} {g : Ghosts W} where
       orderly = All-weaker (λ f. IsUnused ring (client_of f)) IsOrderly (unused_orderly ring) fs feeds_unused;
       opened = all_of_map (IsOpened (rings_of h)) client_of fs (subst (λ xs. All (IsOpened (rings_of h)) xs) (sym clients) opened);
     }
+
+module _ {W A : Type 0} {g : Ghosts W} where
+  -- the server of one more feed is noted
+  pub server_noted :
+      (servers : List ℕ) (fs : List (Feed W A g)) (i s : ℕ) (d : Feed W A g) → i < length servers → i < length fs → s ≡ server_of (get_or fs i d).client
+      → take i servers ≡ take i (servers_of fs) → take (i + 1) (set servers i s) ≡ take (i + 1) (servers_of fs)
+  server_noted servers fs i s d k l e h =
+      let f = λ (x : Feed W A g). server_of x.client in
+      take_more_set servers i s k ∙ (ap₂ (λ xs (x : ℕ). xs ++ x ∷ []) h (e ∙ sym (get_or-map f fs i d 0 l)) ∙ sym (take_more (servers_of fs) i 0 (omega (arith, length-map fs f))))
+
+module _ {W A : Type 0} {g : Ghosts W} (n : ℕ) where
+  most_same : (fs : List (Feed W A g)) → EachSendsAtMost n fs fs
+  unfolding EachSendsAtMost
+  most_same [] = tt
+  most_same (f ∷ fs) = (omega arith, most_same fs)
+
+  most_both : (a b c d : List (Feed W A g)) → EachSendsAtMost n a b → EachSendsAtMost n c d → EachSendsAtMost n (a ++ c) (b ++ d)
+  unfolding EachSendsAtMost
+  most_both [] [] c d p q = q
+  most_both [] (y ∷ b) c d p q = absurd p
+  most_both (x ∷ a) [] c d p q = absurd p
+  most_both (x ∷ a) (y ∷ b) c d p q = (p.0, most_both a b c d p.1 q)
+
+  most_set : (fs : List (Feed W A g)) (i : ℕ) (f d : Feed W A g) → i < length fs → SendsAtMost n (get_or fs i d) f → EachSendsAtMost n fs (set fs i f)
+  unfolding EachSendsAtMost
+  most_set [] i f d l p = absurd (omega arith)
+  most_set (x ∷ fs) zero f d l p = (p, most_same fs)
+  most_set (x ∷ fs) (suc i) f d l p = (omega arith, most_set fs i f d (omega arith) p)
+
+  -- no feed sends
+  pub sends_none : (fs : List (Feed W A g)) → SendsFeeds n fs fs
+  sends_none fs = record { kept = feeds_same fs; most = most_same fs }
+
+  -- one of the feeds sends
+  pub sends_set : (fs : List (Feed W A g)) (i : ℕ) (f d : Feed W A g) → i < length fs → KeepsFeed (get_or fs i d) f → SendsAtMost n (get_or fs i d) f → SendsFeeds n fs (set fs i f)
+  sends_set fs i f d l k m = record { kept = feeds_set fs i f d l k; most = most_set fs i f d l m }
+
+  -- two lists of feeds send
+  pub sends_both : (a b c d : List (Feed W A g)) → SendsFeeds n a b → SendsFeeds n c d → SendsFeeds n (a ++ c) (b ++ d)
+  sends_both a b c d p q = record { kept = feeds_both a b c d p.kept q.kept; most = most_both a b c d p.most q.most }
 
 pub ruleset fed = (keeps_looked, keeps_feed, keeps_feed_on, feeds_same, feeds_on, feeds_one, feeds_both, feeds_count, feeds_orderly)

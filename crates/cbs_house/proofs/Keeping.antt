@@ -7,6 +7,7 @@ use Rattle.cbs_job.specs.Work.{Meaning, whole}
 use Rattle.cbs_job.specs.declared.completion.Completion.{Completion}
 use Rattle.cbs_core.specs.Held.{Held, CoreHeld, held_at, no_held, SameJobs, TakesJob, RunsJob, FinishesJob, ClosesServer, DoesRun}
 use Rattle.cbs_core.specs.declared.reply.Ran.{Ran}
+use Rattle.cbs_core.specs.declared.step.Step.{Step}
 use Rattle.cbs_core.specs.declared.reply.Ran.TheVariants as ran
 use Rattle.cbs_house.specs.declared.message.Message.{Message}
 use Rattle.cbs_house.specs.declared.message.Message.TheVariants.{Job, End}
@@ -15,7 +16,8 @@ use Rattle.cbs_house.specs.Collected.{Shelved, shelf_at, no_shelf, SameShelf, Is
 use Rattle.cbs_house.specs.Housed.{KeepsServer, Housed}
 use Rattle.cbs_house.specs.Messages.{jobs_among}
 use Rattle.cbs_house.specs.Ringed.{rings_in, received_in}
-use Rattle.cbs_house.specs.Steps.{HasHistory}
+use Rattle.cbs_house.specs.Steps.{Follows}
+use Rattle.cbs_house.proofs.Stepping.{history_kept, backlog_kept}
 use Rattle.cbs_house.proofs.Messages.{jobs_among-job, jobs_among-end, has_end-job, has_end-end, end_is_last-more}
 
 pub same_shelf : (h : Shelved) → SameShelf h h
@@ -80,14 +82,14 @@ within_held work (h ∷ hs) (suc s) r rs e = let l = within_held work hs s r rs 
 module _ {W A : Type 0} (work : Meaning W) (core core' : CoreHeld W) (rings rings' : Rings W A) (shelves shelves' : List Shelved) (h : Housed work core rings shelves) where
   -- one server is changed, and the others are as before
   pub housed_one :
-      (t : ℕ) → rings_in rings' ≡ rings_in rings → length shelves' ≡ length shelves → length core'.servers ≡ length core.servers → HasHistory work core'
+      (t : ℕ) → rings_in rings' ≡ rings_in rings → length shelves' ≡ length shelves → length core'.servers ≡ length core.servers → (xs : List (Step W)) → Follows work core core' xs
       → (t < length core.servers → KeepsServer work (held_at core'.servers t) (received_in rings' t) (shelf_at shelves' t).results)
       → (t < length core.servers → (shelf_at shelves' t).announced ≡ (held_at core'.servers t).accepted)
       → ((s : ℕ) → s ≢ t → SameJobs (held_at core.servers s) (held_at core'.servers s))
       → ((s : ℕ) → s ≢ t → received_in rings' s ≡ received_in rings s)
       → ((s : ℕ) → s ≢ t → SameShelf (shelf_at shelves s) (shelf_at shelves' s))
       → Housed work core' rings' shelves'
-  housed_one t r n c history here told cores messages results = record {
+  housed_one t r n c xs follows here told cores messages results = record {
     ring_count = ap length r ∙ (h.ring_count ∙ sym c);
     shelf_count = n ∙ (h.shelf_count ∙ sym c);
     servers = λ s l. elim (cases_eq s t) [
@@ -99,36 +101,38 @@ module _ {W A : Type 0} (work : Meaning W) (core core' : CoreHeld W) (rings ring
       | inl e ↦ rw e (told (omega (arith, e, c, l)))
       | inr ne ↦ (results s ne).announced ∙ (h.announced s (omega (arith, c, l)) ∙ sym (cores s ne).accepted)
     ];
-    history = history;
+    history = history_kept work core core' xs h.history follows;
+    backlog = rw (backlog_kept work core core' xs h.history follows) h.backlog;
   }
 
   -- all servers are as before
   pub housed_all :
-      rings_in rings' ≡ rings_in rings → length shelves' ≡ length shelves → length core'.servers ≡ length core.servers → HasHistory work core'
+      rings_in rings' ≡ rings_in rings → length shelves' ≡ length shelves → length core'.servers ≡ length core.servers → (xs : List (Step W)) → Follows work core core' xs
       → ((s : ℕ) → SameJobs (held_at core.servers s) (held_at core'.servers s))
       → ((s : ℕ) → received_in rings' s ≡ received_in rings s)
       → ((s : ℕ) → SameShelf (shelf_at shelves s) (shelf_at shelves' s))
       → Housed work core' rings' shelves'
-  housed_all r n c history cores messages results = record {
+  housed_all r n c xs follows cores messages results = record {
     ring_count = ap length r ∙ (h.ring_count ∙ sym c);
     shelf_count = n ∙ (h.shelf_count ∙ sym c);
     servers = λ s l. keeps_same work (held_at core.servers s) (held_at core'.servers s) (received_in rings s) (received_in rings' s) (shelf_at shelves s).results (shelf_at shelves' s).results
         (h.servers s (omega (arith, c, l))) (cores s) (messages s) (results s).results;
     announced = λ s l. (results s).announced ∙ (h.announced s (omega (arith, c, l)) ∙ sym (cores s).accepted);
-    history = history;
+    history = history_kept work core core' xs h.history follows;
+    backlog = rw (backlog_kept work core core' xs h.history follows) h.backlog;
   }
 
   -- a run that finished no job
-  pub housed_ran : (r : Ran) → ((c : Completion) → r ≡ ran.Done c → ⊥) → DoesRun work r core core' → length core'.servers ≡ length core.servers → HasHistory work core'
+  pub housed_ran : (r : Ran) → ((c : Completion) → r ≡ ran.Done c → ⊥) → DoesRun work r core core' → length core'.servers ≡ length core.servers → (xs : List (Step W)) → Follows work core core' xs
       → rings_in rings' ≡ rings_in rings → ((s : ℕ) → received_in rings' s ≡ received_in rings s) → shelves' ≡ shelves → Housed work core' rings' shelves'
-  housed_ran ran.Idle n d c history r m e = housed_all r (ap length e) c history (λ s. rw d (record { jobs = refl; accepted = refl; finished = refl; closed = refl })) m (λ s. rw e (same_shelf _))
-  housed_ran ran.ClockEnd n d c history r m e = housed_all r (ap length e) c history (λ s. rw d (record { jobs = refl; accepted = refl; finished = refl; closed = refl })) m (λ s. rw e (same_shelf _))
-  housed_ran (ran.Unit t q) n d c history r m e =
-      housed_one t r (ap length e) c history
+  housed_ran ran.Idle n d c xs follows r m e = housed_all r (ap length e) c xs follows (λ s. rw d (record { jobs = refl; accepted = refl; finished = refl; closed = refl })) m (λ s. rw e (same_shelf _))
+  housed_ran ran.ClockEnd n d c xs follows r m e = housed_all r (ap length e) c xs follows (λ s. rw d (record { jobs = refl; accepted = refl; finished = refl; closed = refl })) m (λ s. rw e (same_shelf _))
+  housed_ran (ran.Unit t q) n d c xs follows r m e =
+      housed_one t r (ap length e) c xs follows
       (λ l. keeps_unit work (held_at core.servers t) (held_at core'.servers t) (received_in rings t) (received_in rings' t) (shelf_at shelves t).results (shelf_at shelves' t).results (h.servers t l) q d.0 (m t) (rw e refl))
       (λ l. rw e (h.announced t l ∙ sym d.0.accepted))
       d.1 (λ s ne. m s) (λ s ne. rw e (same_shelf _))
-  housed_ran (ran.Done x) n d c history r m e = absurd (n x refl)
+  housed_ran (ran.Done x) n d c xs follows r m e = absurd (n x refl)
 
   -- a finished job is the next one whose result is awaited
   pub finished_next : (x : Completion) → FinishesJob work x (held_at core.servers x.server) (held_at core'.servers x.server) → IsNext shelves x

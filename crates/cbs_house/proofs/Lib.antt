@@ -3,9 +3,12 @@ pub mod Places
 pub mod Looking
 pub mod Stepping
 pub mod Keeping
+pub mod Closed
 pub mod Making
 pub mod Draining
 pub mod Moving
+pub mod Turns
+pub mod StandingMessages
 pub mod Feeding
 pub mod Served
 pub mod Newness

@@ -1,5 +1,6 @@
 -- Steps that a house made, one list of them after another.
-use Rattle.std.proofs.Common.{◌≡◌, ◌≢◌, ℕ, true, false, eqb, Result, Ok, Err, IsOk, OnOk, List, [], ◌∷◌, ◌++◌, length, refl, ap, sym, ◌∙◌, arith, inl, inr}
+use Rattle.std.specs.Prelude.{MatchResult}
+use Rattle.std.proofs.Common.{◌≡◌, ◌≢◌, ℕ, ◌+◌, ◌<◌, ◌≤◌, true, false, eqb, Result, Ok, Err, IsOk, OnOk, List, [], ◌∷◌, ◌++◌, length, refl, ap, sym, ◌∙◌, arith, inl, inr}
 use Rattle.std.proofs.lemmas.List.{append-nil, append_assoc}
 use Rattle.std.proofs.lemmas.Bool.{cases_eq, false≢true}
 use Rattle.std.proofs.lemmas.Bool.Decides.{nat_tests}
@@ -7,7 +8,11 @@ use mathlib.Core.List.{IsPrefix}
 use Rattle.cbs_job.specs.Work.{Meaning}
 use Rattle.cbs_job.specs.declared.work.Work.{Ghosts}
 use Rattle.cbs_job.specs.declared.completion.Completion.{Completion}
+use Rattle.cbs_rules.specs.Rules.{clock_end}
+use Rattle.cbs_core.specs.Agreement.{Agrees}
 use Rattle.cbs_core.specs.Held.{CoreHeld}
+use Rattle.cbs_core.specs.History.{History, world_after}
+use Rattle.cbs_core.specs.Quiet.{IsIdleSpan}
 use Rattle.cbs_core.specs.declared.reply.Ran.{Ran}
 use Rattle.cbs_core.specs.declared.reply.Ran.TheVariants as ran
 use Rattle.cbs_core.specs.declared.step.Step.{Step}
@@ -19,14 +24,14 @@ use Rattle.cbs_house.specs.declared.poll.Poll.{Poll}
 use Rattle.cbs_house.specs.declared.poll.Poll.TheVariants.{Nothing, Took, Closed, Full, OutOfMemory, NoSuchServer}
 use Rattle.cbs_house.specs.Houses.{core_of, rings_of, received, known, results_of, Made, LooksOnly, Collects, Accepts, Polled}
 use Rattle.cbs_house.specs.Messages.{jobs_among}
-use Rattle.cbs_house.specs.Steps.{message_of, messages_of, Follows}
+use Rattle.cbs_house.specs.Steps.{message_of, messages_of, Follows, HasHistory}
 use Rattle.cbs_house.proofs.Stepping.{messages_of-append, follows_both}
 
 prefix_through : {X : Type 0} (a e b r : List X) → IsPrefix a (e ++ b) → IsPrefix b r → (z : List X) → z ≡ e ++ r → IsPrefix a z
 prefix_through a e b r p q z k =
     (p.0 ++ q.0, sym (append_assoc a p.0 q.0) ∙ (ap (λ ms. ms ++ q.0) p.1 ∙ (append_assoc e b q.0 ∙ (ap (λ ms. e ++ ms) q.1 ∙ sym k))))
 
-eqb_same : (t : ℕ) → eqb t t ≡ true
+pub eqb_same : (t : ℕ) → eqb t t ≡ true
 eqb_same t = grind (arith, nat_tests)
 
 eqb_other : (t s : ℕ) → s ≢ t → eqb t s ≡ false
@@ -42,9 +47,13 @@ module _ {T E : Type 0} where
   on_ok (Ok x) P i p = p
   on_ok (Err e) P i p = absurd (false≢true i)
 
-  pub not_refused : (r : Result T E) → IsOk r → ((x : T) → r ≡ Ok x → ⊥) → ⊥
-  not_refused (Ok x) i n = n x refl
-  not_refused (Err e) i n = absurd (false≢true i)
+-- an advance by the idle span does not pass the clock's end
+pub span_granted : {W E : Type 0} (work : Meaning W) (core : CoreHeld W) (r : Result (Unit {0}) E) (n : ℕ) → HasHistory work core → core.clock < clock_end
+    → ((M : History W) → Agrees work core M → MatchResult r (λ _. (world_after work M).now + n ≤ clock_end) (λ _. clock_end < (world_after work M).now + n))
+    → ((M : History W) → Agrees work core M → IsIdleSpan work (world_after work M) n) → IsOk r
+span_granted work core (Ok x) n history early end span = refl
+span_granted work core (Err e) n history early end span =
+    absurd (history (λ M agrees. let past = end M agrees in let within = (span M agrees).within in let clock = agrees.world.clock in omega (arith, past, within, clock)))
 
 module _ {W A : Type 0} {g : Ghosts W} (work : Meaning W) where
   pub made_both : (a b c : House W A g) (xs ys : List (Step W)) → Made work a b xs → Made work b c ys → Made work a c (xs ++ ys)

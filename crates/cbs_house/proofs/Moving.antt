@@ -16,13 +16,13 @@ use Rattle.cbs_house.specs.declared.house.House.{House}
 use Rattle.cbs_house.specs.declared.poll.Poll.{Poll}
 use Rattle.cbs_house.specs.declared.poll.Poll.TheVariants.{Nothing, Took, Closed, Full, OutOfMemory, NoSuchServer}
 use Rattle.cbs_house.specs.Houses.{core_of, rings_of, received, known, Made, Moves, LooksOnly, Polled}
-use Rattle.cbs_house.specs.Rounds.{popped_by, ServesOn, IsSettled}
-use Rattle.cbs_house.specs.Steps.{messages_of, pops_of, pops, MayRound, MayDrain, MayServe}
+use Rattle.cbs_house.specs.Rounds.{ServesOn, IsSettled}
+use Rattle.cbs_house.specs.Steps.{messages_of, pops_of, pops, MayDrain, MayServe}
 use Rattle.cbs_house.proofs.Making.{made_both, made_nothing, made_look}
 use Rattle.cbs_house.proofs.Looking.{prefix_along}
 use Rattle.cbs_house.proofs.Stepping.{pops-append, allowed_both, allowed_weaker}
 
-none_taken : {W : Type 0} (s : ℕ) (xs : List (Step W)) → pops xs ≡ 0 → messages_of s xs ≡ []
+pub none_taken : {W : Type 0} (s : ℕ) (xs : List (Step W)) → pops xs ≡ 0 → messages_of s xs ≡ []
 none_taken s [] e = refl
 none_taken s (Submit t job ∷ xs) e = absurd (omega (arith, e))
 none_taken s (Run ∷ xs) e = none_taken s xs (omega (arith, e))
@@ -69,12 +69,6 @@ module _ {W A : Type 0} {g : Ghosts W} (work : Meaning W) (P : History W → Ste
   moves_rings a b n m = m.some.1.rings
 
 module _ {W : Type 0} (work : Meaning W) where
-  round_serves : (N : History W) (x : Step W) → MayRound N x → MayServe work N x
-  round_serves N (Submit t job) p = tt
-  round_serves N Run p = tt
-  round_serves N (Advance n) p = absurd p
-  round_serves N (Close t) p = tt
-
   drain_serves : (N : History W) (x : Step W) → MayDrain work N x → MayServe work N x
   drain_serves N (Submit t job) p = tt
   drain_serves N Run p = tt
@@ -82,18 +76,8 @@ module _ {W : Type 0} (work : Meaning W) where
   drain_serves N (Close t) p = tt
 
 module _ {W A : Type 0} {g : Ghosts W} (work : Meaning W) where
-  -- a poll in a round
-  pub polled_moves : (a b : House W A g) (s : ℕ) (p : Poll) → Polled work a s p b → Moves work MayRound a b (popped_by p)
-  polled_moves a b s Nothing k = moves_made work MayRound a b k.0
-  polled_moves a b s Full k = moves_made work MayRound a b k.0
-  polled_moves a b s OutOfMemory k = moves_made work MayRound a b k.0
-  polled_moves a b s NoSuchServer k = moves_made work MayRound a b k.0
-  polled_moves a b s (Took q) k = moves_step work MayRound a b (Submit s k.0) k.1 (λ M agrees. tt)
-  polled_moves a b s Closed k = moves_step work MayRound a b (Close s) k.0 (λ M agrees. tt)
-
-  -- a run in a round
-  pub ran_moves : (a b : House W A g) → Made work a b (Run ∷ []) → Moves work MayRound a b 0
-  ran_moves a b m = moves_step work MayRound a b Run m (λ M agrees. tt)
+  serves_made : (a b : House W A g) → Made work a b [] → ServesOn work a b
+  serves_made a b m = record { moves = (0, moves_made work (MayServe work) a b m) }
 
   -- steps of serving, one list after another
   pub serves_none : (a : House W A g) → ServesOn work a a
@@ -102,14 +86,16 @@ module _ {W A : Type 0} {g : Ghosts W} (work : Meaning W) where
   pub serves_then : (a b c : House W A g) → ServesOn work a b → ServesOn work b c → ServesOn work a c
   serves_then a b c p q = record { moves = (p.moves.0 + q.moves.0, moves_both work (MayServe work) a b c p.moves.0 q.moves.0 p.moves.1 q.moves.1) }
 
-  pub serves_round : (a b : House W A g) (n : ℕ) → Moves work MayRound a b n → ServesOn work a b
-  serves_round a b n m = record { moves = (n, moves_weaker work MayRound (MayServe work) a b n (round_serves work) m) }
-
   pub serves_drain : (a b : House W A g) (n : ℕ) → Moves work (MayDrain work) a b n → ServesOn work a b
   serves_drain a b n m = record { moves = (n, moves_weaker work (MayDrain work) (MayServe work) a b n (drain_serves work) m) }
 
   pub serves_poll : (a b : House W A g) (s : ℕ) (p : Poll) → Polled work a s p b → ServesOn work a b
-  serves_poll a b s p k = serves_round a b (popped_by p) (polled_moves a b s p k)
+  serves_poll a b s Nothing k = serves_made a b k.0
+  serves_poll a b s Full k = serves_made a b k.0
+  serves_poll a b s OutOfMemory k = serves_made a b k.0
+  serves_poll a b s NoSuchServer k = serves_made a b k.0
+  serves_poll a b s (Took q) k = record { moves = (1, moves_step work (MayServe work) a b (Submit s k.0) k.1 (λ M agrees. tt)) }
+  serves_poll a b s Closed k = record { moves = (1, moves_step work (MayServe work) a b (Close s) k.0 (λ M agrees. tt)) }
 
   pub serves_look : (a b : House W A g) → LooksOnly a b → ServesOn work a b
   serves_look a b l = record { moves = (0, moves_made work (MayServe work) a b (made_look work a b l)) }
@@ -121,14 +107,10 @@ module _ {W A : Type 0} {g : Ghosts W} (work : Meaning W) where
   pub serves_looked : (a b c : House W A g) → ServesOn work a b → LooksOnly b c → ServesOn work a c
   serves_looked a b c done looked = serves_then a b c done (serves_look b c looked)
 
-  -- one more round, and what is done behind it
-  pub serves_more : (a b c d : House W A g) (n : ℕ) → ServesOn work a b → Moves work MayRound b c n → ServesOn work c d → ServesOn work a d
-  serves_more a b c d n before round rest = serves_then a c d (serves_then a b c before (serves_round b c n round)) rest
-
   pub serves_rings : (a b : House W A g) → ServesOn work a b → rings_of b ≡ rings_of a
   serves_rings a b m = moves_rings work (MayServe work) a b m.moves.0 m.moves.1
 
-pub ruleset serving = (serves_none, serves_then, serves_round, serves_drain, serves_poll, serves_look)
+pub ruleset serving = (serves_none, serves_then, serves_drain, serves_poll, serves_look)
 
 module _ {W A : Type 0} {g : Ghosts W} where
   pub looks_none : (a : House W A g) → LooksOnly a a

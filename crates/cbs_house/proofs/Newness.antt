@@ -62,14 +62,15 @@ module _ {W : Type 0} (work : Meaning W) where
         new_server (held_at core.servers s) (get_or setup.servers s t) (rw (get_or-map new_account setup.servers s t (new_account t) (omega (arith, new_count, l))) at here)
 
     pub housed_new : {A : Type 0} (r : Rings W A) (shelves : List Shelved)
-        → length (rings_in r) ≡ length core.servers → length shelves ≡ length core.servers → All IsNewEnd r.ends.items → ((s : ℕ) → SameShelf no_shelf (shelf_at shelves s))
+        → length (rings_in r) ≡ length core.servers → length shelves ≡ length core.servers → All IsNewEnd r.ends.items → ((s : ℕ) → SameShelf no_shelf (shelf_at shelves s)) → 0 < setup.backlog
         → Housed work core r shelves
-    housed_new r shelves rings count new empty = record {
+    housed_new r shelves rings count new empty some = record {
       ring_count = rings;
       shelf_count = count;
       servers = λ s l. rw ((new_rings r new s).0, (empty s).results) (new_kept s l);
       announced = λ s l. (empty s).announced ∙ sym (new_kept s l).accepted;
       history = λ none. none (record { setup = setup; steps = [] }) agrees;
+      backlog = rw agrees.world.same_backlog some;
     }
 
 range_next : (n : ℕ) → range_with_len 0 (n + 1) ≡ range_with_len 0 n ++ n ∷ []

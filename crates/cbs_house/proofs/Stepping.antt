@@ -1,10 +1,11 @@
 -- Lists of steps, one behind another.
-use Rattle.std.proofs.Common.{◌≡◌, ℕ, ◌+◌, List, [], ◌∷◌, ◌++◌, refl, ap, sym, ◌∙◌, subst, arith}
+use Rattle.std.proofs.Common.{◌≡◌, ℕ, ◌+◌, List, [], ◌∷◌, ◌++◌, refl, ap, sym, ◌∙◌, subst, arith, inl, inr}
 use Rattle.std.proofs.lemmas.List.{append_assoc}
+use Rattle.std.proofs.lemmas.Bool.{cases_eq}
 use Rattle.cbs_job.specs.Work.{Meaning}
 use Rattle.cbs_core.specs.Agreement.{Agrees}
 use Rattle.cbs_core.specs.Held.{CoreHeld}
-use Rattle.cbs_core.specs.History.{History, ◌⊕◌}
+use Rattle.cbs_core.specs.History.{Setup, History, ◌⊕◌}
 use Rattle.cbs_core.specs.declared.step.Step.{Step}
 use Rattle.cbs_house.specs.declared.message.Message.{Message}
 use Rattle.cbs_house.specs.Steps.{message_of, messages_of, pops, ◌⊕⊕◌, EachAllowed, AllAllowed, Follows, HasHistory}
@@ -39,6 +40,17 @@ module _ {W : Type 0} (work : Meaning W) where
 
   pub allowed_weaker : (P Q : History W → Step W → Type 0) (a : CoreHeld W) (xs : List (Step W)) → ((N : History W) (x : Step W) → P N x → Q N x) → AllAllowed work P a xs → AllAllowed work Q a xs
   allowed_weaker P Q a xs w p = λ M agrees. allowed-weaker P Q M xs w (p M agrees)
+
+  setup_after : (M : History W) (xs : List (Step W)) → (M ⊕⊕ xs).setup ≡ M.setup
+  setup_after M [] = refl
+  setup_after M (x ∷ xs) = setup_after (M ⊕ x) xs
+
+  -- steps leave the greatest backlog
+  pub backlog_kept : (a b : CoreHeld W) (xs : List (Step W)) → HasHistory work a → Follows work a b xs → b.backlog ≡ a.backlog
+  backlog_kept a b xs h f = elim (cases_eq b.backlog a.backlog) [
+    | inl e ↦ e
+    | inr ne ↦ absurd (h (λ M agrees. ne ((f M agrees).world.same_backlog ∙ (ap (λ (s : Setup). s.backlog) (setup_after M xs) ∙ sym agrees.world.same_backlog))))
+  ]
 
   -- what follows a core with a history has one
   pub history_kept : (a b : CoreHeld W) (xs : List (Step W)) → HasHistory work a → Follows work a b xs → HasHistory work b

@@ -1,9 +1,10 @@
 -- What a contract sees of a client.
-use Rattle.std.specs.Prelude.{ℕ, ◌≡◌, List}
+use Rattle.std.specs.Prelude.{ℕ, ◌≡◌, ◌<◌, ◌⊎◌, List, length}
 use Rattle.rtrb.specs.Ring.{sent, known_free}
 use Rattle.cbs_job.specs.declared.work.Work.{Ghosts}
 use Rattle.cbs_house.specs.declared.message.Message.{Message}
 use Rattle.cbs_house.specs.declared.client.Client.{Client}
+use Rattle.cbs_house.specs.Messages.{jobs_among}
 use Rattle.cbs_house.specs.Rings.{Ring, producer_ring}
 
 module _ {W A : Type 0} {g : Ghosts W} where
@@ -19,9 +20,17 @@ module _ {W A : Type 0} {g : Ghosts W} where
   abbrev pub sent_by : Client W A g → List (Message W)
   sent_by c = sent c.ring
 
-  -- how many free places of its ring the client knows of
+  -- how many free slots of its ring the client knows of
   abbrev pub free : Client W A g → ℕ
   free c = known_free c.ring
+
+  -- the client knows of a free slot in its ring, and has sent fewer jobs than it can count
+  abbrev pub HasSlot : Client W A g → Type 0
+  HasSlot c = (0 < free c) × (length (jobs_among (sent_by c)) < 18446744073709551615)
+
+  -- the client knows of no free slot in its ring, or has sent as many jobs as it can count
+  abbrev pub HasNoSlot : Client W A g → Type 0
+  HasNoSlot c = (free c ≡ 0) ⊎ (length (jobs_among (sent_by c)) ≡ 18446744073709551615)
 
   -- the same server and the same ring
   abbrev pub SameClient : Client W A g → Client W A g → Type 0

@@ -1,11 +1,11 @@
 -- What a contract sees of a feed.
-use Rattle.std.specs.Prelude.{ℕ, ◌≡◌, ◌+◌, Bool, true, cond, List, [], ◌++◌, length}
+use Rattle.std.specs.Prelude.{ℕ, ◌≡◌, ◌+◌, ◌≤◌, Bool, true, cond, List, [], ◌++◌, length, map}
 use Rattle.std.specs.List.{sum_by, AllZip}
 use mathlib.Core.List.{IsPrefix}
 use Rattle.cbs_job.specs.declared.work.Work.{Ghosts}
 use Rattle.cbs_house.specs.declared.client.Client.{Client}
 use Rattle.cbs_house.specs.declared.feed.Feed.{Feed}
-use Rattle.cbs_house.specs.Clients.{sent_by, SameClient}
+use Rattle.cbs_house.specs.Clients.{server_of, sent_by, SameClient}
 use Rattle.cbs_house.specs.Messages.{jobs_among, has_end}
 
 module _ {W A : Type 0} {g : Ghosts W} where
@@ -49,6 +49,23 @@ module _ {W A : Type 0} {g : Ghosts W} where
   -- the same of each of several feeds
   unfoldable pub KeepsFeeds : List (Feed W A g) → List (Feed W A g) → Type 0
   KeepsFeeds old new = AllZip KeepsFeed old new
+
+  -- the feed's client sent at most n messages
+  abbrev pub SendsAtMost : ℕ → Feed W A g → Feed W A g → Type 0
+  SendsAtMost n old new = length (sent_by new.client) ≤ length (sent_by old.client) + n
+
+  -- the same of each of several feeds
+  unfoldable pub EachSendsAtMost : ℕ → List (Feed W A g) → List (Feed W A g) → Type 0
+  EachSendsAtMost n old new = AllZip (SendsAtMost n) old new
+
+  -- the feeds are kept, and each client sent at most n messages
+  pub record SendsFeeds (n : ℕ) (old new : List (Feed W A g)) : Type 0 where
+    pub kept : KeepsFeeds old new
+    pub most : EachSendsAtMost n old new
+
+  -- the servers of the feeds' clients, in order
+  abbrev pub servers_of : List (Feed W A g) → List ℕ
+  servers_of fs = map (λ f. server_of f.client) fs
 
   -- how many messages the feeds' clients have sent
   abbrev pub all_sent : List (Feed W A g) → ℕ

@@ -19,11 +19,12 @@ pub record KeepsServer {W : Type 0} (work : Meaning W) (h : Held W) (received : 
   pub closed : h.closed ≡ has_end received
   pub last : end_is_last received ≡ true
 
--- what is true of the parts of a house: a ring and a shelf for each server, a place for the result of each accepted job, and
--- a history that the core agrees with
+-- what is true of the parts of a house: a ring and a shelf for each server, a place for the result of each accepted job, a
+-- history that the core agrees with, and a backlog of at least one job
 pub record Housed {W A : Type 0} (work : Meaning W) (core : CoreHeld W) (rings : Rings W A) (collector : List Shelved) : Type 0 where
   pub ring_count : length (rings_in rings) ≡ length core.servers
   pub shelf_count : length collector ≡ length core.servers
   pub servers : (s : ℕ) → s < length core.servers → KeepsServer work (held_at core.servers s) (received_in rings s) (shelf_at collector s).results
   pub announced : (s : ℕ) → s < length core.servers → (shelf_at collector s).announced ≡ (held_at core.servers s).accepted
   pub history : HasHistory work core
+  pub backlog : 0 < core.backlog

@@ -92,6 +92,11 @@ pub record IsOpen {W : Type 0} (core : CoreHeld W) (s : ℕ) : Type 0 where
   pub within : s < length core.servers
   pub unclosed : (held_at core.servers s).closed ≡ false
 
+-- server s is there and closed
+pub record IsClosed {W : Type 0} (core : CoreHeld W) (s : ℕ) : Type 0 where
+  pub within : s < length core.servers
+  pub closed : (held_at core.servers s).closed ≡ true
+
 -- a job of server s would be accepted
 pub record Accepts {W : Type 0} (core : CoreHeld W) (s : ℕ) : Type 0 where
   pub is_open : IsOpen core s

@@ -8,5 +8,6 @@ pub mod Ringed
 pub mod Housed
 pub mod Houses
 pub mod Feeds
+pub mod Turns
 pub mod Rounds
 pub mod Opened

@@ -1,18 +1,21 @@
 -- What a contract says of rounds, and of serving.
-use Rattle.std.specs.Prelude.{ℕ, ◌≡◌, ◌≤◌, List, length, map}
+use Rattle.std.specs.Prelude.{ℕ, ◌≡◌, ◌≤◌, List, ◌++◌, length, map}
 use Rattle.std.specs.List.{All}
+use mathlib.Core.List.{IsPrefix}
 use Rattle.cbs_job.specs.Work.{Meaning, whole}
 use Rattle.cbs_job.specs.declared.work.Work.{Ghosts}
 use Rattle.cbs_rules.specs.Rules.{clock_end}
 use Rattle.cbs_house.specs.declared.error.HouseError.{HouseError}
 use Rattle.cbs_house.specs.declared.error.HouseError.TheVariants.{BadBacklog, BadRing, OutOfMemory, NoSuchServer, ClockEnd, Stalled}
+use Rattle.cbs_house.specs.declared.client.Client.{Client}
 use Rattle.cbs_house.specs.declared.feed.Feed.{Feed}
 use Rattle.cbs_house.specs.declared.house.House.{House}
+use Rattle.cbs_house.specs.declared.message.Message.{Message}
 use Rattle.cbs_house.specs.declared.poll.Poll.{Poll}
 use Rattle.cbs_house.specs.declared.poll.Poll.TheVariants as poll
 use Rattle.cbs_house.specs.Clients.{server_of, sent_by}
 use Rattle.cbs_house.specs.Feeds.{IsOrderly, IsDone, all_jobs}
-use Rattle.cbs_house.specs.Houses.{core_of, rings_of, received, results_of, HoldsJob, HoldsNoJob, Moves}
+use Rattle.cbs_house.specs.Houses.{core_of, rings_of, received, known, results_of, HoldsJob, HoldsNoJob, Moves}
 use Rattle.cbs_house.specs.Ringed.{IsOpened}
 use Rattle.cbs_house.specs.Steps.{MayServe}
 
@@ -46,6 +49,17 @@ module _ {W A : Type 0} {g : Ghosts W} where
   pub record ServesOn (work : Meaning W) (old new : House W A g) : Type 0 where
     pub moves : (n : ℕ) × Moves work (MayServe work) old new n
 
+  -- n messages of the client stand in its ring, behind those that were received, and the house has seen them
+  pub record Standing (h : House W A g) (c : Client W A g) (n : ℕ) : Type 0 where
+    pub rest : List (Message W)
+    pub sent : sent_by c ≡ received h (server_of c) ++ rest
+    pub seen : IsPrefix rest (known h (server_of c))
+    pub count : length rest ≡ n
+
+  -- at least what the feed's client sent was received for its server
+  abbrev pub IsTaken : House W A g → Feed W A g → Type 0
+  IsTaken h f = IsPrefix (sent_by f.client) (received h (server_of f.client))
+
   -- all that the feed's client sent was received
   abbrev pub IsSettled : House W A g → Feed W A g → Type 0
   IsSettled h f = received h (server_of f.client) ≡ sent_by f.client
@@ -55,12 +69,28 @@ module _ {W A : Type 0} {g : Ghosts W} where
     pub done : IsDone f
     pub results : results_of h (server_of f.client) ≡ map (whole work) (all_jobs f)
 
-  -- how serving leaves the house where it stops early: by ClockEnd the clock is at its end with a job unfinished; by Stalled
-  -- every job received is finished; of want of memory nothing is said
-  abbrev pub Stops : HouseError → House W A g → Type 0
-  Stops OutOfMemory h = Unit {0}
-  Stops ClockEnd h = ((core_of h).clock ≡ clock_end) × HoldsJob (core_of h)
-  Stops Stalled h = HoldsNoJob (core_of h)
-  Stops BadBacklog h = ⊥
-  Stops BadRing h = ⊥
-  Stops NoSuchServer h = ⊥
+  -- how the house stands where a round is not finished: by ClockEnd the clock is at its end with a job unfinished; of want of
+  -- memory nothing is said
+  abbrev pub Halts : HouseError → House W A g → Type 0
+  Halts OutOfMemory h = Unit {0}
+  Halts ClockEnd h = ((core_of h).clock ≡ clock_end) × HoldsJob (core_of h)
+  Halts Stalled h = ⊥
+  Halts BadBacklog h = ⊥
+  Halts BadRing h = ⊥
+  Halts NoSuchServer h = ⊥
+
+  -- rounds are finished, and yet not all is served: every job received is finished, and all that was sent was received, but not
+  -- every feed is done
+  pub record IsStalled (h : House W A g) (fs : List (Feed W A g)) : Type 0 where
+    pub drained : HoldsNoJob (core_of h)
+    pub settled : All (IsSettled h) fs
+    pub undone : ¬ All IsDone fs
+
+  -- how serving leaves house and feeds where it stops early
+  abbrev pub Stops : HouseError → House W A g → List (Feed W A g) → Type 0
+  Stops OutOfMemory h fs = Unit {0}
+  Stops ClockEnd h fs = ((core_of h).clock ≡ clock_end) × HoldsJob (core_of h)
+  Stops Stalled h fs = IsStalled h fs
+  Stops BadBacklog h fs = ⊥
+  Stops BadRing h fs = ⊥
+  Stops NoSuchServer h fs = ⊥

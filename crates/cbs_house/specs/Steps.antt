@@ -71,13 +71,6 @@ module _ {W : Type 0} where
   MayDrain work M (Advance n) = IsNeeded work (world_after work M) n
   MayDrain work M (Close s) = ⊥
 
-  -- where a round makes a step: it makes no advance
-  abbrev pub MayRound : History W → Step W → Type 0
-  MayRound M (Submit s job) = Unit {0}
-  MayRound M Run = Unit {0}
-  MayRound M (Advance n) = ⊥
-  MayRound M (Close s) = Unit {0}
-
   -- where serving makes a step: an advance as a drain makes it
   abbrev pub MayServe : Meaning W → History W → Step W → Type 0
   MayServe work M (Submit s job) = Unit {0}

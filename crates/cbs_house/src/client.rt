@@ -37,7 +37,7 @@ impl<W: Work, A: Allocator> Client<W, A> {
     ghost use Rattle.rtrb.specs.Ring.{sent, known_free};
     ghost use Rattle.cbs_house.specs.Messages.{jobs_among, has_end, end_is_last};
     ghost use Rattle.cbs_house.specs.Rings.{producer_ring};
-    ghost use Rattle.cbs_house.specs.Clients.{server_of, ring_of, sent_by, free, SameClient};
+    ghost use Rattle.cbs_house.specs.Clients.{server_of, ring_of, sent_by, free, HasSlot, HasNoSlot, SameClient};
     ghost use Rattle.cbs_house.specs.declared.message.Message.TheVariants.{Job, End};
 
     /// The client of a server, at its end of a new ring.
@@ -78,11 +78,12 @@ impl<W: Work, A: Allocator> Client<W, A> {
         self.ended
     }
 
-    /// Whether there is a place for the next message. Where there is, that message is not refused for
-    /// want of one.
-    pub(crate) fn has_room(&mut self) -> bool
+    /// Whether a slot is free for the next message, and one more job can be counted.
+    pub(crate) fn has_slot(&mut self) -> bool
         ensures same { SameClient self.old self.new × (sent_by self.new ≡ sent_by self.old) }
-        ensures room { IsTrue result → (0 < free self.new) × (length (jobs_among (sent_by self.new)) < 2 ^ 64 - 1) }
+        ensures looked { free self.old ≤ free self.new }
+        ensures slot { result ≡ true → HasSlot self.new }
+        ensures none { result ≡ false → HasNoSlot self.new }
     {
         self.count < u64::MAX && !self.ring.is_full()
     }
@@ -111,16 +112,29 @@ impl<W: Work, A: Allocator> Client<W, A> {
                 task,
             });
         }
-        if self.count == u64::MAX || self.ring.is_full() {
+        if !self.has_slot() {
             return Err(SendRefused {
                 error: SendError::RingFull,
                 task,
             });
         }
+        Ok(self.send_reserved(task))
+    }
+
+    /// Sends a job where a slot is known to be free, and answers its number.
+    #[tactic(auto, using(crate::proofs::Messages::pushed))]
+    pub(crate) fn send_reserved(&mut self, task: Task<W>) -> u64
+        requires unended { has_end (sent_by self.old) ≡ false }
+        requires slot { HasSlot self.old }
+        ensures same { SameClient self.old self.new }
+        ensures number { result ≡ length (jobs_among (sent_by self.old)) }
+        ensures sent { sent_by self.new ≡ sent_by self.old ++ Job task ∷ [] }
+        ensures free { free self.old ≡ free self.new + 1 }
+    {
         self.ring.push_reserved(Message::Job(task));
         let number = self.count;
         self.count += 1;
-        Ok(number)
+        number
     }
 
     /// Sends the end, which closes the server once the house takes it, behind the jobs: after it the
@@ -145,8 +159,20 @@ impl<W: Work, A: Allocator> Client<W, A> {
         if self.ring.is_full() {
             return Err(SendError::RingFull);
         }
+        self.end_reserved();
+        Ok(())
+    }
+
+    /// Sends the end where a slot is known to be free.
+    #[tactic(auto, using(crate::proofs::Messages::pushed))]
+    pub(crate) fn end_reserved(&mut self)
+        requires unended { has_end (sent_by self.old) ≡ false }
+        requires slot { 0 < free self.old }
+        ensures same { SameClient self.old self.new }
+        ensures sent { sent_by self.new ≡ sent_by self.old ++ End ∷ [] }
+        ensures free { free self.old ≡ free self.new + 1 }
+    {
         self.ring.push_reserved(Message::End);
         self.ended = true;
-        Ok(())
     }
 }

@@ -59,11 +59,21 @@ impl<A: Allocator> Collector<A> {
         if index >= self.shelves.len() {
             return Err(CollectError::Stranger);
         }
-        let shelf = &mut self.shelves[index];
-        match shelf.make_room() {
+        match self.reserve(server) {
             Ok(()) => Ok(()),
             Err(_) => Err(CollectError::OutOfMemory),
         }
+    }
+
+    /// Makes a place for one more result of a server that is there.
+    pub(crate) fn reserve(&mut self, server: u16) -> Result<(), AllocError>
+        requires { server < length self.old }
+        ensures same { AllShelvesSame self.old self.new × (length self.new ≡ length self.old) }
+        ensures room { OnOk result (0 < (shelf_at self.new server).spare) }
+        ensures succeeds { 0 < (shelf_at self.old server).spare → IsOk result }
+    {
+        let shelf = &mut self.shelves[usize::from(server)];
+        shelf.make_room()
     }
 
     /// Announces one more completion of a server. It takes no memory after a
@@ -83,11 +93,24 @@ impl<A: Allocator> Collector<A> {
         if index >= self.shelves.len() {
             return Err(CollectError::Stranger);
         }
-        let shelf = &mut self.shelves[index];
-        match shelf.expect() {
-            Ok(()) => Ok(()),
+        match self.reserve(server) {
+            Ok(()) => {
+                self.expect_reserved(server);
+                Ok(())
+            }
             Err(_) => Err(CollectError::OutOfMemory),
         }
+    }
+
+    /// Announces one more completion of a server, where there is a place for its result.
+    pub(crate) fn expect_reserved(&mut self, server: u16)
+        requires within { server < length self.old }
+        requires spare { 0 < (shelf_at self.old server).spare }
+        ensures announced { Announces (shelf_at self.old server) (shelf_at self.new server) }
+        ensures others { OtherShelvesSame server self.old self.new × (length self.new ≡ length self.old) }
+    {
+        let shelf = &mut self.shelves[usize::from(server)];
+        shelf.expect_reserved();
     }
 
     /// Takes a completion: its result stands behind those of its server from here on.
@@ -106,8 +129,21 @@ impl<A: Allocator> Collector<A> {
         if index >= self.shelves.len() {
             return Err(CollectError::Stranger);
         }
-        let shelf = &mut self.shelves[index];
-        shelf.take(done.seq, done.result)
+        if let Some(error) = self.shelves[index].refusal(done.seq) {
+            return Err(error);
+        }
+        self.take_expected(done);
+        Ok(())
+    }
+
+    /// Takes the next completion of a server.
+    pub(crate) fn take_expected(&mut self, done: Completion)
+        requires { IsNext self.old done }
+        ensures taken { TakesResult done.result (shelf_at self.old done.server) (shelf_at self.new done.server) }
+        ensures others { OtherShelvesSame done.server self.old self.new × (length self.new ≡ length self.old) }
+    {
+        let shelf = &mut self.shelves[usize::from(done.server)];
+        shelf.take(done.result);
     }
 
     /// Whether a completion was announced and not taken.

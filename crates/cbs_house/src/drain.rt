@@ -7,7 +7,7 @@ use cbs_job::Work;
 use std::alloc::Allocator;
 
 impl<W: Work, A: Allocator> House<W, A> {
-    ghost use Rattle.std.specs.Prelude.{ℕ, ◌≡◌, ◌<◌, true, false, OnOk, IfErr};
+    ghost use Rattle.std.specs.Prelude.{ℕ, ◌≡◌, ◌<◌, true, false, IsOk, OnOk, IfErr};
     ghost use Rattle.cbs_house.specs.Houses.{core_of, rings_of, received, HoldsJob, HoldsNoJob, AllFinished, Moves};
     ghost use Rattle.cbs_house.specs.Steps.{MayDrain};
 
@@ -29,7 +29,7 @@ impl<W: Work, A: Allocator> House<W, A> {
             if self.now() == LIMIT {
                 return Err(HouseError::ClockEnd);
             }
-            self.go_on();
+            self.go_on()?;
         }
         Ok(())
     }
@@ -43,21 +43,19 @@ impl<W: Work, A: Allocator> House<W, A> {
     }
 
     /// Runs where somebody is ready, and else advances by the idle span. The clock is later then.
-    fn go_on(&mut self)
+    fn go_on(&mut self) -> Result<(), HouseError>
         requires busy { HoldsJob (core_of self.old) }
         requires early { (core_of self.old).clock < LIMIT }
         ensures moves { Moves W.meaning (MayDrain W.meaning) self.old self.new 0 }
         ensures later { (core_of self.old).clock < (core_of self.new).clock }
+        ensures succeeds { IsOk result }
     {
         match self.idle_span() {
             None => {
                 self.run();
+                Ok(())
             }
-            Some(span) => {
-                let Ok(()) = self.advance(span) else {
-                    unreachable!()
-                };
-            }
+            Some(span) => self.advance(span),
         }
     }
 }

@@ -17,12 +17,12 @@ pub struct Feed<W: Work, A: Allocator = Global> {
 }
 
 impl<W: Work, A: Allocator> Feed<W, A> {
-    ghost use Rattle.std.specs.Prelude.{◌≡◌, ◌+◌, true, IsTrue, ◌↔◌, length, if◌then◌else◌};
+    ghost use Rattle.std.specs.Prelude.{◌≡◌, ◌+◌, ◌⊎◌, true, false, IsTrue, ◌↔◌, length, if◌then◌else◌};
     ghost use Rattle.std.specs.Borrow.{Lends, sem};
     ghost use Rattle.cbs_house.specs.contracts.feed.Feed.{the_row};
     ghost use Rattle.cbs_house.specs.contracts.client.Client.{the_row as client_row};
-    ghost use Rattle.cbs_house.specs.Clients.{sent_by};
-    ghost use Rattle.cbs_house.specs.Feeds.{client_of, left, IsOrderly, IsDone, KeepsFeed};
+    ghost use Rattle.cbs_house.specs.Clients.{sent_by, HasNoSlot};
+    ghost use Rattle.cbs_house.specs.Feeds.{client_of, left, has_ended, IsOrderly, IsDone, KeepsFeed};
 
     /// A feed of these jobs, in order. It takes no memory.
     pub fn new(client: Client<W, A>, jobs: Vec<Task<W>, A>) -> Feed<W, A>
@@ -63,25 +63,20 @@ impl<W: Work, A: Allocator> Feed<W, A> {
         requires { IsOrderly self.old }
         ensures kept { KeepsFeed self.old self.new }
         ensures count { length (sent_by self.new.client) ≡ length (sent_by self.old.client) + (if result then 1 else 0) }
+        ensures refused { result ≡ false → (has_ended self.new ≡ true) ⊎ (G.may_hold_back gate.now ⊎ HasNoSlot self.new.client) }
     {
         if self.client.ended() {
             return false;
         }
         let may_send = gate.before_send(self.client.server(), self.client.sent());
-        if !may_send || !self.client.has_room() {
+        if !may_send || !self.client.has_slot() {
             return false;
         }
         match self.jobs.pop_front() {
             Some(task) => {
-                let Ok(_) = self.client.send(task) else {
-                    unreachable!()
-                };
+                self.client.send_reserved(task);
             }
-            None => {
-                let Ok(()) = self.client.end() else {
-                    unreachable!()
-                };
-            }
+            None => self.client.end_reserved(),
         }
         true
     }
@@ -113,9 +108,7 @@ pub fn feeds_of<W: Work, A: Allocator + Copy>(
     };
     let mut lists = VecDeque::from(lists);
     for client in clients {
-        let Some(jobs) = lists.pop_front() else {
-            unreachable!()
-        };
+        let jobs = lists.pop_front().unwrap();
         feeds.push_reserved(Feed::new(client, jobs));
     }
     Ok(feeds)

@@ -24,7 +24,7 @@ pub struct House<W: Work, A: Allocator = Global> {
 }
 
 impl<W: Work, A: Allocator> House<W, A> {
-    ghost use Rattle.std.specs.Prelude.{ℕ, ◌≡◌, ◌<◌, ◌≤◌, ◌+◌, ◌*◌, [], ◌∷◌, ◌++◌, length, slice_get, Ok, Err, Some, None, IfSome, IfNone, IfOk, IfErr, OnOk, MatchResult, MatchOption};
+    ghost use Rattle.std.specs.Prelude.{ℕ, ◌≡◌, ◌↔◌, IsTrue, ◌<◌, ◌≤◌, ◌+◌, ◌*◌, [], ◌∷◌, ◌++◌, length, slice_get, Ok, Err, Some, None, IfSome, IfNone, IfOk, IfErr, OnOk, MatchResult, MatchOption};
     ghost use Rattle.cbs_core.specs.Agreement.{Agrees};
     ghost use Rattle.cbs_core.specs.History.{History, world_after, reply_in};
     ghost use Rattle.cbs_core.specs.Quiet.{IsAtRest, IsIdleSpan};
@@ -34,7 +34,7 @@ impl<W: Work, A: Allocator> House<W, A> {
     ghost use Rattle.cbs_core.specs.declared.step.Step.TheVariants as step;
     ghost use Rattle.cbs_house.specs.Clients.{server_of, sent_by, free, SameClient};
     ghost use Rattle.cbs_house.specs.Housed.{KeepsServer};
-    ghost use Rattle.cbs_house.specs.Houses.{core_of, rings_of, received, known, results_of, view_answer, Made, LooksOnly, SameHouse, Polled, CanTake, Collects};
+    ghost use Rattle.cbs_house.specs.Houses.{core_of, rings_of, received, known, results_of, view_answer, IsClosed, Made, LooksOnly, SameHouse, Polled, CanTake, Collects};
     ghost use Rattle.cbs_house.specs.Ringed.{IsOpened};
 
     /// How many servers there are, at most 64. Their numbers are those below it.
@@ -46,8 +46,13 @@ impl<W: Work, A: Allocator> House<W, A> {
     }
 
     /// Whether a server is there and closed.
-    pub(crate) fn is_closed(&self, server: u16) -> bool {
-        self.core.view(server).is_ok_and(|view| view.closed)
+    pub(crate) fn is_closed(&self, server: u16) -> bool
+        ensures { IsTrue result ↔ IsClosed (core_of self.now) server }
+    {
+        match self.core.view(server) {
+            Ok(view) => view.closed,
+            Err(_) => false,
+        }
     }
 
     /// How many messages stand in a client's ring. The client must have been opened with this house.
@@ -102,10 +107,10 @@ impl<W: Work, A: Allocator> House<W, A> {
             Ok(()) => {}
             Err(CoreError::Closed) => return Some(Poll::Nothing),
             Err(CoreError::BacklogFull) => return Some(Poll::Full),
-            Err(CoreError::OutOfMemory) => return Some(Poll::OutOfMemory),
-            Err(_) => unreachable!(),
+            // The server is there, so that memory alone is left.
+            Err(_) => return Some(Poll::OutOfMemory),
         }
-        match self.collector.make_room(server) {
+        match self.collector.reserve(server) {
             Ok(()) => None,
             Err(_) => Some(Poll::OutOfMemory),
         }
@@ -120,18 +125,12 @@ impl<W: Work, A: Allocator> House<W, A> {
     {
         match self.rings.take(server) {
             Message::Job(task) => {
-                let Ok(number) = self.core.submit(server, task) else {
-                    unreachable!()
-                };
-                let Ok(()) = self.collector.expect(server) else {
-                    unreachable!()
-                };
+                let number = self.core.submit_reserved(server, task);
+                self.collector.expect_reserved(server);
                 Poll::Took(number)
             }
             Message::End => {
-                let Ok(()) = self.core.close(server) else {
-                    unreachable!()
-                };
+                self.core.close_open(server);
                 Poll::Closed
             }
         }
@@ -147,10 +146,7 @@ impl<W: Work, A: Allocator> House<W, A> {
     {
         let ran = self.core.run();
         if let Ran::Done(done) = ran {
-            match self.collector.take(done) {
-                Ok(()) => {}
-                Err(_) => unreachable!(),
-            }
+            self.collector.take_expected(done);
         }
         ran
     }

@@ -1,12 +1,12 @@
 //! A round: the senders and the house at once.
 
-ghost use Rattle.std.specs.Prelude.{◌≡◌, ◌+◌, ◌*◌, ◌≤◌, length};
+ghost use Rattle.std.specs.Prelude.{◌≡◌, ◌+◌, ◌*◌, ◌≤◌, ◌↔◌, length, IsTrue};
 ghost use Rattle.std.specs.List.{All};
 ghost use Rattle.std.specs.Thread.{IsSync, IsSend};
-ghost use Rattle.cbs_house.specs.Feeds.{IsOrderly, KeepsFeeds, all_sent};
-ghost use Rattle.cbs_house.specs.Houses.{Moves};
+ghost use Rattle.cbs_house.specs.Feeds.{IsOrderly, KeepsFeeds, EachSendsAtMost, SendsFeeds, servers_of, all_sent};
+ghost use Rattle.cbs_house.specs.Houses.{core_of, IsClosed};
 ghost use Rattle.cbs_house.specs.Rounds.{popped_by, Ready};
-ghost use Rattle.cbs_house.specs.Steps.{MayRound};
+ghost use Rattle.cbs_house.specs.Turns.{TakesTurn, TakesTurns};
 
 use crate::feed::Feed;
 use crate::gate::Gate;
@@ -47,9 +47,11 @@ pub fn serve_round<R: Threads + Sync, G: Gate + Sync, W: Work + Send>(
     requires turns { turns ≤ 1000000000 }
     ensures ready { Ready house.new feeds.new }
     ensures feeds { KeepsFeeds feeds.old feeds.new }
+    ensures each { EachSendsAtMost turns feeds.old feeds.new }
     ensures sent { all_sent feeds.new ≡ all_sent feeds.old + result.sent }
     ensures most { result.sent ≤ turns * length feeds.old }
-    ensures took { Moves W.meaning MayRound house.old house.new result.took }
+    ensures took { TakesTurns W.meaning turns (servers_of feeds.old) house.old house.new result.took }
+    ensures few { result.took ≤ turns * length (core_of house.old).servers }
 {
     let mut servers = [0u16; 64];
     let wanted = servers_of(feeds, &mut servers);
@@ -60,6 +62,7 @@ pub fn serve_round<R: Threads + Sync, G: Gate + Sync, W: Work + Send>(
 /// The servers of the feeds.
 fn servers_of<'a, W: Work>(feeds: &[Feed<W>], servers: &'a mut [u16; 64]) -> &'a [u16]
     requires { length feeds.now ≤ 64 }
+    ensures { result.now ≡ servers_of feeds.now }
 {
     for (index, feed) in feeds.iter().enumerate() {
         servers[index] = feed.client.server();
@@ -80,20 +83,21 @@ fn both_sides<R: Threads + Sync, G: Gate + Sync, W: Work + Send>(
     requires few { length feeds.old ≤ 64 }
     requires turns { turns ≤ 1000000000 }
     requires orderly { All IsOrderly feeds.old }
-    ensures feeds { KeepsFeeds feeds.old feeds.new }
+    ensures sends { SendsFeeds turns feeds.old feeds.new }
     ensures sent { all_sent feeds.new ≡ all_sent feeds.old + result.0 }
     ensures most { result.0 ≤ turns * length feeds.old }
-    ensures took { Moves W.meaning MayRound house.old house.new result.1 }
+    ensures took { TakesTurns W.meaning turns wanted.now house.old house.new result.1 }
+    ensures few { result.1 ≤ turns * length (core_of house.old).servers }
 {
     join_mut(
         rt,
         &mut || -> u64
             requires { IsSync R.row × IsSync G.row × IsSend W.row × (length feeds.now ≤ 64) × (turns ≤ 1000000000) × All IsOrderly feeds.now }
-            ensures { KeepsFeeds feeds.entry.now feeds.exit.now × (all_sent feeds.exit.now ≡ all_sent feeds.entry.now + result) × (result ≤ turns * length feeds.entry.now) }
+            ensures { SendsFeeds turns feeds.entry.now feeds.exit.now × (all_sent feeds.exit.now ≡ all_sent feeds.entry.now + result) × (result ≤ turns * length feeds.entry.now) }
         { send_all(rt, gate, turns, feeds) },
         &mut || -> u64
             requires { turns ≤ 1000000000 }
-            ensures { Moves W.meaning MayRound house.entry.now house.exit.now result }
+            ensures { TakesTurns W.meaning turns wanted.entry.now house.entry.now house.exit.now result × (result ≤ turns * length (core_of house.entry.now).servers) }
         { house_turns(gate, turns, wanted, house) },
     )
 }
@@ -101,7 +105,8 @@ fn both_sides<R: Threads + Sync, G: Gate + Sync, W: Work + Send>(
 /// The turns of the house, until the wanted servers are closed. How many messages it took.
 fn house_turns<G: Gate, W: Work>(gate: &G, turns: u64, wanted: &[u16], house: &mut House<W>) -> u64
     requires { turns ≤ 1000000000 }
-    ensures { Moves W.meaning MayRound house.old house.new result }
+    ensures turns { TakesTurns W.meaning turns wanted.now house.old house.new result }
+    ensures few { result ≤ turns * length (core_of house.old).servers }
 {
     let mut took = 0;
     for _ in 0..turns {
@@ -114,13 +119,16 @@ fn house_turns<G: Gate, W: Work>(gate: &G, turns: u64, wanted: &[u16], house: &m
 }
 
 /// Whether all these servers are closed.
-fn all_closed<W: Work>(house: &House<W>, servers: &[u16]) -> bool {
+fn all_closed<W: Work>(house: &House<W>, servers: &[u16]) -> bool
+    ensures { IsTrue result ↔ All (IsClosed (core_of house.now)) servers.now }
+{
     servers.iter().all(|server| house.is_closed(*server))
 }
 
 /// One turn of the house: it polls each server once, and runs once. How many messages it took.
 fn house_turn<G: Gate, W: Work>(gate: &G, house: &mut House<W>) -> u64
-    ensures moves { Moves W.meaning MayRound house.old house.new result }
+    ensures turn { TakesTurn W.meaning house.old house.new result }
+    ensures few { result ≤ length (core_of house.old).servers }
     ensures most { result ≤ 64 }
 {
     let mut took = 0;

@@ -4,7 +4,7 @@ ghost use Rattle.std.specs.Prelude.{◌≡◌, ◌+◌, ◌*◌, ◌<◌, ◌≤
 ghost use Rattle.std.specs.List.{All};
 ghost use Rattle.std.specs.Thread.{IsSync, IsSend};
 ghost use Rattle.cbs_house.specs.Clients.{sent_by};
-ghost use Rattle.cbs_house.specs.Feeds.{IsOrderly, KeepsFeed, KeepsFeeds, all_sent};
+ghost use Rattle.cbs_house.specs.Feeds.{IsOrderly, KeepsFeed, SendsFeeds, all_sent};
 
 use crate::feed::Feed;
 use crate::gate::Gate;
@@ -33,7 +33,6 @@ fn send_turns<W: Work, G: Gate>(feed: &mut Feed<W>, gate: &G, turns: u64) -> u64
 
 /// The senders of all feeds, each in a part of its own of the joins. How many messages they sent.
 #[cycle(senders)]
-#[tactic(auto, using(crate::proofs::Feeding::fed))]
 pub fn send_all<R: Threads + Sync, G: Gate + Sync, W: Work + Send>(
     rt: &R,
     gate: &G,
@@ -43,7 +42,7 @@ pub fn send_all<R: Threads + Sync, G: Gate + Sync, W: Work + Send>(
     requires few { length feeds.old ≤ 64 }
     requires turns { turns ≤ 1000000000 }
     requires orderly { All IsOrderly feeds.old }
-    ensures kept { KeepsFeeds feeds.old feeds.new }
+    ensures sends { SendsFeeds turns feeds.old feeds.new }
     ensures count { all_sent feeds.new ≡ all_sent feeds.old + result }
     ensures most { result ≤ turns * length feeds.old }
 {
@@ -71,7 +70,7 @@ fn send_both<R: Threads + Sync, G: Gate + Sync, W: Work + Send>(
     requires few { (length front.old + length back.old ≤ 64) × (0 < length front.old) × (0 < length back.old) }
     requires turns { turns ≤ 1000000000 }
     requires orderly { All IsOrderly front.old × All IsOrderly back.old }
-    ensures kept { KeepsFeeds front.old front.new × KeepsFeeds back.old back.new }
+    ensures sends { SendsFeeds turns front.old front.new × SendsFeeds turns back.old back.new }
     ensures count { (all_sent front.new ≡ all_sent front.old + result.0) × (all_sent back.new ≡ all_sent back.old + result.1) }
     ensures most { (result.0 ≤ turns * length front.old) × (result.1 ≤ turns * length back.old) }
 {
@@ -79,11 +78,11 @@ fn send_both<R: Threads + Sync, G: Gate + Sync, W: Work + Send>(
         rt,
         &mut || -> u64
             requires { IsSync R.row × IsSync G.row × IsSend W.row × (length front.now ≤ 64) × (turns ≤ 1000000000) × All IsOrderly front.now }
-            ensures { KeepsFeeds front.entry.now front.exit.now × (all_sent front.exit.now ≡ all_sent front.entry.now + result) × (result ≤ turns * length front.entry.now) }
+            ensures { SendsFeeds turns front.entry.now front.exit.now × (all_sent front.exit.now ≡ all_sent front.entry.now + result) × (result ≤ turns * length front.entry.now) }
         { send_all(rt, gate, turns, front) },
         &mut || -> u64
             requires { IsSync R.row × IsSync G.row × IsSend W.row × (length back.now ≤ 64) × (turns ≤ 1000000000) × All IsOrderly back.now }
-            ensures { KeepsFeeds back.entry.now back.exit.now × (all_sent back.exit.now ≡ all_sent back.entry.now + result) × (result ≤ turns * length back.entry.now) }
+            ensures { SendsFeeds turns back.entry.now back.exit.now × (all_sent back.exit.now ≡ all_sent back.entry.now + result) × (result ≤ turns * length back.entry.now) }
         { send_all(rt, gate, turns, back) },
     )
 }

@@ -1,12 +1,13 @@
 //! Serving feeds to their end.
 
-ghost use Rattle.std.specs.Prelude.{◌≡◌, ◌+◌, ◌≤◌, true, length, IsTrue, IfOk, OnOk, IfErr};
+ghost use Rattle.std.specs.Prelude.{ℕ, suc, ◌≡◌, ◌≢◌, ◌+◌, ◌≤◌, ◌↔◌, true, length, IsTrue, IfOk, OnOk, IfErr, MatchResult};
 ghost use Rattle.std.specs.List.{All};
 ghost use Rattle.cbs_house.specs.Feeds.{IsDone, KeepsFeed, KeepsFeeds, all_unsent};
 ghost use Rattle.cbs_house.specs.Houses.{core_of, rings_of, HoldsNoJob, LooksOnly};
 ghost use Rattle.cbs_house.specs.Ringed.{IsOpened};
-ghost use Rattle.cbs_house.specs.Rounds.{Ready, ServesOn, IsSettled, IsServed, Stops};
+ghost use Rattle.cbs_house.specs.Rounds.{Ready, ServesOn, Standing, IsTaken, IsSettled, IsServed, Halts, Stops};
 
+use crate::client::Client;
 use crate::error::HouseError;
 use crate::feed::Feed;
 use crate::gate::Gate;
@@ -47,7 +48,7 @@ pub fn serve<R: Threads + Sync, G: Gate + Sync, W: Work + Send>(
     ensures steps { ServesOn W.meaning house.old house.new }
     ensures served { OnOk result (All (IsServed W.meaning house.new) feeds.new) }
     ensures drained { OnOk result (HoldsNoJob (core_of house.new)) }
-    ensures stops { IfErr result (λ error. Stops error house.new) }
+    ensures stops { IfErr result (λ error. Stops error house.new feeds.new) }
 {
     for _ in 0..rounds_for(feeds) {
         serve_round(rt, house, feeds, TURNS, gate);
@@ -81,13 +82,14 @@ fn finish_round<W: Work>(house: &mut House<W>, feeds: &mut [Feed<W>]) -> Result<
     ensures feeds { KeepsFeeds feeds.old feeds.new }
     ensures steps { ServesOn W.meaning house.old house.new }
     ensures drained { OnOk result (HoldsNoJob (core_of house.new)) }
-    ensures served { IfOk result (λ all. IsTrue all → All (IsServed W.meaning house.new) feeds.new) }
-    ensures stops { IfErr result (λ error. Stops error house.new) }
+    ensures settled { OnOk result (All (IsSettled house.new) feeds.new) }
+    ensures done { IfOk result (λ all. IsTrue all ↔ All IsDone feeds.new) }
+    ensures halts { IfErr result (λ error. Halts error house.new) }
 {
     take_rest(house, feeds)?;
     house.drain()?;
-    let settled = all_settled(house, feeds);
-    Ok(settled && all_done(feeds))
+    settle_all(house, feeds);
+    Ok(all_done(feeds))
 }
 
 /// Takes what stands in the rings of the feeds.
@@ -96,7 +98,8 @@ fn take_rest<W: Work>(house: &mut House<W>, feeds: &mut [Feed<W>]) -> Result<(),
     ensures ready { Ready house.new feeds.new }
     ensures feeds { KeepsFeeds feeds.old feeds.new }
     ensures steps { ServesOn W.meaning house.old house.new }
-    ensures stops { IfErr result (λ error. Stops error house.new) }
+    ensures taken { OnOk result (All (IsTaken house.new) feeds.new) }
+    ensures halts { IfErr result (λ error. Halts error house.new) }
 {
     for index in 0..feeds.len() {
         take_ring(house, &mut feeds[index])?;
@@ -109,20 +112,24 @@ fn take_ring<W: Work>(house: &mut House<W>, feed: &mut Feed<W>) -> Result<(), Ho
     requires opened { IsOpened (rings_of house.old) feed.old.client }
     ensures feed { KeepsFeed feed.old feed.new }
     ensures steps { ServesOn W.meaning house.old house.new }
-    ensures stops { IfErr result (λ error. Stops error house.new) }
+    ensures taken { OnOk result (IsTaken house.new feed.new) }
+    ensures halts { IfErr result (λ error. Halts error house.new) }
 {
     for _ in 0..settle_feed(house, feed) {
-        take_message(house, feed.client.server())?;
+        take_message(house, &feed.client)?;
     }
     Ok(())
 }
 
-/// Takes the next message of a server, and drains first where its backlog is full.
+/// Takes the next message of a client, and drains first where the backlog of its server is full.
 #[tactic(auto, using(crate::proofs::Moving::serving))]
-fn take_message<W: Work>(house: &mut House<W>, server: u16) -> Result<(), HouseError>
+fn take_message<W: Work>(house: &mut House<W>, client: &Client<W>) -> Result<(), HouseError>
+    requires opened { IsOpened (rings_of house.old) client.now }
     ensures steps { ServesOn W.meaning house.old house.new }
-    ensures stops { IfErr result (λ error. Stops error house.new) }
+    ensures taken { OnOk result ((n : ℕ) → Standing house.old client.now (suc n) → Standing house.new client.now n) }
+    ensures halts { IfErr result (λ error. Halts error house.new) }
 {
+    let server = client.server();
     match house.poll(server) {
         Poll::Full => {
             house.drain()?;
@@ -134,7 +141,7 @@ fn take_message<W: Work>(house: &mut House<W>, server: u16) -> Result<(), HouseE
 
 /// Whether a poll found memory.
 fn memory_for(poll: Poll) -> Result<(), HouseError>
-    ensures { IfErr result (λ error. error ≡ HouseError.OutOfMemory) }
+    ensures { MatchResult result (λ _. poll ≢ Poll.OutOfMemory) (λ error. error ≡ HouseError.OutOfMemory) }
 {
     match poll {
         Poll::OutOfMemory => Err(HouseError::OutOfMemory),
@@ -142,21 +149,19 @@ fn memory_for(poll: Poll) -> Result<(), HouseError>
     }
 }
 
-/// Whether nothing stands in any ring of the feeds. Nothing is popped, so that what was seen of one
-/// ring stays.
-fn all_settled<W: Work>(house: &mut House<W>, feeds: &mut [Feed<W>]) -> bool
+/// Settles all feeds, whose rings were emptied. Nothing is popped, so that what is seen of one ring
+/// stays.
+fn settle_all<W: Work>(house: &mut House<W>, feeds: &mut [Feed<W>])
     requires ready { Ready house.old feeds.old }
+    requires taken { All (IsTaken house.old) feeds.old }
     ensures ready { Ready house.new feeds.new }
     ensures feeds { KeepsFeeds feeds.old feeds.new }
     ensures looked { LooksOnly house.old house.new }
-    ensures settled { IsTrue result → All (IsSettled house.new) feeds.new }
+    ensures settled { All (IsSettled house.new) feeds.new }
 {
     for index in 0..feeds.len() {
-        if settle_feed(house, &mut feeds[index]) > 0 {
-            return false;
-        }
+        settle_feed(house, &mut feeds[index]);
     }
-    true
 }
 
 /// How many messages stand in the ring of a feed.
@@ -164,14 +169,15 @@ fn settle_feed<W: Work>(house: &mut House<W>, feed: &mut Feed<W>) -> u64
     requires opened { IsOpened (rings_of house.old) feed.old.client }
     ensures feed { KeepsFeed feed.old feed.new }
     ensures looked { LooksOnly house.old house.new }
-    ensures settled { result ≡ 0 → IsSettled house.new feed.new }
+    ensures standing { Standing house.new feed.new.client result }
+    ensures settled { IsTaken house.old feed.old → IsSettled house.new feed.new }
 {
     house.settle(&mut feed.client)
 }
 
 /// Whether all feeds are done.
 fn all_done<W: Work>(feeds: &[Feed<W>]) -> bool
-    ensures { IsTrue result → All IsDone feeds.now }
+    ensures { IsTrue result ↔ All IsDone feeds.now }
 {
     for feed in feeds {
         if !feed.done() {

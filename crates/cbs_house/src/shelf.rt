@@ -46,33 +46,34 @@ impl<A: Allocator> Shelf<A> {
         self.results.reserve(pending + 1)
     }
 
-    /// Announces one more completion.
-    pub fn expect(&mut self) -> Result<(), AllocError>
-        ensures ok { OnOk result (Announces self.old self.new) }
-        ensures refused { OnErr result (SameShelf self.old self.new) }
-        ensures succeeds { 0 < self.old.spare → IsOk result }
+    /// Announces one more completion, where there is a place for its result.
+    pub fn expect_reserved(&mut self)
+        requires { 0 < self.old.spare }
+        ensures { Announces self.old self.new }
     {
-        let pending = self.announced as usize - self.results.len();
-        self.results.reserve(pending + 1)?;
         self.announced += 1;
-        Ok(())
     }
 
-    /// Takes the output of job `seq`.
-    pub fn take(&mut self, seq: u64, output: u64) -> Result<(), CollectError>
-        ensures ok { OnOk result (TakesResult output self.old self.new) }
-        ensures refused { OnErr result (self.new ≡ self.old) }
-        ensures refusal { MatchResult result (λ _. shelf_refusal self.old seq ≡ None) (λ e. shelf_refusal self.old seq ≡ Some e) }
+    /// Why the result of job `seq` is not the next one, if it is not.
+    pub fn refusal(&self, seq: u64) -> Option<CollectError>
+        ensures { result ≡ shelf_refusal self.now seq }
     {
         let taken = self.results.len() as u64;
         if seq < taken {
-            return Err(CollectError::Double);
+            return Some(CollectError::Double);
         }
         if seq > taken || seq >= self.announced {
-            return Err(CollectError::Early);
+            return Some(CollectError::Early);
         }
+        None
+    }
+
+    /// Takes the next result, which was announced.
+    pub fn take(&mut self, output: u64)
+        requires { IsWaiting self.old }
+        ensures { TakesResult output self.old self.new }
+    {
         self.results.push_reserved(output);
-        Ok(())
     }
 
     /// Whether a completion was announced and not taken.

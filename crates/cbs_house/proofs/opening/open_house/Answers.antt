@@ -1,4 +1,4 @@
-use Rattle.std.proofs.Common.{sym, ◌≡◌, ◌∙◌, length}
+use Rattle.std.proofs.Common.{sym, arith, ◌≡◌, ◌∙◌, length}
 use Rattle.std.proofs.lemmas.List.{length-map}
 use Rattle.cbs_core.specs.History.{Setup}
 use Rattle.cbs_core.specs.Setups.{terms_of}
@@ -17,7 +17,7 @@ invariant_of-house g c =
     record {
       housed = housed_new g.W.Work.meaning core setup agrees made.rings c.in-Ok-new.collector
           (same_count ring_of server_of (rings_in made.rings) made.clients.items c.len-servers.result made.ensures.rings made.ensures.clients ∙ sym count)
-          (c.in-Ok-new.ensures.count ∙ sym count) made.ensures.new c.in-Ok-new.ensures.empty;
+          (c.in-Ok-new.ensures.count ∙ sym count) made.ensures.new c.in-Ok-new.ensures.empty (omega (arith, c.if-backlog-eq0.false));
     }
 
 pub returns-clause-empty : goal.returns-clause-empty

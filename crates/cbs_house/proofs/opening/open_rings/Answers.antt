@@ -1,4 +1,5 @@
-use Rattle.std.proofs.Common.{sym, ◌∙◌}
+use Rattle.std.proofs.Common.{sym, ◌∙◌, arith}
+use Rattle.std.proofs.lemmas.Grind.{common_steps}
 use Rattle.cbs_house.specs.Clients.{server_of, ring_of}
 use Rattle.cbs_house.specs.Opened.{IsNewEnd, IsUnused}
 use Rattle.cbs_house.specs.Rings.{consumer_ring}
@@ -22,3 +23,15 @@ loop-server-preserved g c =
       clients = numbered_pushed server_of l.clients.items clients' client l.server b is.server l.invariant.clients;
       unused = All_pushed (IsUnused c.args.places) l.clients.items clients' client b (record { sent = is.sent; free = is.free ∙ made.ensures.producer.1 }) l.invariant.unused;
     }
+
+pub returns-clause-new : goal.returns-clause-new
+returns-clause-new g c = c.loop-server.invariant.new
+
+pub returns-clause-rings : goal.returns-clause-rings
+returns-clause-rings g c = c.loop-server.invariant.rings
+
+pub returns-clause-clients : goal.returns-clause-clients
+returns-clause-clients g c = grind (arith, common_steps)
+
+pub returns-clause-unused : goal.returns-clause-unused
+returns-clause-unused g c = c.loop-server.invariant.unused

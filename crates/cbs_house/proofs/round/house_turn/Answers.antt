@@ -1,28 +1,30 @@
-use Rattle.std.proofs.Common.{ap, sym, ◌+◌, ℕ, arith}
-use Rattle.cbs_house.specs.Rounds.{popped_by}
-use Rattle.cbs_house.specs.Steps.{MayRound}
-use Rattle.cbs_house.proofs.Moving.{moves_nothing, moves_both, moves_at, polled_moves, ran_moves}
+use Rattle.std.proofs.Common.{arith}
+use Rattle.cbs_house.proofs.Turns.{polled_none, polled_next, polled_few, turn_taken, turn_few}
 use Rattle.cbs_house.proofs.round.house_turn.Goals as goal
 
 pub loop-server-init : goal.loop-server-init
-loop-server-init g c = record { moves = moves_nothing g.W.Work.meaning MayRound c.args.house.now; most = omega arith }
+loop-server-init g c = polled_none g.W.Work.meaning c.args.house.now
 
 pub loop-server-preserved : goal.loop-server-preserved
 loop-server-preserved g c =
-    let work = g.W.Work.meaning in
     let l = c.loop-server in
     let p = c.poll-poll in
-    let n = popped_by p.result in
-    record {
-      moves = moves_at work MayRound c.args.house.now p.new.self _ _
-          (moves_both work MayRound c.args.house.now l.house p.new.self l.took n l.invariant.moves (polled_moves work l.house p.new.self l.server p.result p.ensures.polled))
-          (ap (λ (k : ℕ). l.took + k) (sym c.count-took.ensures.value));
-      most = omega (arith, l.invariant.most, c.count-took.ensures.most);
-    }
+    rw c.count-took.ensures.value (polled_next g.W.Work.meaning c.args.house.now l.house p.new.self l.server l.took p.result l.invariant p.ensures.polled)
 
-pub returns-clause-moves : goal.returns-clause-moves
-returns-clause-moves g c =
-    let work = g.W.Work.meaning in
+pub returns-clause-turn : goal.returns-clause-turn
+returns-clause-turn g c =
     let l = c.loop-server in
-    moves_at work MayRound c.args.house.now c.run.new.self _ _
-    (moves_both work MayRound c.args.house.now l.house c.run.new.self l.took 0 l.invariant.moves (ran_moves work l.house c.run.new.self c.run.ensures.made)) (omega arith)
+    turn_taken g.W.Work.meaning c.args.house.now l.house c.run.new.self l.server l.took (omega (arith, c.loop-server-test.false, l.auto.server-end, c.servers-server-end.ensures.value)) l.invariant c.run.ensures.made
+
+pub overflow_add-took : goal.overflow_add-took
+overflow_add-took g c =
+    let few = polled_few g.W.Work.meaning c.args.house.now c.loop-server.house c.loop-server.server c.loop-server.took c.loop-server.invariant in
+    omega (arith, few, c.count-took.ensures.most, c.loop-server-test.true, c.servers-server-end.ensures.few)
+
+pub returns-clause-few : goal.returns-clause-few
+returns-clause-few g c = turn_few g.W.Work.meaning c.args.house.now c.run.new.self c.loop-server.took (returns-clause-turn g c)
+
+pub returns-clause-most : goal.returns-clause-most
+returns-clause-most g c =
+    let few = polled_few g.W.Work.meaning c.args.house.now c.loop-server.house c.loop-server.server c.loop-server.took c.loop-server.invariant in
+    omega (arith, few, c.loop-server.auto.server-end, c.servers-server-end.ensures.few)

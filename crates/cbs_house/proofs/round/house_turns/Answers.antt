@@ -1,15 +1,19 @@
 use Rattle.std.proofs.Common.{arith}
-use Rattle.cbs_house.specs.Steps.{MayRound}
-use Rattle.cbs_house.proofs.Moving.{moves_nothing, moves_both}
+use Rattle.cbs_house.proofs.Turns.{turns_none, turns_next, same_servers}
 use Rattle.cbs_house.proofs.round.house_turns.Goals as goal
 
 pub loop-init : goal.loop-init
-loop-init g c = record { moves = moves_nothing g.W.Work.meaning MayRound c.args.house.now; most = omega arith }
+loop-init g c = record { taken = turns_none g.W.Work.meaning c.args.house.now; few = omega arith; most = omega arith }
 
 pub loop-preserved : goal.loop-preserved
 loop-preserved g c =
+    let work = g.W.Work.meaning in
+    let old = c.args.house.now in
+    let l = c.loop in
     let t = c.house_turn-took in
+    let same = same_servers work old l.house old.housed l.house.housed l.invariant.taken.made.rings in
     record {
-      moves = moves_both g.W.Work.meaning MayRound c.args.house.now c.loop.house t.new.house c.loop.took t.result c.loop.invariant.moves t.ensures.moves;
-      most = omega (arith, c.loop.invariant.most, t.ensures.most);
+      taken = turns_next work old l.house t.new.house l.counter l.took t.result same l.invariant.taken t.ensures.turn;
+      few = omega (arith, l.invariant.few, t.ensures.few, same);
+      most = omega (arith, l.invariant.most, t.ensures.most);
     }

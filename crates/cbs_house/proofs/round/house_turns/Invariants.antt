@@ -1,7 +1,12 @@
-use Rattle.std.proofs.Common.{◌≤◌, ◌*◌}
-use Rattle.cbs_house.specs.Houses.{Moves}
-use Rattle.cbs_house.specs.Steps.{MayRound}
+use Rattle.std.proofs.Common.{◌≤◌, ◌*◌, length}
+use Rattle.cbs_house.specs.Houses.{core_of}
+use Rattle.cbs_house.specs.Turns.{TakesExactly}
 use Rattle.cbs_house.proofs.round.house_turns.Given as goal
 
 abbrev pub invariant-loop : goal.invariant-loop
-invariant-loop g l = record { moves : Moves g.W.Work.meaning MayRound l.initial.house l.house l.took; most : l.took ≤ 64 * l.counter }
+invariant-loop g l =
+    record {
+      taken : TakesExactly g.W.Work.meaning l.counter l.initial.house l.house l.took;
+      few : l.took ≤ l.counter * length (core_of l.initial.house).servers;
+      most : l.took ≤ 64 * l.counter;
+    }

@@ -1,10 +1,9 @@
-use Rattle.cbs_house.specs.Steps.{MayRound}
 use Rattle.cbs_house.proofs.Feeding.{ready_on}
-use Rattle.cbs_house.proofs.Moving.{moves_rings}
+use Rattle.cbs_house.proofs.Turns.{turns_rings}
 use Rattle.cbs_house.proofs.round.serve_round.Goals as goal
 
 pub returns-clause-ready : goal.returns-clause-ready
 returns-clause-ready g c =
     let b = c.both_sides-sent in
-    let rings = moves_rings g.W.Work.meaning MayRound c.args.house.now b.new.house b.result.1 b.ensures.took in
-    ready_on c.args.house.now b.new.house c.args.feeds.now b.new.feeds rings b.ensures.feeds c.requires.ready
+    let rings = turns_rings g.W.Work.meaning c.args.turns _ c.args.house.now b.new.house b.result.1 b.ensures.took in
+    ready_on c.args.house.now b.new.house c.args.feeds.now b.new.feeds rings b.ensures.sends.kept c.requires.ready

@@ -1,6 +1,19 @@
-use Rattle.std.proofs.Common.{refl}
+use Rattle.std.proofs.Common.{refl, sym}
+use Rattle.cbs_house.specs.Clients.{server_of}
+use Rattle.cbs_house.specs.Houses.{known}
 use Rattle.cbs_house.proofs.Feeding.{keeps_looked}
+use Rattle.cbs_house.proofs.Looking.{prefix_refl}
+use Rattle.cbs_house.proofs.StandingMessages.{settled_taken}
 use Rattle.cbs_house.proofs.serving.settle_feed.Goals as goal
 
 pub returns-clause-feed : goal.returns-clause-feed
 returns-clause-feed g c = keeps_looked c.args.feed.now _ c.settle.ensures.client.0 c.settle.ensures.client.1 refl
+
+pub returns-clause-standing : goal.returns-clause-standing
+returns-clause-standing g c =
+    record { rest = known c.settle.new.self (server_of c.settle.new.client); sent = c.settle.ensures.lawful; seen = prefix_refl _; count = sym c.settle.ensures.value }
+
+pub returns-clause-settled : goal.returns-clause-settled
+returns-clause-settled g c = λ taken.
+    let s = c.settle in
+    settled_taken c.args.house.now s.new.self c.args.feed.now (record c.args.feed.now { client = s.new.client }) (known s.new.self (server_of s.new.client)) s.ensures.client.0.0 s.ensures.client.1 s.ensures.looked.received s.ensures.lawful taken

@@ -1,10 +1,11 @@
 use Rattle.std.proofs.Common.{◌<◌, length, arith}
 use Rattle.cbs_house.proofs.Feeding.{feeds_same, feeds_on, feeds_set, ready_set}
 use Rattle.cbs_house.proofs.Moving.{serves_none, serves_then, serves_rings}
+use Rattle.cbs_house.proofs.StandingMessages.{received_more, taken_more}
 use Rattle.cbs_house.proofs.serving.take_rest.Goals as goal
 
 pub loop-index-init : goal.loop-index-init
-loop-index-init g c = record { ready = c.requires.ready; feeds = feeds_same c.args.feeds.now; steps = serves_none g.W.Work.meaning c.args.house.now }
+loop-index-init g c = record { ready = c.requires.ready; feeds = feeds_same c.args.feeds.now; steps = serves_none g.W.Work.meaning c.args.house.now; taken = λ k d p q. absurd (omega (arith, q)) }
 
 pub returns-in_err-take_ring-clause-feeds : goal.returns-in_err-take_ring-clause-feeds
 returns-in_err-take_ring-clause-feeds g c =
@@ -25,4 +26,5 @@ loop-index-preserved g c =
       ready = ready_set l.house t.new.house l.feeds l.index t.new.feed c.index-feeds-index.result (serves_rings work l.house t.new.house t.ensures.steps) within t.ensures.feed l.invariant.ready;
       feeds = feeds_on c.args.feeds.now l.feeds _ l.invariant.feeds (feeds_set l.feeds l.index t.new.feed c.index-feeds-index.result within t.ensures.feed);
       steps = serves_then work c.args.house.now l.house t.new.house l.invariant.steps t.ensures.steps;
+      taken = taken_more l.house t.new.house l.feeds l.index t.new.feed within (received_more work l.house t.new.house t.ensures.steps) l.invariant.taken c.in_ok-take_ring.ensures.taken;
     }

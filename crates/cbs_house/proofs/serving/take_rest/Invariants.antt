@@ -1,5 +1,6 @@
+use Rattle.std.specs.List.{AllWithin}
 use Rattle.cbs_house.specs.Feeds.{KeepsFeeds}
-use Rattle.cbs_house.specs.Rounds.{Ready, ServesOn}
+use Rattle.cbs_house.specs.Rounds.{Ready, ServesOn, IsTaken}
 use Rattle.cbs_house.proofs.serving.take_rest.Given as goal
 
 abbrev pub invariant-loop-index : goal.invariant-loop-index
@@ -8,4 +9,5 @@ invariant-loop-index g l =
       ready : Ready l.house l.feeds;
       feeds : KeepsFeeds l.initial.feeds l.feeds;
       steps : ServesOn g.W.Work.meaning l.initial.house l.house;
+      taken : AllWithin (IsTaken l.house) l.feeds 0 l.index;
     }

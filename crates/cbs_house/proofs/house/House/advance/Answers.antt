@@ -1,7 +1,6 @@
 use Rattle.std.proofs.Common.{◌∷◌, [], refl}
 use Rattle.cbs_core.specs.declared.step.Step.TheVariants.{Advance}
 use Rattle.cbs_house.proofs.Keeping.{housed_all, same_shelf}
-use Rattle.cbs_house.proofs.Stepping.{history_kept}
 use Rattle.cbs_house.proofs.house.House.advance.Goals as goal
 
 pub invariant_of-self : goal.invariant_of-self
@@ -11,7 +10,7 @@ invariant_of-self g c =
     let a = c.advance.ensures in
     record {
       housed = housed_all work old.core c.advance.new.self old.rings old.rings old.collector old.collector old.housed refl refl a.count
-          (history_kept work old.core c.advance.new.self (Advance c.args.n ∷ []) old.housed.history a.state) a.jobs (λ s. refl) (λ s. same_shelf _);
+          (Advance c.args.n ∷ []) a.state a.jobs (λ s. refl) (λ s. same_shelf _);
     }
 
 pub returns-in-Err-clause-refused : goal.returns-in-Err-clause-refused

@@ -1,8 +1,7 @@
 use Rattle.std.proofs.Common.{◌∷◌, ◌∙◌, [], refl, sym}
 use Rattle.cbs_core.specs.declared.step.Step.TheVariants.{Run}
 use Rattle.cbs_house.proofs.Keeping.{housed_one, housed_ran, keeps_done, finished_next}
-use Rattle.cbs_house.proofs.Making.{made_time, collects_none, on_ok}
-use Rattle.cbs_house.proofs.Stepping.{history_kept}
+use Rattle.cbs_house.proofs.Making.{made_time, collects_none}
 use Rattle.cbs_house.proofs.house.House.run.Goals as goal
 
 pub invariant_of-self-in_default : goal.invariant_of-self-in_default
@@ -12,7 +11,7 @@ invariant_of-self-in_default g c =
     let r = c.run-ran.ensures in
     record {
       housed = housed_ran work old.core c.run-ran.new.self old.rings old.rings old.collector old.collector old.housed c.run-ran.result c.in_default.not-Done r.job r.count
-          (history_kept work old.core c.run-ran.new.self (Run ∷ []) old.housed.history r.state) refl (λ s. refl) refl;
+          (Run ∷ []) r.state refl (λ s. refl) refl;
     }
 
 pub returns-in_default : goal.returns-in_default
@@ -34,12 +33,16 @@ invariant_of-self g c =
     let h = old.housed in
     let r = c.in-Done.ensures in
     let done = c.in-Done.done in
-    let next = finished_next work old.core c.run-ran.new.self old.rings old.rings old.collector old.collector h done r.job.0 in
-    let taken = on_ok c.take.result _ (c.take.ensures.exact.1 next) c.take.ensures.ok in
+    let taken = c.take_expected.ensures.taken in
     record {
-      housed = housed_one work old.core c.run-ran.new.self old.rings old.rings old.collector c.take.new.self h done.server refl c.take.ensures.others.1 r.count
-          (history_kept work old.core c.run-ran.new.self (Run ∷ []) h.history r.state)
+      housed = housed_one work old.core c.run-ran.new.self old.rings old.rings old.collector c.take_expected.new.self h done.server refl c.take_expected.ensures.others.1 r.count
+          (Run ∷ []) r.state
           (λ l. keeps_done work _ _ _ _ _ _ (h.servers done.server l) done r.job.0 refl taken.results)
           (λ l. taken.announced ∙ (h.announced done.server l ∙ sym r.job.0.accepted))
-          r.job.1 (λ s ne. refl) c.take.ensures.others.0;
+          r.job.1 (λ s ne. refl) c.take_expected.ensures.others.0;
     }
+
+pub take_expected-requires : goal.take_expected-requires
+take_expected-requires g c =
+    let old = c.args.self.now in
+    finished_next g.W.Work.meaning old.core c.run-ran.new.self old.rings old.rings old.collector old.collector old.housed c.in-Done.done c.in-Done.ensures.job.0

@@ -1,8 +1,8 @@
-use Rattle.std.specs.List.{AllWithin}
+use Rattle.std.specs.List.{All, AllWithin}
 use Rattle.cbs_house.specs.Feeds.{KeepsFeeds}
 use Rattle.cbs_house.specs.Houses.{LooksOnly}
-use Rattle.cbs_house.specs.Rounds.{Ready, IsSettled}
-use Rattle.cbs_house.proofs.serving.all_settled.Given as goal
+use Rattle.cbs_house.specs.Rounds.{Ready, IsTaken, IsSettled}
+use Rattle.cbs_house.proofs.serving.settle_all.Given as goal
 
 abbrev pub invariant-loop-index : goal.invariant-loop-index
 invariant-loop-index g l =
@@ -10,5 +10,6 @@ invariant-loop-index g l =
       ready : Ready l.house l.feeds;
       feeds : KeepsFeeds l.initial.feeds l.feeds;
       looked : LooksOnly l.initial.house l.house;
+      taken : All (IsTaken l.house) l.feeds;
       settled : AllWithin (IsSettled l.house) l.feeds 0 l.index;
     }

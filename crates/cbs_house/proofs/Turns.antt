@@ -1,0 +1,143 @@
+-- The turns of a house, one after another.
+use Rattle.std.proofs.Common.{◌≡◌, ℕ, ◌+◌, ◌<◌, ◌≤◌, List, [], ◌∷◌, ◌++◌, length, refl, ap, sym, ◌∙◌, arith, length-append}
+use Rattle.std.proofs.lemmas.List.{append-nil, append_assoc}
+use Rattle.std.specs.List.{AllByRecursion}
+use Rattle.cbs_job.specs.Work.{Meaning}
+use Rattle.cbs_job.specs.declared.work.Work.{Ghosts}
+use Rattle.cbs_core.specs.History.{History, ◌⊕◌}
+use Rattle.cbs_core.specs.declared.step.Step.{Step}
+use Rattle.cbs_core.specs.declared.step.Step.TheVariants.{Submit, Run, Advance, Close}
+use Rattle.cbs_house.specs.declared.house.House.{House}
+use Rattle.cbs_house.specs.declared.poll.Poll.{Poll}
+use Rattle.cbs_house.specs.declared.poll.Poll.TheVariants.{Nothing, Took, Closed, Full, OutOfMemory, NoSuchServer}
+use Rattle.cbs_house.specs.Housed.{Housed}
+use Rattle.cbs_house.specs.Houses.{core_of, rings_of, Made, Polled}
+use Rattle.cbs_house.specs.Rounds.{popped_by, ServesOn}
+use Rattle.cbs_house.specs.Steps.{pops, EachAllowed, MayServe}
+use Rattle.cbs_house.specs.Turns.{ArePolls, steps_in, TakesTurn, TakesExactly, TakesTurns}
+use Rattle.cbs_house.proofs.Making.{made_nothing, made_both}
+use Rattle.cbs_house.proofs.Moving.{serves_then}
+use Rattle.cbs_house.proofs.Stepping.{pops-append}
+
+module _ {W : Type 0} where
+  polls_wider : (first n : ℕ) (xs : List (Step W)) → ArePolls first n xs → ArePolls first (n + 1) xs
+  polls_wider first n [] p = tt
+  polls_wider first n (Submit s job ∷ xs) p = (p.0, omega (arith, p.1), polls_wider (s + 1) n xs p.2)
+  polls_wider first n (Close s ∷ xs) p = (p.0, omega (arith, p.1), polls_wider (s + 1) n xs p.2)
+  polls_wider first n (Run ∷ xs) p = absurd p
+  polls_wider first n (Advance m ∷ xs) p = absurd p
+
+  -- a message of the next server behind those of the servers before it
+  polls_more : (first n : ℕ) (xs : List (Step W)) (x : Step W) → first ≤ n → ((m : ℕ) → m ≤ n → ArePolls m (n + 1) (x ∷ [])) → ArePolls first n xs → ArePolls first (n + 1) (xs ++ x ∷ [])
+  polls_more first n [] x l one p = one first l
+  polls_more first n (Submit s job ∷ xs) x l one p = (p.0, omega (arith, p.1), polls_more (s + 1) n xs x (omega (arith, p.1)) one p.2)
+  polls_more first n (Close s ∷ xs) x l one p = (p.0, omega (arith, p.1), polls_more (s + 1) n xs x (omega (arith, p.1)) one p.2)
+  polls_more first n (Run ∷ xs) x l one p = absurd p
+  polls_more first n (Advance m ∷ xs) x l one p = absurd p
+
+  -- polls take at most one message of each server
+  polls_few : (first n : ℕ) (xs : List (Step W)) → first ≤ n → ArePolls first n xs → first + pops xs ≤ n
+  polls_few first n [] l p = omega arith
+  polls_few first n (Submit s job ∷ xs) l p = let h = polls_few (s + 1) n xs (omega (arith, p.1)) p.2 in omega (arith, h, p.0)
+  polls_few first n (Close s ∷ xs) l p = let h = polls_few (s + 1) n xs (omega (arith, p.1)) p.2 in omega (arith, h, p.0)
+  polls_few first n (Run ∷ xs) l p = absurd p
+  polls_few first n (Advance m ∷ xs) l p = absurd p
+
+  steps_in-append : (turns : List (List (Step W))) (polls : List (Step W)) → steps_in (turns ++ polls ∷ []) ≡ steps_in turns ++ (polls ++ Run ∷ [])
+  steps_in-append [] polls = refl
+  steps_in-append (xs ∷ turns) polls = ap (λ (ys : List (Step W)). xs ++ Run ∷ ys) (steps_in-append turns polls) ∙ sym (append_assoc xs (Run ∷ steps_in turns) (polls ++ Run ∷ []))
+
+  each-append : (n : ℕ) (turns : List (List (Step W))) (polls : List (Step W)) → AllByRecursion (λ xs. ArePolls 0 n xs) turns → ArePolls 0 n polls → AllByRecursion (λ xs. ArePolls 0 n xs) (turns ++ polls ∷ [])
+  each-append n [] polls p q = (q, tt)
+  each-append n (xs ∷ turns) polls p q = (p.0, each-append n turns polls p.1 q)
+
+  module _ (work : Meaning W) where
+    allowed_polls : (first n : ℕ) (xs ys : List (Step W)) (M : History W) → ArePolls first n xs → ((N : History W) → EachAllowed (MayServe work) N ys) → EachAllowed (MayServe work) M (xs ++ ys)
+    allowed_polls first n [] ys M p q = q M
+    allowed_polls first n (Submit s job ∷ xs) ys M p q = (tt, allowed_polls (s + 1) n xs ys (M ⊕ Submit s job) p.2 q)
+    allowed_polls first n (Close s ∷ xs) ys M p q = (tt, allowed_polls (s + 1) n xs ys (M ⊕ Close s) p.2 q)
+    allowed_polls first n (Run ∷ xs) ys M p q = absurd p
+    allowed_polls first n (Advance m ∷ xs) ys M p q = absurd p
+
+    allowed_turns : (n : ℕ) (turns : List (List (Step W))) (M : History W) → AllByRecursion (λ xs. ArePolls 0 n xs) turns → EachAllowed (MayServe work) M (steps_in turns)
+    allowed_turns n [] M p = tt
+    allowed_turns n (xs ∷ turns) M p = allowed_polls 0 n xs (Run ∷ steps_in turns) M p.0 (λ N. (tt, allowed_turns n turns (N ⊕ Run) p.1))
+
+module _ {W A : Type 0} {g : Ghosts W} (work : Meaning W) where
+  -- the house polled its servers below n, each once, in order, and took k messages
+  pub record HasPolled (old new : House W A g) (n k : ℕ) : Type 0 where
+    pub polls : List (Step W)
+    pub each : ArePolls 0 n polls
+    pub made : Made work old new polls
+    pub count : pops polls ≡ k
+
+  pub polled_none : (a : House W A g) → HasPolled a a 0 0
+  polled_none a = record { polls = []; each = tt; made = made_nothing work a; count = refl }
+
+  polled_nothing : (a b c : House W A g) (n k : ℕ) → HasPolled a b n k → Made work b c [] → HasPolled a c (n + 1) (k + 0)
+  polled_nothing a b c n k h m = record {
+    polls = h.polls ++ [];
+    each = rw (append-nil h.polls) (polls_wider 0 n h.polls h.each);
+    made = made_both work a b c h.polls [] h.made m;
+    count = rw (append-nil h.polls) (let e = h.count in omega (arith, e));
+  }
+
+  polled_one : (a b c : House W A g) (n k : ℕ) (x : Step W) → pops (x ∷ []) ≡ 1 → ((m : ℕ) → m ≤ n → ArePolls m (n + 1) (x ∷ [])) → HasPolled a b n k → Made work b c (x ∷ []) → HasPolled a c (n + 1) (k + 1)
+  polled_one a b c n k x e one h m = record {
+    polls = h.polls ++ x ∷ [];
+    each = polls_more 0 n h.polls x (omega arith) one h.each;
+    made = made_both work a b c h.polls (x ∷ []) h.made m;
+    count = let f = h.count in omega (arith, pops-append h.polls (x ∷ []), e, f);
+  }
+
+  -- one more server is polled
+  pub polled_next : (a b c : House W A g) (n k : ℕ) (p : Poll) → HasPolled a b n k → Polled work b n p c → HasPolled a c (n + 1) (k + popped_by p)
+  polled_next a b c n k Nothing h q = polled_nothing a b c n k h q.0
+  polled_next a b c n k Full h q = polled_nothing a b c n k h q.0
+  polled_next a b c n k OutOfMemory h q = polled_nothing a b c n k h q.0
+  polled_next a b c n k NoSuchServer h q = polled_nothing a b c n k h q.0
+  polled_next a b c n k (Took number) h q = polled_one a b c n k (Submit n q.0) refl (λ m l. (l, omega arith, tt)) h q.1
+  polled_next a b c n k Closed h q = polled_one a b c n k (Close n) refl (λ m l. (l, omega arith, tt)) h q.0
+
+  pub polled_few : (a b : House W A g) (n k : ℕ) → HasPolled a b n k → k ≤ n
+  polled_few a b n k h = let l = polls_few 0 n h.polls (omega arith) h.each in let e = h.count in omega (arith, l, e)
+
+  -- all servers are polled, and then the house runs
+  pub turn_taken : (a b c : House W A g) (n k : ℕ) → n ≡ length (core_of a).servers → HasPolled a b n k → Made work b c (Run ∷ []) → TakesTurn work a c k
+  turn_taken a b c n k e h m = record { polls = h.polls; each = rw (← e) h.each; made = made_both work a b c h.polls (Run ∷ []) h.made m; count = h.count }
+
+  pub turn_few : (a b : House W A g) (n : ℕ) → TakesTurn work a b n → n ≤ length (core_of a).servers
+  turn_few a b n t = let h = polls_few 0 (length (core_of a).servers) t.polls (omega arith) t.each in let e = t.count in omega (arith, h, e)
+
+  -- the number of servers is that of the rings
+  pub same_servers : (a b : House W A g) → Housed work a.core a.rings a.collector → Housed work b.core b.rings b.collector → rings_of b ≡ rings_of a → length (core_of b).servers ≡ length (core_of a).servers
+  same_servers a b p q e = sym q.ring_count ∙ (ap length e ∙ p.ring_count)
+
+  pub turns_none : (a : House W A g) → TakesExactly work 0 a a 0
+  turns_none a = record { polls = []; each = tt; made = made_nothing work a; turns = refl; count = refl }
+
+  -- one more turn
+  pub turns_next : (a b c : House W A g) (n k m : ℕ) → length (core_of b).servers ≡ length (core_of a).servers → TakesExactly work n a b k → TakesTurn work b c m → TakesExactly work (n + 1) a c (k + m)
+  turns_next a b c n k m e h t = record {
+    polls = h.polls ++ t.polls ∷ [];
+    each = each-append (length (core_of a).servers) h.polls t.polls h.each (rw (← e) t.each);
+    made = rw (steps_in-append h.polls t.polls) (made_both work a b c (steps_in h.polls) (t.polls ++ Run ∷ []) h.made t.made);
+    turns = let i = h.turns in omega (arith, length-append h.polls (t.polls ∷ []), i);
+    count =
+        let i = h.count in
+        let j = t.count in
+        rw (steps_in-append h.polls t.polls) (omega (arith, pops-append (steps_in h.polls) (t.polls ++ Run ∷ []), pops-append t.polls (Run ∷ []), i, j));
+  }
+
+  pub turns_rings : (most : ℕ) (servers : List ℕ) (a b : House W A g) (n : ℕ) → TakesTurns work most servers a b n → rings_of b ≡ rings_of a
+  turns_rings most servers a b n t = t.taken.made.rings
+
+  -- turns are steps of serving
+  serves_turns : (most : ℕ) (servers : List ℕ) (a b : House W A g) (n : ℕ) → TakesTurns work most servers a b n → ServesOn work a b
+  serves_turns most servers a b n t =
+      let k = t.taken in
+      record { moves = (n, record { some = (steps_in k.polls, k.made, λ M agrees. allowed_turns work (length (core_of a).servers) k.polls M k.each, k.count) }) }
+
+  -- a round, and what is done behind it
+  pub serves_round : (most : ℕ) (servers : List ℕ) (a b c d : House W A g) (n : ℕ) → ServesOn work a b → TakesTurns work most servers b c n → ServesOn work c d → ServesOn work a d
+  serves_round most servers a b c d n before round rest = serves_then work a c d (serves_then work a b c before (serves_turns most servers b c n round)) rest
