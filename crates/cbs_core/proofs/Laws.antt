@@ -1,8 +1,8 @@
 -- The laws of the core that the crates above may cite.
-use Rattle.std.proofs.Common.{◌≡◌, ℕ, zero, suc, ◌+◌, ◌-◌, ◌<◌, ◌≤◌, true, false, leb, ltb, List, [], ◌∷◌, length, map, get_or, refl, sym, ◌∙◌, ap, arith, inl, inr, Option, Some, None}
+use Rattle.std.proofs.Common.{◌≡◌, ℕ, zero, suc, ◌+◌, ◌-◌, ◌<◌, ◌≤◌, true, false, leb, ltb, List, [], ◌∷◌, length, map, get_or, ◌++◌, refl, sym, ◌∙◌, ap, subst, arith, inl, inr, Option, Some, None}
 use Rattle.std.specs.Prelude.{if◌then◌else◌}
 use Rattle.std.specs.List.{AllByRecursion, AllZip}
-use Rattle.std.proofs.lemmas.Bool.{cases_lt}
+use Rattle.std.proofs.lemmas.Bool.{cases_eq, cases_lt}
 use Rattle.std.proofs.lemmas.Bool.Decides.{nat_tests}
 use Rattle.std.proofs.lemmas.List.{length-map}
 use Rattle.cbs_job.specs.Work.{Meaning, whole}
@@ -15,7 +15,7 @@ use Rattle.cbs_core.specs.Agreement.{AgreesJobs, AgreesWorld, Agrees}
 use Rattle.cbs_core.specs.Quiet.{IsAtRest, IsQuiet, IsIdleSpan}
 use Rattle.cbs_core.specs.Held.{CoreHeld, held_at, HoldsJob}
 use Rattle.cbs_core.specs.Queues.{list_at}
-use Rattle.cbs_core.specs.Continuations.{IsBusy, HasHistory}
+use Rattle.cbs_core.specs.Continuations.{IsBusy, HasHistory, Follows, ◌⊕⊕◌, EachAllowed, AllAllowed}
 use Rattle.cbs_core.specs.declared.step.Step.{Step}
 use Rattle.cbs_core.specs.declared.step.Step.TheVariants.{Run, Advance}
 use Rattle.cbs_core.proofs.Agreements.{account_face, ticks_none}
@@ -63,6 +63,25 @@ module _ {W : Type 0} (work : Meaning W) where
   within_queues (q ∷ qs) zero some = omega arith
   within_queues (q ∷ qs) (suc s) some = let l = within_queues qs s some in omega arith
 
+  -- a server that holds a job is there
+  pub holds_within : (core : CoreHeld W) → HasHistory work core → (s : ℕ) → 0 < length (held_at core s).jobs → s < length core.faces
+  holds_within core history s some = elim (cases_lt s (length core.faces)) [
+    | inl lt ↦ lt
+    | inr ge ↦ absurd (history (λ M agrees.
+      let w = world_after work M in
+      let l = within_queues core.queues s some in
+      let shown = ap length agrees.world.shown in
+      absurd (omega (arith, AllZip-length (AgreesJobs work) core.queues w.accounts agrees.world.jobs, length-map w.accounts (face_of work)))))
+  ]
+
+  none_of : (jobs : List W) → (0 < length jobs → ⊥) → jobs ≡ []
+  none_of [] n = refl
+  none_of (j ∷ jobs) n = absurd (n (omega arith))
+
+  -- beyond the last server no job is held
+  pub none_beyond : (core : CoreHeld W) → HasHistory work core → (s : ℕ) → length core.faces ≤ s → (held_at core s).jobs ≡ []
+  none_beyond core history s ge = none_of (held_at core s).jobs (λ some. let lt = holds_within core history s some in absurd (omega arith))
+
   -- where the core holds a job, a job is unfinished
   pub busy_by : (core : CoreHeld W) (M : History W) → Agrees work core M → HoldsJob core → IsBusy work (world_after work M)
   busy_by core M agrees b =
@@ -80,6 +99,44 @@ module _ {W : Type 0} (work : Meaning W) where
     | inl lt ↦ lt
     | inr ge ↦ absurd (h (λ M agrees. let a = agrees.world.clock in let b = (follows M agrees).world.clock in let l = later M agrees in absurd (omega arith)))
   ]
+
+module _ {W : Type 0} where
+  pub after-append : (M : History W) (xs ys : List (Step W)) → M ⊕⊕ (xs ++ ys) ≡ (M ⊕⊕ xs) ⊕⊕ ys
+  after-append M [] ys = refl
+  after-append M (x ∷ xs) ys = after-append (M ⊕ x) xs ys
+
+  allowed-append : (P : History W → Step W → Type 0) (M : History W) (xs ys : List (Step W)) → EachAllowed P M xs → EachAllowed P (M ⊕⊕ xs) ys → EachAllowed P M (xs ++ ys)
+  allowed-append P M [] ys p q = q
+  allowed-append P M (x ∷ xs) ys p q = (p.0, allowed-append P (M ⊕ x) xs ys p.1 q)
+
+  allowed-weaker : (P Q : History W → Step W → Type 0) (M : History W) (xs : List (Step W)) → ((N : History W) (x : Step W) → P N x → Q N x) → EachAllowed P M xs → EachAllowed Q M xs
+  allowed-weaker P Q M [] w p = tt
+  allowed-weaker P Q M (x ∷ xs) w p = (w M x p.0, allowed-weaker P Q (M ⊕ x) xs w p.1)
+
+module _ {W : Type 0} (work : Meaning W) where
+  pub follows_both : (a b c : CoreHeld W) (xs ys : List (Step W)) → Follows work a b xs → Follows work b c ys → Follows work a c (xs ++ ys)
+  follows_both a b c xs ys p q = λ M agrees. subst (λ (N : History W). Agrees work c N) (sym (after-append M xs ys)) (q (M ⊕⊕ xs) (p M agrees))
+
+  pub allowed_both : (P : History W → Step W → Type 0) (a b : CoreHeld W) (xs ys : List (Step W)) → Follows work a b xs → AllAllowed work P a xs → AllAllowed work P b ys → AllAllowed work P a (xs ++ ys)
+  allowed_both P a b xs ys f p q = λ M agrees. allowed-append P M xs ys (p M agrees) (q (M ⊕⊕ xs) (f M agrees))
+
+  pub allowed_weaker : (P Q : History W → Step W → Type 0) (a : CoreHeld W) (xs : List (Step W)) → ((N : History W) (x : Step W) → P N x → Q N x) → AllAllowed work P a xs → AllAllowed work Q a xs
+  allowed_weaker P Q a xs w p = λ M agrees. allowed-weaker P Q M xs w (p M agrees)
+
+  setup_after : (M : History W) (xs : List (Step W)) → (M ⊕⊕ xs).setup ≡ M.setup
+  setup_after M [] = refl
+  setup_after M (x ∷ xs) = setup_after (M ⊕ x) xs
+
+  -- steps leave the greatest backlog
+  pub backlog_kept : (a b : CoreHeld W) (xs : List (Step W)) → HasHistory work a → Follows work a b xs → b.backlog ≡ a.backlog
+  backlog_kept a b xs h f = elim (cases_eq b.backlog a.backlog) [
+    | inl e ↦ e
+    | inr ne ↦ absurd (h (λ M agrees. ne ((f M agrees).world.same_backlog ∙ (ap (λ (s : Setup). s.backlog) (setup_after M xs) ∙ sym agrees.world.same_backlog))))
+  ]
+
+  -- what follows a core with a history has one
+  pub history_kept : (a b : CoreHeld W) (xs : List (Step W)) → HasHistory work a → Follows work a b xs → HasHistory work b
+  history_kept a b xs h f = λ none. h (λ M agrees. none (M ⊕⊕ xs) (f M agrees))
 
 -- what a new core holds of a server: no job
 pub record IsNew {W : Type 0} (core : CoreHeld W) (s : ℕ) : Type 0 where

@@ -54,7 +54,7 @@ module _ {W : Type 0} (core : CoreHeld W) (s : ℕ) where
 
   refused_of : (o p : Option CoreError) → Case o p → (e : CoreError) → o ≡ Some e → IsRefusedBy core s e
   refused_of _ _ (absent ge) e k = let n : error.NoSuchServer ≡ e = cc in rw (← n) ge
-  refused_of _ _ (shut lt t) e k = let n : error.Closed ≡ e = cc in rw (← n) (lt, t)
+  refused_of _ _ (shut lt t) e k = let n : error.Closed ≡ e = cc in rw (← n) record { within = lt; closed = t }
   refused_of _ _ (full is many) e k = let n : error.BacklogFull ≡ e = cc in rw (← n) (is, many)
   refused_of _ _ (free is) e k = cc
 

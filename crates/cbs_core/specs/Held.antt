@@ -48,6 +48,11 @@ pub record IsOpen {W : Type 0} (core : CoreHeld W) (s : ℕ) : Type 0 where
   pub within : s < length core.faces
   pub unclosed : (face_at core.faces s).closed ≡ false
 
+-- server s is there and closed
+pub record IsClosed {W : Type 0} (core : CoreHeld W) (s : ℕ) : Type 0 where
+  pub within : s < length core.faces
+  pub closed : (face_at core.faces s).closed ≡ true
+
 -- a job of server s would be accepted: the server is open, and its backlog is not full
 pub record Accepts {W : Type 0} (core : CoreHeld W) (s : ℕ) : Type 0 where
   pub is_open : IsOpen core s
@@ -61,7 +66,7 @@ pub record HasRoom {W : Type 0} (core : CoreHeld W) (s : ℕ) : Type 0 where
 -- why the next job of s is refused, in words of what is held. Memory is wanted only where nothing else refuses
 abbrev pub IsRefusedBy : {W : Type 0} → CoreHeld W → ℕ → CoreError → Type 0
 IsRefusedBy core s error.NoSuchServer = length core.faces ≤ s
-IsRefusedBy core s error.Closed = (s < length core.faces) × ((face_at core.faces s).closed ≡ true)
+IsRefusedBy core s error.Closed = IsClosed core s
 IsRefusedBy core s error.BacklogFull = IsOpen core s × (core.backlog ≤ backlog_of (face_at core.faces s))
 IsRefusedBy core s error.OutOfMemory = Accepts core s
 IsRefusedBy core s error.BadBacklog = ⊥

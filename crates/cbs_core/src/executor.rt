@@ -294,6 +294,7 @@ impl<W: Work, A: Allocator> Core<W, A> {
 
     /// What a server shows, or [`CoreError::NoSuchServer`].
     pub fn view(&self, server: u16) -> Result<ServerView, CoreError>
+        ensures held { result ≡ view_reply (slice_get self.now.faces server) }
         ensures view { (M : History W) → Agrees W.meaning self.now M → result ≡ view_reply (slice_get (faces W.meaning (world_after W.meaning M)) server) }
         ensures early { (M : History W) → Agrees W.meaning self.now M
             → IfOk result (λ view. let now = (world_after W.meaning M).now in view.deadline ≤ now + (now + 1) * 1000000000) }

@@ -5,7 +5,8 @@ use Rattle.std.specs.List.{All}
 use Rattle.std.proofs.lemmas.Bool.{cases_eq, cases_lt}
 use Rattle.cbs_job.specs.Work.{Meaning, whole}
 use Rattle.cbs_job.specs.declared.completion.Completion.{Completion}
-use Rattle.cbs_core.specs.Held.{Held, CoreHeld, held_at, no_held, SameJobs, TakesJob, RunsJob, FinishesJob, ClosesServer, DoesRun}
+use Rattle.cbs_core.proofs.Laws.{holds_within, none_beyond}
+use Rattle.cbs_core.specs.Held.{Held, CoreHeld, held_at, SameJobs, TakesJob, RunsJob, FinishesJob, ClosesServer, DoesRun}
 use Rattle.cbs_core.specs.declared.reply.Ran.{Ran}
 use Rattle.cbs_core.specs.declared.step.Step.{Step}
 use Rattle.cbs_core.specs.declared.reply.Ran.TheVariants as ran
@@ -16,8 +17,8 @@ use Rattle.cbs_house.specs.Collected.{Shelved, shelf_at, no_shelf, SameShelf, Is
 use Rattle.cbs_house.specs.Housed.{KeepsServer, Housed}
 use Rattle.cbs_house.specs.Messages.{jobs_among}
 use Rattle.cbs_house.specs.Ringed.{rings_in, received_in}
-use Rattle.cbs_house.specs.Steps.{Follows}
-use Rattle.cbs_house.proofs.Stepping.{history_kept, backlog_kept}
+use Rattle.cbs_core.specs.Continuations.{Follows}
+use Rattle.cbs_core.proofs.Laws.{history_kept, backlog_kept}
 use Rattle.cbs_house.proofs.Messages.{jobs_among-job, jobs_among-end, has_end-job, has_end-end, end_is_last-more}
 
 pub same_shelf : (h : Shelved) → SameShelf h h
@@ -33,7 +34,7 @@ module _ {W : Type 0} (work : Meaning W) (h h' : Held W) (ms ms' : List (Message
     last = k.last;
   })
 
-  pub keeps_job : (job : W) (q : ℕ) → TakesJob job q h h' → h.closed ≡ false → ms' ≡ ms ++ Job job ∷ [] → rs' ≡ rs → KeepsServer work h' ms' rs'
+  pub keeps_job : (job : W) (q : ℕ) → TakesJob job q h h' → h.face.closed ≡ false → ms' ≡ ms ++ Job job ∷ [] → rs' ≡ rs → KeepsServer work h' ms' rs'
   keeps_job job q t unclosed e f = rw (e, f) (record {
     outputs = rw (t.jobs, jobs_among-job ms job, map-append (whole work) h.jobs (job ∷ []), map-append (whole work) (jobs_among ms) (job ∷ []), ← append_assoc rs (map (whole work) h.jobs) (whole work job ∷ []), k.outputs) refl;
     accepted = let a = t.accepted in let b = k.accepted in rw (jobs_among-job ms job) (omega (arith, length-append (jobs_among ms) (job ∷ [])));
@@ -42,7 +43,7 @@ module _ {W : Type 0} (work : Meaning W) (h h' : Held W) (ms ms' : List (Message
     last = end_is_last-more ms (Job job) (sym k.closed ∙ unclosed);
   })
 
-  pub keeps_end : ClosesServer h h' → h.closed ≡ false → ms' ≡ ms ++ End ∷ [] → rs' ≡ rs → KeepsServer work h' ms' rs'
+  pub keeps_end : ClosesServer h h' → h.face.closed ≡ false → ms' ≡ ms ++ End ∷ [] → rs' ≡ rs → KeepsServer work h' ms' rs'
   keeps_end t unclosed e f = rw (e, f) (record {
     outputs = rw (t.jobs, jobs_among-end ms) k.outputs;
     accepted = rw (jobs_among-end ms) (t.accepted ∙ k.accepted);
@@ -73,19 +74,13 @@ module _ {W : Type 0} (work : Meaning W) (h h' : Held W) (ms ms' : List (Message
   pub counts : length rs + length h.jobs ≡ length (jobs_among ms)
   counts = let e = ap length k.outputs in omega (arith, length-append rs (map (whole work) h.jobs), length-map h.jobs (whole work), length-map (jobs_among ms) (whole work), e)
 
--- a server that holds a job is there
-within_held : {W : Type 0} (work : Meaning W) (hs : List (Held W)) (s r : ℕ) (rs : List ℕ) → map (whole work) (held_at hs s).jobs ≡ r ∷ rs → s < length hs
-within_held work [] s r rs e = cc
-within_held work (h ∷ hs) zero r rs e = omega arith
-within_held work (h ∷ hs) (suc s) r rs e = let l = within_held work hs s r rs e in omega arith
-
 module _ {W A : Type 0} (work : Meaning W) (core core' : CoreHeld W) (rings rings' : Rings W A) (shelves shelves' : List Shelved) (h : Housed work core rings shelves) where
   -- one server is changed, and the others are as before
   pub housed_one :
-      (t : ℕ) → rings_in rings' ≡ rings_in rings → length shelves' ≡ length shelves → length core'.servers ≡ length core.servers → (xs : List (Step W)) → Follows work core core' xs
-      → (t < length core.servers → KeepsServer work (held_at core'.servers t) (received_in rings' t) (shelf_at shelves' t).results)
-      → (t < length core.servers → (shelf_at shelves' t).announced ≡ (held_at core'.servers t).accepted)
-      → ((s : ℕ) → s ≢ t → SameJobs (held_at core.servers s) (held_at core'.servers s))
+      (t : ℕ) → rings_in rings' ≡ rings_in rings → length shelves' ≡ length shelves → length core'.faces ≡ length core.faces → (xs : List (Step W)) → Follows work core core' xs
+      → (t < length core.faces → KeepsServer work (held_at core' t) (received_in rings' t) (shelf_at shelves' t).results)
+      → (t < length core.faces → (shelf_at shelves' t).announced ≡ (held_at core' t).face.accepted)
+      → ((s : ℕ) → s ≢ t → SameJobs (held_at core s) (held_at core' s))
       → ((s : ℕ) → s ≢ t → received_in rings' s ≡ received_in rings s)
       → ((s : ℕ) → s ≢ t → SameShelf (shelf_at shelves s) (shelf_at shelves' s))
       → Housed work core' rings' shelves'
@@ -94,7 +89,7 @@ module _ {W A : Type 0} (work : Meaning W) (core core' : CoreHeld W) (rings ring
     shelf_count = n ∙ (h.shelf_count ∙ sym c);
     servers = λ s l. elim (cases_eq s t) [
       | inl e ↦ rw e (here (omega (arith, e, c, l)))
-      | inr ne ↦ keeps_same work (held_at core.servers s) (held_at core'.servers s) (received_in rings s) (received_in rings' s) (shelf_at shelves s).results (shelf_at shelves' s).results
+      | inr ne ↦ keeps_same work (held_at core s) (held_at core' s) (received_in rings s) (received_in rings' s) (shelf_at shelves s).results (shelf_at shelves' s).results
           (h.servers s (omega (arith, c, l))) (cores s ne) (messages s ne) (results s ne).results
     ];
     announced = λ s l. elim (cases_eq s t) [
@@ -107,15 +102,15 @@ module _ {W A : Type 0} (work : Meaning W) (core core' : CoreHeld W) (rings ring
 
   -- all servers are as before
   pub housed_all :
-      rings_in rings' ≡ rings_in rings → length shelves' ≡ length shelves → length core'.servers ≡ length core.servers → (xs : List (Step W)) → Follows work core core' xs
-      → ((s : ℕ) → SameJobs (held_at core.servers s) (held_at core'.servers s))
+      rings_in rings' ≡ rings_in rings → length shelves' ≡ length shelves → length core'.faces ≡ length core.faces → (xs : List (Step W)) → Follows work core core' xs
+      → ((s : ℕ) → SameJobs (held_at core s) (held_at core' s))
       → ((s : ℕ) → received_in rings' s ≡ received_in rings s)
       → ((s : ℕ) → SameShelf (shelf_at shelves s) (shelf_at shelves' s))
       → Housed work core' rings' shelves'
   housed_all r n c xs follows cores messages results = record {
     ring_count = ap length r ∙ (h.ring_count ∙ sym c);
     shelf_count = n ∙ (h.shelf_count ∙ sym c);
-    servers = λ s l. keeps_same work (held_at core.servers s) (held_at core'.servers s) (received_in rings s) (received_in rings' s) (shelf_at shelves s).results (shelf_at shelves' s).results
+    servers = λ s l. keeps_same work (held_at core s) (held_at core' s) (received_in rings s) (received_in rings' s) (shelf_at shelves s).results (shelf_at shelves' s).results
         (h.servers s (omega (arith, c, l))) (cores s) (messages s) (results s).results;
     announced = λ s l. (results s).announced ∙ (h.announced s (omega (arith, c, l)) ∙ sym (cores s).accepted);
     history = history_kept work core core' xs h.history follows;
@@ -123,26 +118,26 @@ module _ {W A : Type 0} (work : Meaning W) (core core' : CoreHeld W) (rings ring
   }
 
   -- a run that finished no job
-  pub housed_ran : (r : Ran) → ((c : Completion) → r ≡ ran.Done c → ⊥) → DoesRun work r core core' → length core'.servers ≡ length core.servers → (xs : List (Step W)) → Follows work core core' xs
+  pub housed_ran : (r : Ran) → ((c : Completion) → r ≡ ran.Done c → ⊥) → DoesRun work r core core' → length core'.faces ≡ length core.faces → (xs : List (Step W)) → Follows work core core' xs
       → rings_in rings' ≡ rings_in rings → ((s : ℕ) → received_in rings' s ≡ received_in rings s) → shelves' ≡ shelves → Housed work core' rings' shelves'
   housed_ran ran.Idle n d c xs follows r m e = housed_all r (ap length e) c xs follows (λ s. rw d (record { jobs = refl; accepted = refl; finished = refl; closed = refl })) m (λ s. rw e (same_shelf _))
   housed_ran ran.ClockEnd n d c xs follows r m e = housed_all r (ap length e) c xs follows (λ s. rw d (record { jobs = refl; accepted = refl; finished = refl; closed = refl })) m (λ s. rw e (same_shelf _))
   housed_ran (ran.Unit t q) n d c xs follows r m e =
       housed_one t r (ap length e) c xs follows
-      (λ l. keeps_unit work (held_at core.servers t) (held_at core'.servers t) (received_in rings t) (received_in rings' t) (shelf_at shelves t).results (shelf_at shelves' t).results (h.servers t l) q d.0 (m t) (rw e refl))
+      (λ l. keeps_unit work (held_at core t) (held_at core' t) (received_in rings t) (received_in rings' t) (shelf_at shelves t).results (shelf_at shelves' t).results (h.servers t l) q d.0 (m t) (rw e refl))
       (λ l. rw e (h.announced t l ∙ sym d.0.accepted))
       d.1 (λ s ne. m s) (λ s ne. rw e (same_shelf _))
   housed_ran (ran.Done x) n d c xs follows r m e = absurd (n x refl)
 
   -- a finished job is the next one whose result is awaited
-  pub finished_next : (x : Completion) → FinishesJob work x (held_at core.servers x.server) (held_at core'.servers x.server) → IsNext shelves x
+  pub finished_next : (x : Completion) → FinishesJob work x (held_at core x.server) (held_at core' x.server) → IsNext shelves x
   finished_next x f =
       let s = x.server in
-      let l = within_held work core.servers s x.result (map (whole work) (held_at core'.servers s).jobs) f.results in
+      let l = holds_within work core h.history s (let e = ap length f.results in omega (arith, length-map (held_at core s).jobs (whole work))) in
       let k = h.servers s l in
-      let all = counts work (held_at core.servers s) (held_at core'.servers s) (received_in rings s) (received_in rings s) (shelf_at shelves s).results (shelf_at shelves s).results k in
-      let some : length (held_at core.servers s).jobs ≡ length (held_at core'.servers s).jobs + 1 =
-      let e = ap length f.results in omega (arith, e, length-map (held_at core.servers s).jobs (whole work), length-map (held_at core'.servers s).jobs (whole work)) in
+      let all = counts work (held_at core s) (held_at core' s) (received_in rings s) (received_in rings s) (shelf_at shelves s).results (shelf_at shelves s).results k in
+      let some : length (held_at core s).jobs ≡ length (held_at core' s).jobs + 1 =
+      let e = ap length f.results in omega (arith, e, length-map (held_at core s).jobs (whole work), length-map (held_at core' s).jobs (whole work)) in
       record {
         known = omega (arith, h.shelf_count, l);
         number = f.number ∙ k.finished;
@@ -154,13 +149,13 @@ no_jobs n m [] e k = refl
 no_jobs n m (w ∷ ws) e k = absurd (omega (arith, e, k))
 
 -- where every completion that was announced was taken, no job is held
-pub held_none : {W A : Type 0} (work : Meaning W) (core : CoreHeld W) (rings : Rings W A) (shelves : List Shelved) → Housed work core rings shelves → All IsComplete shelves → (s : ℕ) → (held_at core.servers s).jobs ≡ []
-held_none work core rings shelves h complete s = elim (cases_lt s (length core.servers)) [
+pub held_none : {W A : Type 0} (work : Meaning W) (core : CoreHeld W) (rings : Rings W A) (shelves : List Shelved) → Housed work core rings shelves → All IsComplete shelves → (s : ℕ) → (held_at core s).jobs ≡ []
+held_none work core rings shelves h complete s = elim (cases_lt s (length core.faces)) [
   | inl l ↦
       let k = h.servers s l in
       let shelf = shelf_at shelves s in
-      let all = counts work (held_at core.servers s) (held_at core.servers s) (received_in rings s) (received_in rings s) shelf.results shelf.results k in
+      let all = counts work (held_at core s) (held_at core s) (received_in rings s) (received_in rings s) shelf.results shelf.results k in
       let done = complete s no_shelf (omega (arith, h.shelf_count, l)) in
-      no_jobs (length shelf.results) (length (jobs_among (received_in rings s))) (held_at core.servers s).jobs all (sym k.accepted ∙ (sym (h.announced s l) ∙ done))
-  | inr ge ↦ ap (λ x. x.jobs) (get_or_past core.servers s no_held ge)
+      no_jobs (length shelf.results) (length (jobs_among (received_in rings s))) (held_at core s).jobs all (sym k.accepted ∙ (sym (h.announced s l) ∙ done))
+  | inr ge ↦ none_beyond work core h.history s ge
 ]

@@ -5,7 +5,6 @@ pub mod Stepping
 pub mod Keeping
 pub mod Closed
 pub mod Making
-pub mod Draining
 pub mod Moving
 pub mod Turns
 pub mod StandingMessages

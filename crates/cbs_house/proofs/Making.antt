@@ -10,7 +10,7 @@ use Rattle.cbs_job.specs.declared.work.Work.{Ghosts}
 use Rattle.cbs_job.specs.declared.completion.Completion.{Completion}
 use Rattle.cbs_rules.specs.Rules.{clock_end}
 use Rattle.cbs_core.specs.Agreement.{Agrees}
-use Rattle.cbs_core.specs.Held.{CoreHeld}
+use Rattle.cbs_core.specs.Held.{CoreHeld, Accepts}
 use Rattle.cbs_core.specs.History.{History, world_after}
 use Rattle.cbs_core.specs.Quiet.{IsIdleSpan}
 use Rattle.cbs_core.specs.declared.reply.Ran.{Ran}
@@ -22,10 +22,12 @@ use Rattle.cbs_house.specs.declared.message.Message.{Message}
 use Rattle.cbs_house.specs.declared.message.Message.TheVariants.{Job, End}
 use Rattle.cbs_house.specs.declared.poll.Poll.{Poll}
 use Rattle.cbs_house.specs.declared.poll.Poll.TheVariants.{Nothing, Took, Closed, Full, OutOfMemory, NoSuchServer}
-use Rattle.cbs_house.specs.Houses.{core_of, rings_of, received, known, results_of, Made, LooksOnly, Collects, Accepts, Polled}
+use Rattle.cbs_house.specs.Houses.{core_of, rings_of, received, known, results_of, Made, LooksOnly, Collects, Polled}
 use Rattle.cbs_house.specs.Messages.{jobs_among}
-use Rattle.cbs_house.specs.Steps.{message_of, messages_of, Follows, HasHistory}
-use Rattle.cbs_house.proofs.Stepping.{messages_of-append, follows_both}
+use Rattle.cbs_house.specs.Steps.{message_of, messages_of}
+use Rattle.cbs_core.specs.Continuations.{Follows, HasHistory}
+use Rattle.cbs_house.proofs.Stepping.{messages_of-append}
+use Rattle.cbs_core.proofs.Laws.{follows_both}
 
 prefix_through : {X : Type 0} (a e b r : List X) → IsPrefix a (e ++ b) → IsPrefix b r → (z : List X) → z ≡ e ++ r → IsPrefix a z
 prefix_through a e b r p q z k =

@@ -1,7 +1,7 @@
 -- A new house.
 use Rattle.std.proofs.Common.{◌≡◌, ℕ, ◌+◌, ◌<◌, List, [], ◌∷◌, ◌++◌, length, map, get_or, Some, refl, zero-add, ap, sym, ◌∙◌, arith}
 use Rattle.std.specs.Prelude.{slice_get}
-use Rattle.std.specs.List.{All, AllZip, range_with_len}
+use Rattle.std.specs.List.{All, range_with_len}
 use Rattle.std.proofs.lemmas.List.{length-map, map-id, map-append, get_or-map}
 use Rattle.std.proofs.lemmas.List.FromFn.{map-range_with_len_more, length-range_with_len, get_or-range_with_len}
 use Rattle.std.proofs.lemmas.List.Elements.{recursion_from_All, All-weaker, All-same, All-push}
@@ -9,12 +9,10 @@ use Rattle.std.proofs.lemmas.Option.{slice_get-get_or}
 use Rattle.rtrb.specs.Ring.{received, known_items}
 use Rattle.cbs_job.specs.Work.{Meaning, whole}
 use Rattle.cbs_job.specs.declared.work.Work.{Ghosts}
-use Rattle.cbs_rules.specs.Rules.{Terms}
-use Rattle.cbs_core.specs.Accounts.{new_account, no_account}
-use Rattle.cbs_core.specs.Agreement.{AgreesServer, Agrees}
-use Rattle.cbs_core.specs.Held.{Held, CoreHeld, held_at, no_held}
+use Rattle.cbs_core.specs.Agreement.{Agrees}
+use Rattle.cbs_core.specs.Held.{CoreHeld, held_at}
 use Rattle.cbs_core.specs.History.{Setup}
-use Rattle.cbs_core.proofs.Lists.{AllZip-get, AllZip-length}
+use Rattle.cbs_core.proofs.Laws.{new_server}
 use Rattle.cbs_house.specs.declared.client.Client.{Client}
 use Rattle.cbs_house.specs.declared.rings.Rings.{Rings}
 use Rattle.cbs_house.specs.Clients.{server_of, ring_of}
@@ -34,35 +32,19 @@ module _ {W A : Type 0} where
         at_all known_items [] es (recursion_from_All (λ c. known_items c ≡ []) es (All-weaker IsNewEnd (λ c. known_items c ≡ []) (λ c k. k.known) es a)) s,
       )
 
-no_jobs : {W : Type 0} (work : Meaning W) (ws : List W) → map (whole work) ws ≡ [] → ws ≡ []
-no_jobs work [] e = refl
-no_jobs work (w ∷ ws) e = cc
-
 module _ {W : Type 0} (work : Meaning W) where
-  new_server : (h : Held W) (t : Terms) → AgreesServer work h (new_account t) → KeepsServer work h [] []
-  new_server h t a = let none = no_jobs work h.jobs a.results in record {
-    outputs = rw none refl;
-    accepted = a.accepted_count;
-    finished = a.finished_count;
-    closed = a.closed;
-    last = refl;
-  }
-
   module _ (core : CoreHeld W) (setup : Setup) (agrees : Agrees work core (record { setup = setup; steps = [] })) where
-    zipped : AllZip (AgreesServer work) core.servers (map new_account setup.servers)
-    zipped = agrees.world.servers
-
-    pub new_count : length core.servers ≡ length setup.servers
-    new_count = AllZip-length (AgreesServer work) core.servers (map new_account setup.servers) zipped ∙ length-map setup.servers new_account
-
-    pub new_kept : (s : ℕ) → s < length core.servers → KeepsServer work (held_at core.servers s) [] []
-    new_kept s l =
-        let t : Terms = (no_account {W = W}).terms in
-        let here = AllZip-get (AgreesServer work) core.servers (map new_account setup.servers) s no_held (new_account t) zipped l in
-        new_server (held_at core.servers s) (get_or setup.servers s t) (rw (get_or-map new_account setup.servers s t (new_account t) (omega (arith, new_count, l))) at here)
+    pub new_kept : (s : ℕ) → s < length core.faces → KeepsServer work (held_at core s) [] []
+    new_kept s l = let n = new_server work core setup agrees s l in record {
+      outputs = rw n.jobs refl;
+      accepted = n.accepted;
+      finished = n.finished;
+      closed = n.unclosed;
+      last = refl;
+    }
 
     pub housed_new : {A : Type 0} (r : Rings W A) (shelves : List Shelved)
-        → length (rings_in r) ≡ length core.servers → length shelves ≡ length core.servers → All IsNewEnd r.ends.items → ((s : ℕ) → SameShelf no_shelf (shelf_at shelves s)) → 0 < setup.backlog
+        → length (rings_in r) ≡ length core.faces → length shelves ≡ length core.faces → All IsNewEnd r.ends.items → ((s : ℕ) → SameShelf no_shelf (shelf_at shelves s)) → 0 < setup.backlog
         → Housed work core r shelves
     housed_new r shelves rings count new empty some = record {
       ring_count = rings;

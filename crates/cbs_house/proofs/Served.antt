@@ -7,7 +7,8 @@ use Rattle.cbs_job.specs.declared.work.Work.{Ghosts}
 use Rattle.cbs_house.specs.Clients.{server_of, sent_by}
 use Rattle.cbs_house.specs.Feeds.{IsDone, all_jobs}
 use Rattle.cbs_house.specs.Housed.{Housed}
-use Rattle.cbs_house.specs.Houses.{core_of, rings_of, received, results_of, HoldsNoJob, AllFinished}
+use Rattle.cbs_house.specs.Houses.{core_of, rings_of, received, results_of, AllFinished}
+use Rattle.cbs_core.specs.Held.{HoldsNoJob}
 use Rattle.cbs_house.specs.Messages.{jobs_among}
 use Rattle.cbs_house.specs.Ringed.{IsOpened}
 use Rattle.cbs_house.specs.Rounds.{Ready, IsSettled, IsServed}
@@ -23,7 +24,7 @@ module _ {W A : Type 0} {g : Ghosts W} (work : Meaning W) (h : House W A g) (hou
   served_at : (f : Feed W A g) → HoldsNoJob (core_of h) → IsOpened (rings_of h) f.client → IsDone f → IsSettled h f → IsServed work h f
   served_at f none opened done settled =
       let s = server_of f.client in
-      let l : s < length (core_of h).servers = omega (arith, housed.ring_count, opened_within (rings_of h) f.client opened) in
+      let l : s < length (core_of h).faces = omega (arith, housed.ring_count, opened_within (rings_of h) f.client opened) in
       let all : jobs_among (received h s) ≡ all_jobs f = ap jobs_among settled ∙ (sym (append-nil (jobs_among (sent_by f.client))) ∙ ap (λ ws. jobs_among (sent_by f.client) ++ ws) (sym done.none_left)) in
       record {
         done = done;

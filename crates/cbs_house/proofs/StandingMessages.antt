@@ -20,7 +20,10 @@ use Rattle.cbs_house.specs.declared.poll.Poll.{Poll}
 use Rattle.cbs_house.specs.declared.poll.Poll.TheVariants.{Nothing, Took, Closed, Full, OutOfMemory, NoSuchServer}
 use Rattle.cbs_house.specs.Clients.{server_of, sent_by}
 use Rattle.cbs_house.specs.Housed.{Housed}
-use Rattle.cbs_house.specs.Houses.{core_of, rings_of, received, known, HoldsNoJob, Made, Moves, LooksOnly, Polled}
+use Rattle.cbs_house.specs.Houses.{core_of, rings_of, received, known, Made, Moves, LooksOnly, Polled}
+use Rattle.cbs_core.specs.Held.{HoldsNoJob, held_at}
+use Rattle.cbs_house.specs.Collected.{shelf_at}
+use Rattle.cbs_house.proofs.Keeping.{counts}
 use Rattle.cbs_house.specs.Messages.{has_end, end_is_last}
 use Rattle.cbs_house.specs.Ringed.{IsOpened}
 use Rattle.cbs_house.specs.Rounds.{ServesOn, Standing, IsTaken, IsSettled}
@@ -171,7 +174,13 @@ module _ {W A : Type 0} {g : Ghosts W} where
         let full : Polled work a s Full b = rw e at k in
         let l = ap length (none s) in
         let some = housed.backlog in
-        omega (arith, l, some, full.3)
+        let k = housed.servers s full.1.within in
+        let held = held_at (core_of a) s in
+        let results = (shelf_at a.collector s).results in
+        let all = counts work held held (received a s) (received a s) results results k in
+        let accepted = k.accepted in
+        let finished = k.finished in
+        omega (arith, l, some, full.3, all, accepted, finished)
 
 pub answered_ok : {T E X : Type 0} (r : Result T E) (P : Type 0) (Q : E → Type 0) → MatchResult r (λ _. X) Q → (X → P) → OnOk r P
 answered_ok (Ok x) P Q m f = f m

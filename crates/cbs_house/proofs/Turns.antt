@@ -13,7 +13,8 @@ use Rattle.cbs_house.specs.declared.poll.Poll.TheVariants.{Nothing, Took, Closed
 use Rattle.cbs_house.specs.Housed.{Housed}
 use Rattle.cbs_house.specs.Houses.{core_of, rings_of, Made, Polled}
 use Rattle.cbs_house.specs.Rounds.{popped_by, ServesOn}
-use Rattle.cbs_house.specs.Steps.{pops, EachAllowed, MayServe}
+use Rattle.cbs_house.specs.Steps.{pops, MayServe}
+use Rattle.cbs_core.specs.Continuations.{EachAllowed}
 use Rattle.cbs_house.specs.Turns.{ArePolls, steps_in, TakesTurn, TakesExactly, TakesTurns}
 use Rattle.cbs_house.proofs.Making.{made_nothing, made_both}
 use Rattle.cbs_house.proofs.Moving.{serves_then}
@@ -103,24 +104,24 @@ module _ {W A : Type 0} {g : Ghosts W} (work : Meaning W) where
   polled_few a b n k h = let l = polls_few 0 n h.polls (omega arith) h.each in let e = h.count in omega (arith, l, e)
 
   -- all servers are polled, and then the house runs
-  pub turn_taken : (a b c : House W A g) (n k : ℕ) → n ≡ length (core_of a).servers → HasPolled a b n k → Made work b c (Run ∷ []) → TakesTurn work a c k
+  pub turn_taken : (a b c : House W A g) (n k : ℕ) → n ≡ length (core_of a).faces → HasPolled a b n k → Made work b c (Run ∷ []) → TakesTurn work a c k
   turn_taken a b c n k e h m = record { polls = h.polls; each = rw (← e) h.each; made = made_both work a b c h.polls (Run ∷ []) h.made m; count = h.count }
 
-  pub turn_few : (a b : House W A g) (n : ℕ) → TakesTurn work a b n → n ≤ length (core_of a).servers
-  turn_few a b n t = let h = polls_few 0 (length (core_of a).servers) t.polls (omega arith) t.each in let e = t.count in omega (arith, h, e)
+  pub turn_few : (a b : House W A g) (n : ℕ) → TakesTurn work a b n → n ≤ length (core_of a).faces
+  turn_few a b n t = let h = polls_few 0 (length (core_of a).faces) t.polls (omega arith) t.each in let e = t.count in omega (arith, h, e)
 
   -- the number of servers is that of the rings
-  pub same_servers : (a b : House W A g) → Housed work a.core a.rings a.collector → Housed work b.core b.rings b.collector → rings_of b ≡ rings_of a → length (core_of b).servers ≡ length (core_of a).servers
+  pub same_servers : (a b : House W A g) → Housed work a.core a.rings a.collector → Housed work b.core b.rings b.collector → rings_of b ≡ rings_of a → length (core_of b).faces ≡ length (core_of a).faces
   same_servers a b p q e = sym q.ring_count ∙ (ap length e ∙ p.ring_count)
 
   pub turns_none : (a : House W A g) → TakesExactly work 0 a a 0
   turns_none a = record { polls = []; each = tt; made = made_nothing work a; turns = refl; count = refl }
 
   -- one more turn
-  pub turns_next : (a b c : House W A g) (n k m : ℕ) → length (core_of b).servers ≡ length (core_of a).servers → TakesExactly work n a b k → TakesTurn work b c m → TakesExactly work (n + 1) a c (k + m)
+  pub turns_next : (a b c : House W A g) (n k m : ℕ) → length (core_of b).faces ≡ length (core_of a).faces → TakesExactly work n a b k → TakesTurn work b c m → TakesExactly work (n + 1) a c (k + m)
   turns_next a b c n k m e h t = record {
     polls = h.polls ++ t.polls ∷ [];
-    each = each-append (length (core_of a).servers) h.polls t.polls h.each (rw (← e) t.each);
+    each = each-append (length (core_of a).faces) h.polls t.polls h.each (rw (← e) t.each);
     made = rw (steps_in-append h.polls t.polls) (made_both work a b c (steps_in h.polls) (t.polls ++ Run ∷ []) h.made t.made);
     turns = let i = h.turns in omega (arith, length-append h.polls (t.polls ∷ []), i);
     count =
@@ -136,7 +137,7 @@ module _ {W A : Type 0} {g : Ghosts W} (work : Meaning W) where
   serves_turns : (most : ℕ) (servers : List ℕ) (a b : House W A g) (n : ℕ) → TakesTurns work most servers a b n → ServesOn work a b
   serves_turns most servers a b n t =
       let k = t.taken in
-      record { moves = (n, record { some = (steps_in k.polls, k.made, λ M agrees. allowed_turns work (length (core_of a).servers) k.polls M k.each, k.count) }) }
+      record { moves = (n, record { some = (steps_in k.polls, k.made, λ M agrees. allowed_turns work (length (core_of a).faces) k.polls M k.each, k.count) }) }
 
   -- a round, and what is done behind it
   pub serves_round : (most : ℕ) (servers : List ℕ) (a b c d : House W A g) (n : ℕ) → ServesOn work a b → TakesTurns work most servers b c n → ServesOn work c d → ServesOn work a d

@@ -3,7 +3,8 @@ use Rattle.std.specs.Prelude.{ℕ, ◌≡◌, ◌≢◌, ◌⊎◌, ◌≤◌, �
 use mathlib.Core.List.{IsPrefix}
 use Rattle.cbs_job.specs.Work.{Meaning, whole}
 use Rattle.cbs_job.specs.declared.work.Work.{Ghosts}
-use Rattle.cbs_core.specs.Held.{CoreHeld, HasPlace, held_at}
+use Rattle.cbs_core.specs.Faces.{face_at, backlog_of}
+use Rattle.cbs_core.specs.Held.{CoreHeld, IsOpen, Accepts, HasRoom}
 use Rattle.cbs_core.specs.History.{History}
 use Rattle.cbs_core.specs.declared.error.CoreError.{CoreError}
 use Rattle.cbs_core.specs.declared.reply.Ran.{Ran}
@@ -21,7 +22,8 @@ use Rattle.cbs_house.specs.Collected.{shelf_at}
 use Rattle.cbs_house.specs.Messages.{jobs_among}
 use Rattle.cbs_house.specs.Ringed.{rings_in, received_in, known_in}
 use Rattle.cbs_house.specs.Rings.{Ring}
-use Rattle.cbs_house.specs.Steps.{Follows, AllAllowed, messages_of, pops}
+use Rattle.cbs_house.specs.Steps.{messages_of, pops}
+use Rattle.cbs_core.specs.Continuations.{Follows, AllAllowed}
 
 module _ {W A : Type 0} {g : Ghosts W} where
   -- what the house's core holds
@@ -74,33 +76,10 @@ abbrev pub view_answer : Result ServerView CoreError → Result ServerView House
 view_answer (Ok view) = Ok view
 view_answer (Err e) = Err house_error.NoSuchServer
 
--- the core holds a job: an accepted job is not finished
-abbrev pub HoldsJob : {W : Type 0} → CoreHeld W → Type 0
-HoldsJob core = (s : ℕ) × (0 < length (held_at core.servers s).jobs)
-
--- the core holds no job: every accepted job is finished
-abbrev pub HoldsNoJob : {W : Type 0} → CoreHeld W → Type 0
-HoldsNoJob core = (s : ℕ) → (held_at core.servers s).jobs ≡ []
-
 module _ {W A : Type 0} {g : Ghosts W} where
   -- every job received is finished: the results of each server are what those jobs come to, in order
   abbrev pub AllFinished : Meaning W → House W A g → Type 0
-  AllFinished work h = (s : ℕ) → s < length (core_of h).servers → results_of h s ≡ map (whole work) (jobs_among (received h s))
-
--- server s is there and open
-pub record IsOpen {W : Type 0} (core : CoreHeld W) (s : ℕ) : Type 0 where
-  pub within : s < length core.servers
-  pub unclosed : (held_at core.servers s).closed ≡ false
-
--- server s is there and closed
-pub record IsClosed {W : Type 0} (core : CoreHeld W) (s : ℕ) : Type 0 where
-  pub within : s < length core.servers
-  pub closed : (held_at core.servers s).closed ≡ true
-
--- a job of server s would be accepted
-pub record Accepts {W : Type 0} (core : CoreHeld W) (s : ℕ) : Type 0 where
-  pub is_open : IsOpen core s
-  pub few : length (held_at core.servers s).jobs < core.backlog
+  AllFinished work h = (s : ℕ) → s < length (core_of h).faces → results_of h s ≡ map (whole work) (jobs_among (received h s))
 
 module _ {W A : Type 0} {g : Ghosts W} where
   -- the house made some steps that each may stand where they stand, and they took n messages
@@ -112,17 +91,17 @@ module _ {W A : Type 0} {g : Ghosts W} where
   -- server. Else the next message is popped: a job is accepted, as the number that it has among the jobs received; an end
   -- closes the server.
   abbrev pub Polled : Meaning W → House W A g → ℕ → Poll → House W A g → Type 0
-  Polled work old s Nothing new = Made work old new [] × (s < length (core_of old).servers) × (((held_at (core_of old).servers s).closed ≡ true) ⊎ (known new s ≡ []))
+  Polled work old s Nothing new = Made work old new [] × (s < length (core_of old).faces) × (((face_at (core_of old).faces s).closed ≡ true) ⊎ (known new s ≡ []))
   Polled work old s Full new =
-      Made work old new [] × IsOpen (core_of old) s × (0 < length (known new s)) × ((core_of old).backlog ≤ length (held_at (core_of old).servers s).jobs)
+      Made work old new [] × IsOpen (core_of old) s × (0 < length (known new s)) × ((core_of old).backlog ≤ backlog_of (face_at (core_of old).faces s))
   Polled work old s OutOfMemory new = Made work old new [] × Accepts (core_of old) s × (0 < length (known new s))
-  Polled work old s NoSuchServer new = Made work old new [] × (length (core_of old).servers ≤ s)
+  Polled work old s NoSuchServer new = Made work old new [] × (length (core_of old).faces ≤ s)
   Polled work old s (Took q) new = (job : W) × Made work old new (step.Submit s job ∷ []) × Accepts (core_of old) s × (q ≡ length (jobs_among (received old s)))
   Polled work old s Closed new = Made work old new (step.Close s ∷ []) × Accepts (core_of old) s
 
-  -- the next message of server s is seen, and there is a place for it and for a result
+  -- the next message of server s is seen, and there is room for it and for a result
   pub record CanTake (h : House W A g) (s : ℕ) : Type 0 where
-    pub place : HasPlace (core_of h) s
+    pub room : HasRoom (core_of h) s
     pub spare : 0 < (shelf_at h.collector s).spare
     pub next : 0 < length (known h s)
 

@@ -6,7 +6,8 @@ use Rattle.cbs_job.specs.declared.work.Work.{Ghosts}
 use Rattle.cbs_core.specs.declared.step.Step.{Step}
 use Rattle.cbs_core.specs.declared.step.Step.TheVariants.{Submit, Run, Advance, Close}
 use Rattle.cbs_house.specs.declared.house.House.{House}
-use Rattle.cbs_house.specs.Houses.{core_of, IsClosed, Made}
+use Rattle.cbs_house.specs.Houses.{core_of, Made}
+use Rattle.cbs_core.specs.Held.{IsClosed}
 use Rattle.cbs_house.specs.Steps.{pops}
 
 module _ {W : Type 0} where
@@ -28,14 +29,14 @@ module _ {W A : Type 0} {g : Ghosts W} where
   -- the house took one turn, which took n messages: it polled each server once, in the order of their numbers, and then ran
   pub record TakesTurn (work : Meaning W) (old new : House W A g) (n : ℕ) : Type 0 where
     pub polls : List (Step W)
-    pub each : ArePolls 0 (length (core_of old).servers) polls
+    pub each : ArePolls 0 (length (core_of old).faces) polls
     pub made : Made work old new (polls ++ Run ∷ [])
     pub count : pops polls ≡ n
 
   -- the house took this many turns, one after another, which took n messages
   pub record TakesExactly (work : Meaning W) (exactly : ℕ) (old new : House W A g) (n : ℕ) : Type 0 where
     pub polls : List (List (Step W))
-    pub each : AllByRecursion (λ xs. ArePolls 0 (length (core_of old).servers) xs) polls
+    pub each : AllByRecursion (λ xs. ArePolls 0 (length (core_of old).faces) xs) polls
     pub made : Made work old new (steps_in polls)
     pub turns : length polls ≡ exactly
     pub count : pops (steps_in polls) ≡ n

@@ -26,20 +26,21 @@ pub struct House<W: Work, A: Allocator = Global> {
 impl<W: Work, A: Allocator> House<W, A> {
     ghost use Rattle.std.specs.Prelude.{ℕ, ◌≡◌, ◌↔◌, IsTrue, ◌<◌, ◌≤◌, ◌+◌, ◌*◌, [], ◌∷◌, ◌++◌, length, slice_get, Ok, Err, Some, None, IfSome, IfNone, IfOk, IfErr, OnOk, MatchResult, MatchOption};
     ghost use Rattle.cbs_core.specs.Agreement.{Agrees};
-    ghost use Rattle.cbs_core.specs.History.{History, world_after, reply_in};
+    ghost use Rattle.cbs_core.specs.History.{History, faces, world_after, reply_in};
     ghost use Rattle.cbs_core.specs.Quiet.{IsAtRest, IsIdleSpan};
-    ghost use Rattle.cbs_core.specs.Held.{held_at};
-    ghost use Rattle.cbs_core.specs.Views.{view_reply};
+    ghost use Rattle.cbs_core.specs.Held.{held_at, IsClosed};
+    ghost use Rattle.cbs_core.specs.Faces.{face_at, view_reply};
+    ghost use Rattle.cbs_core.specs.Laws.{IsWithinBudget};
     ghost use Rattle.cbs_core.specs.declared.reply.Reply.TheVariants as reply;
     ghost use Rattle.cbs_core.specs.declared.step.Step.TheVariants as step;
     ghost use Rattle.cbs_house.specs.Clients.{server_of, sent_by, free, SameClient};
     ghost use Rattle.cbs_house.specs.Housed.{KeepsServer};
-    ghost use Rattle.cbs_house.specs.Houses.{core_of, rings_of, received, known, results_of, view_answer, IsClosed, Made, LooksOnly, SameHouse, Polled, CanTake, Collects};
+    ghost use Rattle.cbs_house.specs.Houses.{core_of, rings_of, received, known, results_of, view_answer, Made, LooksOnly, SameHouse, Polled, CanTake, Collects};
     ghost use Rattle.cbs_house.specs.Ringed.{IsOpened};
 
     /// How many servers there are, at most 64. Their numbers are those below it.
     pub fn servers(&self) -> u16
-        ensures value { result ≡ length (core_of self.now).servers }
+        ensures value { result ≡ length (core_of self.now).faces }
         ensures few { result ≤ 64 }
     {
         self.core.servers()
@@ -189,9 +190,11 @@ impl<W: Work, A: Allocator> House<W, A> {
     /// What a server shows, or [`HouseError::NoSuchServer`].
     pub fn view(&self, server: u16) -> Result<ServerView, HouseError>
         ensures view { (M : History W) → Agrees W.meaning (core_of self.now) M
-            → result ≡ view_answer (view_reply W.meaning (slice_get (world_after W.meaning M).accounts server)) }
+            → result ≡ view_answer (view_reply (slice_get (faces W.meaning (world_after W.meaning M)) server)) }
         ensures early { (M : History W) → Agrees W.meaning (core_of self.now) M
             → IfOk result (λ view. let now = (world_after W.meaning M).now in view.deadline ≤ now + (now + 1) * 1000000000) }
+        ensures budget { (M : History W) → Agrees W.meaning (core_of self.now) M
+            → OnOk result (IsWithinBudget (face_at (faces W.meaning (world_after W.meaning M)) server)) }
     {
         match self.core.view(server) {
             Ok(view) => Ok(view),
@@ -201,10 +204,10 @@ impl<W: Work, A: Allocator> House<W, A> {
 
     /// The results of a server, in the order of its jobs, or [`HouseError::NoSuchServer`].
     pub fn results(&self, server: u16) -> Result<&[u64], HouseError>
-        ensures ok { IfOk result (λ results. (server < length (core_of self.now).servers) × (results.now ≡ results_of self.now server)) }
-        ensures error { IfErr result (λ error. (error ≡ HouseError.NoSuchServer) × (length (core_of self.now).servers ≤ server)) }
+        ensures ok { IfOk result (λ results. (server < length (core_of self.now).faces) × (results.now ≡ results_of self.now server)) }
+        ensures error { IfErr result (λ error. (error ≡ HouseError.NoSuchServer) × (length (core_of self.now).faces ≤ server)) }
         // At all times: with what the jobs held come to, they are what the jobs received come to.
-        ensures keeps { IfOk result (λ results. KeepsServer W.meaning (held_at (core_of self.now).servers server) (received self.now server) results.now) }
+        ensures keeps { IfOk result (λ results. KeepsServer W.meaning (held_at (core_of self.now) server) (received self.now server) results.now) }
     {
         match self.collector.results(server) {
             Some(results) => Ok(results),

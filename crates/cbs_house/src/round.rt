@@ -4,7 +4,8 @@ ghost use Rattle.std.specs.Prelude.{◌≡◌, ◌+◌, ◌*◌, ◌≤◌, ◌�
 ghost use Rattle.std.specs.List.{All};
 ghost use Rattle.std.specs.Thread.{IsSync, IsSend};
 ghost use Rattle.cbs_house.specs.Feeds.{IsOrderly, KeepsFeeds, EachSendsAtMost, SendsFeeds, servers_of, all_sent};
-ghost use Rattle.cbs_house.specs.Houses.{core_of, IsClosed};
+ghost use Rattle.cbs_house.specs.Houses.{core_of};
+ghost use Rattle.cbs_core.specs.Held.{IsClosed};
 ghost use Rattle.cbs_house.specs.Rounds.{popped_by, Ready};
 ghost use Rattle.cbs_house.specs.Turns.{TakesTurn, TakesTurns};
 
@@ -51,7 +52,7 @@ pub fn serve_round<R: Threads + Sync, G: Gate + Sync, W: Work + Send>(
     ensures sent { all_sent feeds.new ≡ all_sent feeds.old + result.sent }
     ensures most { result.sent ≤ turns * length feeds.old }
     ensures took { TakesTurns W.meaning turns (servers_of feeds.old) house.old house.new result.took }
-    ensures few { result.took ≤ turns * length (core_of house.old).servers }
+    ensures few { result.took ≤ turns * length (core_of house.old).faces }
 {
     let mut servers = [0u16; 64];
     let wanted = servers_of(feeds, &mut servers);
@@ -87,7 +88,7 @@ fn both_sides<R: Threads + Sync, G: Gate + Sync, W: Work + Send>(
     ensures sent { all_sent feeds.new ≡ all_sent feeds.old + result.0 }
     ensures most { result.0 ≤ turns * length feeds.old }
     ensures took { TakesTurns W.meaning turns wanted.now house.old house.new result.1 }
-    ensures few { result.1 ≤ turns * length (core_of house.old).servers }
+    ensures few { result.1 ≤ turns * length (core_of house.old).faces }
 {
     join_mut(
         rt,
@@ -97,7 +98,7 @@ fn both_sides<R: Threads + Sync, G: Gate + Sync, W: Work + Send>(
         { send_all(rt, gate, turns, feeds) },
         &mut || -> u64
             requires { turns ≤ 1000000000 }
-            ensures { TakesTurns W.meaning turns wanted.entry.now house.entry.now house.exit.now result × (result ≤ turns * length (core_of house.entry.now).servers) }
+            ensures { TakesTurns W.meaning turns wanted.entry.now house.entry.now house.exit.now result × (result ≤ turns * length (core_of house.entry.now).faces) }
         { house_turns(gate, turns, wanted, house) },
     )
 }
@@ -106,7 +107,7 @@ fn both_sides<R: Threads + Sync, G: Gate + Sync, W: Work + Send>(
 fn house_turns<G: Gate, W: Work>(gate: &G, turns: u64, wanted: &[u16], house: &mut House<W>) -> u64
     requires { turns ≤ 1000000000 }
     ensures turns { TakesTurns W.meaning turns wanted.now house.old house.new result }
-    ensures few { result ≤ turns * length (core_of house.old).servers }
+    ensures few { result ≤ turns * length (core_of house.old).faces }
 {
     let mut took = 0;
     for _ in 0..turns {
@@ -128,7 +129,7 @@ fn all_closed<W: Work>(house: &House<W>, servers: &[u16]) -> bool
 /// One turn of the house: it polls each server once, and runs once. How many messages it took.
 fn house_turn<G: Gate, W: Work>(gate: &G, house: &mut House<W>) -> u64
     ensures turn { TakesTurn W.meaning house.old house.new result }
-    ensures few { result ≤ length (core_of house.old).servers }
+    ensures few { result ≤ length (core_of house.old).faces }
     ensures most { result ≤ 64 }
 {
     let mut took = 0;

@@ -3,7 +3,8 @@
 ghost use Rattle.std.specs.Prelude.{ℕ, suc, ◌≡◌, ◌≢◌, ◌+◌, ◌≤◌, ◌↔◌, true, length, IsTrue, IfOk, OnOk, IfErr, MatchResult};
 ghost use Rattle.std.specs.List.{All};
 ghost use Rattle.cbs_house.specs.Feeds.{IsDone, KeepsFeed, KeepsFeeds, all_unsent};
-ghost use Rattle.cbs_house.specs.Houses.{core_of, rings_of, HoldsNoJob, LooksOnly};
+ghost use Rattle.cbs_house.specs.Houses.{core_of, rings_of, LooksOnly};
+ghost use Rattle.cbs_core.specs.Held.{HoldsNoJob};
 ghost use Rattle.cbs_house.specs.Ringed.{IsOpened};
 ghost use Rattle.cbs_house.specs.Rounds.{Ready, ServesOn, Standing, IsTaken, IsSettled, IsServed, Halts, Stops};
 

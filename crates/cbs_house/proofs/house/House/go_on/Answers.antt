@@ -1,7 +1,7 @@
 use Rattle.cbs_core.specs.History.{world_after}
 use Rattle.cbs_core.specs.declared.step.Step.TheVariants.{Run, Advance}
-use Rattle.cbs_house.specs.Steps.{MayDrain}
-use Rattle.cbs_house.proofs.Draining.{run_later, advance_later, busy_by, later_by}
+use Rattle.cbs_core.specs.Continuations.{MayDrain}
+use Rattle.cbs_core.proofs.Laws.{run_later, advance_later, busy_by, later_by}
 use Rattle.cbs_house.proofs.Making.{on_ok, span_granted}
 use Rattle.cbs_house.proofs.Moving.{moves_step}
 use Rattle.cbs_house.proofs.house.House.go_on.Goals as goal
