@@ -1,6 +1,7 @@
 //! Completions, as a collector takes them.
 
-use crate::{CollectError, Collector};
+use super::same;
+use cbs_house::{CollectError, Collector};
 use cbs_job::Completion;
 use std::alloc::Global;
 use std::test::Fail;
@@ -50,13 +51,28 @@ fn collector_of(alloc: Global, servers: u16) -> Result<Collector, Fail> {
 fn only_the_next_completion_is_taken(rt: HostRuntime) -> Result<(), Fail> {
     let mut collector = collector_of(rt.alloc(), 1)?;
     for _time in 0..2 {
-        assert_eq!(rt; collector.make_room(0), Ok(()));
-        assert_eq!(rt; collector.expect(0), Ok(()));
+        same(
+            &rt,
+            "collector.make_room(0)",
+            collector.make_room(0),
+            Ok(()),
+        );
+        same(&rt, "collector.expect(0)", collector.expect(0), Ok(()));
     }
     assert!(rt; answers(&mut collector, &ROWS));
     assert!(rt; collector.results(0) == Some([6u64, 7].as_slice()));
-    assert_eq!(rt; collector.expect(9), Err(CollectError::Stranger));
-    assert_eq!(rt; collector.make_room(9), Err(CollectError::Stranger));
+    same(
+        &rt,
+        "collector.expect(9)",
+        collector.expect(9),
+        Err(CollectError::Stranger),
+    );
+    same(
+        &rt,
+        "collector.make_room(9)",
+        collector.make_room(9),
+        Err(CollectError::Stranger),
+    );
     assert!(rt; collector.results(9).is_none());
     Ok(())
 }
@@ -64,8 +80,13 @@ fn only_the_next_completion_is_taken(rt: HostRuntime) -> Result<(), Fail> {
 #[test]
 fn each_server_has_its_own_results(rt: HostRuntime) -> Result<(), Fail> {
     let mut collector = collector_of(rt.alloc(), 2)?;
-    assert_eq!(rt; collector.make_room(1), Ok(()));
-    assert_eq!(rt; collector.expect(1), Ok(()));
+    same(
+        &rt,
+        "collector.make_room(1)",
+        collector.make_room(1),
+        Ok(()),
+    );
+    same(&rt, "collector.expect(1)", collector.expect(1), Ok(()));
     assert!(rt; answers(&mut collector, &SECOND));
     assert!(rt; collector.results(0) == Some([].as_slice()));
     assert!(rt; collector.results(1) == Some([3u64].as_slice()));
@@ -75,6 +96,11 @@ fn each_server_has_its_own_results(rt: HostRuntime) -> Result<(), Fail> {
         seq: 0,
         result: 1,
     };
-    assert_eq!(rt; none.take(done), Err(CollectError::Stranger));
+    same(
+        &rt,
+        "none.take(done)",
+        none.take(done),
+        Err(CollectError::Stranger),
+    );
     Ok(())
 }

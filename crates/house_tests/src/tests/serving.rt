@@ -4,8 +4,10 @@ ghost use Rattle.std.specs.Prelude.{◌<◌, length, IfOk};
 ghost use Rattle.cbs_house.specs.Rounds.{Ready};
 
 use super::meeting::{Meet, Shut};
-use super::{plan_of, sum_of};
-use crate::{Feed, House, HouseError, OpenGate, Round, feeds_of, open_house, serve, serve_round};
+use super::{plan_of, same, sum_of};
+use cbs_house::{
+    Feed, House, HouseError, OpenGate, Round, feeds_of, open_house, serve, serve_round,
+};
 use cbs_job::{SumJob, Task};
 use cbs_rules::Mode;
 use std::alloc::Global;
@@ -70,9 +72,9 @@ fn both_sides_of_a_round_run_at_once(rt: HostRuntime) -> Result<(), Fail> {
     let (mut house, mut feeds) = two_feeds(&rt, alloc)?;
     let gate = Meet::new(true);
     let round = serve_round(&rt, &mut house, &mut feeds, 1_000_000_000, &gate);
-    assert_eq!(rt; round, Round { sent: 6, took: 6 });
+    same(&rt, "round", round, Round { sent: 6, took: 6 });
     assert!(rt; gate.first.met() == 3 && gate.second.met() == 2);
-    assert_eq!(rt; house.drain(), Ok(()));
+    same(&rt, "house.drain()", house.drain(), Ok(()));
     assert!(rt; house.results(0) == Ok([1u64, 2, 3].as_slice()));
     assert!(rt; house.results(1) == Ok([4u64].as_slice()));
     Ok(())
@@ -83,7 +85,12 @@ fn serving_runs_both_sides_at_once(rt: HostRuntime) -> Result<(), Fail> {
     let alloc = rt.alloc();
     let (mut house, mut feeds) = two_feeds(&rt, alloc)?;
     let gate = Meet::new(false);
-    assert_eq!(rt; serve(&rt, &mut house, &mut feeds, &gate), Ok(()));
+    same(
+        &rt,
+        "serve(house, feeds, gate)",
+        serve(&rt, &mut house, &mut feeds, &gate),
+        Ok(()),
+    );
     assert!(rt; gate.first.met() == 3);
     assert!(rt; house.results(0) == Ok([1u64, 2, 3].as_slice()));
     assert!(rt; house.results(1) == Ok([4u64].as_slice()));
@@ -96,13 +103,20 @@ fn a_gate_that_holds_all_back_stalls(rt: HostRuntime) -> Result<(), Fail> {
     let lists = vec![in alloc; sums_of(&rt, alloc, &[&[1], &[2]])?]?;
     let (mut house, mut feeds) = opened(&rt, alloc, &[(2, 5)], 4, lists)?;
     let round = serve_round(&rt, &mut house, &mut feeds, 10, &Shut);
-    assert_eq!(rt; round, Round { sent: 0, took: 0 });
+    same(&rt, "round", round, Round { sent: 0, took: 0 });
     assert!(rt; feeds.len() == 1);
-    assert_eq!(rt; standing(&mut house, &mut feeds, 0), 0);
+    same(
+        &rt,
+        "standing(house, feeds, 0)",
+        standing(&mut house, &mut feeds, 0),
+        0,
+    );
     assert!(rt; house.results(0) == Ok([].as_slice()));
-    assert_eq!(rt;
+    same(
+        &rt,
+        "serve(house, feeds, Shut)",
         serve(&rt, &mut house, &mut feeds, &Shut),
-        Err(HouseError::Stalled)
+        Err(HouseError::Stalled),
     );
     assert!(rt; house.results(0) == Ok([].as_slice()));
     let feed = feeds.pop().expect(&rt, "a feed");
@@ -115,9 +129,19 @@ fn served_feeds_may_be_served_again(rt: HostRuntime) -> Result<(), Fail> {
     let alloc = rt.alloc();
     let lists = vec![in alloc; sums_of(&rt, alloc, &[&[1], &[2]])?]?;
     let (mut house, mut feeds) = opened(&rt, alloc, &[(2, 5)], 4, lists)?;
-    assert_eq!(rt; serve(&rt, &mut house, &mut feeds, &OpenGate), Ok(()));
+    same(
+        &rt,
+        "serve(house, feeds, OpenGate)",
+        serve(&rt, &mut house, &mut feeds, &OpenGate),
+        Ok(()),
+    );
     assert!(rt; house.results(0) == Ok([1u64, 2].as_slice()));
-    assert_eq!(rt; serve(&rt, &mut house, &mut feeds, &OpenGate), Ok(()));
+    same(
+        &rt,
+        "serve(house, feeds, OpenGate)",
+        serve(&rt, &mut house, &mut feeds, &OpenGate),
+        Ok(()),
+    );
     assert!(rt; house.results(0) == Ok([1u64, 2].as_slice()));
     let feed = feeds.pop().expect(&rt, "a feed");
     assert!(rt; feed.left() == 0 && feed.done());
@@ -134,7 +158,12 @@ fn every_ring_gives_the_same_results(rt: HostRuntime) -> Result<(), Fail> {
             sums_of(&rt, alloc, &[&[10], &[20, 30]])?,
         ]?;
         let (mut house, mut feeds) = opened(&rt, alloc, &[(2, 5), (1, 10), (1, 4)], ring, lists)?;
-        assert_eq!(rt; serve(&rt, &mut house, &mut feeds, &OpenGate), Ok(()));
+        same(
+            &rt,
+            "serve(house, feeds, OpenGate)",
+            serve(&rt, &mut house, &mut feeds, &OpenGate),
+            Ok(()),
+        );
         assert!(rt; house.results(0) == Ok([6u64, 9].as_slice()));
         assert!(rt; house.results(1) == Ok([].as_slice()));
         assert!(rt; house.results(2) == Ok([10u64, 50].as_slice()));

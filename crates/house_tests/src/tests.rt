@@ -10,7 +10,13 @@ mod serving;
 use cbs_job::{SumJob, Task};
 use cbs_rate::{Bound, Plan, Reservation};
 use std::alloc::Global;
+use std::fmt::Debug;
 use std::process::Abort;
+
+/// Stops unless an answer is the one that is wanted.
+fn same<T: PartialEq + Debug + Drop>(rt: &impl Abort, what: &str, answer: T, wanted: T) {
+    assert!(rt; answer == wanted, "{what}: {answer:?}, and not {wanted:?}");
+}
 
 /// A plan of reservations, each a budget and a period.
 fn plan_of(rt: &impl Abort, rates: &[(u64, u64)]) -> Plan {

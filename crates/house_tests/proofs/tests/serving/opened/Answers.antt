@@ -1,6 +1,6 @@
 use Rattle.std.proofs.Common.{◌≤◌, length, rules}
 use Rattle.cbs_house.proofs.Feeding.{ready_new}
-use Rattle.cbs_house.proofs.tests.serving.opened.Goals as goal
+use Rattle.house_tests.proofs.tests.serving.opened.Goals as goal
 
 pub returns : goal.returns
 returns g c =

@@ -1,6 +1,6 @@
 //! A gate that sees whether the parts of a round run at once.
 
-use crate::{Gate, Poll};
+use cbs_house::{Gate, Poll};
 use std::sync::atomic::{AtomicU64, Ordering};
 
 /// How often a call looks for the others.

@@ -1,6 +1,6 @@
 //! What the errors say.
 
-use crate::{CollectError, HouseError, SendError};
+use cbs_house::{CollectError, HouseError, SendError};
 use std::test::Fail;
 
 #[test]

@@ -5,9 +5,9 @@ ghost use Rattle.cbs_house.specs.Clients.{SameClient};
 ghost use Rattle.cbs_house.specs.Houses.{rings_of};
 ghost use Rattle.cbs_house.specs.Ringed.{IsOpened};
 
-use super::{plan_of, sum_of};
-use crate::{Client, CollectError, Collector, House, HouseError, Poll, feeds_of, open_house};
+use super::{plan_of, same, sum_of};
 use cbs_core::Ran;
+use cbs_house::{Client, CollectError, Collector, House, HouseError, Poll, feeds_of, open_house};
 use cbs_job::{Completion, SumJob, Task};
 use cbs_rules::Mode;
 use linked_list_allocator::LocalHeap;
@@ -24,7 +24,7 @@ fn filled<'a>(rt: &impl Abort, alloc: Global, heap: &'a LocalHeap) -> Vec<Vec<u8
         };
         ballast.push(block).ok().expect(rt, "memory");
     }
-    assert_eq!(rt; heap.free(), 0);
+    same(rt, "heap.free()", heap.free(), 0);
     ballast
 }
 
@@ -81,8 +81,8 @@ fn a_house_takes_memory_or_says_so(rt: HostRuntime) {
             enough = size;
             break;
         };
-        assert_eq!(rt; error, HouseError::OutOfMemory);
-        assert_eq!(rt; heap.used(), 0);
+        same(&rt, "error", error, HouseError::OutOfMemory);
+        same(&rt, "heap.used()", heap.used(), 0);
     }
     assert!(rt; enough > 1);
 }
@@ -97,8 +97,8 @@ fn a_collector_takes_memory_or_says_so(rt: HostRuntime) {
             enough = size;
             break;
         };
-        assert_eq!(rt; error, CollectError::OutOfMemory);
-        assert_eq!(rt; heap.used(), 0);
+        same(&rt, "error", error, CollectError::OutOfMemory);
+        same(&rt, "heap.used()", heap.used(), 0);
     }
     assert!(rt; enough > 1);
 }
@@ -108,22 +108,72 @@ fn an_announcement_that_finds_no_memory_is_not_made(rt: HostRuntime) {
     let alloc = rt.alloc();
     let heap = LocalHeap::new(alloc, 1 << 12).expect(&rt, "a heap");
     let mut collector = Collector::new(&heap, 2).expect(&rt, "a collector");
-    assert_eq!(rt; collector.expect(0), Ok(()));
+    same(&rt, "collector.expect(0)", collector.expect(0), Ok(()));
     let ballast = filled(&rt, alloc, &heap);
-    assert_eq!(rt; collector.make_room(1), Err(CollectError::OutOfMemory));
-    assert_eq!(rt; collector.expect(1), Err(CollectError::OutOfMemory));
-    assert_eq!(rt; collector.make_room(2), Err(CollectError::Stranger));
-    assert_eq!(rt; collector.expect(2), Err(CollectError::Stranger));
-    assert_eq!(rt; taken(&mut collector, 1, 0, 9), Err(CollectError::Early));
-    assert_eq!(rt; taken(&mut collector, 0, 1, 7), Err(CollectError::Early));
-    assert_eq!(rt; taken(&mut collector, 0, 0, 6), Ok(()));
+    same(
+        &rt,
+        "collector.make_room(1)",
+        collector.make_room(1),
+        Err(CollectError::OutOfMemory),
+    );
+    same(
+        &rt,
+        "collector.expect(1)",
+        collector.expect(1),
+        Err(CollectError::OutOfMemory),
+    );
+    same(
+        &rt,
+        "collector.make_room(2)",
+        collector.make_room(2),
+        Err(CollectError::Stranger),
+    );
+    same(
+        &rt,
+        "collector.expect(2)",
+        collector.expect(2),
+        Err(CollectError::Stranger),
+    );
+    same(
+        &rt,
+        "taken(collector, 1, 0, 9)",
+        taken(&mut collector, 1, 0, 9),
+        Err(CollectError::Early),
+    );
+    same(
+        &rt,
+        "taken(collector, 0, 1, 7)",
+        taken(&mut collector, 0, 1, 7),
+        Err(CollectError::Early),
+    );
+    same(
+        &rt,
+        "taken(collector, 0, 0, 6)",
+        taken(&mut collector, 0, 0, 6),
+        Ok(()),
+    );
     assert!(rt; collector.results(0) == Some([6u64].as_slice()));
     assert!(rt; collector.results(1) == Some([].as_slice()));
     drop(ballast);
-    assert_eq!(rt; collector.make_room(1), Ok(()));
-    assert_eq!(rt; taken(&mut collector, 1, 0, 9), Err(CollectError::Early));
-    assert_eq!(rt; collector.expect(1), Ok(()));
-    assert_eq!(rt; taken(&mut collector, 1, 0, 9), Ok(()));
+    same(
+        &rt,
+        "collector.make_room(1)",
+        collector.make_room(1),
+        Ok(()),
+    );
+    same(
+        &rt,
+        "taken(collector, 1, 0, 9)",
+        taken(&mut collector, 1, 0, 9),
+        Err(CollectError::Early),
+    );
+    same(&rt, "collector.expect(1)", collector.expect(1), Ok(()));
+    same(
+        &rt,
+        "taken(collector, 1, 0, 9)",
+        taken(&mut collector, 1, 0, 9),
+        Ok(()),
+    );
     assert!(rt; collector.results(0) == Some([6u64].as_slice()));
     assert!(rt; collector.results(1) == Some([9u64].as_slice()));
 }
@@ -133,7 +183,12 @@ fn what_is_announced_keeps_its_place(rt: HostRuntime) {
     let alloc = rt.alloc();
     let heap = LocalHeap::new(alloc, 1 << 12).expect(&rt, "a heap");
     let mut collector = Collector::new(&heap, 1).expect(&rt, "a collector");
-    assert_eq!(rt; collector.make_room(0), Ok(()));
+    same(
+        &rt,
+        "collector.make_room(0)",
+        collector.make_room(0),
+        Ok(()),
+    );
     let ballast = filled(&rt, alloc, &heap);
     let mut announced = 0;
     for n in 0..64 {
@@ -144,25 +199,52 @@ fn what_is_announced_keeps_its_place(rt: HostRuntime) {
     }
     assert!(rt; announced > 0);
     for _time in 0..2 {
-        assert_eq!(rt; collector.make_room(0), Err(CollectError::OutOfMemory));
-        assert_eq!(rt; collector.expect(0), Err(CollectError::OutOfMemory));
+        same(
+            &rt,
+            "collector.make_room(0)",
+            collector.make_room(0),
+            Err(CollectError::OutOfMemory),
+        );
+        same(
+            &rt,
+            "collector.expect(0)",
+            collector.expect(0),
+            Err(CollectError::OutOfMemory),
+        );
     }
     for seq in 0..announced {
-        assert_eq!(rt; taken(&mut collector, 0, seq, 6), Ok(()));
+        same(
+            &rt,
+            "taken(collector, 0, seq, 6)",
+            taken(&mut collector, 0, seq, 6),
+            Ok(()),
+        );
     }
-    assert_eq!(rt;
+    same(
+        &rt,
+        "taken(collector, 0, announced, 7)",
         taken(&mut collector, 0, announced, 7),
-        Err(CollectError::Early)
+        Err(CollectError::Early),
     );
-    assert_eq!(rt; collector.expect(0), Err(CollectError::OutOfMemory));
+    same(
+        &rt,
+        "collector.expect(0)",
+        collector.expect(0),
+        Err(CollectError::OutOfMemory),
+    );
     assert!(rt;
         collector
             .results(0)
             .is_some_and(|r| r.len() as u64 == announced)
     );
     drop(ballast);
-    assert_eq!(rt; collector.expect(0), Ok(()));
-    assert_eq!(rt; taken(&mut collector, 0, announced, 7), Ok(()));
+    same(&rt, "collector.expect(0)", collector.expect(0), Ok(()));
+    same(
+        &rt,
+        "taken(collector, 0, announced, 7)",
+        taken(&mut collector, 0, announced, 7),
+        Ok(()),
+    );
     assert!(rt; collector.results(0).is_some_and(|r| r.last() == Some(&7)));
 }
 
@@ -193,7 +275,12 @@ fn polled_as_memory_grows<'a>(
         if poll == Poll::Took(0) {
             return grown && standing == 1;
         }
-        assert_eq!(rt; (poll, standing), (Poll::OutOfMemory, 2));
+        same(
+            rt,
+            "(poll, standing)",
+            (poll, standing),
+            (Poll::OutOfMemory, 2),
+        );
         assert!(rt; house.results(0) == Ok([].as_slice()));
         grown |= freed > 0 && heap.free() == 0;
         ballast.pop();
@@ -207,19 +294,44 @@ fn a_message_that_finds_no_memory_stays_in_its_ring(rt: HostRuntime) -> Result<(
     let heap = LocalHeap::new(alloc, 1 << 13).expect(&rt, "a heap");
     let (mut house, mut client, _second) = two_clients(&rt, &heap, Mode::Soft)?;
     assert!(rt; sends(&mut client, sum_of(&rt, alloc, &[5]), 0));
-    assert_eq!(rt; client.end(), Ok(()));
+    same(&rt, "client.end()", client.end(), Ok(()));
     let ballast = filled(&rt, alloc, &heap);
-    assert_eq!(rt; polled(&mut house, &mut client), (Poll::OutOfMemory, 2));
-    assert_eq!(rt; polled(&mut house, &mut client), (Poll::OutOfMemory, 2));
-    assert_eq!(rt; house.drain(), Ok(()));
-    assert_eq!(rt; (house.now(), house.run()), (0, Ran::Idle));
+    same(
+        &rt,
+        "polled(house, client)",
+        polled(&mut house, &mut client),
+        (Poll::OutOfMemory, 2),
+    );
+    same(
+        &rt,
+        "polled(house, client)",
+        polled(&mut house, &mut client),
+        (Poll::OutOfMemory, 2),
+    );
+    same(&rt, "house.drain()", house.drain(), Ok(()));
+    same(
+        &rt,
+        "(house.now(), house.run())",
+        (house.now(), house.run()),
+        (0, Ran::Idle),
+    );
     assert!(rt; house.results(0) == Ok([].as_slice()));
     drop(ballast);
-    assert_eq!(rt; polled(&mut house, &mut client), (Poll::Took(0), 1));
-    assert_eq!(rt; polled(&mut house, &mut client), (Poll::Closed, 0));
-    assert_eq!(rt; house.drain(), Ok(()));
+    same(
+        &rt,
+        "polled(house, client)",
+        polled(&mut house, &mut client),
+        (Poll::Took(0), 1),
+    );
+    same(
+        &rt,
+        "polled(house, client)",
+        polled(&mut house, &mut client),
+        (Poll::Closed, 0),
+    );
+    same(&rt, "house.drain()", house.drain(), Ok(()));
     assert!(rt; house.results(0) == Ok([5u64].as_slice()));
-    assert_eq!(rt; house.now(), 1);
+    same(&rt, "house.now()", house.now(), 1);
     Ok(())
 }
 
@@ -232,13 +344,13 @@ fn a_poll_takes_memory_or_says_so(rt: HostRuntime) -> Result<(), Fail> {
     assert!(rt; sends(&mut client, sum_of(&rt, alloc, &[7, 8]), 1));
     let mut ballast = filled(&rt, alloc, &heap);
     assert!(rt; polled_as_memory_grows(&rt, &heap, &mut house, &mut client, &mut ballast));
-    assert_eq!(rt; house.settle(&mut client), 1);
+    same(&rt, "house.settle(client)", house.settle(&mut client), 1);
     drop(ballast);
-    assert_eq!(rt; house.poll(0), Poll::Took(1));
-    assert_eq!(rt; house.settle(&mut client), 0);
-    assert_eq!(rt; house.drain(), Ok(()));
+    same(&rt, "house.poll(0)", house.poll(0), Poll::Took(1));
+    same(&rt, "house.settle(client)", house.settle(&mut client), 0);
+    same(&rt, "house.drain()", house.drain(), Ok(()));
     assert!(rt; house.results(0) == Ok([5u64, 15].as_slice()));
-    assert_eq!(rt; house.now(), 3);
+    same(&rt, "house.now()", house.now(), 3);
     Ok(())
 }
 
@@ -248,28 +360,33 @@ fn what_is_taken_is_done_without_memory(rt: HostRuntime) -> Result<(), Fail> {
     let heap = LocalHeap::new(alloc, 1 << 13).expect(&rt, "a heap");
     let (mut house, mut first, mut second) = two_clients(&rt, &heap, Mode::Throttled)?;
     assert!(rt; sends(&mut first, sum_of(&rt, alloc, &[1, 2, 3]), 0));
-    assert_eq!(rt; house.poll(0), Poll::Took(0));
+    same(&rt, "house.poll(0)", house.poll(0), Poll::Took(0));
     let ballast = filled(&rt, alloc, &heap);
-    assert_eq!(rt; house.poll(1), Poll::Nothing);
-    assert_eq!(rt; house.poll(2), Poll::NoSuchServer);
+    same(&rt, "house.poll(1)", house.poll(1), Poll::Nothing);
+    same(&rt, "house.poll(2)", house.poll(2), Poll::NoSuchServer);
     assert!(rt; sends(&mut first, sum_of(&rt, alloc, &[4]), 1));
     assert!(rt; sends(&mut second, sum_of(&rt, alloc, &[9]), 0));
-    assert_eq!(rt; first.end(), Ok(()));
-    assert_eq!(rt; house.settle(&mut first), 2);
-    assert_eq!(rt; house.settle(&mut second), 1);
-    assert_eq!(rt; house.run(), Ran::Unit { server: 0, seq: 0 });
-    assert_eq!(rt; house.advance(1), Ok(()));
-    assert_eq!(rt; house.poll(1), Poll::OutOfMemory);
+    same(&rt, "first.end()", first.end(), Ok(()));
+    same(&rt, "house.settle(first)", house.settle(&mut first), 2);
+    same(&rt, "house.settle(second)", house.settle(&mut second), 1);
+    same(
+        &rt,
+        "house.run()",
+        house.run(),
+        Ran::Unit { server: 0, seq: 0 },
+    );
+    same(&rt, "house.advance(1)", house.advance(1), Ok(()));
+    same(&rt, "house.poll(1)", house.poll(1), Poll::OutOfMemory);
 
     // The second unit ends at 3 and uses up the budget; the third runs from the deadline on, at 5.
-    assert_eq!(rt; house.drain(), Ok(()));
-    assert_eq!(rt; house.now(), 6);
+    same(&rt, "house.drain()", house.drain(), Ok(()));
+    same(&rt, "house.now()", house.now(), 6);
     assert!(rt; house.results(0) == Ok([6u64].as_slice()));
     drop(ballast);
-    assert_eq!(rt; house.poll(0), Poll::Took(1));
-    assert_eq!(rt; house.poll(0), Poll::Closed);
-    assert_eq!(rt; house.poll(1), Poll::Took(0));
-    assert_eq!(rt; house.drain(), Ok(()));
+    same(&rt, "house.poll(0)", house.poll(0), Poll::Took(1));
+    same(&rt, "house.poll(0)", house.poll(0), Poll::Closed);
+    same(&rt, "house.poll(1)", house.poll(1), Poll::Took(0));
+    same(&rt, "house.drain()", house.drain(), Ok(()));
     assert!(rt; house.results(0) == Ok([6u64, 4].as_slice()));
     assert!(rt; house.results(1) == Ok([9u64].as_slice()));
     Ok(())
