@@ -4,6 +4,7 @@ ghost use Rattle.std.specs.Prelude.{◌<◌, length, IfOk};
 ghost use Rattle.cbs_house.specs.Rounds.{Ready};
 
 use super::meeting::{Meet, Shut};
+use super::polling::{one_client, sends};
 use super::{plan_of, same, sum_of};
 use cbs_house::{
     Feed, House, HouseError, OpenGate, Round, feeds_of, open_house, serve, serve_round,
@@ -168,5 +169,18 @@ fn every_ring_gives_the_same_results(rt: HostRuntime) -> Result<(), Fail> {
         assert!(rt; house.results(1) == Ok([].as_slice()));
         assert!(rt; house.results(2) == Ok([10u64, 50].as_slice()));
     }
+    Ok(())
+}
+
+#[test]
+fn a_turn_polls_and_then_runs(rt: HostRuntime) -> Result<(), Fail> {
+    let alloc = rt.alloc();
+    let (mut house, mut client) = one_client(&rt, alloc, Mode::Soft, (2, 5), (1, 2))?;
+    assert!(rt; sends(&mut client, sum_of(&rt, alloc, &[1]), 0));
+    assert!(rt; sends(&mut client, sum_of(&rt, alloc, &[2]), 1));
+    let mut feeds = [Feed::new(client, Vec::new(alloc))];
+    let round = serve_round(&rt, &mut house, &mut feeds, 2, &Shut);
+    same(&rt, "two turns", round, Round { sent: 0, took: 2 });
+    assert!(rt; house.results(0) == Ok([1u64, 2].as_slice()));
     Ok(())
 }
