@@ -24,7 +24,7 @@ module _ {W A : Type 0} where
     pub known : known_items c ≡ []
 
 module _ {W A : Type 0} {g : Ghosts W} where
-  -- a client that has sent nothing, and that knows so many free places in its ring
-  pub record IsUnused (places : ℕ) (c : Client W A g) : Type 0 where
+  -- a client that has sent nothing, and that knows so many free slots in its ring
+  pub record IsUnused (slots : ℕ) (c : Client W A g) : Type 0 where
     pub sent : sent_by c ≡ []
-    pub free : free c ≡ places
+    pub free : free c ≡ slots

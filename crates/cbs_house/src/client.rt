@@ -91,7 +91,7 @@ impl<W: Work, A: Allocator> Client<W, A> {
     /// Sends a job, and answers the job's number among the sent jobs of the client.
     ///
     /// Refuses, in this order: [`SendError::Ended`] where the client has ended;
-    /// [`SendError::RingFull`] where the ring has no free place, or the client has sent `u64::MAX`
+    /// [`SendError::RingFull`] where the ring has no free slot, or the client has sent `u64::MAX`
     /// jobs. The job then comes back, and nothing was sent.
     #[tactic(auto, using(crate::proofs::Messages::pushed))]
     pub fn send(&mut self, task: Task<W>) -> Result<u64, SendRefused<W>>
@@ -100,7 +100,7 @@ impl<W: Work, A: Allocator> Client<W, A> {
         ensures back { IfErr result (λ refused. (refused.task ≡ task) × (sent_by self.new ≡ sent_by self.old)) }
         ensures ended { MatchResult result (λ _. has_end (sent_by self.old) ≡ false)
             (λ refused. (refused.error ≡ SendError.Ended) ↔ (has_end (sent_by self.old) ≡ true)) }
-        // A place that is known to be free is one that the next message takes.
+        // A slot that is known to be free is one that the next message takes.
         ensures free { (has_end (sent_by self.old) ≡ false) × (0 < free self.old) × (length (jobs_among (sent_by self.old)) < 2 ^ 64 - 1) → IsOk result }
         ensures left { free self.old ≤ free self.new + 1 }
         ensures full { IfErr result (λ refused. (refused.error ≡ SendError.RingFull)
@@ -141,7 +141,7 @@ impl<W: Work, A: Allocator> Client<W, A> {
     /// client sends nothing.
     ///
     /// Refuses, in this order: [`SendError::Ended`] where the client has ended;
-    /// [`SendError::RingFull`] where the ring has no free place. Then nothing was sent.
+    /// [`SendError::RingFull`] where the ring has no free slot. Then nothing was sent.
     #[tactic(auto, using(crate::proofs::Messages::pushed))]
     pub fn end(&mut self) -> Result<(), SendError>
         ensures same { SameClient self.old self.new }

@@ -9,22 +9,22 @@ use thiserror::Error;
 pub enum HouseError {
     /// The backlog is not within 1 to 4096 jobs.
     #[error("the backlog is not within 1 to 4096 jobs")]
-    BadBacklog,
+    BadBacklog = 1,
     /// The ring is not within 1 to [`MAX_RING`](crate::MAX_RING) messages.
     #[error("the ring is not within 1 to 1024 messages")]
-    BadRing,
+    BadRing = 2,
     /// An allocation was refused.
     #[error("out of memory")]
-    OutOfMemory,
+    OutOfMemory = 3,
     /// No server has that number.
     #[error("there is no such server")]
-    NoSuchServer,
+    NoSuchServer = 4,
     /// The clock would pass its end, or stands there with a job unfinished.
     #[error("the clock would pass its end, 1000000000 ticks, or stands there with a job unfinished")]
-    ClockEnd,
+    ClockEnd = 5,
     /// The clients did not send all, in as many rounds as they are given.
     #[error("the clients did not send all in the rounds that they are given")]
-    Stalled,
+    Stalled = 6,
 }
 
 impl HouseError {
@@ -34,14 +34,7 @@ impl HouseError {
     pub fn number(self) -> u8
         ensures { result ≡ house_error_number self }
     {
-        match self {
-            HouseError::BadBacklog => 1,
-            HouseError::BadRing => 2,
-            HouseError::OutOfMemory => 3,
-            HouseError::NoSuchServer => 4,
-            HouseError::ClockEnd => 5,
-            HouseError::Stalled => 6,
-        }
+        self as u8
     }
 
     /// The error's name: that of its variant.
@@ -64,10 +57,10 @@ impl HouseError {
 pub enum SendError {
     /// The client has ended.
     #[error("the client has ended")]
-    Ended,
-    /// The ring has no free place, or the client has sent 2^64 - 1 jobs.
+    Ended = 1,
+    /// The ring has no free slot, or the client has sent 2^64 - 1 jobs.
     #[error("the ring is full")]
-    RingFull,
+    RingFull = 2,
 }
 
 impl SendError {
@@ -77,10 +70,7 @@ impl SendError {
     pub fn number(self) -> u8
         ensures { result ≡ send_error_number self }
     {
-        match self {
-            SendError::Ended => 1,
-            SendError::RingFull => 2,
-        }
+        self as u8
     }
 
     /// The error's name: that of its variant.
@@ -99,16 +89,16 @@ impl SendError {
 pub enum CollectError {
     /// No server has that number.
     #[error("there is no such server")]
-    Stranger,
+    Stranger = 1,
     /// The job's result was taken before.
     #[error("the result of the job was taken before")]
-    Double,
+    Double = 2,
     /// The job is not the next one, or was not announced.
     #[error("the completion comes too early")]
-    Early,
+    Early = 3,
     /// An allocation was refused.
     #[error("out of memory")]
-    OutOfMemory,
+    OutOfMemory = 4,
 }
 
 impl CollectError {
@@ -118,12 +108,7 @@ impl CollectError {
     pub fn number(self) -> u8
         ensures { result ≡ collect_error_number self }
     {
-        match self {
-            CollectError::Stranger => 1,
-            CollectError::Double => 2,
-            CollectError::Early => 3,
-            CollectError::OutOfMemory => 4,
-        }
+        self as u8
     }
 
     /// The error's name: that of its variant.

@@ -28,6 +28,3 @@ pub use opening::{MAX_RING, open_house};
 pub use poll::Poll;
 pub use round::{Round, serve_round};
 pub use serving::serve;
-
-#[cfg(test)]
-mod tests;

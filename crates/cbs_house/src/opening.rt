@@ -21,12 +21,12 @@ use cbs_rules::Mode;
 use rtrb::RingBuffer;
 use std::alloc::{AllocError, Allocator};
 
-/// The most messages that a ring has places for.
+/// The most messages that a ring has slots for.
 pub const MAX_RING: u64 = 1024;
 
 /// Opens a house whose servers have the reservations of the plan, all with the same mode, each with
 /// at most `backlog` unfinished jobs; and one client for each server, in order of their numbers,
-/// each with a ring of `ring` places.
+/// each with a ring of `ring` slots.
 ///
 /// Refuses, in this order: [`HouseError::BadBacklog`] where the backlog is not within 1 to
 /// [`MAX_BACKLOG`]; [`HouseError::BadRing`] where the ring is not within 1 to [`MAX_RING`];
@@ -74,17 +74,17 @@ pub fn open_house<W: Work, A: Allocator + Copy>(
 fn open_rings<W: Work, A: Allocator + Copy>(
     alloc: A,
     servers: u16,
-    places: usize,
+    slots: usize,
 ) -> Result<(Rings<W, A>, Vec<Client<W, A>, A>), AllocError>
     ensures new { IfOk result (λ r. All IsNewEnd r.0.ends.items) }
     ensures rings { IfOk result (λ r. rings_in r.0 ≡ map ring_of r.1.items) }
     ensures clients { IfOk result (λ r. map server_of r.1.items ≡ range_with_len 0 servers) }
-    ensures unused { IfOk result (λ r. All (IsUnused places) r.1.items) }
+    ensures unused { IfOk result (λ r. All (IsUnused slots) r.1.items) }
 {
     let mut ends = Vec::with_capacity(alloc, usize::from(servers))?;
     let mut clients = Vec::with_capacity(alloc, usize::from(servers))?;
     for server in 0..servers {
-        let (producer, consumer) = RingBuffer::new(alloc, places)?;
+        let (producer, consumer) = RingBuffer::new(alloc, slots)?;
         ends.push(consumer)?;
         clients.push(Client::new(server, producer))?;
     }

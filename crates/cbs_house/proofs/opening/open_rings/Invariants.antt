@@ -11,5 +11,5 @@ invariant-loop-server g l =
       new : All IsNewEnd l.ends.items;
       rings : map consumer_ring l.ends.items ≡ map ring_of l.clients.items;
       clients : map server_of l.clients.items ≡ range_with_len 0 l.server;
-      unused : All (IsUnused l.places) l.clients.items;
+      unused : All (IsUnused l.slots) l.clients.items;
     }

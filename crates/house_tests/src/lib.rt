@@ -1,0 +1,5 @@
+//! Tests of cbs_house.
+#![tactic(auto)]
+
+#[cfg(test)]
+mod tests;

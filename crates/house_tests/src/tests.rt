@@ -1,0 +1,36 @@
+//! The house and its clients, run on worked examples.
+
+mod collecting;
+mod errors;
+mod meeting;
+mod memory;
+mod polling;
+mod serving;
+
+use cbs_job::{SumJob, Task};
+use cbs_rate::{Bound, Plan, Reservation};
+use std::alloc::Global;
+use std::fmt::Debug;
+use std::process::Abort;
+
+/// Stops unless an answer is the one that is wanted.
+fn same<T: PartialEq + Debug + Drop>(rt: &impl Abort, what: &str, answer: T, wanted: T) {
+    assert!(rt; answer == wanted, "{what}: {answer:?}, and not {wanted:?}");
+}
+
+/// A plan of reservations, each a budget and a period.
+fn plan_of(rt: &impl Abort, rates: &[(u64, u64)]) -> Plan {
+    let mut plan = Plan::new(Bound::new(1, 1).expect(rt, "a bound"));
+    for &(budget, period) in rates {
+        let reservation = Reservation::new(budget, period).expect(rt, "a reservation");
+        plan.admit(reservation).expect(rt, "a server");
+    }
+    plan
+}
+
+/// The task that adds these numbers up.
+fn sum_of(rt: &impl Abort, alloc: Global, numbers: &[u32]) -> Task<SumJob> {
+    assert!(rt; numbers.len() < 100);
+    let numbers = Vec::from_slice(alloc, numbers).expect(rt, "memory");
+    Task::new(SumJob::new(numbers)).ok().expect(rt, "a task")
+}
