@@ -5,7 +5,7 @@ use Rattle.std.specs.List.{All}
 use Rattle.std.proofs.lemmas.Bool.{cases_eq, cases_lt}
 use Rattle.cbs_job.specs.Work.{Meaning, whole}
 use Rattle.cbs_job.specs.declared.completion.Completion.{Completion}
-use Rattle.cbs_core.proofs.Laws.{holds_within, none_beyond}
+use Rattle.cbs_core.proofs.Laws.{holds_within, none_beyond, history_kept, backlog_kept}
 use Rattle.cbs_core.specs.Held.{Held, CoreHeld, held_at, SameJobs, TakesJob, RunsJob, FinishesJob, ClosesServer, DoesRun}
 use Rattle.cbs_core.specs.declared.reply.Ran.{Ran}
 use Rattle.cbs_core.specs.declared.step.Step.{Step}
@@ -18,7 +18,6 @@ use Rattle.cbs_house.specs.Housed.{KeepsServer, Housed}
 use Rattle.cbs_house.specs.Messages.{jobs_among}
 use Rattle.cbs_house.specs.Ringed.{rings_in, received_in}
 use Rattle.cbs_core.specs.Continuations.{Follows}
-use Rattle.cbs_core.proofs.Laws.{history_kept, backlog_kept}
 use Rattle.cbs_house.proofs.Messages.{jobs_among-job, jobs_among-end, has_end-job, has_end-end, end_is_last-more}
 
 pub same_shelf : (h : Shelved) → SameShelf h h

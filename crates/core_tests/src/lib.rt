@@ -1,5 +1,6 @@
-//! Tests of cbs_core.
+//! Tests of cbs_core, and a caller of it.
 #![tactic(auto)]
 
+pub mod caller;
 #[cfg(test)]
 mod tests;
