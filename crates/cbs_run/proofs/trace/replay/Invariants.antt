@@ -1,0 +1,13 @@
+use Rattle.std.proofs.Common.{◌≡◌, length}
+use Rattle.std.specs.Vec.Iter.{into_iter_items, into_iter_len}
+use Rattle.cbs_run.proofs.StepTexts.{SoFar}
+use Rattle.cbs_run.proofs.trace.replay.Given as goal
+
+abbrev pub invariant-loop-step : goal.invariant-loop-step
+invariant-loop-step g l = record {
+  can : (goal.iterator-loop-step g).can_next l.step-iterator;
+  finite : (goal.iterator-loop-step g).is_finite l.step-iterator;
+  count : into_iter_len l.step-iterator ≡ length (into_iter_items l.step-iterator);
+  so_far : SoFar (g.O.ByteOutput.written l.fn.out) (g.O.ByteOutput.written l.out) l.pending l.core l.fn.file (into_iter_items l.step-iterator);
+  none_failed : g.O.ByteOutput.failed l.out ≡ g.O.ByteOutput.failed l.fn.out;
+}

@@ -1,0 +1,11 @@
+pub mod Counted
+pub mod FaultLines
+pub mod Lines
+pub mod Reads
+pub mod Runs
+pub mod ResultLines
+pub mod JobsByServer
+pub mod Statuses
+pub mod Traces
+pub mod Words
+pub mod Writes
