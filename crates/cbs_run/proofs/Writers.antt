@@ -2,7 +2,7 @@
 use Rattle.std.proofs.Common.{ℕ, List, Option, Some, None, Result, Ok, Err, refl, inl, inr}
 use Rattle.std.specs.Prelude.{OnOk, OnErr}
 use Rattle.std.specs.Io.KnownBytes.{Keeps}
-use Rattle.cbs_run.specs.Statuses.{Writer, IsUntouched, Writes, FailsToWrite, TriesToWrite}
+use Rattle.cbs_run.specs.Writers.{Writer, IsUntouched, Writes, FailsToWrite, TriesToWrite}
 
 pub tries : {E : Type 0} (r : Result (Unit {0}) E) (old new : Writer) (text : List ℕ)
     → OnOk r (Writes old new text) → OnErr r (FailsToWrite old new text) → TriesToWrite old new text

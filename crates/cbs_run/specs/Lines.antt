@@ -4,8 +4,8 @@ use Rattle.std.specs.Prelude.{ℕ, List, [], ◌++◌, codes, decimal, Option, S
 use Rattle.cbs_core.specs.Errors.{core_error_name}
 use Rattle.cbs_core.specs.declared.reply.Ran.TheVariants as ran
 use Rattle.cbs_core.specs.declared.view.ServerView.{ServerView}
-use Rattle.cbs_run.specs.declared.line.Call.{Call}
-use Rattle.cbs_run.specs.declared.line.Call.TheVariants.{Submit, Run, Advance, Close}
+use Rattle.cbs_run.specs.declared.call.Call.{Call}
+use Rattle.cbs_run.specs.declared.call.Call.TheVariants.{Submit, Run, Advance, Close}
 use Rattle.cbs_run.specs.declared.line.Answer.{Answer}
 use Rattle.cbs_run.specs.declared.line.Answer.TheVariants.{Accepted, Refused, Ran as OfRun, Made}
 use Rattle.cbs_run.specs.declared.line.Line.{Line}

@@ -28,6 +28,10 @@ unfoldable pub lines_from : ℕ → List (List ℕ) → List ℕ
 lines_from s [] = []
 lines_from s (results ∷ others) = server_line s results ++ lines_from (s + 1) others
 
+-- the results of the jobs that a file submits to each server, whole and in order
+abbrev pub results_by_server : File → List (List ℕ)
+results_by_server f = map (λ s. map (whole of_files) (jobs_for s f.steps)) (range_with_len 0 (length f.plan.rates))
+
 -- the lines of all servers, in order of their numbers, each with the whole results of the server's jobs
 abbrev pub result_lines : File → List ℕ
 result_lines f = flat_map (λ s. server_line s (map (whole of_files) (jobs_for s f.steps))) (range_with_len 0 (length f.plan.rates))

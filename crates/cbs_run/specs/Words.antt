@@ -1,8 +1,7 @@
 -- The command line as `clap` sees it.
 use Rattle.std.specs.Prelude.{◌≡◌, ℕ, List, codes, true, Some, string_bytes}
 use Rattle.clap.specs.Words.{App, Row, Rule, Text, first_of, new_app, new_rule, subcommand_of, takes, with_rule, with_subcommand}
-use Rattle.cbs_run.specs.declared.words.Verb.{Verb}
-use Rattle.cbs_run.specs.declared.words.Verb.TheVariants.{Replay, Serve}
+use Rattle.cbs_run.specs.Verbs.{name_of}
 use Rattle.cbs_run.specs.declared.words.Asked.{Asked}
 use Rattle.cbs_run.specs.declared.words.WordsFault.{WordsFault}
 use Rattle.cbs_run.specs.declared.words.WordsFault.TheVariants.{Usage, Help, OutOfMemory}
@@ -22,11 +21,6 @@ required a = record a { top = record a.top { subcommand_required = true } }
 -- the program: two verbs, of which one is required
 abbrev pub command_line : App
 command_line = with_subcommand (with_subcommand (required (new_app (codes "cbsrun"))) (on_file (codes "replay")).top) (on_file (codes "serve")).top
-
--- the word of each verb
-abbrev pub name_of : Verb → Text
-name_of Replay = codes "replay"
-name_of Serve = codes "serve"
 
 -- the subcommand that the words name is the verb, and its one value the file
 abbrev pub Names : List Text → Asked → Type 0

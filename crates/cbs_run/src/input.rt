@@ -75,13 +75,13 @@ pub const MAX_BYTES: usize = 16_777_216;
 pub enum ReadError {
     /// There was no memory for what came.
     #[error("out of memory while reading")]
-    OutOfMemory,
+    OutOfMemory = 1,
     /// A read failed.
     #[error("a read failed")]
-    ReadFault,
+    ReadFault = 2,
     /// More than [`MAX_BYTES`] came.
     #[error("there are more than 16777216 bytes")]
-    TooLarge,
+    TooLarge = 3,
 }
 
 impl ReadError {
@@ -89,11 +89,7 @@ impl ReadError {
     pub fn number(self) -> u8
         ensures { result ≡ read_error_number self }
     {
-        match self {
-            ReadError::OutOfMemory => 1,
-            ReadError::ReadFault => 2,
-            ReadError::TooLarge => 3,
-        }
+        self as u8
     }
 
     /// The error's name, as the program prints it.

@@ -1,6 +1,7 @@
 //! Task files run from their bytes to a status: a trace of their steps, or the results of their jobs.
 #![tactic(auto)]
 
+mod call;
 mod fault_lines;
 mod input;
 mod jobs_by_server;
@@ -11,6 +12,7 @@ mod result_lines;
 mod run;
 mod run_error;
 mod serve;
+mod steps;
 mod trace;
 mod words;
 

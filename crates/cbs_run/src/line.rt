@@ -3,23 +3,11 @@
 ghost use Rattle.std.specs.Prelude.{◌≡◌, OnOk, Option, string_bytes};
 ghost use Rattle.cbs_run.specs.Lines.{line_text, shown_server};
 
+use crate::call::Call;
 use cbs_core::{CoreError, Ran, ServerView};
 use std::alloc::AllocError;
 use std::fmt;
 use std::fmt::Write;
-
-/// The call that a step makes.
-#[derive(Clone, Copy, Debug, PartialEq, Eq)]
-pub enum Call {
-    /// A job for this server.
-    Submit(u16),
-    /// One unit of the chosen server.
-    Run,
-    /// So many ticks pass.
-    Advance(u64),
-    /// No further job for this server.
-    Close(u16),
-}
 
 /// What the call is answered.
 #[derive(Clone, Copy, Debug, PartialEq, Eq)]
@@ -48,22 +36,6 @@ pub struct Line {
 #[derive(Clone, Copy, Debug, PartialEq, Eq)]
 pub struct State {
     pub server: Option<ServerView>,
-}
-
-impl fmt::Display for Call {
-    ghost use Rattle.std.specs.Prelude.{Some};
-    ghost use Rattle.cbs_run.specs.Lines.{call_text};
-
-    ghost output = { λ c. Some (call_text c) };
-
-    fn fmt<W: fmt::Write>(&self, f: &mut fmt::Formatter<W>) -> fmt::Result {
-        match self {
-            Call::Submit(server) => write!(f, "submit {server}"),
-            Call::Run => write!(f, "run"),
-            Call::Advance(ticks) => write!(f, "advance {ticks}"),
-            Call::Close(server) => write!(f, "close {server}"),
-        }
-    }
 }
 
 impl fmt::Display for Answer {

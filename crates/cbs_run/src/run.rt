@@ -1,7 +1,9 @@
 //! One run: from the bytes of a file to a status.
 
 ghost use Rattle.std.specs.Prelude.{◌+◌, ◌-◌, ◌<◌, ◌^◌};
-ghost use Rattle.cbs_run.specs.Statuses.{Leaves, Ends};
+ghost use Rattle.cbs_run.specs.Statuses.{Ends};
+ghost use Rattle.cbs_run.specs.Verbs.{output_of, StopsShort};
+ghost use Rattle.cbs_run.specs.Writers.{Leaves};
 
 use crate::fault_lines::{write_file_fault, write_run_fault};
 use crate::output::ByteOutput;
@@ -34,7 +36,7 @@ fn run_file<R: Threads + Sync, O: ByteOutput>(
     out: &mut O,
 ) -> Result<(), RunError>
     requires { O.failed out.old < 2 ^ 64 - 1 }
-    ensures { Leaves verb file result
+    ensures { Leaves (output_of verb file) (StopsShort verb file) result
         (record { written = O.written out.old; failed = O.failed out.old }) (record { written = O.written out.new; failed = O.failed out.new }) }
 {
     match verb {

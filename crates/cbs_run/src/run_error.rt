@@ -12,16 +12,16 @@ use thiserror::Error;
 pub enum RunError {
     /// An allocation was refused: for the command line, the core or the house, a job, a result or a line.
     #[error("out of memory while running")]
-    OutOfMemory,
+    OutOfMemory = 1,
     /// A write failed, or took no byte.
     #[error("the output could not be written")]
-    WriteFault,
+    WriteFault = 2,
     /// The clock came to its end, and a job was unfinished.
     #[error("the clock came to its end with a job unfinished")]
-    ClockEnd,
+    ClockEnd = 3,
     /// The clients did not send all, in as many rounds as they are given.
     #[error("the clients did not send all in the rounds that they are given")]
-    Stalled,
+    Stalled = 4,
 }
 
 impl RunError {
@@ -31,12 +31,7 @@ impl RunError {
     pub fn number(self) -> u8
         ensures { result ≡ run_error_number self }
     {
-        match self {
-            RunError::OutOfMemory => 1,
-            RunError::WriteFault => 2,
-            RunError::ClockEnd => 3,
-            RunError::Stalled => 4,
-        }
+        self as u8
     }
 
     /// The error's name, as the program prints it.

@@ -3,7 +3,8 @@
 ghost use Rattle.std.specs.Prelude.{◌≡◌, ◌≢◌, false, IfOk, IfErr, MatchOption, map, string_bytes};
 ghost use Rattle.clap.specs.Words.{app_of, kind_of};
 ghost use Rattle.clap.specs.declared.builder.command.Command.TheViews.{out-Command};
-ghost use Rattle.cbs_run.specs.Words.{command_line, on_file, name_of, Names, AreTaken, words_fault_number, words_fault_name};
+ghost use Rattle.cbs_run.specs.Verbs.{name_of};
+ghost use Rattle.cbs_run.specs.Words.{command_line, on_file, Names, AreTaken, words_fault_number, words_fault_name};
 ghost use Rattle.cbs_run.specs.declared.words.WordsFault.TheVariants.{OutOfMemory};
 
 use clap::error::ErrorKind;

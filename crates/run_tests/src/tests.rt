@@ -1,4 +1,4 @@
-//! The program's parts, run on worked examples.
+//! The library's parts, run on worked examples.
 
 mod errors;
 mod fakes;
@@ -7,6 +7,14 @@ mod serving;
 mod streams;
 mod traces;
 mod words;
+
+use std::fmt::Debug;
+use std::process::Abort;
+
+/// Looks at an answer, under a label.
+fn same<T: PartialEq + Debug + Drop>(rt: &impl Abort, label: &str, answer: T, wanted: T) {
+    assert_eq!(rt; answer, wanted, "{label}");
+}
 
 /// The first example: one soft server, and a job of three units.
 const FIRST: &str = "\

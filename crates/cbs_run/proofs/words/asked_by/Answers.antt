@@ -3,7 +3,8 @@ use Rattle.std.specs.Prelude.{option_map}
 use Rattle.clap.specs.Words.{App, Row, Text, is_simple, subcommand_of, subcommand_rows_of, subcommand_name_of, rows_of, found_of, first_of, takes}
 use Rattle.clap.proofs.OnLiterals.{clap_on_literals}
 use Rattle.clap.proofs.WalkLemmas.{first_value-rows}
-use Rattle.cbs_run.specs.Words.{command_line, name_of}
+use Rattle.cbs_run.specs.Verbs.{name_of}
+use Rattle.cbs_run.specs.Words.{command_line}
 use Rattle.cbs_run.proofs.words.asked_by.Goals as goal
 
 is_one : is_simple command_line ≡ true
