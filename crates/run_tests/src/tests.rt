@@ -11,9 +11,9 @@ mod words;
 use std::fmt::Debug;
 use std::process::Abort;
 
-/// Looks at an answer, under a label.
-fn same<T: PartialEq + Debug + Drop>(rt: &impl Abort, label: &str, answer: T, wanted: T) {
-    assert_eq!(rt; answer, wanted, "{label}");
+/// Ends the test where an answer is not the wanted one, and names the label.
+fn same<T: Debug + Drop + PartialEq>(rt: &impl Abort, label: &str, answer: T, wanted: T) {
+    assert!(rt; answer == wanted, "{label}: {answer:?}, not {wanted:?}");
 }
 
 /// The first example: one soft server, and a job of three units.

@@ -6,6 +6,7 @@ use cbs_run::{ByteInput, ByteOutput, Verb, run_bytes};
 use std::alloc::Global;
 use std::io;
 use std::io::ErrorKind;
+use std::process::Abort;
 use std::thread::Threads;
 
 /// A writer that takes at most `step` bytes a call and `room` in all, and then fails.
@@ -114,6 +115,16 @@ pub struct Outcome {
     pub status: u8,
     pub out: Memory,
     pub err: Memory,
+}
+
+impl Outcome {
+    /// Ends the test where a run left another status, output or error output, and names the label.
+    pub fn leaves(&self, rt: &impl Abort, label: &str, status: u8, out: &str, err: &str) {
+        let found = self.status;
+        assert!(rt; found == status, "{label}: status {found}, not {status}");
+        assert!(rt; self.out.holds(out), "{label}: another output");
+        assert!(rt; self.err.holds(err), "{label}: another error output");
+    }
 }
 
 /// Does with a file what the verb says, into ample memory.

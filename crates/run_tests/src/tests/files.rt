@@ -1,12 +1,13 @@
 //! Task files: faulty ones, other spellings, and what a good one holds.
 
-use super::FIRST_LINES;
 use super::fakes::ran;
+use super::{FIRST_LINES, same};
 use cbs_core::Step;
 use cbs_file::{FileFault, FileKind, Place, read_file};
 use cbs_rules::Mode;
 use cbs_run::Verb;
 use std::alloc::Global;
+use std::process::Abort;
 use std::test::Fail;
 use std::thread::Threads;
 
@@ -81,16 +82,17 @@ const FAULTS_AT_STEPS: [(&str, &str); 8] = [
     ),
 ];
 
-/// Whether a file is refused with this fault.
-fn is_refused<R: Threads + Sync>(
+/// Ends the test where a file is not refused with this fault.
+fn refuses<R: Abort + Threads + Sync>(
     rt: &R,
     alloc: Global,
     file: &str,
     fault: &str,
-) -> Result<bool, Fail> {
+) -> Result<(), Fail> {
     let line = format!(in alloc; "cbsrun: file fault {fault}\n")?;
     let ran = ran(rt, alloc, Verb::Replay, file.as_bytes());
-    Ok(ran.status == 3 && ran.out.holds("") && ran.err.holds(line.as_str()))
+    ran.leaves(rt, file, 3, "", line.as_str());
+    Ok(())
 }
 
 #[test]
@@ -98,11 +100,16 @@ fn faults_at_the_top_are_found(rt: HostRuntime) -> Result<(), Fail> {
     let alloc = rt.alloc();
     for [head, server, step, fault] in FAULTS_AT_TOP {
         let file = format!(in alloc; "{head}{server}{step}")?;
-        assert!(rt; is_refused(&rt, alloc, file.as_str(), fault)?, "{file}");
+        refuses(&rt, alloc, file.as_str(), fault)?;
     }
     let not_text = ran(&rt, alloc, Verb::Replay, b"\xff\xfe");
-    assert!(rt; not_text.status == 3 && not_text.out.holds(""));
-    assert!(rt; not_text.err.holds("cbsrun: file fault 1 NotToml at top\n"));
+    not_text.leaves(
+        &rt,
+        "no text",
+        3,
+        "",
+        "cbsrun: file fault 1 NotToml at top\n",
+    );
     Ok(())
 }
 
@@ -111,11 +118,11 @@ fn faults_at_servers_and_steps_have_their_places(rt: HostRuntime) -> Result<(), 
     let alloc = rt.alloc();
     for (head, servers, fault) in FAULTS_AT_SERVERS {
         let file = format!(in alloc; "{head}server = [{servers}]\nstep = []")?;
-        assert!(rt; is_refused(&rt, alloc, file.as_str(), fault)?, "{file}");
+        refuses(&rt, alloc, file.as_str(), fault)?;
     }
     for (steps, fault) in FAULTS_AT_STEPS {
         let file = format!(in alloc; "{HEAD}{ONE}step = [{steps}]")?;
-        assert!(rt; is_refused(&rt, alloc, file.as_str(), fault)?, "{file}");
+        refuses(&rt, alloc, file.as_str(), fault)?;
     }
     Ok(())
 }
@@ -165,12 +172,12 @@ format = 1
 fn other_spellings_are_the_same_file(rt: HostRuntime) -> Result<(), Fail> {
     let alloc = rt.alloc();
     let in_tables = ran(&rt, alloc, Verb::Replay, IN_TABLES.as_bytes());
-    assert!(rt; in_tables.status == 0 && in_tables.out.holds(FIRST_LINES));
+    in_tables.leaves(&rt, "in tables", 0, FIRST_LINES, "");
 
     let [before, behind] = BACKWARDS;
     let file = format!(in alloc; "{before}1{behind}")?;
     let backwards = ran(&rt, alloc, Verb::Replay, file.as_bytes());
-    assert!(rt; backwards.status == 0 && backwards.out.holds(FIRST_LINES));
+    backwards.leaves(&rt, "backwards", 0, FIRST_LINES, "");
     Ok(())
 }
 
@@ -179,8 +186,7 @@ fn a_number_with_a_leading_zero_is_no_toml(rt: HostRuntime) -> Result<(), Fail> 
     let alloc = rt.alloc();
     let [before, behind] = BACKWARDS;
     let file = format!(in alloc; "{before}0_1{behind}")?;
-    assert!(rt; is_refused(&rt, alloc, file.as_str(), "1 NotToml at top")?);
-    Ok(())
+    refuses(&rt, alloc, file.as_str(), "1 NotToml at top")
 }
 
 #[test]
@@ -190,7 +196,7 @@ fn a_bandwidth_just_within_the_bound_is_admitted(rt: HostRuntime) -> Result<(), 
         "{THIRD}server = [{{ budget = 333333333, period = 1000000000 }}]\nstep = []\n"
     )?;
     let ran = ran(&rt, alloc, Verb::Replay, file.as_bytes());
-    assert!(rt; ran.status == 0 && ran.out.holds("") && ran.err.holds(""));
+    ran.leaves(&rt, "within the bound", 0, "", "");
     Ok(())
 }
 
@@ -201,13 +207,18 @@ fn a_file_holds_what_it_spells(rt: HostRuntime) -> Result<(), Fail> {
         "format = 1\nmode = \"throttled\"\nbound = [2, 3]\nbacklog = 7\nring = 9\n{ONE}step = [{{ op = \"submit\", server = 0, job = \"peak\", units = [5] }}, {{ op = \"close\", server = 0 }}]\n"
     )?;
     let file = read_file(alloc, file.as_bytes()).map_err(|_| "a good file")?;
-    assert!(rt; file.mode() == Mode::Throttled);
-    assert!(rt; file.backlog() == 7 && file.ring() == 9);
-    assert!(rt; file.plan().len() == 1);
+    same(&rt, "mode", file.mode(), Mode::Throttled);
+    same(
+        &rt,
+        "backlog and ring",
+        (file.backlog(), file.ring()),
+        (7, 9),
+    );
+    same(&rt, "servers", file.plan().len(), 1);
     assert!(rt; matches!(file.plan().get(0), Some(r) if r.budget() == 2 && r.period() == 5));
-    assert!(rt; file.steps().len() == 2);
-    assert!(rt; matches!(&file.steps()[0], Step::Submit(0, task) if task.left() == 1));
-    assert!(rt; matches!(file.steps()[1], Step::Close(0)));
+    assert!(rt;
+        matches!(file.steps(), [Step::Submit(0, task), Step::Close(0)] if task.left() == 1)
+    );
     Ok(())
 }
 
@@ -222,8 +233,13 @@ fn a_fault_has_its_place(rt: HostRuntime) -> Result<(), Fail> {
         kind: FileKind::OutOfRange,
         place: Place::Top,
     };
-    assert!(rt; fault == Some(expected));
+    same(&rt, "fault", fault, Some(expected));
     let text = format!(in alloc; "{expected}")?;
-    assert!(rt; text.as_str() == "a value is out of range, at top");
+    same(
+        &rt,
+        "its text",
+        text.as_str(),
+        "a value is out of range, at top",
+    );
     Ok(())
 }

@@ -29,8 +29,13 @@ fn results_are_those_of_the_file_at_every_ring(rt: HostRuntime) -> Result<(), Fa
         let file = format!(in alloc; "{HEAD}ring = {ring}\n{THREE}")?;
         for _time in 0..50 {
             let ran = ran(&rt, alloc, Verb::Serve, file.as_bytes());
-            assert!(rt; ran.status == 0 && ran.err.holds(""));
-            assert!(rt; ran.out.holds("server 0: 6 9\nserver 1:\nserver 2: 10 50\n"));
+            ran.leaves(
+                &rt,
+                "three servers",
+                0,
+                "server 0: 6 9\nserver 1:\nserver 2: 10 50\n",
+                "",
+            );
         }
     }
     Ok(())
@@ -44,8 +49,13 @@ fn a_clock_that_ends_writes_no_results(rt: HostRuntime) -> Result<(), Fail> {
          step = [{{ op = \"submit\", server = 0, job = \"sum\", units = [1, 1, 1] }}]\n"
     )?;
     let ran = ran(&rt, alloc, Verb::Serve, file.as_bytes());
-    assert!(rt; ran.status == 4 && ran.out.holds(""));
-    assert!(rt; ran.err.holds("cbsrun: run fault 3 ClockEnd\n"));
+    ran.leaves(
+        &rt,
+        "the clock's end",
+        4,
+        "",
+        "cbsrun: run fault 3 ClockEnd\n",
+    );
     Ok(())
 }
 
@@ -54,6 +64,6 @@ fn a_file_with_no_server_has_no_results(rt: HostRuntime) -> Result<(), Fail> {
     let alloc = rt.alloc();
     let file = format!(in alloc; "{HEAD}ring = 4\nserver = []\nstep = [{{ op = \"run\" }}]\n")?;
     let ran = ran(&rt, alloc, Verb::Serve, file.as_bytes());
-    assert!(rt; ran.status == 0 && ran.out.holds("") && ran.err.holds(""));
+    ran.leaves(&rt, "no server", 0, "", "");
     Ok(())
 }

@@ -1,7 +1,7 @@
 //! Readers and writers that fail.
 
 use super::fakes::{Letters, Memory, Outcome, ran};
-use super::{FIRST, FIRST_LINES};
+use super::{FIRST, FIRST_LINES, same};
 use cbs_file::read_file;
 use cbs_run::{
     ByteOutput, FromRead, MAX_BYTES, ReadError, RunError, ToWrite, Verb, read_all, replay,
@@ -31,10 +31,20 @@ fn a_writer_that_fails_has_the_front(rt: HostRuntime) -> Result<(), Fail> {
         (usize::MAX, 0, ""),
     ] {
         let (error, out) = replayed(alloc, room, step)?;
-        assert!(rt; error == Some(RunError::WriteFault) && out.holds(front));
+        same(
+            &rt,
+            front,
+            (error, out.holds(front)),
+            (Some(RunError::WriteFault), true),
+        );
     }
     let (error, out) = replayed(alloc, usize::MAX, 1)?;
-    assert!(rt; error == None && out.holds(FIRST_LINES));
+    same(
+        &rt,
+        "a byte a call",
+        (error, out.holds(FIRST_LINES)),
+        (None, true),
+    );
     Ok(())
 }
 
@@ -50,15 +60,13 @@ fn into_small<R: Threads + Sync>(rt: &R, alloc: Global, file: &str, room: usize)
 #[test]
 fn a_failing_output_has_its_status(rt: HostRuntime) {
     let alloc = rt.alloc();
+    let front = "@0 submit 0 job 0 ac";
     let failed = into_small(&rt, alloc, FIRST, usize::MAX);
-    assert!(rt; failed.status == 4 && failed.out.holds("@0 submit 0 job 0 ac"));
-    assert!(rt; failed.err.holds("cbsrun: run fault 2 WriteFault\n"));
-
+    failed.leaves(&rt, "output", 4, front, "cbsrun: run fault 2 WriteFault\n");
     let both_failed = into_small(&rt, alloc, FIRST, 7);
-    assert!(rt; both_failed.status == 4 && both_failed.err.holds("cbsrun:"));
-
+    both_failed.leaves(&rt, "both", 4, front, "cbsrun:");
     let unsaid = into_small(&rt, alloc, "format = 3", 0);
-    assert!(rt; unsaid.status == 3 && unsaid.out.holds("") && unsaid.err.holds(""));
+    unsaid.leaves(&rt, "error output", 3, "", "");
 }
 
 /// How many bytes were read.
@@ -81,7 +89,12 @@ fn a_reader_gives_all_its_bytes(rt: HostRuntime) -> Result<(), Fail> {
         (MAX_BYTES + 1, 0, Err(ReadError::TooLarge)),
         (MAX_BYTES, 2, Err(ReadError::ReadFault)),
     ] {
-        assert!(rt; count(read_all(alloc, &mut Letters::new(letters, bad))) == read);
+        same(
+            &rt,
+            "letters",
+            count(read_all(alloc, &mut Letters::new(letters, bad))),
+            read,
+        );
     }
     Ok(())
 }
@@ -98,7 +111,7 @@ fn long_traces_are_whole(rt: HostRuntime) -> Result<(), Fail> {
     }
     file.push_str("]\n")?;
     let ran = ran(&rt, alloc, Verb::Replay, file.as_bytes());
-    assert!(rt; ran.status == 0 && ran.out.holds(lines.as_str()));
+    ran.leaves(&rt, "5000 runs", 0, lines.as_str(), "");
     Ok(())
 }
 
@@ -108,9 +121,13 @@ fn a_library_writer_is_written_to(rt: HostRuntime) -> Result<(), Fail> {
     let mut out = ToWrite::new(Vec::new(alloc));
     assert!(rt; write_text(&mut out, b"abc").is_ok());
     assert!(rt; matches!(out.write(b""), Ok(0)));
-    assert!(rt;
-        RunError::OutOfMemory.number() == 1 && RunError::OutOfMemory.name() == "OutOfMemory"
+    let (memory, large) = (RunError::OutOfMemory, ReadError::TooLarge);
+    same(
+        &rt,
+        "run",
+        (memory.number(), memory.name()),
+        (1, "OutOfMemory"),
     );
-    assert!(rt; ReadError::TooLarge.number() == 3 && ReadError::TooLarge.name() == "TooLarge");
+    same(&rt, "read", (large.number(), large.name()), (3, "TooLarge"));
     Ok(())
 }

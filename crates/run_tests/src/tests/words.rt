@@ -1,5 +1,6 @@
 //! Command lines.
 
+use super::same;
 use cbs_run::{Verb, WordsFault, read_words};
 use std::alloc::Global;
 use std::test::Fail;
@@ -34,11 +35,21 @@ fn a_verb_and_a_file_are_wanted(rt: HostRuntime) -> Result<(), Fail> {
     let asked = read_words(alloc, words(alloc, "cbsrun replay a.toml")?)
         .ok()
         .ok_or("replay")?;
-    assert!(rt; asked.verb == Verb::Replay && asked.file.as_str() == "a.toml");
+    same(
+        &rt,
+        "replay",
+        (asked.verb, asked.file.as_str()),
+        (Verb::Replay, "a.toml"),
+    );
     let asked = read_words(alloc, words(alloc, "cbsrun serve a.toml")?)
         .ok()
         .ok_or("serve")?;
-    assert!(rt; asked.verb == Verb::Serve && asked.file.as_str() == "a.toml");
+    same(
+        &rt,
+        "serve",
+        (asked.verb, asked.file.as_str()),
+        (Verb::Serve, "a.toml"),
+    );
     for line in [
         "",
         "cbsrun",
@@ -50,9 +61,11 @@ fn a_verb_and_a_file_are_wanted(rt: HostRuntime) -> Result<(), Fail> {
         "cbsrun replay --fast a.toml",
     ] {
         let (number, name, text) = fault(alloc, line)?;
-        assert!(rt;
-            number == 1 && name == "Usage" && !text.is_empty(),
-            "{line}"
+        same(
+            &rt,
+            line,
+            (number, name, text.is_empty()),
+            (1, "Usage", false),
         );
     }
     for line in [
@@ -63,7 +76,12 @@ fn a_verb_and_a_file_are_wanted(rt: HostRuntime) -> Result<(), Fail> {
         "cbsrun serve --help",
     ] {
         let (number, name, text) = fault(alloc, line)?;
-        assert!(rt; number == 2 && name == "Help" && !text.is_empty(), "{line}");
+        same(
+            &rt,
+            line,
+            (number, name, text.is_empty()),
+            (2, "Help", false),
+        );
     }
     Ok(())
 }
