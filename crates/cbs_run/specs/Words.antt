@@ -1,5 +1,5 @@
 -- The command line as `clap` sees it.
-use Rattle.std.specs.Prelude.{◌≡◌, ℕ, List, codes, true, Some, string_bytes}
+use Rattle.std.specs.Prelude.{◌≡◌, ℕ, List, codes, true, Option, Some, string_bytes}
 use Rattle.clap.specs.Words.{App, Row, Rule, Text, first_of, new_app, new_rule, subcommand_of, takes, with_rule, with_subcommand}
 use Rattle.cbs_run.specs.Verbs.{name_of}
 use Rattle.cbs_run.specs.declared.words.Asked.{Asked}
@@ -18,13 +18,21 @@ on_file name = with_rule (new_app name) file
 abbrev pub required : App → App
 required a = record a { top = record a.top { subcommand_required = true } }
 
--- the program: two verbs, of which one is required
+-- the program with no verb yet, of which one is required
+abbrev pub bare_program : App
+bare_program = required (new_app (codes "cbsrun"))
+
+-- the program: two verbs
 abbrev pub command_line : App
-command_line = with_subcommand (with_subcommand (required (new_app (codes "cbsrun"))) (on_file (codes "replay")).top) (on_file (codes "serve")).top
+command_line = with_subcommand (with_subcommand bare_program (on_file (codes "replay")).top) (on_file (codes "serve")).top
+
+-- the subcommand that was found, with its rows, is the verb, and its one value the file
+abbrev pub IsAsked : Option (Text × List Row) → Asked → Type 0
+IsAsked found asked = (rows : List Row) × (found ≡ Some (name_of asked.verb, rows)) × (first_of (codes "FILE") rows ≡ Some (string_bytes asked.file))
 
 -- the subcommand that the words name is the verb, and its one value the file
 abbrev pub Names : List Text → Asked → Type 0
-Names words asked = (rows : List Row) × (subcommand_of command_line words ≡ Some (name_of asked.verb, rows)) × (first_of (codes "FILE") rows ≡ Some (string_bytes asked.file))
+Names words asked = IsAsked (subcommand_of command_line words) asked
 
 -- the command takes the words, and they name a verb and a file
 pub record AreTaken (words : List Text) : Type 0 where

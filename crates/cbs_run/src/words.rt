@@ -1,14 +1,14 @@
 //! What the words of a command line ask for.
 
 ghost use Rattle.std.specs.Prelude.{◌≡◌, ◌≢◌, false, IfOk, IfErr, MatchOption, map, string_bytes};
-ghost use Rattle.clap.specs.Words.{app_of, kind_of};
+ghost use Rattle.clap.specs.Words.{app_of, kind_of, subcommand_rows_of, with_subcommand};
 ghost use Rattle.clap.specs.declared.builder.command.Command.TheViews.{out-Command};
 ghost use Rattle.cbs_run.specs.Verbs.{name_of};
-ghost use Rattle.cbs_run.specs.Words.{command_line, on_file, Names, AreTaken, words_fault_number, words_fault_name};
+ghost use Rattle.cbs_run.specs.Words.{command_line, on_file, bare_program, IsAsked, Names, AreTaken, words_fault_number, words_fault_name};
 ghost use Rattle.cbs_run.specs.declared.words.WordsFault.TheVariants.{OutOfMemory};
 
 use clap::error::ErrorKind;
-use clap::{Arg, Command, Error};
+use clap::{Arg, ArgMatches, Command, Error};
 use std::alloc::{AllocError, Global};
 
 const ABOUT: &str =
@@ -118,18 +118,35 @@ fn on_file<'a>(alloc: Global, name: &'a str, about: &'a str) -> Result<Command<'
     Command::new(alloc, name).about(about).arg(file)
 }
 
-/// The command line of the program: a verb, and its file.
-fn command_line<'a>(alloc: Global) -> Result<Command<'a>, AllocError>
-    ensures { IfOk result (λ c. app_of c ≡ command_line) }
+/// The program with one verb more.
+fn with_verb<'a>(
+    alloc: Global,
+    program: Command<'a>,
+    name: &'a str,
+    about: &'a str,
+) -> Result<Command<'a>, AllocError>
+    ensures { IfOk result (λ c. app_of c ≡ with_subcommand (app_of program.entry) (on_file name.now).top) }
 {
-    let replay = on_file(alloc, "replay", REPLAY)?;
-    let serve = on_file(alloc, "serve", SERVE)?;
+    let verb = on_file(alloc, name, about)?;
+    program.subcommand(verb)
+}
+
+/// The program, with no verb yet.
+fn bare_program<'a>(alloc: Global) -> Command<'a>
+    ensures { app_of result ≡ bare_program }
+{
     Command::new(alloc, "cbsrun")
         .about(ABOUT)
         .after_help(TASK_FILES)
         .subcommand_required(true)
-        .subcommand(replay)?
-        .subcommand(serve)
+}
+
+/// The command line of the program: a verb, and its file.
+fn command_line<'a>(alloc: Global) -> Result<Command<'a>, AllocError>
+    ensures { IfOk result (λ c. app_of c ≡ command_line) }
+{
+    let program = with_verb(alloc, bare_program(alloc), "replay", REPLAY)?;
+    with_verb(alloc, program, "serve", SERVE)
 }
 
 /// The verb of this name, if there is one.
@@ -161,16 +178,11 @@ fn incomplete(alloc: Global) -> Result<WordsFault, AllocError> {
     Ok(WordsFault::Usage(text))
 }
 
-/// What the words ask for, the program's name first.
-fn asked_by(alloc: Global, words: &[String]) -> Result<Asked, WordsFault>
-    ensures ok { IfOk result (Names (map string_bytes words.now)) }
-    ensures refused { IfErr result (λ e. AreTaken (map string_bytes words.now) → e ≡ OutOfMemory) }
+/// What the subcommand that `clap` found asks for.
+fn asked_in(alloc: Global, matches: &ArgMatches) -> Result<Asked, WordsFault>
+    ensures ok { IfOk result (IsAsked (subcommand_rows_of matches.now)) }
+    ensures refused { IfErr result (λ e. (asked : Asked) → IsAsked (subcommand_rows_of matches.now) asked → e ≡ OutOfMemory) }
 {
-    let command = command_line(alloc)?;
-    let matches = match command.try_get_matches_from(words) {
-        Ok(matches) => matches,
-        Err(error) => return Err(refused(alloc, &error)?),
-    };
     let Some((name, inner)) = matches.subcommand() else {
         return Err(incomplete(alloc)?);
     };
@@ -182,6 +194,18 @@ fn asked_by(alloc: Global, words: &[String]) -> Result<Asked, WordsFault>
     };
     let file = String::from_str(alloc, file)?;
     Ok(Asked { verb, file })
+}
+
+/// What the words ask for, the program's name first.
+fn asked_by(alloc: Global, words: &[String]) -> Result<Asked, WordsFault>
+    ensures ok { IfOk result (Names (map string_bytes words.now)) }
+    ensures refused { IfErr result (λ e. AreTaken (map string_bytes words.now) → e ≡ OutOfMemory) }
+{
+    let command = command_line(alloc)?;
+    match command.try_get_matches_from(words) {
+        Ok(matches) => asked_in(alloc, &matches),
+        Err(error) => Err(refused(alloc, &error)?),
+    }
 }
 
 /// What the words of a command line ask for: first the program's name, then a verb and a file.
