@@ -1,33 +1,16 @@
 //! `cbsrun` runs task files: jobs on Constant Bandwidth Servers, under earliest deadline first.
 #![tactic(auto)]
 
-mod fault_lines;
-mod input;
-mod line;
-mod output;
-mod pending;
-mod replay;
-mod run;
-mod run_error;
-mod serve;
-mod served;
-mod shares;
-#[cfg(test)]
-mod tests;
-mod words;
-
-use fault_lines::{write_read_fault, write_run_fault};
-use input::{FromRead, ReadError, read_all};
-use output::{ToWrite, write_pieces};
-use run::{BAD_FILE, DONE, RUN_FAULT, WRONG_WORDS, run_bytes};
-use run_error::RunError;
+use cbs_run::{
+    Asked, BAD_FILE, DONE, FromRead, RUN_FAULT, ReadError, RunError, ToWrite, WRONG_WORDS,
+    WordsFault, read_all, read_words, run_bytes, write_pieces, write_read_fault, write_run_fault,
+};
 use std::alloc::Global;
 use std::env;
 use std::fs::File;
 use std::io::ErrorKind;
 use std::process::ExitCode;
 use std::thread::Threads;
-use words::{Asked, WordsFault, read_words};
 
 /// The words of the command line.
 fn words_of(rt: &HostRuntime, alloc: Global) -> Result<Vec<String>, WordsFault> {

@@ -1,0 +1,71 @@
+-- The results that a house has after it served the jobs of a file.
+use Rattle.std.proofs.Common.{◌≡◌, ℕ, ◌+◌, List, [], ◌∷◌, ◌++◌, length, map, refl, sym, ap, ap₂, ◌∙◌, arith}
+use Rattle.std.specs.List.{All, range_with_len}
+use Rattle.std.proofs.lemmas.List.{length-map, map-append}
+use Rattle.std.proofs.lemmas.List.FromFn.{map-range_with_len_more}
+use Rattle.std.proofs.lemmas.List.Elements.{All-head, All-tail, All-weaker}
+use Rattle.std.proofs.lemmas.Simd.{map-map}
+use Rattle.cbs_job.specs.Work.{Meaning, whole}
+use Rattle.cbs_job.specs.declared.work.Work.{Ghosts}
+use Rattle.cbs_job.specs.Files.{of_files}
+use Rattle.cbs_job.specs.declared.file.FileJob.{FileJob}
+use Rattle.cbs_rate.specs.Rate.{Rate}
+use Rattle.cbs_rules.specs.Rules.{Terms}
+use Rattle.cbs_rules.specs.declared.mode.Mode.{Mode}
+use Rattle.cbs_core.specs.Agreement.{Agrees}
+use Rattle.cbs_core.specs.declared.step.Step.{Step}
+use Rattle.cbs_house.specs.Clients.{server_of}
+use Rattle.cbs_house.specs.Feeds.{client_of, left, all_jobs, KeepsFeeds}
+use Rattle.cbs_house.specs.Houses.{core_of, results_of}
+use Rattle.cbs_house.specs.Opened.{IsUnused}
+use Rattle.cbs_house.specs.Rounds.{IsServed, ServesOn}
+use Rattle.cbs_house.specs.declared.feed.Feed.{Feed}
+use Rattle.cbs_house.specs.declared.house.House.{House}
+use Rattle.cbs_house.proofs.Feeding.{feeds_servers, feeds_jobs, unused_jobs}
+use Rattle.cbs_house.proofs.Moving.{serves_rings}
+use Rattle.cbs_house.proofs.Newness.{new_count}
+use Rattle.cbs_file.specs.TaskFiles.{File}
+use Rattle.cbs_run.specs.ResultLines.{jobs_for, results_by_server}
+use Rattle.cbs_run.specs.StepTexts.{start_of}
+
+-- the terms of a server
+abbrev term_of : Mode → Rate → Terms
+term_of mode r = record { mode = mode; reservation = r }
+
+module _ {X Y : Type 0} where
+  -- what is the same at each is the same of all
+  map_all : (f k : X → Y) (xs : List X) → All (λ x. f x ≡ k x) xs → map f xs ≡ map k xs
+  map_all f k [] h = refl
+  map_all f k (x ∷ xs) h = ap₂ ◌∷◌ (All-head (λ x. f x ≡ k x) x xs h) (map_all f k xs (All-tail (λ x. f x ≡ k x) x xs h))
+
+module _ {W A : Type 0} {g : Ghosts W} where
+  -- the results of the servers are those of the lists of jobs
+  pub results_are : (work : Meaning W) (h : House W A g) (ring n : ℕ) (fs fs' : List (Feed W A g)) (jobs : List (List W)) → All (λ f. IsUnused ring (client_of f)) fs
+      → map (λ f. server_of (client_of f)) fs ≡ range_with_len 0 n → map left fs ≡ jobs → KeepsFeeds fs fs' → All (IsServed work h) fs' → map (results_of h) (range_with_len 0 n) ≡ map (map (whole work)) jobs
+  results_are work h ring n fs fs' jobs unused servers lefts kept served =
+      let numbers : map (λ f. server_of (client_of f)) fs' ≡ range_with_len 0 n = feeds_servers fs fs' kept ∙ servers in
+      let all : map all_jobs fs' ≡ jobs =
+      feeds_jobs fs fs' kept ∙ (map_all all_jobs left fs (All-weaker (λ f. IsUnused ring (client_of f)) (λ f. all_jobs f ≡ left f) (unused_jobs ring) fs unused) ∙ lefts) in
+      let each : map (λ f. results_of h (server_of (client_of f))) fs' ≡ map (λ f. map (whole work) (all_jobs f)) fs' =
+      map_all (λ f. results_of h (server_of (client_of f))) (λ f. map (whole work) (all_jobs f)) fs'
+      (All-weaker (IsServed work h) (λ f. results_of h (server_of (client_of f)) ≡ map (whole work) (all_jobs f)) (λ f s. s.results) fs' served) in
+      ap (map (results_of h)) (sym numbers) ∙ (map-map (results_of h) (λ f. server_of (client_of f)) fs' ∙ (each ∙ (sym (map-map (map (whole work)) all_jobs fs') ∙ ap (map (map (whole work))) all)))
+
+module _ {A : Type 0} {g : Ghosts FileJob} (f : File) where
+  -- a house that served has the servers that it was opened with
+  pub served_count : (a b : House FileJob A g) → Agrees of_files (core_of a) (start_of f) → ServesOn of_files a b → length (core_of b).servers ≡ length f.plan.rates
+  served_count a b agrees on =
+      sym b.housed.ring_count ∙ (ap length (serves_rings of_files a b on) ∙ (a.housed.ring_count ∙ (new_count of_files (core_of a) (start_of f).setup agrees ∙ length-map f.plan.rates (term_of f.mode))))
+
+-- the lists of jobs, and the results of each server
+pub jobs_are : (f : File) (n : ℕ) (steps : List (Step FileJob)) → n ≡ length f.plan.rates → steps ≡ f.steps
+    → map (λ s. jobs_for s steps) (range_with_len 0 n) ≡ map (λ s. jobs_for s f.steps) (range_with_len 0 (length f.plan.rates))
+jobs_are f n steps servers same = rw (servers, same) refl
+
+pub by_server : (f : File) → map (map (whole of_files)) (map (λ s. jobs_for s f.steps) (range_with_len 0 (length f.plan.rates))) ≡ results_by_server f
+by_server f = map-map (map (whole of_files)) (λ s. jobs_for s f.steps) (range_with_len 0 (length f.plan.rates))
+
+-- one more server's results
+pub results_more : (f : ℕ → List ℕ) {X : Type 0} (view : X → List ℕ) (xs : List X) (x : X) (n : ℕ) → map view xs ≡ map f (range_with_len 0 n) → view x ≡ f n → map view (xs ++ x ∷ []) ≡ map f (range_with_len 0 (n + 1))
+results_more f view xs x n e here =
+    map-append view xs (x ∷ []) ∙ (ap (λ rs. rs ++ view x ∷ []) e ∙ (ap (λ r. map f (range_with_len 0 n) ++ r ∷ []) here ∙ sym (map-range_with_len_more f 0 n n (omega arith))))

@@ -1,0 +1,14 @@
+use Rattle.cbs_run.specs.FaultLines.{file_line}
+use Rattle.cbs_run.proofs.fault_lines.write_file_fault.Goals as goal
+
+pub returns-in-Top-clause-ok : goal.returns-in-Top-clause-ok
+unfolding file_line
+returns-in-Top-clause-ok g c = rw c.in-Top.is (rw (c.format-number.ensures.text, c.number.ensures, c.name-name.ensures) at c.write_pieces.ensures.ok)
+
+pub returns-in-Server-clause-ok : goal.returns-in-Server-clause-ok
+unfolding file_line
+returns-in-Server-clause-ok g c = rw c.in-Server.is (rw (c.format-number.ensures.text, c.number.ensures, c.name-name.ensures, c.format-i.ensures.text) at c.write_pieces-in-Server.ensures.ok)
+
+pub returns-in-Step-clause-ok : goal.returns-in-Step-clause-ok
+unfolding file_line
+returns-in-Step-clause-ok g c = rw c.in-Step.is (rw (c.format-number.ensures.text, c.number.ensures, c.name-name.ensures, c.format-i-in-Step.ensures.text) at c.write_pieces-in-Step.ensures.ok)

@@ -1,0 +1,14 @@
+use Rattle.std.proofs.Common.{◌∙◌, length}
+use Rattle.cbs_job.specs.Files.{of_files}
+use Rattle.cbs_run.proofs.HouseResults.{results_are, by_server, served_count}
+use Rattle.cbs_run.proofs.serve.served_house.Goals as goal
+
+pub returns-clause-servers : goal.returns-clause-servers
+returns-clause-servers g c = served_count c.args.file c.in_ok-house.house c.serve.new.house c.in_ok-house.ensures.core c.in_ok-serve.ensures.steps
+
+pub returns-clause-results : goal.returns-clause-results
+returns-clause-results g c =
+    let opened = c.in_ok-house in
+    let served = c.in_ok-serve.ensures in
+    results_are of_files c.serve.new.house c.args.file.ring (length c.args.file.plan.rates) opened.feeds.items c.serve.new.feeds _ opened.ensures.rings opened.ensures.servers opened.ensures.jobs
+    (rw c.deref_mut.ensures.value at served.feeds) served.served ∙ by_server c.args.file

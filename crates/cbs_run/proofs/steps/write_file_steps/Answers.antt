@@ -1,0 +1,16 @@
+use Rattle.std.proofs.Common.{◌≡◌, ap}
+use Rattle.cbs_job.specs.Files.{of_files}
+use Rattle.cbs_core.specs.Agreement.{Agrees}
+use Rattle.cbs_file.specs.TaskFiles.{File}
+use Rattle.cbs_run.specs.StepTexts.{start_of}
+use Rattle.cbs_run.proofs.StepTexts.{nothing_written, without_core}
+use Rattle.cbs_run.proofs.steps.write_file_steps.Goals as goal
+
+pub returns-in-Ok : goal.returns-in-Ok
+returns-in-Ok g c =
+    let agrees : Agrees of_files c.in-Ok.core (start_of c.args.file) = rw (← c.into_parts-mode.ensures.value) c.in-Ok.ensures.start in
+    let steps : c.into_parts-mode.result.steps.items ≡ c.args.file.steps = ap (λ (f : File). f.steps) c.into_parts-mode.ensures.value in
+    without_core _ (start_of c.args.file) c.args.file.steps _ c.write_steps.result _ _ (rw steps at (c.write_steps.ensures (start_of c.args.file) agrees))
+
+pub returns-after-matches : goal.returns-after-matches
+returns-after-matches g c = nothing_written _ _ _ _

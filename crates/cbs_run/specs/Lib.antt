@@ -1,0 +1,15 @@
+pub mod Counted
+pub mod FaultLines
+pub mod JobsByServer
+pub mod Lines
+pub mod Reads
+pub mod ResultLines
+pub mod Runs
+pub mod ServingStops
+pub mod Statuses
+pub mod StepTexts
+pub mod Traces
+pub mod Verbs
+pub mod Words
+pub mod Writers
+pub mod Writes

@@ -1,0 +1,56 @@
+-- Why serving a task file stops.
+use Rattle.std.specs.Prelude.{◌≡◌, List, Option, Some, None}
+use Rattle.cbs_job.specs.Files.{of_files}
+use Rattle.cbs_job.specs.declared.file.FileJob.{FileJob}
+use Rattle.cbs_rules.specs.Rules.{clock_end}
+use Rattle.cbs_core.specs.Agreement.{Agrees}
+use Rattle.cbs_core.specs.Held.{CoreHeld}
+use Rattle.cbs_core.specs.declared.step.Step.{Step}
+use Rattle.cbs_house.specs.Houses.{HoldsJob, HoldsNoJob}
+use Rattle.cbs_house.specs.Steps.{◌⊕⊕◌, EachAllowed, MayServe}
+use Rattle.cbs_house.specs.declared.error.HouseError.{HouseError}
+use Rattle.cbs_house.specs.declared.error.HouseError.TheVariants as house
+use Rattle.cbs_file.specs.TaskFiles.{File}
+use Rattle.cbs_run.specs.ResultLines.{result_lines}
+use Rattle.cbs_run.specs.StepTexts.{start_of}
+use Rattle.cbs_run.specs.Writers.{Writer, IsUntouched, FailsToWrite}
+use Rattle.cbs_run.specs.declared.run_error.RunError.{RunError}
+use Rattle.cbs_run.specs.declared.run_error.RunError.TheVariants as run
+
+-- a core with the file's servers, mode and backlog comes, by steps of serving, into such a state
+pub record ComesTo (f : File) (state : CoreHeld FileJob → Type 0) : Type 0 where
+  pub steps : List (Step FileJob)
+  pub core : CoreHeld FileJob
+  pub allowed : EachAllowed (MayServe of_files) (start_of f) steps
+  pub agrees : Agrees of_files core (start_of f ⊕⊕ steps)
+  pub comes : state core
+
+-- the clock stands at its end with a job unfinished
+pub record IsAtEnd (core : CoreHeld FileJob) : Type 0 where
+  pub clock : core.clock ≡ clock_end
+  pub holds : HoldsJob core
+
+-- why a house that serves the file stops; of want of memory nothing is said
+abbrev pub HouseStops : File → HouseError → Type 0
+HouseStops f house.OutOfMemory = Unit {0}
+HouseStops f house.ClockEnd = ComesTo f IsAtEnd
+HouseStops f house.Stalled = ComesTo f HoldsNoJob
+HouseStops f house.BadBacklog = ⊥
+HouseStops f house.BadRing = ⊥
+HouseStops f house.NoSuchServer = ⊥
+
+-- the run fault that an error of the house is, if it is one
+abbrev pub fault_of : HouseError → Option RunError
+fault_of house.OutOfMemory = Some run.OutOfMemory
+fault_of house.ClockEnd = Some run.ClockEnd
+fault_of house.Stalled = Some run.Stalled
+fault_of house.BadBacklog = None
+fault_of house.BadRing = None
+fault_of house.NoSuchServer = None
+
+-- how serving stops: where a call failed a front of the results was written, and else nothing
+abbrev pub ServeStops : File → RunError → Writer → Writer → Type 0
+ServeStops f run.OutOfMemory old new = IsUntouched old new
+ServeStops f run.WriteFault old new = FailsToWrite old new (result_lines f)
+ServeStops f run.ClockEnd old new = IsUntouched old new × ComesTo f IsAtEnd
+ServeStops f run.Stalled old new = IsUntouched old new × ComesTo f HoldsNoJob

@@ -1,0 +1,55 @@
+-- The trace of a task file: the lines of its steps.
+use Rattle.std.specs.Prelude.{ℕ, List, slice_get, Option, Some, None, Result, Ok, Err}
+use Rattle.cbs_job.specs.Files.{of_files}
+use Rattle.cbs_job.specs.declared.file.FileJob.{FileJob}
+use Rattle.cbs_core.specs.History.{World}
+use Rattle.cbs_core.specs.Views.{view_reply}
+use Rattle.cbs_core.specs.declared.error.CoreError.{CoreError}
+use Rattle.cbs_core.specs.declared.reply.Reply.{Reply}
+use Rattle.cbs_core.specs.declared.reply.Reply.TheVariants as reply
+use Rattle.cbs_core.specs.declared.view.ServerView.{ServerView}
+use Rattle.cbs_file.specs.TaskFiles.{File}
+use Rattle.cbs_run.specs.Lines.{line_text, shown_server}
+use Rattle.cbs_run.specs.StepTexts.{StepText, start_of, texts_of, WritesSteps}
+use Rattle.cbs_run.specs.Writers.{Writer, StopsWriting}
+use Rattle.cbs_run.specs.declared.call.Call.{Call}
+use Rattle.cbs_run.specs.declared.line.Answer.{Answer}
+use Rattle.cbs_run.specs.declared.line.Answer.TheVariants.{Accepted, Refused, Ran, Made}
+use Rattle.cbs_run.specs.declared.line.Line.{Line}
+use Rattle.cbs_run.specs.declared.run_error.RunError.{RunError}
+
+-- what a line says of a reply
+abbrev pub answer_of : Reply FileJob → Answer
+answer_of (reply.Accepted seq) = Accepted seq
+answer_of (reply.NotAccepted refused) = Refused refused.error
+answer_of (reply.Ran ran) = Ran ran
+answer_of reply.Advanced = Made
+answer_of reply.Closed = Made
+answer_of (reply.Refused error) = Refused error
+
+-- the view, if it is one
+abbrev pub view_if_any : Result ServerView CoreError → Option ServerView
+view_if_any (Ok view) = Some view
+view_if_any (Err error) = None
+
+-- what a line shows of a server
+abbrev pub shown : World FileJob → Option ℕ → Option ServerView
+shown w None = None
+shown w (Some s) = view_if_any (view_reply of_files (slice_get w.accounts s))
+
+-- the line of a call with this answer, which left w
+abbrev pub line_in : World FileJob → Call → Answer → Line
+line_in w call answer = record { clock = w.now; call = call; answer = answer; state = record { server = shown w (shown_server call answer) } }
+
+-- the text of the line of a step
+unfoldable pub line_of : StepText
+line_of call reply w = line_text (line_in w call (answer_of reply))
+
+-- the lines of all steps
+abbrev pub trace : File → List ℕ
+trace f = texts_of line_of f
+
+-- how a replay stops: where memory ran out the lines of some first steps were written, where a call failed a front of the trace;
+-- it stops for no other cause
+abbrev pub TraceStops : File → RunError → Writer → Writer → Type 0
+TraceStops f = StopsWriting (trace f) (WritesSteps line_of (start_of f) f.steps)

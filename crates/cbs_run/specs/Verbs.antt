@@ -1,0 +1,25 @@
+-- What each verb is called, writes, and leaves where it stops.
+use Rattle.std.specs.Prelude.{ℕ, List, codes}
+use Rattle.cbs_file.specs.TaskFiles.{File}
+use Rattle.cbs_run.specs.ResultLines.{result_lines}
+use Rattle.cbs_run.specs.ServingStops.{ServeStops}
+use Rattle.cbs_run.specs.Traces.{trace, TraceStops}
+use Rattle.cbs_run.specs.Writers.{Writer}
+use Rattle.cbs_run.specs.declared.run_error.RunError.{RunError}
+use Rattle.cbs_run.specs.declared.words.Verb.{Verb}
+use Rattle.cbs_run.specs.declared.words.Verb.TheVariants.{Replay, Serve}
+
+-- the word of each verb
+abbrev pub name_of : Verb → List ℕ
+name_of Replay = codes "replay"
+name_of Serve = codes "serve"
+
+-- what a verb writes of a file
+abbrev pub output_of : Verb → File → List ℕ
+output_of Replay f = trace f
+output_of Serve f = result_lines f
+
+-- how a verb stops short
+abbrev pub StopsShort : Verb → File → RunError → Writer → Writer → Type 0
+StopsShort Replay f = TraceStops f
+StopsShort Serve f = ServeStops f

@@ -1,0 +1,52 @@
+//! The jobs of a task file, in a list for each server.
+
+ghost use Rattle.std.specs.Prelude.{◌≡◌, ℕ, [], ◌∷◌, ◌++◌, All, IfOk, OnOk, length, map, replicate};
+ghost use Rattle.std.specs.List.{range_with_len};
+ghost use Rattle.cbs_run.specs.ResultLines.{jobs_for};
+ghost use Rattle.cbs_run.specs.JobsByServer.{listed};
+ghost use Rattle.cbs_file.specs.TaskFiles.{NamesServer};
+
+use cbs_core::Step;
+use cbs_job::{FileJob, Task};
+use std::alloc::{AllocError, Global};
+
+/// A list with no job for each of so many servers.
+fn empty_lists(alloc: Global, servers: u16) -> Result<Vec<Vec<Task<FileJob>>>, AllocError>
+    ensures { IfOk result (λ lists. map (λ jobs. jobs.items) lists.items ≡ replicate servers []) }
+{
+    let mut lists = Vec::with_capacity(alloc, usize::from(servers))?;
+    for _server in 0..servers {
+        lists.push(Vec::new(alloc))?;
+    }
+    Ok(lists)
+}
+
+/// Puts the job of a submit at the end of its server's list. Other steps have no job.
+fn add_job(lists: &mut Vec<Vec<Task<FileJob>>>, step: Step<FileJob>) -> Result<(), AllocError>
+    requires { NamesServer (length lists.old.items) step }
+    ensures len { length lists.new.items ≡ length lists.old.items }
+    ensures jobs { OnOk result ((s : ℕ) → listed lists.new.items s ≡ listed lists.old.items s ++ jobs_for s (step ∷ [])) }
+{
+    let Step::Submit(server, task) = step else {
+        return Ok(());
+    };
+    lists[usize::from(server)].push(task)?;
+    Ok(())
+}
+
+/// The jobs that the steps submit to each server, in the order of the steps. Only want of memory is
+/// an error.
+pub fn jobs_by_server(
+    alloc: Global,
+    servers: u16,
+    steps: Vec<Step<FileJob>>,
+) -> Result<Vec<Vec<Task<FileJob>>>, AllocError>
+    requires { All (NamesServer servers) steps.items }
+    ensures { IfOk result (λ lists. map (λ jobs. jobs.items) lists.items ≡ map (λ s. jobs_for s steps.items) (range_with_len 0 servers)) }
+{
+    let mut lists = empty_lists(alloc, servers)?;
+    for step in steps {
+        add_job(&mut lists, step)?;
+    }
+    Ok(lists)
+}

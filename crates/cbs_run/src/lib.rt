@@ -1,0 +1,26 @@
+//! Task files run from their bytes to a status: a trace of their steps, or the results of their jobs.
+#![tactic(auto)]
+
+mod call;
+mod fault_lines;
+mod input;
+mod jobs_by_server;
+mod line;
+mod output;
+mod pending;
+mod result_lines;
+mod run;
+mod run_error;
+mod serve;
+mod steps;
+mod trace;
+mod words;
+
+pub use fault_lines::{write_file_fault, write_read_fault, write_run_fault};
+pub use input::{ByteInput, FromRead, MAX_BYTES, ReadError, read_all};
+pub use output::{ByteOutput, ToWrite, write_pieces, write_text};
+pub use run::{BAD_FILE, DONE, RUN_FAULT, WRONG_WORDS, run_bytes};
+pub use run_error::RunError;
+pub use serve::serve_file;
+pub use trace::replay;
+pub use words::{Asked, Verb, WordsFault, read_words};

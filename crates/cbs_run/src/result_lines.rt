@@ -1,0 +1,32 @@
+//! What serving a task file writes.
+
+ghost use Rattle.std.specs.Prelude.{◌≡◌, ◌++◌, ◌≤◌, IfOk, OnOk, length, map, string_bytes};
+ghost use Rattle.cbs_run.specs.ResultLines.{server_line, lines_from};
+
+use std::alloc::{AllocError, Global};
+use std::fmt::Write;
+
+/// Appends the line of a server with these results. Only want of memory is an error.
+#[tactic(auto, unfolding(crate::specs::ResultLines::server_line))]
+fn append_line(text: &mut String, server: u16, results: &[u64]) -> Result<(), AllocError>
+    ensures { OnOk result (string_bytes text.new ≡ string_bytes text.old ++ server_line server results.now) }
+{
+    write!(text, "server {server}:")?;
+    for value in results {
+        write!(text, " {value}")?;
+    }
+    write!(text, "\n")
+}
+
+/// The lines of all servers with their results, the first that of server 0. Only want of memory is an
+/// error.
+pub fn result_text(alloc: Global, results: &[Vec<u64>]) -> Result<String, AllocError>
+    requires { length results.now ≤ 64 }
+    ensures { IfOk result (λ text. string_bytes text ≡ lines_from 0 (map (λ v. v.items) results.now)) }
+{
+    let mut text = String::new(alloc);
+    for (server, values) in results.iter().enumerate() {
+        append_line(&mut text, server as u16, values)?;
+    }
+    Ok(text)
+}

@@ -1,0 +1,83 @@
+//! One run: from the bytes of a file to a status.
+
+ghost use Rattle.std.specs.Prelude.{◌+◌, ◌-◌, ◌<◌, ◌^◌};
+ghost use Rattle.cbs_run.specs.Statuses.{Ends};
+ghost use Rattle.cbs_run.specs.Verbs.{output_of, StopsShort};
+ghost use Rattle.cbs_run.specs.Writers.{Leaves};
+
+use crate::fault_lines::{write_file_fault, write_run_fault};
+use crate::output::ByteOutput;
+use crate::run_error::RunError;
+use crate::serve::serve_file;
+use crate::trace::replay;
+use crate::words::Verb;
+use cbs_file::{TaskFile, read_file};
+use std::alloc::Global;
+use std::thread::Threads;
+
+/// The status of a run that is done, or of a request for help.
+pub const DONE: u8 = 0;
+
+/// The status of a wrong command line.
+pub const WRONG_WORDS: u8 = 2;
+
+/// The status where the file could not be read, or has a fault.
+pub const BAD_FILE: u8 = 3;
+
+/// The status of a run that ended early.
+pub const RUN_FAULT: u8 = 4;
+
+/// Does with a task file what the verb says.
+fn run_file<R: Threads + Sync, O: ByteOutput>(
+    rt: &R,
+    alloc: Global,
+    verb: Verb,
+    file: TaskFile,
+    out: &mut O,
+) -> Result<(), RunError>
+    requires { O.failed out.old < 2 ^ 64 - 1 }
+    ensures { Leaves (output_of verb file) (StopsShort verb file) result
+        (record { written = O.written out.old; failed = O.failed out.old }) (record { written = O.written out.new; failed = O.failed out.new }) }
+{
+    match verb {
+        Verb::Replay => replay(alloc, file, out),
+        Verb::Serve => serve_file(rt, alloc, file, out),
+    }
+}
+
+/// Does with the bytes of a task file what the verb says, and answers the status.
+///
+/// At status 0 the whole output is on `out`, and nothing on `err`. At status 3 the file has a fault:
+/// its line goes to `err`, and nothing to `out`. At status 4 the run ended early: the line of that
+/// goes to `err`, and `out` has a front of the output, which in serving is empty unless a write
+/// failed. A line that cannot be written changes no status.
+pub fn run_bytes<R: Threads + Sync, O: ByteOutput, E: ByteOutput>(
+    rt: &R,
+    alloc: Global,
+    verb: Verb,
+    bytes: &[u8],
+    out: &mut O,
+    err: &mut E,
+) -> u8
+    requires out { O.failed out.old < 2 ^ 64 - 1 }
+    requires err { E.failed err.old < 2 ^ 64 - 1 }
+    ensures { Ends verb bytes.now
+        (record { written = O.written out.old; failed = O.failed out.old }) (record { written = O.written out.new; failed = O.failed out.new })
+        (record { written = E.written err.old; failed = E.failed err.old }) (record { written = E.written err.new; failed = E.failed err.new })
+        result }
+{
+    let file = match read_file(alloc, bytes) {
+        Ok(file) => file,
+        Err(fault) => {
+            let _written = write_file_fault(err, fault);
+            return BAD_FILE;
+        }
+    };
+    match run_file(rt, alloc, verb, file, out) {
+        Ok(()) => DONE,
+        Err(error) => {
+            let _written = write_run_fault(err, error);
+            RUN_FAULT
+        }
+    }
+}

@@ -1,0 +1,221 @@
+//! What the words of a command line ask for.
+
+ghost use Rattle.std.specs.Prelude.{◌≡◌, ◌≢◌, false, IfOk, IfErr, MatchOption, map, string_bytes};
+ghost use Rattle.clap.specs.Words.{app_of, kind_of, subcommand_rows_of, with_subcommand};
+ghost use Rattle.clap.specs.declared.builder.command.Command.TheViews.{out-Command};
+ghost use Rattle.cbs_run.specs.Verbs.{name_of};
+ghost use Rattle.cbs_run.specs.Words.{command_line, on_file, bare_program, IsAsked, Names, AreTaken, words_fault_number, words_fault_name};
+ghost use Rattle.cbs_run.specs.declared.words.WordsFault.TheVariants.{OutOfMemory};
+
+use clap::error::ErrorKind;
+use clap::{Arg, ArgMatches, Command, Error};
+use std::alloc::{AllocError, Global};
+
+const ABOUT: &str =
+    "Runs Constant Bandwidth Servers under EDF: jobs on one thread, each server with \
+a budget of so many ticks in every period.";
+
+const TASK_FILES: &str = "\
+FILE is a task file, in TOML. It names the mode, the servers and the steps:
+
+  format = 1                               # the only format there is
+  mode = \"soft\"                            # or \"throttled\"
+  bound = [1, 1]                           # the bandwidths add up to at most 1/1
+  backlog = 4                              # unfinished jobs that a server may have
+  ring = 4                                 # places in a client's ring of messages
+  server = [{ budget = 2, period = 5 }]    # 2 ticks in every 5
+  step = [
+    { op = \"submit\", server = 0, job = \"sum\", units = [1, 2, 3] },
+    { op = \"run\" },
+    { op = \"advance\", ticks = 3 },
+    { op = \"close\", server = 0 },
+  ]
+
+Saved as FIRST.toml, it is run by
+  cbsrun replay FIRST.toml
+  cbsrun serve FIRST.toml
+
+Exit status:
+  0  done, or this help
+  2  the command line is wrong
+  3  the file could not be read, or has a fault
+  4  the run ended early: no memory, the output could not be written, or, in
+     serve, the clock came to its end or the clients stalled";
+
+const REPLAY: &str = "Runs the steps of a task file, and writes a line for each";
+
+const SERVE: &str = "Gives each server's submits to a client of its own, serves them all, \
+and writes the results of each server";
+
+/// What to do.
+#[derive(Clone, Copy, Debug, PartialEq, Eq)]
+pub enum Verb {
+    /// Runs the steps of the file, and writes a line for each.
+    Replay,
+    /// Gives each server's submits to a client of its own, serves them all, and writes the results of
+    /// each server.
+    Serve,
+}
+
+/// What to do, and with which file.
+#[derive(Debug, Drop)]
+pub struct Asked {
+    /// What to do.
+    pub verb: Verb,
+    /// The name of the task file.
+    pub file: String,
+}
+
+/// Why the words ask for nothing, with the text to print.
+#[derive(Debug, Drop)]
+pub enum WordsFault {
+    /// The words are wrong: the text says in what, and how they go.
+    Usage(String),
+    /// The words ask for help: the text is the help.
+    Help(String),
+    /// There was no memory to read the words.
+    OutOfMemory,
+}
+
+impl WordsFault {
+    /// The fault's number, from 1.
+    pub fn number(&self) -> u8
+        ensures { result ≡ words_fault_number self.now }
+    {
+        match self {
+            WordsFault::Usage(_) => 1,
+            WordsFault::Help(_) => 2,
+            WordsFault::OutOfMemory => 3,
+        }
+    }
+
+    /// The fault's name.
+    pub fn name(&self) -> &'static str
+        ensures { result.now ≡ words_fault_name self.now }
+    {
+        match self {
+            WordsFault::Usage(_) => "Usage",
+            WordsFault::Help(_) => "Help",
+            WordsFault::OutOfMemory => "OutOfMemory",
+        }
+    }
+}
+
+impl From<AllocError> for WordsFault {
+    ghost from_gives = { λ _ e. e ≡ OutOfMemory };
+
+    fn from(_error: AllocError) -> WordsFault {
+        WordsFault::OutOfMemory
+    }
+}
+
+/// A verb of this name, and its file.
+fn on_file<'a>(alloc: Global, name: &'a str, about: &'a str) -> Result<Command<'a>, AllocError>
+    ensures app { IfOk result (λ c. app_of c ≡ on_file name.now) }
+    ensures local { IfOk result (λ c. (out-Command c).has_globals ≡ false) }
+{
+    let file = Arg::new(alloc, "FILE").help("The task file").required(true);
+    Command::new(alloc, name).about(about).arg(file)
+}
+
+/// The program with one verb more.
+fn with_verb<'a>(
+    alloc: Global,
+    program: Command<'a>,
+    name: &'a str,
+    about: &'a str,
+) -> Result<Command<'a>, AllocError>
+    ensures { IfOk result (λ c. app_of c ≡ with_subcommand (app_of program.entry) (on_file name.now).top) }
+{
+    let verb = on_file(alloc, name, about)?;
+    program.subcommand(verb)
+}
+
+/// The program, with no verb yet.
+fn bare_program<'a>(alloc: Global) -> Command<'a>
+    ensures { app_of result ≡ bare_program }
+{
+    Command::new(alloc, "cbsrun")
+        .about(ABOUT)
+        .after_help(TASK_FILES)
+        .subcommand_required(true)
+}
+
+/// The command line of the program: a verb, and its file.
+fn command_line<'a>(alloc: Global) -> Result<Command<'a>, AllocError>
+    ensures { IfOk result (λ c. app_of c ≡ command_line) }
+{
+    let program = with_verb(alloc, bare_program(alloc), "replay", REPLAY)?;
+    with_verb(alloc, program, "serve", SERVE)
+}
+
+/// The verb of this name, if there is one.
+fn verb_of(name: &str) -> Option<Verb>
+    ensures { MatchOption result ((verb : Verb) → name_of verb ≢ name.now) (λ verb. name_of verb ≡ name.now) }
+{
+    match name {
+        "replay" => Some(Verb::Replay),
+        "serve" => Some(Verb::Serve),
+        _ => None,
+    }
+}
+
+/// The fault of a command line that `clap` refused.
+fn refused(alloc: Global, error: &Error) -> Result<WordsFault, AllocError>
+    ensures { kind_of error.now ≡ ErrorKind.OutOfMemory → IfOk result (λ w. w ≡ OutOfMemory) }
+{
+    let text = error.to_string(alloc)?;
+    Ok(match error.kind() {
+        ErrorKind::OutOfMemory => WordsFault::OutOfMemory,
+        ErrorKind::DisplayHelp | ErrorKind::DisplayVersion => WordsFault::Help(text),
+        _ => WordsFault::Usage(text),
+    })
+}
+
+/// The fault of a command line with no verb or no file. `clap` refuses those itself.
+fn incomplete(alloc: Global) -> Result<WordsFault, AllocError> {
+    let text = String::from_str(alloc, "cbsrun: a verb and a file are wanted\n")?;
+    Ok(WordsFault::Usage(text))
+}
+
+/// What the subcommand that `clap` found asks for.
+fn asked_in(alloc: Global, matches: &ArgMatches) -> Result<Asked, WordsFault>
+    ensures ok { IfOk result (IsAsked (subcommand_rows_of matches.now)) }
+    ensures refused { IfErr result (λ e. (asked : Asked) → IsAsked (subcommand_rows_of matches.now) asked → e ≡ OutOfMemory) }
+{
+    let Some((name, inner)) = matches.subcommand() else {
+        return Err(incomplete(alloc)?);
+    };
+    let Some(verb) = verb_of(name) else {
+        return Err(incomplete(alloc)?);
+    };
+    let Some(file) = inner.get_str("FILE") else {
+        return Err(incomplete(alloc)?);
+    };
+    let file = String::from_str(alloc, file)?;
+    Ok(Asked { verb, file })
+}
+
+/// What the words ask for, the program's name first.
+fn asked_by(alloc: Global, words: &[String]) -> Result<Asked, WordsFault>
+    ensures ok { IfOk result (Names (map string_bytes words.now)) }
+    ensures refused { IfErr result (λ e. AreTaken (map string_bytes words.now) → e ≡ OutOfMemory) }
+{
+    let command = command_line(alloc)?;
+    match command.try_get_matches_from(words) {
+        Ok(matches) => asked_in(alloc, &matches),
+        Err(error) => Err(refused(alloc, &error)?),
+    }
+}
+
+/// What the words of a command line ask for: first the program's name, then a verb and a file.
+///
+/// Refuses with [`WordsFault::Usage`] where the words are wrong, with [`WordsFault::Help`] where
+/// they ask for help, and with [`WordsFault::OutOfMemory`].
+pub fn read_words(alloc: Global, words: Vec<String>) -> Result<Asked, WordsFault>
+    ensures ok { IfOk result (Names (map string_bytes words.items)) }
+    // Words that name a verb and a file are refused only for want of memory.
+    ensures refused { IfErr result (λ e. AreTaken (map string_bytes words.items) → e ≡ OutOfMemory) }
+{
+    asked_by(alloc, words.as_slice())
+}

@@ -1,0 +1,136 @@
+//! Readers and writers over memory that fail where they are told to.
+
+ghost use Rattle.std.specs.Prelude.{Some, None, ◌≡◌, ◌<◌, ◌-◌};
+
+use cbs_run::{ByteInput, ByteOutput, Verb, run_bytes};
+use std::alloc::Global;
+use std::io;
+use std::io::ErrorKind;
+use std::process::Abort;
+use std::thread::Threads;
+
+/// A writer that takes at most `step` bytes a call and `room` in all, and then fails.
+#[derive(Drop)]
+pub struct Memory {
+    pub taken: Vec<u8>,
+    room: usize,
+    step: usize,
+    failed: u64,
+}
+
+impl Memory {
+    /// A writer with room for so many bytes, so many a call.
+    pub fn new(alloc: Global, room: usize, step: usize) -> Memory
+        ensures { result.failed ≡ 0 }
+    {
+        Memory {
+            taken: Vec::new(alloc),
+            room,
+            step,
+            failed: 0,
+        }
+    }
+
+    /// A writer with room for everything.
+    pub fn ample(alloc: Global) -> Memory
+        ensures { result.failed ≡ 0 }
+    {
+        Memory::new(alloc, usize::MAX, usize::MAX)
+    }
+
+    pub fn holds(&self, text: &str) -> bool {
+        self.taken.as_slice() == text.as_bytes()
+    }
+}
+
+impl ByteOutput for Memory {
+    ghost written = { λ s. Some s.taken.items };
+
+    ghost failed = { λ s. s.failed };
+
+    fn write(&mut self, bytes: &[u8]) -> io::Result<usize> {
+        let n = bytes.len().min(self.room).min(self.step);
+        if n == 0 && !bytes.is_empty() {
+            self.failed += 1;
+            return Err(io::Error::from(ErrorKind::WriteZero));
+        }
+        match self.taken.extend_from_slice(&bytes[..n]) {
+            Ok(()) => {
+                self.room -= n;
+                Ok(n)
+            }
+            Err(_) => {
+                self.failed += 1;
+                Err(io::Error::from(ErrorKind::OutOfMemory))
+            }
+        }
+    }
+}
+
+/// A reader of so many letters, whose nth call fails.
+#[derive(Drop)]
+pub struct Letters {
+    left: usize,
+    calls: u64,
+    bad: u64,
+    failed: u64,
+}
+
+impl Letters {
+    pub fn new(left: usize, bad: u64) -> Letters
+        ensures { result.failed ≡ 0 }
+    {
+        Letters {
+            left,
+            calls: 0,
+            bad,
+            failed: 0,
+        }
+    }
+}
+
+impl ByteInput for Letters {
+    ghost left = { λ _. None };
+
+    ghost failed = { λ s. s.failed };
+
+    fn read(&mut self, room: &mut [u8]) -> io::Result<usize> {
+        self.calls = self.calls.saturating_add(1);
+        if self.calls == self.bad {
+            self.failed += 1;
+            return Err(io::Error::from(ErrorKind::UnexpectedEof));
+        }
+        let n = room.len().min(self.left);
+        for byte in room.iter_mut() {
+            *byte = b'a';
+        }
+        self.left -= n;
+        Ok(n)
+    }
+}
+
+/// What a run of a file left: its status and its writers.
+#[derive(Drop)]
+pub struct Outcome {
+    pub status: u8,
+    pub out: Memory,
+    pub err: Memory,
+}
+
+impl Outcome {
+    /// Ends the test where a run left another status, output or error output, and names the label.
+    pub fn leaves(&self, rt: &impl Abort, label: &str, status: u8, out: &str, err: &str) {
+        let found = self.status;
+        assert!(rt; found == status, "{label}: status {found}, not {status}");
+        assert!(rt; self.out.holds(out), "{label}: another output");
+        assert!(rt; self.err.holds(err), "{label}: another error output");
+    }
+}
+
+/// Does with a file what the verb says, into ample memory.
+pub fn ran<R: Threads + Sync>(rt: &R, alloc: Global, verb: Verb, file: &[u8]) -> Outcome {
+    let mut out = Memory::ample(alloc);
+    let mut err = Memory::ample(alloc);
+    let status = run_bytes(rt, alloc, verb, file, &mut out, &mut err);
+    Outcome { status, out, err }
+}
