@@ -23,7 +23,7 @@ use Rattle.cbs_house.specs.declared.feed.Feed.{Feed}
 use Rattle.cbs_house.specs.declared.house.House.{House}
 use Rattle.cbs_house.proofs.Feeding.{feeds_servers, feeds_jobs, unused_jobs}
 use Rattle.cbs_house.proofs.Moving.{serves_rings}
-use Rattle.cbs_house.proofs.Newness.{new_count}
+use Rattle.cbs_core.proofs.Laws.{new_count}
 use Rattle.cbs_file.specs.TaskFiles.{File}
 use Rattle.cbs_run.specs.ResultLines.{jobs_for, results_by_server}
 use Rattle.cbs_run.specs.StepTexts.{start_of}
@@ -53,7 +53,7 @@ module _ {W A : Type 0} {g : Ghosts W} where
 
 module _ {A : Type 0} {g : Ghosts FileJob} (f : File) where
   -- a house that served has the servers that it was opened with
-  pub served_count : (a b : House FileJob A g) → Agrees of_files (core_of a) (start_of f) → ServesOn of_files a b → length (core_of b).servers ≡ length f.plan.rates
+  pub served_count : (a b : House FileJob A g) → Agrees of_files (core_of a) (start_of f) → ServesOn of_files a b → length (core_of b).faces ≡ length f.plan.rates
   served_count a b agrees on =
       sym b.housed.ring_count ∙ (ap length (serves_rings of_files a b on) ∙ (a.housed.ring_count ∙ (new_count of_files (core_of a) (start_of f).setup agrees ∙ length-map f.plan.rates (term_of f.mode))))
 

@@ -9,7 +9,7 @@ use Rattle.cbs_core.specs.Held.{CoreHeld}
 use Rattle.cbs_core.specs.History.{History, ◌⊕◌, world_after, reply_in}
 use Rattle.cbs_core.specs.declared.reply.Reply.{Reply}
 use Rattle.cbs_core.specs.declared.step.Step.{Step}
-use Rattle.cbs_house.specs.Steps.{◌⊕⊕◌}
+use Rattle.cbs_core.specs.Continuations.{◌⊕⊕◌}
 use Rattle.cbs_run.specs.StepTexts.{StepText, call_of, text_after, texts_after, WritesSteps, HasMade, StopsAtStep}
 use Rattle.cbs_run.specs.Writers.{Writer, Leaves, StopsWriting}
 use Rattle.cbs_run.specs.Writes.{AppendsFront, AppendsAllBut}

@@ -9,7 +9,7 @@ use Rattle.cbs_core.specs.Setups.{terms_of}
 use Rattle.cbs_core.specs.declared.reply.Reply.{Reply}
 use Rattle.cbs_core.specs.declared.step.Step.{Step}
 use Rattle.cbs_core.specs.declared.step.Step.TheVariants as step
-use Rattle.cbs_house.specs.Steps.{◌⊕⊕◌}
+use Rattle.cbs_core.specs.Continuations.{◌⊕⊕◌}
 use Rattle.cbs_file.specs.TaskFiles.{File}
 use Rattle.cbs_run.specs.Writers.{Writer, Writes}
 use Rattle.cbs_run.specs.Writes.{AppendsFront}

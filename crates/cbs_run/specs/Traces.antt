@@ -2,8 +2,8 @@
 use Rattle.std.specs.Prelude.{ℕ, List, slice_get, Option, Some, None, Result, Ok, Err}
 use Rattle.cbs_job.specs.Files.{of_files}
 use Rattle.cbs_job.specs.declared.file.FileJob.{FileJob}
-use Rattle.cbs_core.specs.History.{World}
-use Rattle.cbs_core.specs.Views.{view_reply}
+use Rattle.cbs_core.specs.History.{World, faces}
+use Rattle.cbs_core.specs.Faces.{view_reply}
 use Rattle.cbs_core.specs.declared.error.CoreError.{CoreError}
 use Rattle.cbs_core.specs.declared.reply.Reply.{Reply}
 use Rattle.cbs_core.specs.declared.reply.Reply.TheVariants as reply
@@ -35,7 +35,7 @@ view_if_any (Err error) = None
 -- what a line shows of a server
 abbrev pub shown : World FileJob → Option ℕ → Option ServerView
 shown w None = None
-shown w (Some s) = view_if_any (view_reply of_files (slice_get w.accounts s))
+shown w (Some s) = view_if_any (view_reply (slice_get (faces of_files w) s))
 
 -- the line of a call with this answer, which left w
 abbrev pub line_in : World FileJob → Call → Answer → Line

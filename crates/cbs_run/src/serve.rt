@@ -73,7 +73,7 @@ fn served_house<R: Threads + Sync>(
     alloc: Global,
     file: TaskFile,
 ) -> Result<House<FileJob>, HouseError>
-    ensures servers { IfOk result (λ house. length (core_of house).servers ≡ length file.plan.rates) }
+    ensures servers { IfOk result (λ house. length (core_of house).faces ≡ length file.plan.rates) }
     ensures results { IfOk result (λ house. map (results_of house) (range_with_len 0 (length file.plan.rates)) ≡ results_by_server file) }
     ensures stops { IfErr result (HouseStops file) }
 {
@@ -84,7 +84,7 @@ fn served_house<R: Threads + Sync>(
 
 /// The results of all servers of a house, in order. Only want of memory is an error.
 fn results_in(alloc: Global, house: &House<FileJob>) -> Result<Vec<Vec<u64>>, AllocError>
-    ensures results { IfOk result (λ results. map (λ v. v.items) results.items ≡ map (results_of house.now) (range_with_len 0 (length (core_of house.now).servers))) }
+    ensures results { IfOk result (λ results. map (λ v. v.items) results.items ≡ map (results_of house.now) (range_with_len 0 (length (core_of house.now).faces))) }
     ensures few { IfOk result (λ results. length results.items ≤ 64) }
 {
     let servers = house.servers();

@@ -15,7 +15,7 @@ loop-server-preserved c =
 
 pub returns-clause-results : goal.returns-clause-results
 returns-clause-results c =
-    let all : c.loop-server.server ≡ length (core_of c.args.house.now).servers = omega (arith, c.servers-servers.ensures.value, c.loop-server.auto.server-end, c.loop-server-test.false) in
+    let all : c.loop-server.server ≡ length (core_of c.args.house.now).faces = omega (arith, c.servers-servers.ensures.value, c.loop-server.auto.server-end, c.loop-server-test.false) in
     c.loop-server.invariant ∙ ap (λ n. map (results_of c.args.house.now) (range_with_len 0 n)) all
 
 pub returns-clause-few : goal.returns-clause-few
