@@ -17,9 +17,9 @@ use Rattle.cbs_house.specs.declared.client.Client.{Client}
 use Rattle.cbs_house.specs.declared.rings.Rings.{Rings}
 use Rattle.cbs_house.specs.Clients.{server_of, ring_of}
 use Rattle.cbs_house.specs.Collected.{Shelved, SameShelf, no_shelf, shelf_at}
-use Rattle.cbs_house.specs.Housed.{KeepsServer, Housed}
+use Rattle.cbs_house.specs.HouseInvariant.{KeepsServer, Housed}
 use Rattle.cbs_house.specs.Opened.{IsNewEnd}
-use Rattle.cbs_house.specs.Ringed.{rings_in, received_in, known_in, IsOpened}
+use Rattle.cbs_house.specs.RingEnds.{rings_in, received_in, known_in, IsOpened}
 use Rattle.cbs_house.specs.Rings.{Ring}
 use Rattle.cbs_house.proofs.Places.{at_all, at_map}
 

@@ -6,15 +6,15 @@ use Rattle.cbs_job.specs.Work.{Meaning, whole}
 use Rattle.cbs_job.specs.declared.work.Work.{Ghosts}
 use Rattle.cbs_house.specs.Clients.{server_of, sent_by}
 use Rattle.cbs_house.specs.Feeds.{IsDone, all_jobs}
-use Rattle.cbs_house.specs.Housed.{Housed}
+use Rattle.cbs_house.specs.HouseInvariant.{Housed}
 use Rattle.cbs_house.specs.Houses.{core_of, rings_of, received, results_of, AllFinished}
 use Rattle.cbs_core.specs.Held.{HoldsNoJob}
 use Rattle.cbs_house.specs.Messages.{jobs_among}
-use Rattle.cbs_house.specs.Ringed.{IsOpened}
+use Rattle.cbs_house.specs.RingEnds.{IsOpened}
 use Rattle.cbs_house.specs.Rounds.{Ready, IsSettled, IsServed}
 use Rattle.cbs_house.specs.declared.feed.Feed.{Feed}
 use Rattle.cbs_house.specs.declared.house.House.{House}
-use Rattle.cbs_house.proofs.Looking.{opened_within}
+use Rattle.cbs_house.proofs.Looks.{opened_within}
 
 module _ {W A : Type 0} {g : Ghosts W} (work : Meaning W) (h : House W A g) (housed : Housed work h.core h.rings h.collector) where
   -- where no job is held, every job received is finished

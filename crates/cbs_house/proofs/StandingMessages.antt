@@ -19,18 +19,18 @@ use Rattle.cbs_house.specs.declared.message.Message.TheVariants.{Job, End}
 use Rattle.cbs_house.specs.declared.poll.Poll.{Poll}
 use Rattle.cbs_house.specs.declared.poll.Poll.TheVariants.{Nothing, Took, Closed, Full, OutOfMemory, NoSuchServer}
 use Rattle.cbs_house.specs.Clients.{server_of, sent_by}
-use Rattle.cbs_house.specs.Housed.{Housed}
+use Rattle.cbs_house.specs.HouseInvariant.{Housed}
 use Rattle.cbs_house.specs.Houses.{core_of, rings_of, received, known, Made, Moves, LooksOnly, Polled}
 use Rattle.cbs_core.specs.Held.{HoldsNoJob, held_at}
 use Rattle.cbs_house.specs.Collected.{shelf_at}
-use Rattle.cbs_house.proofs.Keeping.{counts}
+use Rattle.cbs_house.proofs.HouseInvariant.{counts}
 use Rattle.cbs_house.specs.Messages.{has_end, end_is_last}
-use Rattle.cbs_house.specs.Ringed.{IsOpened}
+use Rattle.cbs_house.specs.RingEnds.{IsOpened}
 use Rattle.cbs_house.specs.Rounds.{ServesOn, Standing, IsTaken, IsSettled}
 use Rattle.cbs_house.specs.Steps.{messages_of}
-use Rattle.cbs_house.proofs.Looking.{prefix_along, prefix_same, opened_within}
-use Rattle.cbs_house.proofs.Making.{eqb_same}
-use Rattle.cbs_house.proofs.Moving.{none_taken}
+use Rattle.cbs_house.proofs.Looks.{prefix_along, prefix_same, opened_within}
+use Rattle.cbs_house.proofs.MadeSteps.{eqb_same}
+use Rattle.cbs_house.proofs.Moves.{none_taken}
 
 module _ {X : Type 0} where
   nothing_before : (xs ys : List X) → IsPrefix xs ys → ys ≡ [] → xs ≡ []

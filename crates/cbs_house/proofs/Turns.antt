@@ -10,15 +10,15 @@ use Rattle.cbs_core.specs.declared.step.Step.TheVariants.{Submit, Run, Advance, 
 use Rattle.cbs_house.specs.declared.house.House.{House}
 use Rattle.cbs_house.specs.declared.poll.Poll.{Poll}
 use Rattle.cbs_house.specs.declared.poll.Poll.TheVariants.{Nothing, Took, Closed, Full, OutOfMemory, NoSuchServer}
-use Rattle.cbs_house.specs.Housed.{Housed}
+use Rattle.cbs_house.specs.HouseInvariant.{Housed}
 use Rattle.cbs_house.specs.Houses.{core_of, rings_of, Made, Polled}
 use Rattle.cbs_house.specs.Rounds.{popped_by, ServesOn}
 use Rattle.cbs_house.specs.Steps.{pops, MayServe}
 use Rattle.cbs_core.specs.Continuations.{EachAllowed}
 use Rattle.cbs_house.specs.Turns.{ArePolls, steps_in, TakesTurn, TakesExactly, TakesTurns}
-use Rattle.cbs_house.proofs.Making.{made_nothing, made_both}
-use Rattle.cbs_house.proofs.Moving.{serves_then}
-use Rattle.cbs_house.proofs.Stepping.{pops-append}
+use Rattle.cbs_house.proofs.MadeSteps.{made_nothing, made_both}
+use Rattle.cbs_house.proofs.Moves.{serves_then}
+use Rattle.cbs_house.proofs.StepLists.{pops-append}
 
 module _ {W : Type 0} where
   polls_wider : (first n : ℕ) (xs : List (Step W)) → ArePolls first n xs → ArePolls first (n + 1) xs

@@ -14,12 +14,12 @@ module _ {W A : Type 0} {g : Ghosts W} where
   client_of f = f.client
 
   -- the jobs that the feed has not sent, in order
-  abbrev pub left : Feed W A g → List W
-  left f = f.jobs.items
+  abbrev pub unsent_jobs : Feed W A g → List W
+  unsent_jobs f = f.jobs.items
 
   -- the jobs that the feed's client sent, and then those that are left
   abbrev pub all_jobs : Feed W A g → List W
-  all_jobs f = jobs_among (sent_by f.client) ++ left f
+  all_jobs f = jobs_among (sent_by f.client) ++ unsent_jobs f
 
   -- whether the feed's client has ended
   abbrev pub has_ended : Feed W A g → Bool
@@ -27,16 +27,16 @@ module _ {W A : Type 0} {g : Ghosts W} where
 
   -- the client has not ended unless no job is left
   abbrev pub IsOrderly : Feed W A g → Type 0
-  IsOrderly f = has_ended f ≡ true → left f ≡ []
+  IsOrderly f = has_ended f ≡ true → unsent_jobs f ≡ []
 
   -- no job is left, and the client has ended
   pub record IsDone (f : Feed W A g) : Type 0 where
     pub ended : has_ended f ≡ true
-    pub none_left : left f ≡ []
+    pub none_left : unsent_jobs f ≡ []
 
   -- how many messages the feed has still to send: its jobs, and then the end
   abbrev pub unsent : Feed W A g → ℕ
-  unsent f = length (left f) + cond (has_ended f) 0 1
+  unsent f = length (unsent_jobs f) + cond (has_ended f) 0 1
 
   -- what every call keeps of a feed: its server and ring; all its jobs, sent or left, in order; what was sent, to which more
   -- may be added behind; and that the client does not end before its jobs

@@ -20,7 +20,7 @@ use Rattle.cbs_house.specs.declared.poll.Poll.{Poll}
 use Rattle.cbs_house.specs.declared.poll.Poll.TheVariants.{Nothing, Took, Closed, Full, OutOfMemory, NoSuchServer}
 use Rattle.cbs_house.specs.Collected.{shelf_at}
 use Rattle.cbs_house.specs.Messages.{jobs_among}
-use Rattle.cbs_house.specs.Ringed.{rings_in, received_in, known_in}
+use Rattle.cbs_house.specs.RingEnds.{rings_in, received_in, known_in}
 use Rattle.cbs_house.specs.Rings.{Ring}
 use Rattle.cbs_house.specs.Steps.{messages_of, pops}
 use Rattle.cbs_core.specs.Continuations.{Follows, AllAllowed}

@@ -4,8 +4,8 @@ pub mod Rings
 pub mod Clients
 pub mod Collected
 pub mod Steps
-pub mod Ringed
-pub mod Housed
+pub mod RingEnds
+pub mod HouseInvariant
 pub mod Houses
 pub mod Feeds
 pub mod Turns

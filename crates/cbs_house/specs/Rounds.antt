@@ -17,7 +17,7 @@ use Rattle.cbs_house.specs.Clients.{server_of, sent_by}
 use Rattle.cbs_house.specs.Feeds.{IsOrderly, IsDone, all_jobs}
 use Rattle.cbs_house.specs.Houses.{core_of, rings_of, received, known, results_of, Moves}
 use Rattle.cbs_core.specs.Held.{HoldsJob, HoldsNoJob}
-use Rattle.cbs_house.specs.Ringed.{IsOpened}
+use Rattle.cbs_house.specs.RingEnds.{IsOpened}
 use Rattle.cbs_house.specs.Steps.{MayServe}
 
 -- how many messages a poll popped

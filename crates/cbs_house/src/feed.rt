@@ -1,7 +1,7 @@
 //! A client with the jobs that it has still to send.
 
 ghost use Rattle.std.specs.Prelude.{◌≡◌, MatchResult, length, map};
-ghost use Rattle.cbs_house.specs.Feeds.{client_of, left};
+ghost use Rattle.cbs_house.specs.Feeds.{client_of, unsent_jobs};
 
 use crate::client::Client;
 use crate::gate::Gate;
@@ -22,12 +22,12 @@ impl<W: Work, A: Allocator> Feed<W, A> {
     ghost use Rattle.cbs_house.specs.contracts.feed.Feed.{the_row};
     ghost use Rattle.cbs_house.specs.contracts.client.Client.{the_row as client_row};
     ghost use Rattle.cbs_house.specs.Clients.{sent_by, HasNoSlot};
-    ghost use Rattle.cbs_house.specs.Feeds.{client_of, left, has_ended, IsOrderly, IsDone, KeepsFeed};
+    ghost use Rattle.cbs_house.specs.Feeds.{client_of, unsent_jobs, has_ended, IsOrderly, IsDone, KeepsFeed};
 
     /// A feed of these jobs, in order. It takes no memory.
     pub fn new(client: Client<W, A>, jobs: Vec<Task<W>, A>) -> Feed<W, A>
         ensures client { client_of result ≡ client }
-        ensures left { left result ≡ jobs.items }
+        ensures left { unsent_jobs result ≡ jobs.items }
     {
         Feed {
             client,
@@ -45,7 +45,7 @@ impl<W: Work, A: Allocator> Feed<W, A> {
 
     /// How many jobs are not sent yet.
     pub fn left(&self) -> u64
-        ensures { result ≡ length (left self.now) }
+        ensures { result ≡ length (unsent_jobs self.now) }
     {
         self.jobs.len() as u64
     }
@@ -101,7 +101,7 @@ pub fn feeds_of<W: Work, A: Allocator + Copy>(
 ) -> Result<Vec<Feed<W, A>, A>, FeedsRefused<W, A>>
     requires { length lists.items ≡ length clients.items }
     ensures clients { MatchResult result (λ feeds. map client_of feeds.items ≡ clients.items) (λ refused. refused.clients ≡ clients) }
-    ensures jobs { MatchResult result (λ feeds. map left feeds.items ≡ map (λ jobs. jobs.items) lists.items) (λ refused. refused.lists ≡ lists) }
+    ensures jobs { MatchResult result (λ feeds. map unsent_jobs feeds.items ≡ map (λ jobs. jobs.items) lists.items) (λ refused. refused.lists ≡ lists) }
 {
     let Ok(mut feeds) = Vec::with_capacity(alloc, clients.len()) else {
         return Err(FeedsRefused { clients, lists });

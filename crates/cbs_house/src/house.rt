@@ -1,6 +1,6 @@
 //! The house: the core with its ends of the rings, and the results.
 
-ghost use Rattle.cbs_house.specs.Housed.{Housed};
+ghost use Rattle.cbs_house.specs.HouseInvariant.{Housed};
 
 use crate::client::Client;
 use crate::collector::Collector;
@@ -34,9 +34,9 @@ impl<W: Work, A: Allocator> House<W, A> {
     ghost use Rattle.cbs_core.specs.declared.reply.Reply.TheVariants as reply;
     ghost use Rattle.cbs_core.specs.declared.step.Step.TheVariants as step;
     ghost use Rattle.cbs_house.specs.Clients.{server_of, sent_by, free, SameClient};
-    ghost use Rattle.cbs_house.specs.Housed.{KeepsServer};
+    ghost use Rattle.cbs_house.specs.HouseInvariant.{KeepsServer};
     ghost use Rattle.cbs_house.specs.Houses.{core_of, rings_of, received, known, results_of, view_answer, Made, LooksOnly, SameHouse, Polled, CanTake, Collects};
-    ghost use Rattle.cbs_house.specs.Ringed.{IsOpened};
+    ghost use Rattle.cbs_house.specs.RingEnds.{IsOpened};
 
     /// How many servers there are, at most 64. Their numbers are those below it.
     pub fn servers(&self) -> u16

@@ -7,7 +7,7 @@ ghost use Rattle.cbs_core.specs.Setups.{terms_of};
 ghost use Rattle.cbs_house.specs.Clients.{server_of, ring_of};
 ghost use Rattle.cbs_house.specs.Houses.{core_of, rings_of, received, known, results_of};
 ghost use Rattle.cbs_house.specs.Opened.{open_refusal, IsNewEnd, IsUnused};
-ghost use Rattle.cbs_house.specs.Ringed.{rings_in, IsOpened};
+ghost use Rattle.cbs_house.specs.RingEnds.{rings_in, IsOpened};
 
 use crate::client::Client;
 use crate::collector::Collector;

@@ -5,7 +5,7 @@ ghost use Rattle.std.specs.List.{All};
 ghost use Rattle.cbs_house.specs.Feeds.{IsDone, KeepsFeed, KeepsFeeds, all_unsent};
 ghost use Rattle.cbs_house.specs.Houses.{core_of, rings_of, LooksOnly};
 ghost use Rattle.cbs_core.specs.Held.{HoldsNoJob};
-ghost use Rattle.cbs_house.specs.Ringed.{IsOpened};
+ghost use Rattle.cbs_house.specs.RingEnds.{IsOpened};
 ghost use Rattle.cbs_house.specs.Rounds.{Ready, ServesOn, Standing, IsTaken, IsSettled, IsServed, Halts, Stops};
 
 use crate::client::Client;
@@ -36,7 +36,7 @@ const TURNS: u64 = 10_000;
 ///
 /// There are at most 64 feeds, each with a client that was opened with this house and that has not
 /// ended unless no job is left.
-#[tactic(auto, using(crate::proofs::Feeding::fed))]
+#[tactic(auto, using(crate::proofs::Feeds::fed))]
 pub fn serve<R: Threads + Sync, G: Gate + Sync, W: Work + Send>(
     rt: &R,
     house: &mut House<W>,
@@ -76,7 +76,7 @@ fn rounds_for<W: Work>(feeds: &[Feed<W>]) -> u128
 }
 
 /// Takes and finishes what a round left. Whether all is served.
-#[tactic(auto, using(crate::proofs::Feeding::fed))]
+#[tactic(auto, using(crate::proofs::Feeds::fed))]
 fn finish_round<W: Work>(house: &mut House<W>, feeds: &mut [Feed<W>]) -> Result<bool, HouseError>
     requires ready { Ready house.old feeds.old }
     ensures ready { Ready house.new feeds.new }
@@ -123,7 +123,7 @@ fn take_ring<W: Work>(house: &mut House<W>, feed: &mut Feed<W>) -> Result<(), Ho
 }
 
 /// Takes the next message of a client, and drains first where the backlog of its server is full.
-#[tactic(auto, using(crate::proofs::Moving::serving))]
+#[tactic(auto, using(crate::proofs::Moves::serving))]
 fn take_message<W: Work>(house: &mut House<W>, client: &Client<W>) -> Result<(), HouseError>
     requires opened { IsOpened (rings_of house.old) client.now }
     ensures steps { ServesOn W.meaning house.old house.new }

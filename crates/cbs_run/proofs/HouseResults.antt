@@ -15,14 +15,14 @@ use Rattle.cbs_rules.specs.declared.mode.Mode.{Mode}
 use Rattle.cbs_core.specs.Agreement.{Agrees}
 use Rattle.cbs_core.specs.declared.step.Step.{Step}
 use Rattle.cbs_house.specs.Clients.{server_of}
-use Rattle.cbs_house.specs.Feeds.{client_of, left, all_jobs, KeepsFeeds}
+use Rattle.cbs_house.specs.Feeds.{client_of, unsent_jobs, all_jobs, KeepsFeeds}
 use Rattle.cbs_house.specs.Houses.{core_of, results_of}
 use Rattle.cbs_house.specs.Opened.{IsUnused}
 use Rattle.cbs_house.specs.Rounds.{IsServed, ServesOn}
 use Rattle.cbs_house.specs.declared.feed.Feed.{Feed}
 use Rattle.cbs_house.specs.declared.house.House.{House}
-use Rattle.cbs_house.proofs.Feeding.{feeds_servers, feeds_jobs, unused_jobs}
-use Rattle.cbs_house.proofs.Moving.{serves_rings}
+use Rattle.cbs_house.proofs.Feeds.{feeds_servers, feeds_jobs, unused_jobs}
+use Rattle.cbs_house.proofs.Moves.{serves_rings}
 use Rattle.cbs_core.proofs.Laws.{new_count}
 use Rattle.cbs_file.specs.TaskFiles.{File}
 use Rattle.cbs_run.specs.ResultLines.{jobs_for, results_by_server}
@@ -41,11 +41,11 @@ module _ {X Y : Type 0} where
 module _ {W A : Type 0} {g : Ghosts W} where
   -- the results of the servers are those of the lists of jobs
   pub results_are : (work : Meaning W) (h : House W A g) (ring n : ℕ) (fs fs' : List (Feed W A g)) (jobs : List (List W)) → All (λ f. IsUnused ring (client_of f)) fs
-      → map (λ f. server_of (client_of f)) fs ≡ range_with_len 0 n → map left fs ≡ jobs → KeepsFeeds fs fs' → All (IsServed work h) fs' → map (results_of h) (range_with_len 0 n) ≡ map (map (whole work)) jobs
+      → map (λ f. server_of (client_of f)) fs ≡ range_with_len 0 n → map unsent_jobs fs ≡ jobs → KeepsFeeds fs fs' → All (IsServed work h) fs' → map (results_of h) (range_with_len 0 n) ≡ map (map (whole work)) jobs
   results_are work h ring n fs fs' jobs unused servers lefts kept served =
       let numbers : map (λ f. server_of (client_of f)) fs' ≡ range_with_len 0 n = feeds_servers fs fs' kept ∙ servers in
       let all : map all_jobs fs' ≡ jobs =
-      feeds_jobs fs fs' kept ∙ (map_all all_jobs left fs (All-weaker (λ f. IsUnused ring (client_of f)) (λ f. all_jobs f ≡ left f) (unused_jobs ring) fs unused) ∙ lefts) in
+      feeds_jobs fs fs' kept ∙ (map_all all_jobs unsent_jobs fs (All-weaker (λ f. IsUnused ring (client_of f)) (λ f. all_jobs f ≡ unsent_jobs f) (unused_jobs ring) fs unused) ∙ lefts) in
       let each : map (λ f. results_of h (server_of (client_of f))) fs' ≡ map (λ f. map (whole work) (all_jobs f)) fs' =
       map_all (λ f. results_of h (server_of (client_of f))) (λ f. map (whole work) (all_jobs f)) fs'
       (All-weaker (IsServed work h) (λ f. results_of h (server_of (client_of f)) ≡ map (whole work) (all_jobs f)) (λ f s. s.results) fs' served) in

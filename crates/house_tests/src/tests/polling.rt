@@ -3,7 +3,7 @@
 ghost use Rattle.std.specs.Prelude.{IfOk};
 ghost use Rattle.cbs_house.specs.Clients.{SameClient};
 ghost use Rattle.cbs_house.specs.Houses.{rings_of};
-ghost use Rattle.cbs_house.specs.Ringed.{IsOpened};
+ghost use Rattle.cbs_house.specs.RingEnds.{IsOpened};
 
 use super::{plan_of, same, sum_of};
 use cbs_core::{Ran, ServerView};

@@ -1,5 +1,5 @@
 use Rattle.std.proofs.Common.{◌≤◌, length, rules}
-use Rattle.cbs_house.proofs.Feeding.{ready_new}
+use Rattle.cbs_house.proofs.Feeds.{ready_new}
 use Rattle.soak.proofs.opened.Goals as goal
 
 pub returns-2 : goal.returns-2

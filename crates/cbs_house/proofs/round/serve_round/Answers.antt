@@ -1,4 +1,4 @@
-use Rattle.cbs_house.proofs.Feeding.{ready_on}
+use Rattle.cbs_house.proofs.Feeds.{ready_on}
 use Rattle.cbs_house.proofs.Turns.{turns_rings}
 use Rattle.cbs_house.proofs.round.serve_round.Goals as goal
 

@@ -1,7 +1,7 @@
 use Rattle.std.proofs.Common.{◌≡◌, ◌<◌, ◌≤◌, length, refl, ap, ◌∙◌, take, arith, length-set}
 use Rattle.std.proofs.lemmas.List.{take_all, length-map}
 use Rattle.cbs_house.specs.Feeds.{servers_of}
-use Rattle.cbs_house.proofs.Feeding.{server_noted}
+use Rattle.cbs_house.proofs.Feeds.{server_noted}
 use Rattle.cbs_house.proofs.round.servers_of.Goals as goal
 
 pub loop-index-init : goal.loop-index-init

@@ -1,6 +1,6 @@
 use Rattle.std.proofs.Common.{◌≡◌, ℕ, ◌+◌, ◌*◌, ◌≤◌, length, rules, arith}
 use Rattle.std.proofs.Math.Nat.{mul-add}
-use Rattle.cbs_house.proofs.Feeding.{sends_none, sends_set, sends_both}
+use Rattle.cbs_house.proofs.Feeds.{sends_none, sends_set, sends_both}
 use Rattle.cbs_house.proofs.senders.+senders.Goals as goal
 
 most_of_both : (turns front back all a b : ℕ) → front + back ≡ all → a ≤ turns * front → b ≤ turns * back → a + b ≤ turns * all

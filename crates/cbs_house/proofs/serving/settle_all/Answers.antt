@@ -1,6 +1,6 @@
 use Rattle.std.proofs.Common.{◌<◌, length, arith}
-use Rattle.cbs_house.proofs.Feeding.{feeds_same, feeds_on, feeds_set, ready_set}
-use Rattle.cbs_house.proofs.Moving.{looks_none, looks_then, settled_more}
+use Rattle.cbs_house.proofs.Feeds.{feeds_same, feeds_on, feeds_set, ready_set}
+use Rattle.cbs_house.proofs.Moves.{looks_none, looks_then, settled_more}
 use Rattle.cbs_house.proofs.StandingMessages.{taken_set, taken_looked, settled_is_taken}
 use Rattle.cbs_house.proofs.serving.settle_all.Goals as goal
 

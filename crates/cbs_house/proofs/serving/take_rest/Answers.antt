@@ -1,6 +1,6 @@
 use Rattle.std.proofs.Common.{◌<◌, length, arith}
-use Rattle.cbs_house.proofs.Feeding.{feeds_same, feeds_on, feeds_set, ready_set}
-use Rattle.cbs_house.proofs.Moving.{serves_none, serves_then, serves_rings}
+use Rattle.cbs_house.proofs.Feeds.{feeds_same, feeds_on, feeds_set, ready_set}
+use Rattle.cbs_house.proofs.Moves.{serves_none, serves_then, serves_rings}
 use Rattle.cbs_house.proofs.StandingMessages.{received_more, taken_more}
 use Rattle.cbs_house.proofs.serving.take_rest.Goals as goal
 

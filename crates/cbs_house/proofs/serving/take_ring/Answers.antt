@@ -1,7 +1,7 @@
 use Rattle.std.proofs.Common.{◌+◌, ◌-◌, arith}
 use Rattle.cbs_house.specs.Houses.{rings_of}
-use Rattle.cbs_house.proofs.Feeding.{keeps_feed, opened_same}
-use Rattle.cbs_house.proofs.Moving.{serves_then, serves_look, serves_rings}
+use Rattle.cbs_house.proofs.Feeds.{keeps_feed, opened_same}
+use Rattle.cbs_house.proofs.Moves.{serves_then, serves_look, serves_rings}
 use Rattle.cbs_house.proofs.StandingMessages.{standing_at, standing_none}
 use Rattle.cbs_house.proofs.serving.take_ring.Goals as goal
 

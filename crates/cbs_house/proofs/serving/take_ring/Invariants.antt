@@ -1,7 +1,7 @@
 use Rattle.std.proofs.Common.{◌-◌}
 use Rattle.cbs_house.specs.Feeds.{KeepsFeed}
 use Rattle.cbs_house.specs.Houses.{rings_of}
-use Rattle.cbs_house.specs.Ringed.{IsOpened}
+use Rattle.cbs_house.specs.RingEnds.{IsOpened}
 use Rattle.cbs_house.specs.Rounds.{ServesOn, Standing}
 use Rattle.cbs_house.proofs.serving.take_ring.Given as goal
 

@@ -5,7 +5,7 @@ use Rattle.std.proofs.lemmas.Simd.{map-map}
 use Rattle.std.specs.List.{range_with_len}
 use Rattle.cbs_house.specs.Clients.{server_of}
 use Rattle.cbs_house.specs.Feeds.{client_of}
-use Rattle.cbs_house.proofs.Feeding.{feeds_unused, ready_new}
+use Rattle.cbs_house.proofs.Feeds.{feeds_unused, ready_new}
 use Rattle.cbs_file.specs.TaskFiles.{File}
 use Rattle.cbs_run.specs.ResultLines.{jobs_for}
 use Rattle.cbs_run.proofs.HouseResults.{jobs_are}

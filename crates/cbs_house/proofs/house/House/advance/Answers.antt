@@ -1,6 +1,6 @@
 use Rattle.std.proofs.Common.{◌∷◌, [], refl}
 use Rattle.cbs_core.specs.declared.step.Step.TheVariants.{Advance}
-use Rattle.cbs_house.proofs.Keeping.{housed_all, same_shelf}
+use Rattle.cbs_house.proofs.HouseInvariant.{housed_all, same_shelf}
 use Rattle.cbs_house.proofs.house.House.advance.Goals as goal
 
 pub invariant_of-self : goal.invariant_of-self

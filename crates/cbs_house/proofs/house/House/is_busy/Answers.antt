@@ -1,4 +1,4 @@
-use Rattle.cbs_house.proofs.Keeping.{held_none}
+use Rattle.cbs_house.proofs.HouseInvariant.{held_none}
 use Rattle.cbs_house.proofs.house.House.is_busy.Goals as goal
 
 pub returns-clause-none : goal.returns-clause-none

@@ -1,4 +1,4 @@
-use Rattle.cbs_house.proofs.Making.{polled_after}
+use Rattle.cbs_house.proofs.MadeSteps.{polled_after}
 use Rattle.cbs_house.proofs.house.House.poll.Goals as goal
 
 pub returns-clause-polled : goal.returns-clause-polled

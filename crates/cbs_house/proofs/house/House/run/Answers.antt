@@ -1,7 +1,7 @@
 use Rattle.std.proofs.Common.{◌∷◌, ◌∙◌, [], refl, sym}
 use Rattle.cbs_core.specs.declared.step.Step.TheVariants.{Run}
-use Rattle.cbs_house.proofs.Keeping.{housed_one, housed_ran, keeps_done, finished_next}
-use Rattle.cbs_house.proofs.Making.{made_time, collects_none}
+use Rattle.cbs_house.proofs.HouseInvariant.{housed_one, housed_ran, keeps_done, finished_next}
+use Rattle.cbs_house.proofs.MadeSteps.{made_time, collects_none}
 use Rattle.cbs_house.proofs.house.House.run.Goals as goal
 
 pub invariant_of-self-in_default : goal.invariant_of-self-in_default

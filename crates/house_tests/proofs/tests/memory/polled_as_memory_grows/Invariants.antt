@@ -1,5 +1,5 @@
 use Rattle.cbs_house.specs.Houses.{rings_of}
-use Rattle.cbs_house.specs.Ringed.{IsOpened}
+use Rattle.cbs_house.specs.RingEnds.{IsOpened}
 use Rattle.house_tests.proofs.tests.memory.polled_as_memory_grows.Given as goal
 
 abbrev pub invariant-loop-freed : goal.invariant-loop-freed

@@ -1,7 +1,7 @@
 use Rattle.std.proofs.Common.{Some}
 use Rattle.std.proofs.lemmas.List.Elements.{All-pop}
 use Rattle.cbs_house.specs.Houses.{rings_of}
-use Rattle.cbs_house.specs.Ringed.{IsOpened}
+use Rattle.cbs_house.specs.RingEnds.{IsOpened}
 use Rattle.house_tests.proofs.tests.memory.two_clients.Goals as goal
 
 pub returns : goal.returns

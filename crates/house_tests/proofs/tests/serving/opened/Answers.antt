@@ -1,5 +1,5 @@
 use Rattle.std.proofs.Common.{◌≤◌, length, rules}
-use Rattle.cbs_house.proofs.Feeding.{ready_new}
+use Rattle.cbs_house.proofs.Feeds.{ready_new}
 use Rattle.house_tests.proofs.tests.serving.opened.Goals as goal
 
 pub returns : goal.returns

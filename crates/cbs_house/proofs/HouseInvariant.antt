@@ -14,9 +14,9 @@ use Rattle.cbs_house.specs.declared.message.Message.{Message}
 use Rattle.cbs_house.specs.declared.message.Message.TheVariants.{Job, End}
 use Rattle.cbs_house.specs.declared.rings.Rings.{Rings}
 use Rattle.cbs_house.specs.Collected.{Shelved, shelf_at, no_shelf, SameShelf, IsComplete, IsNext}
-use Rattle.cbs_house.specs.Housed.{KeepsServer, Housed}
+use Rattle.cbs_house.specs.HouseInvariant.{KeepsServer, Housed}
 use Rattle.cbs_house.specs.Messages.{jobs_among}
-use Rattle.cbs_house.specs.Ringed.{rings_in, received_in}
+use Rattle.cbs_house.specs.RingEnds.{rings_in, received_in}
 use Rattle.cbs_core.specs.Continuations.{Follows}
 use Rattle.cbs_house.proofs.Messages.{jobs_among-job, jobs_among-end, has_end-job, has_end-end, end_is_last-more}
 

@@ -6,7 +6,7 @@ use Rattle.cbs_house.specs.declared.message.Message.{Message}
 use Rattle.cbs_house.specs.declared.rings.Rings.{Rings}
 use Rattle.cbs_house.specs.Collected.{Shelved, shelf_at}
 use Rattle.cbs_house.specs.Messages.{jobs_among, has_end, end_is_last}
-use Rattle.cbs_house.specs.Ringed.{rings_in, received_in}
+use Rattle.cbs_house.specs.RingEnds.{rings_in, received_in}
 use Rattle.cbs_core.specs.Continuations.{HasHistory}
 
 -- what a house keeps of one server: its results, and then what the jobs held come to, are what the jobs received come to, in

@@ -12,7 +12,7 @@ use Rattle.cbs_job.specs.declared.work.Work.{Ghosts}
 use Rattle.cbs_house.specs.declared.client.Client.{Client}
 use Rattle.cbs_house.specs.Rings.{Ring, consumer_ring, producer_ring}
 use Rattle.cbs_house.specs.Clients.{server_of, ring_of}
-use Rattle.cbs_house.specs.Ringed.{IsOpened}
+use Rattle.cbs_house.specs.RingEnds.{IsOpened}
 use Rattle.cbs_house.proofs.Places.{at_read, at_set_same, at_set_other, at_set_kept, shown}
 
 module _ {X : Type 0} where

@@ -13,11 +13,11 @@ use Rattle.cbs_house.specs.Clients.{server_of, sent_by, SameClient}
 use Rattle.cbs_house.specs.Houses.{rings_of}
 use Rattle.cbs_house.specs.Messages.{jobs_among, has_end}
 use Rattle.cbs_house.specs.Opened.{IsUnused}
-use Rattle.cbs_house.specs.Ringed.{IsOpened}
+use Rattle.cbs_house.specs.RingEnds.{IsOpened}
 use Rattle.cbs_house.specs.Rings.{Ring}
 use Rattle.cbs_house.specs.Rounds.{Ready}
-use Rattle.cbs_house.specs.Feeds.{client_of, left, all_jobs, IsOrderly, KeepsFeed, KeepsFeeds, SendsAtMost, EachSendsAtMost, SendsFeeds, servers_of}
-use Rattle.cbs_house.proofs.Looking.{prefix_along, prefix_same}
+use Rattle.cbs_house.specs.Feeds.{client_of, unsent_jobs, all_jobs, IsOrderly, KeepsFeed, KeepsFeeds, SendsAtMost, EachSendsAtMost, SendsFeeds, servers_of}
+use Rattle.cbs_house.proofs.Looks.{prefix_along, prefix_same}
 
 module _ {W A : Type 0} {g : Ghosts W} where
   pub keeps_feed : (f : Feed W A g) → KeepsFeed f f
@@ -32,10 +32,10 @@ module _ {W A : Type 0} {g : Ghosts W} where
   }
 
   -- a look by the client keeps its feed
-  pub keeps_looked : (a b : Feed W A g) → SameClient a.client b.client → sent_by b.client ≡ sent_by a.client → left b ≡ left a → KeepsFeed a b
+  pub keeps_looked : (a b : Feed W A g) → SameClient a.client b.client → sent_by b.client ≡ sent_by a.client → unsent_jobs b ≡ unsent_jobs a → KeepsFeed a b
   keeps_looked a b c e l = record {
     client = c;
-    jobs = ap (λ ms. jobs_among ms ++ left b) e ∙ ap (λ ws. jobs_among (sent_by a.client) ++ ws) l;
+    jobs = ap (λ ms. jobs_among ms ++ unsent_jobs b) e ∙ ap (λ ws. jobs_among (sent_by a.client) ++ ws) l;
     sent = prefix_same (sent_by a.client) (sent_by b.client) e;
     orderly = λ o t. l ∙ o (ap has_end (sym e) ∙ t);
   }
@@ -136,8 +136,8 @@ module _ {W A : Type 0} {g : Ghosts W} where
   unused_orderly : (ring : ℕ) (f : Feed W A g) → IsUnused ring (client_of f) → IsOrderly f
   unused_orderly ring f u = λ e. absurd (false≢true (sym (ap has_end u.sent) ∙ e))
 
-  pub unused_jobs : (ring : ℕ) (f : Feed W A g) → IsUnused ring (client_of f) → all_jobs f ≡ left f
-  unused_jobs ring f u = ap (λ ms. jobs_among ms ++ left f) u.sent
+  pub unused_jobs : (ring : ℕ) (f : Feed W A g) → IsUnused ring (client_of f) → all_jobs f ≡ unsent_jobs f
+  unused_jobs ring f u = ap (λ ms. jobs_among ms ++ unsent_jobs f) u.sent
 
   module _ (ring : ℕ) (fs : List (Feed W A g)) (cs : List (Client W A g)) (clients : map client_of fs ≡ cs) (unused : All (IsUnused ring) cs) where
     pub feeds_unused : All (λ f. IsUnused ring (client_of f)) fs
