@@ -5,7 +5,7 @@ use Rattle.std.proofs.lemmas.List.{length-map}
 use Rattle.std.specs.List.{AllByRecursion, AllZip}
 use Rattle.cbs_job.specs.Work.{Meaning, Lowers}
 use Rattle.cbs_rules.specs.Rules.{clock_end, Terms}
-use Rattle.cbs_rules.proofs.Ticking.{replenished_twice}
+use Rattle.cbs_rules.proofs.Replenishments.{replenished_twice}
 use Rattle.cbs_core.specs.Lists.{changed_at}
 use Rattle.cbs_core.specs.Choice.{chosen_among}
 use Rattle.cbs_core.specs.Faces.{Face, new_face, face_at, ranks, submit_refusal, close_refusal, with_job, with_unit, with_replenishment, with_close}

@@ -5,7 +5,7 @@ use Rattle.std.proofs.lemmas.Bool.Decides.{nat_tests}
 use Rattle.std.proofs.lemmas.List.{length-map}
 use Rattle.std.specs.List.{AllByRecursion}
 use Rattle.cbs_job.specs.Work.{Meaning, Lowers, whole}
-use Rattle.cbs_job.proofs.Whole.{whole_kept, output_whole}
+use Rattle.cbs_job.proofs.WholeResults.{whole_kept, output_whole}
 use Rattle.cbs_core.specs.Lists.{changed_at}
 use Rattle.cbs_core.specs.Faces.{Face, no_face, face_at, with_job, with_unit, with_replenishment, with_close}
 use Rattle.cbs_core.specs.Held.{CoreHeld, Held, held_at, SameJobs, TakesJob, RunsJob, FinishesJob, ClosesServer, OthersSame, AllSame, DoesRun}

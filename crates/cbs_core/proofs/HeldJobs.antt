@@ -7,7 +7,7 @@ use Rattle.std.proofs.lemmas.List.{take_all, take-append-le, drop-append-le, dro
 use Rattle.std.proofs.lemmas.List.Sums.{sum_by-cons, sum_by-append, sum_by-take-le}
 use Rattle.std.specs.List.{sum_by, AllByRecursion}
 use Rattle.cbs_job.specs.Work.{Meaning, Lowers, whole}
-use Rattle.cbs_job.proofs.Whole.{whole_kept, output_whole}
+use Rattle.cbs_job.proofs.WholeResults.{whole_kept, output_whole}
 use Rattle.cbs_core.specs.Faces.{backlog_of, with_job, with_unit}
 use Rattle.cbs_core.specs.Accounts.{Account, need, finished, unfinished, face_of, account_with_job, account_with_unit}
 use Rattle.cbs_core.specs.History.{unit_reply}

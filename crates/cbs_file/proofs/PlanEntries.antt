@@ -6,7 +6,7 @@ use Rattle.toml.specs.Data.{Data}
 use Rattle.cbs_rate.specs.Plan.{Planned}
 use Rattle.cbs_file.specs.declared.fault.FileFault.{FileFault}
 use Rattle.cbs_file.specs.declared.fault.Place.TheVariants.{Server}
-use Rattle.cbs_file.specs.Files.{at, plan_from, admitted_entry}
+use Rattle.cbs_file.specs.Spelling.{at, plan_from, admitted_entry}
 
 -- the next entry is admitted
 pub plan_on : {V : Type 0} (view : V → Data) (i : ℕ) (plan next : Planned) (vs : List V) (v : V) (total : Result Planned FileFault) → i < length vs → at (Server i) (admitted_entry plan (view (get_or vs i v))) ≡ Ok next

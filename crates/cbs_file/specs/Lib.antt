@@ -1,6 +1,6 @@
 pub mod Entries
 pub mod Faults
 pub mod Fields
-pub mod Files
+pub mod Spelling
 pub mod TaskFiles
 pub mod TopTables

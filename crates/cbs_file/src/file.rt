@@ -7,7 +7,7 @@ ghost use Rattle.cbs_file.specs.declared.fault.Place.TheVariants.{Step as AtStep
 ghost use Rattle.cbs_file.specs.Entries.{step_entry};
 ghost use Rattle.cbs_file.specs.Fields.{Gives, seen, each_from};
 ghost use Rattle.cbs_file.specs.TaskFiles.{NamesServer};
-ghost use Rattle.cbs_file.specs.Files.{document, file, faulty, at, admitted_entry, plan_from, no_memory};
+ghost use Rattle.cbs_file.specs.Spelling.{document, file, faulty, at, admitted_entry, plan_from, no_memory};
 
 use crate::entries::{server_entry, step_entry};
 use crate::fault::{FileFault, FileKind, Place};
@@ -100,7 +100,7 @@ fn steps_of(alloc: Global, servers: u64, entries: &[Value]) -> Result<Vec<Step<F
 /// `server` is then admitted to the plan. The `format` of the top table, and the `op` of a step, are
 /// tested before the other keys. [`FileKind::OutOfMemory`] may come at any time, and stands
 /// at the top.
-#[tactic(auto, unfolding(crate::specs::Files::file))]
+#[tactic(auto, unfolding(crate::specs::Spelling::file))]
 pub fn read_file(alloc: Global, bytes: &[u8]) -> Result<TaskFile, FileFault>
     ensures { Gives no_memory (λ f. f) result (file bytes.now) }
 {

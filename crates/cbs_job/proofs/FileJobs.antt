@@ -2,7 +2,7 @@
 use Rattle.std.proofs.Common.{◌≡◌, ℕ, zero, suc, refl}
 use Rattle.cbs_job.specs.Work.{whole, output_after}
 use Rattle.cbs_job.specs.Numbers.{Progress, summing, peaking}
-use Rattle.cbs_job.specs.Files.{of_files}
+use Rattle.cbs_job.specs.FileJobs.{of_files}
 use Rattle.cbs_job.specs.declared.file.FileJob.TheVariants.{Sum, Peak}
 
 sum_inside : (n : ℕ) (p : Progress) → output_after of_files n (Sum p) ≡ output_after summing n p

@@ -1,3 +1,3 @@
 pub mod FileJobs
 pub mod Numbers
-pub mod Whole
+pub mod WholeResults

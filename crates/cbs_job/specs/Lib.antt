@@ -1,4 +1,4 @@
 pub mod Work
 pub mod Numbers
-pub mod Files
+pub mod FileJobs
 pub mod Tasks

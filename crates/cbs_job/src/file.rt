@@ -16,7 +16,7 @@ pub enum FileJob {
 }
 
 impl Work for FileJob {
-    ghost use Rattle.cbs_job.specs.Files.{of_files, of_files_lowers};
+    ghost use Rattle.cbs_job.specs.FileJobs.{of_files, of_files_lowers};
 
     ghost meaning = { of_files };
 
@@ -48,7 +48,7 @@ impl From<SumJob> for FileJob {
     ghost use Rattle.std.specs.Prelude.{◌≡◌};
     ghost use Rattle.cbs_job.specs.Work.{whole};
     ghost use Rattle.cbs_job.specs.Numbers.{summing};
-    ghost use Rattle.cbs_job.specs.Files.{of_files};
+    ghost use Rattle.cbs_job.specs.FileJobs.{of_files};
     ghost use Rattle.cbs_job.specs.declared.file.FileJob.TheVariants.{Sum};
 
     ghost from_gives = { λ job f. (f ≡ Sum job) × (of_files.left f ≡ summing.left job) × (whole of_files f ≡ whole summing job) };
@@ -62,7 +62,7 @@ impl From<PeakJob> for FileJob {
     ghost use Rattle.std.specs.Prelude.{◌≡◌};
     ghost use Rattle.cbs_job.specs.Work.{whole};
     ghost use Rattle.cbs_job.specs.Numbers.{peaking};
-    ghost use Rattle.cbs_job.specs.Files.{of_files};
+    ghost use Rattle.cbs_job.specs.FileJobs.{of_files};
     ghost use Rattle.cbs_job.specs.declared.file.FileJob.TheVariants.{Peak};
 
     ghost from_gives = { λ job f. (f ≡ Peak job) × (of_files.left f ≡ peaking.left job) × (whole of_files f ≡ whole peaking job) };

@@ -1,3 +1,3 @@
 pub mod Deadlines
 pub mod States
-pub mod Ticking
+pub mod Replenishments

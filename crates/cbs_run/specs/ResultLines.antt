@@ -1,7 +1,7 @@
 -- What serving a task file writes: a line for each server, with the results of its jobs.
 use Rattle.std.specs.Prelude.{ℕ, ◌+◌, List, [], ◌∷◌, ◌++◌, codes, decimal, flat_map, filter_map, length, map, Option, Some, None, if◌then◌else◌, ◌==◌}
 use Rattle.std.specs.List.{range_with_len}
-use Rattle.cbs_job.specs.Files.{of_files}
+use Rattle.cbs_job.specs.FileJobs.{of_files}
 use Rattle.cbs_job.specs.Work.{whole}
 use Rattle.cbs_job.specs.declared.file.FileJob.{FileJob}
 use Rattle.cbs_core.specs.declared.step.Step.{Step}

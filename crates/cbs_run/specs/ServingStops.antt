@@ -1,6 +1,6 @@
 -- Why serving a task file stops.
 use Rattle.std.specs.Prelude.{◌≡◌, List, Option, Some, None}
-use Rattle.cbs_job.specs.Files.{of_files}
+use Rattle.cbs_job.specs.FileJobs.{of_files}
 use Rattle.cbs_job.specs.declared.file.FileJob.{FileJob}
 use Rattle.cbs_rules.specs.Rules.{clock_end}
 use Rattle.cbs_core.specs.Agreement.{Agrees}

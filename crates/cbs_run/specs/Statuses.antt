@@ -1,6 +1,6 @@
 -- What a run leaves, by its status.
 use Rattle.std.specs.Prelude.{◌≡◌, ◌⊎◌, ℕ, List, Ok, Err}
-use Rattle.cbs_file.specs.Files.{file, no_memory}
+use Rattle.cbs_file.specs.Spelling.{file, no_memory}
 use Rattle.cbs_file.specs.TaskFiles.{File}
 use Rattle.cbs_file.specs.declared.fault.FileFault.{FileFault}
 use Rattle.cbs_run.specs.FaultLines.{file_line, run_line}

@@ -1,6 +1,6 @@
 -- The trace of a task file: the lines of its steps.
 use Rattle.std.specs.Prelude.{ℕ, List, slice_get, Option, Some, None, Result, Ok, Err}
-use Rattle.cbs_job.specs.Files.{of_files}
+use Rattle.cbs_job.specs.FileJobs.{of_files}
 use Rattle.cbs_job.specs.declared.file.FileJob.{FileJob}
 use Rattle.cbs_core.specs.History.{World, faces}
 use Rattle.cbs_core.specs.Faces.{view_reply}

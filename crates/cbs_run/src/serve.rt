@@ -8,7 +8,7 @@ ghost use Rattle.cbs_house.specs.Feeds.{client_of, left};
 ghost use Rattle.cbs_house.specs.Houses.{core_of, results_of};
 ghost use Rattle.cbs_house.specs.Opened.{IsUnused};
 ghost use Rattle.cbs_house.specs.Rounds.{Ready};
-ghost use Rattle.cbs_job.specs.Files.{of_files};
+ghost use Rattle.cbs_job.specs.FileJobs.{of_files};
 ghost use Rattle.cbs_run.specs.ResultLines.{jobs_for, result_lines, results_by_server};
 ghost use Rattle.cbs_run.specs.ServingStops.{HouseStops, ServeStops, fault_of};
 ghost use Rattle.cbs_run.specs.StepTexts.{start_of};

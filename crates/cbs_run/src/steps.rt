@@ -1,7 +1,7 @@
 //! The steps of a task file, made in order, and something written of each.
 
 ghost use Rattle.std.specs.Prelude.{◌≡◌, ◌⊎◌, ◌-◌, ◌<◌, ◌^◌, OnOk, OnErr, string_bytes};
-ghost use Rattle.cbs_job.specs.Files.{of_files};
+ghost use Rattle.cbs_job.specs.FileJobs.{of_files};
 ghost use Rattle.cbs_core.specs.Agreement.{Agrees};
 ghost use Rattle.cbs_core.specs.History.{History, ◌⊕◌, world_after};
 ghost use Rattle.cbs_core.specs.Replies.{is_lack};

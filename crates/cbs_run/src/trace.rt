@@ -1,7 +1,7 @@
 //! The trace of a task file: the lines of its steps.
 
 ghost use Rattle.std.specs.Prelude.{◌≡◌, ◌-◌, ◌<◌, ◌^◌};
-ghost use Rattle.cbs_job.specs.Files.{of_files};
+ghost use Rattle.cbs_job.specs.FileJobs.{of_files};
 ghost use Rattle.cbs_core.specs.Agreement.{Agrees};
 ghost use Rattle.cbs_core.specs.History.{History, world_after};
 ghost use Rattle.cbs_run.specs.Writers.{Leaves};

@@ -3,7 +3,7 @@ use Rattle.toml.specs.View.{view, table_view}
 use Rattle.cbs_file.specs.declared.fault.Place.TheVariants.{Top, Step as AtStep}
 use Rattle.cbs_file.specs.Entries.{step_entry}
 use Rattle.cbs_file.specs.Fields.{each_from}
-use Rattle.cbs_file.specs.Files.{file, at, document, plan_from, no_memory}
+use Rattle.cbs_file.specs.Spelling.{file, at, document, plan_from, no_memory}
 use Rattle.cbs_file.specs.TopTables.{top_table, top_view}
 use Rattle.cbs_file.proofs.Places.{Gives-at, gives_ok}
 use Rattle.cbs_file.proofs.file.read_file.Goals as goal

@@ -1,5 +1,5 @@
 use Rattle.std.proofs.Common.{◌∙◌, length}
-use Rattle.cbs_job.specs.Files.{of_files}
+use Rattle.cbs_job.specs.FileJobs.{of_files}
 use Rattle.cbs_run.proofs.HouseResults.{results_are, by_server, served_count}
 use Rattle.cbs_run.proofs.serve.served_house.Goals as goal
 

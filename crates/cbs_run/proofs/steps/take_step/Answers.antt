@@ -1,6 +1,6 @@
 use Rattle.std.proofs.Common.{◌≡◌, false, sym, ◌∙◌}
 use Rattle.std.proofs.lemmas.Result.{on_ok_weaker}
-use Rattle.cbs_job.specs.Files.{of_files}
+use Rattle.cbs_job.specs.FileJobs.{of_files}
 use Rattle.cbs_core.specs.Agreement.{Agrees}
 use Rattle.cbs_core.specs.History.{◌⊕◌, reply_in}
 use Rattle.cbs_core.specs.Replies.{is_lack}

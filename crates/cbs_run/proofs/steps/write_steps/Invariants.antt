@@ -1,6 +1,6 @@
 use Rattle.std.proofs.Common.{◌≡◌, length}
 use Rattle.std.specs.Vec.Iter.{into_iter_items, into_iter_len}
-use Rattle.cbs_job.specs.Files.{of_files}
+use Rattle.cbs_job.specs.FileJobs.{of_files}
 use Rattle.cbs_job.specs.declared.file.FileJob.{FileJob}
 use Rattle.cbs_core.specs.Agreement.{Agrees}
 use Rattle.cbs_core.specs.History.{History}

@@ -1,6 +1,6 @@
 use Rattle.std.proofs.Common.{◌∙◌, ap}
 use Rattle.cbs_rules.specs.Rules.{Reserved}
-use Rattle.cbs_rules.proofs.Ticking.{replenished_ticked}
+use Rattle.cbs_rules.proofs.Replenishments.{replenished_ticked}
 use Rattle.cbs_rules.proofs.server_state.ServerState.replenish.Goals as goal
 
 pub returns-clause-ticks : goal.returns-clause-ticks
