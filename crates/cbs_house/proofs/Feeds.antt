@@ -17,7 +17,7 @@ use Rattle.cbs_house.specs.RingEnds.{IsOpened}
 use Rattle.cbs_house.specs.Rings.{Ring}
 use Rattle.cbs_house.specs.Rounds.{Ready}
 use Rattle.cbs_house.specs.Feeds.{client_of, unsent_jobs, all_jobs, IsOrderly, KeepsFeed, KeepsFeeds, SendsAtMost, EachSendsAtMost, SendsFeeds, servers_of}
-use Rattle.cbs_house.proofs.Looks.{prefix_along, prefix_same}
+use Rattle.cbs_house.proofs.RingLooks.{prefix_along, prefix_same}
 
 module _ {W A : Type 0} {g : Ghosts W} where
   pub keeps_feed : (f : Feed W A g) → KeepsFeed f f

@@ -26,7 +26,7 @@ use Rattle.cbs_house.specs.Houses.{core_of, rings_of, received, known, results_o
 use Rattle.cbs_house.specs.Messages.{jobs_among}
 use Rattle.cbs_house.specs.Steps.{message_of, messages_of}
 use Rattle.cbs_core.specs.Continuations.{Follows, HasHistory}
-use Rattle.cbs_house.proofs.StepLists.{messages_of-append}
+use Rattle.cbs_house.proofs.StepMessages.{messages_of-append}
 use Rattle.cbs_core.proofs.Laws.{follows_both}
 
 prefix_through : {X : Type 0} (a e b r : List X) → IsPrefix a (e ++ b) → IsPrefix b r → (z : List X) → z ≡ e ++ r → IsPrefix a z

@@ -20,8 +20,8 @@ use Rattle.cbs_house.specs.Rounds.{ServesOn, IsSettled}
 use Rattle.cbs_house.specs.Steps.{messages_of, pops_of, pops, MayServe}
 use Rattle.cbs_core.specs.Continuations.{MayDrain}
 use Rattle.cbs_house.proofs.MadeSteps.{made_both, made_nothing, made_look}
-use Rattle.cbs_house.proofs.Looks.{prefix_along}
-use Rattle.cbs_house.proofs.StepLists.{pops-append}
+use Rattle.cbs_house.proofs.RingLooks.{prefix_along}
+use Rattle.cbs_house.proofs.StepMessages.{pops-append}
 use Rattle.cbs_core.proofs.Laws.{allowed_both, allowed_weaker}
 
 pub none_taken : {W : Type 0} (s : ℕ) (xs : List (Step W)) → pops xs ≡ 0 → messages_of s xs ≡ []

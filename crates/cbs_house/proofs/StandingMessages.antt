@@ -28,7 +28,7 @@ use Rattle.cbs_house.specs.Messages.{has_end, end_is_last}
 use Rattle.cbs_house.specs.RingEnds.{IsOpened}
 use Rattle.cbs_house.specs.Rounds.{ServesOn, Standing, IsTaken, IsSettled}
 use Rattle.cbs_house.specs.Steps.{messages_of}
-use Rattle.cbs_house.proofs.Looks.{prefix_along, prefix_same, opened_within}
+use Rattle.cbs_house.proofs.RingLooks.{prefix_along, prefix_same, opened_within}
 use Rattle.cbs_house.proofs.MadeSteps.{eqb_same}
 use Rattle.cbs_house.proofs.Moves.{none_taken}
 

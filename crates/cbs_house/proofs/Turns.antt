@@ -18,7 +18,7 @@ use Rattle.cbs_core.specs.Continuations.{EachAllowed}
 use Rattle.cbs_house.specs.Turns.{ArePolls, steps_in, TakesTurn, TakesExactly, TakesTurns}
 use Rattle.cbs_house.proofs.MadeSteps.{made_nothing, made_both}
 use Rattle.cbs_house.proofs.Moves.{serves_then}
-use Rattle.cbs_house.proofs.StepLists.{pops-append}
+use Rattle.cbs_house.proofs.StepMessages.{pops-append}
 
 module _ {W : Type 0} where
   polls_wider : (first n : ℕ) (xs : List (Step W)) → ArePolls first n xs → ArePolls first (n + 1) xs

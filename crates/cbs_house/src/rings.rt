@@ -27,7 +27,7 @@ impl<W: Work, A: Allocator> Rings<W, A> {
     }
 
     /// How many messages are seen in a server's ring.
-    #[tactic(auto, using(crate::proofs::Looks::ringed))]
+    #[tactic(auto, using(crate::proofs::RingLooks::ringed))]
     pub fn look(&mut self, server: usize) -> usize
         requires { server < length (rings_in self.old) }
         ensures looked { Looked self.old self.new }
@@ -48,7 +48,7 @@ impl<W: Work, A: Allocator> Rings<W, A> {
         self.take_at(usize::from(server))
     }
 
-    #[tactic(auto, using(crate::proofs::Looks::ringed))]
+    #[tactic(auto, using(crate::proofs::RingLooks::ringed))]
     fn take_at(&mut self, server: usize) -> Message<W>
         requires { 0 < length (known_in self.old server) }
         ensures rings { rings_in self.new ≡ rings_in self.old }
@@ -61,7 +61,7 @@ impl<W: Work, A: Allocator> Rings<W, A> {
     }
 
     /// How many messages stand in the ring of a server, whose other end is at hand.
-    #[tactic(auto, using(crate::proofs::Looks::ringed))]
+    #[tactic(auto, using(crate::proofs::RingLooks::ringed))]
     fn beside(&mut self, server: usize, ring: &mut Producer<Message<W>, A>) -> usize
         requires within { server < length (rings_in self.old) }
         requires pair { slice_get (rings_in self.old) server ≡ Some (producer_ring ring.old) }
@@ -75,7 +75,7 @@ impl<W: Work, A: Allocator> Rings<W, A> {
     }
 
     /// How many messages stand in a client's ring.
-    #[tactic(auto, using(crate::proofs::Looks::settled))]
+    #[tactic(auto, using(crate::proofs::RingLooks::settled))]
     pub fn settle(&mut self, client: &mut Client<W, A>) -> usize
         requires { IsOpened (rings_in self.old) client.old }
         ensures looked { Looked self.old self.new }

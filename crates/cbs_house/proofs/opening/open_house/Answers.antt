@@ -5,7 +5,7 @@ use Rattle.cbs_core.specs.Setups.{terms_of}
 use Rattle.cbs_core.proofs.Laws.{new_count}
 use Rattle.cbs_house.specs.Clients.{server_of, ring_of}
 use Rattle.cbs_house.specs.RingEnds.{rings_in}
-use Rattle.cbs_house.proofs.Newness.{new_rings, housed_new, same_count, all_opened}
+use Rattle.cbs_house.proofs.NewHouses.{new_rings, housed_new, same_count, all_opened}
 use Rattle.cbs_house.proofs.opening.open_house.Goals as goal
 
 pub invariant_of-house : goal.invariant_of-house

@@ -3,8 +3,8 @@ use Rattle.std.proofs.lemmas.Grind.{common_steps}
 use Rattle.cbs_house.specs.Clients.{server_of, ring_of}
 use Rattle.cbs_house.specs.Opened.{IsNewEnd, IsUnused}
 use Rattle.cbs_house.specs.Rings.{consumer_ring}
-use Rattle.cbs_house.proofs.Looks.{pair_ring}
-use Rattle.cbs_house.proofs.Newness.{map_pushed, numbered_pushed, All_pushed}
+use Rattle.cbs_house.proofs.RingLooks.{pair_ring}
+use Rattle.cbs_house.proofs.NewHouses.{map_pushed, numbered_pushed, All_pushed}
 use Rattle.cbs_house.proofs.opening.open_rings.Goals as goal
 
 pub loop-server-preserved : goal.loop-server-preserved

@@ -1,5 +1,5 @@
 use Rattle.cbs_house.specs.Houses.{received}
-use Rattle.cbs_house.proofs.Looks.{prefix_same}
+use Rattle.cbs_house.proofs.RingLooks.{prefix_same}
 use Rattle.cbs_house.proofs.Moves.{serves_drained, serves_looked}
 use Rattle.cbs_house.proofs.StandingMessages.{all_taken_after}
 use Rattle.cbs_house.proofs.serving.finish_round.Goals as goal

@@ -2,7 +2,7 @@ use Rattle.std.proofs.Common.{refl, sym}
 use Rattle.cbs_house.specs.Clients.{server_of}
 use Rattle.cbs_house.specs.Houses.{known}
 use Rattle.cbs_house.proofs.Feeds.{keeps_looked}
-use Rattle.cbs_house.proofs.Looks.{prefix_refl}
+use Rattle.cbs_house.proofs.RingLooks.{prefix_refl}
 use Rattle.cbs_house.proofs.StandingMessages.{settled_taken}
 use Rattle.cbs_house.proofs.serving.settle_feed.Goals as goal
 

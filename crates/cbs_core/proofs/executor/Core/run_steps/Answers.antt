@@ -7,7 +7,7 @@ use Rattle.cbs_core.specs.Laws.{account_in}
 use Rattle.cbs_core.proofs.StepLists.{AnswersAll-push, agrees_more, all_yielded}
 use Rattle.cbs_core.proofs.Completions.{Completes-none, step_completes, completes_more}
 use Rattle.cbs_core.proofs.Cores.{budgets_kept}
-use Rattle.cbs_core.proofs.Closes.{NoneAfterClose-all}
+use Rattle.cbs_core.proofs.ClosedServers.{NoneAfterClose-all}
 use Rattle.cbs_core.proofs.executor.Core.run_steps.Goals as goal
 
 pub loop-step-init : goal.loop-step-init

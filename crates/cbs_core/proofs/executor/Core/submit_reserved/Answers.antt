@@ -4,7 +4,7 @@ use Rattle.cbs_core.specs.Held.{CoreHeld}
 use Rattle.cbs_core.proofs.Agreements.{submit_answered, submit_agrees}
 use Rattle.cbs_core.proofs.Cores.{core_joined, few_jobs, queue_count, budgets_kept}
 use Rattle.cbs_core.proofs.Effects.{took_job}
-use Rattle.cbs_core.proofs.Paid.{paid_after}
+use Rattle.cbs_core.proofs.PaidUnits.{paid_after}
 use Rattle.cbs_core.proofs.Refusals.{accepts_free}
 use Rattle.cbs_core.proofs.executor.Core.submit_reserved.Goals as goal
 

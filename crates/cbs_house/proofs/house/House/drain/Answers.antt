@@ -1,7 +1,7 @@
 use Rattle.std.proofs.Common.{rules}
 use Rattle.cbs_core.specs.Continuations.{MayDrain}
 use Rattle.cbs_house.proofs.Moves.{moves_nothing, moves_both, moves_none, moves_rings}
-use Rattle.cbs_house.proofs.Served.{none_held}
+use Rattle.cbs_house.proofs.ServedFeeds.{none_held}
 use Rattle.cbs_house.proofs.house.House.drain.Goals as goal
 
 pub loop-self-init : goal.loop-self-init

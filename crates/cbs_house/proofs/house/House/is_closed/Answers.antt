@@ -1,5 +1,5 @@
 use Rattle.std.proofs.Common.{Ok, Err}
-use Rattle.cbs_house.proofs.Closed.{closed_shown}
+use Rattle.cbs_house.proofs.ClosedServers.{closed_shown}
 use Rattle.cbs_house.proofs.house.House.is_closed.Goals as goal
 
 pub returns-in-Ok : goal.returns-in-Ok

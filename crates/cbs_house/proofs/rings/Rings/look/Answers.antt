@@ -1,7 +1,7 @@
 use Rattle.std.proofs.Common.{arith}
 use Rattle.std.proofs.lemmas.List.{length-map}
 use Rattle.cbs_house.specs.Rings.{consumer_ring}
-use Rattle.cbs_house.proofs.Looks.{looked_at}
+use Rattle.cbs_house.proofs.RingLooks.{looked_at}
 use Rattle.cbs_house.proofs.rings.Rings.look.Goals as goal
 
 pub returns-clause-looked : goal.returns-clause-looked

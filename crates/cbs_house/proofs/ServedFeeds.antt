@@ -14,7 +14,7 @@ use Rattle.cbs_house.specs.RingEnds.{IsOpened}
 use Rattle.cbs_house.specs.Rounds.{Ready, IsSettled, IsServed}
 use Rattle.cbs_house.specs.declared.feed.Feed.{Feed}
 use Rattle.cbs_house.specs.declared.house.House.{House}
-use Rattle.cbs_house.proofs.Looks.{opened_within}
+use Rattle.cbs_house.proofs.RingLooks.{opened_within}
 
 module _ {W A : Type 0} {g : Ghosts W} (work : Meaning W) (h : House W A g) (housed : Housed work h.core h.rings h.collector) where
   -- where no job is held, every job received is finished
