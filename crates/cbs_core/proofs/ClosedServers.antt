@@ -3,12 +3,16 @@ use Rattle.std.proofs.Common.{◌≡◌, ℕ, zero, suc, Bool, true, ◌||◌, e
 use Rattle.std.proofs.lemmas.Bool.{cases_Bool}
 use Rattle.std.proofs.lemmas.Bool.Decides.{nat_tests}
 use Rattle.cbs_job.specs.Work.{Meaning}
-use Rattle.std.proofs.Common.{map}
+use Rattle.std.proofs.Common.{map, false, leb, ◌+◌}
 use Rattle.cbs_core.specs.Faces.{Face, face_at, submit_refusal, close_refusal}
 use Rattle.cbs_core.specs.Accounts.{Account, face_of}
-use Rattle.cbs_core.specs.History.{History, ◌⊕◌, account, faces, world_after, submit_reply, after_closing, reply_in}
+use Rattle.cbs_core.specs.History.{History, ◌⊕◌, World, account, faces, world_after, submit_reply, close_reply, after_closing, reply_in}
 use Rattle.cbs_core.specs.Replies.{is_lack, IsAccepted, HandsBack, grown, Answers, AnswersAll}
-use Rattle.cbs_core.specs.Laws.{account_in, NoneAfterClose}
+use Rattle.cbs_core.specs.Laws.{account_in, replies_after, NoneAfterClose}
+use Rattle.cbs_core.specs.Errors.{is_out_of_memory}
+use Rattle.cbs_core.specs.Held.{CoreHeld}
+use Rattle.cbs_rules.specs.Rules.{clock_end}
+use Rattle.cbs_core.proofs.Refusals.{refusal_named}
 use Rattle.cbs_core.specs.declared.error.CoreError.{CoreError}
 use Rattle.cbs_core.specs.declared.error.CoreError.TheVariants as error
 use Rattle.cbs_core.specs.declared.step.Step.{Step}
@@ -71,3 +75,29 @@ module _ {W : Type 0} (work : Meaning W) where
   NoneAfterClose-all M (Run ∷ xs) (r ∷ rs) s closed all h = NoneAfterClose-all (grown M Run r) xs rs s closed all.1 (λ y. closed_grown M Run r s (h y))
   NoneAfterClose-all M (Advance n ∷ xs) (r ∷ rs) s closed all h = NoneAfterClose-all (grown M (Advance n) r) xs rs s closed all.1 (λ y. closed_grown M (Advance n) r s (h y))
   NoneAfterClose-all M (Close t ∷ xs) (r ∷ rs) s closed all h = NoneAfterClose-all (grown M (Close t) r) xs rs s (closed || eqb t s) all.1 (close_grown M t s r closed h all.0)
+
+  -- the rules never answer by want of memory
+  no_lack : (w : World W) (s : ℕ) (job : W) (o : Option CoreError) → ((e : CoreError) → o ≡ Some e → is_out_of_memory e ≡ false) → is_lack (submit_reply w s job o) ≡ false
+  no_lack w s job None named = refl
+  no_lack w s job (Some e) named = named e refl
+
+  no_lack-close : (o : Option CoreError) → is_lack {W = W} (close_reply o) ≡ false
+  no_lack-close None = refl
+  no_lack-close (Some e) = refl
+
+  sure : (M : History W) (x : Step W) → is_lack (reply_in work M x) ≡ false
+  sure M (Submit s job) =
+      let w = world_after work M in
+      let core : CoreHeld W = record { backlog = M.setup.backlog; clock = 0; faces = faces work w; queues = []; rooms = [] } in
+      no_lack w s job (submit_refusal M.setup.backlog (faces work w) s) (refusal_named core s)
+  sure M Run = refl
+  sure M (Advance n) = elim (cases_Bool (leb ((world_after work M).now + n) clock_end)) [ inl t ↦ rw t refl | inr f ↦ rw f refl ]
+  sure M (Close s) = no_lack-close (close_refusal (faces work (world_after work M)) s)
+
+  all_answered : (M : History W) (xs : List (Step W)) → AnswersAll work M xs (replies_after work M xs)
+  all_answered M [] = tt
+  all_answered M (x ∷ xs) = let f = sure M x in (rw f refl, rw f (all_answered (M ⊕ x) xs))
+
+  -- the law over a list of steps that memory did not refuse
+  pub steps_close : (M : History W) (xs : List (Step W)) (s : ℕ) → NoneAfterClose s (account_in work M s).closed xs (replies_after work M xs)
+  steps_close M xs s = NoneAfterClose-all M xs (replies_after work M xs) s (account_in work M s).closed (all_answered M xs) (λ closed. closed)

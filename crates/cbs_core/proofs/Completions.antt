@@ -1,5 +1,5 @@
 -- The completions of a server: they go on from its finished jobs.
-use Rattle.std.proofs.Common.{◌≡◌, ◌≢◌, ℕ, zero, suc, ◌+◌, ◌≤◌, ◌<◌, true, List, [], ◌∷◌, ◌++◌, length, map, take, drop, get_or, eqb, leb, refl, sym, ◌∙◌, ap, subst, arith, Option, Some, None, inl, inr, length-append, append_assoc, append-nil}
+use Rattle.std.proofs.Common.{◌≡◌, ◌≢◌, ℕ, zero, suc, ◌+◌, ◌≤◌, ◌<◌, true, false, List, [], ◌∷◌, ◌++◌, length, map, take, drop, get_or, eqb, leb, refl, sym, ◌∙◌, ap, subst, arith, Option, Some, None, inl, inr, length-append, append_assoc, append-nil}
 use Rattle.std.proofs.lemmas.Bool.{cases_Bool}
 use Rattle.std.proofs.lemmas.Bool.Decides.{nat_tests}
 use Rattle.std.proofs.lemmas.List.{map-append, length-map, drop-drop}
@@ -11,7 +11,8 @@ use Rattle.cbs_core.specs.Accounts.{Account, finished, need, face_of}
 use Rattle.cbs_core.specs.History.{World, History, ◌⊕◌, account, faces, chosen, world_after, run_reply, unit_reply, submit_reply, close_reply, reply_in}
 use Rattle.cbs_core.specs.Agreement.{Agrees}
 use Rattle.cbs_core.specs.Replies.{is_lack, grown, grown_by, Answers, AnswersAll}
-use Rattle.cbs_core.specs.Laws.{account_in, completion_ran, completion_in, completion_of, completions_of, numbers_from, Completes}
+use Rattle.cbs_core.specs.Laws.{account_in, completion_ran, completion_in, completion_of, completions_of, numbers_from, replies_after, Completes}
+use Rattle.cbs_core.specs.Continuations.{◌⊕⊕◌}
 use Rattle.cbs_core.specs.Held.{CoreHeld, held_at, CountsOn}
 use Rattle.cbs_rules.specs.Rules.{clock_end}
 use Rattle.cbs_core.specs.declared.error.CoreError.{CoreError}
@@ -197,3 +198,27 @@ module _ {W : Type 0} (work : Meaning W) where
   completes_more M xs rs x r s all before now =
       rw (grown_by-push work M xs rs x r all, completions_of-push s rs r)
       (Completes-append (account_in work M s) (account_in work (grown_by M xs rs) s) (account_in work (grown (grown_by M xs rs) x r) s) (completions_of s rs) (completion_of s (completion_in r)) before now)
+
+  -- the same of one step that memory did not refuse
+  pub step_tells : (M : History W) (x : Step W) (r : Reply W) (s : ℕ) (old new : CoreHeld W) → is_lack r ≡ false → Answers work M x r → CountsOn (completion_in r) old new
+      → Agrees work old M → Agrees work new (grown M x r) → Completes work (account_in work M s) (account_in work (M ⊕ x) s) (completion_of s (completion_in r))
+  step_tells M x r s old new sure answers counts agrees later =
+      rw sure at (step_completes M x r s (completion_in r) old new refl answers counts agrees later)
+
+  replies_after-push : (M : History W) (xs : List (Step W)) (x : Step W) → replies_after work M (xs ++ x ∷ []) ≡ replies_after work M xs ++ reply_in work (M ⊕⊕ xs) x ∷ []
+  replies_after-push M [] x = refl
+  replies_after-push M (y ∷ xs) x = ap (λ rs. reply_in work M y ∷ rs) (replies_after-push (M ⊕ y) xs x)
+
+  after-push : (M : History W) (xs : List (Step W)) (x : Step W) → M ⊕⊕ (xs ++ x ∷ []) ≡ (M ⊕⊕ xs) ⊕ x
+  after-push M [] x = refl
+  after-push M (y ∷ xs) x = after-push (M ⊕ y) xs x
+
+  -- the law over a list of steps, and over one step more
+  pub steps_complete : (M : History W) (xs : List (Step W)) (x : Step W) (s : ℕ)
+      → Completes work (account_in work M s) (account_in work (M ⊕⊕ xs) s) (completions_of s (replies_after work M xs))
+      → Completes work (account_in work (M ⊕⊕ xs) s) (account_in work ((M ⊕⊕ xs) ⊕ x) s) (completion_of s (completion_in (reply_in work (M ⊕⊕ xs) x)))
+      → Completes work (account_in work M s) (account_in work (M ⊕⊕ (xs ++ x ∷ [])) s) (completions_of s (replies_after work M (xs ++ x ∷ [])))
+  steps_complete M xs x s before now =
+      let N = M ⊕⊕ xs in
+      rw (after-push M xs x, replies_after-push M xs x, completions_of-push s (replies_after work M xs) (reply_in work N x))
+      (Completes-append (account_in work M s) (account_in work N s) (account_in work (N ⊕ x) s) (completions_of s (replies_after work M xs)) (completion_of s (completion_in (reply_in work N x))) before now)

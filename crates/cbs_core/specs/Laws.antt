@@ -5,7 +5,7 @@ use Rattle.cbs_job.specs.declared.completion.Completion.{Completion}
 use Rattle.cbs_core.specs.Faces.{Face, face_at, is_ready}
 use Rattle.cbs_core.specs.Held.{CoreHeld}
 use Rattle.cbs_core.specs.Accounts.{Account, finished}
-use Rattle.cbs_core.specs.History.{History, account, world_after}
+use Rattle.cbs_core.specs.History.{History, ◌⊕◌, account, world_after, reply_in}
 use Rattle.cbs_core.specs.Replies.{IsAccepted}
 use Rattle.cbs_core.specs.declared.step.Step.{Step}
 use Rattle.cbs_core.specs.declared.step.Step.TheVariants as step
@@ -47,6 +47,11 @@ module _ {W : Type 0} where
   abbrev pub completions_of : ℕ → List (Reply W) → List Completion
   completions_of s [] = []
   completions_of s (r ∷ rs) = completion_of s (completion_in r) ++ completions_of s rs
+
+  -- the replies to the steps, each after M and the steps before it
+  abbrev pub replies_after : Meaning W → History W → List (Step W) → List (Reply W)
+  replies_after work M [] = []
+  replies_after work M (x ∷ xs) = reply_in work M x ∷ replies_after work (M ⊕ x) xs
 
   -- From what was known of a server to what is known later, these were its completions: the accepted jobs stay, in
   -- order, and more may follow; the completions are numbered on from the finished jobs, without gap or repeat; each

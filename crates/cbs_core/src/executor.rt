@@ -7,8 +7,8 @@ ghost use Rattle.cbs_core.specs.Choice.{IsChoice};
 ghost use Rattle.cbs_core.specs.Faces.{face_at, ranks, submit_refusal, view_reply};
 ghost use Rattle.cbs_core.specs.History.{History, ◌⊕◌, faces, world_after, reply_in, chosen};
 ghost use Rattle.cbs_core.specs.Agreement.{Agrees};
-ghost use Rattle.cbs_core.specs.Replies.{submitted, advanced, closed, lacks_memory, IsAccepted, Answers, AnswersAll, grown, grown_by};
-ghost use Rattle.cbs_core.specs.Laws.{account_in, completion_in, completions_of, Completes, NoneAfterClose, IsWithinBudget, KeepsBudgets};
+ghost use Rattle.cbs_core.specs.Replies.{submitted, advanced, closed, lacks_memory, IsAccepted, is_lack, Answers, AnswersAll, grown, grown_by};
+ghost use Rattle.cbs_core.specs.Laws.{account_in, completion_in, completion_of, completions_of, Completes, NoneAfterClose, IsWithinBudget, KeepsBudgets};
 ghost use Rattle.cbs_core.specs.Held.{room_of, KeepsRoom, IsOpen, HasRoom, IsRefusedBy, held_at, TakesJob, ClosesServer, OthersSame, AllSame, DoesRun, CountsOn};
 ghost use Rattle.cbs_core.specs.Queues.{ran_of};
 ghost use Rattle.cbs_core.specs.Setups.{terms_of, new_refusal};
@@ -339,14 +339,27 @@ impl<W: Work, A: Allocator> Core<W, A> {
             return Err(StepsRefused { steps });
         };
         for step in steps {
-            let reply = self.step(step);
+            let reply = self.make(step);
             replies.push_reserved(reply);
         }
         Ok(replies)
     }
 
-    /// Does one step, and answers it.
+    /// Does one step, and answers it: as [`submit`](Core::submit), [`run`](Core::run),
+    /// [`advance`](Core::advance) and [`close`](Core::close) do.
     pub fn step(&mut self, step: Step<W>) -> Reply<W>
+        ensures reply { (M : History W) → Agrees W.meaning self.old M → Answers W.meaning M step result }
+        ensures state { (M : History W) → Agrees W.meaning self.old M → Agrees W.meaning self.new (grown M step result) }
+        ensures completes { is_lack result ≡ false → (M : History W) → Agrees W.meaning self.old M → (s : ℕ)
+            → Completes W.meaning (account_in W.meaning M s) (account_in W.meaning (M ⊕ step) s) (completion_of s (completion_in result)) }
+        ensures count { length self.new.faces ≡ length self.old.faces }
+        ensures budgets { KeepsBudgets self.new }
+    {
+        self.make(step)
+    }
+
+    /// Does one step.
+    fn make(&mut self, step: Step<W>) -> Reply<W>
         ensures reply { (M : History W) → Agrees W.meaning self.old M → Answers W.meaning M step result }
         ensures state { (M : History W) → Agrees W.meaning self.old M → Agrees W.meaning self.new (grown M step result) }
         ensures counts { CountsOn (completion_in result) self.old self.new }

@@ -34,23 +34,23 @@ loop-step-preserved g c =
       finite = tt;
       count = omega (arith, ap length c.in-Some.ensures.steps.0, c.in-Some.ensures.steps.1, c.loop-step.invariant.count);
       split = c.loop-step.invariant.split ∙ ap (λ xs. c.loop-step.yielded ++ xs) c.in-Some.ensures.steps.0 ∙ sym (append_assoc c.loop-step.yielded (c.in-Some.step ∷ []) (into_iter_items c.next.new.self));
-      servers = c.step-reply.ensures.count ∙ c.loop-step.invariant.servers;
-      budgets = c.step-reply.ensures.budgets;
+      servers = c.make-reply.ensures.count ∙ c.loop-step.invariant.servers;
+      budgets = c.make-reply.ensures.budgets;
       room = omega (arith, c.push_reserved.ensures.len, c.push_reserved.ensures.capacity, c.in-Some.ensures.steps.1, c.loop-step.invariant.room);
       replies = λ M agrees.
           rw c.push_reserved.ensures.items
-          (AnswersAll-push g.W.Work.meaning M c.loop-step.yielded c.loop-step.replies.items c.in-Some.step c.step-reply.result (c.loop-step.invariant.replies M agrees)
-          (c.step-reply.ensures.reply (grown_by M c.loop-step.yielded c.loop-step.replies.items) (c.loop-step.invariant.state M agrees)));
+          (AnswersAll-push g.W.Work.meaning M c.loop-step.yielded c.loop-step.replies.items c.in-Some.step c.make-reply.result (c.loop-step.invariant.replies M agrees)
+          (c.make-reply.ensures.reply (grown_by M c.loop-step.yielded c.loop-step.replies.items) (c.loop-step.invariant.state M agrees)));
       state = λ M agrees.
           rw c.push_reserved.ensures.items
-          (agrees_more g.W.Work.meaning c.step-reply.new.self M c.loop-step.yielded c.loop-step.replies.items c.in-Some.step c.step-reply.result (c.loop-step.invariant.replies M agrees)
-          (c.step-reply.ensures.state (grown_by M c.loop-step.yielded c.loop-step.replies.items) (c.loop-step.invariant.state M agrees)));
+          (agrees_more g.W.Work.meaning c.make-reply.new.self M c.loop-step.yielded c.loop-step.replies.items c.in-Some.step c.make-reply.result (c.loop-step.invariant.replies M agrees)
+          (c.make-reply.ensures.state (grown_by M c.loop-step.yielded c.loop-step.replies.items) (c.loop-step.invariant.state M agrees)));
       completions = λ M agrees s.
           let N = grown_by M c.loop-step.yielded c.loop-step.replies.items in
           let before = c.loop-step.invariant.state M agrees in
           rw c.push_reserved.ensures.items
-          (completes_more g.W.Work.meaning M c.loop-step.yielded c.loop-step.replies.items c.in-Some.step c.step-reply.result s (c.loop-step.invariant.replies M agrees) (c.loop-step.invariant.completions M agrees s)
-          (step_completes g.W.Work.meaning N c.in-Some.step c.step-reply.result s _ c.loop-step.self c.step-reply.new.self refl (c.step-reply.ensures.reply N before) c.step-reply.ensures.counts before (c.step-reply.ensures.state N before)));
+          (completes_more g.W.Work.meaning M c.loop-step.yielded c.loop-step.replies.items c.in-Some.step c.make-reply.result s (c.loop-step.invariant.replies M agrees) (c.loop-step.invariant.completions M agrees s)
+          (step_completes g.W.Work.meaning N c.in-Some.step c.make-reply.result s _ c.loop-step.self c.make-reply.new.self refl (c.make-reply.ensures.reply N before) c.make-reply.ensures.counts before (c.make-reply.ensures.state N before)));
     }
 
 pub returns-clause-replies : goal.returns-clause-replies
