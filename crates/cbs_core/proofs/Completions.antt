@@ -209,7 +209,7 @@ module _ {W : Type 0} (work : Meaning W) where
   replies_after-push M [] x = refl
   replies_after-push M (y ∷ xs) x = ap (λ rs. reply_in work M y ∷ rs) (replies_after-push (M ⊕ y) xs x)
 
-  after-push : (M : History W) (xs : List (Step W)) (x : Step W) → M ⊕⊕ (xs ++ x ∷ []) ≡ (M ⊕⊕ xs) ⊕ x
+  pub after-push : (M : History W) (xs : List (Step W)) (x : Step W) → M ⊕⊕ (xs ++ x ∷ []) ≡ (M ⊕⊕ xs) ⊕ x
   after-push M [] x = refl
   after-push M (y ∷ xs) x = after-push (M ⊕ y) xs x
 

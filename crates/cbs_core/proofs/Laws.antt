@@ -23,6 +23,10 @@ use Rattle.cbs_core.proofs.Choices.{choice_is}
 use Rattle.cbs_core.proofs.HeldJobs.{length_jobs}
 use Rattle.cbs_core.proofs.Lists.{AllZip-length, AllZip-get}
 
+pub use Rattle.cbs_core.proofs.Completions.{Completes-none, after-push, steps_complete}
+pub use Rattle.cbs_core.proofs.ClosedServers.{steps_close}
+pub use Rattle.cbs_core.proofs.StepLists.{all_yielded}
+
 module _ {W : Type 0} (work : Meaning W) where
   rest_from : (fs : List Face) → ((r : ℕ) → r < length (ranks fs) → (rank_at (ranks fs) r).ready ≡ false) → AllByRecursion (λ f. is_ready f ≡ false) fs
   rest_from [] h = tt

@@ -1,5 +1,6 @@
 -- The texts of steps, written step by step.
 use Rattle.std.proofs.Common.{◌≡◌, ℕ, List, [], ◌∷◌, ◌++◌, Option, Result, Ok, Err, ◌⊎◌, inl, inr, refl, sym, ap, ap₂, ◌∙◌, append_assoc}
+use Rattle.std.specs.Prelude.{OnOk}
 use Rattle.std.proofs.lemmas.List.{append-nil}
 use Rattle.std.specs.Io.KnownBytes.{Appends}
 use Rattle.cbs_job.specs.FileJobs.{of_files}
@@ -17,6 +18,10 @@ use Rattle.cbs_run.specs.declared.call.Call.{Call}
 use Rattle.cbs_run.specs.declared.run_error.RunError.{RunError}
 use Rattle.cbs_run.specs.declared.run_error.RunError.TheVariants.{OutOfMemory, WriteFault, ClockEnd, Stalled}
 use Rattle.cbs_run.proofs.WrittenText.{Appends-nothing, all_waits, waits_too, all_but_then, front_more, part_ends, part_done}
+
+pub on_ok_always : {T E : Type 0} {P : Type 0} (r : Result T E) → P → OnOk r P
+on_ok_always (Ok x) p = p
+on_ok_always (Err e) p = tt
 
 -- the text of a step, by its call and its reply
 pub text_is : (text : StepText) (M : History FileJob) (x : Step FileJob) (call : Call) (reply : Reply FileJob) (written : List ℕ) → call ≡ call_of x → reply ≡ reply_in of_files M x

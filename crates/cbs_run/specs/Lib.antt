@@ -1,6 +1,7 @@
 pub mod Counted
 pub mod FaultLines
 pub mod JobsByServer
+pub mod FileLaws
 pub mod Lines
 pub mod Reads
 pub mod ResultLines

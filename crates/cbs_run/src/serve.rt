@@ -4,7 +4,7 @@ ghost use Rattle.std.specs.Prelude.{◌≡◌, ◌<◌, ◌≤◌, ◌-◌, ◌^
 ghost use Rattle.std.specs.List.{range_with_len};
 ghost use Rattle.cbs_core.specs.Agreement.{Agrees};
 ghost use Rattle.cbs_house.specs.Clients.{server_of};
-ghost use Rattle.cbs_house.specs.Feeds.{client_of, left};
+ghost use Rattle.cbs_house.specs.Feeds.{client_of, unsent_jobs};
 ghost use Rattle.cbs_house.specs.Houses.{core_of, results_of};
 ghost use Rattle.cbs_house.specs.Opened.{IsUnused};
 ghost use Rattle.cbs_house.specs.Rounds.{Ready};
@@ -46,7 +46,7 @@ fn open_file(
     ensures core { IfOk result (λ opened. Agrees of_files (core_of opened.0) (start_of file)) }
     ensures servers { IfOk result (λ opened. map (λ f. server_of (client_of f)) opened.1.items ≡ range_with_len 0 (length file.plan.rates)) }
     ensures rings { IfOk result (λ opened. All (λ f. IsUnused file.ring (client_of f)) opened.1.items) }
-    ensures jobs { IfOk result (λ opened. map left opened.1.items ≡ map (λ s. jobs_for s file.steps) (range_with_len 0 (length file.plan.rates))) }
+    ensures jobs { IfOk result (λ opened. map unsent_jobs opened.1.items ≡ map (λ s. jobs_for s file.steps) (range_with_len 0 (length file.plan.rates))) }
     ensures ready { IfOk result (λ opened. Ready opened.0 opened.1.items) }
     ensures memory { IfErr result (λ error. error ≡ HouseError.OutOfMemory) }
 {

@@ -1,11 +1,13 @@
 //! The steps of a task file, made in order, and something written of each.
 
-ghost use Rattle.std.specs.Prelude.{◌≡◌, ◌⊎◌, ◌-◌, ◌<◌, ◌^◌, OnOk, OnErr, string_bytes};
+ghost use Rattle.std.specs.Prelude.{ℕ, ◌≡◌, ◌⊎◌, ◌-◌, ◌<◌, ◌^◌, OnOk, OnErr, string_bytes};
 ghost use Rattle.cbs_job.specs.FileJobs.{of_files};
 ghost use Rattle.cbs_core.specs.Agreement.{Agrees};
-ghost use Rattle.cbs_core.specs.History.{History, ◌⊕◌, world_after};
+ghost use Rattle.cbs_core.specs.History.{History, ◌⊕◌, world_after, reply_in};
+ghost use Rattle.cbs_core.specs.Laws.{account_in, completion_in, completion_of, Completes};
 ghost use Rattle.cbs_core.specs.Replies.{is_lack};
 ghost use Rattle.cbs_run.specs.Writers.{Leaves, StopsWriting};
+ghost use Rattle.cbs_run.specs.FileLaws.{CompletesAll, KeepsLaws};
 ghost use Rattle.cbs_run.specs.StepTexts.{StepText, text_after, texts_after, start_of, texts_of, WritesSteps, StopsAtStep};
 
 use crate::call::{Call, call_of};
@@ -57,6 +59,8 @@ fn take_step<V: StepView>(
     ensures state { OnOk result ((M : History FileJob) → Agrees of_files core.old M → Agrees of_files core.new (M ⊕ step)) }
     ensures refused { OnErr result ((M : History FileJob) → Agrees of_files core.old M
         → Agrees of_files core.new M ⊎ Agrees of_files core.new (M ⊕ step)) }
+    ensures completes { OnOk result ((M : History FileJob) → Agrees of_files core.old M → (s : ℕ)
+        → Completes of_files (account_in of_files M s) (account_in of_files (M ⊕ step) s) (completion_of s (completion_in (reply_in of_files M step)))) }
 {
     let call = call_of(&step);
     let reply = core.step(step);
@@ -79,9 +83,10 @@ fn write_steps<V: StepView, O: ByteOutput>(
     out: &mut O,
 ) -> Result<(), RunError>
     requires { O.failed out.old < 2 ^ 64 - 1 }
-    ensures { (M : History FileJob) → Agrees of_files core.old M
+    ensures written { (M : History FileJob) → Agrees of_files core.old M
         → Leaves (texts_after V.text_of M steps.items) (StopsWriting (texts_after V.text_of M steps.items) (StopsAtStep V.text_of M steps.items core.new)) result
         (record { written = O.written out.old; failed = O.failed out.old }) (record { written = O.written out.new; failed = O.failed out.new }) }
+    ensures completes { OnOk result ((M : History FileJob) → Agrees of_files core.old M → (s : ℕ) → CompletesAll M steps.items s) }
 {
     let mut pending = Pending::new(alloc)?;
     let mut text = String::new(alloc);
@@ -111,8 +116,9 @@ pub fn write_file_steps<V: StepView, O: ByteOutput>(
     out: &mut O,
 ) -> Result<(), RunError>
     requires { O.failed out.old < 2 ^ 64 - 1 }
-    ensures { Leaves (texts_of V.text_of file) (StopsWriting (texts_of V.text_of file) (WritesSteps V.text_of (start_of file) file.steps)) result
+    ensures written { Leaves (texts_of V.text_of file) (StopsWriting (texts_of V.text_of file) (WritesSteps V.text_of (start_of file) file.steps)) result
         (record { written = O.written out.old; failed = O.failed out.old }) (record { written = O.written out.new; failed = O.failed out.new }) }
+    ensures laws { OnOk result (KeepsLaws file) }
 {
     let Parts {
         mode,

@@ -1,9 +1,10 @@
 //! The trace of a task file: the lines of its steps.
 
-ghost use Rattle.std.specs.Prelude.{◌≡◌, ◌-◌, ◌<◌, ◌^◌};
+ghost use Rattle.std.specs.Prelude.{◌≡◌, ◌-◌, ◌<◌, ◌^◌, OnOk};
 ghost use Rattle.cbs_job.specs.FileJobs.{of_files};
 ghost use Rattle.cbs_core.specs.Agreement.{Agrees};
 ghost use Rattle.cbs_core.specs.History.{History, world_after};
+ghost use Rattle.cbs_run.specs.FileLaws.{KeepsLaws};
 ghost use Rattle.cbs_run.specs.Writers.{Leaves};
 ghost use Rattle.cbs_run.specs.Traces.{answer_of, line_in, line_of, trace, TraceStops};
 
@@ -71,8 +72,11 @@ fn line_of(core: &Core<FileJob>, call: Call, answer: Answer) -> Line
 /// then what is written is the front of the whole text.
 pub fn replay<O: ByteOutput>(alloc: Global, file: TaskFile, out: &mut O) -> Result<(), RunError>
     requires { O.failed out.old < 2 ^ 64 - 1 }
-    ensures { Leaves (trace file) (TraceStops file) result
+    ensures written { Leaves (trace file) (TraceStops file) result
         (record { written = O.written out.old; failed = O.failed out.old }) (record { written = O.written out.new; failed = O.failed out.new }) }
+
+    // What the replies, whose lines these are, mean for each server, over the whole file.
+    ensures laws { OnOk result (KeepsLaws file) }
 {
     write_file_steps(&Lines, alloc, file, out)
 }
