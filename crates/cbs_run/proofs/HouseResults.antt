@@ -18,7 +18,9 @@ use Rattle.cbs_house.specs.Clients.{server_of}
 use Rattle.cbs_house.specs.Feeds.{client_of, unsent_jobs, all_jobs, KeepsFeeds}
 use Rattle.cbs_house.specs.Houses.{core_of, results_of}
 use Rattle.cbs_house.specs.Opened.{IsUnused}
-use Rattle.cbs_house.specs.Rounds.{IsServed, ServesOn}
+use Rattle.cbs_house.specs.Rounds.{IsServed, ServesOn, Stops}
+use Rattle.cbs_house.specs.declared.error.HouseError.{HouseError}
+use Rattle.cbs_house.specs.declared.error.HouseError.TheVariants as house
 use Rattle.cbs_house.specs.declared.feed.Feed.{Feed}
 use Rattle.cbs_house.specs.declared.house.House.{House}
 use Rattle.cbs_house.proofs.Feeds.{feeds_servers, feeds_jobs, unused_jobs}
@@ -26,6 +28,7 @@ use Rattle.cbs_house.proofs.Moves.{serves_rings}
 use Rattle.cbs_core.proofs.Laws.{new_count}
 use Rattle.cbs_file.specs.TaskFiles.{File}
 use Rattle.cbs_run.specs.ResultLines.{jobs_for, results_by_server}
+use Rattle.cbs_run.specs.ServingStops.{HouseStops}
 use Rattle.cbs_run.specs.StepTexts.{start_of}
 
 -- the terms of a server
@@ -56,6 +59,17 @@ module _ {A : Type 0} {g : Ghosts FileJob} (f : File) where
   pub served_count : (a b : House FileJob A g) → Agrees of_files (core_of a) (start_of f) → ServesOn of_files a b → length (core_of b).faces ≡ length f.plan.rates
   served_count a b agrees on =
       sym b.housed.ring_count ∙ (ap length (serves_rings of_files a b on) ∙ (a.housed.ring_count ∙ (new_count of_files (core_of a) (start_of f).setup agrees ∙ length-map f.plan.rates (term_of f.mode))))
+
+  -- why a house that serves the file stops
+  pub stops_short : (a b : House FileJob A g) (fs : List (Feed FileJob A g)) (e : HouseError) → Agrees of_files (core_of a) (start_of f) → ServesOn of_files a b → Stops e b fs → HouseStops f e
+  stops_short a b fs house.OutOfMemory agrees on s = tt
+  stops_short a b fs house.ClockEnd agrees on s =
+      let m = on.moves.1.some in record { steps = m.0; core = core_of b; allowed = m.2 (start_of f) agrees; agrees = m.1.steps (start_of f) agrees; comes = record { clock = s.0; holds = s.1 } }
+  stops_short a b fs house.Stalled agrees on s =
+      let m = on.moves.1.some in record { steps = m.0; core = core_of b; allowed = m.2 (start_of f) agrees; agrees = m.1.steps (start_of f) agrees; comes = s.drained }
+  stops_short a b fs house.BadBacklog agrees on s = s
+  stops_short a b fs house.BadRing agrees on s = s
+  stops_short a b fs house.NoSuchServer agrees on s = s
 
 -- the lists of jobs, and the results of each server
 pub jobs_are : (f : File) (n : ℕ) (steps : List (Step FileJob)) → n ≡ length f.plan.rates → steps ≡ f.steps

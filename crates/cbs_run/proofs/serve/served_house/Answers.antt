@@ -1,6 +1,7 @@
 use Rattle.std.proofs.Common.{◌∙◌, length}
 use Rattle.cbs_job.specs.FileJobs.{of_files}
-use Rattle.cbs_run.proofs.HouseResults.{results_are, by_server, served_count}
+use Rattle.cbs_run.proofs.HouseResults.{results_are, by_server, served_count, stops_short}
+use Rattle.std.proofs.lemmas.Result.{err_from_is_err_and}
 use Rattle.cbs_run.proofs.serve.served_house.Goals as goal
 
 pub returns-clause-servers : goal.returns-clause-servers
@@ -12,3 +13,9 @@ returns-clause-results g c =
     let served = c.in_ok-serve.ensures in
     results_are of_files c.serve.new.house c.args.file.ring (length c.args.file.plan.rates) opened.feeds.items c.serve.new.feeds _ opened.ensures.rings opened.ensures.servers opened.ensures.jobs
     (rw c.deref_mut.ensures.value at served.feeds) served.served ∙ by_server c.args.file
+
+pub returns-in_err-serve-clause-stops : goal.returns-in_err-serve-clause-stops
+returns-in_err-serve-clause-stops g c =
+    let p = err_from_is_err_and c.from_residual-in_err-serve.result c.from_residual-in_err-serve.ensures.1 in
+    let served = c.in_err-serve.ensures in
+    rw (p.1, p.2) (stops_short c.args.file c.in_ok-house.house c.serve.new.house c.serve.new.feeds _ c.in_ok-house.ensures.core served.steps served.stops)
