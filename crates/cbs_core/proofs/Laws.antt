@@ -22,7 +22,6 @@ use Rattle.cbs_core.proofs.Agreements.{account_face, ticks_none}
 use Rattle.cbs_core.proofs.Choices.{choice_is}
 use Rattle.cbs_core.proofs.HeldJobs.{length_jobs}
 use Rattle.cbs_core.proofs.Lists.{AllZip-length, AllZip-get}
-
 pub use Rattle.cbs_core.proofs.Completions.{Completes-none, after-push, steps_complete}
 pub use Rattle.cbs_core.proofs.ClosedServers.{steps_close}
 pub use Rattle.cbs_core.proofs.StepLists.{all_yielded}
@@ -72,10 +71,10 @@ module _ {W : Type 0} (work : Meaning W) where
   holds_within core history s some = elim (cases_lt s (length core.faces)) [
     | inl lt ↦ lt
     | inr ge ↦ absurd (history (λ M agrees.
-      let w = world_after work M in
-      let l = within_queues core.queues s some in
-      let shown = ap length agrees.world.shown in
-      absurd (omega (arith, AllZip-length (AgreesJobs work) core.queues w.accounts agrees.world.jobs, length-map w.accounts (face_of work)))))
+        let w = world_after work M in
+        let l = within_queues core.queues s some in
+        let shown = ap length agrees.world.shown in
+        absurd (omega (arith, AllZip-length (AgreesJobs work) core.queues w.accounts agrees.world.jobs, length-map w.accounts (face_of work)))))
   ]
 
   none_of : (jobs : List W) → (0 < length jobs → ⊥) → jobs ≡ []
