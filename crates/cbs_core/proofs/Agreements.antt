@@ -1,5 +1,5 @@
 -- What agreement with a history becomes, through each step.
-use Rattle.std.proofs.Common.{◌≡◌, ℕ, zero, suc, ◌+◌, ◌≤◌, ◌<◌, List, [], ◌∷◌, ◌++◌, length, map, get_or, replicate, refl, ap, sym, ◌∙◌, arith, true, false, Bool, leb, ltb, cond, is_some, Option, Some, None}
+use Rattle.std.proofs.Common.{◌≡◌, ℕ, zero, suc, ◌+◌, ◌≤◌, ◌<◌, List, [], ◌∷◌, ◌++◌, length, map, replicate, refl, ap, sym, ◌∙◌, arith, true, false, Bool, leb, ltb, cond, is_some, Option, Some, None}
 use Rattle.std.proofs.lemmas.Bool.Decides.{nat_tests}
 use Rattle.std.proofs.lemmas.List.{length-map}
 use Rattle.std.specs.List.{AllByRecursion, AllZip}
@@ -10,13 +10,12 @@ use Rattle.cbs_core.specs.Lists.{changed_at}
 use Rattle.cbs_core.specs.Choice.{chosen_among}
 use Rattle.cbs_core.specs.Faces.{Face, new_face, face_at, ranks, submit_refusal, close_refusal, with_job, with_unit, with_replenishment, with_close}
 use Rattle.cbs_core.specs.Accounts.{Account, need, face_of, new_account, no_account, account_with_job, account_with_unit, account_with_replenishment, account_with_close}
-use Rattle.cbs_core.specs.History.{World, Setup, account, faces, chosen, tick, ticks, start, runner, after_submit, after_run, after_closing, next, unit_reply, run_reply, submit_reply, close_reply, reply_to}
+use Rattle.cbs_core.specs.History.{World, account, faces, chosen, tick, ticks, start, runner, after_submit, after_run, after_closing, next, run_reply, submit_reply, close_reply, reply_to}
 use Rattle.cbs_core.specs.Agreement.{AgreesJobs, AgreesWorld}
 use Rattle.cbs_core.specs.Replies.{IsAccepted}
 use Rattle.cbs_core.specs.Held.{CoreHeld}
 use Rattle.cbs_core.specs.Queues.{list_at, jobs_run, result_run, ran_of}
 use Rattle.cbs_core.specs.declared.error.CoreError.{CoreError}
-use Rattle.cbs_core.specs.declared.error.CoreError.TheVariants as error
 use Rattle.cbs_core.specs.declared.reply.Ran.{Ran}
 use Rattle.cbs_core.specs.declared.reply.Ran.TheVariants as ran
 use Rattle.cbs_core.specs.declared.reply.Reply.TheVariants as reply

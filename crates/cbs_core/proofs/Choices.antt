@@ -1,5 +1,5 @@
 -- The choice: by a scan, and in words of its own.
-use Rattle.std.proofs.Common.{◌≡◌, ℕ, zero, suc, ◌+◌, ◌≤◌, ◌<◌, Bool, true, false, List, length, map, refl, sym, arith, ltb, ◌||◌, ◌&&◌, not, inl, inr, Option, Some, None, below_more, subst}
+use Rattle.std.proofs.Common.{◌≡◌, ℕ, zero, suc, ◌+◌, ◌≤◌, ◌<◌, Bool, true, false, List, length, refl, sym, arith, ltb, ◌||◌, ◌&&◌, not, inl, inr, Option, Some, None, below_more, subst}
 use Rattle.std.specs.Prelude.{IfSome}
 use Rattle.std.proofs.lemmas.Bool.{cases_lt, cases_Bool}
 use Rattle.std.proofs.lemmas.Bool.Decides.{nat_tests}

@@ -3,7 +3,6 @@ use Rattle.std.proofs.Common.{◌≡◌, ◌≢◌, ℕ, zero, suc, ◌+◌, ◌
 use Rattle.std.proofs.lemmas.Bool.{cases_Bool}
 use Rattle.std.proofs.lemmas.Bool.Decides.{nat_tests}
 use Rattle.std.proofs.lemmas.List.{map-append, length-map, drop-drop}
-use Rattle.std.specs.List.{AllZip}
 use Rattle.cbs_job.specs.Work.{Meaning, whole}
 use Rattle.cbs_job.specs.declared.completion.Completion.{Completion}
 use Rattle.cbs_core.specs.Faces.{Face, is_ready, submit_refusal, close_refusal}

@@ -1,6 +1,6 @@
 -- What each core keeps, through each step.
-use Rattle.std.proofs.Common.{◌≡◌, ℕ, zero, suc, ◌+◌, ◌-◌, ◌*◌, ◌≤◌, ◌<◌, ◌^◌, true, List, [], ◌∷◌, ◌++◌, length, map, get_or, replicate, refl, sym, ◌∙◌, ap, arith, eqb, inl, inr, is_some, length-append}
-use Rattle.std.specs.Prelude.{if◌then◌else◌, slice_get, Result, IfOk, OnOk}
+use Rattle.std.proofs.Common.{◌≡◌, ℕ, ◌+◌, ◌*◌, ◌≤◌, ◌<◌, ◌^◌, true, List, [], ◌∷◌, ◌++◌, length, map, replicate, refl, ◌∙◌, ap, arith, eqb, inl, inr, is_some, length-append}
+use Rattle.std.specs.Prelude.{slice_get, Result, IfOk, OnOk}
 use Rattle.std.proofs.lemmas.Bool.{cases_lt, cases_Bool}
 use Rattle.std.proofs.lemmas.Option.{slice_get-get_or, slice_get_past}
 use Rattle.std.proofs.lemmas.Bool.Decides.{nat_tests}
@@ -15,12 +15,12 @@ use Rattle.cbs_core.specs.Faces.{Face, new_face, no_face, face_at, is_ready, bac
 use Rattle.cbs_core.specs.Laws.{IsWithinBudget, KeepsBudgets}
 use Rattle.cbs_core.specs.declared.error.CoreError.{CoreError}
 use Rattle.cbs_core.specs.declared.view.ServerView.{ServerView}
-use Rattle.cbs_core.specs.Held.{CoreHeld, held_at, Accepts}
+use Rattle.cbs_core.specs.Held.{CoreHeld, Accepts}
 use Rattle.cbs_core.specs.Queues.{list_at, jobs_run, result_run}
 use Rattle.cbs_core.specs.Setups.{terms_of}
 use Rattle.cbs_core.specs.Invariant.{IsServer, HoldsBacklog, IsCore}
 use Rattle.cbs_core.proofs.Faces.{server_new, server_later, server_replenished, server_closed, server_joined, server_run, runnable, budget_some, within_budget}
-use Rattle.cbs_core.proofs.Lists.{counted, length-changed_at, AllByRecursion-map, AllByRecursion-get, AllByRecursion-push, AllByRecursion-changed_at, AllZip-length, AllZip-get, AllZip-map, AllZip-changed_at, AllZip-changed_second}
+use Rattle.cbs_core.proofs.Lists.{length-changed_at, AllByRecursion-map, AllByRecursion-get, AllByRecursion-push, AllByRecursion-changed_at, AllZip-length, AllZip-get, AllZip-map, AllZip-changed_at, AllZip-changed_second}
 use Rattle.cbs_core.proofs.Plans.{length-faces}
 
 -- a new core

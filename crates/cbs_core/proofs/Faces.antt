@@ -1,10 +1,9 @@
 -- What each server keeps, through what each step does to its face.
-use Rattle.std.proofs.Common.{◌≡◌, ℕ, zero, suc, ap, [], ◌∷◌, ◌+◌, ◌-◌, ◌*◌, ◌≤◌, ◌<◌, Bool, true, false, ◌||◌, List, length, get_or, arith, inl, inr, refl, Option, Some, None, sym, ◌∙◌}
-use Rattle.std.specs.Prelude.{slice_get}
-use Rattle.std.proofs.lemmas.Bool.{cases_Bool, cases_lt}
+use Rattle.std.proofs.Common.{◌≡◌, ℕ, zero, suc, ap, [], ◌∷◌, ◌+◌, ◌*◌, ◌≤◌, ◌<◌, Bool, true, false, ◌||◌, List, length, arith, inl, inr, refl, Some, sym, ◌∙◌}
+use Rattle.std.proofs.lemmas.Bool.{cases_Bool}
 use Rattle.std.proofs.lemmas.Bool.Decides.{nat_tests}
 use Rattle.cbs_rate.specs.Rate.{IsRate}
-use Rattle.cbs_rules.specs.Rules.{State, Terms, after_arrival}
+use Rattle.cbs_rules.specs.Rules.{Terms}
 use Rattle.cbs_rules.proofs.States.{IsState-fresh_state, IsState-after_arrival, IsState-after_unit, IsState-after_replenishment}
 use Rattle.cbs_rules.proofs.Deadlines.{begun_after_arrival, begun_after_unit, begun_after_replenishment, deadline-arrived-le, deadline-consumed-le, deadline-replenished-le}
 use Rattle.cbs_core.specs.Choice.{rank_at, IsChoice}

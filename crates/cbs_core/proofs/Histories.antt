@@ -7,7 +7,7 @@ use Rattle.cbs_rules.specs.Rules.{clock_end}
 use Rattle.cbs_core.specs.Lists.{or_else, first_below, changed_at}
 use Rattle.cbs_core.specs.Choice.{Rank, rank_at, is_first, chosen_among}
 use Rattle.cbs_core.specs.Faces.{is_ready, ranks, submit_refusal, close_refusal}
-use Rattle.cbs_core.specs.Accounts.{Account, face_of, new_account, no_account, account_with_job, account_with_unit, account_with_replenishment, account_with_close}
+use Rattle.cbs_core.specs.Accounts.{Account, face_of, new_account, account_with_job, account_with_unit, account_with_replenishment, account_with_close}
 use Rattle.cbs_core.specs.History.{World, Setup, account, faces, chosen, tick, ticks, runner, after_submit, after_run, after_closing, next, after}
 use Rattle.cbs_core.proofs.Faces.{rank_ready}
 use Rattle.cbs_core.proofs.Agreements.{account_face}

@@ -1,16 +1,16 @@
 -- An advance by the idle span is quiet, and none by more ticks is.
-use Rattle.std.proofs.Common.{◌≡◌, ℕ, zero, suc, ◌+◌, ◌-◌, ◌≤◌, ◌<◌, Bool, true, false, leb, List, [], ◌∷◌, map, length, arith, refl, inl, inr, sym, ◌∙◌, ap, subst, Option, Some, None}
+use Rattle.std.proofs.Common.{◌≡◌, ℕ, zero, suc, ◌+◌, ◌-◌, ◌≤◌, ◌<◌, true, false, leb, List, [], ◌∷◌, map, arith, inl, inr, sym, ◌∙◌, ap, Option, Some, None}
 use Rattle.std.specs.Prelude.{min, max, MatchOption}
 use Rattle.std.specs.List.{AllByRecursion}
 use Rattle.std.proofs.lemmas.Bool.{cases_lt, cases_Bool}
 use Rattle.std.proofs.lemmas.Bool.Decides.{nat_tests}
 use Rattle.cbs_job.specs.Work.{Meaning}
-use Rattle.cbs_rules.specs.Rules.{clock_end, after_replenishment}
+use Rattle.cbs_rules.specs.Rules.{clock_end}
 use Rattle.cbs_core.specs.Faces.{Face, is_active, is_ready, with_replenishment}
 use Rattle.cbs_core.specs.History.{World, faces, ticks}
 use Rattle.cbs_core.specs.Quiet.{IsAtRest, IsQuiet, IsIdleSpan}
 use Rattle.cbs_core.specs.IdleSpans.{wait, span_from}
-use Rattle.cbs_core.proofs.Agreements.{ticks_none, ticks_some, jumped, replenished_faces}
+use Rattle.cbs_core.proofs.Agreements.{ticks_none, ticks_some, replenished_faces}
 
 -- nobody is ready
 abbrev NoneReady : List Face → Type 0

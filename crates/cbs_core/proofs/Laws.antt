@@ -1,5 +1,5 @@
 -- The laws of the core that the crates above may cite.
-use Rattle.std.proofs.Common.{◌≡◌, ℕ, zero, suc, ◌+◌, ◌-◌, ◌<◌, ◌≤◌, true, false, leb, ltb, List, [], ◌∷◌, length, map, get_or, ◌++◌, refl, sym, ◌∙◌, ap, subst, arith, inl, inr, Option, Some, None}
+use Rattle.std.proofs.Common.{◌≡◌, ℕ, zero, suc, ◌+◌, ◌<◌, ◌≤◌, true, false, leb, ltb, List, [], ◌∷◌, length, map, ◌++◌, refl, sym, ◌∙◌, ap, subst, arith, inl, inr, Option, Some, None}
 use Rattle.std.specs.Prelude.{if◌then◌else◌}
 use Rattle.std.specs.List.{AllByRecursion, AllZip}
 use Rattle.std.proofs.lemmas.Bool.{cases_eq, cases_lt}
@@ -8,10 +8,10 @@ use Rattle.std.proofs.lemmas.List.{length-map}
 use Rattle.cbs_job.specs.Work.{Meaning, whole}
 use Rattle.cbs_rules.specs.Rules.{clock_end, Terms}
 use Rattle.cbs_core.specs.Choice.{rank_at}
-use Rattle.cbs_core.specs.Faces.{Face, new_face, face_at, is_active, is_ready, ranks}
-use Rattle.cbs_core.specs.Accounts.{Account, face_of, new_account, no_account}
+use Rattle.cbs_core.specs.Faces.{Face, face_at, is_active, is_ready, ranks}
+use Rattle.cbs_core.specs.Accounts.{face_of, new_account, no_account}
 use Rattle.cbs_core.specs.History.{World, Setup, History, ◌⊕◌, account, faces, chosen, tick, ticks, after_run, next, world_after}
-use Rattle.cbs_core.specs.Agreement.{AgreesJobs, AgreesWorld, Agrees}
+use Rattle.cbs_core.specs.Agreement.{AgreesJobs, Agrees}
 use Rattle.cbs_core.specs.Quiet.{IsAtRest, IsQuiet, IsIdleSpan}
 use Rattle.cbs_core.specs.Held.{CoreHeld, held_at, HoldsJob}
 use Rattle.cbs_core.specs.Queues.{list_at}

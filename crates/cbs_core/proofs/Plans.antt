@@ -1,10 +1,8 @@
 -- The servers of a plan, taken one by one.
-use Rattle.std.proofs.Common.{◌≡◌, ℕ, zero, suc, ◌+◌, ◌≤◌, ◌<◌, List, [], ◌∷◌, ◌++◌, length, take, map, ap, ◌∙◌, refl, arith, add-one, Option, Some, None}
+use Rattle.std.proofs.Common.{◌≡◌, ℕ, zero, suc, ◌+◌, ◌≤◌, ◌<◌, List, [], ◌∷◌, ◌++◌, length, take, map, ap, refl, arith, add-one, Option, Some}
 use Rattle.std.specs.Prelude.{slice_get, IsSome}
-use Rattle.std.proofs.lemmas.List.{take_all, length-map}
-use Rattle.std.specs.List.{AllByRecursion}
-use Rattle.cbs_rate.specs.Rate.{Rate, IsRate}
-use Rattle.cbs_rules.specs.Rules.{Terms}
+use Rattle.std.proofs.lemmas.List.{take_all}
+use Rattle.cbs_rate.specs.Rate.{Rate}
 use Rattle.cbs_rules.specs.declared.mode.Mode.{Mode}
 use Rattle.cbs_core.specs.Faces.{Face, new_face}
 use Rattle.cbs_core.specs.Setups.{terms_of}

@@ -1,11 +1,10 @@
 -- Why a submit or a close is refused, in words of what is held.
-use Rattle.std.proofs.Common.{◌≡◌, ℕ, ◌≤◌, ◌<◌, Bool, true, false, leb, List, length, refl, ◌∙◌, ap, arith, Option, Some, None, inl, inr}
-use Rattle.std.specs.Prelude.{slice_get}
+use Rattle.std.proofs.Common.{◌≡◌, ℕ, ◌≤◌, ◌<◌, true, false, leb, length, refl, arith, Option, Some, None, inl, inr}
 use Rattle.std.proofs.lemmas.Bool.{cases_lt, cases_Bool}
 use Rattle.std.proofs.lemmas.Bool.Decides.{nat_tests}
 use Rattle.std.proofs.lemmas.Option.{slice_get-get_or, slice_get_past}
 use Rattle.cbs_core.specs.Errors.{is_out_of_memory}
-use Rattle.cbs_core.specs.Faces.{Face, no_face, face_at, backlog_of, refuses_submit, refuses_close, submit_refusal, close_refusal}
+use Rattle.cbs_core.specs.Faces.{no_face, face_at, backlog_of, refuses_submit, refuses_close, submit_refusal, close_refusal}
 use Rattle.cbs_core.specs.Held.{CoreHeld, IsOpen, Accepts, IsRefusedBy}
 use Rattle.cbs_core.specs.declared.error.CoreError.{CoreError}
 use Rattle.cbs_core.specs.declared.error.CoreError.TheVariants as error

@@ -8,7 +8,6 @@ use Rattle.cbs_core.specs.Held.{CoreHeld}
 use Rattle.cbs_core.specs.declared.step.Step.{Step}
 use Rattle.cbs_core.specs.declared.reply.Reply.{Reply}
 use Rattle.cbs_core.specs.declared.reply.SubmitRefused.{SubmitRefused}
-use Rattle.cbs_core.specs.declared.error.CoreError.TheVariants as error
 
 module _ {W : Type 0} (work : Meaning W) where
   lack_is : (r : Result ℕ (SubmitRefused W)) → is_lack (submitted r) ≡ lacks_memory r

@@ -1,6 +1,6 @@
 -- What a server shows beside its jobs, what is read off it, and what each step does to it.
-use Rattle.std.specs.Prelude.{ℕ, ◌+◌, ◌-◌, max, Bool, true, false, not, ◌&&◌, ◌||◌, leb, ltb, if◌then◌else◌, List, map, get_or, slice_get, Option, Some, None, Result, Ok, Err}
-use Rattle.cbs_rules.specs.Rules.{clock_end, State, Terms, fresh_state, after_arrival, after_unit, after_replenishment}
+use Rattle.std.specs.Prelude.{ℕ, ◌+◌, ◌-◌, Bool, true, false, not, ◌&&◌, ◌||◌, leb, ltb, if◌then◌else◌, List, map, get_or, slice_get, Option, Some, None, Result, Ok, Err}
+use Rattle.cbs_rules.specs.Rules.{State, Terms, fresh_state, after_arrival, after_unit, after_replenishment}
 use Rattle.cbs_rules.specs.declared.mode.Mode.TheVariants.{Soft}
 use Rattle.cbs_core.specs.Choice.{Rank}
 use Rattle.cbs_core.specs.declared.error.CoreError.{CoreError}

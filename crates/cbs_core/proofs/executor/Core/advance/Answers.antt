@@ -1,8 +1,8 @@
-use Rattle.std.proofs.Common.{◌≡◌, ◌+◌, ◌≤◌, ◌<◌, refl, sym, ap, arith}
+use Rattle.std.proofs.Common.{◌≡◌, ◌+◌, ◌≤◌, ◌<◌, refl, arith}
 use Rattle.cbs_rules.specs.Rules.{clock_end}
 use Rattle.cbs_core.specs.Held.{CoreHeld}
 use Rattle.cbs_core.specs.History.{world_after}
-use Rattle.cbs_core.proofs.Agreements.{advance_accepted, advance_agrees, advance_none}
+use Rattle.cbs_core.proofs.Agreements.{advance_agrees, advance_none}
 use Rattle.cbs_core.proofs.Cores.{core_jumped, budgets_kept}
 use Rattle.cbs_core.proofs.Effects.{jumped_same, all_same}
 use Rattle.cbs_core.proofs.executor.Core.advance.Goals as goal

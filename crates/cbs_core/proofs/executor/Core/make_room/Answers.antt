@@ -1,4 +1,4 @@
-use Rattle.std.proofs.Common.{◌<◌, length, rules, sym, refl, inl, inr, arith}
+use Rattle.std.proofs.Common.{rules, sym, refl, inl, inr, arith}
 use Rattle.cbs_core.specs.Held.{CoreHeld}
 use Rattle.cbs_core.specs.History.{world_after}
 use Rattle.cbs_core.proofs.Agreements.{same_refusal}

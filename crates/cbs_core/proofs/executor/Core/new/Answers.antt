@@ -2,7 +2,6 @@ use Rattle.std.proofs.Common.{arith}
 use Rattle.cbs_core.specs.Setups.{terms_of}
 use Rattle.cbs_core.proofs.Agreements.{start_agrees}
 use Rattle.cbs_core.proofs.Cores.{core_new}
-use Rattle.cbs_core.proofs.Refusals.{free_accepts}
 use Rattle.cbs_core.proofs.executor.Core.new.Goals as goal
 
 pub invariant_of-result : goal.invariant_of-result

@@ -1,9 +1,9 @@
-use Rattle.std.proofs.Common.{◌<◌, length, sym, arith, rules}
+use Rattle.std.proofs.Common.{sym, arith, rules}
 use Rattle.cbs_core.specs.Held.{CoreHeld}
 use Rattle.cbs_core.specs.History.{world_after}
 use Rattle.cbs_core.proofs.Agreements.{submit_replied, submit_left, submit_accepted}
 use Rattle.cbs_core.proofs.Cores.{queue_count, budgets_kept}
-use Rattle.cbs_core.proofs.Refusals.{free_accepts, accepts_free, refusal_named}
+use Rattle.cbs_core.proofs.Refusals.{free_accepts, accepts_free}
 use Rattle.cbs_core.proofs.executor.Core.submit.Goals as goal
 
 pub returns-in-Some-clause-reply : goal.returns-in-Some-clause-reply

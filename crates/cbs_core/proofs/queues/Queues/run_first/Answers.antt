@@ -1,4 +1,4 @@
-use Rattle.std.proofs.Common.{◌-◌, ◌∙◌, sym, ap, arith}
+use Rattle.std.proofs.Common.{◌-◌, arith}
 use Rattle.std.specs.VecDeque.{deque_len, deque_capacity}
 use Rattle.std.specs.declared.collections.VecDeque.{VecDeque}
 use Rattle.cbs_core.specs.Queues.{jobs_run}
