@@ -1,5 +1,5 @@
 -- The messages that stand in a ring, as they are taken one by one.
-use Rattle.std.proofs.Common.{◌≡◌, ◌≢◌, ℕ, zero, suc, ◌+◌, ◌<◌, get_or, true, false, Result, Ok, Err, OnOk, List, [], ◌∷◌, ◌++◌, length, refl, ap, sym, ◌∙◌, arith, inl, inr, length-append}
+use Rattle.std.proofs.Common.{◌≡◌, ◌≢◌, ℕ, suc, ◌+◌, ◌<◌, get_or, true, Result, Ok, Err, OnOk, List, [], ◌∷◌, ◌++◌, length, refl, ap, sym, ◌∙◌, arith, inl, inr, length-append}
 use Rattle.std.specs.Prelude.{MatchResult}
 use Rattle.std.proofs.Math.ListN.{set}
 use Rattle.std.specs.List.{All, AllWithin}

@@ -1,4 +1,4 @@
-use Rattle.std.proofs.Common.{◌≡◌, ◌<◌, ◌≤◌, length, refl, ap, ◌∙◌, take, arith, length-set}
+use Rattle.std.proofs.Common.{◌≡◌, ◌<◌, length, refl, ap, ◌∙◌, arith, length-set}
 use Rattle.std.proofs.lemmas.List.{take_all, length-map}
 use Rattle.cbs_house.specs.Feeds.{servers_of}
 use Rattle.cbs_house.proofs.Feeds.{server_noted}

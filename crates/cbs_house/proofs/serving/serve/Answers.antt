@@ -1,8 +1,8 @@
-use Rattle.std.proofs.Common.{◌≡◌, true, IsTrue, refl, sym, ◌∙◌, arith}
+use Rattle.std.proofs.Common.{sym, ◌∙◌, arith}
 use Rattle.std.proofs.lemmas.Bool.{false≢true}
 use Rattle.cbs_house.specs.Feeds.{servers_of}
 use Rattle.cbs_house.proofs.Feeds.{feeds_same, feeds_on}
-use Rattle.cbs_house.proofs.Moves.{serves_none, serves_then}
+use Rattle.cbs_house.proofs.Moves.{serves_none}
 use Rattle.cbs_house.proofs.ServedFeeds.{all_served}
 use Rattle.cbs_house.proofs.Turns.{serves_round}
 use Rattle.cbs_house.proofs.serving.serve.Goals as goal

@@ -1,5 +1,4 @@
 use Rattle.std.proofs.Common.{◌-◌}
-use Rattle.cbs_house.specs.Feeds.{KeepsFeed}
 use Rattle.cbs_house.specs.Houses.{rings_of}
 use Rattle.cbs_house.specs.RingEnds.{IsOpened}
 use Rattle.cbs_house.specs.Rounds.{ServesOn, Standing}
