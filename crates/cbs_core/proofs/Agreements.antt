@@ -47,6 +47,7 @@ module _ {W : Type 0} (work : Meaning W) where
   new_jobs [] = tt
   new_jobs (t ∷ ts) = (record { results = refl; lefts = refl }, new_jobs ts)
 
+  -- a new core, with the faces and empty queues of new servers, agrees with the start
   pub start_agrees : (terms : List Terms) (backlog n : ℕ) (shown : List Face) (queues : List (List W)) (rooms : List ℕ) → shown ≡ map new_face terms → n ≡ length shown → queues ≡ replicate n []
       → AgreesWorld work (record { backlog = backlog; clock = 0; faces = shown; queues = queues; rooms = rooms }) backlog (start (record { servers = terms; backlog = backlog }))
   start_agrees terms backlog n shown queues rooms e count empty = record {
@@ -73,18 +74,22 @@ module _ {W : Type 0} where
       let e : w.now + 1 + suc n ≡ w.now + suc (suc n) = omega arith in
       ticks_jump n (tick w) ∙ rw (all_twice (w.now + 1) (w.now + 1 + suc n) w.accounts (omega arith), e)
 
+  -- no ticks leave the world as it is
   pub ticks_none : (w : World W) → ticks zero w ≡ w
   unfolding ticks
   ticks_none w = refl
 
+  -- some ticks are one jump
   pub ticks_some : (n : ℕ) (w : World W) → 0 < n → ticks n w ≡ jumped n w
   ticks_some zero w h = absurd (omega arith)
   ticks_some (suc n) w h = ticks_jump n w
 
 module _ {W : Type 0} (work : Meaning W) (core : CoreHeld W) (backlog : ℕ) (w : World W) (agrees : AgreesWorld work core backlog w) where
+  -- the choice among the faces held is the chosen server
   pub choice_agrees : chosen_among (ranks core.faces) ≡ chosen work w
   choice_agrees = ap (λ fs. chosen_among (ranks fs)) agrees.shown
 
+  -- what an account shows is the face held
   pub face_is : (s : ℕ) → face_of work (account w.accounts s) ≡ face_at core.faces s
   face_is s = sym (account_face work w.accounts s) ∙ ap (λ fs. face_at fs s) (sym agrees.shown)
 
@@ -96,6 +101,7 @@ module _ {W : Type 0} (work : Meaning W) (core : CoreHeld W) (backlog : ℕ) (w 
 
   -- a run
   module _ (o : Option ℕ) (e : o ≡ chosen_among (ranks core.faces)) where
+    -- a run is answered by the choice among the faces held
     pub reply_by : run_reply work w (chosen work w) ≡ run_reply work w o
     reply_by = ap (run_reply work w) (sym (e ∙ choice_agrees))
 
@@ -105,18 +111,21 @@ module _ {W : Type 0} (work : Meaning W) (core : CoreHeld W) (backlog : ℕ) (w 
         let m : runner work w ≡ o = rw n (sym (e ∙ choice_agrees)) in
         ap (after_run w) m
 
+  -- at the clock's end a run leaves the world as it is
   pub next_late : clock_end ≤ core.clock → next work backlog w Run ≡ w
   next_late late =
       let n : ltb w.now clock_end ≡ false = let c = agrees.clock in grind (arith, nat_tests) in
       let m : runner work w ≡ None = rw n in
       ap (after_run w) m
 
+  -- where nobody is chosen a run leaves the world as it is
   pub idle_next : None ≡ chosen_among (ranks core.faces) → next work backlog w Run ≡ w
   idle_next e =
       let m : chosen work w ≡ None = sym (e ∙ choice_agrees) in
       let n : runner work w ≡ None = rw m (cond_same (ltb w.now clock_end)) in
       ap (after_run w) n
 
+  -- at the clock's end a run is answered so
   pub end_reply : (s : ℕ) → Some s ≡ chosen_among (ranks core.faces) → clock_end ≤ core.clock → run_reply work w (chosen work w) ≡ ran.ClockEnd
   end_reply s e late =
       let n : leb clock_end w.now ≡ true = let c = agrees.clock in grind (arith, nat_tests) in
@@ -134,6 +143,7 @@ module _ {W : Type 0} (work : Meaning W) (core : CoreHeld W) (backlog : ℕ) (w 
         let here = unit_ran work (list_at core.queues s) (account w.accounts s) (jobs_are s lt) law some left s in
         is ∙ ap (λ (f : Face). ran_of s f.finished (result_run work (list_at core.queues s))) (sym (face_is s)) ∙ here ∙ sym (reply_by (Some s) e ∙ rw n)
 
+    -- after the unit and the replenishment the core agrees with one run more
     pub unit_agrees : (shown : List Face) (queues : List (List W)) (rooms : List ℕ)
         → shown ≡ map (with_replenishment (core.clock + 1)) (changed_at (with_unit done) core.faces s) → queues ≡ changed_at (jobs_run work) core.queues s
         → AgreesWorld work (record { backlog = core.backlog; clock = core.clock + 1; faces = shown; queues = queues; rooms = rooms }) backlog (next work backlog w Run)
@@ -154,15 +164,14 @@ module _ {W : Type 0} (work : Meaning W) (core : CoreHeld W) (backlog : ℕ) (w 
     within_end : leb (w.now + n) clock_end ≡ true
     within_end = let c = agrees.clock in grind (arith, nat_tests)
 
-    pub advance_accepted : reply_to work backlog w (Advance n) ≡ reply.Advanced
-    advance_accepted = rw within_end
-
     advance_next : next work backlog w (Advance n) ≡ ticks n w
     advance_next = rw within_end
 
+    -- an advance by 0 leaves the world as it is
     pub advance_none : n ≡ 0 → next work backlog w (Advance n) ≡ w
     advance_none none = advance_next ∙ ap (λ m. ticks m w) none ∙ ticks_none w
 
+    -- after the jump the core agrees with one advance more
     pub advance_agrees : (shown : List Face) (rooms : List ℕ) → 0 < n → shown ≡ map (with_replenishment (core.clock + n)) core.faces
         → AgreesWorld work (record { backlog = core.backlog; clock = core.clock + n; faces = shown; queues = core.queues; rooms = rooms }) backlog (next work backlog w (Advance n))
     advance_agrees shown rooms some is = rw (advance_next ∙ ticks_some n w some) record {
@@ -178,21 +187,26 @@ module _ {W : Type 0} (work : Meaning W) (core : CoreHeld W) (backlog : ℕ) (w 
 
   -- a submit of a job to s, by why it is refused
   module _ (s : ℕ) (job : W) (o : Option CoreError) (e : o ≡ submit_refusal core.backlog core.faces s) where
+    -- the submit is answered by that
     pub submit_replied : reply_to work backlog w (Submit s job) ≡ submit_reply w s job o
     submit_replied = ap (submit_reply w s job) (same_refusal s o e)
 
+    -- and leaves what that says
     pub submit_left : next work backlog w (Submit s job) ≡ after_submit work w s job o
     submit_left = ap (after_submit work w s job) (same_refusal s o e)
 
   module _ (s : ℕ) (job : W) (e : None ≡ submit_refusal core.backlog core.faces s) where
+    -- a submit that is not refused is accepted
     pub submit_accepted : IsAccepted (reply_to work backlog w (Submit s job))
     submit_accepted = (length (account w.accounts s).accepted, submit_replied s job None e)
 
+    -- and answered by the number of jobs accepted before
     pub submit_answered : (q : ℕ) → s < length core.faces → q ≡ (face_at core.faces s).accepted → reply.Accepted q ≡ reply_to work backlog w (Submit s job)
     submit_answered q lt number =
         let n : q ≡ length (account w.accounts s).accepted = number ∙ ap (λ (f : Face). f.accepted) (sym (face_is s)) in
         sym (submit_replied s job None e ∙ ap reply.Accepted (sym n))
 
+    -- with the job behind the others, the core agrees with one submit more
     pub submit_agrees : (shown : List Face) (queues : List (List W)) (rooms : List ℕ) → s < length core.faces
         → shown ≡ changed_at (with_job core.clock) core.faces s → queues ≡ changed_at (λ jobs. jobs ++ job ∷ []) core.queues s
         → (account w.accounts s).got ≤ need work (account w.accounts s) (length (account w.accounts s).accepted) → 0 < work.left job
@@ -211,12 +225,15 @@ module _ {W : Type 0} (work : Meaning W) (core : CoreHeld W) (backlog : ℕ) (w 
     same_closing : close_refusal (faces work w) s ≡ o
     same_closing = sym (e ∙ rw agrees.shown refl)
 
+    -- the close is answered by that
     pub close_replied : reply_to work backlog w (Close s) ≡ close_reply o
     close_replied = ap close_reply same_closing
 
+    -- and leaves what that says
     pub close_left : next work backlog w (Close s) ≡ after_closing w s o
     close_left = ap (after_closing w s) same_closing
 
+  -- with the server closed, the core agrees with one close more
   pub close_agrees : (s : ℕ) (shown : List Face) (rooms : List ℕ) → None ≡ close_refusal core.faces s → s < length core.faces → shown ≡ changed_at with_close core.faces s
       → AgreesWorld work (record { backlog = core.backlog; clock = core.clock; faces = shown; queues = core.queues; rooms = rooms }) backlog (next work backlog w (Close s))
   close_agrees s shown rooms e lt is = rw (close_left s None e) record {

@@ -53,6 +53,7 @@ earlier_not ranks s best r lt =
       | inr f ↦ rw f
     ]
 
+-- what is the choice in words of its own is the chosen server
 pub chosen_best : (ranks : List Rank) (best : Option ℕ) → IsChoice ranks (length ranks) best → best ≡ chosen_among ranks
 chosen_best ranks None none = sym (first_below-none (is_first ranks) (length ranks) (λ r lt. rw (none r lt)))
 chosen_best ranks (Some s) best = sym (first_below-is (is_first ranks) (length ranks) s best.within (first_by ranks s best) (earlier_not ranks s best))
@@ -88,6 +89,7 @@ module _ (ranks : List Rank) (i : ℕ) where
     first = below_more (λ r. (rank_at ranks r).ready ≡ true → is_before ranks b r ≡ true) i best.first (λ on. before_later ranks i b best.within (le on));
   }
 
+  -- the better of the choice among the first i servers and server i is the choice among one more
   pub better_best : (best : Option ℕ) → IsChoice ranks i best → IsChoice ranks (i + 1) (better_of ranks best i)
   better_best None h =
       elim (cases_Bool (rank_at ranks i).ready) [
@@ -100,6 +102,7 @@ module _ (ranks : List Rank) (i : ℕ) where
         | inr f ↦ rw f (best_old b h (λ on. grind (arith, nat_tests)))
       ]
 
+  -- a choice among the first n servers is one of them
   pub best_within : (n : ℕ) (best : Option ℕ) → IsChoice ranks n best → IfSome best (λ b. b < n)
   best_within n None h = tt
   best_within n (Some b) h = h.within

@@ -67,6 +67,7 @@ module _ {W : Type 0} (work : Meaning W) where
         ]
   ]
 
+  -- answered by the rules, no submit to a closed server is accepted
   pub NoneAfterClose-all : (M : History W) (xs : List (Step W)) (rs : List (Reply W)) (s : ℕ) (closed : Bool) → AnswersAll work M xs rs → (closed ≡ true → (account_in work M s).closed ≡ true) → NoneAfterClose s closed xs rs
   NoneAfterClose-all M [] rs s closed all h = tt
   NoneAfterClose-all M (x ∷ xs) [] s closed all h = absurd all

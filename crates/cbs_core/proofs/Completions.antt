@@ -57,11 +57,13 @@ part_of_one zero (x ∷ xs) lt = refl
 part_of_one (suc k) (x ∷ xs) lt = part_of_one k xs (omega arith)
 
 module _ {W : Type 0} where
+  -- the completions among replies, and one more reply
   pub completions_of-push : (s : ℕ) (rs : List (Reply W)) (r : Reply W) → completions_of s (rs ++ r ∷ []) ≡ completions_of s rs ++ completion_of s (completion_in r)
   completions_of-push s [] r = append-nil (completion_of s (completion_in r))
   completions_of-push s (q ∷ rs) r = ap (λ cs. completion_of s (completion_in q) ++ cs) (completions_of-push s rs r) ∙ sym (append_assoc (completion_of s (completion_in q)) (completions_of s rs) (completion_of s (completion_in r)))
 
 module _ {W : Type 0} (work : Meaning W) where
+  -- with no step there is no completion
   pub Completes-none : (a : Account W) → Completes work a a []
   Completes-none a = record { jobs = ([], sym (append-nil a.accepted)); numbers = refl; results = refl; finished = omega arith }
 
@@ -208,6 +210,7 @@ module _ {W : Type 0} (work : Meaning W) where
   replies_after-push M [] x = refl
   replies_after-push M (y ∷ xs) x = ap (λ rs. reply_in work M y ∷ rs) (replies_after-push (M ⊕ y) xs x)
 
+  -- a history and a list of steps, and one more step
   pub after-push : (M : History W) (xs : List (Step W)) (x : Step W) → M ⊕⊕ (xs ++ x ∷ []) ≡ (M ⊕⊕ xs) ⊕ x
   after-push M [] x = refl
   after-push M (y ∷ xs) x = after-push (M ⊕ y) xs x

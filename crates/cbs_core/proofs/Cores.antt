@@ -37,6 +37,7 @@ module _ {W : Type 0} (work : Meaning W) (mode : Mode) (backlog : ℕ) where
   empty_queues [] = refl
   empty_queues (r ∷ rates) = ap (λ qs. [] ∷ qs) (empty_queues rates)
 
+  -- a new core keeps all
   pub core_new : (rates : List Rate) (n : ℕ) (faces : List Face) (queues : List (List W)) (rooms : List ℕ) → length rates ≤ 64 → backlog ≤ 4096 → AllByRecursion (λ r. IsRate r.budget r.period) rates
       → faces ≡ map new_face (terms_of mode rates) → n ≡ length faces → queues ≡ replicate n [] → IsCore work (record { backlog = backlog; clock = 0; faces = faces; queues = queues; rooms = rooms })
   core_new rates n faces queues rooms few small ok shown count empty =
@@ -50,12 +51,15 @@ module _ {W : Type 0} (work : Meaning W) (mode : Mode) (backlog : ℕ) where
       }
 
 module _ {W : Type 0} (work : Meaning W) (core : CoreHeld W) (ok : IsCore work core) where
+  -- each server of a core keeps what a server keeps
   pub server_at : (s : ℕ) → s < length core.faces → IsServer core.backlog core.clock (face_at core.faces s)
   server_at s lt = AllByRecursion-get (IsServer core.backlog core.clock) core.faces s no_face ok.each lt
 
+  -- there are as many queues as servers
   pub queue_count : length core.queues ≡ length core.faces
   queue_count = AllZip-length (HoldsBacklog work) core.queues core.faces ok.jobs
 
+  -- each server holds its backlog
   pub backlog_at : (s : ℕ) → s < length core.faces → HoldsBacklog work (list_at core.queues s) (face_at core.faces s)
   backlog_at s lt = AllZip-get (HoldsBacklog work) core.queues core.faces s [] no_face ok.jobs (let n = queue_count in omega arith)
 
@@ -66,6 +70,7 @@ module _ {W : Type 0} (work : Meaning W) (core : CoreHeld W) (ok : IsCore work c
     | inr ge ↦ rw (e, slice_get_past core.faces s ge) tt
   ]
 
+  -- the budget of each server is within its reservation's
   pub budgets_kept : KeepsBudgets core
   budgets_kept s lt = within_budget core.backlog core.clock (face_at core.faces s) (server_at s lt)
 
@@ -81,6 +86,7 @@ module _ {W : Type 0} (work : Meaning W) (core : CoreHeld W) (ok : IsCore work c
     pub some : 0 < (face_at core.faces s).state.budget
     pub room : (face_at core.faces s).state.deadline ≤ latest_deadline
 
+  -- a ready server before the clock's end may use a tick
   pub may_use_tick : (s : ℕ) → core.clock < clock_end → s < length core.faces → is_ready (face_at core.faces s) ≡ true → MayUseTick s
   may_use_tick s early lt ready = let is = server_at s lt in let e = is.early in let k = ok.clock in record { some = budget_some core.backlog core.clock (face_at core.faces s) is ready; room = omega arith }
 
@@ -93,6 +99,7 @@ module _ {W : Type 0} (work : Meaning W) (core : CoreHeld W) (ok : IsCore work c
     pub active : 0 < length (list_at core.queues s)
     pub unfinished : AllByRecursion (λ w. 0 < work.left w) (list_at core.queues s)
 
+  -- a ready server has a job with a unit left
   pub ready_runs : (s : ℕ) → s < length core.faces → is_ready (face_at core.faces s) ≡ true → Runs s
   ready_runs s lt ready = let h = backlog_at s lt in let c = h.counted in let a = (runnable (face_at core.faces s) ready).active in record { active = omega arith; unfinished = h.unfinished }
 

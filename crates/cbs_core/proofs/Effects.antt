@@ -14,6 +14,7 @@ use Rattle.cbs_core.specs.declared.reply.Ran.TheVariants as ran
 use Rattle.cbs_core.proofs.Lists.{changed_here, changed_elsewhere}
 
 module _ {W : Type 0} where
+  -- nothing is changed where nothing is done
   pub all_same : (core : CoreHeld W) → AllSame core core
   all_same core t = record { jobs = refl; accepted = refl; finished = refl; closed = refl }
 
@@ -27,6 +28,7 @@ module _ {W : Type 0} where
     abbrev new : CoreHeld W
     new = record { backlog = old.backlog; clock = clock; faces = faces; queues = queues; rooms = rooms }
 
+    -- a replenishment of all leaves the jobs of each
     pub jumped_same : (now : ℕ) → faces ≡ map (with_replenishment now) old.faces → queues ≡ old.queues → AllSame old new
     jumped_same now shown same t = rw (shown, same) (replenished_same now old.faces t (list_at old.queues t))
 
@@ -38,6 +40,7 @@ module _ {W : Type 0} where
       pub held_here : s < length old.faces → s < length old.queues → held_at new s ≡ record { face = f (face_at old.faces s); jobs = g (list_at old.queues s) }
       held_here lt within = rw (shown, jobs, changed_here f old.faces s no_face lt, changed_here g old.queues s [] within) refl
 
+    -- a job put behind those of server s, and nothing else
     pub took_job : (s q : ℕ) (job : W) → s < length old.faces → s < length old.queues → q ≡ (face_at old.faces s).accepted
         → faces ≡ changed_at (with_job clock) old.faces s → queues ≡ changed_at (λ jobs. jobs ++ job ∷ []) old.queues s → TakesJob job q (held_at old s) (held_at new s) × OthersSame s old new
     took_job s q job lt within number shown jobs =
@@ -45,6 +48,7 @@ module _ {W : Type 0} where
         let here = held_here s (with_job clock) (λ jobs. jobs ++ job ∷ []) shown jobs lt within in
         (rw here record { number = number; jobs = refl; accepted = refl; finished = refl; closed = refl }, others)
 
+    -- server s closed, and nothing else
     pub closed_server : (s : ℕ) → s < length old.faces → faces ≡ changed_at with_close old.faces s → queues ≡ old.queues → ClosesServer (held_at old s) (held_at new s) × OthersSame s old new
     closed_server s lt shown same = (
       rw (shown, same, changed_here with_close old.faces s no_face lt) record { jobs = refl; accepted = refl; finished = refl; closed = refl },

@@ -11,6 +11,7 @@ use Rattle.cbs_core.specs.Faces.{Face, face_at, new_face, is_active, is_ready, b
 use Rattle.cbs_core.specs.Invariant.{IsServer}
 use Rattle.cbs_core.specs.Laws.{IsWithinBudget}
 
+-- the choice sees each server
 pub length-ranks : (fs : List Face) → length (ranks fs) ≡ length fs
 length-ranks [] = refl
 length-ranks (f ∷ fs) = ap suc (length-ranks fs)
@@ -26,6 +27,7 @@ pub record IsChosen (fs : List Face) (s : ℕ) : Type 0 where
   pub within : s < length fs
   pub ready : is_ready (face_at fs s) ≡ true
 
+-- the chosen server is there and ready
 pub chosen_is : (fs : List Face) (s : ℕ) → IsChoice (ranks fs) (length fs) (Some s) → IsChosen fs s
 chosen_is fs s h = record { within = h.within; ready = sym (rank_ready fs s) ∙ h.ready }
 
@@ -34,6 +36,7 @@ pub record IsRunnable (f : Face) : Type 0 where
   pub active : f.finished < f.accepted
   pub free : f.state.throttled ≡ false
 
+-- so it is of each ready server
 pub runnable : (f : Face) → is_ready f ≡ true → IsRunnable f
 runnable f ready = record { active = grind (arith, nat_tests); free = grind (arith, nat_tests) }
 
@@ -63,6 +66,7 @@ module _ (backlog now : ℕ) where
       few_jobs = ok.few_jobs;
     }
 
+    -- through a replenishment
     pub server_replenished : IsServer backlog now (with_replenishment now f)
     server_replenished = record {
       lawful = ok.lawful;
@@ -74,9 +78,11 @@ module _ (backlog now : ℕ) where
       few_jobs = ok.few_jobs;
     }
 
+    -- through a close
     pub server_closed : IsServer backlog now (with_close f)
     server_closed = record { lawful = ok.lawful; state = ok.state; begun = ok.begun; early = ok.early; counted = ok.counted; few_done = ok.few_done; few_jobs = ok.few_jobs }
 
+    -- through a job that comes in, where the backlog is not full
     pub server_joined : backlog_of f < backlog → IsServer backlog now (with_job now f)
     server_joined few =
         let counted = ok.counted in
@@ -96,6 +102,7 @@ module _ (backlog now : ℕ) where
               }
         ]
 
+    -- through a unit
     pub server_run : (done : Bool) → is_ready f ≡ true → IsServer backlog (now + 1) (with_unit done f)
     server_run done ready =
         let run = runnable f ready in
@@ -123,5 +130,6 @@ module _ (backlog now : ℕ) where
     pub budget_some : is_ready f ≡ true → 0 < f.state.budget
     budget_some ready = let run = runnable f ready in let active = run.active in ok.state.unspent run.free (ok.begun (grind (arith, nat_tests)))
 
+    -- the budget is within the reservation's
     pub within_budget : IsWithinBudget f
     within_budget = record { capped = ok.state.capped; ready = budget_some; throttled = ok.state.spent }

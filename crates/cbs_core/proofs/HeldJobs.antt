@@ -213,12 +213,15 @@ module _ {W : Type 0} (work : Meaning W) (jobs : List W) (a : Account W) (agrees
     served_is : Served work jobs a.accepted a.got (finished work a)
     served_is = served_cases work law jobs a.accepted a.got (finished work a) (unfinished work a) refl (count_done-le work.left a.accepted a.got) refl agrees.results agrees.lefts left some
 
+    -- the jobs after the unit are the unfinished ones, with one unit more got
     pub unit_jobs : AgreesJobs work (jobs_run work jobs) (account_with_unit a)
     unit_jobs = let p = served_is.parts in record { results = rw p.count p.results; lefts = rw p.count p.lefts }
 
+    -- the face counts a finished job where the unit was its last
     pub unit_face : face_of work (account_with_unit a) ≡ with_unit (is_some (result_run work jobs)) (face_of work a)
     unit_face = rw served_is.parts.count refl
 
+    -- and the answer tells its whole result
     pub unit_ran : (s : ℕ) → ran_of s (finished work a) (result_run work jobs) ≡ unit_reply work a s
     unit_ran s = served_is.ran s
 
@@ -229,8 +232,10 @@ module _ {W : Type 0} (work : Meaning W) (jobs : List W) (a : Account W) (agrees
         let p : a.got ≤ sum_by work.left a.accepted = omega (arith, paid, sum_by-take-le work.left a.accepted (length a.accepted)) in
         joined_parts work a.accepted a.got (finished work a) job refl p some jobs agrees.results agrees.lefts
 
+    -- the jobs with one more behind are the unfinished ones, with one more accepted
     pub job_jobs : AgreesJobs work (jobs ++ job ∷ []) (account_with_job work now job a)
     job_jobs = let p = joined_is in record { results = rw p.count p.results; lefts = rw p.count p.lefts }
 
+    -- the face counts one more accepted job
     pub job_face : face_of work (account_with_job work now job a) ≡ with_job now (face_of work a)
     job_face = rw (joined_is.count, length-append a.accepted (job ∷ [])) refl

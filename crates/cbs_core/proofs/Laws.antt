@@ -104,6 +104,7 @@ module _ {W : Type 0} (work : Meaning W) where
   ]
 
 module _ {W : Type 0} where
+  -- two lists of steps, one behind the other
   pub after-append : (M : History W) (xs ys : List (Step W)) → M ⊕⊕ (xs ++ ys) ≡ (M ⊕⊕ xs) ⊕⊕ ys
   after-append M [] ys = refl
   after-append M (x ∷ xs) ys = after-append (M ⊕ x) xs ys
@@ -117,12 +118,15 @@ module _ {W : Type 0} where
   allowed-weaker P Q M (x ∷ xs) w p = (w M x p.0, allowed-weaker P Q (M ⊕ x) xs w p.1)
 
 module _ {W : Type 0} (work : Meaning W) where
+  -- what follows by one list and then by another follows by both
   pub follows_both : (a b c : CoreHeld W) (xs ys : List (Step W)) → Follows work a b xs → Follows work b c ys → Follows work a c (xs ++ ys)
   follows_both a b c xs ys p q = λ M agrees. subst (λ (N : History W). Agrees work c N) (sym (after-append M xs ys)) (q (M ⊕⊕ xs) (p M agrees))
 
+  -- steps that are allowed, and behind them more that are
   pub allowed_both : (P : History W → Step W → Type 0) (a b : CoreHeld W) (xs ys : List (Step W)) → Follows work a b xs → AllAllowed work P a xs → AllAllowed work P b ys → AllAllowed work P a (xs ++ ys)
   allowed_both P a b xs ys f p q = λ M agrees. allowed-append P M xs ys (p M agrees) (q (M ⊕⊕ xs) (f M agrees))
 
+  -- what is allowed by one rule is allowed by a weaker one
   pub allowed_weaker : (P Q : History W → Step W → Type 0) (a : CoreHeld W) (xs : List (Step W)) → ((N : History W) (x : Step W) → P N x → Q N x) → AllAllowed work P a xs → AllAllowed work Q a xs
   allowed_weaker P Q a xs w p = λ M agrees. allowed-weaker P Q M xs w (p M agrees)
 

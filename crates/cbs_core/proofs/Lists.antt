@@ -4,6 +4,7 @@ use Rattle.std.proofs.lemmas.List.{length-map}
 use Rattle.std.specs.List.{AllZip, AllByRecursion}
 use Rattle.cbs_core.specs.Lists.{changed_at}
 
+-- a change of one element keeps the length
 pub length-changed_at : {X : Type 0} (f : X → X) (xs : List X) (i : ℕ) → length (changed_at f xs i) ≡ length xs
 length-changed_at f [] i = refl
 length-changed_at f (x ∷ xs) zero = refl
@@ -56,41 +57,49 @@ module _ {X Y : Type 0} (h : X → Y) (f : X → X) (g : Y → Y) where
   map-maps [] e = refl
   map-maps (x ∷ xs) e = rw (e x, map-maps xs e) refl
 
+-- what holds of each, and is weaker
 pub AllByRecursion-weaker : {X : Type 0} (P Q : X → Type 0) (xs : List X) → AllByRecursion P xs → ((x : X) → P x → Q x) → AllByRecursion Q xs
 AllByRecursion-weaker P Q [] all k = tt
 AllByRecursion-weaker P Q (x ∷ xs) all k = (k x all.0, AllByRecursion-weaker P Q xs all.1 k)
 
+-- what holds of each, as each is mapped
 pub AllByRecursion-map : {X Y : Type 0} (P : X → Type 0) (Q : Y → Type 0) (f : X → Y) (xs : List X) → AllByRecursion P xs → ((x : X) → P x → Q (f x)) → AllByRecursion Q (map f xs)
 AllByRecursion-map P Q f [] all h = tt
 AllByRecursion-map P Q f (x ∷ xs) all h = (h x all.0, AllByRecursion-map P Q f xs all.1 h)
 
+-- what holds of each holds of one
 pub AllByRecursion-get : {X : Type 0} (P : X → Type 0) (xs : List X) (i : ℕ) (d : X) → AllByRecursion P xs → i < length xs → P (get_or xs i d)
 AllByRecursion-get P [] i d all lt = absurd (omega arith)
 AllByRecursion-get P (x ∷ xs) zero d all lt = all.0
 AllByRecursion-get P (x ∷ xs) (suc i) d all lt = AllByRecursion-get P xs i d all.1 (omega arith)
 
+-- what holds of each, as one is changed
 pub AllByRecursion-changed_at : {X : Type 0} (P Q : X → Type 0) (f : X → X) (xs : List X) (i : ℕ) (d : X) → AllByRecursion P xs → ((x : X) → P x → Q x) → (P (get_or xs i d) → Q (f (get_or xs i d))) → AllByRecursion Q (changed_at f xs i)
 AllByRecursion-changed_at P Q f [] i d all k h = tt
 AllByRecursion-changed_at P Q f (x ∷ xs) zero d all k h = (h all.0, AllByRecursion-weaker P Q xs all.1 k)
 AllByRecursion-changed_at P Q f (x ∷ xs) (suc i) d all k h = (k x all.0, AllByRecursion-changed_at P Q f xs i d all.1 k h)
 
+-- what holds of each, and of one more
 pub AllByRecursion-push : {X : Type 0} (P : X → Type 0) (xs : List X) (x : X) → AllByRecursion P xs → P x → AllByRecursion P (xs ++ x ∷ [])
 AllByRecursion-push P [] x all holds = (holds, all)
 AllByRecursion-push P (y ∷ ys) x all holds = (all.0, AllByRecursion-push P ys x all.1 holds)
 
 module _ {X Y : Type 0} (R : X → Y → Type 0) where
+  -- lists that agree place by place are of one length
   pub AllZip-length : (xs : List X) (ys : List Y) → AllZip R xs ys → length xs ≡ length ys
   AllZip-length [] [] all = refl
   AllZip-length [] (y ∷ ys) all = absurd all
   AllZip-length (x ∷ xs) [] all = absurd all
   AllZip-length (x ∷ xs) (y ∷ ys) all = ap suc (AllZip-length xs ys all.1)
 
+  -- a change at one place of both
   pub AllZip-changed_at : (xs : List X) (ys : List Y) (i : ℕ) (d : X) (e : Y) (f : X → X) (g : Y → Y) → AllZip R xs ys → i < length xs → (R (get_or xs i d) (get_or ys i e) → R (f (get_or xs i d)) (g (get_or ys i e))) → AllZip R (changed_at f xs i) (changed_at g ys i)
   AllZip-changed_at [] ys i d e f g all lt h = absurd (omega arith)
   AllZip-changed_at (x ∷ xs) [] i d e f g all lt h = absurd all
   AllZip-changed_at (x ∷ xs) (y ∷ ys) zero d e f g all lt h = (h all.0, all.1)
   AllZip-changed_at (x ∷ xs) (y ∷ ys) (suc i) d e f g all lt h = (all.0, AllZip-changed_at xs ys i d e f g all.1 (omega arith) h)
 
+  -- what holds place by place holds at one place
   pub AllZip-get : (xs : List X) (ys : List Y) (i : ℕ) (c : X) (d : Y) → AllZip R xs ys → i < length xs → R (get_or xs i c) (get_or ys i d)
   AllZip-get [] ys i c d all lt = absurd (omega arith)
   AllZip-get (z ∷ zs) [] i c d all lt = absurd all

@@ -7,6 +7,7 @@ use Rattle.cbs_rules.specs.declared.mode.Mode.{Mode}
 use Rattle.cbs_core.specs.Faces.{Face, new_face}
 use Rattle.cbs_core.specs.Setups.{terms_of}
 
+-- what stands within a list is found
 pub is_within : {X : Type 0} (xs : List X) (n : ℕ) (o : Option X) → o ≡ slice_get xs n → n < length xs → IsSome o
 is_within [] n o e lt = absurd (omega arith)
 is_within (x ∷ xs) zero o e lt = rw e refl
@@ -27,6 +28,7 @@ module _ (mode : Mode) where
   pub faces_all : (rates : List Rate) (n : ℕ) (fs : List Face) → length rates ≤ n → fs ≡ map new_face (terms_of mode (take n rates)) → fs ≡ map new_face (terms_of mode rates)
   faces_all rates n fs all e = rw e (ap (λ rs. map new_face (terms_of mode rs)) (take_all n rates all))
 
+  -- each reservation has a face
   pub length-faces : (rates : List Rate) → length (map new_face (terms_of mode rates)) ≡ length rates
   length-faces [] = refl
   length-faces (r ∷ rates) = ap suc (length-faces rates)

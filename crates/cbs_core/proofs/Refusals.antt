@@ -48,6 +48,7 @@ module _ {W : Type 0} (core : CoreHeld W) (s : ℕ) where
   none_of _ _ (full is' many) is = let few = is.few in absurd (omega arith)
   none_of _ _ (free is') is = refl
 
+  -- and a submit that would be accepted is not refused
   pub accepts_free : Accepts core s → submit_refusal core.backlog core.faces s ≡ None
   accepts_free is = none_of (submit_refusal core.backlog core.faces s) (close_refusal core.faces s) case is
 
@@ -87,5 +88,6 @@ module _ {W : Type 0} (core : CoreHeld W) (s : ℕ) where
   shut_none _ _ (full is' many) is = refl
   shut_none _ _ (free is') is = refl
 
+  -- and an open server is not refused a close
   pub open_free : IsOpen core s → close_refusal core.faces s ≡ None
   open_free is = shut_none (submit_refusal core.backlog core.faces s) (close_refusal core.faces s) case is

@@ -1,19 +1,15 @@
 -- Lists of steps, grown by one step.
-use Rattle.std.proofs.Common.{◌≡◌, ℕ, List, [], ◌∷◌, ◌++◌, refl, ◌∙◌, Result, Ok, Err, append-nil}
+use Rattle.std.proofs.Common.{◌≡◌, List, [], ◌∷◌, ◌++◌, refl, ◌∙◌, append-nil}
 use Rattle.cbs_job.specs.Work.{Meaning}
 use Rattle.cbs_core.specs.History.{History}
 use Rattle.cbs_core.specs.Agreement.{Agrees}
-use Rattle.cbs_core.specs.Replies.{submitted, lacks_memory, is_lack, grown, Answers, grown_by, AnswersAll}
+use Rattle.cbs_core.specs.Replies.{grown, Answers, grown_by, AnswersAll}
 use Rattle.cbs_core.specs.Held.{CoreHeld}
 use Rattle.cbs_core.specs.declared.step.Step.{Step}
 use Rattle.cbs_core.specs.declared.reply.Reply.{Reply}
-use Rattle.cbs_core.specs.declared.reply.SubmitRefused.{SubmitRefused}
 
 module _ {W : Type 0} (work : Meaning W) where
-  lack_is : (r : Result ℕ (SubmitRefused W)) → is_lack (submitted r) ≡ lacks_memory r
-  lack_is (Ok q) = refl
-  lack_is (Err e) = refl
-
+  -- steps with their replies, and one more
   pub AnswersAll-push : (M : History W) (xs : List (Step W)) (rs : List (Reply W)) (x : Step W) (r : Reply W)
       → AnswersAll work M xs rs → Answers work (grown_by M xs rs) x r → AnswersAll work M (xs ++ x ∷ []) (rs ++ r ∷ [])
   AnswersAll-push M [] [] x r all one = (one, tt)
@@ -21,6 +17,7 @@ module _ {W : Type 0} (work : Meaning W) where
   AnswersAll-push M (y ∷ xs) [] x r all one = absurd all
   AnswersAll-push M (y ∷ xs) (q ∷ rs) x r all one = (all.0, AnswersAll-push (grown M y q) xs rs x r all.1 one)
 
+  -- the history that they leave, and one more
   pub grown_by-push : (M : History W) (xs : List (Step W)) (rs : List (Reply W)) (x : Step W) (r : Reply W)
       → AnswersAll work M xs rs → grown_by M (xs ++ x ∷ []) (rs ++ r ∷ []) ≡ grown (grown_by M xs rs) x r
   grown_by-push M [] [] x r all = refl
