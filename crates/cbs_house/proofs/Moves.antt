@@ -55,9 +55,6 @@ module _ {W A : Type 0} {g : Ghosts W} (work : Meaning W) (P : History W → Ste
   pub moves_none : (a b : House W A g) → Moves work P a b 0 → (s : ℕ) → received b s ≡ received a s
   moves_none a b m s = let x = m.some in x.1.received s ∙ rw (none_taken s x.0 x.3) (append-nil (received a s))
 
-  pub moves_at : (a b : House W A g) (m n : ℕ) → Moves work P a b m → m ≡ n → Moves work P a b n
-  moves_at a b m n p e = rw e at p
-
 module _ {W A : Type 0} {g : Ghosts W} (work : Meaning W) (P Q : History W → Step W → Type 0) where
   pub moves_weaker : (a b : House W A g) (n : ℕ) → ((N : History W) (x : Step W) → P N x → Q N x) → Moves work P a b n → Moves work Q a b n
   moves_weaker a b n w p = let x = p.some in record { some = (x.0, x.1, allowed_weaker work P Q (core_of a) x.0 w x.2, x.3) }

@@ -29,15 +29,6 @@ popped_by poll.Full = 0
 popped_by poll.OutOfMemory = 0
 popped_by poll.NoSuchServer = 0
 
--- an error by which serving may stop
-abbrev pub IsStop : HouseError → Type 0
-IsStop OutOfMemory = Unit {0}
-IsStop ClockEnd = Unit {0}
-IsStop Stalled = Unit {0}
-IsStop BadBacklog = ⊥
-IsStop BadRing = ⊥
-IsStop NoSuchServer = ⊥
-
 module _ {W A : Type 0} {g : Ghosts W} where
   -- feeds that may be served by the house: at most 64, each with a client that was opened with the house and that has not
   -- ended unless no job is left

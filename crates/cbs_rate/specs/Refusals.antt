@@ -6,11 +6,7 @@ use Rattle.std.specs.Result.{MatchResult}
 abbrev pub AnswersBy : {T E : Type 0} → Result T E → Option E → T → Type 0
 AnswersBy r refusal value = MatchResult r (λ x. (refusal ≡ None) × (x ≡ value)) (λ e. refusal ≡ Some e)
 
--- it succeeds exactly where no refusal stands, and else refuses by the one that stands
-abbrev pub RefusesBy : {T E : Type 0} → Result T E → Option E → Type 0
-RefusesBy r refusal = MatchResult r (λ _. refusal ≡ None) (λ e. refusal ≡ Some e)
-
--- the same of a call that hands something back with its error
+-- it succeeds exactly where no refusal stands, and else refuses by the one that stands and hands something back
 abbrev pub HandsBackBy : {T R E : Type 0} → (R → E) → Result T R → Option E → Type 0
 HandsBackBy error r refusal = MatchResult r (λ _. refusal ≡ None) (λ back. refusal ≡ Some (error back))
 
