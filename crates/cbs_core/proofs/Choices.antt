@@ -6,14 +6,17 @@ use Rattle.std.proofs.lemmas.Bool.Decides.{nat_tests}
 use Rattle.cbs_core.specs.Lists.{first_below, all_below}
 use Rattle.cbs_core.specs.Choice.{Rank, rank_at, is_before, is_first, chosen_among, better_of, IsEarliest, IsChoice}
 
+-- what holds of each number below a bound, all_below says
 all_below-is : (p : ℕ → Bool) (n : ℕ) → ((r : ℕ) → r < n → p r ≡ true) → all_below p n ≡ true
 all_below-is p zero h = refl
 all_below-is p (suc n) h = rw (all_below-is p n (λ r lt. h r (omega arith)), h n (omega arith))
 
+-- where no number below a bound passes, there is no first
 first_below-none : (p : ℕ → Bool) (n : ℕ) → ((r : ℕ) → r < n → p r ≡ false) → first_below p n ≡ None
 first_below-none p zero h = refl
 first_below-none p (suc n) h = rw (first_below-none p n (λ r lt. h r (omega arith)), h n (omega arith))
 
+-- a number that passes, with none before it that does, is the first
 first_below-is : (p : ℕ → Bool) (n s : ℕ) → s < n → p s ≡ true → ((r : ℕ) → r < s → p r ≡ false) → first_below p n ≡ Some s
 first_below-is p zero s lt h before = absurd (omega arith)
 first_below-is p (suc n) s lt h before =
@@ -36,12 +39,14 @@ all_below-not p (suc n) s lt h =
       | inr ge ↦ let e : n ≡ s = omega arith in rw (e, h) (and_false (all_below p s))
     ]
 
+-- the earliest of all ranks is before each that is ready
 first_by : (ranks : List Rank) (s : ℕ) → IsEarliest ranks (length ranks) s → is_first ranks s ≡ true
 first_by ranks s best =
     let each : (r : ℕ) → r < length ranks → (not (rank_at ranks r).ready || is_before ranks s r) ≡ true =
     λ r lt. elim (cases_Bool (rank_at ranks r).ready) [ inl t ↦ rw (t, best.first r lt t) | inr f ↦ rw f ] in
     rw (best.ready, all_below-is (λ r. not (rank_at ranks r).ready || is_before ranks s r) (length ranks) each)
 
+-- no rank that stands before the earliest of all is first
 earlier_not : (ranks : List Rank) (s : ℕ) → IsEarliest ranks (length ranks) s → (r : ℕ) → r < s → is_first ranks r ≡ false
 earlier_not ranks s best r lt =
     elim (cases_Bool (rank_at ranks r).ready) [
@@ -61,6 +66,7 @@ chosen_best ranks (Some s) best = sym (first_below-is (is_first ranks) (length r
 before_itself : (ranks : List Rank) (i : ℕ) → is_before ranks i i ≡ true
 before_itself ranks i = grind (arith, nat_tests)
 
+-- a rank of an earlier deadline is before all that the other is before
 before_along : (ranks : List Rank) (i b r : ℕ) → (rank_at ranks i).deadline < (rank_at ranks b).deadline → is_before ranks b r ≡ true → is_before ranks i r ≡ true
 before_along ranks i b r lt before = grind (arith, nat_tests)
 
@@ -68,6 +74,7 @@ before_later : (ranks : List Rank) (i b : ℕ) → b < i → (rank_at ranks b).d
 before_later ranks i b lt le = grind (arith, nat_tests)
 
 module _ (ranks : List Rank) (i : ℕ) where
+  -- the first that is ready is the earliest so far
   best_none : ((r : ℕ) → r < i → (rank_at ranks r).ready ≡ false) → (rank_at ranks i).ready ≡ true → IsEarliest ranks (i + 1) i
   best_none none t = record {
     within = omega arith;
@@ -75,6 +82,7 @@ module _ (ranks : List Rank) (i : ℕ) where
     first = below_more (λ r. (rank_at ranks r).ready ≡ true → is_before ranks i r ≡ true) i (λ r lt on. let off = none r lt in cc) (λ _. before_itself ranks i);
   }
 
+  -- a ready rank of an earlier deadline than the earliest so far takes its place
   best_new : (b : ℕ) → IsEarliest ranks i b → (rank_at ranks i).ready ≡ true → (rank_at ranks i).deadline < (rank_at ranks b).deadline → IsEarliest ranks (i + 1) i
   best_new b best t lt = record {
     within = omega arith;
@@ -82,6 +90,7 @@ module _ (ranks : List Rank) (i : ℕ) where
     first = below_more (λ r. (rank_at ranks r).ready ≡ true → is_before ranks i r ≡ true) i (λ r below on. before_along ranks i b r lt (best.first r below on)) (λ _. before_itself ranks i);
   }
 
+  -- the earliest so far stays where the next is not ready, or not of an earlier deadline
   best_old : (b : ℕ) → IsEarliest ranks i b → ((rank_at ranks i).ready ≡ true → (rank_at ranks b).deadline ≤ (rank_at ranks i).deadline) → IsEarliest ranks (i + 1) b
   best_old b best le = record {
     within = let w = best.within in omega arith;
@@ -112,6 +121,7 @@ abbrev best_of : List Rank → ℕ → Option ℕ
 best_of ranks zero = None
 best_of ranks (suc n) = better_of ranks (best_of ranks n) n
 
+-- the scan finds the choice among the ranks that it has seen
 best_of_is : (ranks : List Rank) (n : ℕ) → IsChoice ranks n (best_of ranks n)
 best_of_is ranks zero = λ r lt. absurd (omega arith)
 best_of_is ranks (suc n) = let e : n + 1 ≡ suc n = omega arith in subst (λ k. IsChoice ranks k (best_of ranks (suc n))) e (better_best ranks n (best_of ranks n) (best_of_is ranks n))

@@ -23,6 +23,7 @@ use Rattle.cbs_core.proofs.Agreements.{account_face}
 use Rattle.cbs_core.proofs.Histories.{holds_next}
 
 module _ {W : Type 0} (work : Meaning W) where
+  -- a closed server stays closed by every step
   closed_next : (M : History W) (x : Step W) (s : ℕ) → (account_in work M s).closed ≡ true → (account_in work (M ⊕ x) s).closed ≡ true
   closed_next M x s h = holds_next work (λ a. a.closed ≡ true) (λ now j a k. k) (λ a ready k. k) (λ now a k. k) (λ a k. refl) M.setup.backlog (world_after work M) x s h
 
@@ -35,6 +36,7 @@ module _ {W : Type 0} (work : Meaning W) where
   closed_refuses backlog (f ∷ fs) zero h = (error.Closed, rw h refl)
   closed_refuses backlog (f ∷ fs) (suc s) h = closed_refuses backlog fs s h
 
+  -- a closed server accepts nothing
   not_accepted : (M : History W) (s : ℕ) (job : W) (r : Reply W) → (account_in work M s).closed ≡ true → Answers work M (Submit s job) r → IsAccepted r → ⊥
   not_accepted M s job r h answers accepted =
       let refusal = closed_refuses M.setup.backlog (faces work (world_after work M)) s (ap (λ (f : Face). f.closed) (account_face work (world_after work M).accounts s) ∙ h) in
@@ -86,6 +88,7 @@ module _ {W : Type 0} (work : Meaning W) where
   no_lack-close None = refl
   no_lack-close (Some e) = refl
 
+  -- the rules alone never answer by want of memory
   sure : (M : History W) (x : Step W) → is_lack (reply_in work M x) ≡ false
   sure M (Submit s job) =
       let w = world_after work M in
@@ -95,6 +98,7 @@ module _ {W : Type 0} (work : Meaning W) where
   sure M (Advance n) = elim (cases_Bool (leb ((world_after work M).now + n) clock_end)) [ inl t ↦ rw t refl | inr f ↦ rw f refl ]
   sure M (Close s) = no_lack-close (close_refusal (faces work (world_after work M)) s)
 
+  -- the replies that the rules give answer the list
   all_answered : (M : History W) (xs : List (Step W)) → AnswersAll work M xs (replies_after work M xs)
   all_answered M [] = tt
   all_answered M (x ∷ xs) = let f = sure M x in (rw f refl, rw f (all_answered (M ⊕ x) xs))

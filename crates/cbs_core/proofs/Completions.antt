@@ -38,6 +38,7 @@ take_nil zero xs e = refl
 take_nil (suc n) [] e = refl
 take_nil (suc n) (x ∷ xs) e = cc
 
+-- a front of m + n is a front of m and then one of n
 take-add : {X : Type 0} (m n : ℕ) (xs : List X) → take (m + n) xs ≡ take m xs ++ take n (drop m xs)
 take-add zero n xs = let e : zero + n ≡ n = omega arith in rw e refl
 take-add (suc m) n [] = let e : suc m + n ≡ suc (m + n) = omega arith in rw e (sym (take_nil n [] refl))
@@ -51,6 +52,7 @@ part_of_more zero (suc m) (x ∷ xs) more le = ap (λ ys. x ∷ ys) (part_of_mor
 part_of_more (suc k) (suc m) [] more le = absurd (omega arith)
 part_of_more (suc k) (suc m) (x ∷ xs) more le = part_of_more k (suc m) xs more (omega arith)
 
+-- the part of one element is that element
 part_of_one : (k : ℕ) (xs : List ℕ) → k < length xs → take 1 (drop k xs) ≡ get_or xs k 0 ∷ []
 part_of_one k [] lt = absurd (omega arith)
 part_of_one zero (x ∷ xs) lt = refl
@@ -96,9 +98,11 @@ module _ {W : Type 0} (work : Meaning W) where
       (λ now j a h. (h.0 ++ j ∷ [], ap (λ xs. xs ++ j ∷ []) h.1 ∙ append_assoc before h.0 (j ∷ [])))
       (λ a ready h. h) (λ now a h. h) (λ a h. h) M.setup.backlog (world_after work M) x s ([], sym (append-nil before))
 
+  -- no step takes an accepted job back
   accepted_grown : (M : History W) (x : Step W) (r : Reply W) (s : ℕ) → (more : List W) × ((account_in work (grown M x r) s).accepted ≡ (account_in work M s).accepted ++ more)
   accepted_grown M x r s = elim (cases_Bool (is_lack r)) [ inl t ↦ rw t ([], sym (append-nil (account_in work M s).accepted)) | inr f ↦ rw f (accepted_next M x s) ]
 
+  -- a core counts as many finished jobs as are known
   finished_agrees : (core : CoreHeld W) (M : History W) → Agrees work core M → (s : ℕ) → (held_at core s).face.finished ≡ finished work (account_in work M s)
   finished_agrees core M agrees s = sym (ap (λ (f : Face). f.finished) (face_is work core M.setup.backlog (world_after work M) agrees.world s))
 
@@ -107,6 +111,7 @@ module _ {W : Type 0} (work : Meaning W) where
     within : c.seq < length a.accepted
     result : c.result ≡ get_or (map (whole work) a.accepted) c.seq 0
 
+  -- a unit that completes a job tells the number and the whole result of the next unfinished one
   unit_is : (a : Account W) (s : ℕ) (c : Completion) → Some c ≡ completion_ran (unit_reply work a s) → c ≡ record { server = s; seq = finished work a; result = get_or (map (whole work) a.accepted) (finished work a) 0 }
   unit_is a s c e = elim (cases_Bool (eqb (need work a (finished work a + 1)) (a.got + 1))) [
     | inl t ↦ let k : Some c ≡ Some (record { server = s; seq = finished work a; result = get_or (map (whole work) a.accepted) (finished work a) 0 }) = rw t at e in cc
@@ -116,6 +121,7 @@ module _ {W : Type 0} (work : Meaning W) where
   active_within : (a : Account W) → is_ready (face_of work a) ≡ true → finished work a < length a.accepted
   active_within a ready = (runnable (face_of work a) ready).active
 
+  -- so does a run
   run_tells : (w : World W) (o : Option ℕ) (c : Completion) → ((s : ℕ) → o ≡ Some s → is_ready (face_of work (account w.accounts s)) ≡ true) → Some c ≡ completion_ran (run_reply work w o) → Tells (account w.accounts c.server) c
   run_tells w None c ready e = cc
   run_tells w (Some s) c ready e = elim (cases_Bool (leb clock_end w.now)) [
@@ -134,6 +140,7 @@ module _ {W : Type 0} (work : Meaning W) where
   close_none None = refl
   close_none (Some e) = refl
 
+  -- so does each reply that the rules give, since a run alone completes a job
   reply_tells : (M : History W) (x : Step W) (c : Completion) → Some c ≡ completion_in (reply_in work M x) → Tells (account_in work M c.server) c
   reply_tells M (Submit s job) c e = let n = submit_none (world_after work M) s job (submit_refusal M.setup.backlog (faces work (world_after work M)) s) in cc
   reply_tells M Run c e = run_tells (world_after work M) (chosen work (world_after work M)) c (chosen_is_ready work (world_after work M)) e
@@ -148,6 +155,7 @@ module _ {W : Type 0} (work : Meaning W) where
   lack_none reply.Closed e = refl
   lack_none (reply.Refused x) e = refl
 
+  -- so does each answer, since want of memory completes no job
   answer_tells : (M : History W) (x : Step W) (r : Reply W) (c : Completion) → Answers work M x r → Some c ≡ completion_in r → Tells (account_in work M c.server) c
   answer_tells M x r c answers e = elim (cases_Bool (is_lack r)) [
     | inl t ↦ let n = lack_none r t in cc
@@ -206,6 +214,7 @@ module _ {W : Type 0} (work : Meaning W) where
   step_tells M x r s old new sure answers counts agrees later =
       rw sure at (step_completes M x r s (completion_in r) old new refl answers counts agrees later)
 
+  -- the replies to a list with one step more are those to the list, and then one
   replies_after-push : (M : History W) (xs : List (Step W)) (x : Step W) → replies_after work M (xs ++ x ∷ []) ≡ replies_after work M xs ++ reply_in work (M ⊕⊕ xs) x ∷ []
   replies_after-push M [] x = refl
   replies_after-push M (y ∷ xs) x = ap (λ rs. reply_in work M y ∷ rs) (replies_after-push (M ⊕ y) xs x)

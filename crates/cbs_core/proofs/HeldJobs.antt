@@ -23,12 +23,14 @@ need_next f (x ∷ xs) zero y ys e = let h : x ≡ y = cc in rw h (omega (arith,
 need_next f [] (suc k) y ys e = cc
 need_next f (x ∷ xs) (suc k) y ys e = omega (arith, need_next f xs k y ys e, sum_by-cons f x (take (suc k) xs), sum_by-cons f x (take k xs))
 
+-- the units of one job more are its own and those before it
 need_more : {W : Type 0} (f : W → ℕ) (xs : List W) (k : ℕ) (y : W) (ys : List W) → drop k xs ≡ y ∷ ys → sum_by f (take (k + 1) xs) ≡ sum_by f (take k xs) + f y
 need_more f xs k y ys e = rw add-one (need_next f xs k y ys e)
 
 drop_next : {W : Type 0} (xs : List W) (k : ℕ) (y : W) (ys : List W) → drop k xs ≡ y ∷ ys → drop (k + 1) xs ≡ ys
 drop_next xs k y ys e = sym (drop-drop 1 k xs) ∙ ap (drop 1) e
 
+-- two lists of the same measures are positive alike
 positive_along : {W : Type 0} (f : W → ℕ) (xs ys : List W) → map f xs ≡ map f ys → AllByRecursion (λ w. 0 < f w) xs → AllByRecursion (λ w. 0 < f w) ys
 positive_along f xs [] e all = tt
 positive_along f [] (y ∷ ys) e all = cc
@@ -45,6 +47,7 @@ pub record Parts {W : Type 0} (work : Meaning W) (jobs xs : List W) (g k : ℕ) 
   pub lefts : map work.left jobs ≡ with_first (sum_by work.left (take (k + 1) xs) - g) (map work.left (drop k xs))
 
 module _ {W : Type 0} (work : Meaning W) (law : Lowers work) where
+  -- where no unit of the next job was run, what is left is what each job came with
   rest_lefts : (xs js ys : List W) (g k : ℕ) → map work.left js ≡ map work.left ys → drop k xs ≡ ys → sum_by work.left (take k xs) ≡ g
       → map work.left js ≡ with_first (sum_by work.left (take (k + 1) xs) - g) (map work.left ys)
   rest_lefts xs js [] g k e f s = e
@@ -53,6 +56,7 @@ module _ {W : Type 0} (work : Meaning W) (law : Lowers work) where
       let m : sum_by work.left (take (k + 1) xs) - g ≡ work.left z = omega arith in
       rw m e
 
+  -- fewer units were run than the next job needs to be done
   last_more : (xs ys : List W) (g k : ℕ) → drop k xs ≡ ys → AllByRecursion (λ w. 0 < work.left w) ys → sum_by work.left (take k xs) ≡ g → k < length xs → g < sum_by work.left (take (k + 1) xs)
   last_more xs [] g k d all full short = let e = ap length d in let f = length-drop k xs in absurd (omega arith)
   last_more xs (z ∷ zs) g k d all full short = let n = need_more work.left xs k z zs d in let p = all.0 in omega arith
@@ -100,6 +104,7 @@ module _ {W : Type 0} (work : Meaning W) (law : Lowers work) where
     test_served : eqb (work.left (work.after job)) 0 ≡ eqb (sum_by work.left (take (k + 1) xs)) (g + 1)
     test_served = let b = beyond in let e = less in let some = all.0 in grind (arith, nat_tests)
 
+-- what is kept of the job that k have gone before stands at place k
 at_front : {W : Type 0} (f : W → ℕ) (xs : List W) (k : ℕ) (y : W) (ys : List W) → drop k xs ≡ y ∷ ys → get_or (map f xs) k 0 ≡ f y
 at_front f [] zero y ys e = cc
 at_front f (x ∷ xs) zero y ys e = let h : x ≡ y = cc in ap f h
@@ -111,6 +116,7 @@ pub record Served {W : Type 0} (work : Meaning W) (jobs xs : List W) (g k : ℕ)
   pub parts : Parts work (jobs_run work jobs) xs (g + 1) (if is_some (result_run work jobs) then k + 1 else k)
   pub ran : (s : ℕ) → ran_of s k (result_run work jobs) ≡ (if eqb (sum_by work.left (take (k + 1) xs)) (g + 1) then ran.Done (record { server = s; seq = k; result = get_or (map (whole work) xs) k 0 }) else ran.Unit s k)
 
+-- the unit of the first job either ends it or leaves some
 served_cases : {W : Type 0} (work : Meaning W) → Lowers work → (jobs xs : List W) (g k : ℕ) (rest : List W)
     → drop k xs ≡ rest → k ≤ length xs → count_done work.left xs g ≡ k
     → map (whole work) jobs ≡ map (whole work) rest

@@ -16,6 +16,7 @@ use Rattle.cbs_core.proofs.Agreements.{ticks_none, ticks_some, replenished_faces
 abbrev NoneReady : List Face → Type 0
 NoneReady fs = AllByRecursion (λ f. is_ready f ≡ false) fs
 
+-- an active server that is not ready is throttled
 rest_throttled : (f : Face) → is_active f ≡ true → is_ready f ≡ false → f.state.throttled ≡ true
 rest_throttled f active rest = elim (cases_Bool f.state.throttled) [ inl y ↦ y | inr n ↦ let g : true ≡ false = rw (active, n) at rest in cc ]
 
@@ -58,6 +59,7 @@ record IsSpan (now best : ℕ) (fs : List Face) (n : ℕ) : Type 0 where
   each : AllByRecursion (λ f. n ≤ wait now f) fs
   least : (k : ℕ) → k ≤ best → AllByRecursion (λ f. k ≤ wait now f) fs → k ≤ n
 
+-- a span that is found is the least wait, and no more than the best before it
 span_some : (now best : ℕ) (fs : List Face) (n : ℕ) → span_from now best fs ≡ Some n → IsSpan now best fs n
 span_some now best [] n e = let same : best ≡ n = cc in record { rest = tt; most = omega arith; each = tt; least = λ k le all. omega arith }
 span_some now best (f ∷ fs) n e = elim (cases_Bool (is_ready f)) [
@@ -77,10 +79,12 @@ span_none : (now best : ℕ) (fs : List Face) → span_from now best fs ≡ None
 span_none now best [] e rest = cc
 span_none now best (f ∷ fs) e rest = span_none now (min best (wait now f)) fs (rw rest.0 at e) rest.1
 
+-- before the least wait is over, nobody is ready
 all_sleep : (now m n : ℕ) (fs : List Face) → 0 < m → m < n → NoneReady fs → AllByRecursion (λ f. n ≤ wait now f) fs → NoneReady (map (with_replenishment (now + m)) fs)
 all_sleep now m n [] some lt rest each = tt
 all_sleep now m n (f ∷ fs) some lt rest each = (sleeps now m f rest.0 some (let w = each.0 in omega arith), all_sleep now m n fs some lt rest.1 each.1)
 
+-- where nobody is ready before k ticks have passed, each waits for k at least
 all_waits : (now k : ℕ) (fs : List Face) → k ≤ clock_end - now → NoneReady fs → ((m : ℕ) → 0 < m → m < k → NoneReady (map (with_replenishment (now + m)) fs)) → AllByRecursion (λ f. k ≤ wait now f) fs
 all_waits now k [] end rest quiet = tt
 all_waits now k (f ∷ fs) end rest quiet = (wait_most now k f end rest.0 (λ m some lt. (quiet m some lt).0), all_waits now k fs end rest.1 (λ m some lt. (quiet m some lt).1))

@@ -35,6 +35,7 @@ module _ {W : Type 0} (work : Meaning W) where
   none_ready : (w : World W) → None ≡ chosen work w → IsAtRest work w
   none_ready w e = rest_from (faces work w) (let h = choice_is (ranks (faces work w)) in rw (← e) at h)
 
+  -- a run takes a tick where somebody is ready and the clock is not at its end
   run_takes : (w : World W) (o : Option ℕ) → o ≡ chosen work w → ¬ IsAtRest work w → w.now < clock_end → w.now < (after_run w (if ltb w.now clock_end then o else None)).now
   run_takes w None e busy early = absurd (busy (none_ready w e))
   run_takes w (Some s) e busy early = let t : ltb w.now clock_end ≡ true = grind (arith, nat_tests) in rw t (omega arith)
@@ -48,6 +49,7 @@ module _ {W : Type 0} (work : Meaning W) where
   ticks-now zero w = omega arith
   ticks-now (suc n) w = let h = ticks-now n (tick w) in omega (arith, h)
 
+  -- where nobody is ready now, nobody is for one tick
   quiet_one : (w : World W) → IsAtRest work w → IsQuiet work w 1
   quiet_one w rest zero lt = rw (ticks_none w) rest
   quiet_one w rest (suc m) lt = absurd (omega arith)
@@ -109,6 +111,7 @@ module _ {W : Type 0} where
   after-append M [] ys = refl
   after-append M (x ∷ xs) ys = after-append (M ⊕ x) xs ys
 
+  -- two lists of allowed steps are one
   allowed-append : (P : History W → Step W → Type 0) (M : History W) (xs ys : List (Step W)) → EachAllowed P M xs → EachAllowed P (M ⊕⊕ xs) ys → EachAllowed P M (xs ++ ys)
   allowed-append P M [] ys p q = q
   allowed-append P M (x ∷ xs) ys p q = (p.0, allowed-append P (M ⊕ x) xs ys p.1 q)

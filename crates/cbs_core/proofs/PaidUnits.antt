@@ -18,6 +18,7 @@ module _ {W : Type 0} (work : Meaning W) where
   abbrev pub IsPaid : Account W → Type 0
   IsPaid a = a.got ≤ need work a (length a.accepted)
 
+  -- a job accepted keeps that no more units were run than the accepted jobs need
   paid_job : (now : ℕ) (job : W) (a : Account W) → IsPaid a → IsPaid (account_with_job work now job a)
   paid_job now job a h =
       let n = take_all (length a.accepted) a.accepted (omega arith) in
@@ -26,6 +27,7 @@ module _ {W : Type 0} (work : Meaning W) where
       let k : need work a (length a.accepted) ≡ sum_by work.left a.accepted = rw n in
       omega (arith, sum_by-append work.left a.accepted (job ∷ []))
 
+  -- so does a unit of a ready server
   paid_unit : (a : Account W) → is_ready (face_of work a) ≡ true → IsPaid a → IsPaid (account_with_unit a)
   paid_unit a ready h =
       let lt : finished work a < length a.accepted = grind (arith, nat_tests) in
