@@ -36,6 +36,10 @@ is_active f = ltb f.finished f.accepted
 abbrev pub is_ready : Face → Bool
 is_ready f = is_active f && not f.state.throttled
 
+-- the deadline by which the server runs, where it is ready
+abbrev pub ready_by : Face → Option ℕ
+ready_by f = if is_ready f then Some f.state.deadline else None
+
 -- how many accepted jobs are not finished: the backlog of the server
 abbrev pub backlog_of : Face → ℕ
 backlog_of f = f.accepted - f.finished

@@ -12,5 +12,6 @@ pub mod Laws
 pub mod Lists
 pub mod Queues
 pub mod Quiet
+pub mod ReadyList
 pub mod Replies
 pub mod Setups

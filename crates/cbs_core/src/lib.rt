@@ -5,6 +5,7 @@
 mod error;
 mod executor;
 mod queues;
+mod ready_list;
 mod reply;
 mod server;
 mod servers;

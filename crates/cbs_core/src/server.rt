@@ -1,7 +1,7 @@
 //! One server, but for its jobs.
 
 ghost use Rattle.std.specs.Prelude.{◌≡◌, ◌+◌, ◌<◌, ◌≤◌, ◌^◌, true, Some};
-ghost use Rattle.cbs_core.specs.Faces.{new_face, is_active, is_ready, backlog_of, refuses_close, refuses_submit, view_of, with_job, with_unit, with_replenishment, with_close};
+ghost use Rattle.cbs_core.specs.Faces.{new_face, is_active, is_ready, ready_by, backlog_of, refuses_close, refuses_submit, view_of, with_job, with_unit, with_replenishment, with_close};
 ghost use Rattle.cbs_core.specs.IdleSpans.{wait};
 
 use crate::error::CoreError;
@@ -71,6 +71,20 @@ impl Server {
         ensures { result ≡ is_ready self.now }
     {
         self.is_active() && !self.state.throttled()
+    }
+
+    /// Whether it waits to be replenished.
+    pub fn is_throttled(&self) -> bool
+        ensures { result ≡ self.now.state.throttled }
+    {
+        self.state.throttled()
+    }
+
+    /// The deadline by which it runs, where it is ready.
+    pub fn ready_by(&self) -> Option<u64>
+        ensures { result ≡ ready_by self.now }
+    {
+        self.is_ready().then_some(self.deadline())
     }
 
     /// How many accepted jobs are not finished.

@@ -1,14 +1,16 @@
 //! All servers, but for their jobs: the choice among them, and what the rules do to them.
 
-ghost use Rattle.std.specs.Prelude.{◌≡◌, ◌+◌, ◌-◌, ◌<◌, ◌≤◌, ◌^◌, IfSome, IfOk, OnOk, length, map, slice_get, true};
+ghost use Rattle.std.specs.Prelude.{◌≡◌, ◌≢◌, ℕ, ◌+◌, ◌-◌, ◌<◌, ◌≤◌, ◌^◌, Some, IfOk, OnOk, length, map, slice_get};
 ghost use Rattle.cbs_rate.specs.Plan.{IsPlan};
 ghost use Rattle.cbs_core.specs.Lists.{changed_at};
-ghost use Rattle.cbs_core.specs.Choice.{chosen_among, better_of, IsChoice};
-ghost use Rattle.cbs_core.specs.Faces.{new_face, face_at, is_ready, ranks, close_refusal, submit_refusal, view_reply, with_job, with_unit, with_replenishment, with_close};
+ghost use Rattle.cbs_core.specs.Choice.{chosen_among, IsChoice};
+ghost use Rattle.cbs_core.specs.Faces.{new_face, face_at, ready_by, ranks, close_refusal, submit_refusal, view_reply, with_job, with_unit, with_replenishment, with_close};
 ghost use Rattle.cbs_core.specs.IdleSpans.{span_from};
+ghost use Rattle.cbs_core.specs.ReadyList.{listed, IsOrdered, ListsReady, IsNotDueBefore, NoneDueBefore};
 ghost use Rattle.cbs_core.specs.Setups.{terms_of};
 
 use crate::error::CoreError;
+use crate::ready_list::ReadyList;
 use crate::server::Server;
 use crate::view::ServerView;
 use cbs_rate::Plan;
@@ -16,21 +18,25 @@ use cbs_rules::{LIMIT, MAX_DEADLINE, Mode};
 use std::alloc::{AllocError, Allocator, Global};
 use std::marker::Model;
 
-/// All servers, but for their jobs: at most 64.
+/// All servers, but for their jobs: at most 64; and which of them are ready.
 #[derive(Drop)]
 pub struct Servers<A: Allocator = Global> {
     servers: Vec<Server, A>,
+    ready: ReadyList,
+    // Nobody is due for replenishment before.
+    due: u64,
 }
 
 impl<A: Allocator> Model for Servers<A> {
     ghost use Rattle.std.specs.Prelude.{List, ◌≤◌, length};
     ghost use Rattle.cbs_core.specs.Faces.{Face};
+    ghost use Rattle.cbs_core.specs.ReadyList.{ListsReady, NoneDueBefore};
 
     ghost Value = { List Face };
 
     ghost view = { λ s. s.servers.items };
 
-    ghost invariant = { λ s. length s.servers.items ≤ 64 };
+    ghost invariant = { λ s. (length s.servers.items ≤ 64) × ListsReady s.ready s.servers.items × NoneDueBefore s.due s.servers.items };
 }
 
 impl<A: Allocator + Clone> Servers<A> {
@@ -44,7 +50,11 @@ impl<A: Allocator + Clone> Servers<A> {
             let reservation = plan.get(server).unwrap();
             servers.push(Server::new(mode, reservation))?;
         }
-        Ok(Servers { servers })
+        Ok(Servers {
+            servers,
+            ready: ReadyList::new(),
+            due: u64::MAX,
+        })
     }
 }
 
@@ -57,33 +67,12 @@ impl<A: Allocator> Servers<A> {
         self.servers.len() as u16
     }
 
-    /// The better of the best so far and a later server.
-    fn better(&self, best: Option<u16>, server: u16) -> Option<u16>
-        requires within { server < length self.now }
-        requires earlier { IfSome best (λ b. b < server) }
-        ensures { result ≡ better_of (ranks self.now) best server }
-    {
-        let later = &self.servers[usize::from(server)];
-        if !later.is_ready() {
-            return best;
-        }
-        match best {
-            Some(earlier) if self.servers[usize::from(earlier)].deadline() <= later.deadline() =>
-                best,
-            _ => Some(server),
-        }
-    }
-
     /// The ready server with the least deadline, and of several the first.
     pub fn choose(&self) -> Option<u16>
         ensures first { result ≡ chosen_among (ranks self.now) }
         ensures choice { IsChoice (ranks self.now) (length self.now) result }
     {
-        let mut best = None;
-        for server in 0..self.len() {
-            best = self.better(best, server);
-        }
-        best
+        self.ready.first()
     }
 
     /// How many ticks nobody will be ready, up to the clock's end, or `None` if somebody is now.
@@ -148,19 +137,27 @@ impl<A: Allocator> Servers<A> {
         ensures servers { self.new ≡ changed_at (with_job now) self.old server }
         ensures number { result ≡ (face_at self.old server).accepted }
     {
-        self.servers[usize::from(server)].accept(now)
+        let it = &mut self.servers[usize::from(server)];
+        let was = it.ready_by();
+        let number = it.accept(now);
+        self.ready.follow(server, was, it.ready_by());
+        number
     }
 
-    /// A ready server uses one tick of its budget, for a unit that finished a job or did not.
-    #[tactic(auto, using(crate::proofs::Lists::written))]
+    /// The chosen server uses one tick of its budget, for a unit that finished a job or did not.
     pub fn use_tick(&mut self, server: u16, done: bool)
-        requires within { server < length self.old }
-        requires ready { is_ready (face_at self.old server) ≡ true }
+        requires chosen { chosen_among (ranks self.old) ≡ Some server }
         requires some { 0 < (face_at self.old server).state.budget }
         requires room { (face_at self.old server).state.deadline ≤ MAX_DEADLINE }
         ensures { self.new ≡ changed_at (with_unit done) self.old server }
     {
-        self.servers[usize::from(server)].use_tick(done);
+        let it = &mut self.servers[usize::from(server)];
+        let was = it.ready_by();
+        it.use_tick(done);
+        self.ready.follow(server, was, it.ready_by());
+        if it.is_throttled() {
+            self.due = self.due.min(it.deadline());
+        }
     }
 
     /// Replenishes every server that is due at tick `now`.
@@ -168,7 +165,9 @@ impl<A: Allocator> Servers<A> {
         requires { now ≤ LIMIT }
         ensures { self.new ≡ map (with_replenishment now) self.old }
     {
-        replenish_all(&mut self.servers, now);
+        if now >= self.due {
+            self.due = replenish_all(&mut self.servers, &mut self.ready, now);
+        }
     }
 
     /// Lets a server accept no further job.
@@ -181,12 +180,44 @@ impl<A: Allocator> Servers<A> {
     }
 }
 
-/// Replenishes every server that is due at tick `now`.
-fn replenish_all(servers: &mut [Server], now: u64)
-    requires { now ≤ LIMIT }
-    ensures { servers.new ≡ map (with_replenishment now) servers.old }
+/// Replenishes every server that is due at tick `now`, and lists those that are then ready. Before
+/// which tick nobody else is due.
+fn replenish_all(servers: &mut [Server], ready: &mut ReadyList, now: u64) -> u64
+    requires clock { now ≤ LIMIT }
+    requires few { length servers.old ≤ 64 }
+    requires listed { ListsReady ready.old servers.old }
+    ensures servers { servers.new ≡ map (with_replenishment now) servers.old }
+    ensures listed { ListsReady ready.new servers.new }
+    ensures due { NoneDueBefore result servers.new }
 {
-    for server in servers.iter_mut() {
-        server.replenish(now);
+    let mut due = u64::MAX;
+    for index in 0..servers.len() {
+        due = due.min(replenish_one(&mut servers[index], index as u16, ready, now));
+    }
+    due
+}
+
+/// Replenishes one server if it is due at tick `now`, and lists it if it is then ready. Before which
+/// tick it is not due.
+fn replenish_one(it: &mut Server, number: u16, ready: &mut ReadyList, now: u64) -> u64
+    requires clock { now ≤ LIMIT }
+    requires known { number < 64 }
+    requires ordered { IsOrdered ready.old }
+    requires listed { listed ready.old number ≡ ready_by it.old }
+    ensures face { it.new ≡ with_replenishment now it.old }
+    ensures ordered { IsOrdered ready.new }
+    ensures here { listed ready.new number ≡ ready_by it.new }
+    ensures others { (t : ℕ) → t ≢ number → listed ready.new t ≡ listed ready.old t }
+    ensures due { IsNotDueBefore result it.new }
+{
+    if !it.is_throttled() {
+        return u64::MAX;
+    }
+    it.replenish(now);
+    ready.follow(number, None, it.ready_by());
+    if it.is_throttled() {
+        it.deadline()
+    } else {
+        u64::MAX
     }
 }

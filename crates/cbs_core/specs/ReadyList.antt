@@ -1,0 +1,42 @@
+-- The list of the ready servers. Private words of this crate.
+use Rattle.std.specs.Prelude.{◌≡◌, ◌≢◌, ◌≤◌, ℕ, Bool, true, ◌&&◌, ◌||◌, eqb, ltb, if◌then◌else◌, List, [], ◌∷◌, Option, Some, None}
+use Rattle.std.specs.List.{AllByRecursion}
+use Rattle.cbs_core.specs.declared.ready_list.Entry.{Entry}
+use Rattle.cbs_core.specs.Faces.{Face, face_at, ready_by}
+
+-- whether entry a comes before entry b: by deadline, and of equal deadlines by number
+abbrev pub is_ahead : Entry → Entry → Bool
+is_ahead a b = ltb a.deadline b.deadline || (eqb a.deadline b.deadline && ltb a.server b.server)
+
+-- the deadline with which server s is listed, if it is
+abbrev pub listed : List Entry → ℕ → Option ℕ
+listed [] s = None
+listed (e ∷ es) s = if eqb e.server s then Some e.deadline else listed es s
+
+-- the server of the first entry
+abbrev pub first_of : List Entry → Option ℕ
+first_of [] = None
+first_of (e ∷ es) = Some e.server
+
+-- entry a stands before entry b, and is another server's
+pub record IsApart (a b : Entry) : Type 0 where
+  pub ahead : is_ahead a b ≡ true
+  pub other : a.server ≢ b.server
+
+-- each entry stands before each later one, and no server is listed twice
+abbrev pub IsOrdered : List Entry → Type 0
+IsOrdered [] = Unit {0}
+IsOrdered (e ∷ es) = AllByRecursion (IsApart e) es × IsOrdered es
+
+-- the list is in order, and has each ready server with its deadline, and nobody else
+pub record ListsReady (es : List Entry) (faces : List Face) : Type 0 where
+  pub ordered : IsOrdered es
+  pub each : (s : ℕ) → listed es s ≡ ready_by (face_at faces s)
+
+-- the server is not due for replenishment before a tick
+abbrev pub IsNotDueBefore : ℕ → Face → Type 0
+IsNotDueBefore tick f = f.state.throttled ≡ true → tick ≤ f.state.deadline
+
+-- no server is due for replenishment before a tick
+abbrev pub NoneDueBefore : ℕ → List Face → Type 0
+NoneDueBefore tick faces = AllByRecursion (IsNotDueBefore tick) faces
