@@ -1,7 +1,9 @@
 -- What agreement with a history becomes, through each step.
 use Rattle.std.proofs.Common.{◌≡◌, ℕ, zero, suc, ◌+◌, ◌≤◌, ◌<◌, List, [], ◌∷◌, ◌++◌, length, map, replicate, refl, ap, sym, ◌∙◌, arith, true, false, Bool, leb, ltb, cond, is_some, Option, Some, None}
 use Rattle.std.proofs.lemmas.Bool.Decides.{nat_tests}
+use Rattle.std.proofs.Math.ListN.{get_or-map}
 use Rattle.std.proofs.lemmas.List.{length-map}
+use Rattle.std.proofs.lemmas.Simd.{map-map}
 use Rattle.std.specs.List.{AllByRecursion, AllZip}
 use Rattle.cbs_job.specs.Work.{Meaning, Lowers}
 use Rattle.cbs_rules.specs.Rules.{clock_end, Terms}
@@ -20,7 +22,7 @@ use Rattle.cbs_core.specs.declared.reply.Ran.{Ran}
 use Rattle.cbs_core.specs.declared.reply.Ran.TheVariants as ran
 use Rattle.cbs_core.specs.declared.reply.Reply.TheVariants as reply
 use Rattle.cbs_core.specs.declared.step.Step.TheVariants.{Submit, Run, Advance, Close}
-use Rattle.cbs_core.proofs.Lists.{map-maps, map-changed_at, AllZip-length, AllZip-get, AllZip-map, AllZip-changed_at, AllZip-changed_second}
+use Rattle.cbs_core.proofs.Lists.{map-changed_at, AllZip-length, AllZip-get, AllZip-map, AllZip-changed_at, AllZip-changed_second}
 use Rattle.cbs_core.proofs.HeldJobs.{unit_jobs, unit_face, unit_ran, job_jobs, job_face}
 
 cond_same : {X : Type 0} {x : X} (b : Bool) → cond b x x ≡ x
@@ -30,18 +32,16 @@ cond_same false = refl
 module _ {W : Type 0} (work : Meaning W) where
   -- what is shown of replenished servers
   pub replenished_faces : (now : ℕ) (accounts : List (Account W)) → map (face_of work) (map (account_with_replenishment now) accounts) ≡ map (with_replenishment now) (map (face_of work) accounts)
-  replenished_faces now accounts = map-maps (face_of work) (account_with_replenishment now) (with_replenishment now) accounts (λ a. refl)
+  replenished_faces now accounts =
+      map-map (face_of work) (account_with_replenishment now) accounts ∙ sym (map-map (with_replenishment now) (face_of work) accounts)
 
   -- what a server shows is what its account shows
   pub account_face : (accounts : List (Account W)) (s : ℕ) → face_at (map (face_of work) accounts) s ≡ face_of work (account accounts s)
-  account_face [] s = refl
-  account_face (a ∷ accounts) zero = refl
-  account_face (a ∷ accounts) (suc s) = account_face accounts s
+  account_face accounts s = get_or-map (face_of work) accounts s no_account
 
   -- a new core agrees with the start
   new_faces : (terms : List Terms) → map new_face terms ≡ map (face_of work) (map new_account terms)
-  new_faces [] = refl
-  new_faces (t ∷ ts) = ap (λ fs. new_face t ∷ fs) (new_faces ts)
+  new_faces terms = sym (map-map (face_of work) new_account terms)
 
   new_jobs : (terms : List Terms) → AllZip (AgreesJobs work) (replicate (length terms) []) (map new_account terms)
   new_jobs [] = tt

@@ -1,5 +1,6 @@
 -- The completions of a server: they go on from its finished jobs.
 use Rattle.std.proofs.Common.{◌≡◌, ◌≢◌, ℕ, zero, suc, ◌+◌, ◌≤◌, ◌<◌, true, false, List, [], ◌∷◌, ◌++◌, length, map, take, drop, get_or, eqb, leb, refl, sym, ◌∙◌, ap, subst, arith, Option, Some, None, inl, inr, length-append, append_assoc, append-nil}
+use Rattle.std.proofs.Math.Seq.{take-add}
 use Rattle.std.proofs.lemmas.Bool.{cases_Bool}
 use Rattle.std.proofs.lemmas.Bool.Decides.{nat_tests}
 use Rattle.std.proofs.lemmas.List.{map-append, length-map, drop-drop}
@@ -32,17 +33,6 @@ numbers_from-append k (suc m) n =
     let e : suc m + n ≡ suc (m + n) = omega arith in
     let f : k + 1 + m ≡ k + suc m = omega arith in
     rw e (ap (λ ns. k ∷ ns) (numbers_from-append (k + 1) m n ∙ ap (λ j. numbers_from (k + 1) m ++ numbers_from j n) f))
-
-take_nil : {X : Type 0} (n : ℕ) (xs : List X) → xs ≡ [] → take n xs ≡ []
-take_nil zero xs e = refl
-take_nil (suc n) [] e = refl
-take_nil (suc n) (x ∷ xs) e = cc
-
--- a front of m + n is a front of m and then one of n
-take-add : {X : Type 0} (m n : ℕ) (xs : List X) → take (m + n) xs ≡ take m xs ++ take n (drop m xs)
-take-add zero n xs = let e : zero + n ≡ n = omega arith in rw e refl
-take-add (suc m) n [] = let e : suc m + n ≡ suc (m + n) = omega arith in rw e (sym (take_nil n [] refl))
-take-add (suc m) n (x ∷ xs) = let e : suc m + n ≡ suc (m + n) = omega arith in rw e (ap (λ ys. x ∷ ys) (take-add m n xs))
 
 -- a part within a list is a part of every longer list
 part_of_more : {X : Type 0} (k m : ℕ) (xs more : List X) → k + m ≤ length xs → take m (drop k (xs ++ more)) ≡ take m (drop k xs)

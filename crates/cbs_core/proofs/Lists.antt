@@ -52,11 +52,6 @@ module _ {X Y : Type 0} (h : X → Y) (f : X → X) (g : Y → Y) where
   map-changed_at (x ∷ xs) zero d e = ap (λ y. y ∷ map h xs) e
   map-changed_at (x ∷ xs) (suc i) d e = ap (λ ys. h x ∷ ys) (map-changed_at xs i d e)
 
-  -- the same where all are changed
-  pub map-maps : (xs : List X) → ((x : X) → h (f x) ≡ g (h x)) → map h (map f xs) ≡ map g (map h xs)
-  map-maps [] e = refl
-  map-maps (x ∷ xs) e = rw (e x, map-maps xs e) refl
-
 -- what holds of each, and is weaker
 pub AllByRecursion-weaker : {X : Type 0} (P Q : X → Type 0) (xs : List X) → AllByRecursion P xs → ((x : X) → P x → Q x) → AllByRecursion Q xs
 AllByRecursion-weaker P Q [] all k = tt
@@ -78,11 +73,6 @@ pub AllByRecursion-changed_at : {X : Type 0} (P Q : X → Type 0) (f : X → X) 
 AllByRecursion-changed_at P Q f [] i d all k h = tt
 AllByRecursion-changed_at P Q f (x ∷ xs) zero d all k h = (h all.0, AllByRecursion-weaker P Q xs all.1 k)
 AllByRecursion-changed_at P Q f (x ∷ xs) (suc i) d all k h = (k x all.0, AllByRecursion-changed_at P Q f xs i d all.1 k h)
-
--- what holds of each, and of one more
-pub AllByRecursion-push : {X : Type 0} (P : X → Type 0) (xs : List X) (x : X) → AllByRecursion P xs → P x → AllByRecursion P (xs ++ x ∷ [])
-AllByRecursion-push P [] x all holds = (holds, all)
-AllByRecursion-push P (y ∷ ys) x all holds = (all.0, AllByRecursion-push P ys x all.1 holds)
 
 module _ {X Y : Type 0} (R : X → Y → Type 0) where
   -- lists that agree place by place are of one length

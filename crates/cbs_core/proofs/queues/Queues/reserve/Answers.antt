@@ -1,7 +1,8 @@
 use Rattle.std.proofs.Common.{◌+◌, ◌-◌, ◌≤◌, ◌∙◌, ap, arith}
 use Rattle.std.specs.VecDeque.{deque_len, deque_capacity}
 use Rattle.std.specs.declared.collections.VecDeque.{VecDeque}
-use Rattle.cbs_core.proofs.Tables.{list_same, within_lists, room_made, room_kept}
+use Rattle.std.proofs.Math.Seq.{map-set_same}
+use Rattle.cbs_core.proofs.Tables.{within_lists, room_made, room_kept}
 use Rattle.std.proofs.lemmas.Result.{on_ok_weaker}
 use Rattle.cbs_core.proofs.queues.Queues.reserve.Goals as goal
 
@@ -15,7 +16,7 @@ returns-clause-room g c =
 
 pub returns-clause-lists : goal.returns-clause-lists
 returns-clause-lists g c =
-    rw (← c.self.view_is) (list_same (λ (q : VecDeque g.row.W.Denot g.row.A.Denot). q.items) c.self.inside.queues.items c.from.result c.reserve.new.self c.index_mut-queue.result.now
+    rw (← c.self.view_is) (map-set_same (λ (q : VecDeque g.row.W.Denot g.row.A.Denot). q.items) c.self.inside.queues.items c.from.result c.reserve.new.self c.index_mut-queue.result.now
     (c.reserve.ensures.items ∙ ap (λ (q : VecDeque g.row.W.Denot g.row.A.Denot). q.items) c.index_mut-queue.ensures.value))
 
 pub returns-clause-kept : goal.returns-clause-kept
