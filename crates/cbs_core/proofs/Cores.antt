@@ -1,5 +1,5 @@
 -- What each core keeps, through each step.
-use Rattle.std.proofs.Common.{◌≡◌, ℕ, ◌+◌, ◌*◌, ◌≤◌, ◌<◌, ◌^◌, true, List, [], ◌∷◌, ◌++◌, length, map, replicate, refl, ◌∙◌, ap, arith, eqb, inl, inr, is_some, length-append}
+use Rattle.std.proofs.Common.{◌≡◌, ℕ, ◌+◌, ◌-◌, ◌*◌, ◌≤◌, ◌<◌, ◌^◌, true, List, [], ◌∷◌, ◌++◌, length, map, replicate, refl, ◌∙◌, ap, arith, eqb, inl, inr, None, is_some, length-append}
 use Rattle.std.specs.Prelude.{slice_get, Result, IfOk, OnOk}
 use Rattle.std.proofs.lemmas.Bool.{cases_lt, cases_Bool}
 use Rattle.std.proofs.lemmas.Option.{slice_get-get_or, slice_get_past}
@@ -12,7 +12,7 @@ use Rattle.cbs_rate.proofs.Lists.{AllByRecursion-push}
 use Rattle.cbs_rules.specs.Rules.{clock_end, latest_deadline}
 use Rattle.cbs_rules.specs.declared.mode.Mode.{Mode}
 use Rattle.cbs_core.specs.Lists.{changed_at}
-use Rattle.cbs_core.specs.Faces.{Face, new_face, no_face, face_at, is_ready, backlog_of, with_job, with_unit, with_replenishment, with_close, view_reply}
+use Rattle.cbs_core.specs.Faces.{Face, new_face, no_face, face_at, is_ready, backlog_of, with_job, with_unit, with_replenishment, with_close, submit_refusal, view_reply}
 use Rattle.cbs_core.specs.Laws.{IsWithinBudget, KeepsBudgets}
 use Rattle.cbs_core.specs.declared.error.CoreError.{CoreError}
 use Rattle.cbs_core.specs.declared.view.ServerView.{ServerView}
@@ -23,6 +23,7 @@ use Rattle.cbs_core.specs.Invariant.{IsServer, HoldsBacklog, IsCore}
 use Rattle.cbs_core.proofs.Faces.{server_new, server_later, server_replenished, server_closed, server_joined, server_run, runnable, budget_some, within_budget}
 use Rattle.cbs_core.proofs.Lists.{length-changed_at, AllByRecursion-map, AllByRecursion-get, AllByRecursion-changed_at, AllZip-length, AllZip-get, AllZip-map, AllZip-changed_at, AllZip-changed_second}
 use Rattle.cbs_core.proofs.Plans.{length-faces}
+use Rattle.cbs_core.proofs.Refusals.{free_accepts}
 
 -- a new core
 module _ {W : Type 0} (work : Meaning W) (mode : Mode) (backlog : ℕ) where
@@ -59,6 +60,10 @@ module _ {W : Type 0} (work : Meaning W) (core : CoreHeld W) (ok : IsCore work c
   -- there are as many queues as servers
   pub queue_count : length core.queues ≡ length core.faces
   queue_count = AllZip-length (HoldsBacklog work) core.queues core.faces ok.jobs
+
+  -- a server that a job may come in for has a queue
+  pub queue_there : (s : ℕ) → None ≡ submit_refusal core.backlog core.faces s → s < length core.queues
+  queue_there s free = let n = queue_count in let lt = (free_accepts {core = core} refl s free).is_open.within in omega arith
 
   -- each server holds its backlog
   pub backlog_at : (s : ℕ) → s < length core.faces → HoldsBacklog work (list_at core.queues s) (face_at core.faces s)
@@ -135,12 +140,12 @@ module _ {W : Type 0} (work : Meaning W) (core : CoreHeld W) (ok : IsCore work c
       }
 
   -- a jump by n ticks
-  pub core_jumped : (n : ℕ) (faces : List Face) (rooms : List ℕ) → core.clock + n ≤ clock_end → faces ≡ map (with_replenishment (core.clock + n)) core.faces
+  pub core_jumped : (n : ℕ) (faces : List Face) (rooms : List ℕ) → n ≤ clock_end - core.clock → faces ≡ map (with_replenishment (core.clock + n)) core.faces
       → IsCore work (record { backlog = core.backlog; clock = core.clock + n; faces = faces; queues = core.queues; rooms = rooms })
   core_jumped n faces rooms late shown = rw shown record {
     few = omega (arith, ok.few, length-map core.faces (with_replenishment (core.clock + n)));
     small = ok.small;
-    clock = late;
+    clock = let k = ok.clock in omega arith;
     each = AllByRecursion-map (IsServer core.backlog core.clock) (IsServer core.backlog (core.clock + n)) (with_replenishment (core.clock + n)) core.faces ok.each
         (λ f is. server_replenished core.backlog (core.clock + n) f (server_later core.backlog core.clock f is (core.clock + n) (omega arith)));
     jobs = AllZip-map (HoldsBacklog work) (with_replenishment (core.clock + n)) core.queues core.faces ok.jobs (λ jobs f h. record { counted = h.counted; unfinished = h.unfinished });

@@ -1,27 +1,31 @@
 -- What a job, a unit, a replenishment and a close keep of a server holds after every history.
 use Rattle.std.proofs.Common.{◌≡◌, ℕ, zero, suc, ◌+◌, ◌<◌, Bool, List, [], ◌∷◌, length, map, refl, ap, sym, ◌∙◌, arith, true, false, leb, ltb, Option, Some, None, inl, inr}
 use Rattle.std.specs.Prelude.{if◌then◌else◌}
+use Rattle.std.proofs.Math.ListN.{get_or-map}
 use Rattle.std.proofs.lemmas.Bool.{cases_Bool}
 use Rattle.cbs_job.specs.Work.{Meaning}
 use Rattle.cbs_rules.specs.Rules.{clock_end}
 use Rattle.cbs_core.specs.Lists.{changed_at}
 use Rattle.cbs_core.specs.Choice.{IsChoice}
-use Rattle.cbs_core.specs.Faces.{is_ready, ranks, submit_refusal, close_refusal}
-use Rattle.cbs_core.specs.Accounts.{Account, face_of, new_account, account_with_job, account_with_unit, account_with_replenishment, account_with_close}
+use Rattle.cbs_core.specs.Faces.{face_at, is_ready, ranks, submit_refusal, close_refusal}
+use Rattle.cbs_core.specs.Accounts.{Account, face_of, new_account, no_account, account_with_job, account_with_unit, account_with_replenishment, account_with_close}
 use Rattle.cbs_core.specs.History.{World, Setup, account, faces, chosen, tick, ticks, runner, after_submit, after_run, after_closing, next, after}
 use Rattle.cbs_core.proofs.Choices.{choice_is}
 use Rattle.cbs_core.proofs.Faces.{rank_ready}
-use Rattle.cbs_core.proofs.Agreements.{account_face}
 use Rattle.cbs_core.specs.declared.error.CoreError.{CoreError}
 use Rattle.cbs_core.specs.declared.step.Step.{Step}
 use Rattle.cbs_core.specs.declared.step.Step.TheVariants.{Submit, Run, Advance, Close}
 
 module _ {W : Type 0} (work : Meaning W) where
+  -- what a server shows is what its account shows
+  pub account_face : (accounts : List (Account W)) (s : ℕ) → face_at (map (face_of work) accounts) s ≡ face_of work (account accounts s)
+  account_face accounts s = get_or-map (face_of work) accounts s no_account
+
   -- the chosen server is ready
   pub chosen_is_ready : (w : World W) (s : ℕ) → chosen work w ≡ Some s → is_ready (face_of work (account w.accounts s)) ≡ true
   chosen_is_ready w s e =
       let h : IsChoice (ranks (faces work w)) (length (ranks (faces work w))) (Some s) = rw e at (choice_is (ranks (faces work w))) in
-      ap is_ready (sym (account_face work w.accounts s)) ∙ sym (rank_ready (faces work w) s) ∙ h.ready
+      ap is_ready (sym (account_face w.accounts s)) ∙ sym (rank_ready (faces work w) s) ∙ h.ready
 
   runner_chosen : (w : World W) (s : ℕ) → runner work w ≡ Some s → chosen work w ≡ Some s
   runner_chosen w s e = elim (cases_Bool (ltb w.now clock_end)) [ inl t ↦ rw t at e | inr f ↦ let g : None ≡ Some s = rw f at e in cc ]

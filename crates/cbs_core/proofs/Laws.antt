@@ -18,7 +18,8 @@ use Rattle.cbs_core.specs.Queues.{list_at}
 use Rattle.cbs_core.specs.Continuations.{IsBusy, HasHistory, Follows, ◌⊕⊕◌, EachAllowed, AllAllowed}
 use Rattle.cbs_core.specs.declared.step.Step.{Step}
 use Rattle.cbs_core.specs.declared.step.Step.TheVariants.{Run, Advance}
-use Rattle.cbs_core.proofs.Agreements.{account_face, ticks_none}
+use Rattle.cbs_core.proofs.Agreements.{ticks_none}
+use Rattle.cbs_core.proofs.Histories.{account_face}
 use Rattle.cbs_core.proofs.Choices.{choice_is}
 use Rattle.cbs_core.proofs.HeldJobs.{length_jobs}
 use Rattle.cbs_core.proofs.Lists.{AllZip-length, AllZip-get}

@@ -1,5 +1,4 @@
 use Rattle.std.proofs.Common.{sym, refl}
-use Rattle.cbs_core.specs.History.{world_after}
 use Rattle.cbs_core.specs.Held.{CoreHeld}
 use Rattle.cbs_core.proofs.Agreements.{close_replied, close_agrees}
 use Rattle.cbs_core.proofs.Cores.{core_closed, budgets_kept}
@@ -15,14 +14,11 @@ invariant_of-self g c = core_closed g.W.Work.meaning _ c.self.invariant c.args.s
 
 pub returns-clause-reply : goal.returns-clause-reply
 returns-clause-reply g c = λ M agrees.
-    let inside = rw (← c.self.view_is) at agrees.world in
-    sym (close_replied g.W.Work.meaning _ M.setup.backlog (world_after g.W.Work.meaning M) inside c.args.server _ (sym (open_free _ c.args.server (rw (← c.self.view_is) at c.requires))))
+    close_replied g.W.Work.meaning _ _ c.self.view_is M agrees c.args.server _ (open_free c.self.view_is c.args.server c.requires)
 
 pub returns-clause-state : goal.returns-clause-state
 returns-clause-state g c = λ M agrees.
-    let inside = rw (← c.self.view_is) at agrees.world in
-    let is = rw (← c.self.view_is) at c.requires in
-    record { world = close_agrees g.W.Work.meaning _ M.setup.backlog (world_after g.W.Work.meaning M) inside c.args.server c.close.new.self c.self.inside.queues.rooms (sym (open_free _ c.args.server is)) is.within c.close.ensures }
+    close_agrees g.W.Work.meaning _ _ c.self.view_is M agrees c.args.server c.close.new.self c.self.inside.queues.rooms (open_free c.self.view_is c.args.server c.requires) c.close.ensures
 
 pub returns-clause-closed : goal.returns-clause-closed
 returns-clause-closed g c =

@@ -3,8 +3,6 @@ use Rattle.cbs_core.specs.Lists.{changed_at}
 use Rattle.cbs_core.specs.Faces.{face_at, with_unit, with_replenishment}
 use Rattle.cbs_core.specs.Held.{CoreHeld}
 use Rattle.cbs_core.specs.Queues.{list_at, result_run, ran_of}
-use Rattle.cbs_core.specs.History.{world_after}
-use Rattle.cbs_core.specs.declared.reply.Reply.TheVariants as reply
 use Rattle.cbs_core.proofs.Agreements.{idle_next, reply_by, next_late, end_reply, unit_agrees, unit_answered}
 use Rattle.cbs_core.proofs.Cores.{core_run, ready_runs, may_use_tick, queue_count, budgets_kept}
 use Rattle.cbs_core.proofs.Effects.{did_run}
@@ -14,23 +12,19 @@ use Rattle.cbs_core.proofs.executor.Core.run.Goals as goal
 
 pub returns-in_default-clause-reply : goal.returns-in_default-clause-reply
 returns-in_default-clause-reply g c = λ M agrees.
-    let inside = rw (← c.self.view_is) at agrees.world in
-    ap reply.Ran (sym (reply_by g.W.Work.meaning _ M.setup.backlog (world_after g.W.Work.meaning M) inside _ c.in_default.ensures.first))
+    reply_by g.W.Work.meaning _ _ c.self.view_is M agrees _ c.in_default.ensures.first
 
 pub returns-in_default-clause-state : goal.returns-in_default-clause-state
 returns-in_default-clause-state g c = λ M agrees.
-    let inside = rw (← c.self.view_is) at agrees.world in
-    record { world = rw (idle_next g.W.Work.meaning _ M.setup.backlog (world_after g.W.Work.meaning M) inside c.in_default.ensures.first) agrees.world }
+    record { world = rw (idle_next g.W.Work.meaning _ _ c.self.view_is M agrees c.in_default.ensures.first) agrees.world }
 
 pub returns-then-self-ge-LIMIT-clause-reply : goal.returns-then-self-ge-LIMIT-clause-reply
 returns-then-self-ge-LIMIT-clause-reply g c = λ M agrees.
-    let inside = rw (← c.self.view_is) at agrees.world in
-    ap reply.Ran (sym (end_reply g.W.Work.meaning _ M.setup.backlog (world_after g.W.Work.meaning M) inside c.in-Some.server c.in-Some.ensures.first c.if-self-ge-LIMIT.true))
+    end_reply g.W.Work.meaning _ _ c.self.view_is M agrees c.in-Some.server c.in-Some.ensures.first c.if-self-ge-LIMIT.true
 
 pub returns-then-self-ge-LIMIT-clause-state : goal.returns-then-self-ge-LIMIT-clause-state
 returns-then-self-ge-LIMIT-clause-state g c = λ M agrees.
-    let inside = rw (← c.self.view_is) at agrees.world in
-    record { world = rw (next_late g.W.Work.meaning _ M.setup.backlog (world_after g.W.Work.meaning M) inside c.if-self-ge-LIMIT.true) agrees.world }
+    record { world = rw (next_late g.W.Work.meaning _ _ c.self.view_is M agrees c.if-self-ge-LIMIT.true) agrees.world }
 
 pub run_first-result-requires-clause-some : goal.run_first-result-requires-clause-some
 run_first-result-requires-clause-some g c = let is = chosen_is c.self.inside.servers c.in-Some.server c.in-Some.ensures.choice in (ready_runs g.W.Work.meaning _ c.self.invariant c.in-Some.server is.within is.ready).active
@@ -68,20 +62,17 @@ invariant_of-self g c =
 
 pub returns-clause-reply : goal.returns-clause-reply
 returns-clause-reply g c = λ M agrees.
-    let inside = rw (← c.self.view_is) at agrees.world in
     let is = chosen_is c.self.inside.servers c.in-Some.server c.in-Some.ensures.choice in
     let runs = ready_runs g.W.Work.meaning _ c.self.invariant c.in-Some.server is.within is.ready in
-    ap reply.Ran (unit_answered g.W.Work.meaning _ M.setup.backlog (world_after g.W.Work.meaning M) inside c.in-Some.server g.met.W.Work.lowers c.in-Some.ensures.first c.if-self-ge-LIMIT.false is.within runs.active runs.unfinished c.ran_from.result (ran g c))
+    unit_answered g.W.Work.meaning _ _ c.self.view_is M agrees c.in-Some.server g.met.W.Work.lowers c.in-Some.ensures.first c.if-self-ge-LIMIT.false is.within runs.active runs.unfinished
+    c.ran_from.result (ran g c)
 
 pub returns-clause-state : goal.returns-clause-state
 returns-clause-state g c = λ M agrees.
-    let inside = rw (← c.self.view_is) at agrees.world in
     let is = chosen_is c.self.inside.servers c.in-Some.server c.in-Some.ensures.choice in
     let runs = ready_runs g.W.Work.meaning _ c.self.invariant c.in-Some.server is.within is.ready in
-    record {
-      world = unit_agrees g.W.Work.meaning _ M.setup.backlog (world_after g.W.Work.meaning M) inside c.in-Some.server g.met.W.Work.lowers c.in-Some.ensures.first c.if-self-ge-LIMIT.false is.within runs.active runs.unfinished
-          c.replenish.new.self c.run_first-result.new.self.lists c.run_first-result.new.self.rooms (shown g c) c.run_first-result.ensures.lists;
-    }
+    unit_agrees g.W.Work.meaning _ _ c.self.view_is M agrees c.in-Some.server g.met.W.Work.lowers c.in-Some.ensures.first c.if-self-ge-LIMIT.false is.within runs.active runs.unfinished
+    c.replenish.new.self c.run_first-result.new.self.lists c.run_first-result.new.self.rooms (shown g c) c.run_first-result.ensures.lists
 
 pub returns-clause-job : goal.returns-clause-job
 returns-clause-job g c =

@@ -1,10 +1,8 @@
 use Rattle.std.proofs.Common.{◌<◌, length, sym, arith}
-use Rattle.cbs_core.specs.History.{world_after}
 use Rattle.cbs_core.specs.Held.{CoreHeld}
 use Rattle.cbs_core.proofs.Agreements.{submit_answered, submit_agrees}
 use Rattle.cbs_core.proofs.Cores.{core_joined, few_jobs, queue_count, budgets_kept}
 use Rattle.cbs_core.proofs.Effects.{took_job}
-use Rattle.cbs_core.proofs.PaidUnits.{paid_after}
 use Rattle.cbs_core.proofs.Refusals.{accepts_free}
 use Rattle.cbs_core.proofs.executor.Core.submit_reserved.Goals as goal
 
@@ -26,18 +24,12 @@ invariant_of-self g c =
 
 pub returns-clause-reply : goal.returns-clause-reply
 returns-clause-reply g c = λ M agrees.
-    let inside = rw (← c.self.view_is) at agrees.world in
-    let is = rw (← c.self.view_is) at c.requires in
-    submit_answered g.W.Work.meaning _ M.setup.backlog (world_after g.W.Work.meaning M) inside c.args.server c.args.task (sym (accepts_free _ c.args.server is.accepts)) c.accept.result is.accepts.is_open.within c.accept.ensures.number
+    submit_answered g.W.Work.meaning _ _ c.self.view_is M agrees c.args.server c.args.task (accepts_free c.self.view_is c.args.server c.requires.accepts) c.accept.result c.accept.ensures.number
 
 pub returns-clause-state : goal.returns-clause-state
 returns-clause-state g c = λ M agrees.
-    let inside = rw (← c.self.view_is) at agrees.world in
-    let is = rw (← c.self.view_is) at c.requires in
-    record {
-      world = submit_agrees g.W.Work.meaning _ M.setup.backlog (world_after g.W.Work.meaning M) inside c.args.server c.args.task (sym (accepts_free _ c.args.server is.accepts)) c.accept.new.self c.push.new.self.lists c.push.new.self.rooms
-          is.accepts.is_open.within c.accept.ensures.servers c.push.ensures.lists (paid_after g.W.Work.meaning M.setup M.steps c.args.server) c.push.ensures.some;
-    }
+    submit_agrees g.W.Work.meaning _ _ c.self.view_is M agrees c.args.server c.args.task (accepts_free c.self.view_is c.args.server c.requires.accepts) c.accept.new.self c.push.new.self.lists
+    c.push.new.self.rooms (rw (← c.self.view_is) at c.requires).accepts.is_open.within c.accept.ensures.servers c.push.ensures.lists c.push.ensures.some
 
 pub returns-clause-job : goal.returns-clause-job
 returns-clause-job g c =
