@@ -21,6 +21,7 @@ use Rattle.cbs_core.specs.declared.reply.Ran.{Ran}
 use Rattle.cbs_core.specs.declared.reply.Ran.TheVariants as ran
 use Rattle.cbs_core.specs.declared.reply.Reply.TheVariants as reply
 use Rattle.cbs_core.specs.declared.step.Step.TheVariants.{Submit, Run, Advance, Close}
+use Rattle.cbs_core.proofs.Cores.{MayRun}
 use Rattle.cbs_core.proofs.Histories.{account_face}
 use Rattle.cbs_core.proofs.PaidUnits.{paid_after}
 use Rattle.cbs_core.proofs.Lists.{map-changed_at, AllZip-length, AllZip-get, AllZip-map, AllZip-changed_at, AllZip-changed_second}
@@ -118,20 +119,19 @@ module _ {W : Type 0} (work : Meaning W) (core held : CoreHeld W) (view : core �
   pub end_reply : (s : ℕ) → Some s ≡ chosen_among (ranks core.faces) → clock_end ≤ core.clock → reply.Ran ran.ClockEnd ≡ reply_in work M Run
   end_reply s e late = let n : leb clock_end w.now ≡ true = let c = agrees.clock in grind (arith, nat_tests) in rw n at (reply_by (Some s) e)
 
-  module _ (s : ℕ) (law : Lowers work) (e : Some s ≡ chosen_among (ranks core.faces)) (early : core.clock < clock_end) (lt : s < length core.faces)
-      (some : 0 < length (list_at core.queues s)) (left : AllByRecursion (λ j. 0 < work.left j) (list_at core.queues s)) where
+  module _ (s : ℕ) (law : Lowers work) (e : Some s ≡ chosen_among (ranks core.faces)) (may : MayRun work core s) where
     abbrev done : Bool
     done = is_some (result_run work (list_at core.queues s))
 
     -- what the unit is answered
     pub unit_answered : (r : Ran) → r ≡ ran_of s (face_at core.faces s).finished (result_run work (list_at core.queues s)) → reply.Ran r ≡ reply_in work M Run
     unit_answered r is =
-        let n : leb clock_end w.now ≡ false = let c = agrees.clock in grind (arith, nat_tests) in
-        let here = unit_ran work (list_at core.queues s) (account w.accounts s) (jobs_are s lt) law some left s in
+        let n : leb clock_end w.now ≡ false = let c = agrees.clock in let k = may.early in grind (arith, nat_tests) in
+        let here = unit_ran work (list_at core.queues s) (account w.accounts s) (jobs_are s may.within) law may.active may.unfinished s in
         ap reply.Ran (is ∙ ap (λ (f : Face). ran_of s f.finished (result_run work (list_at core.queues s))) (sym (face_is s)) ∙ here) ∙ rw n at (reply_by (Some s) e)
 
     next_early : world_after work (M ⊕ Run) ≡ after_run w (Some s)
-    next_early = let n : ltb w.now clock_end ≡ true = let c = agrees.clock in grind (arith, nat_tests) in rw n (ap (after_run w) (sym (e ∙ choice_agrees)))
+    next_early = let n : ltb w.now clock_end ≡ true = let c = agrees.clock in let k = may.early in grind (arith, nat_tests) in rw n (ap (after_run w) (sym (e ∙ choice_agrees)))
 
     -- after the unit and the replenishment the core agrees with one run more
     pub unit_agrees : (shown : List Face) (queues : List (List W)) (rooms : List ℕ)
@@ -142,10 +142,10 @@ module _ {W : Type 0} (work : Meaning W) (core held : CoreHeld W) (view : core �
       clock = ap (λ n. n + 1) agrees.clock;
       shown = is ∙ rw (agrees.shown, agrees.clock)
           (sym (replenished_faces work (w.now + 1) (changed_at account_with_unit w.accounts s)
-          ∙ ap (map (with_replenishment (w.now + 1))) (map-changed_at (face_of work) account_with_unit (with_unit done) w.accounts s no_account (unit_face work (list_at core.queues s) (account w.accounts s) (jobs_are s lt) law some left))));
+          ∙ ap (map (with_replenishment (w.now + 1))) (map-changed_at (face_of work) account_with_unit (with_unit done) w.accounts s no_account (unit_face work (list_at core.queues s) (account w.accounts s) (jobs_are s may.within) law may.active may.unfinished))));
       jobs = rw run (AllZip-map (AgreesJobs work) (account_with_replenishment (w.now + 1)) (changed_at (jobs_run work) core.queues s) (changed_at account_with_unit w.accounts s)
-          (AllZip-changed_at (AgreesJobs work) core.queues w.accounts s [] no_account (jobs_run work) account_with_unit agrees.jobs (within_queues s lt)
-          (λ here. unit_jobs work (list_at core.queues s) (account w.accounts s) here law some left))
+          (AllZip-changed_at (AgreesJobs work) core.queues w.accounts s [] no_account (jobs_run work) account_with_unit agrees.jobs may.queue
+          (λ here. unit_jobs work (list_at core.queues s) (account w.accounts s) here law may.active may.unfinished))
           (λ jobs a here. record { results = here.results; lefts = here.lefts }));
     } }
 

@@ -1,5 +1,5 @@
 -- What each core keeps, through each step.
-use Rattle.std.proofs.Common.{◌≡◌, ℕ, ◌+◌, ◌-◌, ◌*◌, ◌≤◌, ◌<◌, ◌^◌, true, List, [], ◌∷◌, ◌++◌, length, map, replicate, refl, ◌∙◌, ap, arith, eqb, inl, inr, None, is_some, length-append}
+use Rattle.std.proofs.Common.{◌≡◌, ℕ, ◌+◌, ◌-◌, ◌*◌, ◌≤◌, ◌<◌, ◌^◌, true, List, [], ◌∷◌, ◌++◌, length, map, replicate, refl, ◌∙◌, ap, arith, eqb, inl, inr, Some, None, sym, is_some, length-append}
 use Rattle.std.specs.Prelude.{slice_get, Result, IfOk, OnOk}
 use Rattle.std.proofs.lemmas.Bool.{cases_lt, cases_Bool}
 use Rattle.std.proofs.lemmas.Option.{slice_get-get_or, slice_get_past}
@@ -12,7 +12,8 @@ use Rattle.cbs_rate.proofs.Lists.{AllByRecursion-push}
 use Rattle.cbs_rules.specs.Rules.{clock_end, latest_deadline}
 use Rattle.cbs_rules.specs.declared.mode.Mode.{Mode}
 use Rattle.cbs_core.specs.Lists.{changed_at}
-use Rattle.cbs_core.specs.Faces.{Face, new_face, no_face, face_at, is_ready, backlog_of, with_job, with_unit, with_replenishment, with_close, submit_refusal, view_reply}
+use Rattle.cbs_core.specs.Choice.{IsChoice}
+use Rattle.cbs_core.specs.Faces.{Face, new_face, no_face, face_at, is_ready, backlog_of, ranks, with_job, with_unit, with_replenishment, with_close, submit_refusal, view_reply}
 use Rattle.cbs_core.specs.Laws.{IsWithinBudget, KeepsBudgets}
 use Rattle.cbs_core.specs.declared.error.CoreError.{CoreError}
 use Rattle.cbs_core.specs.declared.view.ServerView.{ServerView}
@@ -20,7 +21,7 @@ use Rattle.cbs_core.specs.Held.{CoreHeld, Accepts}
 use Rattle.cbs_core.specs.Queues.{list_at, jobs_run, result_run}
 use Rattle.cbs_core.specs.Setups.{terms_of}
 use Rattle.cbs_core.specs.Invariant.{IsServer, HoldsBacklog, IsCore}
-use Rattle.cbs_core.proofs.Faces.{server_new, server_later, server_replenished, server_closed, server_joined, server_run, runnable, budget_some, within_budget}
+use Rattle.cbs_core.proofs.Faces.{server_new, server_later, server_replenished, server_closed, server_joined, server_run, rank_ready, runnable, budget_some, within_budget}
 use Rattle.cbs_core.proofs.Lists.{length-changed_at, AllByRecursion-map, AllByRecursion-get, AllByRecursion-changed_at, AllZip-length, AllZip-get, AllZip-map, AllZip-changed_at, AllZip-changed_second}
 use Rattle.cbs_core.proofs.Plans.{length-faces}
 use Rattle.cbs_core.proofs.Refusals.{free_accepts}
@@ -51,6 +52,17 @@ module _ {W : Type 0} (work : Meaning W) (mode : Mode) (backlog : ℕ) where
         each = rw shown (all_new rates ok);
         jobs = rw (shown, empty, size, empty_queues rates) (none_held rates);
       }
+
+-- what a run of server s may rest on
+pub record MayRun {W : Type 0} (work : Meaning W) (core : CoreHeld W) (s : ℕ) : Type 0 where
+  pub early : core.clock < clock_end
+  pub within : s < length core.faces
+  pub queue : s < length core.queues
+  pub ready : is_ready (face_at core.faces s) ≡ true
+  pub active : 0 < length (list_at core.queues s)
+  pub unfinished : AllByRecursion (λ w. 0 < work.left w) (list_at core.queues s)
+  pub budget : 0 < (face_at core.faces s).state.budget
+  pub room : (face_at core.faces s).state.deadline ≤ latest_deadline
 
 module _ {W : Type 0} (work : Meaning W) (core : CoreHeld W) (ok : IsCore work core) where
   -- each server of a core keeps what a server keeps
@@ -87,27 +99,27 @@ module _ {W : Type 0} (work : Meaning W) (core : CoreHeld W) (ok : IsCore work c
     | inr ge ↦ rw (e, slice_get_past core.faces s ge) tt
   ]
 
-  -- what a tick of a ready server may rest on
-  pub record MayUseTick (s : ℕ) : Type 0 where
-    pub some : 0 < (face_at core.faces s).state.budget
-    pub room : (face_at core.faces s).state.deadline ≤ latest_deadline
-
-  -- a ready server before the clock's end may use a tick
-  pub may_use_tick : (s : ℕ) → core.clock < clock_end → s < length core.faces → is_ready (face_at core.faces s) ≡ true → MayUseTick s
-  may_use_tick s early lt ready = let is = server_at s lt in let e = is.early in let k = ok.clock in record { some = budget_some core.backlog core.clock (face_at core.faces s) is ready; room = omega arith }
+  -- before the clock's end the chosen server may run
+  pub may_run : (s : ℕ) → IsChoice (ranks core.faces) (length core.faces) (Some s) → core.clock < clock_end → MayRun work core s
+  may_run s choice early =
+      let within = choice.within in
+      let ready = sym (rank_ready core.faces s) ∙ choice.ready in
+      let is = server_at s within in
+      let held = backlog_at s within in
+      record {
+        early = early;
+        within = within;
+        queue = let n = queue_count in omega arith;
+        ready = ready;
+        active = let c = held.counted in let a = (runnable (face_at core.faces s) ready).active in omega arith;
+        unfinished = held.unfinished;
+        budget = budget_some core.backlog core.clock (face_at core.faces s) is ready;
+        room = let e = is.early in omega arith;
+      }
 
   -- another number fits for the jobs of a server
   pub few_jobs : (s : ℕ) → s < length core.faces → (face_at core.faces s).accepted + 1 < 2 ^ 64
   few_jobs s lt = let b = server_at s lt in let c = b.counted in let f = b.few_done in let j = b.few_jobs in let k = ok.clock in let m = ok.small in omega arith
-
-  -- what a run may rest on
-  pub record Runs (s : ℕ) : Type 0 where
-    pub active : 0 < length (list_at core.queues s)
-    pub unfinished : AllByRecursion (λ w. 0 < work.left w) (list_at core.queues s)
-
-  -- a ready server has a job with a unit left
-  pub ready_runs : (s : ℕ) → s < length core.faces → is_ready (face_at core.faces s) ≡ true → Runs s
-  ready_runs s lt ready = let h = backlog_at s lt in let c = h.counted in let a = (runnable (face_at core.faces s) ready).active in record { active = omega arith; unfinished = h.unfinished }
 
   unfinished_run : (jobs : List W) → AllByRecursion (λ w. 0 < work.left w) jobs → AllByRecursion (λ w. 0 < work.left w) (jobs_run work jobs)
   unfinished_run [] all = all
@@ -118,24 +130,23 @@ module _ {W : Type 0} (work : Meaning W) (core : CoreHeld W) (ok : IsCore work c
   counted_run (job ∷ jobs) f some e = elim (cases_Bool (eqb (work.left (work.after job)) 0)) [ inl t ↦ rw t (omega arith) | inr n ↦ rw n (omega arith) ]
 
   -- a run of server s, by what it does to faces and queues
-  pub core_run : (s : ℕ) (faces : List Face) (queues : List (List W)) (rooms : List ℕ) → core.clock < clock_end → s < length core.faces → is_ready (face_at core.faces s) ≡ true
+  pub core_run : (s : ℕ) (faces : List Face) (queues : List (List W)) (rooms : List ℕ) → MayRun work core s
       → faces ≡ map (with_replenishment (core.clock + 1)) (changed_at (with_unit (is_some (result_run work (list_at core.queues s)))) core.faces s)
       → queues ≡ changed_at (jobs_run work) core.queues s
       → IsCore work (record { backlog = core.backlog; clock = core.clock + 1; faces = faces; queues = queues; rooms = rooms })
-  core_run s faces queues rooms early lt ready shown run =
+  core_run s faces queues rooms may shown run =
       let done = is_some (result_run work (list_at core.queues s)) in
-      let here = ready_runs s lt ready in
       rw (shown, run) record {
         few = omega (arith, ok.few, length-map (changed_at (with_unit done) core.faces s) (with_replenishment (core.clock + 1)), length-changed_at (with_unit done) core.faces s);
         small = ok.small;
-        clock = omega arith;
+        clock = let e = may.early in omega arith;
         each = AllByRecursion-map (IsServer core.backlog (core.clock + 1)) (IsServer core.backlog (core.clock + 1)) (with_replenishment (core.clock + 1)) (changed_at (with_unit done) core.faces s)
             (AllByRecursion-changed_at (IsServer core.backlog core.clock) (IsServer core.backlog (core.clock + 1)) (with_unit done) core.faces s no_face ok.each
-            (λ f is. server_later core.backlog core.clock f is (core.clock + 1) (omega arith)) (λ is. server_run core.backlog core.clock (face_at core.faces s) is done ready))
+            (λ f is. server_later core.backlog core.clock f is (core.clock + 1) (omega arith)) (λ is. server_run core.backlog core.clock (face_at core.faces s) is done may.ready))
             (λ f is. server_replenished core.backlog (core.clock + 1) f is);
         jobs = AllZip-map (HoldsBacklog work) (with_replenishment (core.clock + 1)) (changed_at (jobs_run work) core.queues s) (changed_at (with_unit done) core.faces s)
-            (AllZip-changed_at (HoldsBacklog work) core.queues core.faces s [] no_face (jobs_run work) (with_unit done) ok.jobs (let n = queue_count in omega arith)
-            (λ h. record { counted = counted_run (list_at core.queues s) (face_at core.faces s) here.active h.counted; unfinished = unfinished_run (list_at core.queues s) h.unfinished }))
+            (AllZip-changed_at (HoldsBacklog work) core.queues core.faces s [] no_face (jobs_run work) (with_unit done) ok.jobs may.queue
+            (λ h. record { counted = counted_run (list_at core.queues s) (face_at core.faces s) may.active h.counted; unfinished = unfinished_run (list_at core.queues s) h.unfinished }))
             (λ jobs f h. record { counted = h.counted; unfinished = h.unfinished });
       }
 

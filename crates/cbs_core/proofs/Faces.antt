@@ -21,15 +21,6 @@ length-ranks fs = simp length-map
 pub rank_ready : (fs : List Face) (s : ℕ) → (rank_at (ranks fs) s).ready ≡ is_ready (face_at fs s)
 rank_ready fs s = ap (λ (r : Rank). r.ready) (get_or-map (λ (f : Face). record { ready = is_ready f; deadline = f.state.deadline }) fs s no_face)
 
--- a chosen server is there and ready
-pub record IsChosen (fs : List Face) (s : ℕ) : Type 0 where
-  pub within : s < length fs
-  pub ready : is_ready (face_at fs s) ≡ true
-
--- the chosen server is there and ready
-pub chosen_is : (fs : List Face) (s : ℕ) → IsChoice (ranks fs) (length fs) (Some s) → IsChosen fs s
-chosen_is fs s h = record { within = h.within; ready = sym (rank_ready fs s) ∙ h.ready }
-
 -- a ready server is active and not throttled
 pub record IsRunnable (f : Face) : Type 0 where
   pub active : f.finished < f.accepted

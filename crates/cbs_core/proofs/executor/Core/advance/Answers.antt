@@ -1,5 +1,4 @@
 use Rattle.std.proofs.Common.{◌≡◌, ◌+◌, ◌≤◌, ◌<◌, refl, arith}
-use Rattle.cbs_core.specs.Held.{CoreHeld}
 use Rattle.cbs_core.proofs.Agreements.{advance_agrees, advance_none}
 use Rattle.cbs_core.proofs.Cores.{core_jumped, budgets_kept}
 use Rattle.cbs_core.proofs.Effects.{jumped_same, all_same}
@@ -18,8 +17,7 @@ returns-else-n-gt0-clause-state g c = λ M agrees.
 
 pub returns-then-n-gt0-clause-jobs : goal.returns-then-n-gt0-clause-jobs
 returns-then-n-gt0-clause-jobs g c =
-    let old : CoreHeld g.row.W.Denot = record { backlog = c.self.inside.backlog; clock = c.self.inside.clock; faces = c.self.inside.servers; queues = c.self.inside.queues.lists; rooms = c.self.inside.queues.rooms } in
-    rw (← c.self.view_is) (jumped_same old (old.clock + c.args.n) c.replenish.new.self old.queues old.rooms (old.clock + c.args.n) c.replenish.ensures refl)
+    jumped_same c.self.view_is (c.self.inside.clock + c.args.n) c.replenish.new.self c.self.inside.queues.lists c.self.inside.queues.rooms _ c.replenish.ensures refl
 
 pub returns-else-n-gt0-clause-jobs : goal.returns-else-n-gt0-clause-jobs
 returns-else-n-gt0-clause-jobs g c = all_same c.args.self.now

@@ -1,5 +1,4 @@
 use Rattle.std.proofs.Common.{sym, refl}
-use Rattle.cbs_core.specs.Held.{CoreHeld}
 use Rattle.cbs_core.proofs.Agreements.{close_replied, close_agrees}
 use Rattle.cbs_core.proofs.Cores.{core_closed, budgets_kept}
 use Rattle.cbs_core.proofs.Effects.{closed_server}
@@ -22,8 +21,8 @@ returns-clause-state g c = λ M agrees.
 
 pub returns-clause-closed : goal.returns-clause-closed
 returns-clause-closed g c =
-    let old : CoreHeld g.row.W.Denot = record { backlog = c.self.inside.backlog; clock = c.self.inside.clock; faces = c.self.inside.servers; queues = c.self.inside.queues.lists; rooms = c.self.inside.queues.rooms } in
-    rw (← c.self.view_is) (closed_server old old.clock c.close.new.self old.queues old.rooms c.args.server (rw (← c.self.view_is) at c.requires).within c.close.ensures refl)
+    closed_server c.self.view_is c.self.inside.clock c.close.new.self c.self.inside.queues.lists c.self.inside.queues.rooms c.args.server
+    (rw (← c.self.view_is) at c.requires).within c.close.ensures refl
 
 pub returns-clause-budgets : goal.returns-clause-budgets
 returns-clause-budgets g c = budgets_kept g.W.Work.meaning _ (invariant_of-self g c)

@@ -1,13 +1,13 @@
 use Rattle.std.proofs.Common.{◌<◌, length, sym, arith}
-use Rattle.cbs_core.specs.Held.{CoreHeld}
 use Rattle.cbs_core.proofs.Agreements.{submit_answered, submit_agrees}
-use Rattle.cbs_core.proofs.Cores.{core_joined, few_jobs, queue_count, budgets_kept}
+use Rattle.cbs_core.proofs.Cores.{core_joined, few_jobs, queue_there, budgets_kept}
 use Rattle.cbs_core.proofs.Effects.{took_job}
 use Rattle.cbs_core.proofs.Refusals.{accepts_free}
 use Rattle.cbs_core.proofs.executor.Core.submit_reserved.Goals as goal
 
 pub push-requires-clause-within : goal.push-requires-clause-within
-push-requires-clause-within g c = let is = rw (← c.self.view_is) at c.requires in let lt = is.accepts.is_open.within in let n = queue_count g.W.Work.meaning _ c.self.invariant in omega arith
+push-requires-clause-within g c =
+    queue_there g.W.Work.meaning _ c.self.invariant c.args.server (accepts_free c.self.view_is c.args.server c.requires.accepts)
 
 pub push-requires-clause-room : goal.push-requires-clause-room
 push-requires-clause-room g c = (rw (← c.self.view_is) at c.requires).room
@@ -33,12 +33,10 @@ returns-clause-state g c = λ M agrees.
 
 pub returns-clause-job : goal.returns-clause-job
 returns-clause-job g c =
-    let old : CoreHeld g.row.W.Denot = record { backlog = c.self.inside.backlog; clock = c.self.inside.clock; faces = c.self.inside.servers; queues = c.self.inside.queues.lists; rooms = c.self.inside.queues.rooms } in
     let is = rw (← c.self.view_is) at c.requires in
-    let count = queue_count g.W.Work.meaning old c.self.invariant in
-    let within : c.args.server < length old.queues = let lt = is.accepts.is_open.within in omega arith in
-    rw (← c.self.view_is)
-    (took_job old old.clock c.accept.new.self c.push.new.self.lists c.push.new.self.rooms c.args.server c.accept.result c.args.task is.accepts.is_open.within within c.accept.ensures.number c.accept.ensures.servers c.push.ensures.lists)
+    let queue = queue_there g.W.Work.meaning _ c.self.invariant c.args.server (accepts_free c.self.view_is c.args.server c.requires.accepts) in
+    took_job c.self.view_is c.self.inside.clock c.accept.new.self c.push.new.self.lists c.push.new.self.rooms c.args.server c.accept.result
+    c.args.task is.accepts.is_open.within queue c.accept.ensures.number c.accept.ensures.servers c.push.ensures.lists
 
 pub returns-clause-budgets : goal.returns-clause-budgets
 returns-clause-budgets g c = budgets_kept g.W.Work.meaning _ (invariant_of-self g c)
