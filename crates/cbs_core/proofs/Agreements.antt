@@ -3,14 +3,14 @@ use Rattle.std.proofs.Common.{◌≡◌, ℕ, zero, suc, ◌+◌, ◌-◌, ◌�
 use Rattle.std.proofs.lemmas.Bool.Decides.{nat_tests}
 use Rattle.std.proofs.lemmas.List.{length-map}
 use Rattle.std.proofs.lemmas.Simd.{map-map}
-use Rattle.std.specs.List.{AllByRecursion, AllZip}
+use Rattle.std.specs.List.{AllZip}
 use Rattle.cbs_job.specs.Work.{Meaning, Lowers}
 use Rattle.cbs_rules.specs.Rules.{clock_end, Terms}
 use Rattle.cbs_rules.proofs.Replenishments.{replenished_twice}
 use Rattle.cbs_core.specs.Lists.{changed_at}
 use Rattle.cbs_core.specs.Choice.{chosen_among}
 use Rattle.cbs_core.specs.Faces.{Face, new_face, face_at, ranks, submit_refusal, close_refusal, with_job, with_unit, with_replenishment, with_close}
-use Rattle.cbs_core.specs.Accounts.{Account, need, face_of, new_account, no_account, account_with_job, account_with_unit, account_with_replenishment, account_with_close}
+use Rattle.cbs_core.specs.Accounts.{Account, face_of, new_account, no_account, account_with_job, account_with_unit, account_with_replenishment, account_with_close}
 use Rattle.cbs_core.specs.History.{World, History, ◌⊕◌, account, faces, chosen, tick, ticks, start, after_submit, after_run, after_closing, world_after, run_reply, submit_reply, close_reply, reply_in}
 use Rattle.cbs_core.specs.Agreement.{AgreesJobs, AgreesWorld, Agrees}
 use Rattle.cbs_core.specs.Replies.{IsAccepted}
@@ -24,7 +24,7 @@ use Rattle.cbs_core.specs.declared.step.Step.TheVariants.{Submit, Run, Advance, 
 use Rattle.cbs_core.proofs.Cores.{MayRun}
 use Rattle.cbs_core.proofs.Histories.{account_face}
 use Rattle.cbs_core.proofs.PaidUnits.{paid_after}
-use Rattle.cbs_core.proofs.Lists.{map-changed_at, AllZip-length, AllZip-get, AllZip-map, AllZip-changed_at, AllZip-changed_second}
+use Rattle.cbs_core.proofs.Lists.{map-changed_at, AllZip-length, AllZip-get, AllZip-map, AllZip-replicate, AllZip-changed_at, AllZip-changed_second}
 use Rattle.cbs_core.proofs.HeldJobs.{unit_jobs, unit_face, unit_ran, job_jobs, job_face}
 
 cond_same : {X : Type 0} {x : X} (b : Bool) → cond b x x ≡ x
@@ -41,10 +41,6 @@ module _ {W : Type 0} (work : Meaning W) where
   new_faces : (terms : List Terms) → map new_face terms ≡ map (face_of work) (map new_account terms)
   new_faces terms = sym (map-map (face_of work) new_account terms)
 
-  new_jobs : (terms : List Terms) → AllZip (AgreesJobs work) (replicate (length terms) []) (map new_account terms)
-  new_jobs [] = tt
-  new_jobs (t ∷ ts) = (record { results = refl; lefts = refl }, new_jobs ts)
-
   -- a new core, with the faces and empty queues of new servers, agrees with the start
   pub start_agrees : (terms : List Terms) (backlog n : ℕ) (shown : List Face) (queues : List (List W)) (rooms : List ℕ) → shown ≡ map new_face terms → n ≡ length shown → queues ≡ replicate n []
       → AgreesWorld work (record { backlog = backlog; clock = 0; faces = shown; queues = queues; rooms = rooms }) backlog (start (record { servers = terms; backlog = backlog }))
@@ -52,7 +48,8 @@ module _ {W : Type 0} (work : Meaning W) where
     same_backlog = refl;
     clock = refl;
     shown = e ∙ new_faces terms;
-    jobs = let size : n ≡ length terms = count ∙ ap length e ∙ length-map terms new_face in rw (empty, size) (new_jobs terms);
+    jobs = let size : n ≡ length terms = count ∙ ap length e ∙ length-map terms new_face in
+        rw (empty, size) (AllZip-replicate (AgreesJobs work) [] new_account terms (λ t. record { results = refl; lefts = refl }));
   }
 
 -- n ticks are one jump

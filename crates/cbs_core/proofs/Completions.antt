@@ -1,9 +1,9 @@
 -- The completions of a server: they go on from its finished jobs.
-use Rattle.std.proofs.Common.{◌≡◌, ◌≢◌, ℕ, zero, suc, ◌+◌, ◌≤◌, ◌<◌, true, false, List, [], ◌∷◌, ◌++◌, length, map, take, drop, get_or, eqb, leb, refl, sym, ◌∙◌, ap, subst, arith, Option, Some, None, inl, inr, length-append, append_assoc, append-nil}
+use Rattle.std.proofs.Common.{◌≡◌, ◌≢◌, ℕ, zero, suc, ◌+◌, ◌≤◌, ◌<◌, true, false, List, [], ◌∷◌, ◌++◌, length, map, take, drop, get_or, eqb, leb, refl, sym, ◌∙◌, ap, subst, arith, Option, Some, None, inl, inr, length-append, length-drop, append_assoc, append-nil}
 use Rattle.std.proofs.Math.Seq.{take-add}
 use Rattle.std.proofs.lemmas.Bool.{cases_Bool}
 use Rattle.std.proofs.lemmas.Bool.Decides.{nat_tests}
-use Rattle.std.proofs.lemmas.List.{map-append, length-map, drop-drop}
+use Rattle.std.proofs.lemmas.List.{map-append, length-map, drop-drop, drop-append-le, take-append-le, drop_more}
 use Rattle.cbs_job.specs.Work.{Meaning, whole}
 use Rattle.cbs_job.specs.declared.completion.Completion.{Completion}
 use Rattle.cbs_core.specs.Faces.{Face, is_ready, submit_refusal, close_refusal}
@@ -36,17 +36,11 @@ numbers_from-append k (suc m) n =
 
 -- a part within a list is a part of every longer list
 part_of_more : {X : Type 0} (k m : ℕ) (xs more : List X) → k + m ≤ length xs → take m (drop k (xs ++ more)) ≡ take m (drop k xs)
-part_of_more k zero xs more le = refl
-part_of_more zero (suc m) [] more le = absurd (omega arith)
-part_of_more zero (suc m) (x ∷ xs) more le = ap (λ ys. x ∷ ys) (part_of_more zero m xs more (omega arith))
-part_of_more (suc k) (suc m) [] more le = absurd (omega arith)
-part_of_more (suc k) (suc m) (x ∷ xs) more le = part_of_more k (suc m) xs more (omega arith)
+part_of_more k m xs more le = rw (drop-append-le k xs more (omega arith), take-append-le m (drop k xs) more (omega (arith, length-drop k xs)))
 
 -- the part of one element is that element
 part_of_one : (k : ℕ) (xs : List ℕ) → k < length xs → take 1 (drop k xs) ≡ get_or xs k 0 ∷ []
-part_of_one k [] lt = absurd (omega arith)
-part_of_one zero (x ∷ xs) lt = refl
-part_of_one (suc k) (x ∷ xs) lt = part_of_one k xs (omega arith)
+part_of_one k xs lt = rw (drop_more xs k 0 lt)
 
 module _ {W : Type 0} where
   -- the completions among replies, and one more reply
@@ -138,12 +132,8 @@ module _ {W : Type 0} (work : Meaning W) where
   reply_tells M (Close s) c e = let n = close_none (close_refusal (faces work (world_after work M)) s) in cc
 
   lack_none : (r : Reply W) → is_lack r ≡ true → completion_in r ≡ None
-  lack_none (reply.Accepted q) e = refl
-  lack_none (reply.NotAccepted x) e = refl
   lack_none (reply.Ran q) e = cc
-  lack_none reply.Advanced e = refl
-  lack_none reply.Closed e = refl
-  lack_none (reply.Refused x) e = refl
+  lack_none _ e = refl
 
   -- so does each answer, since want of memory completes no job
   answer_tells : (M : History W) (x : Step W) (r : Reply W) (c : Completion) → Answers work M x r → Some c ≡ completion_in r → Tells (account_in work M c.server) c

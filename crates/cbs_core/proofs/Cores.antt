@@ -22,7 +22,7 @@ use Rattle.cbs_core.specs.Queues.{list_at, jobs_run, result_run}
 use Rattle.cbs_core.specs.Setups.{terms_of}
 use Rattle.cbs_core.specs.Invariant.{IsServer, HoldsBacklog, IsCore}
 use Rattle.cbs_core.proofs.Faces.{server_new, server_later, server_replenished, server_closed, server_joined, server_run, rank_ready, runnable, budget_some, within_budget}
-use Rattle.cbs_core.proofs.Lists.{length-changed_at, AllByRecursion-map, AllByRecursion-get, AllByRecursion-changed_at, AllZip-length, AllZip-get, AllZip-map, AllZip-changed_at, AllZip-changed_second}
+use Rattle.cbs_core.proofs.Lists.{length-changed_at, AllByRecursion-map, AllByRecursion-get, AllByRecursion-changed_at, AllZip-length, AllZip-get, AllZip-map, AllZip-replicate, AllZip-changed_at, AllZip-changed_second}
 use Rattle.cbs_core.proofs.Plans.{length-faces}
 use Rattle.cbs_core.proofs.Refusals.{free_accepts}
 
@@ -32,25 +32,17 @@ module _ {W : Type 0} (work : Meaning W) (mode : Mode) (backlog : ℕ) where
   all_new [] ok = tt
   all_new (r ∷ rates) ok = (server_new backlog 0 (record { mode = mode; reservation = r }) ok.0, all_new rates ok.1)
 
-  none_held : (rates : List Rate) → AllZip (HoldsBacklog work) (map {A = Rate} (λ r. []) rates) (map new_face (terms_of mode rates))
-  none_held [] = tt
-  none_held (r ∷ rates) = (record { counted = refl; unfinished = tt }, none_held rates)
-
-  empty_queues : (rates : List Rate) → replicate (length rates) [] ≡ map {A = Rate} {B = List W} (λ r. []) rates
-  empty_queues [] = refl
-  empty_queues (r ∷ rates) = ap (λ qs. [] ∷ qs) (empty_queues rates)
-
   -- a new core keeps all
   pub core_new : (rates : List Rate) (n : ℕ) (faces : List Face) (queues : List (List W)) (rooms : List ℕ) → length rates ≤ 64 → backlog ≤ 4096 → AllByRecursion (λ r. IsRate r.budget r.period) rates
       → faces ≡ map new_face (terms_of mode rates) → n ≡ length faces → queues ≡ replicate n [] → IsCore work (record { backlog = backlog; clock = 0; faces = faces; queues = queues; rooms = rooms })
   core_new rates n faces queues rooms few small ok shown count empty =
-      let size : n ≡ length rates = count ∙ ap length shown ∙ length-faces mode rates in
+      let size : n ≡ length (terms_of mode rates) = count ∙ ap length shown ∙ length-map (terms_of mode rates) new_face in
       record {
         few = rw (shown, length-faces mode rates) few;
         small = small;
         clock = omega arith;
         each = rw shown (all_new rates ok);
-        jobs = rw (shown, empty, size, empty_queues rates) (none_held rates);
+        jobs = rw (shown, empty, size) (AllZip-replicate (HoldsBacklog work) [] new_face (terms_of mode rates) (λ t. record { counted = refl; unfinished = tt }));
       }
 
 -- what a run of server s may rest on

@@ -1,5 +1,5 @@
 -- What each server keeps, through what each step does to its face.
-use Rattle.std.proofs.Common.{◌≡◌, ℕ, zero, suc, ap, [], ◌∷◌, ◌+◌, ◌*◌, ◌≤◌, ◌<◌, Bool, true, false, ◌||◌, List, length, arith, inl, inr, refl, Some, sym, ◌∙◌}
+use Rattle.std.proofs.Common.{◌≡◌, ℕ, ap, ◌+◌, ◌*◌, ◌≤◌, ◌<◌, Bool, true, false, ◌||◌, List, length, arith, inl, inr}
 use Rattle.std.proofs.Math.ListN.{get_or-map}
 use Rattle.std.proofs.lemmas.Bool.{cases_Bool}
 use Rattle.std.proofs.lemmas.Bool.Decides.{nat_tests}
@@ -8,7 +8,7 @@ use Rattle.cbs_rate.specs.Rate.{IsRate}
 use Rattle.cbs_rules.specs.Rules.{Terms}
 use Rattle.cbs_rules.proofs.States.{IsState-fresh_state, IsState-after_arrival, IsState-after_unit, IsState-after_replenishment}
 use Rattle.cbs_rules.proofs.Deadlines.{begun_after_arrival, begun_after_unit, begun_after_replenishment, deadline-arrived-le, deadline-consumed-le, deadline-replenished-le}
-use Rattle.cbs_core.specs.Choice.{Rank, rank_at, IsChoice}
+use Rattle.cbs_core.specs.Choice.{Rank, rank_at}
 use Rattle.cbs_core.specs.Faces.{Face, face_at, new_face, no_face, is_active, is_ready, backlog_of, ranks, with_job, with_unit, with_replenishment, with_close}
 use Rattle.cbs_core.specs.Invariant.{IsServer}
 use Rattle.cbs_core.specs.Laws.{IsWithinBudget}

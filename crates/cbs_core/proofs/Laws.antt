@@ -1,15 +1,15 @@
 -- The laws of the core that the crates above may cite.
-use Rattle.std.proofs.Common.{◌≡◌, ℕ, zero, suc, ◌+◌, ◌<◌, ◌≤◌, true, false, leb, ltb, List, [], ◌∷◌, length, map, ◌++◌, refl, sym, ◌∙◌, ap, subst, arith, inl, inr, Option, Some, None}
+use Rattle.std.proofs.Common.{◌≡◌, ℕ, zero, suc, ◌+◌, ◌<◌, ◌≤◌, true, false, leb, ltb, List, [], ◌∷◌, length, map, get_or, ◌++◌, refl, sym, ◌∙◌, ap, subst, arith, inl, inr, Option, Some, None}
 use Rattle.std.specs.Prelude.{if◌then◌else◌}
 use Rattle.std.specs.List.{AllByRecursion, AllZip}
 use Rattle.std.proofs.lemmas.Bool.{cases_eq, cases_lt}
 use Rattle.std.proofs.lemmas.Bool.Decides.{nat_tests}
-use Rattle.std.proofs.lemmas.List.{length-map}
+use Rattle.std.proofs.lemmas.List.{length-map, get_or-map}
 use Rattle.cbs_job.specs.Work.{Meaning, whole}
 use Rattle.cbs_rules.specs.Rules.{clock_end, Terms}
 use Rattle.cbs_core.specs.Choice.{rank_at}
-use Rattle.cbs_core.specs.Faces.{Face, face_at, is_active, is_ready, ranks}
-use Rattle.cbs_core.specs.Accounts.{face_of, new_account, no_account}
+use Rattle.cbs_core.specs.Faces.{Face, face_at, new_face, no_face, is_active, is_ready, ranks}
+use Rattle.cbs_core.specs.Accounts.{Account, face_of, new_account, no_account}
 use Rattle.cbs_core.specs.History.{World, Setup, History, ◌⊕◌, account, faces, chosen, tick, ticks, after_run, next, world_after}
 use Rattle.cbs_core.specs.Agreement.{AgreesJobs, Agrees}
 use Rattle.cbs_core.specs.Quiet.{IsAtRest, IsQuiet, IsIdleSpan}
@@ -165,26 +165,15 @@ module _ {W : Type 0} (work : Meaning W) (core : CoreHeld W) (setup : Setup) (ag
   no_jobs [] e = refl
   no_jobs (j ∷ jobs) e = cc
 
-  new_jobs : (queues : List (List W)) (terms : List Terms) (s : ℕ) → AllZip (AgreesJobs work) queues (map new_account terms) → list_at queues s ≡ []
-  new_jobs [] terms s all = refl
-  new_jobs (q ∷ qs) [] s all = absurd all
-  new_jobs (q ∷ qs) (t ∷ ts) zero all = no_jobs q all.0.results
-  new_jobs (q ∷ qs) (t ∷ ts) (suc s) all = new_jobs qs ts s all.1
-
-  -- the face of a new server
-  record Starts (f : Face) : Type 0 where
-    accepted : f.accepted ≡ 0
-    finished : f.finished ≡ 0
-    unclosed : f.closed ≡ false
-
-  new_face_at : (terms : List Terms) (s : ℕ) → s < length terms → Starts (face_at (map (face_of work) (map new_account terms)) s)
-  new_face_at [] s lt = absurd (omega arith)
-  new_face_at (t ∷ ts) zero lt = record { accepted = refl; finished = refl; unclosed = refl }
-  new_face_at (t ∷ ts) (suc s) lt = new_face_at ts s (omega arith)
-
   -- a server of a new core
   pub new_server : (s : ℕ) → s < length core.faces → IsNew core s
   new_server s lt =
       let n = new_count in
-      let f = rw (← agrees.world.shown) at (new_face_at setup.servers s (omega arith)) in
-      record { jobs = new_jobs core.queues setup.servers s agrees.world.jobs; accepted = f.accepted; finished = f.finished; unclosed = f.unclosed }
+      let opened : List (Account W) = map new_account setup.servers in
+      let terms = get_or setup.servers s no_face.terms in
+      let is : account opened s ≡ new_account terms = get_or-map new_account setup.servers s no_face.terms no_account (omega arith) in
+      let count = AllZip-length (AgreesJobs work) core.queues opened agrees.world.jobs in
+      let within : s < length core.queues = omega (arith, length-map setup.servers (new_account {W = W})) in
+      let here = rw is at (AllZip-get (AgreesJobs work) core.queues opened s [] no_account agrees.world.jobs within) in
+      let shown : face_at core.faces s ≡ new_face terms = ap (λ fs. face_at fs s) agrees.world.shown ∙ account_face work opened s ∙ ap (face_of work) is in
+      record { jobs = no_jobs (list_at core.queues s) here.results; accepted = rw shown; finished = rw shown; unclosed = rw shown }

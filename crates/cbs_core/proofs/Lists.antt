@@ -1,5 +1,5 @@
 -- Lists of which one element is changed, and two lists place by place.
-use Rattle.std.proofs.Common.{◌≡◌, ◌≢◌, ℕ, zero, suc, ◌<◌, List, [], ◌∷◌, ◌++◌, length, map, get_or, set, refl, ap, ◌∙◌, arith}
+use Rattle.std.proofs.Common.{◌≡◌, ◌≢◌, ℕ, zero, suc, ◌<◌, List, [], ◌∷◌, length, map, replicate, get_or, set, refl, ap, ◌∙◌, arith}
 use Rattle.std.proofs.lemmas.List.{length-map}
 use Rattle.std.specs.List.{AllZip, AllByRecursion}
 use Rattle.cbs_core.specs.Lists.{changed_at}
@@ -95,6 +95,11 @@ module _ {X Y : Type 0} (R : X → Y → Type 0) where
   AllZip-get (z ∷ zs) [] i c d all lt = absurd all
   AllZip-get (z ∷ zs) (y ∷ ys) zero c d all lt = all.0
   AllZip-get (z ∷ zs) (y ∷ ys) (suc i) c d all lt = AllZip-get zs ys i c d all.1 (omega arith)
+
+  -- equal elements beside those of a mapped list
+  pub AllZip-replicate : {Z : Type 0} (x : X) (f : Z → Y) (zs : List Z) → ((z : Z) → R x (f z)) → AllZip R (replicate (length zs) x) (map f zs)
+  AllZip-replicate x f [] h = tt
+  AllZip-replicate x f (z ∷ zs) h = (h z, AllZip-replicate x f zs h)
 
   -- the second list is changed, and each pair stands as it stood
   pub AllZip-map : (g : Y → Y) (xs : List X) (ys : List Y) → AllZip R xs ys → ((x : X) (y : Y) → R x y → R x (g y)) → AllZip R xs (map g ys)

@@ -1,4 +1,4 @@
-use Rattle.std.proofs.Common.{◌≡◌, ◌+◌, ◌≤◌, ◌<◌, refl, arith}
+use Rattle.std.proofs.Common.{◌+◌, refl, arith}
 use Rattle.cbs_core.proofs.Agreements.{advance_agrees, advance_none}
 use Rattle.cbs_core.proofs.Cores.{core_jumped, budgets_kept}
 use Rattle.cbs_core.proofs.Effects.{jumped_same, all_same}

@@ -1,5 +1,3 @@
-use Rattle.std.proofs.Common.{sym}
-use Rattle.cbs_core.specs.Held.{CoreHeld}
 use Rattle.cbs_core.proofs.Agreements.{close_replied, close_left}
 use Rattle.cbs_core.proofs.Cores.{budgets_kept}
 use Rattle.cbs_core.proofs.Refusals.{free_open, open_free}

@@ -1,4 +1,4 @@
-use Rattle.std.proofs.Common.{sym, refl}
+use Rattle.std.proofs.Common.{refl}
 use Rattle.cbs_core.proofs.Agreements.{close_replied, close_agrees}
 use Rattle.cbs_core.proofs.Cores.{core_closed, budgets_kept}
 use Rattle.cbs_core.proofs.Effects.{closed_server}

@@ -1,5 +1,4 @@
-use Rattle.std.proofs.Common.{rules, sym, refl, inl, inr, arith}
-use Rattle.cbs_core.specs.Held.{CoreHeld}
+use Rattle.std.proofs.Common.{rules, refl, inl, inr}
 use Rattle.cbs_core.proofs.Agreements.{same_refusal}
 use Rattle.cbs_core.proofs.Cores.{queue_there}
 use Rattle.cbs_core.proofs.Refusals.{free_accepts, accepts_free, refused_by}

@@ -1,4 +1,4 @@
-use Rattle.std.proofs.Common.{◌≡◌, ◌+◌, ◌<◌, length, map, is_some, sym, ap, arith}
+use Rattle.std.proofs.Common.{◌≡◌, ◌+◌, map, is_some}
 use Rattle.cbs_core.specs.Lists.{changed_at}
 use Rattle.cbs_core.specs.Faces.{face_at, with_unit, with_replenishment}
 use Rattle.cbs_core.specs.Queues.{list_at, result_run, ran_of}

@@ -1,5 +1,4 @@
 use Rattle.std.proofs.Common.{refl, rules}
-use Rattle.cbs_core.specs.Held.{CoreHeld}
 use Rattle.cbs_core.proofs.Agreements.{submit_replied, submit_left, submit_accepted}
 use Rattle.cbs_core.proofs.Cores.{queue_there, budgets_kept}
 use Rattle.cbs_core.proofs.Refusals.{free_accepts, accepts_free}

@@ -1,4 +1,3 @@
-use Rattle.std.proofs.Common.{◌<◌, length, sym, arith}
 use Rattle.cbs_core.proofs.Agreements.{submit_answered, submit_agrees}
 use Rattle.cbs_core.proofs.Cores.{core_joined, few_jobs, queue_there, budgets_kept}
 use Rattle.cbs_core.proofs.Effects.{took_job}
