@@ -19,6 +19,3 @@ returns-in-Some-clause-succeeds g c = λ is.
 
 pub close_open-requires : goal.close_open-requires
 close_open-requires g c = free_open c.self.view_is c.args.server c.in_default.ensures
-
-pub returns-in-Some-clause-budgets : goal.returns-in-Some-clause-budgets
-returns-in-Some-clause-budgets g c = rw (← c.self.view_is) (budgets_kept g.W.Work.meaning _ c.self.invariant)

@@ -69,11 +69,5 @@ returns-clause-job g c =
     did_run g.W.Work.meaning g.met.W.Work.lowers c.self.view_is (c.self.inside.clock + 1) _ c.replenish.new.self c.run_first-result.new.self.lists
     c.run_first-result.new.self.rooms c.in-Some.server c.ran_from.result may (ran g c) (shown g c) c.run_first-result.ensures.lists
 
-pub returns-in_default-clause-budgets : goal.returns-in_default-clause-budgets
-returns-in_default-clause-budgets g c = rw (← c.self.view_is) (budgets_kept g.W.Work.meaning _ c.self.invariant)
-
-pub returns-then-self-ge-LIMIT-clause-budgets : goal.returns-then-self-ge-LIMIT-clause-budgets
-returns-then-self-ge-LIMIT-clause-budgets g c = rw (← c.self.view_is) (budgets_kept g.W.Work.meaning _ c.self.invariant)
-
 pub returns-clause-budgets : goal.returns-clause-budgets
 returns-clause-budgets g c = budgets_kept g.W.Work.meaning _ (invariant_of-self g c)

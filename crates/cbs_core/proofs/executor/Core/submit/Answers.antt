@@ -27,6 +27,3 @@ submit_reserved-requires g c = record { accepts = free_accepts refl c.args.serve
 pub returns-then-is_err-clause-only_accepted : goal.returns-then-is_err-clause-only_accepted
 returns-then-is_err-clause-only_accepted g c = λ lacks M agrees.
     submit_accepted g.W.Work.meaning _ _ c.self.view_is M agrees c.args.server c.args.task c.in_default.ensures
-
-pub returns-in-Some-clause-budgets : goal.returns-in-Some-clause-budgets
-returns-in-Some-clause-budgets g c = rw (← c.self.view_is) (budgets_kept g.W.Work.meaning _ c.self.invariant)
