@@ -1,6 +1,7 @@
 -- The choice: by a scan, and in words of its own.
 use Rattle.std.proofs.Common.{◌≡◌, ℕ, zero, suc, ◌+◌, ◌≤◌, ◌<◌, Bool, true, false, List, length, refl, sym, arith, ltb, ◌||◌, ◌&&◌, not, inl, inr, Option, Some, None, below_more, subst}
 use Rattle.std.specs.Prelude.{IfSome}
+use Rattle.std.proofs.Math.Bool.{and-false}
 use Rattle.std.proofs.lemmas.Bool.{cases_lt, cases_Bool}
 use Rattle.std.proofs.lemmas.Bool.Decides.{nat_tests}
 use Rattle.cbs_core.specs.Lists.{first_below, all_below}
@@ -27,16 +28,12 @@ first_below-is p (suc n) s lt h before =
           rw (first_below-none p n (λ r below. before r (omega arith)), e, h)
     ]
 
-and_false : (b : Bool) → (b && false) ≡ false
-and_false true = refl
-and_false false = refl
-
 all_below-not : (p : ℕ → Bool) (n s : ℕ) → s < n → p s ≡ false → all_below p n ≡ false
 all_below-not p zero s lt h = absurd (omega arith)
 all_below-not p (suc n) s lt h =
     elim (cases_lt s n) [
       | inl below ↦ rw (all_below-not p n s below h)
-      | inr ge ↦ let e : n ≡ s = omega arith in rw (e, h) (and_false (all_below p s))
+      | inr ge ↦ let e : n ≡ s = omega arith in rw (e, h) (and-false (all_below p s))
     ]
 
 -- the earliest of all ranks is before each that is ready

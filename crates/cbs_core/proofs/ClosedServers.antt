@@ -73,9 +73,8 @@ module _ {W : Type 0} (work : Meaning W) where
   NoneAfterClose-all M (x ∷ xs) [] s closed all h = absurd all
   NoneAfterClose-all M (Submit t job ∷ xs) (r ∷ rs) s closed all h =
       ((λ y same accepted. not_accepted M t job r (rw same (h y)) all.0 accepted), NoneAfterClose-all (grown M (Submit t job) r) xs rs s closed all.1 (λ y. closed_grown M (Submit t job) r s (h y)))
-  NoneAfterClose-all M (Run ∷ xs) (r ∷ rs) s closed all h = NoneAfterClose-all (grown M Run r) xs rs s closed all.1 (λ y. closed_grown M Run r s (h y))
-  NoneAfterClose-all M (Advance n ∷ xs) (r ∷ rs) s closed all h = NoneAfterClose-all (grown M (Advance n) r) xs rs s closed all.1 (λ y. closed_grown M (Advance n) r s (h y))
   NoneAfterClose-all M (Close t ∷ xs) (r ∷ rs) s closed all h = NoneAfterClose-all (grown M (Close t) r) xs rs s (closed || eqb t s) all.1 (close_grown M t s r closed h all.0)
+  NoneAfterClose-all M (x ∷ xs) (r ∷ rs) s closed all h = NoneAfterClose-all (grown M x r) xs rs s closed all.1 (λ y. closed_grown M x r s (h y))
 
   -- the rules never answer by want of memory
   no_lack : (w : World W) (s : ℕ) (job : W) (o : Option CoreError) → ((e : CoreError) → Some e ≡ o → is_out_of_memory e ≡ false) → is_lack (submit_reply w s job o) ≡ false

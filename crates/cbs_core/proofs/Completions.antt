@@ -4,6 +4,7 @@ use Rattle.std.proofs.Math.Seq.{take-add}
 use Rattle.std.proofs.lemmas.Bool.{cases_Bool}
 use Rattle.std.proofs.lemmas.Bool.Decides.{nat_tests}
 use Rattle.std.proofs.lemmas.List.{map-append, length-map, drop-drop, drop-append-le, take-append-le, drop_more}
+use Rattle.std.specs.List.{range_with_len}
 use Rattle.cbs_job.specs.Work.{Meaning, whole}
 use Rattle.cbs_job.specs.declared.completion.Completion.{Completion}
 use Rattle.cbs_core.specs.Faces.{Face, is_ready, submit_refusal, close_refusal}
@@ -11,7 +12,7 @@ use Rattle.cbs_core.specs.Accounts.{Account, finished, need, face_of}
 use Rattle.cbs_core.specs.History.{World, History, ◌⊕◌, account, faces, chosen, world_after, run_reply, unit_reply, submit_reply, close_reply, reply_in}
 use Rattle.cbs_core.specs.Agreement.{Agrees}
 use Rattle.cbs_core.specs.Replies.{is_lack, grown, grown_by, Answers, AnswersAll}
-use Rattle.cbs_core.specs.Laws.{account_in, completion_ran, completion_in, completion_of, completions_of, numbers_from, replies_after, Completes}
+use Rattle.cbs_core.specs.Laws.{account_in, completion_ran, completion_in, completion_of, completions_of, replies_after, Completes}
 use Rattle.cbs_core.specs.Continuations.{◌⊕⊕◌}
 use Rattle.cbs_core.specs.Held.{CoreHeld, held_at, CountsOn}
 use Rattle.cbs_rules.specs.Rules.{clock_end}
@@ -27,12 +28,12 @@ use Rattle.cbs_core.proofs.Agreements.{face_is}
 use Rattle.cbs_core.proofs.StepLists.{grown_by-push}
 
 -- lists of numbers, and parts of lists
-numbers_from-append : (k m n : ℕ) → numbers_from k (m + n) ≡ numbers_from k m ++ numbers_from (k + m) n
-numbers_from-append k zero n = let e : zero + n ≡ n = omega arith in let f : k + 0 ≡ k = omega arith in rw (e, f) refl
-numbers_from-append k (suc m) n =
+range_with_len-append : (k m n : ℕ) → range_with_len k (m + n) ≡ range_with_len k m ++ range_with_len (k + m) n
+range_with_len-append k zero n = let e : zero + n ≡ n = omega arith in let f : k + 0 ≡ k = omega arith in rw (e, f) refl
+range_with_len-append k (suc m) n =
     let e : suc m + n ≡ suc (m + n) = omega arith in
     let f : k + 1 + m ≡ k + suc m = omega arith in
-    rw e (ap (λ ns. k ∷ ns) (numbers_from-append (k + 1) m n ∙ ap (λ j. numbers_from (k + 1) m ++ numbers_from j n) f))
+    rw e (ap (λ ns. k ∷ ns) (range_with_len-append (k + 1) m n ∙ ap (λ j. range_with_len (k + 1) m ++ range_with_len j n) f))
 
 -- a part within a list is a part of every longer list
 part_of_more : {X : Type 0} (k m : ℕ) (xs more : List X) → k + m ≤ length xs → take m (drop k (xs ++ more)) ≡ take m (drop k xs)
@@ -65,8 +66,8 @@ module _ {W : Type 0} (work : Meaning W) where
       let second : take (length ds) (drop (f + length cs) X) ≡ map (λ (d : Completion). d.result) ds = rw (← h.finished) (sym k.results) in
       let both : take (length cs + length ds) (drop f X) ≡ map (λ (d : Completion). d.result) cs ++ map (λ (d : Completion). d.result) ds =
       take-add (length cs) (length ds) (drop f X) ∙ rw (first, drop-drop (length cs) f X, second) refl in
-      let counted : numbers_from f (length cs + length ds) ≡ map (λ (d : Completion). d.seq) cs ++ map (λ (d : Completion). d.seq) ds =
-      numbers_from-append f (length cs) (length ds) ∙ rw (h.numbers, k.numbers, h.finished) refl in
+      let counted : range_with_len f (length cs + length ds) ≡ map (λ (d : Completion). d.seq) cs ++ map (λ (d : Completion). d.seq) ds =
+      range_with_len-append f (length cs) (length ds) ∙ rw (h.numbers, k.numbers, h.finished) refl in
       record {
         jobs = (h.jobs.0 ++ k.jobs.0, k.jobs.1 ∙ ap (λ xs. xs ++ k.jobs.0) h.jobs.1 ∙ append_assoc a.accepted h.jobs.0 k.jobs.0);
         numbers = rw n (map-append (λ (d : Completion). d.seq) cs ds ∙ sym counted);

@@ -26,12 +26,12 @@ module _ {W : Type 0} (work : Meaning W) where
       let h : IsChoice (ranks (faces work w)) (length (ranks (faces work w))) (Some s) = rw e at (choice_is (ranks (faces work w))) in
       ap is_ready (sym (account_face w.accounts s)) ∙ sym (rank_ready (faces work w) s) ∙ h.ready
 
-  runner_chosen : (w : World W) (s : ℕ) → runner work w ≡ Some s → chosen work w ≡ Some s
-  runner_chosen w s e = elim (cases_Bool (ltb w.now clock_end)) [ inl t ↦ rw t at e | inr f ↦ let g : None ≡ Some s = rw f at e in cc ]
-
   -- the server of a Run that runs is ready
   pub runner_ready : (w : World W) (s : ℕ) → runner work w ≡ Some s → is_ready (face_of work (account w.accounts s)) ≡ true
-  runner_ready w s e = chosen_is_ready w s (runner_chosen w s e)
+  runner_ready w s e = elim (cases_Bool (ltb w.now clock_end)) [
+    | inl t ↦ chosen_is_ready w s (rw t at e)
+    | inr f ↦ let g : None ≡ Some s = rw f at e in cc
+  ]
 
   module _ (P : Account W → Type 0)
       (job : (now : ℕ) (j : W) (a : Account W) → P a → P (account_with_job work now j a))

@@ -22,7 +22,7 @@ use Rattle.cbs_core.proofs.Agreements.{ticks_none}
 use Rattle.cbs_core.proofs.Histories.{account_face}
 use Rattle.cbs_core.proofs.Choices.{choice_is}
 use Rattle.cbs_core.proofs.HeldJobs.{length_jobs}
-use Rattle.cbs_core.proofs.Lists.{AllZip-length, AllZip-get}
+use Rattle.cbs_core.proofs.Lists.{within_lists, AllZip-length, AllZip-get}
 pub use Rattle.cbs_core.proofs.Completions.{Completes-none, after-push, steps_complete}
 pub use Rattle.cbs_core.proofs.ClosedServers.{steps_close}
 pub use Rattle.cbs_core.proofs.StepLists.{all_yielded}
@@ -64,18 +64,13 @@ module _ {W : Type 0} (work : Meaning W) where
       let e = ticks-now n w in
       rw t (omega arith)
 
-  within_queues : (queues : List (List W)) (s : ℕ) → 0 < length (list_at queues s) → s < length queues
-  within_queues [] s some = absurd (omega arith)
-  within_queues (q ∷ qs) zero some = omega arith
-  within_queues (q ∷ qs) (suc s) some = let l = within_queues qs s some in omega arith
-
   -- a server that holds a job is there
   pub holds_within : (core : CoreHeld W) → HasHistory work core → (s : ℕ) → 0 < length (held_at core s).jobs → s < length core.faces
   holds_within core history s some = elim (cases_lt s (length core.faces)) [
     | inl lt ↦ lt
     | inr ge ↦ absurd (history (λ M agrees.
         let w = world_after work M in
-        let l = within_queues core.queues s some in
+        let l = within_lists core.queues s some in
         let shown = ap length agrees.world.shown in
         absurd (omega (arith, AllZip-length (AgreesJobs work) core.queues w.accounts agrees.world.jobs, length-map w.accounts (face_of work)))))
   ]
@@ -92,7 +87,7 @@ module _ {W : Type 0} (work : Meaning W) where
   pub busy_by : (core : CoreHeld W) (M : History W) → Agrees work core M → HoldsJob core → IsBusy work (world_after work M)
   busy_by core M agrees b =
       let w = world_after work M in
-      let here = AllZip-get (AgreesJobs work) core.queues w.accounts b.0 [] no_account agrees.world.jobs (within_queues core.queues b.0 b.1) in
+      let here = AllZip-get (AgreesJobs work) core.queues w.accounts b.0 [] no_account agrees.world.jobs (within_lists core.queues b.0 b.1) in
       let count = length_jobs work (list_at core.queues b.0) (account w.accounts b.0) here in
       let some = b.1 in
       let active : is_active (face_of work (account w.accounts b.0)) ≡ true = grind (arith, nat_tests) in

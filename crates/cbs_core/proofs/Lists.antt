@@ -45,6 +45,12 @@ written f xs i s x y same lt read e = rw (same, e) (here f xs s x lt (rw same at
     here f (z ∷ zs) zero x lt read = ap (λ v. f v ∷ zs) read
     here f (z ∷ zs) (suc i) x lt read = ap (λ ws. z ∷ ws) (here f zs i x (omega arith) read)
 
+-- where a list of lists has an element, there is a list
+pub within_lists : {X : Type 0} (lists : List (List X)) (s : ℕ) → 0 < length (get_or lists s []) → s < length lists
+within_lists [] s some = absurd (omega arith)
+within_lists (xs ∷ lists) zero some = omega arith
+within_lists (xs ∷ lists) (suc s) some = let l = within_lists lists s some in omega arith
+
 module _ {X Y : Type 0} (h : X → Y) (f : X → X) (g : Y → Y) where
   -- a change, as a part of each element is seen
   pub map-changed_at : (xs : List X) (i : ℕ) (d : X) → h (f (get_or xs i d)) ≡ g (h (get_or xs i d)) → map h (changed_at f xs i) ≡ changed_at g (map h xs) i

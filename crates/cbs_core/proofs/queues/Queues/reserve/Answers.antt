@@ -2,13 +2,14 @@ use Rattle.std.proofs.Common.{◌+◌, ◌-◌, ◌≤◌, ◌∙◌, ap, arith}
 use Rattle.std.specs.VecDeque.{deque_len, deque_capacity}
 use Rattle.std.specs.declared.collections.VecDeque.{VecDeque}
 use Rattle.std.proofs.Math.Seq.{map-set_same}
-use Rattle.cbs_core.proofs.Tables.{within_lists, room_made, room_kept}
+use Rattle.std.proofs.lemmas.List.{length-map}
+use Rattle.cbs_core.proofs.Tables.{room_made, room_kept}
 use Rattle.std.proofs.lemmas.Result.{on_ok_weaker}
 use Rattle.cbs_core.proofs.queues.Queues.reserve.Goals as goal
 
 pub returns-clause-room : goal.returns-clause-room
 returns-clause-room g c =
-    let within = within_lists (λ (q : VecDeque g.row.W.Denot g.row.A.Denot). q.items) c.self.inside.queues.items c.args.server (rw (← c.self.view_is) at c.requires) in
+    let within = simp length-map at (rw (← c.self.view_is) at c.requires) in
     on_ok_weaker c.reserve.result
     (λ (h : deque_len c.reserve.new.self + 1 ≤ deque_capacity c.reserve.new.self).
     rw c.from.ensures (room_made (λ (q : VecDeque g.row.W.Denot g.row.A.Denot). deque_capacity q - deque_len q) c.self.inside.queues.items c.args.server c.reserve.new.self within (omega arith)))
