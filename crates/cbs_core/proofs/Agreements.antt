@@ -3,7 +3,6 @@ use Rattle.std.proofs.Common.{◌≡◌, ℕ, zero, suc, ◌+◌, ◌-◌, ◌�
 use Rattle.std.proofs.lemmas.Bool.Decides.{nat_tests}
 use Rattle.std.proofs.lemmas.List.{length-map}
 use Rattle.std.proofs.lemmas.Simd.{map-map}
-use Rattle.std.specs.List.{AllZip}
 use Rattle.cbs_job.specs.Work.{Meaning, Lowers}
 use Rattle.cbs_rules.specs.Rules.{clock_end, Terms}
 use Rattle.cbs_rules.proofs.Replenishments.{replenished_twice}

@@ -1,12 +1,12 @@
 -- The laws of the core that the crates above may cite.
 use Rattle.std.proofs.Common.{◌≡◌, ℕ, zero, suc, ◌+◌, ◌<◌, ◌≤◌, true, false, leb, ltb, List, [], ◌∷◌, length, map, get_or, ◌++◌, refl, sym, ◌∙◌, ap, subst, arith, inl, inr, Option, Some, None}
 use Rattle.std.specs.Prelude.{if◌then◌else◌}
-use Rattle.std.specs.List.{AllByRecursion, AllZip}
+use Rattle.std.specs.List.{AllByRecursion}
 use Rattle.std.proofs.lemmas.Bool.{cases_eq, cases_lt}
 use Rattle.std.proofs.lemmas.Bool.Decides.{nat_tests}
-use Rattle.std.proofs.lemmas.List.{length-map, get_or-map}
-use Rattle.cbs_job.specs.Work.{Meaning, whole}
-use Rattle.cbs_rules.specs.Rules.{clock_end, Terms}
+use Rattle.std.proofs.lemmas.List.{length-map, get_or-map, nil_from_length}
+use Rattle.cbs_job.specs.Work.{Meaning}
+use Rattle.cbs_rules.specs.Rules.{clock_end}
 use Rattle.cbs_core.specs.Choice.{rank_at}
 use Rattle.cbs_core.specs.Faces.{Face, face_at, new_face, no_face, is_active, is_ready, ranks}
 use Rattle.cbs_core.specs.Accounts.{Account, face_of, new_account, no_account}
@@ -156,10 +156,6 @@ module _ {W : Type 0} (work : Meaning W) (core : CoreHeld W) (setup : Setup) (ag
   pub new_count : length core.faces ≡ length setup.servers
   new_count = ap length agrees.world.shown ∙ length-map (map new_account setup.servers) (face_of work) ∙ length-map setup.servers new_account
 
-  no_jobs : (jobs : List W) → map (whole work) jobs ≡ [] → jobs ≡ []
-  no_jobs [] e = refl
-  no_jobs (j ∷ jobs) e = cc
-
   -- a server of a new core
   pub new_server : (s : ℕ) → s < length core.faces → IsNew core s
   new_server s lt =
@@ -171,4 +167,4 @@ module _ {W : Type 0} (work : Meaning W) (core : CoreHeld W) (setup : Setup) (ag
       let within : s < length core.queues = omega (arith, length-map setup.servers (new_account {W = W})) in
       let here = rw is at (AllZip-get (AgreesJobs work) core.queues opened s [] no_account agrees.world.jobs within) in
       let shown : face_at core.faces s ≡ new_face terms = ap (λ fs. face_at fs s) agrees.world.shown ∙ account_face work opened s ∙ ap (face_of work) is in
-      record { jobs = no_jobs (list_at core.queues s) here.results; accepted = rw shown; finished = rw shown; unclosed = rw shown }
+      record { jobs = nil_from_length (list_at core.queues s) (simp length-map at (ap length here.results)); accepted = rw shown; finished = rw shown; unclosed = rw shown }

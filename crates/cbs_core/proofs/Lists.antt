@@ -84,9 +84,8 @@ module _ {X Y : Type 0} (R : X → Y → Type 0) where
   -- lists that agree place by place are of one length
   pub AllZip-length : (xs : List X) (ys : List Y) → AllZip R xs ys → length xs ≡ length ys
   AllZip-length [] [] all = refl
-  AllZip-length [] (y ∷ ys) all = absurd all
-  AllZip-length (x ∷ xs) [] all = absurd all
   AllZip-length (x ∷ xs) (y ∷ ys) all = ap suc (AllZip-length xs ys all.1)
+  AllZip-length _ _ all = absurd all
 
   -- a change at one place of both
   pub AllZip-changed_at : (xs : List X) (ys : List Y) (i : ℕ) (d : X) (e : Y) (f : X → X) (g : Y → Y) → AllZip R xs ys → i < length xs → (R (get_or xs i d) (get_or ys i e) → R (f (get_or xs i d)) (g (get_or ys i e))) → AllZip R (changed_at f xs i) (changed_at g ys i)
@@ -110,14 +109,12 @@ module _ {X Y : Type 0} (R : X → Y → Type 0) where
   -- the second list is changed, and each pair stands as it stood
   pub AllZip-map : (g : Y → Y) (xs : List X) (ys : List Y) → AllZip R xs ys → ((x : X) (y : Y) → R x y → R x (g y)) → AllZip R xs (map g ys)
   AllZip-map g [] [] all h = tt
-  AllZip-map g [] (y ∷ ys) all h = absurd all
-  AllZip-map g (x ∷ xs) [] all h = absurd all
   AllZip-map g (x ∷ xs) (y ∷ ys) all h = (h x y all.0, AllZip-map g xs ys all.1 h)
+  AllZip-map g _ _ all h = absurd all
 
   -- one of the second list is changed, and its pair stands as it stood
   pub AllZip-changed_second : (g : Y → Y) (xs : List X) (ys : List Y) (i : ℕ) → AllZip R xs ys → ((x : X) (y : Y) → R x y → R x (g y)) → AllZip R xs (changed_at g ys i)
   AllZip-changed_second g [] [] i all h = tt
-  AllZip-changed_second g [] (y ∷ ys) i all h = absurd all
-  AllZip-changed_second g (x ∷ xs) [] i all h = absurd all
   AllZip-changed_second g (x ∷ xs) (y ∷ ys) zero all h = (h x y all.0, all.1)
   AllZip-changed_second g (x ∷ xs) (y ∷ ys) (suc i) all h = (all.0, AllZip-changed_second g xs ys i all.1 h)
+  AllZip-changed_second g _ _ i all h = absurd all

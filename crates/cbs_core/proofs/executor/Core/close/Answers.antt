@@ -1,5 +1,4 @@
 use Rattle.cbs_core.proofs.Agreements.{close_replied, close_left}
-use Rattle.cbs_core.proofs.Cores.{budgets_kept}
 use Rattle.cbs_core.proofs.Refusals.{free_open, open_free}
 use Rattle.cbs_core.proofs.executor.Core.close.Goals as goal
 

@@ -1,6 +1,6 @@
 use Rattle.std.proofs.Common.{refl, rules}
 use Rattle.cbs_core.proofs.Agreements.{submit_replied, submit_left, submit_accepted}
-use Rattle.cbs_core.proofs.Cores.{queue_there, budgets_kept}
+use Rattle.cbs_core.proofs.Cores.{queue_there}
 use Rattle.cbs_core.proofs.Refusals.{free_accepts, accepts_free}
 use Rattle.cbs_core.proofs.executor.Core.submit.Goals as goal
 
