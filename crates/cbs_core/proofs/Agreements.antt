@@ -78,7 +78,8 @@ module _ {W : Type 0} where
   ticks_some zero w h = absurd (omega arith)
   ticks_some (suc n) w h = ticks_jump n w
 
-module _ {W : Type 0} (work : Meaning W) (core held : CoreHeld W) (view : core ≡ held) (M : History W) (before : Agrees work held M) where
+module _ {W : Type 0} {work : Meaning W} {core held : CoreHeld W} {M : History W} (view : core ≡ held)
+    (before : Agrees work held M) where
   abbrev w : World W
   w = world_after work M
 

@@ -89,7 +89,7 @@ module _ {W : Type 0} (work : Meaning W) where
 
   -- a core counts as many finished jobs as are known
   finished_agrees : (core : CoreHeld W) (M : History W) → Agrees work core M → (s : ℕ) → (held_at core s).face.finished ≡ finished work (account_in work M s)
-  finished_agrees core M agrees s = sym (ap (λ (f : Face). f.finished) (face_is work core core refl M agrees s))
+  finished_agrees core M agrees s = sym (ap (λ (f : Face). f.finished) (face_is {core = core} refl agrees s))
 
   -- a completion tells the whole result of the accepted job of its number
   record Tells (a : Account W) (c : Completion) : Type 0 where

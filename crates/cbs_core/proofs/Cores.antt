@@ -56,7 +56,7 @@ pub record MayRun {W : Type 0} (work : Meaning W) (core : CoreHeld W) (s : ℕ) 
   pub budget : 0 < (face_at core.faces s).state.budget
   pub room : (face_at core.faces s).state.deadline ≤ latest_deadline
 
-module _ {W : Type 0} (work : Meaning W) (core : CoreHeld W) (ok : IsCore work core) where
+module _ {W : Type 0} {work : Meaning W} {core : CoreHeld W} (ok : IsCore work core) where
   -- each server of a core keeps what a server keeps
   pub server_at : (s : ℕ) → s < length core.faces → IsServer core.backlog core.clock (face_at core.faces s)
   server_at s lt = AllByRecursion-get (IsServer core.backlog core.clock) core.faces s no_face ok.each lt
@@ -92,8 +92,9 @@ module _ {W : Type 0} (work : Meaning W) (core : CoreHeld W) (ok : IsCore work c
   ]
 
   -- before the clock's end the chosen server may run
-  pub may_run : (s : ℕ) → IsChoice (ranks core.faces) (length core.faces) (Some s) → core.clock < clock_end → MayRun work core s
-  may_run s choice early =
+  pub may_run : {s : ℕ} → IsChoice (ranks core.faces) (length core.faces) (Some s) → core.clock < clock_end
+      → MayRun work core s
+  may_run {s} choice early =
       let within = choice.within in
       let ready = sym (rank_ready core.faces s) ∙ choice.ready in
       let is = server_at s within in

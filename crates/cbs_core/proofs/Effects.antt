@@ -82,11 +82,11 @@ module _ {W : Type 0} where
     ]
 
   -- a run of server s, and a replenishment of all
-  pub did_run : (work : Meaning W) → Lowers work → {old held : CoreHeld W} → old ≡ held → (clock now : ℕ) (faces : List Face) (queues : List (List W)) (rooms : List ℕ) (s : ℕ) (r : Ran)
+  pub did_run : {work : Meaning W} → Lowers work → {old held : CoreHeld W} → old ≡ held → (clock now : ℕ) (faces : List Face) (queues : List (List W)) (rooms : List ℕ) (s : ℕ) (r : Ran)
       → MayRun work old s → r ≡ ran_of s (face_at old.faces s).finished (result_run work (list_at old.queues s))
       → faces ≡ map (with_replenishment now) (changed_at (with_unit (is_some (result_run work (list_at old.queues s)))) old.faces s) → queues ≡ changed_at (jobs_run work) old.queues s
       → DoesRun work r held (record { backlog = old.backlog; clock = clock; faces = faces; queues = queues; rooms = rooms })
-  did_run work law {old} {held} view clock now faces queues rooms s r may is shown jobs =
+  did_run {work} law {old} {held} view clock now faces queues rooms s r may is shown jobs =
       let new : CoreHeld W = record { backlog = old.backlog; clock = clock; faces = faces; queues = queues; rooms = rooms } in
       let f = with_unit (is_some (result_run work (list_at old.queues s))) in
       let middle = changed_at f old.faces s in

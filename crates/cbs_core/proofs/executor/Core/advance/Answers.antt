@@ -5,15 +5,15 @@ use Rattle.cbs_core.proofs.Effects.{jumped_same, all_same}
 use Rattle.cbs_core.proofs.executor.Core.advance.Goals as goal
 
 pub invariant_of-self : goal.invariant_of-self
-invariant_of-self g c = core_jumped g.W.Work.meaning _ c.self.invariant c.args.n _ _ (omega arith) c.replenish.ensures
+invariant_of-self g c = core_jumped c.self.invariant c.args.n _ _ (omega arith) c.replenish.ensures
 
 pub returns-then-n-gt0-clause-state : goal.returns-then-n-gt0-clause-state
 returns-then-n-gt0-clause-state g c = λ M agrees.
-    advance_agrees g.W.Work.meaning _ _ c.self.view_is M agrees c.args.n c.replenish.new.self c.self.inside.queues.rooms (omega arith) (omega arith) c.replenish.ensures
+    advance_agrees c.self.view_is agrees c.args.n c.replenish.new.self c.self.inside.queues.rooms (omega arith) (omega arith) c.replenish.ensures
 
 pub returns-else-n-gt0-clause-state : goal.returns-else-n-gt0-clause-state
 returns-else-n-gt0-clause-state g c = λ M agrees.
-    record { world = rw (advance_none g.W.Work.meaning _ _ c.self.view_is M agrees c.args.n (omega arith)) agrees.world }
+    record { world = rw (advance_none c.self.view_is agrees c.args.n (omega arith)) agrees.world }
 
 pub returns-then-n-gt0-clause-jobs : goal.returns-then-n-gt0-clause-jobs
 returns-then-n-gt0-clause-jobs g c =
@@ -23,4 +23,4 @@ pub returns-else-n-gt0-clause-jobs : goal.returns-else-n-gt0-clause-jobs
 returns-else-n-gt0-clause-jobs g c = all_same c.args.self.now
 
 pub returns-then-n-gt0-clause-budgets : goal.returns-then-n-gt0-clause-budgets
-returns-then-n-gt0-clause-budgets g c = budgets_kept g.W.Work.meaning _ (invariant_of-self g c)
+returns-then-n-gt0-clause-budgets g c = budgets_kept (invariant_of-self g c)

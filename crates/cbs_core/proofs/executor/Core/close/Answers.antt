@@ -4,11 +4,11 @@ use Rattle.cbs_core.proofs.executor.Core.close.Goals as goal
 
 pub returns-in-Some-clause-reply : goal.returns-in-Some-clause-reply
 returns-in-Some-clause-reply g c = λ M agrees.
-    close_replied g.W.Work.meaning _ _ c.self.view_is M agrees c.args.server _ c.in-Some.ensures
+    close_replied c.self.view_is agrees c.args.server _ c.in-Some.ensures
 
 pub returns-in-Some-clause-state : goal.returns-in-Some-clause-state
 returns-in-Some-clause-state g c = λ M agrees.
-    record { world = rw (close_left g.W.Work.meaning _ _ c.self.view_is M agrees c.args.server _ c.in-Some.ensures) agrees.world }
+    record { world = rw (close_left c.self.view_is agrees c.args.server _ c.in-Some.ensures) agrees.world }
 
 pub returns-in-Some-clause-succeeds : goal.returns-in-Some-clause-succeeds
 returns-in-Some-clause-succeeds g c = λ is.

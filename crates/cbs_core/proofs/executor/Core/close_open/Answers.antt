@@ -9,15 +9,15 @@ pub close-requires : goal.close-requires
 close-requires g c = (rw (← c.self.view_is) at c.requires).within
 
 pub invariant_of-self : goal.invariant_of-self
-invariant_of-self g c = core_closed g.W.Work.meaning _ c.self.invariant c.args.server c.close.new.self c.self.inside.queues.rooms (rw (← c.self.view_is) at c.requires).within c.close.ensures
+invariant_of-self g c = core_closed c.self.invariant c.args.server c.close.new.self c.self.inside.queues.rooms (rw (← c.self.view_is) at c.requires).within c.close.ensures
 
 pub returns-clause-reply : goal.returns-clause-reply
 returns-clause-reply g c = λ M agrees.
-    close_replied g.W.Work.meaning _ _ c.self.view_is M agrees c.args.server _ (open_free c.self.view_is c.args.server c.requires)
+    close_replied c.self.view_is agrees c.args.server _ (open_free c.self.view_is c.args.server c.requires)
 
 pub returns-clause-state : goal.returns-clause-state
 returns-clause-state g c = λ M agrees.
-    close_agrees g.W.Work.meaning _ _ c.self.view_is M agrees c.args.server c.close.new.self c.self.inside.queues.rooms (open_free c.self.view_is c.args.server c.requires) c.close.ensures
+    close_agrees c.self.view_is agrees c.args.server c.close.new.self c.self.inside.queues.rooms (open_free c.self.view_is c.args.server c.requires) c.close.ensures
 
 pub returns-clause-closed : goal.returns-clause-closed
 returns-clause-closed g c =
@@ -25,4 +25,4 @@ returns-clause-closed g c =
     (rw (← c.self.view_is) at c.requires).within c.close.ensures refl
 
 pub returns-clause-budgets : goal.returns-clause-budgets
-returns-clause-budgets g c = budgets_kept g.W.Work.meaning _ (invariant_of-self g c)
+returns-clause-budgets g c = budgets_kept (invariant_of-self g c)

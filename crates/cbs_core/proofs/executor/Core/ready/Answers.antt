@@ -4,7 +4,7 @@ use Rattle.cbs_core.proofs.executor.Core.ready.Goals as goal
 
 pub returns-clause-chosen : goal.returns-clause-chosen
 returns-clause-chosen g c = λ M agrees.
-    c.choose.ensures.first ∙ choice_agrees g.W.Work.meaning _ _ c.self.view_is M agrees
+    c.choose.ensures.first ∙ choice_agrees c.self.view_is agrees
 
 pub returns-clause-earliest : goal.returns-clause-earliest
 returns-clause-earliest g c = λ M agrees. rw (rw (← c.self.view_is) at agrees.world).shown at c.choose.ensures.choice

@@ -10,23 +10,23 @@ use Rattle.cbs_core.proofs.executor.Core.run.Goals as goal
 
 pub returns-in_default-clause-reply : goal.returns-in_default-clause-reply
 returns-in_default-clause-reply g c = λ M agrees.
-    reply_by g.W.Work.meaning _ _ c.self.view_is M agrees _ c.in_default.ensures.first
+    reply_by c.self.view_is agrees _ c.in_default.ensures.first
 
 pub returns-in_default-clause-state : goal.returns-in_default-clause-state
 returns-in_default-clause-state g c = λ M agrees.
-    record { world = rw (idle_next g.W.Work.meaning _ _ c.self.view_is M agrees c.in_default.ensures.first) agrees.world }
+    record { world = rw (idle_next c.self.view_is agrees c.in_default.ensures.first) agrees.world }
 
 pub returns-then-self-ge-LIMIT-clause-reply : goal.returns-then-self-ge-LIMIT-clause-reply
 returns-then-self-ge-LIMIT-clause-reply g c = λ M agrees.
-    end_reply g.W.Work.meaning _ _ c.self.view_is M agrees c.in-Some.server c.in-Some.ensures.first c.if-self-ge-LIMIT.true
+    end_reply c.self.view_is agrees c.in-Some.server c.in-Some.ensures.first c.if-self-ge-LIMIT.true
 
 pub returns-then-self-ge-LIMIT-clause-state : goal.returns-then-self-ge-LIMIT-clause-state
 returns-then-self-ge-LIMIT-clause-state g c = λ M agrees.
-    record { world = rw (next_late g.W.Work.meaning _ _ c.self.view_is M agrees c.if-self-ge-LIMIT.true) agrees.world }
+    record { world = rw (next_late c.self.view_is agrees c.if-self-ge-LIMIT.true) agrees.world }
 
 pub run_first-result-requires : goal.run_first-result-requires
 run_first-result-requires g c =
-    let may = may_run g.W.Work.meaning _ c.self.invariant c.in-Some.server c.in-Some.ensures.choice c.if-self-ge-LIMIT.false in
+    let may = may_run c.self.invariant c.in-Some.ensures.choice c.if-self-ge-LIMIT.false in
     record { some = may.active; unfinished = may.unfinished }
 
 pub finished-seq-requires : goal.finished-seq-requires
@@ -34,7 +34,7 @@ finished-seq-requires g c = c.in-Some.ensures.choice.within
 
 pub use_tick-requires : goal.use_tick-requires
 use_tick-requires g c =
-    let may = may_run g.W.Work.meaning _ c.self.invariant c.in-Some.server c.in-Some.ensures.choice c.if-self-ge-LIMIT.false in
+    let may = may_run c.self.invariant c.in-Some.ensures.choice c.if-self-ge-LIMIT.false in
     record { within = may.within; ready = may.ready; some = may.budget; room = may.room }
 
 -- what the servers show after the unit and the replenishment
@@ -47,27 +47,27 @@ ran g c = rw (c.finished-seq.ensures, c.run_first-result.ensures.result) at c.ra
 
 pub invariant_of-self : goal.invariant_of-self
 invariant_of-self g c =
-    let may = may_run g.W.Work.meaning _ c.self.invariant c.in-Some.server c.in-Some.ensures.choice c.if-self-ge-LIMIT.false in
-    core_run g.W.Work.meaning _ c.self.invariant c.in-Some.server c.replenish.new.self c.run_first-result.new.self.lists
+    let may = may_run c.self.invariant c.in-Some.ensures.choice c.if-self-ge-LIMIT.false in
+    core_run c.self.invariant c.in-Some.server c.replenish.new.self c.run_first-result.new.self.lists
     c.run_first-result.new.self.rooms may (shown g c) c.run_first-result.ensures.lists
 
 pub returns-clause-reply : goal.returns-clause-reply
 returns-clause-reply g c = λ M agrees.
-    let may = may_run g.W.Work.meaning _ c.self.invariant c.in-Some.server c.in-Some.ensures.choice c.if-self-ge-LIMIT.false in
-    unit_answered g.W.Work.meaning _ _ c.self.view_is M agrees c.in-Some.server g.met.W.Work.lowers c.in-Some.ensures.first may
+    let may = may_run c.self.invariant c.in-Some.ensures.choice c.if-self-ge-LIMIT.false in
+    unit_answered c.self.view_is agrees c.in-Some.server g.met.W.Work.lowers c.in-Some.ensures.first may
     c.ran_from.result (ran g c)
 
 pub returns-clause-state : goal.returns-clause-state
 returns-clause-state g c = λ M agrees.
-    let may = may_run g.W.Work.meaning _ c.self.invariant c.in-Some.server c.in-Some.ensures.choice c.if-self-ge-LIMIT.false in
-    unit_agrees g.W.Work.meaning _ _ c.self.view_is M agrees c.in-Some.server g.met.W.Work.lowers c.in-Some.ensures.first may
+    let may = may_run c.self.invariant c.in-Some.ensures.choice c.if-self-ge-LIMIT.false in
+    unit_agrees c.self.view_is agrees c.in-Some.server g.met.W.Work.lowers c.in-Some.ensures.first may
     c.replenish.new.self c.run_first-result.new.self.lists c.run_first-result.new.self.rooms (shown g c) c.run_first-result.ensures.lists
 
 pub returns-clause-job : goal.returns-clause-job
 returns-clause-job g c =
-    let may = may_run g.W.Work.meaning _ c.self.invariant c.in-Some.server c.in-Some.ensures.choice c.if-self-ge-LIMIT.false in
-    did_run g.W.Work.meaning g.met.W.Work.lowers c.self.view_is (c.self.inside.clock + 1) _ c.replenish.new.self c.run_first-result.new.self.lists
+    let may = may_run c.self.invariant c.in-Some.ensures.choice c.if-self-ge-LIMIT.false in
+    did_run g.met.W.Work.lowers c.self.view_is (c.self.inside.clock + 1) _ c.replenish.new.self c.run_first-result.new.self.lists
     c.run_first-result.new.self.rooms c.in-Some.server c.ran_from.result may (ran g c) (shown g c) c.run_first-result.ensures.lists
 
 pub returns-clause-budgets : goal.returns-clause-budgets
-returns-clause-budgets g c = budgets_kept g.W.Work.meaning _ (invariant_of-self g c)
+returns-clause-budgets g c = budgets_kept (invariant_of-self g c)

@@ -6,11 +6,11 @@ use Rattle.cbs_core.proofs.executor.Core.submit.Goals as goal
 
 pub returns-in-Some-clause-reply : goal.returns-in-Some-clause-reply
 returns-in-Some-clause-reply g c = λ _ M agrees.
-    submit_replied g.W.Work.meaning _ _ c.self.view_is M agrees c.args.server c.args.task _ c.in-Some.ensures
+    submit_replied c.self.view_is agrees c.args.server c.args.task _ c.in-Some.ensures
 
 pub returns-in-Some-clause-state : goal.returns-in-Some-clause-state
 returns-in-Some-clause-state g c = λ _ M agrees.
-    record { world = rw (submit_left g.W.Work.meaning _ _ c.self.view_is M agrees c.args.server c.args.task _ c.in-Some.ensures) agrees.world }
+    record { world = rw (submit_left c.self.view_is agrees c.args.server c.args.task _ c.in-Some.ensures) agrees.world }
 
 pub returns-in-Some-clause-succeeds : goal.returns-in-Some-clause-succeeds
 returns-in-Some-clause-succeeds g c = λ place.
@@ -19,11 +19,11 @@ returns-in-Some-clause-succeeds g c = λ place.
     cc
 
 pub reserve-requires : goal.reserve-requires
-reserve-requires g c = queue_there g.W.Work.meaning _ c.self.invariant c.args.server c.in_default.ensures
+reserve-requires g c = queue_there c.self.invariant c.args.server c.in_default.ensures
 
 pub submit_reserved-requires : goal.submit_reserved-requires
 submit_reserved-requires g c = record { accepts = free_accepts refl c.args.server c.in_default.ensures; room = search rules }
 
 pub returns-then-is_err-clause-only_accepted : goal.returns-then-is_err-clause-only_accepted
 returns-then-is_err-clause-only_accepted g c = λ lacks M agrees.
-    submit_accepted g.W.Work.meaning _ _ c.self.view_is M agrees c.args.server c.args.task c.in_default.ensures
+    submit_accepted c.self.view_is agrees c.args.server c.args.task c.in_default.ensures
