@@ -101,7 +101,8 @@ module _ {W : Type 0} {work : Meaning W} {core held : CoreHeld W} {M : History W
   jobs_are s lt = AllZip-get (AgreesJobs work) core.queues w.accounts s [] no_account agrees.jobs (within_queues s lt)
 
   -- a run is answered by the choice among the faces held
-  pub reply_by : (o : Option ℕ) → o ≡ chosen_among (ranks core.faces) → reply.Ran (run_reply work w o) ≡ reply_in work M Run
+  pub reply_by : (o : Option ℕ) → o ≡ chosen_among (ranks core.faces)
+      → reply.Ran (run_reply work w o) ≡ reply_in work M Run
   reply_by o e = ap (λ p. reply.Ran (run_reply work w p)) (e ∙ choice_agrees)
 
   -- at the clock's end a run leaves the world as it is
@@ -113,28 +114,35 @@ module _ {W : Type 0} {work : Meaning W} {core held : CoreHeld W} {M : History W
   idle_next e = let n : chosen work w ≡ None = sym (e ∙ choice_agrees) in rw (n, cond_same (ltb w.now clock_end))
 
   -- at the clock's end a run is answered so
-  pub end_reply : (s : ℕ) → Some s ≡ chosen_among (ranks core.faces) → clock_end ≤ core.clock → reply.Ran ran.ClockEnd ≡ reply_in work M Run
-  end_reply s e late = let n : leb clock_end w.now ≡ true = let c = agrees.clock in grind (arith, nat_tests) in rw n at (reply_by (Some s) e)
+  pub end_reply : (s : ℕ) → Some s ≡ chosen_among (ranks core.faces) → clock_end ≤ core.clock
+      → reply.Ran ran.ClockEnd ≡ reply_in work M Run
+  end_reply s e late =
+      let n : leb clock_end w.now ≡ true = let c = agrees.clock in grind (arith, nat_tests) in
+      rw n at (reply_by (Some s) e)
 
   module _ (s : ℕ) (law : Lowers work) (e : Some s ≡ chosen_among (ranks core.faces)) (may : MayRun work core s) where
     abbrev done : Bool
     done = is_some (result_run work (list_at core.queues s))
 
     -- what the unit is answered
-    pub unit_answered : (r : Ran) → r ≡ ran_of s (face_at core.faces s).finished (result_run work (list_at core.queues s)) → reply.Ran r ≡ reply_in work M Run
+    pub unit_answered : (r : Ran) → r ≡ ran_of s (face_at core.faces s).finished (result_run work (list_at core.queues s))
+        → reply.Ran r ≡ reply_in work M Run
     unit_answered r is =
         let n : leb clock_end w.now ≡ false = let c = agrees.clock in let k = may.early in grind (arith, nat_tests) in
         let here = unit_ran work (list_at core.queues s) (account w.accounts s) (jobs_are s may.within) law may.active may.unfinished s in
-        ap reply.Ran (is ∙ ap (λ (f : Face). ran_of s f.finished (result_run work (list_at core.queues s))) (sym (face_is s)) ∙ here) ∙ rw n at (reply_by (Some s) e)
+        let same = ap (λ (f : Face). ran_of s f.finished (result_run work (list_at core.queues s))) (sym (face_is s)) in
+        ap reply.Ran (is ∙ same ∙ here) ∙ rw n at (reply_by (Some s) e)
 
     next_early : world_after work (M ⊕ Run) ≡ after_run w (Some s)
-    next_early = let n : ltb w.now clock_end ≡ true = let c = agrees.clock in let k = may.early in grind (arith, nat_tests) in rw n (ap (after_run w) (sym (e ∙ choice_agrees)))
+    next_early =
+        let n : ltb w.now clock_end ≡ true = let c = agrees.clock in let k = may.early in grind (arith, nat_tests) in
+        rw n (ap (after_run w) (sym (e ∙ choice_agrees)))
 
     -- after the unit and the replenishment the core agrees with one run more
-    pub unit_agrees : (shown : List Face) (queues : List (List W)) (rooms : List ℕ)
+    pub unit_agrees : {shown : List Face} {queues : List (List W)} {rooms : List ℕ}
         → shown ≡ map (with_replenishment (core.clock + 1)) (changed_at (with_unit done) core.faces s) → queues ≡ changed_at (jobs_run work) core.queues s
         → Agrees work (record { backlog = core.backlog; clock = core.clock + 1; faces = shown; queues = queues; rooms = rooms }) (M ⊕ Run)
-    unit_agrees shown queues rooms is run = record { world = rw next_early record {
+    unit_agrees is run = record { world = rw next_early record {
       same_backlog = agrees.same_backlog;
       clock = ap (λ n. n + 1) agrees.clock;
       shown = is ∙ rw (agrees.shown, agrees.clock)
@@ -151,9 +159,10 @@ module _ {W : Type 0} {work : Meaning W} {core held : CoreHeld W} {M : History W
   advance_none n none = rw (none, ticks_none w, cond_same (leb (w.now + 0) clock_end))
 
   -- after a jump by n ticks that the clock's end allows, the core agrees with one advance more
-  pub advance_agrees : (n : ℕ) (shown : List Face) (rooms : List ℕ) → n ≤ clock_end - core.clock → 0 < n → shown ≡ map (with_replenishment (core.clock + n)) core.faces
+  pub advance_agrees : (n : ℕ) {shown : List Face} {rooms : List ℕ} → n ≤ clock_end - core.clock → 0 < n
+      → shown ≡ map (with_replenishment (core.clock + n)) core.faces
       → Agrees work (record { backlog = core.backlog; clock = core.clock + n; faces = shown; queues = core.queues; rooms = rooms }) (M ⊕ Advance n)
-  advance_agrees n shown rooms early some is =
+  advance_agrees n early some is =
       let t : leb (w.now + n) clock_end ≡ true = let c = agrees.clock in grind (arith, nat_tests) in
       record { world = rw (t, ticks_some n w some) record {
         same_backlog = agrees.same_backlog;
@@ -163,7 +172,8 @@ module _ {W : Type 0} {work : Meaning W} {core held : CoreHeld W} {M : History W
       } }
 
   -- why a submit to s is refused, if it is
-  pub same_refusal : (s : ℕ) (o : Option CoreError) → o ≡ submit_refusal core.backlog core.faces s → submit_refusal M.setup.backlog (faces work w) s ≡ o
+  pub same_refusal : (s : ℕ) (o : Option CoreError) → o ≡ submit_refusal core.backlog core.faces s
+      → submit_refusal M.setup.backlog (faces work w) s ≡ o
   same_refusal s o e = sym (e ∙ rw (agrees.same_backlog, agrees.shown) refl)
 
   -- a submit of a job to s, by why it is refused
@@ -183,14 +193,14 @@ module _ {W : Type 0} {work : Meaning W} {core held : CoreHeld W} {M : History W
 
     -- and answered by the number of jobs accepted before
     pub submit_answered : (q : ℕ) → q ≡ (face_at core.faces s).accepted → reply.Accepted q ≡ reply_in work M (Submit s job)
-    submit_answered q number = ap reply.Accepted (number ∙ ap (λ (f : Face). f.accepted) (sym (face_is s))) ∙ submit_replied s job None e
+    submit_answered q number =
+        ap reply.Accepted (number ∙ ap (λ (f : Face). f.accepted) (sym (face_is s))) ∙ submit_replied s job None e
 
     -- with the job behind the others, the core agrees with one submit more
-    pub submit_agrees : (shown : List Face) (queues : List (List W)) (rooms : List ℕ) → s < length core.faces
-        → shown ≡ changed_at (with_job core.clock) core.faces s → queues ≡ changed_at (λ jobs. jobs ++ job ∷ []) core.queues s
-        → 0 < work.left job
+    pub submit_agrees : {shown : List Face} {queues : List (List W)} {rooms : List ℕ} → s < length core.faces
+        → shown ≡ changed_at (with_job core.clock) core.faces s → queues ≡ changed_at (λ jobs. jobs ++ job ∷ []) core.queues s → 0 < work.left job
         → Agrees work (record { backlog = core.backlog; clock = core.clock; faces = shown; queues = queues; rooms = rooms }) (M ⊕ Submit s job)
-    submit_agrees shown queues rooms lt is joined some =
+    submit_agrees lt is joined some =
         let paid = paid_after work M.setup M.steps s in
         record { world = rw (submit_left s job None e) record {
           same_backlog = agrees.same_backlog;
@@ -215,9 +225,10 @@ module _ {W : Type 0} {work : Meaning W} {core held : CoreHeld W} {M : History W
     close_left = ap (after_closing w s) same_closing
 
   -- with the server closed, the core agrees with one close more
-  pub close_agrees : (s : ℕ) (shown : List Face) (rooms : List ℕ) → None ≡ close_refusal core.faces s → shown ≡ changed_at with_close core.faces s
+  pub close_agrees : (s : ℕ) {shown : List Face} {rooms : List ℕ} → None ≡ close_refusal core.faces s
+      → shown ≡ changed_at with_close core.faces s
       → Agrees work (record { backlog = core.backlog; clock = core.clock; faces = shown; queues = core.queues; rooms = rooms }) (M ⊕ Close s)
-  close_agrees s shown rooms e is = record { world = rw (close_left s None e) record {
+  close_agrees s e is = record { world = rw (close_left s None e) record {
     same_backlog = agrees.same_backlog;
     clock = agrees.clock;
     shown = is ∙ rw agrees.shown (sym (map-changed_at (face_of work) account_with_close with_close w.accounts s no_account refl));

@@ -123,11 +123,11 @@ module _ {W : Type 0} {work : Meaning W} {core : CoreHeld W} (ok : IsCore work c
   counted_run (job ∷ jobs) f some e = elim (cases_Bool (eqb (work.left (work.after job)) 0)) [ inl t ↦ rw t (omega arith) | inr n ↦ rw n (omega arith) ]
 
   -- a run of server s, by what it does to faces and queues
-  pub core_run : (s : ℕ) (faces : List Face) (queues : List (List W)) (rooms : List ℕ) → MayRun work core s
+  pub core_run : {s : ℕ} {faces : List Face} {queues : List (List W)} {rooms : List ℕ} → MayRun work core s
       → faces ≡ map (with_replenishment (core.clock + 1)) (changed_at (with_unit (is_some (result_run work (list_at core.queues s)))) core.faces s)
       → queues ≡ changed_at (jobs_run work) core.queues s
       → IsCore work (record { backlog = core.backlog; clock = core.clock + 1; faces = faces; queues = queues; rooms = rooms })
-  core_run s faces queues rooms may shown run =
+  core_run {s} may shown run =
       let done = is_some (result_run work (list_at core.queues s)) in
       rw (shown, run) record {
         few = omega (arith, ok.few, length-map (changed_at (with_unit done) core.faces s) (with_replenishment (core.clock + 1)), length-changed_at (with_unit done) core.faces s);
@@ -144,9 +144,10 @@ module _ {W : Type 0} {work : Meaning W} {core : CoreHeld W} (ok : IsCore work c
       }
 
   -- a jump by n ticks
-  pub core_jumped : (n : ℕ) (faces : List Face) (rooms : List ℕ) → n ≤ clock_end - core.clock → faces ≡ map (with_replenishment (core.clock + n)) core.faces
+  pub core_jumped : (n : ℕ) {faces : List Face} {rooms : List ℕ} → n ≤ clock_end - core.clock
+      → faces ≡ map (with_replenishment (core.clock + n)) core.faces
       → IsCore work (record { backlog = core.backlog; clock = core.clock + n; faces = faces; queues = core.queues; rooms = rooms })
-  core_jumped n faces rooms late shown = rw shown record {
+  core_jumped n late shown = rw shown record {
     few = omega (arith, ok.few, length-map core.faces (with_replenishment (core.clock + n)));
     small = ok.small;
     clock = let k = ok.clock in omega arith;
@@ -156,10 +157,10 @@ module _ {W : Type 0} {work : Meaning W} {core : CoreHeld W} (ok : IsCore work c
   }
 
   -- one more job of server s
-  pub core_joined : (s : ℕ) (job : W) (faces : List Face) (queues : List (List W)) (rooms : List ℕ) → Accepts core s → 0 < work.left job
+  pub core_joined : (s : ℕ) (job : W) {faces : List Face} {queues : List (List W)} {rooms : List ℕ} → Accepts core s → 0 < work.left job
       → faces ≡ changed_at (with_job core.clock) core.faces s → queues ≡ changed_at (λ jobs. jobs ++ job ∷ []) core.queues s
       → IsCore work (record { backlog = core.backlog; clock = core.clock; faces = faces; queues = queues; rooms = rooms })
-  core_joined s job faces queues rooms accepts some shown joined = rw (shown, joined) record {
+  core_joined s job accepts some shown joined = rw (shown, joined) record {
     few = omega (arith, ok.few, length-changed_at (with_job core.clock) core.faces s);
     small = ok.small;
     clock = ok.clock;
@@ -173,9 +174,9 @@ module _ {W : Type 0} {work : Meaning W} {core : CoreHeld W} (ok : IsCore work c
   }
 
   -- server s is closed
-  pub core_closed : (s : ℕ) (faces : List Face) (rooms : List ℕ) → s < length core.faces → faces ≡ changed_at with_close core.faces s
+  pub core_closed : (s : ℕ) {faces : List Face} {rooms : List ℕ} → s < length core.faces → faces ≡ changed_at with_close core.faces s
       → IsCore work (record { backlog = core.backlog; clock = core.clock; faces = faces; queues = core.queues; rooms = rooms })
-  core_closed s faces rooms lt shown = rw shown record {
+  core_closed s lt shown = rw shown record {
     few = omega (arith, ok.few, length-changed_at with_close core.faces s);
     small = ok.small;
     clock = ok.clock;

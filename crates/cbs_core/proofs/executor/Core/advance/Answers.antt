@@ -5,11 +5,11 @@ use Rattle.cbs_core.proofs.Effects.{jumped_same, all_same}
 use Rattle.cbs_core.proofs.executor.Core.advance.Goals as goal
 
 pub invariant_of-self : goal.invariant_of-self
-invariant_of-self g c = core_jumped c.self.invariant c.args.n _ _ (omega arith) c.replenish.ensures
+invariant_of-self g c = core_jumped c.self.invariant c.args.n (omega arith) c.replenish.ensures
 
 pub returns-then-n-gt0-clause-state : goal.returns-then-n-gt0-clause-state
 returns-then-n-gt0-clause-state g c = λ M agrees.
-    advance_agrees c.self.view_is agrees c.args.n c.replenish.new.self c.self.inside.queues.rooms (omega arith) (omega arith) c.replenish.ensures
+    advance_agrees c.self.view_is agrees c.args.n (omega arith) (omega arith) c.replenish.ensures
 
 pub returns-else-n-gt0-clause-state : goal.returns-else-n-gt0-clause-state
 returns-else-n-gt0-clause-state g c = λ M agrees.
@@ -17,7 +17,8 @@ returns-else-n-gt0-clause-state g c = λ M agrees.
 
 pub returns-then-n-gt0-clause-jobs : goal.returns-then-n-gt0-clause-jobs
 returns-then-n-gt0-clause-jobs g c =
-    jumped_same c.self.view_is (c.self.inside.clock + c.args.n) c.replenish.new.self c.self.inside.queues.lists c.self.inside.queues.rooms _ c.replenish.ensures refl
+    jumped_same c.self.view_is (c.self.inside.clock + c.args.n) c.replenish.new.self c.self.inside.queues.lists
+    c.self.inside.queues.rooms _ c.replenish.ensures refl
 
 pub returns-else-n-gt0-clause-jobs : goal.returns-else-n-gt0-clause-jobs
 returns-else-n-gt0-clause-jobs g c = all_same c.args.self.now

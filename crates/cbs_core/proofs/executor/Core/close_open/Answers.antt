@@ -9,7 +9,8 @@ pub close-requires : goal.close-requires
 close-requires g c = (rw (← c.self.view_is) at c.requires).within
 
 pub invariant_of-self : goal.invariant_of-self
-invariant_of-self g c = core_closed c.self.invariant c.args.server c.close.new.self c.self.inside.queues.rooms (rw (← c.self.view_is) at c.requires).within c.close.ensures
+invariant_of-self g c =
+    core_closed c.self.invariant c.args.server (rw (← c.self.view_is) at c.requires).within c.close.ensures
 
 pub returns-clause-reply : goal.returns-clause-reply
 returns-clause-reply g c = λ M agrees.
@@ -17,12 +18,12 @@ returns-clause-reply g c = λ M agrees.
 
 pub returns-clause-state : goal.returns-clause-state
 returns-clause-state g c = λ M agrees.
-    close_agrees c.self.view_is agrees c.args.server c.close.new.self c.self.inside.queues.rooms (open_free c.self.view_is c.args.server c.requires) c.close.ensures
+    close_agrees c.self.view_is agrees c.args.server (open_free c.self.view_is c.args.server c.requires) c.close.ensures
 
 pub returns-clause-closed : goal.returns-clause-closed
 returns-clause-closed g c =
-    closed_server c.self.view_is c.self.inside.clock c.close.new.self c.self.inside.queues.lists c.self.inside.queues.rooms c.args.server
-    (rw (← c.self.view_is) at c.requires).within c.close.ensures refl
+    closed_server c.self.view_is c.self.inside.clock c.close.new.self c.self.inside.queues.lists c.self.inside.queues.rooms
+    c.args.server (rw (← c.self.view_is) at c.requires).within c.close.ensures refl
 
 pub returns-clause-budgets : goal.returns-clause-budgets
 returns-clause-budgets g c = budgets_kept (invariant_of-self g c)

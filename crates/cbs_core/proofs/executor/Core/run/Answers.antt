@@ -48,8 +48,7 @@ ran g c = rw (c.finished-seq.ensures, c.run_first-result.ensures.result) at c.ra
 pub invariant_of-self : goal.invariant_of-self
 invariant_of-self g c =
     let may = may_run c.self.invariant c.in-Some.ensures.choice c.if-self-ge-LIMIT.false in
-    core_run c.self.invariant c.in-Some.server c.replenish.new.self c.run_first-result.new.self.lists
-    c.run_first-result.new.self.rooms may (shown g c) c.run_first-result.ensures.lists
+    core_run c.self.invariant may (shown g c) c.run_first-result.ensures.lists
 
 pub returns-clause-reply : goal.returns-clause-reply
 returns-clause-reply g c = λ M agrees.
@@ -61,7 +60,7 @@ pub returns-clause-state : goal.returns-clause-state
 returns-clause-state g c = λ M agrees.
     let may = may_run c.self.invariant c.in-Some.ensures.choice c.if-self-ge-LIMIT.false in
     unit_agrees c.self.view_is agrees c.in-Some.server g.met.W.Work.lowers c.in-Some.ensures.first may
-    c.replenish.new.self c.run_first-result.new.self.lists c.run_first-result.new.self.rooms (shown g c) c.run_first-result.ensures.lists
+    (shown g c) c.run_first-result.ensures.lists
 
 pub returns-clause-job : goal.returns-clause-job
 returns-clause-job g c =

@@ -15,27 +15,34 @@ pub accept-requires-clause-within : goal.accept-requires-clause-within
 accept-requires-clause-within g c = (rw (← c.self.view_is) at c.requires).accepts.is_open.within
 
 pub accept-requires-clause-few : goal.accept-requires-clause-few
-accept-requires-clause-few g c = few_jobs c.self.invariant c.args.server (rw (← c.self.view_is) at c.requires).accepts.is_open.within
+accept-requires-clause-few g c =
+    few_jobs c.self.invariant c.args.server (rw (← c.self.view_is) at c.requires).accepts.is_open.within
 
 pub invariant_of-self : goal.invariant_of-self
 invariant_of-self g c =
-    core_joined c.self.invariant c.args.server c.args.task c.accept.new.self c.push.new.self.lists c.push.new.self.rooms (rw (← c.self.view_is) at c.requires).accepts c.push.ensures.some c.accept.ensures.servers c.push.ensures.lists
+    let is = rw (← c.self.view_is) at c.requires in
+    core_joined c.self.invariant c.args.server c.args.task is.accepts c.push.ensures.some c.accept.ensures.servers
+    c.push.ensures.lists
 
 pub returns-clause-reply : goal.returns-clause-reply
 returns-clause-reply g c = λ M agrees.
-    submit_answered c.self.view_is agrees c.args.server c.args.task (accepts_free c.self.view_is c.args.server c.requires.accepts) c.accept.result c.accept.ensures.number
+    let free = accepts_free c.self.view_is c.args.server c.requires.accepts in
+    submit_answered c.self.view_is agrees c.args.server c.args.task free c.accept.result c.accept.ensures.number
 
 pub returns-clause-state : goal.returns-clause-state
 returns-clause-state g c = λ M agrees.
-    submit_agrees c.self.view_is agrees c.args.server c.args.task (accepts_free c.self.view_is c.args.server c.requires.accepts) c.accept.new.self c.push.new.self.lists
-    c.push.new.self.rooms (rw (← c.self.view_is) at c.requires).accepts.is_open.within c.accept.ensures.servers c.push.ensures.lists c.push.ensures.some
+    let free = accepts_free c.self.view_is c.args.server c.requires.accepts in
+    let is = rw (← c.self.view_is) at c.requires in
+    submit_agrees c.self.view_is agrees c.args.server c.args.task free is.accepts.is_open.within c.accept.ensures.servers
+    c.push.ensures.lists c.push.ensures.some
 
 pub returns-clause-job : goal.returns-clause-job
 returns-clause-job g c =
     let is = rw (← c.self.view_is) at c.requires in
-    let queue = queue_there c.self.invariant c.args.server (accepts_free c.self.view_is c.args.server c.requires.accepts) in
-    took_job c.self.view_is c.self.inside.clock c.accept.new.self c.push.new.self.lists c.push.new.self.rooms c.args.server c.accept.result
-    c.args.task is.accepts.is_open.within queue c.accept.ensures.number c.accept.ensures.servers c.push.ensures.lists
+    let free = accepts_free c.self.view_is c.args.server c.requires.accepts in
+    let queue = queue_there c.self.invariant c.args.server free in
+    took_job c.self.view_is c.self.inside.clock c.accept.new.self c.push.new.self.lists c.push.new.self.rooms
+    c.args.server c.accept.result c.args.task is.accepts.is_open.within queue c.accept.ensures.number c.accept.ensures.servers c.push.ensures.lists
 
 pub returns-clause-budgets : goal.returns-clause-budgets
 returns-clause-budgets g c = budgets_kept (invariant_of-self g c)
