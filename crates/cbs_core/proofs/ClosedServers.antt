@@ -18,15 +18,13 @@ use Rattle.cbs_core.specs.declared.step.Step.{Step}
 use Rattle.cbs_core.specs.declared.step.Step.TheVariants.{Submit, Run, Advance, Close}
 use Rattle.cbs_core.specs.declared.reply.Reply.{Reply}
 use Rattle.cbs_core.specs.declared.reply.Reply.TheVariants as reply
-use Rattle.cbs_core.proofs.Histories.{account_face, holds_next}
+use Rattle.cbs_core.proofs.Histories.{account_face, holds_grown}
 
 module _ {W : Type 0} (work : Meaning W) where
   -- a closed server stays closed by every step
-  closed_next : (M : History W) (x : Step W) (s : ℕ) → (account_in work M s).closed ≡ true → (account_in work (M ⊕ x) s).closed ≡ true
-  closed_next M x s h = holds_next work (λ a. a.closed ≡ true) (λ now j a k. k) (λ a ready k. k) (λ now a k. k) (λ a k. refl) M.setup.backlog (world_after work M) x s h
-
   closed_grown : (M : History W) (x : Step W) (r : Reply W) (s : ℕ) → (account_in work M s).closed ≡ true → (account_in work (grown M x r) s).closed ≡ true
-  closed_grown M x r s h = elim (cases_Bool (is_lack r)) [ inl t ↦ rw t h | inr f ↦ rw f (closed_next M x s h) ]
+  closed_grown M x r s h =
+      holds_grown work (λ a. a.closed ≡ true) (λ now j a k. k) (λ a ready k. k) (λ now a k. k) (λ a k. refl) M x r s h
 
   -- a closed server refuses
   closed_refuses : (backlog : ℕ) (fs : List Face) (s : ℕ) → (face_at fs s).closed ≡ true → (e : CoreError) × (submit_refusal backlog fs s ≡ Some e)

@@ -22,7 +22,7 @@ use Rattle.cbs_core.specs.declared.step.Step.TheVariants.{Submit, Run, Advance, 
 use Rattle.cbs_core.specs.declared.reply.Reply.{Reply}
 use Rattle.cbs_core.specs.declared.reply.Reply.TheVariants as reply
 use Rattle.cbs_core.proofs.FinishedJobs.{count_done-le}
-use Rattle.cbs_core.proofs.Histories.{holds_next, chosen_is_ready}
+use Rattle.cbs_core.proofs.Histories.{holds_grown, chosen_is_ready}
 use Rattle.cbs_core.proofs.Faces.{runnable}
 use Rattle.cbs_core.proofs.Agreements.{face_is}
 use Rattle.cbs_core.proofs.StepLists.{grown_by-push}
@@ -76,16 +76,12 @@ module _ {W : Type 0} (work : Meaning W) where
       }
 
   -- the accepted jobs stay, and more may follow
-  accepted_next : (M : History W) (x : Step W) (s : ℕ) → (more : List W) × ((account_in work (M ⊕ x) s).accepted ≡ (account_in work M s).accepted ++ more)
-  accepted_next M x s =
-      let before = (account_in work M s).accepted in
-      holds_next work (λ a. (more : List W) × (a.accepted ≡ before ++ more))
-      (λ now j a h. (h.0 ++ j ∷ [], ap (λ xs. xs ++ j ∷ []) h.1 ∙ append_assoc before h.0 (j ∷ [])))
-      (λ a ready h. h) (λ now a h. h) (λ a h. h) M.setup.backlog (world_after work M) x s ([], sym (append-nil before))
-
-  -- no step takes an accepted job back
   accepted_grown : (M : History W) (x : Step W) (r : Reply W) (s : ℕ) → (more : List W) × ((account_in work (grown M x r) s).accepted ≡ (account_in work M s).accepted ++ more)
-  accepted_grown M x r s = elim (cases_Bool (is_lack r)) [ inl t ↦ rw t ([], sym (append-nil (account_in work M s).accepted)) | inr f ↦ rw f (accepted_next M x s) ]
+  accepted_grown M x r s =
+      let before = (account_in work M s).accepted in
+      holds_grown work (λ a. (more : List W) × (a.accepted ≡ before ++ more))
+      (λ now j a h. (h.0 ++ j ∷ [], ap (λ xs. xs ++ j ∷ []) h.1 ∙ append_assoc before h.0 (j ∷ [])))
+      (λ a ready h. h) (λ now a h. h) (λ a h. h) M x r s ([], sym (append-nil before))
 
   -- a core counts as many finished jobs as are known
   finished_agrees : (core : CoreHeld W) (M : History W) → Agrees work core M → (s : ℕ) → (held_at core s).face.finished ≡ finished work (account_in work M s)

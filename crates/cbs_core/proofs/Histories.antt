@@ -8,10 +8,12 @@ use Rattle.cbs_core.specs.Lists.{changed_at}
 use Rattle.cbs_core.specs.Choice.{IsChoice}
 use Rattle.cbs_core.specs.Faces.{face_at, is_ready, ranks, submit_refusal, close_refusal}
 use Rattle.cbs_core.specs.Accounts.{Account, face_of, new_account, no_account, account_with_job, account_with_unit, account_with_replenishment, account_with_close}
-use Rattle.cbs_core.specs.History.{World, Setup, account, faces, chosen, tick, ticks, runner, after_submit, after_run, after_closing, next, after}
+use Rattle.cbs_core.specs.History.{World, Setup, History, account, faces, chosen, tick, ticks, runner, after_submit, after_run, after_closing, next, after, world_after}
 use Rattle.cbs_core.proofs.Choices.{choice_is}
 use Rattle.cbs_core.proofs.Faces.{rank_ready}
+use Rattle.cbs_core.specs.Replies.{is_lack, grown}
 use Rattle.cbs_core.specs.declared.error.CoreError.{CoreError}
+use Rattle.cbs_core.specs.declared.reply.Reply.{Reply}
 use Rattle.cbs_core.specs.declared.step.Step.{Step}
 use Rattle.cbs_core.specs.declared.step.Step.TheVariants.{Submit, Run, Advance, Close}
 
@@ -77,6 +79,14 @@ module _ {W : Type 0} (work : Meaning W) where
     holds_next backlog w Run s h = holds_run w s (runner work w) (runner_ready w) h
     holds_next backlog w (Advance n) s h = elim (cases_Bool (leb (w.now + n) clock_end)) [ inl t ↦ rw t (holds_ticks n w s h) | inr f ↦ rw f h ]
     holds_next backlog w (Close t) s h = holds_close w t s (close_refusal (faces work w) t) h
+
+    -- one step more, as it was answered
+    pub holds_grown : (M : History W) (x : Step W) (r : Reply W) (s : ℕ) → P (account (world_after work M).accounts s)
+        → P (account (world_after work (grown M x r)).accounts s)
+    holds_grown M x r s h = elim (cases_Bool (is_lack r)) [
+      | inl t ↦ rw t h
+      | inr f ↦ rw f (holds_next M.setup.backlog (world_after work M) x s h)
+    ]
 
     -- a whole history
     pub holds_after : (setup : Setup) (M : List (Step W)) (s : ℕ) → P (account (map new_account setup.servers) s) → P (account (after work setup M).accounts s)

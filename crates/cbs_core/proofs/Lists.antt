@@ -1,6 +1,6 @@
 -- Lists of which one element is changed, and two lists place by place.
 use Rattle.std.proofs.Common.{◌≡◌, ◌≢◌, ℕ, zero, suc, ◌<◌, List, [], ◌∷◌, length, map, replicate, get_or, set, refl, ap, ◌∙◌, arith}
-use Rattle.std.proofs.lemmas.List.{length-map}
+use Rattle.std.proofs.lemmas.List.{length-map, map-id}
 use Rattle.std.specs.List.{AllZip, AllByRecursion}
 use Rattle.cbs_core.specs.Lists.{changed_at}
 
@@ -38,12 +38,7 @@ part_written h f xs i s x y same lt read e = rw same (set_changed h f xs s x y (
 
 -- the same of whole elements
 pub written : {X : Type 0} (f : X → X) (xs : List X) (i s : ℕ) (x y : X) → i ≡ s → s < length xs → x ≡ get_or xs i x → y ≡ f x → set xs i y ≡ changed_at f xs s
-written f xs i s x y same lt read e = rw (same, e) (here f xs s x lt (rw same at read))
-  where
-    here : {X : Type 0} (f : X → X) (xs : List X) (i : ℕ) (x : X) → i < length xs → x ≡ get_or xs i x → set xs i (f x) ≡ changed_at f xs i
-    here f [] i x lt read = absurd (omega arith)
-    here f (z ∷ zs) zero x lt read = ap (λ v. f v ∷ zs) read
-    here f (z ∷ zs) (suc i) x lt read = ap (λ ws. z ∷ ws) (here f zs i x (omega arith) read)
+written f xs i s x y same lt read e = simp map-id at (part_written (λ v. v) f xs i s x y same lt read e)
 
 -- where a list of lists has an element, there is a list
 pub within_lists : {X : Type 0} (lists : List (List X)) (s : ℕ) → 0 < length (get_or lists s []) → s < length lists

@@ -4,25 +4,22 @@ use Rattle.cbs_core.proofs.Effects.{took_job}
 use Rattle.cbs_core.proofs.Refusals.{accepts_free}
 use Rattle.cbs_core.proofs.executor.Core.submit_reserved.Goals as goal
 
-pub push-requires-clause-within : goal.push-requires-clause-within
-push-requires-clause-within g c =
-    queue_there c.self.invariant c.args.server (accepts_free c.self.view_is c.args.server c.requires.accepts)
+pub push-requires : goal.push-requires
+push-requires g c =
+    let is = rw (← c.self.view_is) at c.requires in
+    let free = accepts_free c.self.view_is c.args.server c.requires.accepts in
+    record { within = queue_there c.self.invariant c.args.server free; room = is.room }
 
-pub push-requires-clause-room : goal.push-requires-clause-room
-push-requires-clause-room g c = (rw (← c.self.view_is) at c.requires).room
-
-pub accept-requires-clause-within : goal.accept-requires-clause-within
-accept-requires-clause-within g c = (rw (← c.self.view_is) at c.requires).accepts.is_open.within
-
-pub accept-requires-clause-few : goal.accept-requires-clause-few
-accept-requires-clause-few g c =
-    few_jobs c.self.invariant c.args.server (rw (← c.self.view_is) at c.requires).accepts.is_open.within
+pub accept-requires : goal.accept-requires
+accept-requires g c =
+    let within = (rw (← c.self.view_is) at c.requires).accepts.is_open.within in
+    record { within = within; clock = c.self.invariant.clock; few = few_jobs c.self.invariant c.args.server within }
 
 pub invariant_of-self : goal.invariant_of-self
 invariant_of-self g c =
     let is = rw (← c.self.view_is) at c.requires in
-    core_joined c.self.invariant c.args.server c.args.task is.accepts c.push.ensures.some c.accept.ensures.servers
-    c.push.ensures.lists
+    core_joined c.self.invariant c.args.server c.args.task {queues = c.push.new.self.lists} is.accepts c.push.ensures.some
+    c.accept.ensures.servers c.push.ensures.lists
 
 pub returns-clause-reply : goal.returns-clause-reply
 returns-clause-reply g c = λ M agrees.
@@ -33,8 +30,8 @@ pub returns-clause-state : goal.returns-clause-state
 returns-clause-state g c = λ M agrees.
     let free = accepts_free c.self.view_is c.args.server c.requires.accepts in
     let is = rw (← c.self.view_is) at c.requires in
-    submit_agrees c.self.view_is agrees c.args.server c.args.task free is.accepts.is_open.within c.accept.ensures.servers
-    c.push.ensures.lists c.push.ensures.some
+    submit_agrees c.self.view_is agrees c.args.server c.args.task free {queues = c.push.new.self.lists} is.accepts.is_open.within
+    c.accept.ensures.servers c.push.ensures.lists c.push.ensures.some
 
 pub returns-clause-job : goal.returns-clause-job
 returns-clause-job g c =
