@@ -34,7 +34,8 @@ module _ {W : Type 0} (work : Meaning W) where
   -- what is shown of replenished servers
   pub replenished_faces : (now : ℕ) (accounts : List (Account W)) → map (face_of work) (map (account_with_replenishment now) accounts) ≡ map (with_replenishment now) (map (face_of work) accounts)
   replenished_faces now accounts =
-      map-map (face_of work) (account_with_replenishment now) accounts ∙ sym (map-map (with_replenishment now) (face_of work) accounts)
+      map-map (face_of work) (account_with_replenishment now) accounts
+      ∙ sym (map-map (with_replenishment now) (face_of work) accounts)
 
   -- a new core agrees with the start
   new_faces : (terms : List Terms) → map new_face terms ≡ map (face_of work) (map new_account terms)
@@ -48,7 +49,8 @@ module _ {W : Type 0} (work : Meaning W) where
     clock = refl;
     shown = e ∙ new_faces terms;
     jobs = let size : n ≡ length terms = count ∙ ap length e ∙ length-map terms new_face in
-        rw (empty, size) (AllZip-replicate (AgreesJobs work) [] new_account terms (λ t. record { results = refl; lefts = refl }));
+        let none = AllZip-replicate (AgreesJobs work) [] new_account terms (λ t. record { results = refl; lefts = refl }) in
+        rw (empty, size) none;
   }
 
 -- n ticks are one jump
@@ -142,17 +144,19 @@ module _ {W : Type 0} {work : Meaning W} {core held : CoreHeld W} {M : History W
     pub unit_agrees : {shown : List Face} {queues : List (List W)} {rooms : List ℕ}
         → shown ≡ map (with_replenishment (core.clock + 1)) (changed_at (with_unit done) core.faces s) → queues ≡ changed_at (jobs_run work) core.queues s
         → Agrees work (record { backlog = core.backlog; clock = core.clock + 1; faces = shown; queues = queues; rooms = rooms }) (M ⊕ Run)
-    unit_agrees is run = record { world = rw next_early record {
-      same_backlog = agrees.same_backlog;
-      clock = ap (λ n. n + 1) agrees.clock;
-      shown = is ∙ rw (agrees.shown, agrees.clock)
-          (sym (replenished_faces work (w.now + 1) (changed_at account_with_unit w.accounts s)
-          ∙ ap (map (with_replenishment (w.now + 1))) (map-changed_at (face_of work) account_with_unit (with_unit done) w.accounts s no_account (unit_face work (list_at core.queues s) (account w.accounts s) (jobs_are s may.within) law may.active may.unfinished))));
-      jobs = rw run (AllZip-map (AgreesJobs work) (account_with_replenishment (w.now + 1)) (changed_at (jobs_run work) core.queues s) (changed_at account_with_unit w.accounts s)
-          (AllZip-changed_at (AgreesJobs work) core.queues w.accounts s [] no_account (jobs_run work) account_with_unit agrees.jobs may.queue
-          (λ here. unit_jobs work (list_at core.queues s) (account w.accounts s) here law may.active may.unfinished))
-          (λ jobs a here. record { results = here.results; lefts = here.lefts }));
-    } }
+    unit_agrees is run = record {
+      world = rw next_early record {
+        same_backlog = agrees.same_backlog;
+        clock = ap (λ n. n + 1) agrees.clock;
+        shown = is ∙ rw (agrees.shown, agrees.clock)
+            (sym (replenished_faces work (w.now + 1) (changed_at account_with_unit w.accounts s)
+            ∙ ap (map (with_replenishment (w.now + 1))) (map-changed_at (face_of work) account_with_unit (with_unit done) w.accounts s no_account (unit_face work (list_at core.queues s) (account w.accounts s) (jobs_are s may.within) law may.active may.unfinished))));
+        jobs = rw run (AllZip-map (AgreesJobs work) (account_with_replenishment (w.now + 1)) (changed_at (jobs_run work) core.queues s) (changed_at account_with_unit w.accounts s)
+            (AllZip-changed_at (AgreesJobs work) core.queues w.accounts s [] no_account (jobs_run work) account_with_unit agrees.jobs may.queue
+            (λ here. unit_jobs work (list_at core.queues s) (account w.accounts s) here law may.active may.unfinished))
+            (λ jobs a here. record { results = here.results; lefts = here.lefts }));
+      };
+    }
 
   -- an advance by 0 leaves the world as it is
   pub advance_none : (n : ℕ) → n ≡ 0 → world_after work (M ⊕ Advance n) ≡ w
@@ -164,12 +168,14 @@ module _ {W : Type 0} {work : Meaning W} {core held : CoreHeld W} {M : History W
       → Agrees work (record { backlog = core.backlog; clock = core.clock + n; faces = shown; queues = core.queues; rooms = rooms }) (M ⊕ Advance n)
   advance_agrees n early some is =
       let t : leb (w.now + n) clock_end ≡ true = let c = agrees.clock in grind (arith, nat_tests) in
-      record { world = rw (t, ticks_some n w some) record {
-        same_backlog = agrees.same_backlog;
-        clock = ap (λ m. m + n) agrees.clock;
-        shown = is ∙ rw (agrees.shown, agrees.clock) (sym (replenished_faces work (w.now + n) w.accounts));
-        jobs = AllZip-map (AgreesJobs work) (account_with_replenishment (w.now + n)) core.queues w.accounts agrees.jobs (λ jobs a here. record { results = here.results; lefts = here.lefts });
-      } }
+      record {
+        world = rw (t, ticks_some n w some) record {
+          same_backlog = agrees.same_backlog;
+          clock = ap (λ m. m + n) agrees.clock;
+          shown = is ∙ rw (agrees.shown, agrees.clock) (sym (replenished_faces work (w.now + n) w.accounts));
+          jobs = AllZip-map (AgreesJobs work) (account_with_replenishment (w.now + n)) core.queues w.accounts agrees.jobs (λ jobs a here. record { results = here.results; lefts = here.lefts });
+        };
+      }
 
   -- why a submit to s is refused, if it is
   pub same_refusal : (s : ℕ) (o : Option CoreError) → o ≡ submit_refusal core.backlog core.faces s
@@ -202,14 +208,16 @@ module _ {W : Type 0} {work : Meaning W} {core held : CoreHeld W} {M : History W
         → Agrees work (record { backlog = core.backlog; clock = core.clock; faces = shown; queues = queues; rooms = rooms }) (M ⊕ Submit s job)
     submit_agrees lt is joined some =
         let paid = paid_after work M.setup M.steps s in
-        record { world = rw (submit_left s job None e) record {
-          same_backlog = agrees.same_backlog;
-          clock = agrees.clock;
-          shown = is ∙ rw (agrees.shown, agrees.clock)
-              (sym (map-changed_at (face_of work) (account_with_job work w.now job) (with_job w.now) w.accounts s no_account (job_face work (list_at core.queues s) (account w.accounts s) (jobs_are s lt) w.now job paid some)));
-          jobs = rw joined (AllZip-changed_at (AgreesJobs work) core.queues w.accounts s [] no_account (λ jobs. jobs ++ job ∷ []) (account_with_job work w.now job) agrees.jobs (within_queues s lt)
-              (λ here. job_jobs work (list_at core.queues s) (account w.accounts s) here w.now job paid some));
-        } }
+        record {
+          world = rw (submit_left s job None e) record {
+            same_backlog = agrees.same_backlog;
+            clock = agrees.clock;
+            shown = is ∙ rw (agrees.shown, agrees.clock)
+                (sym (map-changed_at (face_of work) (account_with_job work w.now job) (with_job w.now) w.accounts s no_account (job_face work (list_at core.queues s) (account w.accounts s) (jobs_are s lt) w.now job paid some)));
+            jobs = rw joined (AllZip-changed_at (AgreesJobs work) core.queues w.accounts s [] no_account (λ jobs. jobs ++ job ∷ []) (account_with_job work w.now job) agrees.jobs (within_queues s lt)
+                (λ here. job_jobs work (list_at core.queues s) (account w.accounts s) here w.now job paid some));
+          };
+        }
 
   -- a close of s, by why it is refused
   module _ (s : ℕ) (o : Option CoreError) (e : o ≡ close_refusal core.faces s) where
@@ -228,9 +236,11 @@ module _ {W : Type 0} {work : Meaning W} {core held : CoreHeld W} {M : History W
   pub close_agrees : (s : ℕ) {shown : List Face} {rooms : List ℕ} → None ≡ close_refusal core.faces s
       → shown ≡ changed_at with_close core.faces s
       → Agrees work (record { backlog = core.backlog; clock = core.clock; faces = shown; queues = core.queues; rooms = rooms }) (M ⊕ Close s)
-  close_agrees s e is = record { world = rw (close_left s None e) record {
-    same_backlog = agrees.same_backlog;
-    clock = agrees.clock;
-    shown = is ∙ rw agrees.shown (sym (map-changed_at (face_of work) account_with_close with_close w.accounts s no_account refl));
-    jobs = AllZip-changed_second (AgreesJobs work) account_with_close core.queues w.accounts s agrees.jobs (λ jobs a here. record { results = here.results; lefts = here.lefts });
-  } }
+  close_agrees s e is = record {
+    world = rw (close_left s None e) record {
+      same_backlog = agrees.same_backlog;
+      clock = agrees.clock;
+      shown = is ∙ rw agrees.shown (sym (map-changed_at (face_of work) account_with_close with_close w.accounts s no_account refl));
+      jobs = AllZip-changed_second (AgreesJobs work) account_with_close core.queues w.accounts s agrees.jobs (λ jobs a here. record { results = here.results; lefts = here.lefts });
+    };
+  }

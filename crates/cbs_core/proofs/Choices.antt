@@ -72,7 +72,8 @@ before_later ranks i b lt le = grind (arith, nat_tests)
 
 module _ (ranks : List Rank) (i : ℕ) where
   -- a ready rank that is before all ready ones so far is the earliest so far
-  best_new : (rank_at ranks i).ready ≡ true → ((r : ℕ) → r < i → (rank_at ranks r).ready ≡ true → is_before ranks i r ≡ true) → IsEarliest ranks (i + 1) i
+  best_new : (rank_at ranks i).ready ≡ true → ((r : ℕ) → r < i → (rank_at ranks r).ready ≡ true → is_before ranks i r ≡ true)
+      → IsEarliest ranks (i + 1) i
   best_new t before = record {
     within = omega arith;
     ready = t;
@@ -116,4 +117,6 @@ found_choice ranks (suc n) =
 
 -- the chosen server is the choice in words of its own
 pub choice_is : (ranks : List Rank) → IsChoice ranks (length ranks) (chosen_among ranks)
-choice_is ranks = let h = found_choice ranks (length ranks) in subst (λ o. IsChoice ranks (length ranks) o) (chosen_best ranks h.0 h.1) h.1
+choice_is ranks =
+    let h = found_choice ranks (length ranks) in
+    subst (λ o. IsChoice ranks (length ranks) o) (chosen_best ranks h.0 h.1) h.1

@@ -37,7 +37,8 @@ range_with_len-append k (suc m) n =
 
 -- a part within a list is a part of every longer list
 part_of_more : {X : Type 0} (k m : ℕ) (xs more : List X) → k + m ≤ length xs → take m (drop k (xs ++ more)) ≡ take m (drop k xs)
-part_of_more k m xs more le = rw (drop-append-le k xs more (omega arith), take-append-le m (drop k xs) more (omega (arith, length-drop k xs)))
+part_of_more k m xs more le =
+    rw (drop-append-le k xs more (omega arith), take-append-le m (drop k xs) more (omega (arith, length-drop k xs)))
 
 -- the part of one element is that element
 part_of_one : (k : ℕ) (xs : List ℕ) → k < length xs → take 1 (drop k xs) ≡ get_or xs k 0 ∷ []
@@ -76,7 +77,8 @@ module _ {W : Type 0} (work : Meaning W) where
       }
 
   -- the accepted jobs stay, and more may follow
-  accepted_grown : (M : History W) (x : Step W) (r : Reply W) (s : ℕ) → (more : List W) × ((account_in work (grown M x r) s).accepted ≡ (account_in work M s).accepted ++ more)
+  accepted_grown : (M : History W) (x : Step W) (r : Reply W) (s : ℕ)
+      → (more : List W) × ((account_in work (grown M x r) s).accepted ≡ (account_in work M s).accepted ++ more)
   accepted_grown M x r s =
       let before = (account_in work M s).accepted in
       holds_grown work (λ a. (more : List W) × (a.accepted ≡ before ++ more))

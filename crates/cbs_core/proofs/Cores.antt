@@ -42,7 +42,8 @@ module _ {W : Type 0} (work : Meaning W) (mode : Mode) (backlog : ℕ) where
         small = small;
         clock = omega arith;
         each = rw shown (all_new rates ok);
-        jobs = rw (shown, empty, size) (AllZip-replicate (HoldsBacklog work) [] new_face (terms_of mode rates) (λ t. record { counted = refl; unfinished = tt }));
+        jobs = rw (shown, empty, size)
+            (AllZip-replicate (HoldsBacklog work) [] new_face (terms_of mode rates) (λ t. record { counted = refl; unfinished = tt }));
       }
 
 -- what a run of server s may rest on
@@ -67,7 +68,10 @@ module _ {W : Type 0} {work : Meaning W} {core : CoreHeld W} (ok : IsCore work c
 
   -- a server that a job may come in for has a queue
   pub queue_there : (s : ℕ) → None ≡ submit_refusal core.backlog core.faces s → s < length core.queues
-  queue_there s free = let n = queue_count in let lt = (free_accepts {core = core} refl s free).is_open.within in omega arith
+  queue_there s free =
+      let n = queue_count in
+      let lt = (free_accepts {core = core} refl s free).is_open.within in
+      omega arith
 
   -- each server holds its backlog
   pub backlog_at : (s : ℕ) → s < length core.faces → HoldsBacklog work (list_at core.queues s) (face_at core.faces s)

@@ -30,8 +30,10 @@ module _ {W : Type 0} where
     new = record { backlog = old.backlog; clock = clock; faces = faces; queues = queues; rooms = rooms }
 
     -- a replenishment of all leaves the jobs of each
-    pub jumped_same : (now : ℕ) → faces ≡ map (with_replenishment now) old.faces → queues ≡ old.queues → AllSame held new
-    jumped_same now shown same = rw (← view) (λ t. rw (shown, same) (replenished_same now old.faces t (list_at old.queues t)))
+    pub jumped_same : (now : ℕ) → faces ≡ map (with_replenishment now) old.faces → queues ≡ old.queues
+        → AllSame held new
+    jumped_same now shown same =
+        rw (← view) (λ t. rw (shown, same) (replenished_same now old.faces t (list_at old.queues t)))
 
     -- server s alone is changed
     module _ (s : ℕ) (f : Face → Face) (g : List W → List W) (shown : faces ≡ changed_at f old.faces s) (jobs : queues ≡ changed_at g old.queues s) where
@@ -98,4 +100,6 @@ module _ {W : Type 0} where
       record { jobs = j; accepted = k.accepted ∙ ap (λ (x : Face). x.accepted) e; finished = k.finished ∙ ap (λ (x : Face). x.finished) e; closed = k.closed ∙ ap (λ (x : Face). x.closed) e } in
       let here : list_at queues s ≡ jobs_run work (list_at old.queues s) = rw jobs (changed_here (jobs_run work) old.queues s [] may.queue) in
       let there : SameJobs (record { face = f (face_at old.faces s); jobs = list_at queues s }) (held_at new s) = rw (changed_here f old.faces s no_face may.within) at (late s) in
-      rw (← view) (ran_jobs work law s old new others (list_at old.queues s) (face_at old.faces s).finished r may.active may.unfinished refl here there refl is)
+      let jobs = list_at old.queues s in
+      let q = (face_at old.faces s).finished in
+      rw (← view) (ran_jobs work law s old new others jobs q r may.active may.unfinished refl here there refl is)

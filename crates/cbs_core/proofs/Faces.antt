@@ -19,7 +19,8 @@ length-ranks fs = simp length-map
 
 -- what the choice sees of a server
 pub rank_ready : (fs : List Face) (s : ℕ) → (rank_at (ranks fs) s).ready ≡ is_ready (face_at fs s)
-rank_ready fs s = ap (λ (r : Rank). r.ready) (get_or-map (λ (f : Face). record { ready = is_ready f; deadline = f.state.deadline }) fs s no_face)
+rank_ready fs s =
+    ap (λ (r : Rank). r.ready) (get_or-map (λ (f : Face). record { ready = is_ready f; deadline = f.state.deadline }) fs s no_face)
 
 -- a ready server is active and not throttled
 pub record IsRunnable (f : Face) : Type 0 where

@@ -30,7 +30,9 @@ front xs k y ys e =
 
 -- the units of one job more are its own and those before it
 need_more : {W : Type 0} (f : W → ℕ) (xs : List W) (k : ℕ) (y : W) (ys : List W) → drop k xs ≡ y ∷ ys → sum_by f (take (k + 1) xs) ≡ sum_by f (take k xs) + f y
-need_more f xs k y ys e = let h = front xs k y ys e in sum_by_more f xs k y h.within ∙ ap (λ z. sum_by f (take k xs) + f z) h.here
+need_more f xs k y ys e =
+    let h = front xs k y ys e in
+    sum_by_more f xs k y h.within ∙ ap (λ z. sum_by f (take k xs) + f z) h.here
 
 -- two lists of the same measures are positive alike
 positive_along : {W : Type 0} (f : W → ℕ) (xs ys : List W) → map f xs ≡ map f ys → AllByRecursion (λ w. 0 < f w) xs → AllByRecursion (λ w. 0 < f w) ys
@@ -126,7 +128,7 @@ served_cases work law (job ∷ js) xs g k (y ∷ ys) d le c v l all some =
     let w' : map (whole work) js ≡ map (whole work) ys = cc in
     let l' : work.left job ≡ sum_by work.left (take (k + 1) xs) - g = cc in
     let ls' : map work.left js ≡ map work.left ys = cc in
-    let told : get_or (map (whole work) xs) k 0 ≡ whole work y = get_or-map (whole work) xs k y 0 short ∙ ap (whole work) at.here in
+    let told = get_or-map (whole work) xs k y 0 short ∙ ap (whole work) at.here in
     let test = test_served work law job js xs g k y ys c short d v' w' l' ls' all in
     elim (cases_Bool (eqb (work.left (work.after job)) 0)) [
       | inl e ↦

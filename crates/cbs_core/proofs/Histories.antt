@@ -25,7 +25,8 @@ module _ {W : Type 0} (work : Meaning W) where
   -- the chosen server is ready
   pub chosen_is_ready : (w : World W) (s : ℕ) → chosen work w ≡ Some s → is_ready (face_of work (account w.accounts s)) ≡ true
   chosen_is_ready w s e =
-      let h : IsChoice (ranks (faces work w)) (length (ranks (faces work w))) (Some s) = rw e at (choice_is (ranks (faces work w))) in
+      let rs = ranks (faces work w) in
+      let h : IsChoice rs (length rs) (Some s) = rw e at (choice_is rs) in
       ap is_ready (sym (account_face w.accounts s)) ∙ sym (rank_ready (faces work w) s) ∙ h.ready
 
   -- the server of a Run that runs is ready

@@ -162,9 +162,12 @@ module _ {W : Type 0} (work : Meaning W) (core : CoreHeld W) (setup : Setup) (ag
       let n = new_count in
       let opened : List (Account W) = map new_account setup.servers in
       let terms = get_or setup.servers s no_face.terms in
-      let is : account opened s ≡ new_account terms = get_or-map new_account setup.servers s no_face.terms no_account (omega arith) in
+      let is : account opened s ≡ new_account terms =
+      get_or-map new_account setup.servers s no_face.terms no_account (omega arith) in
       let count = AllZip-length (AgreesJobs work) core.queues opened agrees.world.jobs in
       let within : s < length core.queues = omega (arith, length-map setup.servers (new_account {W = W})) in
       let here = rw is at (AllZip-get (AgreesJobs work) core.queues opened s [] no_account agrees.world.jobs within) in
-      let shown : face_at core.faces s ≡ new_face terms = ap (λ fs. face_at fs s) agrees.world.shown ∙ account_face work opened s ∙ ap (face_of work) is in
-      record { jobs = nil_from_length (list_at core.queues s) (simp length-map at (ap length here.results)); accepted = rw shown; finished = rw shown; unclosed = rw shown }
+      let face = account_face work opened s ∙ ap (face_of work) is in
+      let shown : face_at core.faces s ≡ new_face terms = ap (λ fs. face_at fs s) agrees.world.shown ∙ face in
+      let none = nil_from_length (list_at core.queues s) (simp length-map at (ap length here.results)) in
+      record { jobs = none; accepted = rw shown; finished = rw shown; unclosed = rw shown }

@@ -21,7 +21,8 @@ module _ {W : Type 0} {core held : CoreHeld W} (view : core ≡ held) (s : ℕ) 
   data Case : Type 0 where
     absent : length core.faces ≤ s → submitting ≡ Some error.NoSuchServer → closing ≡ Some error.NoSuchServer → Case
     shut : IsClosed core s → submitting ≡ Some error.Closed → closing ≡ Some error.Closed → Case
-    full : IsOpen core s → core.backlog ≤ backlog_of (face_at core.faces s) → submitting ≡ Some error.BacklogFull → closing ≡ None → Case
+    full : IsOpen core s → core.backlog ≤ backlog_of (face_at core.faces s) → submitting ≡ Some error.BacklogFull
+        → closing ≡ None → Case
     free : Accepts core s → closing ≡ None → Case
 
   -- a submit that would be accepted is not refused
@@ -29,7 +30,8 @@ module _ {W : Type 0} {core held : CoreHeld W} (view : core ≡ held) (s : ℕ) 
   accepts_free accepts =
       let is = rw (← view) at accepts in
       let lt = is.is_open.within in
-      let room : leb core.backlog (backlog_of (face_at core.faces s)) ≡ false = let few = is.few in grind (arith, nat_tests) in
+      let few = is.few in
+      let room : leb core.backlog (backlog_of (face_at core.faces s)) ≡ false = grind (arith, nat_tests) in
       rw (slice_get-get_or core.faces s no_face lt, is.is_open.unclosed, room)
 
   -- an open server is not refused a close
@@ -54,11 +56,13 @@ module _ {W : Type 0} {core held : CoreHeld W} (view : core ≡ held) (s : ℕ) 
 
   -- and a submit that is not refused would be accepted
   pub free_accepts : None ≡ submitting → Accepts held s
-  free_accepts e = rw (← view) (elim case [ absent ge n k ↦ cc | shut is n k ↦ cc | full is many n k ↦ cc | free is k ↦ is ])
+  free_accepts e =
+      rw (← view) (elim case [ absent ge n k ↦ cc | shut is n k ↦ cc | full is many n k ↦ cc | free is k ↦ is ])
 
   -- and a server that is not refused a close is open
   pub free_open : None ≡ closing → IsOpen held s
-  free_open e = rw (← view) (elim case [ absent ge n k ↦ cc | shut is n k ↦ cc | full is many n k ↦ is | free is k ↦ is.is_open ])
+  free_open e =
+      rw (← view) (elim case [ absent ge n k ↦ cc | shut is n k ↦ cc | full is many n k ↦ is | free is k ↦ is.is_open ])
 
   -- a refusal, in words of what is held
   pub refused_by : (e : CoreError) → Some e ≡ submitting → IsRefusedBy held s e

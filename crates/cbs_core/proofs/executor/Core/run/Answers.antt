@@ -65,8 +65,9 @@ returns-clause-state g c = λ M agrees.
 pub returns-clause-job : goal.returns-clause-job
 returns-clause-job g c =
     let may = may_run c.self.invariant c.in-Some.ensures.choice c.if-self-ge-LIMIT.false in
-    did_run g.met.W.Work.lowers c.self.view_is (c.self.inside.clock + 1) _ c.replenish.new.self c.run_first-result.new.self.lists
-    c.run_first-result.new.self.rooms c.in-Some.server c.ran_from.result may (ran g c) (shown g c) c.run_first-result.ensures.lists
+    let queues = c.run_first-result.new.self in
+    did_run g.met.W.Work.lowers c.self.view_is (c.self.inside.clock + 1) _ c.replenish.new.self queues.lists queues.rooms
+    c.in-Some.server c.ran_from.result may (ran g c) (shown g c) c.run_first-result.ensures.lists
 
 pub returns-clause-budgets : goal.returns-clause-budgets
 returns-clause-budgets g c = budgets_kept (invariant_of-self g c)

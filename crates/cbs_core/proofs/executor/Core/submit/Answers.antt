@@ -22,7 +22,8 @@ pub reserve-requires : goal.reserve-requires
 reserve-requires g c = queue_there c.self.invariant c.args.server c.in_default.ensures
 
 pub submit_reserved-requires : goal.submit_reserved-requires
-submit_reserved-requires g c = record { accepts = free_accepts refl c.args.server c.in_default.ensures; room = search rules }
+submit_reserved-requires g c =
+    record { accepts = free_accepts refl c.args.server c.in_default.ensures; room = search rules }
 
 pub returns-then-is_err-clause-only_accepted : goal.returns-then-is_err-clause-only_accepted
 returns-then-is_err-clause-only_accepted g c = λ lacks M agrees.
