@@ -85,6 +85,7 @@ module _ {W : Type 0} {work : Meaning W} {core held : CoreHeld W} {M : History W
   abbrev w : World W
   w = world_after work M
 
+  -- the core as the call sees it agrees too
   agrees : AgreesWorld work core M.setup.backlog w
   agrees = rw view before.world
 

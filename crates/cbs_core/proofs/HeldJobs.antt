@@ -16,12 +16,13 @@ use Rattle.cbs_core.specs.Queues.{jobs_run, result_run, ran_of}
 use Rattle.cbs_core.specs.declared.reply.Ran.TheVariants as ran
 use Rattle.cbs_core.proofs.FinishedJobs.{count_done, count_done-le, count_done_within, count_done_beyond, count_done-is}
 
--- what stands at the front of the rest is there, and before what follows
+-- y stands at place k, and ys follow it
 record IsFront {W : Type 0} (xs : List W) (k : ℕ) (y : W) (ys : List W) : Type 0 where
   within : k < length xs
   here : get_or xs k y ≡ y
   rest : drop (k + 1) xs ≡ ys
 
+-- so it is of each rest that is not empty
 front : {W : Type 0} (xs : List W) (k : ℕ) (y : W) (ys : List W) → drop k xs ≡ y ∷ ys → IsFront xs k y ys
 front xs k y ys e =
     let within : k < length xs = let n = ap length e in omega (arith, length-drop k xs) in
