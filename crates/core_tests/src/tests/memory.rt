@@ -52,9 +52,10 @@ fn all_come_to<A: Allocator + Clone + Copy>(rt: &impl Abort, global: Global, all
     comes_to(rt, alloc, peak_of(rt, global, &[4, 9, 2]), 9);
     let sum = SumJob::new(Vec::from_slice(global, &[1, 2, 3]).expect(rt, "memory"));
     let peak = PeakJob::new(Vec::from_slice(global, &[4, 9, 2]).expect(rt, "memory"));
-    for (job, output) in [(FileJob::Sum(sum), 6), (FileJob::Peak(peak), 9)] {
-        comes_to(rt, alloc, Task::new(job).ok().expect(rt, "a task"), output);
-    }
+    let sum = Task::new(FileJob::Sum(sum)).ok().expect(rt, "a task");
+    let peak = Task::new(FileJob::Peak(peak)).ok().expect(rt, "a task");
+    comes_to(rt, alloc, sum, 6);
+    comes_to(rt, alloc, peak, 9);
 }
 
 #[test]
