@@ -1,10 +1,8 @@
 //! Traces of whole files, and what the lines say.
 
-use super::fakes::ran;
-use cbs_run::Verb;
+use super::fakes::replays;
 use std::alloc::Global;
 use std::process::Abort;
-use std::test::Fail;
 use std::thread::Threads;
 
 const SOFT: &str = "format = 1\nmode = \"soft\"\nbound = [1, 1]\nbacklog = 4\nring = 4\n";
@@ -317,16 +315,16 @@ const NO_SERVER: Row = Row {
 };
 
 /// Ends the test where the file of a row gives other lines.
-fn gives<R: Abort + Threads + Sync>(rt: &R, alloc: Global, row: &Row) -> Result<(), Fail> {
+fn gives<R: Abort + Threads + Sync>(rt: &R, alloc: Global, row: &Row) {
     let (head, server, step) = (row.head, row.server, row.step);
-    let file = format!(in alloc; "{head}server = [{server}]\nstep = [{step}]\n")?;
-    let ran = ran(rt, alloc, Verb::Replay, file.as_bytes());
-    ran.leaves(rt, row.name, 0, row.lines, "");
-    Ok(())
+    let file = format!(in alloc; "{head}server = [{server}]\nstep = [{step}]\n").expect(
+        rt, "memory",
+    );
+    replays(rt, alloc, row.name, file.as_bytes(), 0, row.lines, "");
 }
 
 #[test]
-fn files_give_their_lines(rt: HostRuntime) -> Result<(), Fail> {
+fn files_give_their_lines(rt: HostRuntime) {
     let alloc = rt.alloc();
     for row in &[
         NO_STEP,
@@ -346,7 +344,6 @@ fn files_give_their_lines(rt: HostRuntime) -> Result<(), Fail> {
         THREE_THROTTLED,
         NO_SERVER,
     ] {
-        gives(&rt, alloc, row)?;
+        gives(&rt, alloc, row);
     }
-    Ok(())
 }
