@@ -314,12 +314,14 @@ const NO_SERVER: Row = Row {
     lines: "@0 run idle\n@0 advance 0\n",
 };
 
+/// A task file of these parts.
+fn file_of(rt: &impl Abort, alloc: Global, head: &str, server: &str, step: &str) -> String {
+    format!(in alloc; "{head}server = [{server}]\nstep = [{step}]\n").expect(rt, "memory")
+}
+
 /// Ends the test where the file of a row gives other lines.
 fn gives<R: Abort + Threads + Sync>(rt: &R, alloc: Global, row: &Row) {
-    let (head, server, step) = (row.head, row.server, row.step);
-    let file = format!(in alloc; "{head}server = [{server}]\nstep = [{step}]\n").expect(
-        rt, "memory",
-    );
+    let file = file_of(rt, alloc, row.head, row.server, row.step);
     replays(rt, alloc, row.name, file.as_bytes(), 0, row.lines, "");
 }
 
