@@ -1,17 +1,17 @@
 -- What agreement with a history becomes, through each step.
-use Rattle.std.proofs.Common.{◌≡◌, ℕ, zero, suc, ◌+◌, ◌≤◌, ◌<◌, List, [], ◌∷◌, ◌++◌, length, map, replicate, refl, ap, sym, ◌∙◌, arith, true, false, Bool, leb, ltb, cond, is_some, Option, Some, None}
+use Rattle.std.proofs.Common.{◌≡◌, ℕ, zero, suc, ◌+◌, ◌-◌, ◌≤◌, ◌<◌, List, [], ◌∷◌, ◌++◌, length, map, replicate, refl, ap, sym, ◌∙◌, arith, true, false, Bool, leb, ltb, cond, is_some, Option, Some, None}
 use Rattle.std.proofs.lemmas.Bool.Decides.{nat_tests}
 use Rattle.std.proofs.lemmas.List.{length-map}
-use Rattle.std.specs.List.{AllByRecursion, AllZip}
+use Rattle.std.proofs.lemmas.Simd.{map-map}
 use Rattle.cbs_job.specs.Work.{Meaning, Lowers}
 use Rattle.cbs_rules.specs.Rules.{clock_end, Terms}
 use Rattle.cbs_rules.proofs.Replenishments.{replenished_twice}
 use Rattle.cbs_core.specs.Lists.{changed_at}
 use Rattle.cbs_core.specs.Choice.{chosen_among}
 use Rattle.cbs_core.specs.Faces.{Face, new_face, face_at, ranks, submit_refusal, close_refusal, with_job, with_unit, with_replenishment, with_close}
-use Rattle.cbs_core.specs.Accounts.{Account, need, face_of, new_account, no_account, account_with_job, account_with_unit, account_with_replenishment, account_with_close}
-use Rattle.cbs_core.specs.History.{World, account, faces, chosen, tick, ticks, start, runner, after_submit, after_run, after_closing, next, run_reply, submit_reply, close_reply, reply_to}
-use Rattle.cbs_core.specs.Agreement.{AgreesJobs, AgreesWorld}
+use Rattle.cbs_core.specs.Accounts.{Account, face_of, new_account, no_account, account_with_job, account_with_unit, account_with_replenishment, account_with_close}
+use Rattle.cbs_core.specs.History.{World, History, ◌⊕◌, account, faces, chosen, tick, ticks, start, after_submit, after_run, after_closing, world_after, run_reply, submit_reply, close_reply, reply_in}
+use Rattle.cbs_core.specs.Agreement.{AgreesJobs, AgreesWorld, Agrees}
 use Rattle.cbs_core.specs.Replies.{IsAccepted}
 use Rattle.cbs_core.specs.Held.{CoreHeld}
 use Rattle.cbs_core.specs.Queues.{list_at, jobs_run, result_run, ran_of}
@@ -20,7 +20,10 @@ use Rattle.cbs_core.specs.declared.reply.Ran.{Ran}
 use Rattle.cbs_core.specs.declared.reply.Ran.TheVariants as ran
 use Rattle.cbs_core.specs.declared.reply.Reply.TheVariants as reply
 use Rattle.cbs_core.specs.declared.step.Step.TheVariants.{Submit, Run, Advance, Close}
-use Rattle.cbs_core.proofs.Lists.{map-maps, map-changed_at, AllZip-length, AllZip-get, AllZip-map, AllZip-changed_at, AllZip-changed_second}
+use Rattle.cbs_core.proofs.Cores.{MayRun}
+use Rattle.cbs_core.proofs.Histories.{account_face}
+use Rattle.cbs_core.proofs.PaidUnits.{paid_after}
+use Rattle.cbs_core.proofs.Lists.{map-changed_at, AllZip-length, AllZip-get, AllZip-map, AllZip-replicate, AllZip-changed_at, AllZip-changed_second}
 use Rattle.cbs_core.proofs.HeldJobs.{unit_jobs, unit_face, unit_ran, job_jobs, job_face}
 
 cond_same : {X : Type 0} {x : X} (b : Bool) → cond b x x ≡ x
@@ -30,22 +33,13 @@ cond_same false = refl
 module _ {W : Type 0} (work : Meaning W) where
   -- what is shown of replenished servers
   pub replenished_faces : (now : ℕ) (accounts : List (Account W)) → map (face_of work) (map (account_with_replenishment now) accounts) ≡ map (with_replenishment now) (map (face_of work) accounts)
-  replenished_faces now accounts = map-maps (face_of work) (account_with_replenishment now) (with_replenishment now) accounts (λ a. refl)
-
-  -- what a server shows is what its account shows
-  pub account_face : (accounts : List (Account W)) (s : ℕ) → face_at (map (face_of work) accounts) s ≡ face_of work (account accounts s)
-  account_face [] s = refl
-  account_face (a ∷ accounts) zero = refl
-  account_face (a ∷ accounts) (suc s) = account_face accounts s
+  replenished_faces now accounts =
+      map-map (face_of work) (account_with_replenishment now) accounts
+      ∙ sym (map-map (with_replenishment now) (face_of work) accounts)
 
   -- a new core agrees with the start
   new_faces : (terms : List Terms) → map new_face terms ≡ map (face_of work) (map new_account terms)
-  new_faces [] = refl
-  new_faces (t ∷ ts) = ap (λ fs. new_face t ∷ fs) (new_faces ts)
-
-  new_jobs : (terms : List Terms) → AllZip (AgreesJobs work) (replicate (length terms) []) (map new_account terms)
-  new_jobs [] = tt
-  new_jobs (t ∷ ts) = (record { results = refl; lefts = refl }, new_jobs ts)
+  new_faces terms = sym (map-map (face_of work) new_account terms)
 
   -- a new core, with the faces and empty queues of new servers, agrees with the start
   pub start_agrees : (terms : List Terms) (backlog n : ℕ) (shown : List Face) (queues : List (List W)) (rooms : List ℕ) → shown ≡ map new_face terms → n ≡ length shown → queues ≡ replicate n []
@@ -54,7 +48,9 @@ module _ {W : Type 0} (work : Meaning W) where
     same_backlog = refl;
     clock = refl;
     shown = e ∙ new_faces terms;
-    jobs = let size : n ≡ length terms = count ∙ ap length e ∙ length-map terms new_face in rw (empty, size) (new_jobs terms);
+    jobs = let size : n ≡ length terms = count ∙ ap length e ∙ length-map terms new_face in
+        let none = AllZip-replicate (AgreesJobs work) [] new_account terms (λ t. record { results = refl; lefts = refl }) in
+        rw (empty, size) none;
   }
 
 -- n ticks are one jump
@@ -84,7 +80,15 @@ module _ {W : Type 0} where
   ticks_some zero w h = absurd (omega arith)
   ticks_some (suc n) w h = ticks_jump n w
 
-module _ {W : Type 0} (work : Meaning W) (core : CoreHeld W) (backlog : ℕ) (w : World W) (agrees : AgreesWorld work core backlog w) where
+module _ {W : Type 0} {work : Meaning W} {core held : CoreHeld W} {M : History W} (view : core ≡ held)
+    (before : Agrees work held M) where
+  abbrev w : World W
+  w = world_after work M
+
+  -- the core as the call sees it agrees too
+  agrees : AgreesWorld work core M.setup.backlog w
+  agrees = rw view before.world
+
   -- the choice among the faces held is the chosen server
   pub choice_agrees : chosen_among (ranks core.faces) ≡ chosen work w
   choice_agrees = ap (λ fs. chosen_among (ranks fs)) agrees.shown
@@ -99,126 +103,122 @@ module _ {W : Type 0} (work : Meaning W) (core : CoreHeld W) (backlog : ℕ) (w 
   jobs_are : (s : ℕ) → s < length core.faces → AgreesJobs work (list_at core.queues s) (account w.accounts s)
   jobs_are s lt = AllZip-get (AgreesJobs work) core.queues w.accounts s [] no_account agrees.jobs (within_queues s lt)
 
-  -- a run
-  module _ (o : Option ℕ) (e : o ≡ chosen_among (ranks core.faces)) where
-    -- a run is answered by the choice among the faces held
-    pub reply_by : run_reply work w (chosen work w) ≡ run_reply work w o
-    reply_by = ap (run_reply work w) (sym (e ∙ choice_agrees))
-
-    next_early : core.clock < clock_end → next work backlog w Run ≡ after_run w o
-    next_early early =
-        let n : ltb w.now clock_end ≡ true = let c = agrees.clock in grind (arith, nat_tests) in
-        let m : runner work w ≡ o = rw n (sym (e ∙ choice_agrees)) in
-        ap (after_run w) m
+  -- a run is answered by the choice among the faces held
+  pub reply_by : (o : Option ℕ) → o ≡ chosen_among (ranks core.faces)
+      → reply.Ran (run_reply work w o) ≡ reply_in work M Run
+  reply_by o e = ap (λ p. reply.Ran (run_reply work w p)) (e ∙ choice_agrees)
 
   -- at the clock's end a run leaves the world as it is
-  pub next_late : clock_end ≤ core.clock → next work backlog w Run ≡ w
-  next_late late =
-      let n : ltb w.now clock_end ≡ false = let c = agrees.clock in grind (arith, nat_tests) in
-      let m : runner work w ≡ None = rw n in
-      ap (after_run w) m
+  pub next_late : clock_end ≤ core.clock → world_after work (M ⊕ Run) ≡ w
+  next_late late = let n : ltb w.now clock_end ≡ false = let c = agrees.clock in grind (arith, nat_tests) in rw n
 
   -- where nobody is chosen a run leaves the world as it is
-  pub idle_next : None ≡ chosen_among (ranks core.faces) → next work backlog w Run ≡ w
-  idle_next e =
-      let m : chosen work w ≡ None = sym (e ∙ choice_agrees) in
-      let n : runner work w ≡ None = rw m (cond_same (ltb w.now clock_end)) in
-      ap (after_run w) n
+  pub idle_next : None ≡ chosen_among (ranks core.faces) → world_after work (M ⊕ Run) ≡ w
+  idle_next e = let n : chosen work w ≡ None = sym (e ∙ choice_agrees) in rw (n, cond_same (ltb w.now clock_end))
 
   -- at the clock's end a run is answered so
-  pub end_reply : (s : ℕ) → Some s ≡ chosen_among (ranks core.faces) → clock_end ≤ core.clock → run_reply work w (chosen work w) ≡ ran.ClockEnd
+  pub end_reply : (s : ℕ) → Some s ≡ chosen_among (ranks core.faces) → clock_end ≤ core.clock
+      → reply.Ran ran.ClockEnd ≡ reply_in work M Run
   end_reply s e late =
       let n : leb clock_end w.now ≡ true = let c = agrees.clock in grind (arith, nat_tests) in
-      reply_by (Some s) e ∙ rw n
+      rw n at (reply_by (Some s) e)
 
-  module _ (s : ℕ) (law : Lowers work) (e : Some s ≡ chosen_among (ranks core.faces)) (early : core.clock < clock_end) (lt : s < length core.faces)
-      (some : 0 < length (list_at core.queues s)) (left : AllByRecursion (λ j. 0 < work.left j) (list_at core.queues s)) where
+  module _ (s : ℕ) (law : Lowers work) (e : Some s ≡ chosen_among (ranks core.faces)) (may : MayRun work core s) where
     abbrev done : Bool
     done = is_some (result_run work (list_at core.queues s))
 
     -- what the unit is answered
-    pub unit_answered : (r : Ran) → r ≡ ran_of s (face_at core.faces s).finished (result_run work (list_at core.queues s)) → r ≡ run_reply work w (chosen work w)
+    pub unit_answered : (r : Ran) → r ≡ ran_of s (face_at core.faces s).finished (result_run work (list_at core.queues s))
+        → reply.Ran r ≡ reply_in work M Run
     unit_answered r is =
-        let n : leb clock_end w.now ≡ false = let c = agrees.clock in grind (arith, nat_tests) in
-        let here = unit_ran work (list_at core.queues s) (account w.accounts s) (jobs_are s lt) law some left s in
-        is ∙ ap (λ (f : Face). ran_of s f.finished (result_run work (list_at core.queues s))) (sym (face_is s)) ∙ here ∙ sym (reply_by (Some s) e ∙ rw n)
+        let n : leb clock_end w.now ≡ false = let c = agrees.clock in let k = may.early in grind (arith, nat_tests) in
+        let here = unit_ran work (list_at core.queues s) (account w.accounts s) (jobs_are s may.within) law may.active may.unfinished s in
+        let same = ap (λ (f : Face). ran_of s f.finished (result_run work (list_at core.queues s))) (sym (face_is s)) in
+        ap reply.Ran (is ∙ same ∙ here) ∙ rw n at (reply_by (Some s) e)
+
+    next_early : world_after work (M ⊕ Run) ≡ after_run w (Some s)
+    next_early =
+        let n : ltb w.now clock_end ≡ true = let c = agrees.clock in let k = may.early in grind (arith, nat_tests) in
+        rw n (ap (after_run w) (sym (e ∙ choice_agrees)))
 
     -- after the unit and the replenishment the core agrees with one run more
-    pub unit_agrees : (shown : List Face) (queues : List (List W)) (rooms : List ℕ)
+    pub unit_agrees : {shown : List Face} {queues : List (List W)} {rooms : List ℕ}
         → shown ≡ map (with_replenishment (core.clock + 1)) (changed_at (with_unit done) core.faces s) → queues ≡ changed_at (jobs_run work) core.queues s
-        → AgreesWorld work (record { backlog = core.backlog; clock = core.clock + 1; faces = shown; queues = queues; rooms = rooms }) backlog (next work backlog w Run)
-    unit_agrees shown queues rooms is run = rw (next_early (Some s) e early) record {
-      same_backlog = agrees.same_backlog;
-      clock = ap (λ n. n + 1) agrees.clock;
-      shown = is ∙ rw (agrees.shown, agrees.clock)
-          (sym (replenished_faces work (w.now + 1) (changed_at account_with_unit w.accounts s)
-          ∙ ap (map (with_replenishment (w.now + 1))) (map-changed_at (face_of work) account_with_unit (with_unit done) w.accounts s no_account (unit_face work (list_at core.queues s) (account w.accounts s) (jobs_are s lt) law some left))));
-      jobs = rw run (AllZip-map (AgreesJobs work) (account_with_replenishment (w.now + 1)) (changed_at (jobs_run work) core.queues s) (changed_at account_with_unit w.accounts s)
-          (AllZip-changed_at (AgreesJobs work) core.queues w.accounts s [] no_account (jobs_run work) account_with_unit agrees.jobs (within_queues s lt)
-          (λ here. unit_jobs work (list_at core.queues s) (account w.accounts s) here law some left))
-          (λ jobs a here. record { results = here.results; lefts = here.lefts }));
+        → Agrees work (record { backlog = core.backlog; clock = core.clock + 1; faces = shown; queues = queues; rooms = rooms }) (M ⊕ Run)
+    unit_agrees is run = record {
+      world = rw next_early record {
+        same_backlog = agrees.same_backlog;
+        clock = ap (λ n. n + 1) agrees.clock;
+        shown = is ∙ rw (agrees.shown, agrees.clock)
+            (sym (replenished_faces work (w.now + 1) (changed_at account_with_unit w.accounts s)
+            ∙ ap (map (with_replenishment (w.now + 1))) (map-changed_at (face_of work) account_with_unit (with_unit done) w.accounts s no_account (unit_face work (list_at core.queues s) (account w.accounts s) (jobs_are s may.within) law may.active may.unfinished))));
+        jobs = rw run (AllZip-map (AgreesJobs work) (account_with_replenishment (w.now + 1)) (changed_at (jobs_run work) core.queues s) (changed_at account_with_unit w.accounts s)
+            (AllZip-changed_at (AgreesJobs work) core.queues w.accounts s [] no_account (jobs_run work) account_with_unit agrees.jobs may.queue
+            (λ here. unit_jobs work (list_at core.queues s) (account w.accounts s) here law may.active may.unfinished))
+            (λ jobs a here. record { results = here.results; lefts = here.lefts }));
+      };
     }
 
-  -- an advance by n ticks that the clock's end allows
-  module _ (n : ℕ) (early : core.clock + n ≤ clock_end) where
-    within_end : leb (w.now + n) clock_end ≡ true
-    within_end = let c = agrees.clock in grind (arith, nat_tests)
+  -- an advance by 0 leaves the world as it is
+  pub advance_none : (n : ℕ) → n ≡ 0 → world_after work (M ⊕ Advance n) ≡ w
+  advance_none n none = rw (none, ticks_none w, cond_same (leb (w.now + 0) clock_end))
 
-    advance_next : next work backlog w (Advance n) ≡ ticks n w
-    advance_next = rw within_end
-
-    -- an advance by 0 leaves the world as it is
-    pub advance_none : n ≡ 0 → next work backlog w (Advance n) ≡ w
-    advance_none none = advance_next ∙ ap (λ m. ticks m w) none ∙ ticks_none w
-
-    -- after the jump the core agrees with one advance more
-    pub advance_agrees : (shown : List Face) (rooms : List ℕ) → 0 < n → shown ≡ map (with_replenishment (core.clock + n)) core.faces
-        → AgreesWorld work (record { backlog = core.backlog; clock = core.clock + n; faces = shown; queues = core.queues; rooms = rooms }) backlog (next work backlog w (Advance n))
-    advance_agrees shown rooms some is = rw (advance_next ∙ ticks_some n w some) record {
-      same_backlog = agrees.same_backlog;
-      clock = ap (λ m. m + n) agrees.clock;
-      shown = is ∙ rw (agrees.shown, agrees.clock) (sym (replenished_faces work (w.now + n) w.accounts));
-      jobs = AllZip-map (AgreesJobs work) (account_with_replenishment (w.now + n)) core.queues w.accounts agrees.jobs (λ jobs a here. record { results = here.results; lefts = here.lefts });
-    }
+  -- after a jump by n ticks that the clock's end allows, the core agrees with one advance more
+  pub advance_agrees : (n : ℕ) {shown : List Face} {rooms : List ℕ} → n ≤ clock_end - core.clock → 0 < n
+      → shown ≡ map (with_replenishment (core.clock + n)) core.faces
+      → Agrees work (record { backlog = core.backlog; clock = core.clock + n; faces = shown; queues = core.queues; rooms = rooms }) (M ⊕ Advance n)
+  advance_agrees n early some is =
+      let t : leb (w.now + n) clock_end ≡ true = let c = agrees.clock in grind (arith, nat_tests) in
+      record {
+        world = rw (t, ticks_some n w some) record {
+          same_backlog = agrees.same_backlog;
+          clock = ap (λ m. m + n) agrees.clock;
+          shown = is ∙ rw (agrees.shown, agrees.clock) (sym (replenished_faces work (w.now + n) w.accounts));
+          jobs = AllZip-map (AgreesJobs work) (account_with_replenishment (w.now + n)) core.queues w.accounts agrees.jobs (λ jobs a here. record { results = here.results; lefts = here.lefts });
+        };
+      }
 
   -- why a submit to s is refused, if it is
-  pub same_refusal : (s : ℕ) (o : Option CoreError) → o ≡ submit_refusal core.backlog core.faces s → submit_refusal backlog (faces work w) s ≡ o
+  pub same_refusal : (s : ℕ) (o : Option CoreError) → o ≡ submit_refusal core.backlog core.faces s
+      → submit_refusal M.setup.backlog (faces work w) s ≡ o
   same_refusal s o e = sym (e ∙ rw (agrees.same_backlog, agrees.shown) refl)
 
   -- a submit of a job to s, by why it is refused
   module _ (s : ℕ) (job : W) (o : Option CoreError) (e : o ≡ submit_refusal core.backlog core.faces s) where
     -- the submit is answered by that
-    pub submit_replied : reply_to work backlog w (Submit s job) ≡ submit_reply w s job o
-    submit_replied = ap (submit_reply w s job) (same_refusal s o e)
+    pub submit_replied : submit_reply w s job o ≡ reply_in work M (Submit s job)
+    submit_replied = ap (submit_reply w s job) (sym (same_refusal s o e))
 
     -- and leaves what that says
-    pub submit_left : next work backlog w (Submit s job) ≡ after_submit work w s job o
+    pub submit_left : world_after work (M ⊕ Submit s job) ≡ after_submit work w s job o
     submit_left = ap (after_submit work w s job) (same_refusal s o e)
 
   module _ (s : ℕ) (job : W) (e : None ≡ submit_refusal core.backlog core.faces s) where
     -- a submit that is not refused is accepted
-    pub submit_accepted : IsAccepted (reply_to work backlog w (Submit s job))
-    submit_accepted = (length (account w.accounts s).accepted, submit_replied s job None e)
+    pub submit_accepted : IsAccepted (reply_in work M (Submit s job))
+    submit_accepted = (length (account w.accounts s).accepted, sym (submit_replied s job None e))
 
     -- and answered by the number of jobs accepted before
-    pub submit_answered : (q : ℕ) → s < length core.faces → q ≡ (face_at core.faces s).accepted → reply.Accepted q ≡ reply_to work backlog w (Submit s job)
-    submit_answered q lt number =
-        let n : q ≡ length (account w.accounts s).accepted = number ∙ ap (λ (f : Face). f.accepted) (sym (face_is s)) in
-        sym (submit_replied s job None e ∙ ap reply.Accepted (sym n))
+    pub submit_answered : (q : ℕ) → q ≡ (face_at core.faces s).accepted → reply.Accepted q ≡ reply_in work M (Submit s job)
+    submit_answered q number =
+        ap reply.Accepted (number ∙ ap (λ (f : Face). f.accepted) (sym (face_is s))) ∙ submit_replied s job None e
 
     -- with the job behind the others, the core agrees with one submit more
-    pub submit_agrees : (shown : List Face) (queues : List (List W)) (rooms : List ℕ) → s < length core.faces
-        → shown ≡ changed_at (with_job core.clock) core.faces s → queues ≡ changed_at (λ jobs. jobs ++ job ∷ []) core.queues s
-        → (account w.accounts s).got ≤ need work (account w.accounts s) (length (account w.accounts s).accepted) → 0 < work.left job
-        → AgreesWorld work (record { backlog = core.backlog; clock = core.clock; faces = shown; queues = queues; rooms = rooms }) backlog (next work backlog w (Submit s job))
-    submit_agrees shown queues rooms lt is joined paid some = rw (submit_left s job None e) record {
-      same_backlog = agrees.same_backlog;
-      clock = agrees.clock;
-      shown = is ∙ rw (agrees.shown, agrees.clock)
-          (sym (map-changed_at (face_of work) (account_with_job work w.now job) (with_job w.now) w.accounts s no_account (job_face work (list_at core.queues s) (account w.accounts s) (jobs_are s lt) w.now job paid some)));
-      jobs = rw joined (AllZip-changed_at (AgreesJobs work) core.queues w.accounts s [] no_account (λ jobs. jobs ++ job ∷ []) (account_with_job work w.now job) agrees.jobs (within_queues s lt)
-          (λ here. job_jobs work (list_at core.queues s) (account w.accounts s) here w.now job paid some));
-    }
+    pub submit_agrees : {shown : List Face} {queues : List (List W)} {rooms : List ℕ} → s < length core.faces
+        → shown ≡ changed_at (with_job core.clock) core.faces s → queues ≡ changed_at (λ jobs. jobs ++ job ∷ []) core.queues s → 0 < work.left job
+        → Agrees work (record { backlog = core.backlog; clock = core.clock; faces = shown; queues = queues; rooms = rooms }) (M ⊕ Submit s job)
+    submit_agrees lt is joined some =
+        let paid = paid_after work M.setup M.steps s in
+        record {
+          world = rw (submit_left s job None e) record {
+            same_backlog = agrees.same_backlog;
+            clock = agrees.clock;
+            shown = is ∙ rw (agrees.shown, agrees.clock)
+                (sym (map-changed_at (face_of work) (account_with_job work w.now job) (with_job w.now) w.accounts s no_account (job_face work (list_at core.queues s) (account w.accounts s) (jobs_are s lt) w.now job paid some)));
+            jobs = rw joined (AllZip-changed_at (AgreesJobs work) core.queues w.accounts s [] no_account (λ jobs. jobs ++ job ∷ []) (account_with_job work w.now job) agrees.jobs (within_queues s lt)
+                (λ here. job_jobs work (list_at core.queues s) (account w.accounts s) here w.now job paid some));
+          };
+        }
 
   -- a close of s, by why it is refused
   module _ (s : ℕ) (o : Option CoreError) (e : o ≡ close_refusal core.faces s) where
@@ -226,19 +226,22 @@ module _ {W : Type 0} (work : Meaning W) (core : CoreHeld W) (backlog : ℕ) (w 
     same_closing = sym (e ∙ rw agrees.shown refl)
 
     -- the close is answered by that
-    pub close_replied : reply_to work backlog w (Close s) ≡ close_reply o
-    close_replied = ap close_reply same_closing
+    pub close_replied : close_reply o ≡ reply_in work M (Close s)
+    close_replied = ap close_reply (sym same_closing)
 
     -- and leaves what that says
-    pub close_left : next work backlog w (Close s) ≡ after_closing w s o
+    pub close_left : world_after work (M ⊕ Close s) ≡ after_closing w s o
     close_left = ap (after_closing w s) same_closing
 
   -- with the server closed, the core agrees with one close more
-  pub close_agrees : (s : ℕ) (shown : List Face) (rooms : List ℕ) → None ≡ close_refusal core.faces s → s < length core.faces → shown ≡ changed_at with_close core.faces s
-      → AgreesWorld work (record { backlog = core.backlog; clock = core.clock; faces = shown; queues = core.queues; rooms = rooms }) backlog (next work backlog w (Close s))
-  close_agrees s shown rooms e lt is = rw (close_left s None e) record {
-    same_backlog = agrees.same_backlog;
-    clock = agrees.clock;
-    shown = is ∙ rw agrees.shown (sym (map-changed_at (face_of work) account_with_close with_close w.accounts s no_account refl));
-    jobs = AllZip-changed_second (AgreesJobs work) account_with_close core.queues w.accounts s agrees.jobs (λ jobs a here. record { results = here.results; lefts = here.lefts });
+  pub close_agrees : (s : ℕ) {shown : List Face} {rooms : List ℕ} → None ≡ close_refusal core.faces s
+      → shown ≡ changed_at with_close core.faces s
+      → Agrees work (record { backlog = core.backlog; clock = core.clock; faces = shown; queues = core.queues; rooms = rooms }) (M ⊕ Close s)
+  close_agrees s e is = record {
+    world = rw (close_left s None e) record {
+      same_backlog = agrees.same_backlog;
+      clock = agrees.clock;
+      shown = is ∙ rw agrees.shown (sym (map-changed_at (face_of work) account_with_close with_close w.accounts s no_account refl));
+      jobs = AllZip-changed_second (AgreesJobs work) account_with_close core.queues w.accounts s agrees.jobs (λ jobs a here. record { results = here.results; lefts = here.lefts });
+    };
   }

@@ -1,6 +1,7 @@
 -- The choice: by a scan, and in words of its own.
-use Rattle.std.proofs.Common.{◌≡◌, ℕ, zero, suc, ◌+◌, ◌≤◌, ◌<◌, Bool, true, false, List, length, refl, sym, arith, ltb, ◌||◌, ◌&&◌, not, inl, inr, Option, Some, None, below_more, subst}
+use Rattle.std.proofs.Common.{◌≡◌, ℕ, zero, suc, ◌+◌, ◌≤◌, ◌<◌, Bool, true, false, List, length, refl, sym, arith, ltb, ◌||◌, ◌&&◌, not, inl, inr, Option, Some, None, below_more, subst, add-one}
 use Rattle.std.specs.Prelude.{IfSome}
+use Rattle.std.proofs.Math.Bool.{and-false}
 use Rattle.std.proofs.lemmas.Bool.{cases_lt, cases_Bool}
 use Rattle.std.proofs.lemmas.Bool.Decides.{nat_tests}
 use Rattle.cbs_core.specs.Lists.{first_below, all_below}
@@ -27,16 +28,12 @@ first_below-is p (suc n) s lt h before =
           rw (first_below-none p n (λ r below. before r (omega arith)), e, h)
     ]
 
-and_false : (b : Bool) → (b && false) ≡ false
-and_false true = refl
-and_false false = refl
-
 all_below-not : (p : ℕ → Bool) (n s : ℕ) → s < n → p s ≡ false → all_below p n ≡ false
 all_below-not p zero s lt h = absurd (omega arith)
 all_below-not p (suc n) s lt h =
     elim (cases_lt s n) [
       | inl below ↦ rw (all_below-not p n s below h)
-      | inr ge ↦ let e : n ≡ s = omega arith in rw (e, h) (and_false (all_below p s))
+      | inr ge ↦ let e : n ≡ s = omega arith in rw (e, h) (and-false (all_below p s))
     ]
 
 -- the earliest of all ranks is before each that is ready
@@ -74,20 +71,13 @@ before_later : (ranks : List Rank) (i b : ℕ) → b < i → (rank_at ranks b).d
 before_later ranks i b lt le = grind (arith, nat_tests)
 
 module _ (ranks : List Rank) (i : ℕ) where
-  -- the first that is ready is the earliest so far
-  best_none : ((r : ℕ) → r < i → (rank_at ranks r).ready ≡ false) → (rank_at ranks i).ready ≡ true → IsEarliest ranks (i + 1) i
-  best_none none t = record {
+  -- a ready rank that is before all ready ones so far is the earliest so far
+  best_new : (rank_at ranks i).ready ≡ true → ((r : ℕ) → r < i → (rank_at ranks r).ready ≡ true → is_before ranks i r ≡ true)
+      → IsEarliest ranks (i + 1) i
+  best_new t before = record {
     within = omega arith;
     ready = t;
-    first = below_more (λ r. (rank_at ranks r).ready ≡ true → is_before ranks i r ≡ true) i (λ r lt on. let off = none r lt in cc) (λ _. before_itself ranks i);
-  }
-
-  -- a ready rank of an earlier deadline than the earliest so far takes its place
-  best_new : (b : ℕ) → IsEarliest ranks i b → (rank_at ranks i).ready ≡ true → (rank_at ranks i).deadline < (rank_at ranks b).deadline → IsEarliest ranks (i + 1) i
-  best_new b best t lt = record {
-    within = omega arith;
-    ready = t;
-    first = below_more (λ r. (rank_at ranks r).ready ≡ true → is_before ranks i r ≡ true) i (λ r below on. before_along ranks i b r lt (best.first r below on)) (λ _. before_itself ranks i);
+    first = below_more (λ r. (rank_at ranks r).ready ≡ true → is_before ranks i r ≡ true) i before (λ _. before_itself ranks i);
   }
 
   -- the earliest so far stays where the next is not ready, or not of an earlier deadline
@@ -102,12 +92,14 @@ module _ (ranks : List Rank) (i : ℕ) where
   pub better_best : (best : Option ℕ) → IsChoice ranks i best → IsChoice ranks (i + 1) (better_of ranks best i)
   better_best None h =
       elim (cases_Bool (rank_at ranks i).ready) [
-        | inl t ↦ rw t (best_none h t)
+        | inl t ↦ rw t (best_new t (λ r lt on. let off = h r lt in cc))
         | inr f ↦ rw f (below_more (λ r. (rank_at ranks r).ready ≡ false) i h f)
       ]
   better_best (Some b) h =
       elim (cases_Bool ((rank_at ranks i).ready && ltb (rank_at ranks i).deadline (rank_at ranks b).deadline)) [
-        | inl t ↦ rw t (best_new b h (grind (arith, nat_tests)) (grind (arith, nat_tests)))
+        | inl t ↦
+            let earlier : (rank_at ranks i).deadline < (rank_at ranks b).deadline = grind (arith, nat_tests) in
+            rw t (best_new (grind (arith, nat_tests)) (λ r lt on. before_along ranks i b r earlier (h.first r lt on)))
         | inr f ↦ rw f (best_old b h (λ on. grind (arith, nat_tests)))
       ]
 
@@ -116,16 +108,15 @@ module _ (ranks : List Rank) (i : ℕ) where
   best_within n None h = tt
   best_within n (Some b) h = h.within
 
--- the best of the first n
-abbrev best_of : List Rank → ℕ → Option ℕ
-best_of ranks zero = None
-best_of ranks (suc n) = better_of ranks (best_of ranks n) n
-
--- the scan finds the choice among the ranks that it has seen
-best_of_is : (ranks : List Rank) (n : ℕ) → IsChoice ranks n (best_of ranks n)
-best_of_is ranks zero = λ r lt. absurd (omega arith)
-best_of_is ranks (suc n) = let e : n + 1 ≡ suc n = omega arith in subst (λ k. IsChoice ranks k (best_of ranks (suc n))) e (better_best ranks n (best_of ranks n) (best_of_is ranks n))
+-- there is a choice among the first n servers: the scan finds it
+found_choice : (ranks : List Rank) (n : ℕ) → (best : Option ℕ) × IsChoice ranks n best
+found_choice ranks zero = (None, λ r lt. absurd (omega arith))
+found_choice ranks (suc n) =
+    let h = found_choice ranks n in
+    (better_of ranks h.0 n, rw (← add-one) (better_best ranks n h.0 h.1))
 
 -- the chosen server is the choice in words of its own
 pub choice_is : (ranks : List Rank) → IsChoice ranks (length ranks) (chosen_among ranks)
-choice_is ranks = let h = best_of_is ranks (length ranks) in subst (λ o. IsChoice ranks (length ranks) o) (chosen_best ranks (best_of ranks (length ranks)) h) h
+choice_is ranks =
+    let h = found_choice ranks (length ranks) in
+    subst (λ o. IsChoice ranks (length ranks) o) (chosen_best ranks h.0 h.1) h.1

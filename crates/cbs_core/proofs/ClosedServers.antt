@@ -1,9 +1,8 @@
 -- Once a server is closed, no submit to it is accepted.
-use Rattle.std.proofs.Common.{◌≡◌, ℕ, zero, suc, Bool, true, ◌||◌, eqb, List, [], ◌∷◌, refl, ◌∙◌, ap, arith, Option, Some, None, inl, inr}
+use Rattle.std.proofs.Common.{◌≡◌, ℕ, zero, suc, ◌+◌, Bool, true, false, leb, map, ◌||◌, eqb, List, [], ◌∷◌, refl, ◌∙◌, ap, arith, Option, Some, None, inl, inr}
 use Rattle.std.proofs.lemmas.Bool.{cases_Bool}
 use Rattle.std.proofs.lemmas.Bool.Decides.{nat_tests}
 use Rattle.cbs_job.specs.Work.{Meaning}
-use Rattle.std.proofs.Common.{map, false, leb, ◌+◌}
 use Rattle.cbs_core.specs.Faces.{Face, face_at, submit_refusal, close_refusal}
 use Rattle.cbs_core.specs.Accounts.{Account, face_of}
 use Rattle.cbs_core.specs.History.{History, ◌⊕◌, World, account, faces, world_after, submit_reply, close_reply, after_closing, reply_in}
@@ -19,16 +18,13 @@ use Rattle.cbs_core.specs.declared.step.Step.{Step}
 use Rattle.cbs_core.specs.declared.step.Step.TheVariants.{Submit, Run, Advance, Close}
 use Rattle.cbs_core.specs.declared.reply.Reply.{Reply}
 use Rattle.cbs_core.specs.declared.reply.Reply.TheVariants as reply
-use Rattle.cbs_core.proofs.Agreements.{account_face}
-use Rattle.cbs_core.proofs.Histories.{holds_next}
+use Rattle.cbs_core.proofs.Histories.{account_face, holds_grown}
 
 module _ {W : Type 0} (work : Meaning W) where
   -- a closed server stays closed by every step
-  closed_next : (M : History W) (x : Step W) (s : ℕ) → (account_in work M s).closed ≡ true → (account_in work (M ⊕ x) s).closed ≡ true
-  closed_next M x s h = holds_next work (λ a. a.closed ≡ true) (λ now j a k. k) (λ a ready k. k) (λ now a k. k) (λ a k. refl) M.setup.backlog (world_after work M) x s h
-
   closed_grown : (M : History W) (x : Step W) (r : Reply W) (s : ℕ) → (account_in work M s).closed ≡ true → (account_in work (grown M x r) s).closed ≡ true
-  closed_grown M x r s h = elim (cases_Bool (is_lack r)) [ inl t ↦ rw t h | inr f ↦ rw f (closed_next M x s h) ]
+  closed_grown M x r s h =
+      holds_grown work (λ a. a.closed ≡ true) (λ now j a k. k) (λ a ready k. k) (λ now a k. k) (λ a k. refl) M x r s h
 
   -- a closed server refuses
   closed_refuses : (backlog : ℕ) (fs : List Face) (s : ℕ) → (face_at fs s).closed ≡ true → (e : CoreError) × (submit_refusal backlog fs s ≡ Some e)
@@ -75,12 +71,11 @@ module _ {W : Type 0} (work : Meaning W) where
   NoneAfterClose-all M (x ∷ xs) [] s closed all h = absurd all
   NoneAfterClose-all M (Submit t job ∷ xs) (r ∷ rs) s closed all h =
       ((λ y same accepted. not_accepted M t job r (rw same (h y)) all.0 accepted), NoneAfterClose-all (grown M (Submit t job) r) xs rs s closed all.1 (λ y. closed_grown M (Submit t job) r s (h y)))
-  NoneAfterClose-all M (Run ∷ xs) (r ∷ rs) s closed all h = NoneAfterClose-all (grown M Run r) xs rs s closed all.1 (λ y. closed_grown M Run r s (h y))
-  NoneAfterClose-all M (Advance n ∷ xs) (r ∷ rs) s closed all h = NoneAfterClose-all (grown M (Advance n) r) xs rs s closed all.1 (λ y. closed_grown M (Advance n) r s (h y))
   NoneAfterClose-all M (Close t ∷ xs) (r ∷ rs) s closed all h = NoneAfterClose-all (grown M (Close t) r) xs rs s (closed || eqb t s) all.1 (close_grown M t s r closed h all.0)
+  NoneAfterClose-all M (x ∷ xs) (r ∷ rs) s closed all h = NoneAfterClose-all (grown M x r) xs rs s closed all.1 (λ y. closed_grown M x r s (h y))
 
   -- the rules never answer by want of memory
-  no_lack : (w : World W) (s : ℕ) (job : W) (o : Option CoreError) → ((e : CoreError) → o ≡ Some e → is_out_of_memory e ≡ false) → is_lack (submit_reply w s job o) ≡ false
+  no_lack : (w : World W) (s : ℕ) (job : W) (o : Option CoreError) → ((e : CoreError) → Some e ≡ o → is_out_of_memory e ≡ false) → is_lack (submit_reply w s job o) ≡ false
   no_lack w s job None named = refl
   no_lack w s job (Some e) named = named e refl
 
@@ -93,7 +88,7 @@ module _ {W : Type 0} (work : Meaning W) where
   sure M (Submit s job) =
       let w = world_after work M in
       let core : CoreHeld W = record { backlog = M.setup.backlog; clock = 0; faces = faces work w; queues = []; rooms = [] } in
-      no_lack w s job (submit_refusal M.setup.backlog (faces work w) s) (refusal_named core s)
+      no_lack w s job (submit_refusal M.setup.backlog (faces work w) s) (refusal_named {core = core} refl s)
   sure M Run = refl
   sure M (Advance n) = elim (cases_Bool (leb ((world_after work M).now + n) clock_end)) [ inl t ↦ rw t refl | inr f ↦ rw f refl ]
   sure M (Close s) = no_lack-close (close_refusal (faces work (world_after work M)) s)

@@ -1,8 +1,10 @@
 -- The completions of a server: they go on from its finished jobs.
-use Rattle.std.proofs.Common.{◌≡◌, ◌≢◌, ℕ, zero, suc, ◌+◌, ◌≤◌, ◌<◌, true, false, List, [], ◌∷◌, ◌++◌, length, map, take, drop, get_or, eqb, leb, refl, sym, ◌∙◌, ap, subst, arith, Option, Some, None, inl, inr, length-append, append_assoc, append-nil}
+use Rattle.std.proofs.Common.{◌≡◌, ◌≢◌, ℕ, zero, suc, ◌+◌, ◌≤◌, ◌<◌, true, false, List, [], ◌∷◌, ◌++◌, length, map, take, drop, get_or, eqb, leb, refl, sym, ◌∙◌, ap, subst, arith, Option, Some, None, inl, inr, length-append, length-drop, append_assoc, append-nil}
+use Rattle.std.proofs.Math.Seq.{take-add}
 use Rattle.std.proofs.lemmas.Bool.{cases_Bool}
 use Rattle.std.proofs.lemmas.Bool.Decides.{nat_tests}
-use Rattle.std.proofs.lemmas.List.{map-append, length-map, drop-drop}
+use Rattle.std.proofs.lemmas.List.{map-append, length-map, drop-drop, drop-append-le, take-append-le, drop_more}
+use Rattle.std.specs.List.{range_with_len}
 use Rattle.cbs_job.specs.Work.{Meaning, whole}
 use Rattle.cbs_job.specs.declared.completion.Completion.{Completion}
 use Rattle.cbs_core.specs.Faces.{Face, is_ready, submit_refusal, close_refusal}
@@ -10,7 +12,7 @@ use Rattle.cbs_core.specs.Accounts.{Account, finished, need, face_of}
 use Rattle.cbs_core.specs.History.{World, History, ◌⊕◌, account, faces, chosen, world_after, run_reply, unit_reply, submit_reply, close_reply, reply_in}
 use Rattle.cbs_core.specs.Agreement.{Agrees}
 use Rattle.cbs_core.specs.Replies.{is_lack, grown, grown_by, Answers, AnswersAll}
-use Rattle.cbs_core.specs.Laws.{account_in, completion_ran, completion_in, completion_of, completions_of, numbers_from, replies_after, Completes}
+use Rattle.cbs_core.specs.Laws.{account_in, completion_ran, completion_in, completion_of, completions_of, replies_after, Completes}
 use Rattle.cbs_core.specs.Continuations.{◌⊕⊕◌}
 use Rattle.cbs_core.specs.Held.{CoreHeld, held_at, CountsOn}
 use Rattle.cbs_rules.specs.Rules.{clock_end}
@@ -20,43 +22,27 @@ use Rattle.cbs_core.specs.declared.step.Step.TheVariants.{Submit, Run, Advance, 
 use Rattle.cbs_core.specs.declared.reply.Reply.{Reply}
 use Rattle.cbs_core.specs.declared.reply.Reply.TheVariants as reply
 use Rattle.cbs_core.proofs.FinishedJobs.{count_done-le}
-use Rattle.cbs_core.proofs.Histories.{holds_next, chosen_is_ready}
+use Rattle.cbs_core.proofs.Histories.{holds_grown, chosen_is_ready}
 use Rattle.cbs_core.proofs.Faces.{runnable}
 use Rattle.cbs_core.proofs.Agreements.{face_is}
 use Rattle.cbs_core.proofs.StepLists.{grown_by-push}
 
 -- lists of numbers, and parts of lists
-numbers_from-append : (k m n : ℕ) → numbers_from k (m + n) ≡ numbers_from k m ++ numbers_from (k + m) n
-numbers_from-append k zero n = let e : zero + n ≡ n = omega arith in let f : k + 0 ≡ k = omega arith in rw (e, f) refl
-numbers_from-append k (suc m) n =
+range_with_len-append : (k m n : ℕ) → range_with_len k (m + n) ≡ range_with_len k m ++ range_with_len (k + m) n
+range_with_len-append k zero n = let e : zero + n ≡ n = omega arith in let f : k + 0 ≡ k = omega arith in rw (e, f) refl
+range_with_len-append k (suc m) n =
     let e : suc m + n ≡ suc (m + n) = omega arith in
     let f : k + 1 + m ≡ k + suc m = omega arith in
-    rw e (ap (λ ns. k ∷ ns) (numbers_from-append (k + 1) m n ∙ ap (λ j. numbers_from (k + 1) m ++ numbers_from j n) f))
-
-take_nil : {X : Type 0} (n : ℕ) (xs : List X) → xs ≡ [] → take n xs ≡ []
-take_nil zero xs e = refl
-take_nil (suc n) [] e = refl
-take_nil (suc n) (x ∷ xs) e = cc
-
--- a front of m + n is a front of m and then one of n
-take-add : {X : Type 0} (m n : ℕ) (xs : List X) → take (m + n) xs ≡ take m xs ++ take n (drop m xs)
-take-add zero n xs = let e : zero + n ≡ n = omega arith in rw e refl
-take-add (suc m) n [] = let e : suc m + n ≡ suc (m + n) = omega arith in rw e (sym (take_nil n [] refl))
-take-add (suc m) n (x ∷ xs) = let e : suc m + n ≡ suc (m + n) = omega arith in rw e (ap (λ ys. x ∷ ys) (take-add m n xs))
+    rw e (ap (λ ns. k ∷ ns) (range_with_len-append (k + 1) m n ∙ ap (λ j. range_with_len (k + 1) m ++ range_with_len j n) f))
 
 -- a part within a list is a part of every longer list
 part_of_more : {X : Type 0} (k m : ℕ) (xs more : List X) → k + m ≤ length xs → take m (drop k (xs ++ more)) ≡ take m (drop k xs)
-part_of_more k zero xs more le = refl
-part_of_more zero (suc m) [] more le = absurd (omega arith)
-part_of_more zero (suc m) (x ∷ xs) more le = ap (λ ys. x ∷ ys) (part_of_more zero m xs more (omega arith))
-part_of_more (suc k) (suc m) [] more le = absurd (omega arith)
-part_of_more (suc k) (suc m) (x ∷ xs) more le = part_of_more k (suc m) xs more (omega arith)
+part_of_more k m xs more le =
+    rw (drop-append-le k xs more (omega arith), take-append-le m (drop k xs) more (omega (arith, length-drop k xs)))
 
 -- the part of one element is that element
 part_of_one : (k : ℕ) (xs : List ℕ) → k < length xs → take 1 (drop k xs) ≡ get_or xs k 0 ∷ []
-part_of_one k [] lt = absurd (omega arith)
-part_of_one zero (x ∷ xs) lt = refl
-part_of_one (suc k) (x ∷ xs) lt = part_of_one k xs (omega arith)
+part_of_one k xs lt = rw (drop_more xs k 0 lt)
 
 module _ {W : Type 0} where
   -- the completions among replies, and one more reply
@@ -81,8 +67,8 @@ module _ {W : Type 0} (work : Meaning W) where
       let second : take (length ds) (drop (f + length cs) X) ≡ map (λ (d : Completion). d.result) ds = rw (← h.finished) (sym k.results) in
       let both : take (length cs + length ds) (drop f X) ≡ map (λ (d : Completion). d.result) cs ++ map (λ (d : Completion). d.result) ds =
       take-add (length cs) (length ds) (drop f X) ∙ rw (first, drop-drop (length cs) f X, second) refl in
-      let counted : numbers_from f (length cs + length ds) ≡ map (λ (d : Completion). d.seq) cs ++ map (λ (d : Completion). d.seq) ds =
-      numbers_from-append f (length cs) (length ds) ∙ rw (h.numbers, k.numbers, h.finished) refl in
+      let counted : range_with_len f (length cs + length ds) ≡ map (λ (d : Completion). d.seq) cs ++ map (λ (d : Completion). d.seq) ds =
+      range_with_len-append f (length cs) (length ds) ∙ rw (h.numbers, k.numbers, h.finished) refl in
       record {
         jobs = (h.jobs.0 ++ k.jobs.0, k.jobs.1 ∙ ap (λ xs. xs ++ k.jobs.0) h.jobs.1 ∙ append_assoc a.accepted h.jobs.0 k.jobs.0);
         numbers = rw n (map-append (λ (d : Completion). d.seq) cs ds ∙ sym counted);
@@ -91,20 +77,17 @@ module _ {W : Type 0} (work : Meaning W) where
       }
 
   -- the accepted jobs stay, and more may follow
-  accepted_next : (M : History W) (x : Step W) (s : ℕ) → (more : List W) × ((account_in work (M ⊕ x) s).accepted ≡ (account_in work M s).accepted ++ more)
-  accepted_next M x s =
+  accepted_grown : (M : History W) (x : Step W) (r : Reply W) (s : ℕ)
+      → (more : List W) × ((account_in work (grown M x r) s).accepted ≡ (account_in work M s).accepted ++ more)
+  accepted_grown M x r s =
       let before = (account_in work M s).accepted in
-      holds_next work (λ a. (more : List W) × (a.accepted ≡ before ++ more))
+      holds_grown work (λ a. (more : List W) × (a.accepted ≡ before ++ more))
       (λ now j a h. (h.0 ++ j ∷ [], ap (λ xs. xs ++ j ∷ []) h.1 ∙ append_assoc before h.0 (j ∷ [])))
-      (λ a ready h. h) (λ now a h. h) (λ a h. h) M.setup.backlog (world_after work M) x s ([], sym (append-nil before))
-
-  -- no step takes an accepted job back
-  accepted_grown : (M : History W) (x : Step W) (r : Reply W) (s : ℕ) → (more : List W) × ((account_in work (grown M x r) s).accepted ≡ (account_in work M s).accepted ++ more)
-  accepted_grown M x r s = elim (cases_Bool (is_lack r)) [ inl t ↦ rw t ([], sym (append-nil (account_in work M s).accepted)) | inr f ↦ rw f (accepted_next M x s) ]
+      (λ a ready h. h) (λ now a h. h) (λ a h. h) M x r s ([], sym (append-nil before))
 
   -- a core counts as many finished jobs as are known
   finished_agrees : (core : CoreHeld W) (M : History W) → Agrees work core M → (s : ℕ) → (held_at core s).face.finished ≡ finished work (account_in work M s)
-  finished_agrees core M agrees s = sym (ap (λ (f : Face). f.finished) (face_is work core M.setup.backlog (world_after work M) agrees.world s))
+  finished_agrees core M agrees s = sym (ap (λ (f : Face). f.finished) (face_is {core = core} refl agrees s))
 
   -- a completion tells the whole result of the accepted job of its number
   record Tells (a : Account W) (c : Completion) : Type 0 where
@@ -148,12 +131,8 @@ module _ {W : Type 0} (work : Meaning W) where
   reply_tells M (Close s) c e = let n = close_none (close_refusal (faces work (world_after work M)) s) in cc
 
   lack_none : (r : Reply W) → is_lack r ≡ true → completion_in r ≡ None
-  lack_none (reply.Accepted q) e = refl
-  lack_none (reply.NotAccepted x) e = refl
   lack_none (reply.Ran q) e = cc
-  lack_none reply.Advanced e = refl
-  lack_none reply.Closed e = refl
-  lack_none (reply.Refused x) e = refl
+  lack_none _ e = refl
 
   -- so does each answer, since want of memory completes no job
   answer_tells : (M : History W) (x : Step W) (r : Reply W) (c : Completion) → Answers work M x r → Some c ≡ completion_in r → Tells (account_in work M c.server) c

@@ -1,17 +1,19 @@
 -- What each core keeps, through each step.
-use Rattle.std.proofs.Common.{◌≡◌, ℕ, ◌+◌, ◌*◌, ◌≤◌, ◌<◌, ◌^◌, true, List, [], ◌∷◌, ◌++◌, length, map, replicate, refl, ◌∙◌, ap, arith, eqb, inl, inr, is_some, length-append}
+use Rattle.std.proofs.Common.{◌≡◌, ℕ, ◌+◌, ◌-◌, ◌*◌, ◌≤◌, ◌<◌, ◌^◌, true, List, [], ◌∷◌, ◌++◌, length, map, replicate, refl, ◌∙◌, ap, arith, eqb, inl, inr, Some, None, sym, is_some, length-append}
 use Rattle.std.specs.Prelude.{slice_get, Result, IfOk, OnOk}
 use Rattle.std.proofs.lemmas.Bool.{cases_lt, cases_Bool}
 use Rattle.std.proofs.lemmas.Option.{slice_get-get_or, slice_get_past}
 use Rattle.std.proofs.lemmas.Bool.Decides.{nat_tests}
 use Rattle.std.proofs.lemmas.List.{length-map}
-use Rattle.std.specs.List.{AllByRecursion, AllZip}
+use Rattle.std.specs.List.{AllByRecursion}
 use Rattle.cbs_job.specs.Work.{Meaning}
 use Rattle.cbs_rate.specs.Rate.{Rate, IsRate}
+use Rattle.cbs_rate.proofs.Lists.{AllByRecursion-push}
 use Rattle.cbs_rules.specs.Rules.{clock_end, latest_deadline}
 use Rattle.cbs_rules.specs.declared.mode.Mode.{Mode}
 use Rattle.cbs_core.specs.Lists.{changed_at}
-use Rattle.cbs_core.specs.Faces.{Face, new_face, no_face, face_at, is_ready, backlog_of, with_job, with_unit, with_replenishment, with_close, view_reply}
+use Rattle.cbs_core.specs.Choice.{IsChoice}
+use Rattle.cbs_core.specs.Faces.{Face, new_face, no_face, face_at, is_ready, backlog_of, ranks, with_job, with_unit, with_replenishment, with_close, submit_refusal, view_reply}
 use Rattle.cbs_core.specs.Laws.{IsWithinBudget, KeepsBudgets}
 use Rattle.cbs_core.specs.declared.error.CoreError.{CoreError}
 use Rattle.cbs_core.specs.declared.view.ServerView.{ServerView}
@@ -19,9 +21,10 @@ use Rattle.cbs_core.specs.Held.{CoreHeld, Accepts}
 use Rattle.cbs_core.specs.Queues.{list_at, jobs_run, result_run}
 use Rattle.cbs_core.specs.Setups.{terms_of}
 use Rattle.cbs_core.specs.Invariant.{IsServer, HoldsBacklog, IsCore}
-use Rattle.cbs_core.proofs.Faces.{server_new, server_later, server_replenished, server_closed, server_joined, server_run, runnable, budget_some, within_budget}
-use Rattle.cbs_core.proofs.Lists.{length-changed_at, AllByRecursion-map, AllByRecursion-get, AllByRecursion-push, AllByRecursion-changed_at, AllZip-length, AllZip-get, AllZip-map, AllZip-changed_at, AllZip-changed_second}
+use Rattle.cbs_core.proofs.Faces.{server_new, server_later, server_replenished, server_closed, server_joined, server_run, rank_ready, runnable, budget_some, within_budget}
+use Rattle.cbs_core.proofs.Lists.{length-changed_at, AllByRecursion-map, AllByRecursion-get, AllByRecursion-changed_at, AllZip-length, AllZip-get, AllZip-map, AllZip-replicate, AllZip-changed_at, AllZip-changed_second}
 use Rattle.cbs_core.proofs.Plans.{length-faces}
+use Rattle.cbs_core.proofs.Refusals.{free_accepts}
 
 -- a new core
 module _ {W : Type 0} (work : Meaning W) (mode : Mode) (backlog : ℕ) where
@@ -29,28 +32,32 @@ module _ {W : Type 0} (work : Meaning W) (mode : Mode) (backlog : ℕ) where
   all_new [] ok = tt
   all_new (r ∷ rates) ok = (server_new backlog 0 (record { mode = mode; reservation = r }) ok.0, all_new rates ok.1)
 
-  none_held : (rates : List Rate) → AllZip (HoldsBacklog work) (map {A = Rate} (λ r. []) rates) (map new_face (terms_of mode rates))
-  none_held [] = tt
-  none_held (r ∷ rates) = (record { counted = refl; unfinished = tt }, none_held rates)
-
-  empty_queues : (rates : List Rate) → replicate (length rates) [] ≡ map {A = Rate} {B = List W} (λ r. []) rates
-  empty_queues [] = refl
-  empty_queues (r ∷ rates) = ap (λ qs. [] ∷ qs) (empty_queues rates)
-
   -- a new core keeps all
   pub core_new : (rates : List Rate) (n : ℕ) (faces : List Face) (queues : List (List W)) (rooms : List ℕ) → length rates ≤ 64 → backlog ≤ 4096 → AllByRecursion (λ r. IsRate r.budget r.period) rates
       → faces ≡ map new_face (terms_of mode rates) → n ≡ length faces → queues ≡ replicate n [] → IsCore work (record { backlog = backlog; clock = 0; faces = faces; queues = queues; rooms = rooms })
   core_new rates n faces queues rooms few small ok shown count empty =
-      let size : n ≡ length rates = count ∙ ap length shown ∙ length-faces mode rates in
+      let size : n ≡ length (terms_of mode rates) = count ∙ ap length shown ∙ length-map (terms_of mode rates) new_face in
       record {
         few = rw (shown, length-faces mode rates) few;
         small = small;
         clock = omega arith;
         each = rw shown (all_new rates ok);
-        jobs = rw (shown, empty, size, empty_queues rates) (none_held rates);
+        jobs = rw (shown, empty, size)
+            (AllZip-replicate (HoldsBacklog work) [] new_face (terms_of mode rates) (λ t. record { counted = refl; unfinished = tt }));
       }
 
-module _ {W : Type 0} (work : Meaning W) (core : CoreHeld W) (ok : IsCore work core) where
+-- what a run of server s may rest on
+pub record MayRun {W : Type 0} (work : Meaning W) (core : CoreHeld W) (s : ℕ) : Type 0 where
+  pub early : core.clock < clock_end
+  pub within : s < length core.faces
+  pub queue : s < length core.queues
+  pub ready : is_ready (face_at core.faces s) ≡ true
+  pub active : 0 < length (list_at core.queues s)
+  pub unfinished : AllByRecursion (λ w. 0 < work.left w) (list_at core.queues s)
+  pub budget : 0 < (face_at core.faces s).state.budget
+  pub room : (face_at core.faces s).state.deadline ≤ latest_deadline
+
+module _ {W : Type 0} {work : Meaning W} {core : CoreHeld W} (ok : IsCore work core) where
   -- each server of a core keeps what a server keeps
   pub server_at : (s : ℕ) → s < length core.faces → IsServer core.backlog core.clock (face_at core.faces s)
   server_at s lt = AllByRecursion-get (IsServer core.backlog core.clock) core.faces s no_face ok.each lt
@@ -58,6 +65,13 @@ module _ {W : Type 0} (work : Meaning W) (core : CoreHeld W) (ok : IsCore work c
   -- there are as many queues as servers
   pub queue_count : length core.queues ≡ length core.faces
   queue_count = AllZip-length (HoldsBacklog work) core.queues core.faces ok.jobs
+
+  -- a server that a job may come in for has a queue
+  pub queue_there : (s : ℕ) → None ≡ submit_refusal core.backlog core.faces s → s < length core.queues
+  queue_there s free =
+      let n = queue_count in
+      let lt = (free_accepts {core = core} refl s free).is_open.within in
+      omega arith
 
   -- each server holds its backlog
   pub backlog_at : (s : ℕ) → s < length core.faces → HoldsBacklog work (list_at core.queues s) (face_at core.faces s)
@@ -81,27 +95,28 @@ module _ {W : Type 0} (work : Meaning W) (core : CoreHeld W) (ok : IsCore work c
     | inr ge ↦ rw (e, slice_get_past core.faces s ge) tt
   ]
 
-  -- what a tick of a ready server may rest on
-  pub record MayUseTick (s : ℕ) : Type 0 where
-    pub some : 0 < (face_at core.faces s).state.budget
-    pub room : (face_at core.faces s).state.deadline ≤ latest_deadline
-
-  -- a ready server before the clock's end may use a tick
-  pub may_use_tick : (s : ℕ) → core.clock < clock_end → s < length core.faces → is_ready (face_at core.faces s) ≡ true → MayUseTick s
-  may_use_tick s early lt ready = let is = server_at s lt in let e = is.early in let k = ok.clock in record { some = budget_some core.backlog core.clock (face_at core.faces s) is ready; room = omega arith }
+  -- before the clock's end the chosen server may run
+  pub may_run : {s : ℕ} → IsChoice (ranks core.faces) (length core.faces) (Some s) → core.clock < clock_end
+      → MayRun work core s
+  may_run {s} choice early =
+      let within = choice.within in
+      let ready = sym (rank_ready core.faces s) ∙ choice.ready in
+      let is = server_at s within in
+      let held = backlog_at s within in
+      record {
+        early = early;
+        within = within;
+        queue = let n = queue_count in omega arith;
+        ready = ready;
+        active = let c = held.counted in let a = (runnable (face_at core.faces s) ready).active in omega arith;
+        unfinished = held.unfinished;
+        budget = budget_some core.backlog core.clock (face_at core.faces s) is ready;
+        room = let e = is.early in omega arith;
+      }
 
   -- another number fits for the jobs of a server
   pub few_jobs : (s : ℕ) → s < length core.faces → (face_at core.faces s).accepted + 1 < 2 ^ 64
   few_jobs s lt = let b = server_at s lt in let c = b.counted in let f = b.few_done in let j = b.few_jobs in let k = ok.clock in let m = ok.small in omega arith
-
-  -- what a run may rest on
-  pub record Runs (s : ℕ) : Type 0 where
-    pub active : 0 < length (list_at core.queues s)
-    pub unfinished : AllByRecursion (λ w. 0 < work.left w) (list_at core.queues s)
-
-  -- a ready server has a job with a unit left
-  pub ready_runs : (s : ℕ) → s < length core.faces → is_ready (face_at core.faces s) ≡ true → Runs s
-  ready_runs s lt ready = let h = backlog_at s lt in let c = h.counted in let a = (runnable (face_at core.faces s) ready).active in record { active = omega arith; unfinished = h.unfinished }
 
   unfinished_run : (jobs : List W) → AllByRecursion (λ w. 0 < work.left w) jobs → AllByRecursion (λ w. 0 < work.left w) (jobs_run work jobs)
   unfinished_run [] all = all
@@ -112,44 +127,44 @@ module _ {W : Type 0} (work : Meaning W) (core : CoreHeld W) (ok : IsCore work c
   counted_run (job ∷ jobs) f some e = elim (cases_Bool (eqb (work.left (work.after job)) 0)) [ inl t ↦ rw t (omega arith) | inr n ↦ rw n (omega arith) ]
 
   -- a run of server s, by what it does to faces and queues
-  pub core_run : (s : ℕ) (faces : List Face) (queues : List (List W)) (rooms : List ℕ) → core.clock < clock_end → s < length core.faces → is_ready (face_at core.faces s) ≡ true
+  pub core_run : {s : ℕ} {faces : List Face} {queues : List (List W)} {rooms : List ℕ} → MayRun work core s
       → faces ≡ map (with_replenishment (core.clock + 1)) (changed_at (with_unit (is_some (result_run work (list_at core.queues s)))) core.faces s)
       → queues ≡ changed_at (jobs_run work) core.queues s
       → IsCore work (record { backlog = core.backlog; clock = core.clock + 1; faces = faces; queues = queues; rooms = rooms })
-  core_run s faces queues rooms early lt ready shown run =
+  core_run {s} may shown run =
       let done = is_some (result_run work (list_at core.queues s)) in
-      let here = ready_runs s lt ready in
       rw (shown, run) record {
         few = omega (arith, ok.few, length-map (changed_at (with_unit done) core.faces s) (with_replenishment (core.clock + 1)), length-changed_at (with_unit done) core.faces s);
         small = ok.small;
-        clock = omega arith;
+        clock = let e = may.early in omega arith;
         each = AllByRecursion-map (IsServer core.backlog (core.clock + 1)) (IsServer core.backlog (core.clock + 1)) (with_replenishment (core.clock + 1)) (changed_at (with_unit done) core.faces s)
             (AllByRecursion-changed_at (IsServer core.backlog core.clock) (IsServer core.backlog (core.clock + 1)) (with_unit done) core.faces s no_face ok.each
-            (λ f is. server_later core.backlog core.clock f is (core.clock + 1) (omega arith)) (λ is. server_run core.backlog core.clock (face_at core.faces s) is done ready))
+            (λ f is. server_later core.backlog core.clock f is (core.clock + 1) (omega arith)) (λ is. server_run core.backlog core.clock (face_at core.faces s) is done may.ready))
             (λ f is. server_replenished core.backlog (core.clock + 1) f is);
         jobs = AllZip-map (HoldsBacklog work) (with_replenishment (core.clock + 1)) (changed_at (jobs_run work) core.queues s) (changed_at (with_unit done) core.faces s)
-            (AllZip-changed_at (HoldsBacklog work) core.queues core.faces s [] no_face (jobs_run work) (with_unit done) ok.jobs (let n = queue_count in omega arith)
-            (λ h. record { counted = counted_run (list_at core.queues s) (face_at core.faces s) here.active h.counted; unfinished = unfinished_run (list_at core.queues s) h.unfinished }))
+            (AllZip-changed_at (HoldsBacklog work) core.queues core.faces s [] no_face (jobs_run work) (with_unit done) ok.jobs may.queue
+            (λ h. record { counted = counted_run (list_at core.queues s) (face_at core.faces s) may.active h.counted; unfinished = unfinished_run (list_at core.queues s) h.unfinished }))
             (λ jobs f h. record { counted = h.counted; unfinished = h.unfinished });
       }
 
   -- a jump by n ticks
-  pub core_jumped : (n : ℕ) (faces : List Face) (rooms : List ℕ) → core.clock + n ≤ clock_end → faces ≡ map (with_replenishment (core.clock + n)) core.faces
+  pub core_jumped : (n : ℕ) {faces : List Face} {rooms : List ℕ} → n ≤ clock_end - core.clock
+      → faces ≡ map (with_replenishment (core.clock + n)) core.faces
       → IsCore work (record { backlog = core.backlog; clock = core.clock + n; faces = faces; queues = core.queues; rooms = rooms })
-  core_jumped n faces rooms late shown = rw shown record {
+  core_jumped n late shown = rw shown record {
     few = omega (arith, ok.few, length-map core.faces (with_replenishment (core.clock + n)));
     small = ok.small;
-    clock = late;
+    clock = let k = ok.clock in omega arith;
     each = AllByRecursion-map (IsServer core.backlog core.clock) (IsServer core.backlog (core.clock + n)) (with_replenishment (core.clock + n)) core.faces ok.each
         (λ f is. server_replenished core.backlog (core.clock + n) f (server_later core.backlog core.clock f is (core.clock + n) (omega arith)));
     jobs = AllZip-map (HoldsBacklog work) (with_replenishment (core.clock + n)) core.queues core.faces ok.jobs (λ jobs f h. record { counted = h.counted; unfinished = h.unfinished });
   }
 
   -- one more job of server s
-  pub core_joined : (s : ℕ) (job : W) (faces : List Face) (queues : List (List W)) (rooms : List ℕ) → Accepts core s → 0 < work.left job
+  pub core_joined : (s : ℕ) (job : W) {faces : List Face} {queues : List (List W)} {rooms : List ℕ} → Accepts core s → 0 < work.left job
       → faces ≡ changed_at (with_job core.clock) core.faces s → queues ≡ changed_at (λ jobs. jobs ++ job ∷ []) core.queues s
       → IsCore work (record { backlog = core.backlog; clock = core.clock; faces = faces; queues = queues; rooms = rooms })
-  core_joined s job faces queues rooms accepts some shown joined = rw (shown, joined) record {
+  core_joined s job accepts some shown joined = rw (shown, joined) record {
     few = omega (arith, ok.few, length-changed_at (with_job core.clock) core.faces s);
     small = ok.small;
     clock = ok.clock;
@@ -163,9 +178,9 @@ module _ {W : Type 0} (work : Meaning W) (core : CoreHeld W) (ok : IsCore work c
   }
 
   -- server s is closed
-  pub core_closed : (s : ℕ) (faces : List Face) (rooms : List ℕ) → s < length core.faces → faces ≡ changed_at with_close core.faces s
+  pub core_closed : (s : ℕ) {faces : List Face} {rooms : List ℕ} → s < length core.faces → faces ≡ changed_at with_close core.faces s
       → IsCore work (record { backlog = core.backlog; clock = core.clock; faces = faces; queues = core.queues; rooms = rooms })
-  core_closed s faces rooms lt shown = rw shown record {
+  core_closed s lt shown = rw shown record {
     few = omega (arith, ok.few, length-changed_at with_close core.faces s);
     small = ok.small;
     clock = ok.clock;

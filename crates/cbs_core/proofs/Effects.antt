@@ -11,6 +11,7 @@ use Rattle.cbs_core.specs.Held.{CoreHeld, held_at, SameJobs, TakesJob, RunsJob, 
 use Rattle.cbs_core.specs.Queues.{list_at, jobs_run, result_run, ran_of}
 use Rattle.cbs_core.specs.declared.reply.Ran.{Ran}
 use Rattle.cbs_core.specs.declared.reply.Ran.TheVariants as ran
+use Rattle.cbs_core.proofs.Cores.{MayRun}
 use Rattle.cbs_core.proofs.Lists.{changed_here, changed_elsewhere}
 
 module _ {W : Type 0} where
@@ -24,13 +25,15 @@ module _ {W : Type 0} where
   replenished_same now (f ∷ fs) zero jobs = record { jobs = refl; accepted = refl; finished = refl; closed = refl }
   replenished_same now (f ∷ fs) (suc s) jobs = replenished_same now fs s jobs
 
-  module _ (old : CoreHeld W) (clock : ℕ) (faces : List Face) (queues : List (List W)) (rooms : List ℕ) where
+  module _ {old held : CoreHeld W} (view : old ≡ held) (clock : ℕ) (faces : List Face) (queues : List (List W)) (rooms : List ℕ) where
     abbrev new : CoreHeld W
     new = record { backlog = old.backlog; clock = clock; faces = faces; queues = queues; rooms = rooms }
 
     -- a replenishment of all leaves the jobs of each
-    pub jumped_same : (now : ℕ) → faces ≡ map (with_replenishment now) old.faces → queues ≡ old.queues → AllSame old new
-    jumped_same now shown same t = rw (shown, same) (replenished_same now old.faces t (list_at old.queues t))
+    pub jumped_same : (now : ℕ) → faces ≡ map (with_replenishment now) old.faces → queues ≡ old.queues
+        → AllSame held new
+    jumped_same now shown same =
+        rw (← view) (λ t. rw (shown, same) (replenished_same now old.faces t (list_at old.queues t)))
 
     -- server s alone is changed
     module _ (s : ℕ) (f : Face → Face) (g : List W → List W) (shown : faces ≡ changed_at f old.faces s) (jobs : queues ≡ changed_at g old.queues s) where
@@ -42,15 +45,15 @@ module _ {W : Type 0} where
 
     -- a job put behind those of server s, and nothing else
     pub took_job : (s q : ℕ) (job : W) → s < length old.faces → s < length old.queues → q ≡ (face_at old.faces s).accepted
-        → faces ≡ changed_at (with_job clock) old.faces s → queues ≡ changed_at (λ jobs. jobs ++ job ∷ []) old.queues s → TakesJob job q (held_at old s) (held_at new s) × OthersSame s old new
+        → faces ≡ changed_at (with_job clock) old.faces s → queues ≡ changed_at (λ jobs. jobs ++ job ∷ []) old.queues s → TakesJob job q (held_at held s) (held_at new s) × OthersSame s held new
     took_job s q job lt within number shown jobs =
         let others = others_same s (with_job clock) (λ jobs. jobs ++ job ∷ []) shown jobs in
         let here = held_here s (with_job clock) (λ jobs. jobs ++ job ∷ []) shown jobs lt within in
-        (rw here record { number = number; jobs = refl; accepted = refl; finished = refl; closed = refl }, others)
+        rw (← view) (rw here record { number = number; jobs = refl; accepted = refl; finished = refl; closed = refl }, others)
 
     -- server s closed, and nothing else
-    pub closed_server : (s : ℕ) → s < length old.faces → faces ≡ changed_at with_close old.faces s → queues ≡ old.queues → ClosesServer (held_at old s) (held_at new s) × OthersSame s old new
-    closed_server s lt shown same = (
+    pub closed_server : (s : ℕ) → s < length old.faces → faces ≡ changed_at with_close old.faces s → queues ≡ old.queues → ClosesServer (held_at held s) (held_at new s) × OthersSame s held new
+    closed_server s lt shown same = rw (← view) (
       rw (shown, same, changed_here with_close old.faces s no_face lt) record { jobs = refl; accepted = refl; finished = refl; closed = refl },
       λ t ne. rw (shown, same, changed_elsewhere with_close old.faces s t no_face ne) record { jobs = refl; accepted = refl; finished = refl; closed = refl },
     )
@@ -81,12 +84,11 @@ module _ {W : Type 0} where
     ]
 
   -- a run of server s, and a replenishment of all
-  pub did_run : (work : Meaning W) → Lowers work → (old : CoreHeld W) (clock now : ℕ) (faces : List Face) (queues : List (List W)) (rooms : List ℕ) (s : ℕ) (r : Ran)
-      → s < length old.faces → s < length old.queues → 0 < length (list_at old.queues s) → AllByRecursion (λ w. 0 < work.left w) (list_at old.queues s)
-      → r ≡ ran_of s (face_at old.faces s).finished (result_run work (list_at old.queues s))
+  pub did_run : {work : Meaning W} → Lowers work → {old held : CoreHeld W} → old ≡ held → (clock now : ℕ) (faces : List Face) (queues : List (List W)) (rooms : List ℕ) (s : ℕ) (r : Ran)
+      → MayRun work old s → r ≡ ran_of s (face_at old.faces s).finished (result_run work (list_at old.queues s))
       → faces ≡ map (with_replenishment now) (changed_at (with_unit (is_some (result_run work (list_at old.queues s)))) old.faces s) → queues ≡ changed_at (jobs_run work) old.queues s
-      → DoesRun work r old (record { backlog = old.backlog; clock = clock; faces = faces; queues = queues; rooms = rooms })
-  did_run work law old clock now faces queues rooms s r lt within some all is shown jobs =
+      → DoesRun work r held (record { backlog = old.backlog; clock = clock; faces = faces; queues = queues; rooms = rooms })
+  did_run {work} law {old} {held} view clock now faces queues rooms s r may is shown jobs =
       let new : CoreHeld W = record { backlog = old.backlog; clock = clock; faces = faces; queues = queues; rooms = rooms } in
       let f = with_unit (is_some (result_run work (list_at old.queues s))) in
       let middle = changed_at f old.faces s in
@@ -96,6 +98,8 @@ module _ {W : Type 0} where
       let e = changed_elsewhere f old.faces s t no_face ne in
       let j : list_at queues t ≡ list_at old.queues t = rw jobs (changed_elsewhere (jobs_run work) old.queues s t [] ne) in
       record { jobs = j; accepted = k.accepted ∙ ap (λ (x : Face). x.accepted) e; finished = k.finished ∙ ap (λ (x : Face). x.finished) e; closed = k.closed ∙ ap (λ (x : Face). x.closed) e } in
-      let here : list_at queues s ≡ jobs_run work (list_at old.queues s) = rw jobs (changed_here (jobs_run work) old.queues s [] within) in
-      let there : SameJobs (record { face = f (face_at old.faces s); jobs = list_at queues s }) (held_at new s) = rw (changed_here f old.faces s no_face lt) at (late s) in
-      ran_jobs work law s old new others (list_at old.queues s) (face_at old.faces s).finished r some all refl here there refl is
+      let here : list_at queues s ≡ jobs_run work (list_at old.queues s) = rw jobs (changed_here (jobs_run work) old.queues s [] may.queue) in
+      let there : SameJobs (record { face = f (face_at old.faces s); jobs = list_at queues s }) (held_at new s) = rw (changed_here f old.faces s no_face may.within) at (late s) in
+      let jobs = list_at old.queues s in
+      let q = (face_at old.faces s).finished in
+      rw (← view) (ran_jobs work law s old new others jobs q r may.active may.unfinished refl here there refl is)

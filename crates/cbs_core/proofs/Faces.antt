@@ -1,35 +1,26 @@
 -- What each server keeps, through what each step does to its face.
-use Rattle.std.proofs.Common.{◌≡◌, ℕ, zero, suc, ap, [], ◌∷◌, ◌+◌, ◌*◌, ◌≤◌, ◌<◌, Bool, true, false, ◌||◌, List, length, arith, inl, inr, refl, Some, sym, ◌∙◌}
+use Rattle.std.proofs.Common.{◌≡◌, ℕ, ap, ◌+◌, ◌*◌, ◌≤◌, ◌<◌, Bool, true, false, ◌||◌, List, length, arith, inl, inr}
+use Rattle.std.proofs.Math.ListN.{get_or-map}
 use Rattle.std.proofs.lemmas.Bool.{cases_Bool}
 use Rattle.std.proofs.lemmas.Bool.Decides.{nat_tests}
+use Rattle.std.proofs.lemmas.List.{length-map}
 use Rattle.cbs_rate.specs.Rate.{IsRate}
 use Rattle.cbs_rules.specs.Rules.{Terms}
 use Rattle.cbs_rules.proofs.States.{IsState-fresh_state, IsState-after_arrival, IsState-after_unit, IsState-after_replenishment}
 use Rattle.cbs_rules.proofs.Deadlines.{begun_after_arrival, begun_after_unit, begun_after_replenishment, deadline-arrived-le, deadline-consumed-le, deadline-replenished-le}
-use Rattle.cbs_core.specs.Choice.{rank_at, IsChoice}
-use Rattle.cbs_core.specs.Faces.{Face, face_at, new_face, is_active, is_ready, backlog_of, ranks, with_job, with_unit, with_replenishment, with_close}
+use Rattle.cbs_core.specs.Choice.{Rank, rank_at}
+use Rattle.cbs_core.specs.Faces.{Face, face_at, new_face, no_face, is_active, is_ready, backlog_of, ranks, with_job, with_unit, with_replenishment, with_close}
 use Rattle.cbs_core.specs.Invariant.{IsServer}
 use Rattle.cbs_core.specs.Laws.{IsWithinBudget}
 
 -- the choice sees each server
 pub length-ranks : (fs : List Face) → length (ranks fs) ≡ length fs
-length-ranks [] = refl
-length-ranks (f ∷ fs) = ap suc (length-ranks fs)
+length-ranks fs = simp length-map
 
 -- what the choice sees of a server
 pub rank_ready : (fs : List Face) (s : ℕ) → (rank_at (ranks fs) s).ready ≡ is_ready (face_at fs s)
-rank_ready [] s = refl
-rank_ready (f ∷ fs) zero = refl
-rank_ready (f ∷ fs) (suc s) = rank_ready fs s
-
--- a chosen server is there and ready
-pub record IsChosen (fs : List Face) (s : ℕ) : Type 0 where
-  pub within : s < length fs
-  pub ready : is_ready (face_at fs s) ≡ true
-
--- the chosen server is there and ready
-pub chosen_is : (fs : List Face) (s : ℕ) → IsChoice (ranks fs) (length fs) (Some s) → IsChosen fs s
-chosen_is fs s h = record { within = h.within; ready = sym (rank_ready fs s) ∙ h.ready }
+rank_ready fs s =
+    ap (λ (r : Rank). r.ready) (get_or-map (λ (f : Face). record { ready = is_ready f; deadline = f.state.deadline }) fs s no_face)
 
 -- a ready server is active and not throttled
 pub record IsRunnable (f : Face) : Type 0 where

@@ -1,10 +1,10 @@
 -- The jobs that are held of a server, against the jobs accepted and the units got.
-use Rattle.std.proofs.Common.{◌≡◌, ℕ, zero, suc, ◌+◌, ◌-◌, ◌≤◌, ◌<◌, List, [], ◌∷◌, ◌++◌, length, take, drop, map, get_or, refl, ap, sym, ◌∙◌, arith, eqb, length-append, length-drop, add-one, inl, inr, is_some}
+use Rattle.std.proofs.Common.{◌≡◌, ℕ, ◌+◌, ◌-◌, ◌≤◌, ◌<◌, List, [], ◌∷◌, ◌++◌, length, take, drop, map, get_or, refl, ap, ◌∙◌, arith, eqb, length-append, length-drop, inl, inr, is_some}
 use Rattle.std.specs.Prelude.{if◌then◌else◌}
 use Rattle.std.proofs.lemmas.Bool.{cases_lt, cases_Bool}
 use Rattle.std.proofs.lemmas.Bool.Decides.{nat_tests}
-use Rattle.std.proofs.lemmas.List.{take_all, take-append-le, drop-append-le, drop-drop, map-append, length-map}
-use Rattle.std.proofs.lemmas.List.Sums.{sum_by-cons, sum_by-append, sum_by-take-le}
+use Rattle.std.proofs.lemmas.List.{take_all, take-append-le, drop-append-le, drop_more, get_or-map, map-append, length-map}
+use Rattle.std.proofs.lemmas.List.Sums.{sum_by-cons, sum_by-append, sum_by-take-le, sum_by_more}
 use Rattle.std.specs.List.{sum_by, AllByRecursion}
 use Rattle.cbs_job.specs.Work.{Meaning, Lowers, whole}
 use Rattle.cbs_job.proofs.WholeResults.{whole_kept, output_whole}
@@ -16,19 +16,24 @@ use Rattle.cbs_core.specs.Queues.{jobs_run, result_run, ran_of}
 use Rattle.cbs_core.specs.declared.reply.Ran.TheVariants as ran
 use Rattle.cbs_core.proofs.FinishedJobs.{count_done, count_done-le, count_done_within, count_done_beyond, count_done-is}
 
--- what stands at the front of the rest
-need_next : {W : Type 0} (f : W → ℕ) (xs : List W) (k : ℕ) (y : W) (ys : List W) → drop k xs ≡ y ∷ ys → sum_by f (take (suc k) xs) ≡ sum_by f (take k xs) + f y
-need_next f [] zero y ys e = cc
-need_next f (x ∷ xs) zero y ys e = let h : x ≡ y = cc in rw h (omega (arith, sum_by-cons f y []))
-need_next f [] (suc k) y ys e = cc
-need_next f (x ∷ xs) (suc k) y ys e = omega (arith, need_next f xs k y ys e, sum_by-cons f x (take (suc k) xs), sum_by-cons f x (take k xs))
+-- y stands at place k, and ys follow it
+record IsFront {W : Type 0} (xs : List W) (k : ℕ) (y : W) (ys : List W) : Type 0 where
+  within : k < length xs
+  here : get_or xs k y ≡ y
+  rest : drop (k + 1) xs ≡ ys
+
+-- so it is of each rest that is not empty
+front : {W : Type 0} (xs : List W) (k : ℕ) (y : W) (ys : List W) → drop k xs ≡ y ∷ ys → IsFront xs k y ys
+front xs k y ys e =
+    let within : k < length xs = let n = ap length e in omega (arith, length-drop k xs) in
+    let split = drop_more xs k y within in
+    record { within = within; here = cc; rest = cc }
 
 -- the units of one job more are its own and those before it
 need_more : {W : Type 0} (f : W → ℕ) (xs : List W) (k : ℕ) (y : W) (ys : List W) → drop k xs ≡ y ∷ ys → sum_by f (take (k + 1) xs) ≡ sum_by f (take k xs) + f y
-need_more f xs k y ys e = rw add-one (need_next f xs k y ys e)
-
-drop_next : {W : Type 0} (xs : List W) (k : ℕ) (y : W) (ys : List W) → drop k xs ≡ y ∷ ys → drop (k + 1) xs ≡ ys
-drop_next xs k y ys e = sym (drop-drop 1 k xs) ∙ ap (drop 1) e
+need_more f xs k y ys e =
+    let h = front xs k y ys e in
+    sum_by_more f xs k y h.within ∙ ap (λ z. sum_by f (take k xs) + f z) h.here
 
 -- two lists of the same measures are positive alike
 positive_along : {W : Type 0} (f : W → ℕ) (xs ys : List W) → map f xs ≡ map f ys → AllByRecursion (λ w. 0 < f w) xs → AllByRecursion (λ w. 0 < f w) ys
@@ -81,7 +86,7 @@ module _ {W : Type 0} (work : Meaning W) (law : Lowers work) where
         let b = beyond in
         let e = less in
         let full : sum_by work.left (take (k + 1) xs) ≡ g + 1 = let some = all.0 in omega arith in
-        let next : drop (k + 1) xs ≡ ys = drop_next xs k y ys d in
+        let next : drop (k + 1) xs ≡ ys = (front xs k y ys d).rest in
         record {
           count = count_done-is work.left xs (g + 1) (k + 1) (omega arith) (omega arith) (last_more xs ys (g + 1) (k + 1) next (positive_along work.left js ys ls all.1) full);
           results = rw next w;
@@ -104,13 +109,6 @@ module _ {W : Type 0} (work : Meaning W) (law : Lowers work) where
     test_served : eqb (work.left (work.after job)) 0 ≡ eqb (sum_by work.left (take (k + 1) xs)) (g + 1)
     test_served = let b = beyond in let e = less in let some = all.0 in grind (arith, nat_tests)
 
--- what is kept of the job that k have gone before stands at place k
-at_front : {W : Type 0} (f : W → ℕ) (xs : List W) (k : ℕ) (y : W) (ys : List W) → drop k xs ≡ y ∷ ys → get_or (map f xs) k 0 ≡ f y
-at_front f [] zero y ys e = cc
-at_front f (x ∷ xs) zero y ys e = let h : x ≡ y = cc in ap f h
-at_front f [] (suc k) y ys e = cc
-at_front f (x ∷ xs) (suc k) y ys e = at_front f xs k y ys e
-
 -- what a unit of the first job does
 pub record Served {W : Type 0} (work : Meaning W) (jobs xs : List W) (g k : ℕ) : Type 0 where
   pub parts : Parts work (jobs_run work jobs) xs (g + 1) (if is_some (result_run work jobs) then k + 1 else k)
@@ -125,13 +123,13 @@ served_cases : {W : Type 0} (work : Meaning W) → Lowers work → (jobs xs : Li
 served_cases work law [] xs g k rest d le c v l all some = absurd (omega arith)
 served_cases work law (job ∷ js) xs g k [] d le c v l all some = cc
 served_cases work law (job ∷ js) xs g k (y ∷ ys) d le c v l all some =
-    let rest : length xs - k ≡ suc (length ys) = simp length-drop at (ap length d) in
-    let short : k < length xs = omega arith in
+    let at = front xs k y ys d in
+    let short = at.within in
     let v' : whole work job ≡ whole work y = cc in
     let w' : map (whole work) js ≡ map (whole work) ys = cc in
     let l' : work.left job ≡ sum_by work.left (take (k + 1) xs) - g = cc in
     let ls' : map work.left js ≡ map work.left ys = cc in
-    let front = at_front (whole work) xs k y ys d in
+    let told = get_or-map (whole work) xs k y 0 short ∙ ap (whole work) at.here in
     let test = test_served work law job js xs g k y ys c short d v' w' l' ls' all in
     elim (cases_Bool (eqb (work.left (work.after job)) 0)) [
       | inl e ↦
@@ -140,7 +138,7 @@ served_cases work law (job ∷ js) xs g k (y ∷ ys) d le c v l all some =
           let found : work.output (work.after job) ≡ whole work job = output_last work law job all.0 none in
           record {
             parts = rw e p;
-            ran = λ s. rw (← test, e, front, found, v');
+            ran = λ s. rw (← test, e, told, found, v');
           }
       | inr e ↦
           let left : 0 < work.left (work.after job) = grind (arith, nat_tests) in

@@ -1,53 +1,40 @@
 -- What a job, a unit, a replenishment and a close keep of a server holds after every history.
-use Rattle.std.proofs.Common.{◌≡◌, ℕ, zero, suc, ◌+◌, ◌<◌, Bool, List, [], ◌∷◌, length, map, refl, ap, sym, ◌∙◌, arith, true, false, leb, ltb, Option, Some, None, inl, inr}
-use Rattle.std.specs.Prelude.{if◌then◌else◌}
+use Rattle.std.proofs.Common.{◌≡◌, ℕ, zero, suc, ◌+◌, List, [], ◌∷◌, length, map, refl, ap, sym, ◌∙◌, true, leb, ltb, Option, Some, None, inl, inr}
+use Rattle.std.proofs.Math.ListN.{get_or-map}
 use Rattle.std.proofs.lemmas.Bool.{cases_Bool}
 use Rattle.cbs_job.specs.Work.{Meaning}
 use Rattle.cbs_rules.specs.Rules.{clock_end}
-use Rattle.cbs_core.specs.Lists.{or_else, first_below, changed_at}
-use Rattle.cbs_core.specs.Choice.{Rank, rank_at, is_first, chosen_among}
-use Rattle.cbs_core.specs.Faces.{is_ready, ranks, submit_refusal, close_refusal}
-use Rattle.cbs_core.specs.Accounts.{Account, face_of, new_account, account_with_job, account_with_unit, account_with_replenishment, account_with_close}
-use Rattle.cbs_core.specs.History.{World, Setup, account, faces, chosen, tick, ticks, runner, after_submit, after_run, after_closing, next, after}
+use Rattle.cbs_core.specs.Lists.{changed_at}
+use Rattle.cbs_core.specs.Choice.{IsChoice}
+use Rattle.cbs_core.specs.Faces.{face_at, is_ready, ranks, submit_refusal, close_refusal}
+use Rattle.cbs_core.specs.Accounts.{Account, face_of, new_account, no_account, account_with_job, account_with_unit, account_with_replenishment, account_with_close}
+use Rattle.cbs_core.specs.History.{World, Setup, History, account, faces, chosen, tick, ticks, runner, after_submit, after_run, after_closing, next, after, world_after}
+use Rattle.cbs_core.proofs.Choices.{choice_is}
 use Rattle.cbs_core.proofs.Faces.{rank_ready}
-use Rattle.cbs_core.proofs.Agreements.{account_face}
+use Rattle.cbs_core.specs.Replies.{is_lack, grown}
 use Rattle.cbs_core.specs.declared.error.CoreError.{CoreError}
+use Rattle.cbs_core.specs.declared.reply.Reply.{Reply}
 use Rattle.cbs_core.specs.declared.step.Step.{Step}
 use Rattle.cbs_core.specs.declared.step.Step.TheVariants.{Submit, Run, Advance, Close}
 
-passes_case : (p : ℕ → Bool) (n s : ℕ) (o : Option ℕ) → ((t : ℕ) → o ≡ Some t → (p t ≡ true) × (t < n)) → or_else o (if p n then Some n else None) ≡ Some s → (p s ≡ true) × (s < suc n)
-passes_case p n s (Some t) h e =
-    let k : t ≡ s = cc in
-    let q = h t refl in
-    (rw (← k) q.0, let lt = q.1 in omega arith)
-passes_case p n s None h e = elim (cases_Bool (p n)) [
-  | inl t ↦ let f : Some n ≡ Some s = rw t at e in let k : n ≡ s = cc in (rw (← k) t, omega arith)
-  | inr f ↦ let g : None ≡ Some s = rw f at e in cc
-]
-
-first_below_passes : (p : ℕ → Bool) (n s : ℕ) → first_below p n ≡ Some s → (p s ≡ true) × (s < n)
-first_below_passes p zero s e = cc
-first_below_passes p (suc n) s e = passes_case p n s (first_below p n) (first_below_passes p n) e
-
-chosen_ready : (ranks : List Rank) (s : ℕ) → chosen_among ranks ≡ Some s → ((rank_at ranks s).ready ≡ true) × (s < length ranks)
-chosen_ready ranks s e =
-    let q = first_below_passes (is_first ranks) (length ranks) s e in
-    let t = q.0 in
-    (elim (cases_Bool (rank_at ranks s).ready) [ inl y ↦ y | inr n ↦ let f : false ≡ true = rw n at t in cc ], q.1)
-
 module _ {W : Type 0} (work : Meaning W) where
+  -- what a server shows is what its account shows
+  pub account_face : (accounts : List (Account W)) (s : ℕ) → face_at (map (face_of work) accounts) s ≡ face_of work (account accounts s)
+  account_face accounts s = get_or-map (face_of work) accounts s no_account
+
   -- the chosen server is ready
   pub chosen_is_ready : (w : World W) (s : ℕ) → chosen work w ≡ Some s → is_ready (face_of work (account w.accounts s)) ≡ true
   chosen_is_ready w s e =
-      let q = chosen_ready (ranks (faces work w)) s e in
-      ap is_ready (sym (account_face work w.accounts s)) ∙ sym (rank_ready (faces work w) s) ∙ q.0
-
-  runner_chosen : (w : World W) (s : ℕ) → runner work w ≡ Some s → chosen work w ≡ Some s
-  runner_chosen w s e = elim (cases_Bool (ltb w.now clock_end)) [ inl t ↦ rw t at e | inr f ↦ let g : None ≡ Some s = rw f at e in cc ]
+      let rs = ranks (faces work w) in
+      let h : IsChoice rs (length rs) (Some s) = rw e at (choice_is rs) in
+      ap is_ready (sym (account_face w.accounts s)) ∙ sym (rank_ready (faces work w) s) ∙ h.ready
 
   -- the server of a Run that runs is ready
   pub runner_ready : (w : World W) (s : ℕ) → runner work w ≡ Some s → is_ready (face_of work (account w.accounts s)) ≡ true
-  runner_ready w s e = chosen_is_ready w s (runner_chosen w s e)
+  runner_ready w s e = elim (cases_Bool (ltb w.now clock_end)) [
+    | inl t ↦ chosen_is_ready w s (rw t at e)
+    | inr f ↦ let g : None ≡ Some s = rw f at e in cc
+  ]
 
   module _ (P : Account W → Type 0)
       (job : (now : ℕ) (j : W) (a : Account W) → P a → P (account_with_job work now j a))
@@ -93,6 +80,14 @@ module _ {W : Type 0} (work : Meaning W) where
     holds_next backlog w Run s h = holds_run w s (runner work w) (runner_ready w) h
     holds_next backlog w (Advance n) s h = elim (cases_Bool (leb (w.now + n) clock_end)) [ inl t ↦ rw t (holds_ticks n w s h) | inr f ↦ rw f h ]
     holds_next backlog w (Close t) s h = holds_close w t s (close_refusal (faces work w) t) h
+
+    -- one step more, as it was answered
+    pub holds_grown : (M : History W) (x : Step W) (r : Reply W) (s : ℕ) → P (account (world_after work M).accounts s)
+        → P (account (world_after work (grown M x r)).accounts s)
+    holds_grown M x r s h = elim (cases_Bool (is_lack r)) [
+      | inl t ↦ rw t h
+      | inr f ↦ rw f (holds_next M.setup.backlog (world_after work M) x s h)
+    ]
 
     -- a whole history
     pub holds_after : (setup : Setup) (M : List (Step W)) (s : ℕ) → P (account (map new_account setup.servers) s) → P (account (after work setup M).accounts s)

@@ -16,17 +16,13 @@ use Rattle.cbs_core.proofs.Agreements.{ticks_none, ticks_some, replenished_faces
 abbrev NoneReady : List Face → Type 0
 NoneReady fs = AllByRecursion (λ f. is_ready f ≡ false) fs
 
--- an active server that is not ready is throttled
-rest_throttled : (f : Face) → is_active f ≡ true → is_ready f ≡ false → f.state.throttled ≡ true
-rest_throttled f active rest = elim (cases_Bool f.state.throttled) [ inl y ↦ y | inr n ↦ let g : true ≡ false = rw (active, n) at rest in cc ]
-
 -- before its wait is over, a server is not replenished
 sleeps : (now m : ℕ) (f : Face) → is_ready f ≡ false → 0 < m → m < wait now f → is_ready (with_replenishment (now + m) f) ≡ false
 sleeps now m f rest some early = elim (cases_Bool (is_active f)) [
   | inl active ↦
       let l : m < max 1 (f.state.deadline - now) = rw active at early in
       let e : leb f.state.deadline (now + m) ≡ false = grind (arith, nat_tests) in
-      let t = rest_throttled f active rest in
+      let t : f.state.throttled ≡ true = grind (arith, nat_tests) in
       rw (active, t, e)
   | inr idle ↦ rw idle
 ]
@@ -34,7 +30,7 @@ sleeps now m f rest some early = elim (cases_Bool (is_active f)) [
 -- and once it is over, a server with a job is ready
 wakes : (now m : ℕ) (f : Face) → is_active f ≡ true → is_ready f ≡ false → f.state.deadline ≤ now + m → is_ready (with_replenishment (now + m) f) ≡ true
 wakes now m f active rest due =
-    let t = rest_throttled f active rest in
+    let t : f.state.throttled ≡ true = grind (arith, nat_tests) in
     let e : leb f.state.deadline (now + m) ≡ true = grind (arith, nat_tests) in
     rw (active, t, e)
 

@@ -1,15 +1,15 @@
 -- The laws of the core that the crates above may cite.
-use Rattle.std.proofs.Common.{◌≡◌, ℕ, zero, suc, ◌+◌, ◌<◌, ◌≤◌, true, false, leb, ltb, List, [], ◌∷◌, length, map, ◌++◌, refl, sym, ◌∙◌, ap, subst, arith, inl, inr, Option, Some, None}
+use Rattle.std.proofs.Common.{◌≡◌, ℕ, zero, suc, ◌+◌, ◌<◌, ◌≤◌, true, false, leb, ltb, List, [], ◌∷◌, length, map, get_or, ◌++◌, refl, sym, ◌∙◌, ap, subst, arith, inl, inr, Option, Some, None}
 use Rattle.std.specs.Prelude.{if◌then◌else◌}
-use Rattle.std.specs.List.{AllByRecursion, AllZip}
+use Rattle.std.specs.List.{AllByRecursion}
 use Rattle.std.proofs.lemmas.Bool.{cases_eq, cases_lt}
 use Rattle.std.proofs.lemmas.Bool.Decides.{nat_tests}
-use Rattle.std.proofs.lemmas.List.{length-map}
-use Rattle.cbs_job.specs.Work.{Meaning, whole}
-use Rattle.cbs_rules.specs.Rules.{clock_end, Terms}
+use Rattle.std.proofs.lemmas.List.{length-map, get_or-map, nil_from_length}
+use Rattle.cbs_job.specs.Work.{Meaning}
+use Rattle.cbs_rules.specs.Rules.{clock_end}
 use Rattle.cbs_core.specs.Choice.{rank_at}
-use Rattle.cbs_core.specs.Faces.{Face, face_at, is_active, is_ready, ranks}
-use Rattle.cbs_core.specs.Accounts.{face_of, new_account, no_account}
+use Rattle.cbs_core.specs.Faces.{Face, face_at, new_face, no_face, is_active, is_ready, ranks}
+use Rattle.cbs_core.specs.Accounts.{Account, face_of, new_account, no_account}
 use Rattle.cbs_core.specs.History.{World, Setup, History, ◌⊕◌, account, faces, chosen, tick, ticks, after_run, next, world_after}
 use Rattle.cbs_core.specs.Agreement.{AgreesJobs, Agrees}
 use Rattle.cbs_core.specs.Quiet.{IsAtRest, IsQuiet, IsIdleSpan}
@@ -18,10 +18,11 @@ use Rattle.cbs_core.specs.Queues.{list_at}
 use Rattle.cbs_core.specs.Continuations.{IsBusy, HasHistory, Follows, ◌⊕⊕◌, EachAllowed, AllAllowed}
 use Rattle.cbs_core.specs.declared.step.Step.{Step}
 use Rattle.cbs_core.specs.declared.step.Step.TheVariants.{Run, Advance}
-use Rattle.cbs_core.proofs.Agreements.{account_face, ticks_none}
+use Rattle.cbs_core.proofs.Agreements.{ticks_none}
+use Rattle.cbs_core.proofs.Histories.{account_face}
 use Rattle.cbs_core.proofs.Choices.{choice_is}
 use Rattle.cbs_core.proofs.HeldJobs.{length_jobs}
-use Rattle.cbs_core.proofs.Lists.{AllZip-length, AllZip-get}
+use Rattle.cbs_core.proofs.Lists.{within_lists, AllZip-length, AllZip-get}
 pub use Rattle.cbs_core.proofs.Completions.{Completes-none, after-push, steps_complete}
 pub use Rattle.cbs_core.proofs.ClosedServers.{steps_close}
 pub use Rattle.cbs_core.proofs.StepLists.{all_yielded}
@@ -63,18 +64,13 @@ module _ {W : Type 0} (work : Meaning W) where
       let e = ticks-now n w in
       rw t (omega arith)
 
-  within_queues : (queues : List (List W)) (s : ℕ) → 0 < length (list_at queues s) → s < length queues
-  within_queues [] s some = absurd (omega arith)
-  within_queues (q ∷ qs) zero some = omega arith
-  within_queues (q ∷ qs) (suc s) some = let l = within_queues qs s some in omega arith
-
   -- a server that holds a job is there
   pub holds_within : (core : CoreHeld W) → HasHistory work core → (s : ℕ) → 0 < length (held_at core s).jobs → s < length core.faces
   holds_within core history s some = elim (cases_lt s (length core.faces)) [
     | inl lt ↦ lt
     | inr ge ↦ absurd (history (λ M agrees.
         let w = world_after work M in
-        let l = within_queues core.queues s some in
+        let l = within_lists core.queues s some in
         let shown = ap length agrees.world.shown in
         absurd (omega (arith, AllZip-length (AgreesJobs work) core.queues w.accounts agrees.world.jobs, length-map w.accounts (face_of work)))))
   ]
@@ -91,7 +87,7 @@ module _ {W : Type 0} (work : Meaning W) where
   pub busy_by : (core : CoreHeld W) (M : History W) → Agrees work core M → HoldsJob core → IsBusy work (world_after work M)
   busy_by core M agrees b =
       let w = world_after work M in
-      let here = AllZip-get (AgreesJobs work) core.queues w.accounts b.0 [] no_account agrees.world.jobs (within_queues core.queues b.0 b.1) in
+      let here = AllZip-get (AgreesJobs work) core.queues w.accounts b.0 [] no_account agrees.world.jobs (within_lists core.queues b.0 b.1) in
       let count = length_jobs work (list_at core.queues b.0) (account w.accounts b.0) here in
       let some = b.1 in
       let active : is_active (face_of work (account w.accounts b.0)) ≡ true = grind (arith, nat_tests) in
@@ -160,30 +156,18 @@ module _ {W : Type 0} (work : Meaning W) (core : CoreHeld W) (setup : Setup) (ag
   pub new_count : length core.faces ≡ length setup.servers
   new_count = ap length agrees.world.shown ∙ length-map (map new_account setup.servers) (face_of work) ∙ length-map setup.servers new_account
 
-  no_jobs : (jobs : List W) → map (whole work) jobs ≡ [] → jobs ≡ []
-  no_jobs [] e = refl
-  no_jobs (j ∷ jobs) e = cc
-
-  new_jobs : (queues : List (List W)) (terms : List Terms) (s : ℕ) → AllZip (AgreesJobs work) queues (map new_account terms) → list_at queues s ≡ []
-  new_jobs [] terms s all = refl
-  new_jobs (q ∷ qs) [] s all = absurd all
-  new_jobs (q ∷ qs) (t ∷ ts) zero all = no_jobs q all.0.results
-  new_jobs (q ∷ qs) (t ∷ ts) (suc s) all = new_jobs qs ts s all.1
-
-  -- the face of a new server
-  record Starts (f : Face) : Type 0 where
-    accepted : f.accepted ≡ 0
-    finished : f.finished ≡ 0
-    unclosed : f.closed ≡ false
-
-  new_face_at : (terms : List Terms) (s : ℕ) → s < length terms → Starts (face_at (map (face_of work) (map new_account terms)) s)
-  new_face_at [] s lt = absurd (omega arith)
-  new_face_at (t ∷ ts) zero lt = record { accepted = refl; finished = refl; unclosed = refl }
-  new_face_at (t ∷ ts) (suc s) lt = new_face_at ts s (omega arith)
-
   -- a server of a new core
   pub new_server : (s : ℕ) → s < length core.faces → IsNew core s
   new_server s lt =
       let n = new_count in
-      let f = rw (← agrees.world.shown) at (new_face_at setup.servers s (omega arith)) in
-      record { jobs = new_jobs core.queues setup.servers s agrees.world.jobs; accepted = f.accepted; finished = f.finished; unclosed = f.unclosed }
+      let opened : List (Account W) = map new_account setup.servers in
+      let terms = get_or setup.servers s no_face.terms in
+      let is : account opened s ≡ new_account terms =
+      get_or-map new_account setup.servers s no_face.terms no_account (omega arith) in
+      let count = AllZip-length (AgreesJobs work) core.queues opened agrees.world.jobs in
+      let within : s < length core.queues = omega (arith, length-map setup.servers (new_account {W = W})) in
+      let here = rw is at (AllZip-get (AgreesJobs work) core.queues opened s [] no_account agrees.world.jobs within) in
+      let face = account_face work opened s ∙ ap (face_of work) is in
+      let shown : face_at core.faces s ≡ new_face terms = ap (λ fs. face_at fs s) agrees.world.shown ∙ face in
+      let none = nil_from_length (list_at core.queues s) (simp length-map at (ap length here.results)) in
+      record { jobs = none; accepted = rw shown; finished = rw shown; unclosed = rw shown }

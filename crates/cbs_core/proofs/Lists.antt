@@ -1,6 +1,6 @@
 -- Lists of which one element is changed, and two lists place by place.
-use Rattle.std.proofs.Common.{◌≡◌, ◌≢◌, ℕ, zero, suc, ◌<◌, List, [], ◌∷◌, ◌++◌, length, map, get_or, set, refl, ap, ◌∙◌, arith}
-use Rattle.std.proofs.lemmas.List.{length-map}
+use Rattle.std.proofs.Common.{◌≡◌, ◌≢◌, ℕ, zero, suc, ◌<◌, List, [], ◌∷◌, length, map, replicate, get_or, set, refl, ap, ◌∙◌, arith}
+use Rattle.std.proofs.lemmas.List.{length-map, map-id}
 use Rattle.std.specs.List.{AllZip, AllByRecursion}
 use Rattle.cbs_core.specs.Lists.{changed_at}
 
@@ -38,12 +38,13 @@ part_written h f xs i s x y same lt read e = rw same (set_changed h f xs s x y (
 
 -- the same of whole elements
 pub written : {X : Type 0} (f : X → X) (xs : List X) (i s : ℕ) (x y : X) → i ≡ s → s < length xs → x ≡ get_or xs i x → y ≡ f x → set xs i y ≡ changed_at f xs s
-written f xs i s x y same lt read e = rw (same, e) (here f xs s x lt (rw same at read))
-  where
-    here : {X : Type 0} (f : X → X) (xs : List X) (i : ℕ) (x : X) → i < length xs → x ≡ get_or xs i x → set xs i (f x) ≡ changed_at f xs i
-    here f [] i x lt read = absurd (omega arith)
-    here f (z ∷ zs) zero x lt read = ap (λ v. f v ∷ zs) read
-    here f (z ∷ zs) (suc i) x lt read = ap (λ ws. z ∷ ws) (here f zs i x (omega arith) read)
+written f xs i s x y same lt read e = simp map-id at (part_written (λ v. v) f xs i s x y same lt read e)
+
+-- where a list of lists has an element, there is a list
+pub within_lists : {X : Type 0} (lists : List (List X)) (s : ℕ) → 0 < length (get_or lists s []) → s < length lists
+within_lists [] s some = absurd (omega arith)
+within_lists (xs ∷ lists) zero some = omega arith
+within_lists (xs ∷ lists) (suc s) some = let l = within_lists lists s some in omega arith
 
 module _ {X Y : Type 0} (h : X → Y) (f : X → X) (g : Y → Y) where
   -- a change, as a part of each element is seen
@@ -51,11 +52,6 @@ module _ {X Y : Type 0} (h : X → Y) (f : X → X) (g : Y → Y) where
   map-changed_at [] i d e = refl
   map-changed_at (x ∷ xs) zero d e = ap (λ y. y ∷ map h xs) e
   map-changed_at (x ∷ xs) (suc i) d e = ap (λ ys. h x ∷ ys) (map-changed_at xs i d e)
-
-  -- the same where all are changed
-  pub map-maps : (xs : List X) → ((x : X) → h (f x) ≡ g (h x)) → map h (map f xs) ≡ map g (map h xs)
-  map-maps [] e = refl
-  map-maps (x ∷ xs) e = rw (e x, map-maps xs e) refl
 
 -- what holds of each, and is weaker
 pub AllByRecursion-weaker : {X : Type 0} (P Q : X → Type 0) (xs : List X) → AllByRecursion P xs → ((x : X) → P x → Q x) → AllByRecursion Q xs
@@ -79,18 +75,12 @@ AllByRecursion-changed_at P Q f [] i d all k h = tt
 AllByRecursion-changed_at P Q f (x ∷ xs) zero d all k h = (h all.0, AllByRecursion-weaker P Q xs all.1 k)
 AllByRecursion-changed_at P Q f (x ∷ xs) (suc i) d all k h = (k x all.0, AllByRecursion-changed_at P Q f xs i d all.1 k h)
 
--- what holds of each, and of one more
-pub AllByRecursion-push : {X : Type 0} (P : X → Type 0) (xs : List X) (x : X) → AllByRecursion P xs → P x → AllByRecursion P (xs ++ x ∷ [])
-AllByRecursion-push P [] x all holds = (holds, all)
-AllByRecursion-push P (y ∷ ys) x all holds = (all.0, AllByRecursion-push P ys x all.1 holds)
-
 module _ {X Y : Type 0} (R : X → Y → Type 0) where
   -- lists that agree place by place are of one length
   pub AllZip-length : (xs : List X) (ys : List Y) → AllZip R xs ys → length xs ≡ length ys
   AllZip-length [] [] all = refl
-  AllZip-length [] (y ∷ ys) all = absurd all
-  AllZip-length (x ∷ xs) [] all = absurd all
   AllZip-length (x ∷ xs) (y ∷ ys) all = ap suc (AllZip-length xs ys all.1)
+  AllZip-length _ _ all = absurd all
 
   -- a change at one place of both
   pub AllZip-changed_at : (xs : List X) (ys : List Y) (i : ℕ) (d : X) (e : Y) (f : X → X) (g : Y → Y) → AllZip R xs ys → i < length xs → (R (get_or xs i d) (get_or ys i e) → R (f (get_or xs i d)) (g (get_or ys i e))) → AllZip R (changed_at f xs i) (changed_at g ys i)
@@ -106,17 +96,20 @@ module _ {X Y : Type 0} (R : X → Y → Type 0) where
   AllZip-get (z ∷ zs) (y ∷ ys) zero c d all lt = all.0
   AllZip-get (z ∷ zs) (y ∷ ys) (suc i) c d all lt = AllZip-get zs ys i c d all.1 (omega arith)
 
+  -- equal elements beside those of a mapped list
+  pub AllZip-replicate : {Z : Type 0} (x : X) (f : Z → Y) (zs : List Z) → ((z : Z) → R x (f z)) → AllZip R (replicate (length zs) x) (map f zs)
+  AllZip-replicate x f [] h = tt
+  AllZip-replicate x f (z ∷ zs) h = (h z, AllZip-replicate x f zs h)
+
   -- the second list is changed, and each pair stands as it stood
   pub AllZip-map : (g : Y → Y) (xs : List X) (ys : List Y) → AllZip R xs ys → ((x : X) (y : Y) → R x y → R x (g y)) → AllZip R xs (map g ys)
   AllZip-map g [] [] all h = tt
-  AllZip-map g [] (y ∷ ys) all h = absurd all
-  AllZip-map g (x ∷ xs) [] all h = absurd all
   AllZip-map g (x ∷ xs) (y ∷ ys) all h = (h x y all.0, AllZip-map g xs ys all.1 h)
+  AllZip-map g _ _ all h = absurd all
 
   -- one of the second list is changed, and its pair stands as it stood
   pub AllZip-changed_second : (g : Y → Y) (xs : List X) (ys : List Y) (i : ℕ) → AllZip R xs ys → ((x : X) (y : Y) → R x y → R x (g y)) → AllZip R xs (changed_at g ys i)
   AllZip-changed_second g [] [] i all h = tt
-  AllZip-changed_second g [] (y ∷ ys) i all h = absurd all
-  AllZip-changed_second g (x ∷ xs) [] i all h = absurd all
   AllZip-changed_second g (x ∷ xs) (y ∷ ys) zero all h = (h x y all.0, all.1)
   AllZip-changed_second g (x ∷ xs) (y ∷ ys) (suc i) all h = (all.0, AllZip-changed_second g xs ys i all.1 h)
+  AllZip-changed_second g _ _ i all h = absurd all

@@ -1,17 +1,11 @@
 -- The servers of a plan, taken one by one.
-use Rattle.std.proofs.Common.{◌≡◌, ℕ, zero, suc, ◌+◌, ◌≤◌, ◌<◌, List, [], ◌∷◌, ◌++◌, length, take, map, ap, refl, arith, add-one, Option, Some}
-use Rattle.std.specs.Prelude.{slice_get, IsSome}
-use Rattle.std.proofs.lemmas.List.{take_all}
+use Rattle.std.proofs.Common.{◌≡◌, ℕ, zero, suc, ◌+◌, ◌≤◌, List, [], ◌∷◌, ◌++◌, length, take, map, ap, refl, add-one, Some}
+use Rattle.std.specs.Prelude.{slice_get}
+use Rattle.std.proofs.lemmas.List.{take_all, length-map}
 use Rattle.cbs_rate.specs.Rate.{Rate}
 use Rattle.cbs_rules.specs.declared.mode.Mode.{Mode}
 use Rattle.cbs_core.specs.Faces.{Face, new_face}
 use Rattle.cbs_core.specs.Setups.{terms_of}
-
--- what stands within a list is found
-pub is_within : {X : Type 0} (xs : List X) (n : ℕ) (o : Option X) → o ≡ slice_get xs n → n < length xs → IsSome o
-is_within [] n o e lt = absurd (omega arith)
-is_within (x ∷ xs) zero o e lt = rw e refl
-is_within (x ∷ xs) (suc n) o e lt = is_within xs n o e (omega arith)
 
 module _ (mode : Mode) where
   next_face : (rates : List Rate) (n : ℕ) (r : Rate) → Some r ≡ slice_get rates n → map new_face (terms_of mode (take (suc n) rates)) ≡ map new_face (terms_of mode (take n rates)) ++ new_face (record { mode = mode; reservation = r }) ∷ []
@@ -30,5 +24,4 @@ module _ (mode : Mode) where
 
   -- each reservation has a face
   pub length-faces : (rates : List Rate) → length (map new_face (terms_of mode rates)) ≡ length rates
-  length-faces [] = refl
-  length-faces (r ∷ rates) = ap suc (length-faces rates)
+  length-faces rates = simp length-map

@@ -13,17 +13,15 @@ module _ {W : Type 0} (work : Meaning W) where
   pub AnswersAll-push : (M : History W) (xs : List (Step W)) (rs : List (Reply W)) (x : Step W) (r : Reply W)
       → AnswersAll work M xs rs → Answers work (grown_by M xs rs) x r → AnswersAll work M (xs ++ x ∷ []) (rs ++ r ∷ [])
   AnswersAll-push M [] [] x r all one = (one, tt)
-  AnswersAll-push M [] (q ∷ rs) x r all one = absurd all
-  AnswersAll-push M (y ∷ xs) [] x r all one = absurd all
   AnswersAll-push M (y ∷ xs) (q ∷ rs) x r all one = (all.0, AnswersAll-push (grown M y q) xs rs x r all.1 one)
+  AnswersAll-push M _ _ x r all one = absurd all
 
   -- the history that they leave, and one more
   pub grown_by-push : (M : History W) (xs : List (Step W)) (rs : List (Reply W)) (x : Step W) (r : Reply W)
       → AnswersAll work M xs rs → grown_by M (xs ++ x ∷ []) (rs ++ r ∷ []) ≡ grown (grown_by M xs rs) x r
   grown_by-push M [] [] x r all = refl
-  grown_by-push M [] (q ∷ rs) x r all = absurd all
-  grown_by-push M (y ∷ xs) [] x r all = absurd all
   grown_by-push M (y ∷ xs) (q ∷ rs) x r all = grown_by-push (grown M y q) xs rs x r all.1
+  grown_by-push M _ _ x r all = absurd all
 
   -- agreement after one more step
   pub agrees_more : (core : CoreHeld W) (M : History W) (xs : List (Step W)) (rs : List (Reply W)) (x : Step W) (r : Reply W)

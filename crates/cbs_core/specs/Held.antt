@@ -69,8 +69,7 @@ IsRefusedBy core s error.NoSuchServer = length core.faces ≤ s
 IsRefusedBy core s error.Closed = IsClosed core s
 IsRefusedBy core s error.BacklogFull = IsOpen core s × (core.backlog ≤ backlog_of (face_at core.faces s))
 IsRefusedBy core s error.OutOfMemory = Accepts core s
-IsRefusedBy core s error.BadBacklog = ⊥
-IsRefusedBy core s error.ClockEnd = ⊥
+IsRefusedBy core s _ = ⊥
 
 -- jobs, counts and close of a server are as before; its budget and deadline may differ
 pub record SameJobs {W : Type 0} (old new : Held W) : Type 0 where

@@ -1,5 +1,6 @@
 -- What holds of whole runs.
-use Rattle.std.specs.Prelude.{◌≡◌, ℕ, zero, suc, ◌+◌, ◌≤◌, ◌<◌, Bool, true, ◌||◌, eqb, if◌then◌else◌, List, [], ◌∷◌, ◌++◌, length, map, take, drop, Option, Some, None}
+use Rattle.std.specs.Prelude.{◌≡◌, ℕ, ◌+◌, ◌≤◌, ◌<◌, Bool, true, ◌||◌, eqb, if◌then◌else◌, List, [], ◌∷◌, ◌++◌, length, map, take, drop, Option, Some, None}
+use Rattle.std.specs.List.{range_with_len}
 use Rattle.cbs_job.specs.Work.{Meaning, whole}
 use Rattle.cbs_job.specs.declared.completion.Completion.{Completion}
 use Rattle.cbs_core.specs.Faces.{Face, face_at, is_ready}
@@ -24,11 +25,6 @@ abbrev pub completion_of : ℕ → Option Completion → List Completion
 completion_of s None = []
 completion_of s (Some c) = if eqb c.server s then c ∷ [] else []
 
--- k, k + 1, and so on: n numbers
-abbrev pub numbers_from : ℕ → ℕ → List ℕ
-numbers_from k zero = []
-numbers_from k (suc n) = k ∷ numbers_from (k + 1) n
-
 module _ {W : Type 0} where
   -- what is known of server s after the history
   abbrev pub account_in : Meaning W → History W → ℕ → Account W
@@ -37,11 +33,7 @@ module _ {W : Type 0} where
   -- the completion that a reply tells, if it tells one
   abbrev pub completion_in : Reply W → Option Completion
   completion_in (reply.Ran r) = completion_ran r
-  completion_in (reply.Accepted q) = None
-  completion_in (reply.NotAccepted e) = None
-  completion_in reply.Advanced = None
-  completion_in reply.Closed = None
-  completion_in (reply.Refused e) = None
+  completion_in _ = None
 
   -- the completions of server s among the replies, in order
   abbrev pub completions_of : ℕ → List (Reply W) → List Completion
@@ -58,7 +50,7 @@ module _ {W : Type 0} where
   -- carries the whole result of the accepted job of its number; and these jobs are the ones that are now finished, too.
   pub record Completes (work : Meaning W) (before after : Account W) (completions : List Completion) : Type 0 where
     pub jobs : (more : List W) × (after.accepted ≡ before.accepted ++ more)
-    pub numbers : map (λ c. c.seq) completions ≡ numbers_from (finished work before) (length completions)
+    pub numbers : map (λ c. c.seq) completions ≡ range_with_len (finished work before) (length completions)
     pub results : map (λ c. c.result) completions ≡ take (length completions) (drop (finished work before) (map (whole work) after.accepted))
     pub finished : finished work after ≡ finished work before + length completions
 
@@ -68,8 +60,7 @@ module _ {W : Type 0} where
   NoneAfterClose s closed (x ∷ xs) [] = Unit {0}
   NoneAfterClose s closed (step.Submit t job ∷ xs) (r ∷ rs) = (closed ≡ true → t ≡ s → ¬ IsAccepted r) × NoneAfterClose s closed xs rs
   NoneAfterClose s closed (step.Close t ∷ xs) (r ∷ rs) = NoneAfterClose s (closed || eqb t s) xs rs
-  NoneAfterClose s closed (step.Run ∷ xs) (r ∷ rs) = NoneAfterClose s closed xs rs
-  NoneAfterClose s closed (step.Advance n ∷ xs) (r ∷ rs) = NoneAfterClose s closed xs rs
+  NoneAfterClose s closed (x ∷ xs) (r ∷ rs) = NoneAfterClose s closed xs rs
 
 -- the budget of a server: never more than its reservation's; some while it is ready, and none while it is throttled
 pub record IsWithinBudget (f : Face) : Type 0 where

@@ -39,19 +39,13 @@ module _ {W : Type 0} where
 
   -- whether a reply says that memory refused a submit
   abbrev pub is_lack : Reply W → Bool
-  is_lack (reply.Accepted q) = false
   is_lack (reply.NotAccepted e) = is_out_of_memory e.error
-  is_lack (reply.Ran r) = false
-  is_lack reply.Advanced = false
-  is_lack reply.Closed = false
-  is_lack (reply.Refused e) = false
+  is_lack _ = false
 
   -- the reply r hands the job of the submit x back, for want of memory
   abbrev pub HandsBack : Step W → Reply W → Type 0
   HandsBack (step.Submit s job) r = r ≡ reply.NotAccepted (record { error = error.OutOfMemory; task = job })
-  HandsBack step.Run r = ⊥
-  HandsBack (step.Advance n) r = ⊥
-  HandsBack (step.Close s) r = ⊥
+  HandsBack _ r = ⊥
 
   -- the history M and the step x with reply r; a submit that memory refused is taken out
   abbrev pub grown : History W → Step W → Reply W → History W
@@ -70,6 +64,5 @@ module _ {W : Type 0} where
   -- one reply to each step, in order, each after M and the steps before it
   abbrev pub AnswersAll : Meaning W → History W → List (Step W) → List (Reply W) → Type 0
   AnswersAll work M [] [] = Unit {0}
-  AnswersAll work M [] (r ∷ rs) = ⊥
-  AnswersAll work M (x ∷ xs) [] = ⊥
   AnswersAll work M (x ∷ xs) (r ∷ rs) = Answers work M x r × AnswersAll work (grown M x r) xs rs
+  AnswersAll work M _ _ = ⊥

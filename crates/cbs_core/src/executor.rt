@@ -112,7 +112,7 @@ impl<W: Work, A: Allocator> Core<W, A> {
     /// was closed; [`CoreError::BacklogFull`] where it has as many unfinished jobs as it may have;
     /// [`CoreError::OutOfMemory`] where an allocation is refused. The job then comes back, and
     /// nothing changed, but that room for it may have been made.
-    #[tactic(auto, using(crate::proofs::Lists::counted))]
+    #[tactic(auto, using(crate::proofs::Lists::counted, crate::proofs::Cores::budgets_kept))]
     pub fn submit(&mut self, server: u16, task: Task<W>) -> Result<u64, SubmitRefused<W>>
         ensures reply { lacks_memory result ≡ false → (M : History W) → Agrees W.meaning self.old M
             → submitted result ≡ reply_in W.meaning M (Step.Submit server task) }
@@ -150,7 +150,7 @@ impl<W: Work, A: Allocator> Core<W, A> {
     /// `Ok`, and answers the job's number among the accepted jobs of the server. It takes no memory.
     ///
     /// The server must be there and open, its backlog not full, and room made.
-    #[tactic(auto, using(crate::proofs::Lists::counted))]
+    #[tactic(auto, using(crate::proofs::Lists::counted, crate::proofs::Cores::budgets_kept))]
     pub fn submit_reserved(&mut self, server: u16, task: Task<W>) -> u64
         requires { HasRoom self.old server }
         ensures reply { (M : History W) → Agrees W.meaning self.old M
@@ -170,7 +170,7 @@ impl<W: Work, A: Allocator> Core<W, A> {
     ///
     /// Answers [`Ran::Idle`] where no server is ready, and then [`Ran::ClockEnd`] where the clock
     /// stands at [`LIMIT`]; both change nothing.
-    #[tactic(auto, using(crate::proofs::Lists::counted))]
+    #[tactic(auto, using(crate::proofs::Lists::counted, crate::proofs::Cores::budgets_kept))]
     pub fn run(&mut self) -> Ran
         ensures reply { (M : History W) → Agrees W.meaning self.old M → Reply.Ran result ≡ reply_in W.meaning M Step.Run }
         ensures state { (M : History W) → Agrees W.meaning self.old M → Agrees W.meaning self.new (M ⊕ Step.Run) }
@@ -197,7 +197,7 @@ impl<W: Work, A: Allocator> Core<W, A> {
     ///
     /// Refuses by [`CoreError::ClockEnd`] where the clock would pass [`LIMIT`], and then changes
     /// nothing. An advance by 0 is accepted and changes nothing.
-    #[tactic(auto, using(crate::proofs::Lists::counted))]
+    #[tactic(auto, using(crate::proofs::Lists::counted, crate::proofs::Cores::budgets_kept))]
     pub fn advance(&mut self, n: u64) -> Result<(), CoreError>
         ensures reply { (M : History W) → Agrees W.meaning self.old M → advanced result ≡ reply_in W.meaning M (Step.Advance n) }
         ensures state { (M : History W) → Agrees W.meaning self.old M → Agrees W.meaning self.new (M ⊕ Step.Advance n) }
@@ -221,7 +221,7 @@ impl<W: Work, A: Allocator> Core<W, A> {
     ///
     /// Refuses by [`CoreError::NoSuchServer`], or by [`CoreError::Closed`] where it was closed
     /// before, and then changes nothing.
-    #[tactic(auto, using(crate::proofs::Lists::counted))]
+    #[tactic(auto, using(crate::proofs::Lists::counted, crate::proofs::Cores::budgets_kept))]
     pub fn close(&mut self, server: u16) -> Result<(), CoreError>
         ensures reply { (M : History W) → Agrees W.meaning self.old M → closed result ≡ reply_in W.meaning M (Step.Close server) }
         ensures state { (M : History W) → Agrees W.meaning self.old M → Agrees W.meaning self.new (M ⊕ Step.Close server) }
@@ -241,7 +241,7 @@ impl<W: Work, A: Allocator> Core<W, A> {
     }
 
     /// Closes a server that is there and open, as [`close`](Core::close) does.
-    #[tactic(auto, using(crate::proofs::Lists::counted))]
+    #[tactic(auto, using(crate::proofs::Lists::counted, crate::proofs::Cores::budgets_kept))]
     pub fn close_open(&mut self, server: u16)
         requires { IsOpen self.old server }
         ensures reply { (M : History W) → Agrees W.meaning self.old M → Reply.Closed ≡ reply_in W.meaning M (Step.Close server) }

@@ -58,7 +58,6 @@ impl<W: Work, A: Allocator> Feed<W, A> {
     }
 
     /// One turn: asks the gate, and where it says true tries the next message. Whether one was sent.
-    #[tactic(auto, using(crate::proofs::Messages::pushed))]
     pub(crate) fn turn<G: Gate>(&mut self, gate: &G) -> bool
         requires { IsOrderly self.old }
         ensures kept { KeepsFeed self.old self.new }

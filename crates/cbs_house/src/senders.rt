@@ -12,7 +12,6 @@ use cbs_job::Work;
 use std::thread::{Threads, join_mut};
 
 /// One sender: takes turns until its feed is done. How many messages it sent.
-#[tactic(auto, using(crate::proofs::Feeds::fed))]
 fn send_turns<W: Work, G: Gate>(feed: &mut Feed<W>, gate: &G, turns: u64) -> u64
     requires { IsOrderly feed.old }
     ensures kept { KeepsFeed feed.old feed.new }

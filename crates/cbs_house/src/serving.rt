@@ -36,7 +36,6 @@ const TURNS: u64 = 10_000;
 ///
 /// There are at most 64 feeds, each with a client that was opened with this house and that has not
 /// ended unless no job is left.
-#[tactic(auto, using(crate::proofs::Feeds::fed))]
 pub fn serve<R: Threads + Sync, G: Gate + Sync, W: Work + Send>(
     rt: &R,
     house: &mut House<W>,
@@ -76,7 +75,6 @@ fn rounds_for<W: Work>(feeds: &[Feed<W>]) -> u128
 }
 
 /// Takes and finishes what a round left. Whether all is served.
-#[tactic(auto, using(crate::proofs::Feeds::fed))]
 fn finish_round<W: Work>(house: &mut House<W>, feeds: &mut [Feed<W>]) -> Result<bool, HouseError>
     requires ready { Ready house.old feeds.old }
     ensures ready { Ready house.new feeds.new }

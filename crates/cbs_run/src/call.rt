@@ -9,7 +9,7 @@ use std::fmt;
 use std::fmt::Write;
 
 /// The call that a step makes.
-#[derive(Clone, Copy, Debug, PartialEq, Eq)]
+#[derive(Clone, Copy)]
 pub enum Call {
     /// A job for this server.
     Submit(u16),

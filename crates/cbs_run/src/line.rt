@@ -10,7 +10,7 @@ use std::fmt;
 use std::fmt::Write;
 
 /// What the call is answered.
-#[derive(Clone, Copy, Debug, PartialEq, Eq)]
+#[derive(Clone, Copy)]
 pub enum Answer {
     /// The submit is accepted, as the job of this number.
     Accepted(u64),
@@ -24,7 +24,7 @@ pub enum Answer {
 
 /// What a step did: its call and its answer, the clock after it, and the state of the server that
 /// accepted a job or ran.
-#[derive(Clone, Copy, Debug, PartialEq, Eq)]
+#[derive(Clone, Copy)]
 pub struct Line {
     pub clock: u64,
     pub call: Call,
@@ -33,7 +33,7 @@ pub struct Line {
 }
 
 /// The state that a line shows, if it shows one.
-#[derive(Clone, Copy, Debug, PartialEq, Eq)]
+#[derive(Clone, Copy)]
 pub struct State {
     pub server: Option<ServerView>,
 }

@@ -68,14 +68,73 @@ fn done(server: u16, seq: u64, output: u64) -> Ran {
     })
 }
 
-/// Budget, deadline and mark of a server.
-fn state<W: Work, A: Allocator>(
+// Each call of the core stands in a function of its own here, which promises nothing: so a test that
+// makes many of them is proved fast.
+
+/// Looks for a server's budget, deadline and mark.
+fn shows<W: Work, A: Allocator>(
     rt: &impl Abort,
     core: &Core<W, A>,
     server: u16,
-) -> (u64, u64, bool) {
+    wanted: (u64, u64, bool),
+) {
     let view = core.view(server).expect(rt, "a server");
-    (view.budget, view.deadline, view.throttled)
+    same(
+        rt,
+        "budget, deadline, throttled",
+        (view.budget, view.deadline, view.throttled),
+        wanted,
+    );
+}
+
+/// Runs, and looks for the answer.
+fn runs<W: Work, A: Allocator>(rt: &impl Abort, core: &mut Core<W, A>, wanted: Ran) {
+    same(rt, "run", core.run(), wanted);
+}
+
+/// Lets ticks pass, and looks for the answer.
+fn advances<W: Work, A: Allocator>(
+    rt: &impl Abort,
+    core: &mut Core<W, A>,
+    ticks: u64,
+    wanted: Result<(), CoreError>,
+) {
+    same(rt, "advance", core.advance(ticks), wanted);
+}
+
+/// Closes a server, and looks for the answer.
+fn closes<W: Work, A: Allocator>(
+    rt: &impl Abort,
+    core: &mut Core<W, A>,
+    server: u16,
+    wanted: Result<(), CoreError>,
+) {
+    same(rt, "close", core.close(server), wanted);
+}
+
+/// Makes room for a server's next job, and looks for the answer.
+fn makes_room<W: Work, A: Allocator>(
+    rt: &impl Abort,
+    core: &mut Core<W, A>,
+    server: u16,
+    wanted: Result<(), CoreError>,
+) {
+    same(rt, "make_room", core.make_room(server), wanted);
+}
+
+/// Looks for the clock.
+fn stands_at<W: Work, A: Allocator>(rt: &impl Abort, core: &Core<W, A>, wanted: u64) {
+    same(rt, "now", core.now(), wanted);
+}
+
+/// Looks for the server that would run.
+fn chooses<W: Work, A: Allocator>(rt: &impl Abort, core: &Core<W, A>, wanted: Option<u16>) {
+    same(rt, "ready", core.ready(), wanted);
+}
+
+/// Looks for the ticks for which nobody will be ready.
+fn idles_for<W: Work, A: Allocator>(rt: &impl Abort, core: &Core<W, A>, wanted: Option<u64>) {
+    same(rt, "idle_span", core.idle_span(), wanted);
 }
 
 /// Submits a sum to a server, and looks for the number that it gets.

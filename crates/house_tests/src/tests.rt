@@ -1,5 +1,6 @@
 //! The house and its clients, run on worked examples.
 
+mod calls;
 mod collecting;
 mod errors;
 mod meeting;
@@ -9,7 +10,7 @@ mod serving;
 
 use cbs_job::{SumJob, Task};
 use cbs_rate::{Bound, Plan, Reservation};
-use std::alloc::Global;
+use std::alloc::{Allocator, Global};
 use std::fmt::Debug;
 use std::process::Abort;
 
@@ -33,4 +34,37 @@ fn sum_of(rt: &impl Abort, alloc: Global, numbers: &[u32]) -> Task<SumJob> {
     assert!(rt; numbers.len() < 100);
     let numbers = Vec::from_slice(alloc, numbers).expect(rt, "memory");
     Task::new(SumJob::new(numbers)).ok().expect(rt, "a task")
+}
+
+/// Lists of tasks in this memory, each of which adds up the numbers at its place.
+fn lists_of<A: Allocator + Copy>(
+    rt: &impl Abort,
+    global: Global,
+    alloc: A,
+    lists: &[&[&[u32]]],
+) -> Vec<Vec<Task<SumJob>, A>, A> {
+    let mut all = Vec::new(alloc);
+    for &list in lists {
+        all.push(sums_of(rt, global, alloc, list))
+            .ok()
+            .expect(rt, "memory");
+    }
+    all
+}
+
+/// Tasks in this memory, each of which adds up the numbers at its place.
+fn sums_of<A: Allocator + Copy>(
+    rt: &impl Abort,
+    global: Global,
+    alloc: A,
+    list: &[&[u32]],
+) -> Vec<Task<SumJob>, A> {
+    let mut tasks = Vec::new(alloc);
+    for &numbers in list {
+        tasks
+            .push(sum_of(rt, global, numbers))
+            .ok()
+            .expect(rt, "memory");
+    }
+    tasks
 }

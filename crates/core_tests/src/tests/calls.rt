@@ -1,6 +1,9 @@
 //! Each call, where memory is there.
 
-use super::{accepts, core_of, done, plan_of, refuses, same, state, sum_of};
+use super::{
+    accepts, advances, chooses, closes, core_of, done, idles_for, makes_room, plan_of, refuses,
+    runs, same, shows, stands_at, sum_of,
+};
 use cbs_core::{Core, CoreError, MAX_BACKLOG, Ran, ServerView};
 use cbs_job::SumJob;
 use cbs_rules::Mode;
@@ -12,55 +15,30 @@ fn a_refused_job_comes_back(rt: HostRuntime) {
     accepts(&rt, &mut core, 0, sum_of(&rt, alloc, &[4]), 0);
     let five = sum_of(&rt, alloc, &[5]);
     refuses(&rt, &mut core, 0, five, CoreError::BacklogFull, 5);
-    same(&rt, "core.close(0)", core.close(0), Ok(()));
+    closes(&rt, &mut core, 0, Ok(()));
     let six = sum_of(&rt, alloc, &[6]);
     refuses(&rt, &mut core, 0, six, CoreError::Closed, 6);
-    same(&rt, "core.run()", core.run(), done(0, 0, 4));
-    same(
-        &rt,
-        "state(&rt, &core, 0)",
-        state(&rt, &core, 0),
-        (1, 5, false),
-    );
-    same(&rt, "core.close(0)", core.close(0), Err(CoreError::Closed));
-    same(&rt, "core.now()", core.now(), 1);
+    runs(&rt, &mut core, done(0, 0, 4));
+    shows(&rt, &core, 0, (1, 5, false));
+    closes(&rt, &mut core, 0, Err(CoreError::Closed));
+    stands_at(&rt, &core, 1);
 }
 
 #[test]
 fn each_call_on_a_core_with_one_server(rt: HostRuntime) {
     let alloc = rt.alloc();
     let mut core = core_of(&rt, alloc, Mode::Soft, &[(2, 5)], 1);
-    same(&rt, "core.make_room(0)", core.make_room(0), Ok(()));
-    same(
-        &rt,
-        "core.make_room(1)",
-        core.make_room(1),
-        Err(CoreError::NoSuchServer),
-    );
-    same(&rt, "core.ready()", core.ready(), None);
+    makes_room(&rt, &mut core, 0, Ok(()));
+    makes_room(&rt, &mut core, 1, Err(CoreError::NoSuchServer));
+    chooses(&rt, &core, None);
     accepts(&rt, &mut core, 0, sum_of(&rt, alloc, &[4]), 0);
-    same(&rt, "core.ready()", core.ready(), Some(0));
-    same(
-        &rt,
-        "core.make_room(0)",
-        core.make_room(0),
-        Err(CoreError::BacklogFull),
-    );
-    same(&rt, "core.close(0)", core.close(0), Ok(()));
-    same(
-        &rt,
-        "core.make_room(0)",
-        core.make_room(0),
-        Err(CoreError::Closed),
-    );
+    chooses(&rt, &core, Some(0));
+    makes_room(&rt, &mut core, 0, Err(CoreError::BacklogFull));
+    closes(&rt, &mut core, 0, Ok(()));
+    makes_room(&rt, &mut core, 0, Err(CoreError::Closed));
     let five = sum_of(&rt, alloc, &[5]);
     refuses(&rt, &mut core, 1, five, CoreError::NoSuchServer, 5);
-    same(
-        &rt,
-        "core.close(1)",
-        core.close(1),
-        Err(CoreError::NoSuchServer),
-    );
+    closes(&rt, &mut core, 1, Err(CoreError::NoSuchServer));
     same(
         &rt,
         "core.view(1)",
@@ -97,34 +75,14 @@ fn a_backlog_is_1_to_4096(rt: HostRuntime) {
 fn the_clock_ends(rt: HostRuntime) {
     let alloc = rt.alloc();
     let mut core = core_of(&rt, alloc, Mode::Soft, &[(2, 5)], 4);
-    same(
-        &rt,
-        "core.advance(1_000_000_001)",
-        core.advance(1_000_000_001),
-        Err(CoreError::ClockEnd),
-    );
-    same(
-        &rt,
-        "core.advance(1_000_000_000)",
-        core.advance(1_000_000_000),
-        Ok(()),
-    );
-    same(&rt, "core.idle_span()", core.idle_span(), Some(0));
-    same(&rt, "core.run()", core.run(), Ran::Idle);
-    same(
-        &rt,
-        "core.advance(1)",
-        core.advance(1),
-        Err(CoreError::ClockEnd),
-    );
-    same(&rt, "core.advance(0)", core.advance(0), Ok(()));
+    advances(&rt, &mut core, 1_000_000_001, Err(CoreError::ClockEnd));
+    advances(&rt, &mut core, 1_000_000_000, Ok(()));
+    idles_for(&rt, &core, Some(0));
+    runs(&rt, &mut core, Ran::Idle);
+    advances(&rt, &mut core, 1, Err(CoreError::ClockEnd));
+    advances(&rt, &mut core, 0, Ok(()));
     accepts(&rt, &mut core, 0, sum_of(&rt, alloc, &[1]), 0);
-    same(&rt, "core.run()", core.run(), Ran::ClockEnd);
-    same(&rt, "core.now()", core.now(), 1_000_000_000);
-    same(
-        &rt,
-        "state(&rt, &core, 0)",
-        state(&rt, &core, 0),
-        (2, 1_000_000_005, false),
-    );
+    runs(&rt, &mut core, Ran::ClockEnd);
+    stands_at(&rt, &core, 1_000_000_000);
+    shows(&rt, &core, 0, (2, 1_000_000_005, false));
 }

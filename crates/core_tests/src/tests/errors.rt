@@ -23,7 +23,7 @@ fn errors_have_numbers_and_names(rt: HostRuntime) {
 #[test]
 fn errors_say_what_is_wrong(rt: HostRuntime) -> Result<(), Fail> {
     let alloc = rt.alloc();
-    for (error, text) in [
+    for &(error, text) in &[
         (
             CoreError::BadBacklog,
             "the backlog is not within 1 to 4096 jobs",

@@ -1,7 +1,7 @@
 //! Lists of steps, and their replies.
 
 use super::memory::filled;
-use super::{core_of, done, same, state, sum_of};
+use super::{chooses, core_of, done, makes_room, same, shows, stands_at, sum_of};
 use cbs_core::{Core, CoreError, Ran, Reply, Step};
 use cbs_job::SumJob;
 use cbs_rules::{LIMIT, Mode};
@@ -92,19 +92,9 @@ fn steps_are_answered_in_order(rt: HostRuntime) {
         Told::Ran(done(1, 0, 9)),
     ];
     answers(&rt, &mut core, steps_of(&rt, alloc, alloc, &asked), &wanted);
-    same(&rt, "core.now()", core.now(), 2);
-    same(
-        &rt,
-        "state(&rt, &core, 0)",
-        state(&rt, &core, 0),
-        (1, 5, false),
-    );
-    same(
-        &rt,
-        "state(&rt, &core, 1)",
-        state(&rt, &core, 1),
-        (1, 5, false),
-    );
+    stands_at(&rt, &core, 2);
+    shows(&rt, &core, 0, (1, 5, false));
+    shows(&rt, &core, 1, (1, 5, false));
 }
 
 #[test]
@@ -143,12 +133,8 @@ fn steps_that_find_no_memory_come_back(rt: HostRuntime) {
     let ballast = filled(&rt, alloc, &heap);
     let refused = core.run_steps(steps).err().expect(&rt, "the steps");
     same(&rt, "core.view(0)", core.view(0), before);
-    same(
-        &rt,
-        "core.now(), core.ready()",
-        (core.now(), core.ready()),
-        (0, None),
-    );
+    stands_at(&rt, &core, 0);
+    chooses(&rt, &core, None);
     drop(ballast);
     let wanted = [Told::Advanced, Told::Accepted(0), Told::Ran(done(0, 0, 4))];
     answers(&rt, &mut core, refused.steps, &wanted);
@@ -176,7 +162,7 @@ fn a_step_that_finds_no_memory_is_marked(rt: HostRuntime) {
         Told::Ran(Ran::Idle),
     ];
     let steps = steps_of(&rt, alloc, &heap, &asked);
-    same(&rt, "core.make_room(0)", core.make_room(0), Ok(()));
+    makes_room(&rt, &mut core, 0, Ok(()));
 
     // What is left of the heap is as long as the replies: only the second server finds no memory.
     let replies: Vec<Reply<SumJob>, &LocalHeap> = Vec::with_capacity(&heap, asked.len()).expect(
@@ -185,18 +171,8 @@ fn a_step_that_finds_no_memory_is_marked(rt: HostRuntime) {
     let ballast = filled(&rt, alloc, &heap);
     drop(replies);
     answers(&rt, &mut core, steps, &wanted);
-    same(&rt, "core.now()", core.now(), 2);
-    same(
-        &rt,
-        "state(&rt, &core, 0)",
-        state(&rt, &core, 0),
-        (2, 10, false),
-    );
-    same(
-        &rt,
-        "state(&rt, &core, 1)",
-        state(&rt, &core, 1),
-        (0, 0, false),
-    );
+    stands_at(&rt, &core, 2);
+    shows(&rt, &core, 0, (2, 10, false));
+    shows(&rt, &core, 1, (0, 0, false));
     drop(ballast);
 }

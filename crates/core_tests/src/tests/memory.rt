@@ -1,6 +1,9 @@
 //! Jobs of each kind in each memory, and memory that is refused.
 
-use super::{accepts, core_of, done, plan_of, refuses, same, state, sum_of};
+use super::{
+    accepts, advances, chooses, closes, core_of, done, idles_for, makes_room, plan_of, refuses,
+    runs, same, shows, stands_at, sum_of,
+};
 use cbs_core::{Core, CoreError, Ran};
 use cbs_job::{FileJob, PeakJob, SumJob, Task, Work};
 use cbs_rules::Mode;
@@ -37,25 +40,10 @@ fn comes_to<W: Work, A: Allocator + Clone>(rt: &impl Abort, alloc: A, task: Task
     let mut core = core_of(rt, alloc, Mode::Soft, &[(2, 5)], 4);
     let answer = core.submit(0, task);
     assert!(rt; matches!(answer, Ok(0)));
-    same(
-        rt,
-        "core.run()",
-        core.run(),
-        Ran::Unit { server: 0, seq: 0 },
-    );
-    same(
-        rt,
-        "core.run()",
-        core.run(),
-        Ran::Unit { server: 0, seq: 0 },
-    );
-    same(rt, "core.run()", core.run(), done(0, 0, output));
-    same(
-        rt,
-        "state(rt, &core, 0)",
-        state(rt, &core, 0),
-        (1, 10, false),
-    );
+    runs(rt, &mut core, Ran::Unit { server: 0, seq: 0 });
+    runs(rt, &mut core, Ran::Unit { server: 0, seq: 0 });
+    runs(rt, &mut core, done(0, 0, output));
+    shows(rt, &core, 0, (1, 10, false));
 }
 
 /// Runs a sum and a peak, each as itself and as a job of a task file.
@@ -64,9 +52,10 @@ fn all_come_to<A: Allocator + Clone + Copy>(rt: &impl Abort, global: Global, all
     comes_to(rt, alloc, peak_of(rt, global, &[4, 9, 2]), 9);
     let sum = SumJob::new(Vec::from_slice(global, &[1, 2, 3]).expect(rt, "memory"));
     let peak = PeakJob::new(Vec::from_slice(global, &[4, 9, 2]).expect(rt, "memory"));
-    for (job, output) in [(FileJob::Sum(sum), 6), (FileJob::Peak(peak), 9)] {
-        comes_to(rt, alloc, Task::new(job).ok().expect(rt, "a task"), output);
-    }
+    let sum = Task::new(FileJob::Sum(sum)).ok().expect(rt, "a task");
+    let peak = Task::new(FileJob::Peak(peak)).ok().expect(rt, "a task");
+    comes_to(rt, alloc, sum, 6);
+    comes_to(rt, alloc, peak, 9);
 }
 
 #[test]
@@ -104,22 +93,13 @@ fn a_job_that_finds_no_memory_comes_back(rt: HostRuntime) {
     let ballast = filled(&rt, alloc, &heap);
     let four = sum_of(&rt, alloc, &[4]);
     refuses(&rt, &mut core, 0, four, CoreError::OutOfMemory, 4);
-    same(
-        &rt,
-        "core.make_room(0)",
-        core.make_room(0),
-        Err(CoreError::OutOfMemory),
-    );
+    makes_room(&rt, &mut core, 0, Err(CoreError::OutOfMemory));
     same(&rt, "core.view(0)", core.view(0), before);
-    same(
-        &rt,
-        "core.now(), core.ready()",
-        (core.now(), core.ready()),
-        (0, None),
-    );
+    stands_at(&rt, &core, 0);
+    chooses(&rt, &core, None);
     drop(ballast);
     accepts(&rt, &mut core, 0, sum_of(&rt, alloc, &[4]), 0);
-    same(&rt, "core.run()", core.run(), done(0, 0, 4));
+    runs(&rt, &mut core, done(0, 0, 4));
 }
 
 #[test]
@@ -128,34 +108,19 @@ fn room_is_enough_for_the_next_job(rt: HostRuntime) {
     let heap = LocalHeap::new(alloc, 1 << 12).expect(&rt, "a heap");
     let mut core = core_of(&rt, &heap, Mode::Throttled, &[(2, 5), (2, 5)], 4);
     let ballast = filled(&rt, alloc, &heap);
-    same(
-        &rt,
-        "core.make_room(1)",
-        core.make_room(1),
-        Err(CoreError::OutOfMemory),
-    );
+    makes_room(&rt, &mut core, 1, Err(CoreError::OutOfMemory));
     drop(ballast);
-    same(&rt, "core.make_room(1)", core.make_room(1), Ok(()));
+    makes_room(&rt, &mut core, 1, Ok(()));
     let ballast = filled(&rt, alloc, &heap);
-    same(&rt, "core.advance(3)", core.advance(3), Ok(()));
-    same(&rt, "core.close(0)", core.close(0), Ok(()));
-    same(&rt, "core.run()", core.run(), Ran::Idle);
+    advances(&rt, &mut core, 3, Ok(()));
+    closes(&rt, &mut core, 0, Ok(()));
+    runs(&rt, &mut core, Ran::Idle);
     accepts(&rt, &mut core, 1, sum_of(&rt, alloc, &[4, 5, 6]), 0);
-    same(&rt, "core.close(1)", core.close(1), Ok(()));
-    same(
-        &rt,
-        "core.run()",
-        core.run(),
-        Ran::Unit { server: 1, seq: 0 },
-    );
-    same(
-        &rt,
-        "core.run()",
-        core.run(),
-        Ran::Unit { server: 1, seq: 0 },
-    );
-    same(&rt, "core.idle_span()", core.idle_span(), Some(3));
-    same(&rt, "core.advance(3)", core.advance(3), Ok(()));
-    same(&rt, "core.run()", core.run(), done(1, 0, 15));
+    closes(&rt, &mut core, 1, Ok(()));
+    runs(&rt, &mut core, Ran::Unit { server: 1, seq: 0 });
+    runs(&rt, &mut core, Ran::Unit { server: 1, seq: 0 });
+    idles_for(&rt, &core, Some(3));
+    advances(&rt, &mut core, 3, Ok(()));
+    runs(&rt, &mut core, done(1, 0, 15));
     drop(ballast);
 }

@@ -1,6 +1,8 @@
 //! Who runs, and for how long nobody does.
 
-use super::{accepts, core_of, done, same, state, sum_of};
+use super::{
+    accepts, advances, chooses, core_of, done, idles_for, runs, same, shows, stands_at, sum_of,
+};
 use cbs_core::{Core, Ran};
 use cbs_job::SumJob;
 use cbs_rules::Mode;
@@ -16,14 +18,9 @@ fn exhausted(rt: &impl Abort, alloc: Global) -> Core<SumJob> {
         (Ran::Unit { server: 0, seq: 0 }, 2, 0, true),
         (Ran::Idle, 2, 0, true),
     ] {
-        same(rt, "core.run()", core.run(), ran);
-        same(rt, "core.now()", core.now(), now);
-        same(
-            rt,
-            "state(rt, &core, 0)",
-            state(rt, &core, 0),
-            (budget, 5, throttled),
-        );
+        runs(rt, &mut core, ran);
+        stands_at(rt, &core, now);
+        shows(rt, &core, 0, (budget, 5, throttled));
     }
     core
 }
@@ -33,52 +30,28 @@ fn a_jump_is_its_ticks(rt: HostRuntime) {
     let alloc = rt.alloc();
     let mut jump = exhausted(&rt, alloc);
     let mut ticks = exhausted(&rt, alloc);
-    same(&rt, "jump.advance(7)", jump.advance(7), Ok(()));
+    advances(&rt, &mut jump, 7, Ok(()));
     for _tick in 0..7 {
-        same(&rt, "ticks.advance(1)", ticks.advance(1), Ok(()));
+        advances(&rt, &mut ticks, 1, Ok(()));
     }
-    same(
-        &rt,
-        "state(&rt, &jump, 0)",
-        state(&rt, &jump, 0),
-        (2, 10, false),
-    );
+    shows(&rt, &jump, 0, (2, 10, false));
     same(&rt, "jump.view(0)", jump.view(0), ticks.view(0));
-    same(
-        &rt,
-        "jump.now(), ticks.now()",
-        (jump.now(), ticks.now()),
-        (9, 9),
-    );
-    same(&rt, "jump.run()", jump.run(), done(0, 0, 6));
-    same(&rt, "jump.now()", jump.now(), 10);
-    same(
-        &rt,
-        "state(&rt, &jump, 0)",
-        state(&rt, &jump, 0),
-        (1, 10, false),
-    );
+    stands_at(&rt, &jump, 9);
+    stands_at(&rt, &ticks, 9);
+    runs(&rt, &mut jump, done(0, 0, 6));
+    stands_at(&rt, &jump, 10);
+    shows(&rt, &jump, 0, (1, 10, false));
 }
 
 #[test]
 fn the_idle_span_ends_where_somebody_is_ready(rt: HostRuntime) {
     let alloc = rt.alloc();
     let mut core = core_of(&rt, alloc, Mode::Soft, &[(2, 5), (2, 5)], 4);
-    same(
-        &rt,
-        "core.idle_span()",
-        core.idle_span(),
-        Some(1_000_000_000),
-    );
+    idles_for(&rt, &core, Some(1_000_000_000));
     accepts(&rt, &mut core, 0, sum_of(&rt, alloc, &[7]), 0);
     accepts(&rt, &mut core, 1, sum_of(&rt, alloc, &[9]), 0);
-    same(&rt, "core.idle_span()", core.idle_span(), None);
-    same(
-        &rt,
-        "exhausted(&rt, alloc).idle_span()",
-        exhausted(&rt, alloc).idle_span(),
-        Some(3),
-    );
+    idles_for(&rt, &core, None);
+    idles_for(&rt, &exhausted(&rt, alloc), Some(3));
 }
 
 #[test]
@@ -96,16 +69,11 @@ fn the_earliest_deadline_runs(rt: HostRuntime) {
         (done(0, 0, 3), 0, 1, 10),
         (done(1, 0, 4), 1, 2, 10),
     ] {
-        same(&rt, "core.ready()", core.ready(), Some(server));
-        same(&rt, "core.run()", core.run(), ran);
-        same(
-            &rt,
-            "state(&rt, &core, server)",
-            state(&rt, &core, server),
-            (budget, deadline, false),
-        );
+        chooses(&rt, &core, Some(server));
+        runs(&rt, &mut core, ran);
+        shows(&rt, &core, server, (budget, deadline, false));
     }
-    same(&rt, "core.now()", core.now(), 7);
+    stands_at(&rt, &core, 7);
 }
 
 #[test]
@@ -123,22 +91,12 @@ fn three_throttled_servers_take_turns(rt: HostRuntime) {
         (done(1, 0, 2), 1, 6),
         (Ran::Idle, 1, 6),
     ] {
-        same(&rt, "core.run()", core.run(), ran);
-        same(
-            &rt,
-            "state(&rt, &core, server)",
-            state(&rt, &core, server),
-            (0, deadline, true),
-        );
+        runs(&rt, &mut core, ran);
+        shows(&rt, &core, server, (0, deadline, true));
     }
-    same(&rt, "core.idle_span()", core.idle_span(), Some(1));
-    same(&rt, "core.advance(1)", core.advance(1), Ok(()));
-    same(&rt, "core.run()", core.run(), done(0, 0, 2));
-    same(&rt, "core.now()", core.now(), 7);
-    same(
-        &rt,
-        "state(&rt, &core, 0)",
-        state(&rt, &core, 0),
-        (0, 12, true),
-    );
+    idles_for(&rt, &core, Some(1));
+    advances(&rt, &mut core, 1, Ok(()));
+    runs(&rt, &mut core, done(0, 0, 2));
+    stands_at(&rt, &core, 7);
+    shows(&rt, &core, 0, (0, 12, true));
 }

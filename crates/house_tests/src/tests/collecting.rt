@@ -1,10 +1,9 @@
 //! Completions, as a collector takes them.
 
-use super::same;
+use super::calls::{announces, collected, makes_room, takes};
 use cbs_house::{CollectError, Collector};
-use cbs_job::Completion;
 use std::alloc::Global;
-use std::test::Fail;
+use std::process::Abort;
 
 /// A completion, and what taking it is answered.
 const ROWS: [((u16, u64, u64), Result<(), CollectError>); 6] = [
@@ -26,81 +25,46 @@ const SECOND: [((u16, u64, u64), Result<(), CollectError>); 6] = [
     ((1, 0, 4), Err(CollectError::Double)),
 ];
 
-fn answers(
+/// Takes each completion, and looks for its answer.
+fn answers<R: Abort>(
+    rt: &R,
     collector: &mut Collector,
     rows: &[((u16, u64, u64), Result<(), CollectError>)],
-) -> bool {
-    for &((server, seq, result), answer) in rows {
-        let done = Completion {
-            server,
-            seq,
-            result,
-        };
-        if collector.take(done) != answer {
-            return false;
-        }
+) {
+    for &(done, answer) in rows {
+        takes(rt, collector, done, answer);
     }
-    true
 }
 
-fn collector_of(alloc: Global, servers: u16) -> Result<Collector, Fail> {
-    Ok(Collector::new(alloc, servers).map_err(|_| "memory")?)
+/// A collector for so many servers.
+fn collector_of(rt: &impl Abort, alloc: Global, servers: u16) -> Collector {
+    Collector::new(alloc, servers)
+        .ok()
+        .expect(rt, "a collector")
 }
 
 #[test]
-fn only_the_next_completion_is_taken(rt: HostRuntime) -> Result<(), Fail> {
-    let mut collector = collector_of(rt.alloc(), 1)?;
+fn only_the_next_completion_is_taken(rt: HostRuntime) {
+    let mut collector = collector_of(&rt, rt.alloc(), 1);
     for _time in 0..2 {
-        same(
-            &rt,
-            "collector.make_room(0)",
-            collector.make_room(0),
-            Ok(()),
-        );
-        same(&rt, "collector.expect(0)", collector.expect(0), Ok(()));
+        makes_room(&rt, &mut collector, 0, Ok(()));
+        announces(&rt, &mut collector, 0, Ok(()));
     }
-    assert!(rt; answers(&mut collector, &ROWS));
-    assert!(rt; collector.results(0) == Some([6u64, 7].as_slice()));
-    same(
-        &rt,
-        "collector.expect(9)",
-        collector.expect(9),
-        Err(CollectError::Stranger),
-    );
-    same(
-        &rt,
-        "collector.make_room(9)",
-        collector.make_room(9),
-        Err(CollectError::Stranger),
-    );
+    answers(&rt, &mut collector, &ROWS);
+    collected(&rt, &collector, 0, &[6, 7]);
+    announces(&rt, &mut collector, 9, Err(CollectError::Stranger));
+    makes_room(&rt, &mut collector, 9, Err(CollectError::Stranger));
     assert!(rt; collector.results(9).is_none());
-    Ok(())
 }
 
 #[test]
-fn each_server_has_its_own_results(rt: HostRuntime) -> Result<(), Fail> {
-    let mut collector = collector_of(rt.alloc(), 2)?;
-    same(
-        &rt,
-        "collector.make_room(1)",
-        collector.make_room(1),
-        Ok(()),
-    );
-    same(&rt, "collector.expect(1)", collector.expect(1), Ok(()));
-    assert!(rt; answers(&mut collector, &SECOND));
-    assert!(rt; collector.results(0) == Some([].as_slice()));
-    assert!(rt; collector.results(1) == Some([3u64].as_slice()));
-    let mut none = collector_of(rt.alloc(), 0)?;
-    let done = Completion {
-        server: 0,
-        seq: 0,
-        result: 1,
-    };
-    same(
-        &rt,
-        "none.take(done)",
-        none.take(done),
-        Err(CollectError::Stranger),
-    );
-    Ok(())
+fn each_server_has_its_own_results(rt: HostRuntime) {
+    let mut collector = collector_of(&rt, rt.alloc(), 2);
+    makes_room(&rt, &mut collector, 1, Ok(()));
+    announces(&rt, &mut collector, 1, Ok(()));
+    answers(&rt, &mut collector, &SECOND);
+    collected(&rt, &collector, 0, &[]);
+    collected(&rt, &collector, 1, &[3]);
+    let mut none = collector_of(&rt, rt.alloc(), 0);
+    takes(&rt, &mut none, (0, 0, 1), Err(CollectError::Stranger));
 }

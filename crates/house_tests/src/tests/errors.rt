@@ -6,7 +6,7 @@ use std::test::Fail;
 #[test]
 fn a_house_says_what_is_wrong(rt: HostRuntime) -> Result<(), Fail> {
     let alloc = rt.alloc();
-    for (error, text) in [
+    for &(error, text) in &[
         (
             HouseError::BadBacklog,
             "the backlog is not within 1 to 4096 jobs",
@@ -35,14 +35,14 @@ fn a_house_says_what_is_wrong(rt: HostRuntime) -> Result<(), Fail> {
 #[test]
 fn clients_and_collectors_say_what_is_wrong(rt: HostRuntime) -> Result<(), Fail> {
     let alloc = rt.alloc();
-    for (error, text) in [
+    for &(error, text) in &[
         (SendError::Ended, "the client has ended"),
         (SendError::RingFull, "the ring is full"),
     ] {
         let said = format!(in alloc; "{error}")?;
         assert!(rt; said.as_str() == text, "{said}");
     }
-    for (error, text) in [
+    for &(error, text) in &[
         (CollectError::Stranger, "there is no such server"),
         (
             CollectError::Double,

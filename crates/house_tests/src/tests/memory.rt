@@ -1,13 +1,17 @@
 //! What is done, and what is kept, where memory is refused.
 
-ghost use Rattle.std.specs.Prelude.{IfOk};
-ghost use Rattle.cbs_house.specs.Clients.{SameClient};
 ghost use Rattle.cbs_house.specs.Houses.{rings_of};
 ghost use Rattle.cbs_house.specs.RingEnds.{IsOpened};
 
-use super::{plan_of, same, sum_of};
+use super::calls::{
+    advances, announces, collected, drains, ends, gave, makes_room, polls, runs, sends, settles,
+    stands_at, takes,
+};
+use super::{lists_of, plan_of, same, sum_of};
 use cbs_core::Ran;
-use cbs_house::{Client, CollectError, Collector, House, HouseError, Poll, feeds_of, open_house};
+use cbs_house::{
+    Client, CollectError, Collector, FeedsRefused, House, HouseError, Poll, feeds_of, open_house,
+};
 use cbs_job::{Completion, SumJob, Task};
 use cbs_rules::Mode;
 use linked_list_allocator::LocalHeap;
@@ -33,40 +37,20 @@ fn two_clients<R: Abort, A: Allocator + Copy>(
     rt: &R,
     alloc: A,
     mode: Mode,
-) -> Result<(House<SumJob, A>, Client<SumJob, A>, Client<SumJob, A>), Fail>
-    ensures { IfOk result (λ r. IsOpened (rings_of r.0) r.1 × IsOpened (rings_of r.0) r.2) }
+) -> (House<SumJob, A>, Client<SumJob, A>, Client<SumJob, A>)
+    ensures { IsOpened (rings_of result.0) result.1 × IsOpened (rings_of result.0) result.2 }
 {
     let plan = plan_of(rt, &[(2, 5), (2, 5)]);
     let Ok((house, mut clients)) = open_house(alloc, plan, mode, 4, 4) else {
-        return Err("memory")?;
+        panic!(rt; "a house");
     };
     let Some(second) = clients.pop() else {
-        return Err("a client")?;
+        panic!(rt; "a client");
     };
     let Some(first) = clients.pop() else {
-        return Err("a client")?;
+        panic!(rt; "a client");
     };
-    Ok((house, first, second))
-}
-
-fn sends<A: Allocator>(client: &mut Client<SumJob, A>, task: Task<SumJob>, number: u64) -> bool
-    ensures { SameClient client.old client.new }
-{
-    matches!(client.send(task), Ok(n) if n == number)
-}
-
-/// Takes the completion of a job.
-fn taken<A: Allocator>(
-    collector: &mut Collector<A>,
-    server: u16,
-    seq: u64,
-    output: u64,
-) -> Result<(), CollectError> {
-    collector.take(Completion {
-        server,
-        seq,
-        result: output,
-    })
+    (house, first, second)
 }
 
 #[test]
@@ -108,74 +92,48 @@ fn an_announcement_that_finds_no_memory_is_not_made(rt: HostRuntime) {
     let alloc = rt.alloc();
     let heap = LocalHeap::new(alloc, 1 << 12).expect(&rt, "a heap");
     let mut collector = Collector::new(&heap, 2).expect(&rt, "a collector");
-    same(&rt, "collector.expect(0)", collector.expect(0), Ok(()));
+    announces(&rt, &mut collector, 0, Ok(()));
     let ballast = filled(&rt, alloc, &heap);
-    same(
-        &rt,
-        "collector.make_room(1)",
-        collector.make_room(1),
-        Err(CollectError::OutOfMemory),
-    );
-    same(
-        &rt,
-        "collector.expect(1)",
-        collector.expect(1),
-        Err(CollectError::OutOfMemory),
-    );
-    same(
-        &rt,
-        "collector.make_room(2)",
-        collector.make_room(2),
-        Err(CollectError::Stranger),
-    );
-    same(
-        &rt,
-        "collector.expect(2)",
-        collector.expect(2),
-        Err(CollectError::Stranger),
-    );
-    same(
-        &rt,
-        "taken(collector, 1, 0, 9)",
-        taken(&mut collector, 1, 0, 9),
-        Err(CollectError::Early),
-    );
-    same(
-        &rt,
-        "taken(collector, 0, 1, 7)",
-        taken(&mut collector, 0, 1, 7),
-        Err(CollectError::Early),
-    );
-    same(
-        &rt,
-        "taken(collector, 0, 0, 6)",
-        taken(&mut collector, 0, 0, 6),
-        Ok(()),
-    );
-    assert!(rt; collector.results(0) == Some([6u64].as_slice()));
-    assert!(rt; collector.results(1) == Some([].as_slice()));
+    makes_room(&rt, &mut collector, 1, Err(CollectError::OutOfMemory));
+    announces(&rt, &mut collector, 1, Err(CollectError::OutOfMemory));
+    makes_room(&rt, &mut collector, 2, Err(CollectError::Stranger));
+    announces(&rt, &mut collector, 2, Err(CollectError::Stranger));
+    takes(&rt, &mut collector, (1, 0, 9), Err(CollectError::Early));
+    takes(&rt, &mut collector, (0, 1, 7), Err(CollectError::Early));
+    takes(&rt, &mut collector, (0, 0, 6), Ok(()));
+    collected(&rt, &collector, 0, &[6]);
+    collected(&rt, &collector, 1, &[]);
     drop(ballast);
-    same(
-        &rt,
-        "collector.make_room(1)",
-        collector.make_room(1),
-        Ok(()),
+    makes_room(&rt, &mut collector, 1, Ok(()));
+    takes(&rt, &mut collector, (1, 0, 9), Err(CollectError::Early));
+    announces(&rt, &mut collector, 1, Ok(()));
+    takes(&rt, &mut collector, (1, 0, 9), Ok(()));
+    collected(&rt, &collector, 0, &[6]);
+    collected(&rt, &collector, 1, &[9]);
+}
+
+/// Announces completions of server 0 until no memory is found. How many.
+fn announced<A: Allocator>(rt: &impl Abort, collector: &mut Collector<A>) -> u64 {
+    for number in 0..64 {
+        if collector.expect(0).is_err() {
+            return number;
+        }
+    }
+    panic!(rt; "there is too much memory");
+}
+
+/// Gives the completions that were announced of server 0, and one more, which comes too early.
+fn takes_all<A: Allocator>(rt: &impl Abort, collector: &mut Collector<A>, announced: u64) {
+    for number in 0..announced {
+        takes(rt, collector, (0, number, 6), Ok(()));
+    }
+    takes(rt, collector, (0, announced, 7), Err(CollectError::Early));
+    announces(rt, collector, 0, Err(CollectError::OutOfMemory));
+    assert!(rt;
+        collector
+            .results(0)
+            .is_some_and(|r| r.len() as u64 == announced)
     );
-    same(
-        &rt,
-        "taken(collector, 1, 0, 9)",
-        taken(&mut collector, 1, 0, 9),
-        Err(CollectError::Early),
-    );
-    same(&rt, "collector.expect(1)", collector.expect(1), Ok(()));
-    same(
-        &rt,
-        "taken(collector, 1, 0, 9)",
-        taken(&mut collector, 1, 0, 9),
-        Ok(()),
-    );
-    assert!(rt; collector.results(0) == Some([6u64].as_slice()));
-    assert!(rt; collector.results(1) == Some([9u64].as_slice()));
 }
 
 #[test]
@@ -183,78 +141,19 @@ fn what_is_announced_keeps_its_place(rt: HostRuntime) {
     let alloc = rt.alloc();
     let heap = LocalHeap::new(alloc, 1 << 12).expect(&rt, "a heap");
     let mut collector = Collector::new(&heap, 1).expect(&rt, "a collector");
-    same(
-        &rt,
-        "collector.make_room(0)",
-        collector.make_room(0),
-        Ok(()),
-    );
+    makes_room(&rt, &mut collector, 0, Ok(()));
     let ballast = filled(&rt, alloc, &heap);
-    let mut announced = 0;
-    for n in 0..64 {
-        if collector.expect(0).is_err() {
-            announced = n;
-            break;
-        }
-    }
+    let announced = announced(&rt, &mut collector);
     assert!(rt; announced > 0);
     for _time in 0..2 {
-        same(
-            &rt,
-            "collector.make_room(0)",
-            collector.make_room(0),
-            Err(CollectError::OutOfMemory),
-        );
-        same(
-            &rt,
-            "collector.expect(0)",
-            collector.expect(0),
-            Err(CollectError::OutOfMemory),
-        );
+        makes_room(&rt, &mut collector, 0, Err(CollectError::OutOfMemory));
+        announces(&rt, &mut collector, 0, Err(CollectError::OutOfMemory));
     }
-    for seq in 0..announced {
-        same(
-            &rt,
-            "taken(collector, 0, seq, 6)",
-            taken(&mut collector, 0, seq, 6),
-            Ok(()),
-        );
-    }
-    same(
-        &rt,
-        "taken(collector, 0, announced, 7)",
-        taken(&mut collector, 0, announced, 7),
-        Err(CollectError::Early),
-    );
-    same(
-        &rt,
-        "collector.expect(0)",
-        collector.expect(0),
-        Err(CollectError::OutOfMemory),
-    );
-    assert!(rt;
-        collector
-            .results(0)
-            .is_some_and(|r| r.len() as u64 == announced)
-    );
+    takes_all(&rt, &mut collector, announced);
     drop(ballast);
-    same(&rt, "collector.expect(0)", collector.expect(0), Ok(()));
-    same(
-        &rt,
-        "taken(collector, 0, announced, 7)",
-        taken(&mut collector, 0, announced, 7),
-        Ok(()),
-    );
+    announces(&rt, &mut collector, 0, Ok(()));
+    takes(&rt, &mut collector, (0, announced, 7), Ok(()));
     assert!(rt; collector.results(0).is_some_and(|r| r.last() == Some(&7)));
-}
-
-/// Polls the first server, and looks how many messages stand in the client's ring then.
-fn polled<A: Allocator>(house: &mut House<SumJob, A>, client: &mut Client<SumJob, A>) -> (Poll, u64)
-    requires { IsOpened (rings_of house.old) client.old }
-    ensures { IsOpened (rings_of house.new) client.new }
-{
-    let poll = house.poll(0);
-    (poll, house.settle(client))
 }
 
 /// Polls the first server while no memory is found, and frees a block each time. Whether its message
@@ -271,17 +170,14 @@ fn polled_as_memory_grows<'a>(
 {
     let mut grown = false;
     for freed in 0..ballast.len() {
-        let (poll, standing) = polled(house, client);
+        let poll = house.poll(0);
         if poll == Poll::Took(0) {
-            return grown && standing == 1;
+            settles(rt, house, client, 1);
+            return grown;
         }
-        same(
-            rt,
-            "(poll, standing)",
-            (poll, standing),
-            (Poll::OutOfMemory, 2),
-        );
-        assert!(rt; house.results(0) == Ok([].as_slice()));
+        same(rt, "poll", poll, Poll::OutOfMemory);
+        settles(rt, house, client, 2);
+        gave(rt, house, 0, &[]);
         grown |= freed > 0 && heap.free() == 0;
         ballast.pop();
     }
@@ -289,154 +185,139 @@ fn polled_as_memory_grows<'a>(
 }
 
 #[test]
-fn a_message_that_finds_no_memory_stays_in_its_ring(rt: HostRuntime) -> Result<(), Fail> {
+fn a_message_that_finds_no_memory_stays_in_its_ring(rt: HostRuntime) {
     let alloc = rt.alloc();
     let heap = LocalHeap::new(alloc, 1 << 13).expect(&rt, "a heap");
-    let (mut house, mut client, _second) = two_clients(&rt, &heap, Mode::Soft)?;
-    assert!(rt; sends(&mut client, sum_of(&rt, alloc, &[5]), 0));
-    same(&rt, "client.end()", client.end(), Ok(()));
+    let (mut house, mut client, _second) = two_clients(&rt, &heap, Mode::Soft);
+    sends(&rt, &mut client, sum_of(&rt, alloc, &[5]), 0);
+    ends(&rt, &mut client, Ok(()));
     let ballast = filled(&rt, alloc, &heap);
-    same(
-        &rt,
-        "polled(house, client)",
-        polled(&mut house, &mut client),
-        (Poll::OutOfMemory, 2),
-    );
-    same(
-        &rt,
-        "polled(house, client)",
-        polled(&mut house, &mut client),
-        (Poll::OutOfMemory, 2),
-    );
-    same(&rt, "house.drain()", house.drain(), Ok(()));
-    same(
-        &rt,
-        "(house.now(), house.run())",
-        (house.now(), house.run()),
-        (0, Ran::Idle),
-    );
-    assert!(rt; house.results(0) == Ok([].as_slice()));
+    polls(&rt, &mut house, 0, Poll::OutOfMemory);
+    settles(&rt, &mut house, &mut client, 2);
+    polls(&rt, &mut house, 0, Poll::OutOfMemory);
+    settles(&rt, &mut house, &mut client, 2);
+    drains(&rt, &mut house, Ok(()));
+    stands_at(&rt, &house, 0);
+    runs(&rt, &mut house, Ran::Idle);
+    gave(&rt, &house, 0, &[]);
     drop(ballast);
-    same(
-        &rt,
-        "polled(house, client)",
-        polled(&mut house, &mut client),
-        (Poll::Took(0), 1),
-    );
-    same(
-        &rt,
-        "polled(house, client)",
-        polled(&mut house, &mut client),
-        (Poll::Closed, 0),
-    );
-    same(&rt, "house.drain()", house.drain(), Ok(()));
-    assert!(rt; house.results(0) == Ok([5u64].as_slice()));
-    same(&rt, "house.now()", house.now(), 1);
-    Ok(())
+    polls(&rt, &mut house, 0, Poll::Took(0));
+    settles(&rt, &mut house, &mut client, 1);
+    polls(&rt, &mut house, 0, Poll::Closed);
+    settles(&rt, &mut house, &mut client, 0);
+    drains(&rt, &mut house, Ok(()));
+    gave(&rt, &house, 0, &[5]);
+    stands_at(&rt, &house, 1);
 }
 
 #[test]
-fn a_poll_takes_memory_or_says_so(rt: HostRuntime) -> Result<(), Fail> {
+fn a_poll_takes_memory_or_says_so(rt: HostRuntime) {
     let alloc = rt.alloc();
     let heap = LocalHeap::new(alloc, 1 << 13).expect(&rt, "a heap");
-    let (mut house, mut client, _second) = two_clients(&rt, &heap, Mode::Soft)?;
-    assert!(rt; sends(&mut client, sum_of(&rt, alloc, &[5]), 0));
-    assert!(rt; sends(&mut client, sum_of(&rt, alloc, &[7, 8]), 1));
+    let (mut house, mut client, _second) = two_clients(&rt, &heap, Mode::Soft);
+    sends(&rt, &mut client, sum_of(&rt, alloc, &[5]), 0);
+    sends(&rt, &mut client, sum_of(&rt, alloc, &[7, 8]), 1);
     let mut ballast = filled(&rt, alloc, &heap);
     assert!(rt; polled_as_memory_grows(&rt, &heap, &mut house, &mut client, &mut ballast));
-    same(&rt, "house.settle(client)", house.settle(&mut client), 1);
+    settles(&rt, &mut house, &mut client, 1);
     drop(ballast);
-    same(&rt, "house.poll(0)", house.poll(0), Poll::Took(1));
-    same(&rt, "house.settle(client)", house.settle(&mut client), 0);
-    same(&rt, "house.drain()", house.drain(), Ok(()));
-    assert!(rt; house.results(0) == Ok([5u64, 15].as_slice()));
-    same(&rt, "house.now()", house.now(), 3);
-    Ok(())
+    polls(&rt, &mut house, 0, Poll::Took(1));
+    settles(&rt, &mut house, &mut client, 0);
+    drains(&rt, &mut house, Ok(()));
+    gave(&rt, &house, 0, &[5, 15]);
+    stands_at(&rt, &house, 3);
 }
 
-#[test]
-fn what_is_taken_is_done_without_memory(rt: HostRuntime) -> Result<(), Fail> {
-    let alloc = rt.alloc();
-    let heap = LocalHeap::new(alloc, 1 << 13).expect(&rt, "a heap");
-    let (mut house, mut first, mut second) = two_clients(&rt, &heap, Mode::Throttled)?;
-    assert!(rt; sends(&mut first, sum_of(&rt, alloc, &[1, 2, 3]), 0));
-    same(&rt, "house.poll(0)", house.poll(0), Poll::Took(0));
-    let ballast = filled(&rt, alloc, &heap);
-    same(&rt, "house.poll(1)", house.poll(1), Poll::Nothing);
-    same(&rt, "house.poll(2)", house.poll(2), Poll::NoSuchServer);
-    assert!(rt; sends(&mut first, sum_of(&rt, alloc, &[4]), 1));
-    assert!(rt; sends(&mut second, sum_of(&rt, alloc, &[9]), 0));
-    same(&rt, "first.end()", first.end(), Ok(()));
-    same(&rt, "house.settle(first)", house.settle(&mut first), 2);
-    same(&rt, "house.settle(second)", house.settle(&mut second), 1);
-    same(
-        &rt,
-        "house.run()",
-        house.run(),
-        Ran::Unit { server: 0, seq: 0 },
-    );
-    same(&rt, "house.advance(1)", house.advance(1), Ok(()));
-    same(&rt, "house.poll(1)", house.poll(1), Poll::OutOfMemory);
+/// What a house does while no memory is found: server 0 has a job of three units, taken before.
+fn works_without_memory<A: Allocator>(
+    rt: &impl Abort,
+    alloc: Global,
+    house: &mut House<SumJob, A>,
+    first: &mut Client<SumJob, A>,
+    second: &mut Client<SumJob, A>,
+)
+    requires { IsOpened (rings_of house.old) first.old × IsOpened (rings_of house.old) second.old }
+{
+    polls(rt, house, 1, Poll::Nothing);
+    polls(rt, house, 2, Poll::NoSuchServer);
+    sends(rt, first, sum_of(rt, alloc, &[4]), 1);
+    sends(rt, second, sum_of(rt, alloc, &[9]), 0);
+    ends(rt, first, Ok(()));
+    settles(rt, house, first, 2);
+    settles(rt, house, second, 1);
+    runs(rt, house, Ran::Unit { server: 0, seq: 0 });
+    advances(rt, house, 1, Ok(()));
+    polls(rt, house, 1, Poll::OutOfMemory);
 
     // The second unit ends at 3 and uses up the budget; the third runs from the deadline on, at 5.
-    same(&rt, "house.drain()", house.drain(), Ok(()));
-    same(&rt, "house.now()", house.now(), 6);
-    assert!(rt; house.results(0) == Ok([6u64].as_slice()));
-    drop(ballast);
-    same(&rt, "house.poll(0)", house.poll(0), Poll::Took(1));
-    same(&rt, "house.poll(0)", house.poll(0), Poll::Closed);
-    same(&rt, "house.poll(1)", house.poll(1), Poll::Took(0));
-    same(&rt, "house.drain()", house.drain(), Ok(()));
-    assert!(rt; house.results(0) == Ok([6u64, 4].as_slice()));
-    assert!(rt; house.results(1) == Ok([9u64].as_slice()));
-    Ok(())
-}
-
-/// Two lists of jobs in this memory, of two and of no jobs.
-fn two_lists<A: Allocator + Copy>(
-    rt: &impl Abort,
-    global: Global,
-    alloc: A,
-) -> Vec<Vec<Task<SumJob>, A>, A> {
-    let mut jobs = Vec::new(alloc);
-    for numbers in [[1, 2], [3, 4]] {
-        jobs.push(sum_of(rt, global, &numbers))
-            .ok()
-            .expect(rt, "memory");
-    }
-    let mut lists = Vec::new(alloc);
-    lists.push(jobs).ok().expect(rt, "memory");
-    lists.push(Vec::new(alloc)).ok().expect(rt, "memory");
-    lists
+    drains(rt, house, Ok(()));
+    stands_at(rt, house, 6);
+    gave(rt, house, 0, &[6]);
 }
 
 #[test]
-fn feeds_that_find_no_memory_come_back(rt: HostRuntime) -> Result<(), Fail> {
+fn what_is_taken_is_done_without_memory(rt: HostRuntime) {
+    let alloc = rt.alloc();
+    let heap = LocalHeap::new(alloc, 1 << 13).expect(&rt, "a heap");
+    let (mut house, mut first, mut second) = two_clients(&rt, &heap, Mode::Throttled);
+    sends(&rt, &mut first, sum_of(&rt, alloc, &[1, 2, 3]), 0);
+    polls(&rt, &mut house, 0, Poll::Took(0));
+    let ballast = filled(&rt, alloc, &heap);
+    works_without_memory(&rt, alloc, &mut house, &mut first, &mut second);
+    drop(ballast);
+    polls(&rt, &mut house, 0, Poll::Took(1));
+    polls(&rt, &mut house, 0, Poll::Closed);
+    polls(&rt, &mut house, 1, Poll::Took(0));
+    drains(&rt, &mut house, Ok(()));
+    gave(&rt, &house, 0, &[6, 4]);
+    gave(&rt, &house, 1, &[9]);
+}
+
+/// Asks for feeds of two clients, which finds no memory, and gives back what was given.
+fn not_fed<A: Allocator + Copy>(
+    rt: &impl Abort,
+    alloc: A,
+    clients: Vec<Client<SumJob, A>, A>,
+    lists: Vec<Vec<Task<SumJob>, A>, A>,
+) -> FeedsRefused<SumJob, A> {
+    assert!(rt; clients.len() == lists.len());
+    let refused = feeds_of(alloc, clients, lists)
+        .err()
+        .expect(rt, "a refusal");
+    assert!(rt; refused.clients.len() == 2 && refused.lists.len() == 2);
+    assert!(rt; refused.lists[0].len() == 2 && refused.lists[1].is_empty());
+    refused
+}
+
+/// Feeds of two clients that have sent a job each, the first with two jobs and the second with none.
+fn fed<A: Allocator + Copy>(
+    rt: &impl Abort,
+    alloc: A,
+    clients: Vec<Client<SumJob, A>, A>,
+    lists: Vec<Vec<Task<SumJob>, A>, A>,
+) {
+    assert!(rt; clients.len() == lists.len());
+    let mut feeds = feeds_of(alloc, clients, lists).ok().expect(rt, "feeds");
+    assert!(rt; feeds.len() == 2 && feeds[0].left() == 2 && feeds[1].left() == 0);
+    for (index, feed) in feeds.iter_mut().enumerate() {
+        let client = feed.client();
+        assert!(rt; client.sent() == 1 && usize::from(client.server()) == index);
+    }
+}
+
+#[test]
+fn feeds_that_find_no_memory_come_back(rt: HostRuntime) {
     let alloc = rt.alloc();
     let heap = LocalHeap::new(alloc, 1 << 13).expect(&rt, "a heap");
     let plan = plan_of(&rt, &[(2, 5), (2, 5)]);
     let opened = open_house::<SumJob, &LocalHeap>(&heap, plan, Mode::Soft, 4, 4);
     let (_house, clients) = opened.ok().expect(&rt, "a house");
-    let lists = two_lists(&rt, alloc, &heap);
-    assert!(rt; clients.len() == 2 && lists.len() == 2);
+    let lists = lists_of(&rt, alloc, &heap, &[&[&[1, 2], &[3, 4]], &[]]);
     let ballast = filled(&rt, alloc, &heap);
-    let mut refused = feeds_of(&heap, clients, lists)
-        .err()
-        .expect(&rt, "a refusal");
-    assert!(rt; refused.clients.len() == 2 && refused.lists.len() == 2);
-    assert!(rt; refused.lists[0].len() == 2 && refused.lists[1].is_empty());
+    let mut refused = not_fed(&rt, &heap, clients, lists);
     for client in &mut refused.clients {
-        assert!(rt; sends(client, sum_of(&rt, alloc, &[5]), 0));
+        sends(&rt, client, sum_of(&rt, alloc, &[5]), 0);
     }
     drop(ballast);
-    assert!(rt; refused.clients.len() == refused.lists.len());
-    let feeds = feeds_of(&heap, refused.clients, refused.lists)
-        .ok()
-        .expect(&rt, "feeds");
-    assert!(rt; feeds.len() == 2 && feeds[0].left() == 2 && feeds[1].left() == 0);
-    for (index, feed) in feeds.into_iter().enumerate() {
-        let mut feed = feed;
-        assert!(rt; feed.client().sent() == 1 && feed.client().server() as usize == index);
-    }
-    Ok(())
+    fed(&rt, &heap, refused.clients, refused.lists);
 }

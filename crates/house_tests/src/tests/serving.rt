@@ -1,60 +1,67 @@
 //! Feeds that are served.
 
-ghost use Rattle.std.specs.Prelude.{◌<◌, length, IfOk};
+ghost use Rattle.std.specs.Prelude.{◌<◌, length};
 ghost use Rattle.cbs_house.specs.Rounds.{Ready};
 
+use super::calls::{drains, gave, sends};
 use super::meeting::{Meet, Shut};
-use super::polling::{one_client, sends};
-use super::{plan_of, same, sum_of};
+use super::polling::one_client;
+use super::{lists_of, plan_of, same, sum_of};
 use cbs_house::{
-    Feed, House, HouseError, OpenGate, Round, feeds_of, open_house, serve, serve_round,
+    Feed, Gate, House, HouseError, OpenGate, Round, feeds_of, open_house, serve, serve_round,
 };
-use cbs_job::{SumJob, Task};
+use cbs_job::SumJob;
 use cbs_rules::Mode;
 use std::alloc::Global;
 use std::process::Abort;
-use std::test::Fail;
+use std::thread::Threads;
 
-/// The tasks that add up these lists of numbers.
-fn sums_of(rt: &impl Abort, alloc: Global, lists: &[&[u32]]) -> Result<Vec<Task<SumJob>>, Fail> {
-    let mut tasks = Vec::new(alloc);
-    for &numbers in lists {
-        tasks.push(sum_of(rt, alloc, numbers))?;
-    }
-    Ok(tasks)
-}
-
-/// A house of servers with these reservations, and for each a feed of the list at its place.
+/// A house of servers with these reservations, and for each a feed of the sums at its place.
 fn opened<R: Abort>(
     rt: &R,
     alloc: Global,
     rates: &[(u64, u64)],
     ring: u64,
-    lists: Vec<Vec<Task<SumJob>>>,
-) -> Result<(House<SumJob>, Vec<Feed<SumJob>>), Fail>
-    ensures { IfOk result (λ r. Ready r.0 r.1.items) }
+    lists: &[&[&[u32]]],
+) -> (House<SumJob>, Vec<Feed<SumJob>>)
+    ensures { Ready result.0 result.1.items }
 {
     let Ok((house, clients)) = open_house(alloc, plan_of(rt, rates), Mode::Soft, 4, ring) else {
-        return Err("memory")?;
+        panic!(rt; "a house");
     };
-    if clients.len() > 64 || clients.len() != lists.len() {
-        return Err("a list for each of at most 64 servers")?;
-    }
+    let lists = lists_of(rt, alloc, alloc, lists);
+    assert!(rt; clients.len() <= 64 && clients.len() == lists.len());
     let Ok(feeds) = feeds_of(alloc, clients, lists) else {
-        return Err("memory")?;
+        panic!(rt; "feeds");
     };
-    Ok((house, feeds))
+    (house, feeds)
 }
 
 /// Two servers at rings of one place, and feeds of three jobs and of one.
-fn two_feeds<R: Abort>(rt: &R, alloc: Global) -> Result<(House<SumJob>, Vec<Feed<SumJob>>), Fail>
-    ensures { IfOk result (λ r. Ready r.0 r.1.items) }
+fn two_feeds<R: Abort>(rt: &R, alloc: Global) -> (House<SumJob>, Vec<Feed<SumJob>>)
+    ensures { Ready result.0 result.1.items }
 {
-    let lists = vec![in alloc;
-        sums_of(rt, alloc, &[&[1], &[2], &[3]])?,
-        sums_of(rt, alloc, &[&[4]])?,
-    ]?;
-    opened(rt, alloc, &[(2, 5), (2, 5)], 1, lists)
+    opened(
+        rt,
+        alloc,
+        &[(2, 5), (2, 5)],
+        1,
+        &[&[&[1], &[2], &[3]], &[&[4]]],
+    )
+}
+
+/// Serves feeds.
+fn serves<R: Threads + Sync + Abort, G: Gate + Sync>(
+    rt: &R,
+    house: &mut House<SumJob>,
+    feeds: &mut [Feed<SumJob>],
+    gate: &G,
+    wanted: Result<(), HouseError>,
+)
+    requires { Ready house.old feeds.old }
+    ensures { Ready house.new feeds.new }
+{
+    same(rt, "serve", serve(rt, house, feeds, gate), wanted);
 }
 
 /// How many messages stand in the ring of the feed at this index.
@@ -68,41 +75,33 @@ fn standing(house: &mut House<SumJob>, feeds: &mut [Feed<SumJob>], index: usize)
 }
 
 #[test]
-fn both_sides_of_a_round_run_at_once(rt: HostRuntime) -> Result<(), Fail> {
+fn both_sides_of_a_round_run_at_once(rt: HostRuntime) {
     let alloc = rt.alloc();
-    let (mut house, mut feeds) = two_feeds(&rt, alloc)?;
+    let (mut house, mut feeds) = two_feeds(&rt, alloc);
     let gate = Meet::new(true);
     let round = serve_round(&rt, &mut house, &mut feeds, 1_000_000_000, &gate);
     same(&rt, "round", round, Round { sent: 6, took: 6 });
     assert!(rt; gate.first.met() == 3 && gate.second.met() == 2);
-    same(&rt, "house.drain()", house.drain(), Ok(()));
-    assert!(rt; house.results(0) == Ok([1u64, 2, 3].as_slice()));
-    assert!(rt; house.results(1) == Ok([4u64].as_slice()));
-    Ok(())
+    drains(&rt, &mut house, Ok(()));
+    gave(&rt, &house, 0, &[1, 2, 3]);
+    gave(&rt, &house, 1, &[4]);
 }
 
 #[test]
-fn serving_runs_both_sides_at_once(rt: HostRuntime) -> Result<(), Fail> {
+fn serving_runs_both_sides_at_once(rt: HostRuntime) {
     let alloc = rt.alloc();
-    let (mut house, mut feeds) = two_feeds(&rt, alloc)?;
+    let (mut house, mut feeds) = two_feeds(&rt, alloc);
     let gate = Meet::new(false);
-    same(
-        &rt,
-        "serve(house, feeds, gate)",
-        serve(&rt, &mut house, &mut feeds, &gate),
-        Ok(()),
-    );
+    serves(&rt, &mut house, &mut feeds, &gate, Ok(()));
     assert!(rt; gate.first.met() == 3);
-    assert!(rt; house.results(0) == Ok([1u64, 2, 3].as_slice()));
-    assert!(rt; house.results(1) == Ok([4u64].as_slice()));
-    Ok(())
+    gave(&rt, &house, 0, &[1, 2, 3]);
+    gave(&rt, &house, 1, &[4]);
 }
 
 #[test]
-fn a_gate_that_holds_all_back_stalls(rt: HostRuntime) -> Result<(), Fail> {
+fn a_gate_that_holds_all_back_stalls(rt: HostRuntime) {
     let alloc = rt.alloc();
-    let lists = vec![in alloc; sums_of(&rt, alloc, &[&[1], &[2]])?]?;
-    let (mut house, mut feeds) = opened(&rt, alloc, &[(2, 5)], 4, lists)?;
+    let (mut house, mut feeds) = opened(&rt, alloc, &[(2, 5)], 4, &[&[&[1], &[2]]]);
     let round = serve_round(&rt, &mut house, &mut feeds, 10, &Shut);
     same(&rt, "round", round, Round { sent: 0, took: 0 });
     assert!(rt; feeds.len() == 1);
@@ -112,75 +111,51 @@ fn a_gate_that_holds_all_back_stalls(rt: HostRuntime) -> Result<(), Fail> {
         standing(&mut house, &mut feeds, 0),
         0,
     );
-    assert!(rt; house.results(0) == Ok([].as_slice()));
-    same(
-        &rt,
-        "serve(house, feeds, Shut)",
-        serve(&rt, &mut house, &mut feeds, &Shut),
-        Err(HouseError::Stalled),
-    );
-    assert!(rt; house.results(0) == Ok([].as_slice()));
+    gave(&rt, &house, 0, &[]);
+    serves(&rt, &mut house, &mut feeds, &Shut, Err(HouseError::Stalled));
+    gave(&rt, &house, 0, &[]);
     let feed = feeds.pop().expect(&rt, "a feed");
     assert!(rt; feed.left() == 2 && !feed.done());
-    Ok(())
 }
 
 #[test]
-fn served_feeds_may_be_served_again(rt: HostRuntime) -> Result<(), Fail> {
+fn served_feeds_may_be_served_again(rt: HostRuntime) {
     let alloc = rt.alloc();
-    let lists = vec![in alloc; sums_of(&rt, alloc, &[&[1], &[2]])?]?;
-    let (mut house, mut feeds) = opened(&rt, alloc, &[(2, 5)], 4, lists)?;
-    same(
-        &rt,
-        "serve(house, feeds, OpenGate)",
-        serve(&rt, &mut house, &mut feeds, &OpenGate),
-        Ok(()),
-    );
-    assert!(rt; house.results(0) == Ok([1u64, 2].as_slice()));
-    same(
-        &rt,
-        "serve(house, feeds, OpenGate)",
-        serve(&rt, &mut house, &mut feeds, &OpenGate),
-        Ok(()),
-    );
-    assert!(rt; house.results(0) == Ok([1u64, 2].as_slice()));
+    let (mut house, mut feeds) = opened(&rt, alloc, &[(2, 5)], 4, &[&[&[1], &[2]]]);
+    serves(&rt, &mut house, &mut feeds, &OpenGate, Ok(()));
+    gave(&rt, &house, 0, &[1, 2]);
+    serves(&rt, &mut house, &mut feeds, &OpenGate, Ok(()));
+    gave(&rt, &house, 0, &[1, 2]);
     let feed = feeds.pop().expect(&rt, "a feed");
     assert!(rt; feed.left() == 0 && feed.done());
-    Ok(())
 }
 
 #[test]
-fn every_ring_gives_the_same_results(rt: HostRuntime) -> Result<(), Fail> {
+fn every_ring_gives_the_same_results(rt: HostRuntime) {
     let alloc = rt.alloc();
     for ring in [1, 2, 1024] {
-        let lists = vec![in alloc;
-            sums_of(&rt, alloc, &[&[1, 2, 3], &[9]])?,
-            Vec::new(alloc),
-            sums_of(&rt, alloc, &[&[10], &[20, 30]])?,
-        ]?;
-        let (mut house, mut feeds) = opened(&rt, alloc, &[(2, 5), (1, 10), (1, 4)], ring, lists)?;
-        same(
+        let (mut house, mut feeds) = opened(
             &rt,
-            "serve(house, feeds, OpenGate)",
-            serve(&rt, &mut house, &mut feeds, &OpenGate),
-            Ok(()),
+            alloc,
+            &[(2, 5), (1, 10), (1, 4)],
+            ring,
+            &[&[&[1, 2, 3], &[9]], &[], &[&[10], &[20, 30]]],
         );
-        assert!(rt; house.results(0) == Ok([6u64, 9].as_slice()));
-        assert!(rt; house.results(1) == Ok([].as_slice()));
-        assert!(rt; house.results(2) == Ok([10u64, 50].as_slice()));
+        serves(&rt, &mut house, &mut feeds, &OpenGate, Ok(()));
+        gave(&rt, &house, 0, &[6, 9]);
+        gave(&rt, &house, 1, &[]);
+        gave(&rt, &house, 2, &[10, 50]);
     }
-    Ok(())
 }
 
 #[test]
-fn a_turn_polls_and_then_runs(rt: HostRuntime) -> Result<(), Fail> {
+fn a_turn_polls_and_then_runs(rt: HostRuntime) {
     let alloc = rt.alloc();
-    let (mut house, mut client) = one_client(&rt, alloc, Mode::Soft, (2, 5), (1, 2))?;
-    assert!(rt; sends(&mut client, sum_of(&rt, alloc, &[1]), 0));
-    assert!(rt; sends(&mut client, sum_of(&rt, alloc, &[2]), 1));
+    let (mut house, mut client) = one_client(&rt, alloc, Mode::Soft, (2, 5), (1, 2));
+    sends(&rt, &mut client, sum_of(&rt, alloc, &[1]), 0);
+    sends(&rt, &mut client, sum_of(&rt, alloc, &[2]), 1);
     let mut feeds = [Feed::new(client, Vec::new(alloc))];
     let round = serve_round(&rt, &mut house, &mut feeds, 2, &Shut);
     same(&rt, "two turns", round, Round { sent: 0, took: 2 });
-    assert!(rt; house.results(0) == Ok([1u64, 2].as_slice()));
-    Ok(())
+    gave(&rt, &house, 0, &[1, 2]);
 }

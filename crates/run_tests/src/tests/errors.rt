@@ -3,12 +3,20 @@
 use super::same;
 use cbs_file::FileKind;
 use cbs_run::{ReadError, RunError};
-use std::test::Fail;
+use std::alloc::Global;
+use std::fmt::Display;
+use std::process::Abort;
+
+/// Ends the test where a value is not written so.
+pub fn says(rt: &impl Abort, alloc: Global, value: &impl Display, text: &str) {
+    let said = format!(in alloc; "{value}").expect(rt, "memory");
+    same(rt, text, said.as_str(), text);
+}
 
 #[test]
-fn files_say_what_is_wrong(rt: HostRuntime) -> Result<(), Fail> {
+fn files_say_what_is_wrong(rt: HostRuntime) {
     let alloc = rt.alloc();
-    for (kind, text) in [
+    for (kind, text) in &[
         (FileKind::NotToml, "this is no TOML document"),
         (
             FileKind::UnknownKey,
@@ -23,24 +31,21 @@ fn files_say_what_is_wrong(rt: HostRuntime) -> Result<(), Fail> {
         ),
         (FileKind::OutOfMemory, "out of memory"),
     ] {
-        let said = format!(in alloc; "{kind}")?;
-        same(&rt, text, said.as_str(), text);
+        says(&rt, alloc, kind, text);
     }
-    Ok(())
 }
 
 #[test]
-fn reads_and_runs_say_what_is_wrong(rt: HostRuntime) -> Result<(), Fail> {
+fn reads_and_runs_say_what_is_wrong(rt: HostRuntime) {
     let alloc = rt.alloc();
-    for (error, text) in [
+    for (error, text) in &[
         (ReadError::OutOfMemory, "out of memory while reading"),
         (ReadError::ReadFault, "a read failed"),
         (ReadError::TooLarge, "there are more than 16777216 bytes"),
     ] {
-        let said = format!(in alloc; "{error}")?;
-        same(&rt, text, said.as_str(), text);
+        says(&rt, alloc, error, text);
     }
-    for (error, text) in [
+    for (error, text) in &[
         (RunError::OutOfMemory, "out of memory while running"),
         (RunError::WriteFault, "the output could not be written"),
         (
@@ -52,8 +57,6 @@ fn reads_and_runs_say_what_is_wrong(rt: HostRuntime) -> Result<(), Fail> {
             "the clients did not send all in the rounds that they are given",
         ),
     ] {
-        let said = format!(in alloc; "{error}")?;
-        same(&rt, text, said.as_str(), text);
+        says(&rt, alloc, error, text);
     }
-    Ok(())
 }

@@ -128,9 +128,35 @@ impl Outcome {
 }
 
 /// Does with a file what the verb says, into ample memory.
-pub fn ran<R: Threads + Sync>(rt: &R, alloc: Global, verb: Verb, file: &[u8]) -> Outcome {
+fn ran<R: Threads + Sync>(rt: &R, alloc: Global, verb: Verb, file: &[u8]) -> Outcome {
     let mut out = Memory::ample(alloc);
     let mut err = Memory::ample(alloc);
     let status = run_bytes(rt, alloc, verb, file, &mut out, &mut err);
     Outcome { status, out, err }
+}
+
+/// Replays a file into ample memory, and looks for what that leaves.
+pub fn replays<R: Abort + Threads + Sync>(
+    rt: &R,
+    alloc: Global,
+    label: &str,
+    file: &[u8],
+    status: u8,
+    out: &str,
+    err: &str,
+) {
+    ran(rt, alloc, Verb::Replay, file).leaves(rt, label, status, out, err);
+}
+
+/// Serves a file into ample memory, and looks for what that leaves.
+pub fn serves<R: Abort + Threads + Sync>(
+    rt: &R,
+    alloc: Global,
+    label: &str,
+    file: &[u8],
+    status: u8,
+    out: &str,
+    err: &str,
+) {
+    ran(rt, alloc, Verb::Serve, file).leaves(rt, label, status, out, err);
 }

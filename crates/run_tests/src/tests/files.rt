@@ -1,14 +1,13 @@
 //! Task files: faulty ones, other spellings, and what a good one holds.
 
-use super::fakes::ran;
+use super::errors::says;
+use super::fakes::replays;
 use super::{FIRST_LINES, same};
 use cbs_core::Step;
-use cbs_file::{FileFault, FileKind, Place, read_file};
+use cbs_file::{FileFault, FileKind, Place, TaskFile, read_file};
 use cbs_rules::Mode;
-use cbs_run::Verb;
 use std::alloc::Global;
 use std::process::Abort;
-use std::test::Fail;
 use std::thread::Threads;
 
 const HEAD: &str = "format = 1\nmode = \"soft\"\nbound = [1, 1]\nbacklog = 4\nring = 4\n";
@@ -83,48 +82,33 @@ const FAULTS_AT_STEPS: [(&str, &str); 8] = [
 ];
 
 /// Ends the test where a file is not refused with this fault.
-fn refuses<R: Abort + Threads + Sync>(
-    rt: &R,
-    alloc: Global,
-    file: &str,
-    fault: &str,
-) -> Result<(), Fail> {
-    let line = format!(in alloc; "cbsrun: file fault {fault}\n")?;
-    let ran = ran(rt, alloc, Verb::Replay, file.as_bytes());
-    ran.leaves(rt, file, 3, "", line.as_str());
-    Ok(())
+fn refuses<R: Abort + Threads + Sync>(rt: &R, alloc: Global, file: &str, fault: &str) {
+    let line = format!(in alloc; "cbsrun: file fault {fault}\n").expect(rt, "memory");
+    replays(rt, alloc, file, file.as_bytes(), 3, "", line.as_str());
 }
 
 #[test]
-fn faults_at_the_top_are_found(rt: HostRuntime) -> Result<(), Fail> {
+fn faults_at_the_top_are_found(rt: HostRuntime) {
     let alloc = rt.alloc();
-    for [head, server, step, fault] in FAULTS_AT_TOP {
-        let file = format!(in alloc; "{head}{server}{step}")?;
-        refuses(&rt, alloc, file.as_str(), fault)?;
+    for [head, server, step, fault] in &FAULTS_AT_TOP {
+        let file = format!(in alloc; "{head}{server}{step}").expect(&rt, "memory");
+        refuses(&rt, alloc, file.as_str(), fault);
     }
-    let not_text = ran(&rt, alloc, Verb::Replay, b"\xff\xfe");
-    not_text.leaves(
-        &rt,
-        "no text",
-        3,
-        "",
-        "cbsrun: file fault 1 NotToml at top\n",
-    );
-    Ok(())
+    let fault = "cbsrun: file fault 1 NotToml at top\n";
+    replays(&rt, alloc, "no text", b"\xff\xfe", 3, "", fault);
 }
 
 #[test]
-fn faults_at_servers_and_steps_have_their_places(rt: HostRuntime) -> Result<(), Fail> {
+fn faults_at_servers_and_steps_have_their_places(rt: HostRuntime) {
     let alloc = rt.alloc();
-    for (head, servers, fault) in FAULTS_AT_SERVERS {
-        let file = format!(in alloc; "{head}server = [{servers}]\nstep = []")?;
-        refuses(&rt, alloc, file.as_str(), fault)?;
+    for (head, servers, fault) in &FAULTS_AT_SERVERS {
+        let file = format!(in alloc; "{head}server = [{servers}]\nstep = []").expect(&rt, "memory");
+        refuses(&rt, alloc, file.as_str(), fault);
     }
-    for (steps, fault) in FAULTS_AT_STEPS {
-        let file = format!(in alloc; "{HEAD}{ONE}step = [{steps}]")?;
-        refuses(&rt, alloc, file.as_str(), fault)?;
+    for (steps, fault) in &FAULTS_AT_STEPS {
+        let file = format!(in alloc; "{HEAD}{ONE}step = [{steps}]").expect(&rt, "memory");
+        refuses(&rt, alloc, file.as_str(), fault);
     }
-    Ok(())
 }
 
 /// The first example in tables with headers, in other bases, with comments and other quotes.
@@ -169,44 +153,47 @@ format = 1
 ];
 
 #[test]
-fn other_spellings_are_the_same_file(rt: HostRuntime) -> Result<(), Fail> {
+fn other_spellings_are_the_same_file(rt: HostRuntime) {
     let alloc = rt.alloc();
-    let in_tables = ran(&rt, alloc, Verb::Replay, IN_TABLES.as_bytes());
-    in_tables.leaves(&rt, "in tables", 0, FIRST_LINES, "");
+    let in_tables = IN_TABLES.as_bytes();
+    replays(&rt, alloc, "in tables", in_tables, 0, FIRST_LINES, "");
 
     let [before, behind] = BACKWARDS;
-    let file = format!(in alloc; "{before}1{behind}")?;
-    let backwards = ran(&rt, alloc, Verb::Replay, file.as_bytes());
-    backwards.leaves(&rt, "backwards", 0, FIRST_LINES, "");
-    Ok(())
+    let file = format!(in alloc; "{before}1{behind}").expect(&rt, "memory");
+    replays(&rt, alloc, "backwards", file.as_bytes(), 0, FIRST_LINES, "");
 }
 
 #[test]
-fn a_number_with_a_leading_zero_is_no_toml(rt: HostRuntime) -> Result<(), Fail> {
+fn a_number_with_a_leading_zero_is_no_toml(rt: HostRuntime) {
     let alloc = rt.alloc();
     let [before, behind] = BACKWARDS;
-    let file = format!(in alloc; "{before}0_1{behind}")?;
-    refuses(&rt, alloc, file.as_str(), "1 NotToml at top")
+    let file = format!(in alloc; "{before}0_1{behind}").expect(&rt, "memory");
+    refuses(&rt, alloc, file.as_str(), "1 NotToml at top");
 }
 
 #[test]
-fn a_bandwidth_just_within_the_bound_is_admitted(rt: HostRuntime) -> Result<(), Fail> {
+fn a_bandwidth_just_within_the_bound_is_admitted(rt: HostRuntime) {
     let alloc = rt.alloc();
     let file = format!(in alloc;
         "{THIRD}server = [{{ budget = 333333333, period = 1000000000 }}]\nstep = []\n"
-    )?;
-    let ran = ran(&rt, alloc, Verb::Replay, file.as_bytes());
-    ran.leaves(&rt, "within the bound", 0, "", "");
-    Ok(())
+    ).expect(&rt, "memory");
+    replays(&rt, alloc, "within the bound", file.as_bytes(), 0, "", "");
+}
+
+/// The task file of a text without a fault.
+pub fn good_file(rt: &impl Abort, alloc: Global, text: &str) -> TaskFile {
+    read_file(alloc, text.as_bytes())
+        .ok()
+        .expect(rt, "a good file")
 }
 
 #[test]
-fn a_file_holds_what_it_spells(rt: HostRuntime) -> Result<(), Fail> {
+fn a_file_holds_what_it_spells(rt: HostRuntime) {
     let alloc = rt.alloc();
-    let file = format!(in alloc;
+    let text = format!(in alloc;
         "format = 1\nmode = \"throttled\"\nbound = [2, 3]\nbacklog = 7\nring = 9\n{ONE}step = [{{ op = \"submit\", server = 0, job = \"peak\", units = [5] }}, {{ op = \"close\", server = 0 }}]\n"
-    )?;
-    let file = read_file(alloc, file.as_bytes()).map_err(|_| "a good file")?;
+    ).expect(&rt, "memory");
+    let file = good_file(&rt, alloc, text.as_str());
     same(&rt, "mode", file.mode(), Mode::Throttled);
     same(
         &rt,
@@ -219,27 +206,16 @@ fn a_file_holds_what_it_spells(rt: HostRuntime) -> Result<(), Fail> {
     assert!(rt;
         matches!(file.steps(), [Step::Submit(0, task), Step::Close(0)] if task.left() == 1)
     );
-    Ok(())
 }
 
 #[test]
-fn a_fault_has_its_place(rt: HostRuntime) -> Result<(), Fail> {
+fn a_fault_has_its_place(rt: HostRuntime) {
     let alloc = rt.alloc();
-    let fault = match read_file(alloc, b"format = 2") {
-        Ok(_) => None,
-        Err(fault) => Some(fault),
-    };
+    let fault = read_file(alloc, b"format = 2").err();
     let expected = FileFault {
         kind: FileKind::OutOfRange,
         place: Place::Top,
     };
     same(&rt, "fault", fault, Some(expected));
-    let text = format!(in alloc; "{expected}")?;
-    same(
-        &rt,
-        "its text",
-        text.as_str(),
-        "a value is out of range, at top",
-    );
-    Ok(())
+    says(&rt, alloc, &expected, "a value is out of range, at top");
 }

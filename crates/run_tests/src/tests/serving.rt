@@ -1,8 +1,6 @@
 //! Files that are served.
 
-use super::fakes::ran;
-use cbs_run::Verb;
-use std::test::Fail;
+use super::fakes::serves;
 
 const HEAD: &str = "format = 1\nmode = \"throttled\"\nbound = [1, 1]\nbacklog = 2\n";
 
@@ -23,47 +21,34 @@ step = [
 ";
 
 #[test]
-fn results_are_those_of_the_file_at_every_ring(rt: HostRuntime) -> Result<(), Fail> {
+fn results_are_those_of_the_file_at_every_ring(rt: HostRuntime) {
     let alloc = rt.alloc();
-    for ring in [1u64, 1024] {
-        let file = format!(in alloc; "{HEAD}ring = {ring}\n{THREE}")?;
+    let results = "server 0: 6 9\nserver 1:\nserver 2: 10 50\n";
+    for ring in &[1u64, 1024] {
+        let file = format!(in alloc; "{HEAD}ring = {ring}\n{THREE}").expect(&rt, "memory");
         for _time in 0..50 {
-            let ran = ran(&rt, alloc, Verb::Serve, file.as_bytes());
-            ran.leaves(
-                &rt,
-                "three servers",
-                0,
-                "server 0: 6 9\nserver 1:\nserver 2: 10 50\n",
-                "",
-            );
+            serves(&rt, alloc, "three servers", file.as_bytes(), 0, results, "");
         }
     }
-    Ok(())
 }
 
 #[test]
-fn a_clock_that_ends_writes_no_results(rt: HostRuntime) -> Result<(), Fail> {
+fn a_clock_that_ends_writes_no_results(rt: HostRuntime) {
     let alloc = rt.alloc();
     let file = format!(in alloc;
         "{HEAD}ring = 4\nserver = [{{ budget = 1, period = 1000000000 }}]\n\
          step = [{{ op = \"submit\", server = 0, job = \"sum\", units = [1, 1, 1] }}]\n"
-    )?;
-    let ran = ran(&rt, alloc, Verb::Serve, file.as_bytes());
-    ran.leaves(
-        &rt,
-        "the clock's end",
-        4,
-        "",
-        "cbsrun: run fault 3 ClockEnd\n",
-    );
-    Ok(())
+    )
+    .expect(&rt, "memory");
+    let fault = "cbsrun: run fault 3 ClockEnd\n";
+    serves(&rt, alloc, "the clock's end", file.as_bytes(), 4, "", fault);
 }
 
 #[test]
-fn a_file_with_no_server_has_no_results(rt: HostRuntime) -> Result<(), Fail> {
+fn a_file_with_no_server_has_no_results(rt: HostRuntime) {
     let alloc = rt.alloc();
-    let file = format!(in alloc; "{HEAD}ring = 4\nserver = []\nstep = [{{ op = \"run\" }}]\n")?;
-    let ran = ran(&rt, alloc, Verb::Serve, file.as_bytes());
-    ran.leaves(&rt, "no server", 0, "", "");
-    Ok(())
+    let file = format!(in alloc;
+        "{HEAD}ring = 4\nserver = []\nstep = [{{ op = \"run\" }}]\n"
+    ).expect(&rt, "memory");
+    serves(&rt, alloc, "no server", file.as_bytes(), 0, "", "");
 }

@@ -1,51 +1,53 @@
 //! Readers and writers that fail.
 
-use super::fakes::{Letters, Memory, Outcome, ran};
+use super::fakes::{Letters, Memory, Outcome, replays};
+use super::files::good_file;
 use super::{FIRST, FIRST_LINES, same};
-use cbs_file::read_file;
 use cbs_run::{
     ByteOutput, FromRead, MAX_BYTES, ReadError, RunError, ToWrite, Verb, read_all, replay,
     run_bytes, write_text,
 };
 use std::alloc::Global;
-use std::test::Fail;
+use std::process::Abort;
 use std::thread::Threads;
 
-/// The front of the text that has room, and whether it is the whole.
-fn replayed(alloc: Global, room: usize, step: usize) -> Result<(Option<RunError>, Memory), Fail> {
-    let file = read_file(alloc, FIRST.as_bytes()).map_err(|_| "a good file")?;
+/// Replays the first example into a writer with so much room, that takes so many bytes a call, and looks
+/// for the fault and for what is written.
+fn writes(
+    rt: &impl Abort,
+    alloc: Global,
+    label: &str,
+    room: usize,
+    step: usize,
+    text: &str,
+    fault: Option<RunError>,
+) {
     let mut out = Memory::new(alloc, room, step);
-    match replay(alloc, file, &mut out) {
-        Ok(()) => Ok((None, out)),
-        Err(error) => Ok((Some(error), out)),
-    }
+    let answer = replay(alloc, good_file(rt, alloc, FIRST), &mut out);
+    same(rt, label, (answer.err(), out.holds(text)), (fault, true));
 }
 
 #[test]
-fn a_writer_that_fails_has_the_front(rt: HostRuntime) -> Result<(), Fail> {
+fn a_writer_that_fails_has_the_front(rt: HostRuntime) {
     let alloc = rt.alloc();
-    for (room, step, front) in [
+    let fault = Some(RunError::WriteFault);
+    for &(room, step, front) in &[
         (20, usize::MAX, "@0 submit 0 job 0 ac"),
         (20, 1, "@0 submit 0 job 0 ac"),
         (0, usize::MAX, ""),
         (usize::MAX, 0, ""),
     ] {
-        let (error, out) = replayed(alloc, room, step)?;
-        same(
-            &rt,
-            front,
-            (error, out.holds(front)),
-            (Some(RunError::WriteFault), true),
-        );
+        writes(&rt, alloc, front, room, step, front, fault);
     }
-    let (error, out) = replayed(alloc, usize::MAX, 1)?;
-    same(
+    writes(
         &rt,
+        alloc,
         "a byte a call",
-        (error, out.holds(FIRST_LINES)),
-        (None, true),
+        usize::MAX,
+        1,
+        FIRST_LINES,
+        None,
     );
-    Ok(())
 }
 
 /// The status of a replay of a file, where the output takes 20 bytes and the error output so many; and
@@ -69,54 +71,67 @@ fn a_failing_output_has_its_status(rt: HostRuntime) {
     unsaid.leaves(&rt, "error output", 3, "", "");
 }
 
-/// How many bytes were read.
-fn count(read: Result<Vec<u8>, ReadError>) -> Result<usize, ReadError> {
-    match read {
+/// Reads all of a text, and looks for it.
+fn reads_text(rt: &impl Abort, alloc: Global, text: &str) {
+    let mut reader = FromRead::new(text.as_bytes());
+    let bytes = read_all(alloc, &mut reader).ok().expect(rt, text);
+    assert!(rt; bytes.as_slice() == text.as_bytes(), "not {text:?}");
+}
+
+/// Reads so many letters, where a call fails, and looks for how many came.
+fn reads(
+    rt: &impl Abort,
+    alloc: Global,
+    letters: usize,
+    bad: u64,
+    wanted: Result<usize, ReadError>,
+) {
+    let count = match read_all(alloc, &mut Letters::new(letters, bad)) {
         Ok(bytes) => Ok(bytes.len()),
         Err(error) => Err(error),
-    }
+    };
+    same(rt, "letters", count, wanted);
 }
 
 #[test]
-fn a_reader_gives_all_its_bytes(rt: HostRuntime) -> Result<(), Fail> {
+fn a_reader_gives_all_its_bytes(rt: HostRuntime) {
     let alloc = rt.alloc();
-    let bytes = read_all(alloc, &mut FromRead::new(b"abc".as_slice())).map_err(|_| "abc")?;
-    assert!(rt; bytes.as_slice() == b"abc".as_slice());
-    let none = read_all(alloc, &mut FromRead::new(b"".as_slice())).map_err(|_| "none")?;
-    assert!(rt; none.is_empty());
-    for (letters, bad, read) in [
-        (MAX_BYTES, 0, Ok(MAX_BYTES)),
-        (MAX_BYTES + 1, 0, Err(ReadError::TooLarge)),
-        (MAX_BYTES, 2, Err(ReadError::ReadFault)),
-    ] {
-        same(
-            &rt,
-            "letters",
-            count(read_all(alloc, &mut Letters::new(letters, bad))),
-            read,
-        );
-    }
-    Ok(())
+    reads_text(&rt, alloc, "abc");
+    reads_text(&rt, alloc, "");
+    reads(&rt, alloc, MAX_BYTES, 0, Ok(MAX_BYTES));
+    reads(&rt, alloc, MAX_BYTES + 1, 0, Err(ReadError::TooLarge));
+    reads(&rt, alloc, MAX_BYTES, 2, Err(ReadError::ReadFault));
+}
+
+/// Puts a text at the end of another.
+fn add(rt: &impl Abort, whole: &mut String, part: &str) {
+    whole.push_str(part).expect(rt, "memory");
 }
 
 #[test]
-fn long_traces_are_whole(rt: HostRuntime) -> Result<(), Fail> {
+fn long_traces_are_whole(rt: HostRuntime) {
     let alloc = rt.alloc();
-    let mut file = String::from_str(alloc, FIRST)?;
-    let mut lines = String::from_str(alloc, FIRST_LINES)?;
+    let mut file = String::from_str(alloc, FIRST).expect(&rt, "memory");
+    let mut lines = String::from_str(alloc, FIRST_LINES).expect(&rt, "memory");
     file.truncate(FIRST.len() - 2);
     for _ in 0..5000 {
-        file.push_str("  { op = \"run\" },\n")?;
-        lines.push_str("@3 run idle\n")?;
+        add(&rt, &mut file, "  { op = \"run\" },\n");
+        add(&rt, &mut lines, "@3 run idle\n");
     }
-    file.push_str("]\n")?;
-    let ran = ran(&rt, alloc, Verb::Replay, file.as_bytes());
-    ran.leaves(&rt, "5000 runs", 0, lines.as_str(), "");
-    Ok(())
+    add(&rt, &mut file, "]\n");
+    replays(
+        &rt,
+        alloc,
+        "5000 runs",
+        file.as_bytes(),
+        0,
+        lines.as_str(),
+        "",
+    );
 }
 
 #[test]
-fn a_library_writer_is_written_to(rt: HostRuntime) -> Result<(), Fail> {
+fn a_library_writer_is_written_to(rt: HostRuntime) {
     let alloc = rt.alloc();
     let mut out = ToWrite::new(Vec::new(alloc));
     assert!(rt; write_text(&mut out, b"abc").is_ok());
@@ -129,5 +144,4 @@ fn a_library_writer_is_written_to(rt: HostRuntime) -> Result<(), Fail> {
         (1, "OutOfMemory"),
     );
     same(&rt, "read", (large.number(), large.name()), (3, "TooLarge"));
-    Ok(())
 }

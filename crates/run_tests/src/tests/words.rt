@@ -3,54 +3,50 @@
 use super::same;
 use cbs_run::{Verb, WordsFault, read_words};
 use std::alloc::Global;
-use std::test::Fail;
+use std::process::Abort;
 
 /// The words of a command line.
-fn words(alloc: Global, line: &str) -> Result<Vec<String>, Fail> {
+fn words(rt: &impl Abort, alloc: Global, line: &str) -> Vec<String> {
     let mut words = Vec::new(alloc);
     for word in line.split(' ') {
-        words.push(String::from_str(alloc, word)?)?;
+        let word = String::from_str(alloc, word).expect(rt, "memory");
+        words.push(word).expect(rt, "memory");
     }
-    Ok(words)
+    words
 }
 
-/// The fault's number and name, and its text.
-fn fault(alloc: Global, line: &str) -> Result<(u8, &'static str, String), Fail> {
-    match read_words(alloc, words(alloc, line)?) {
-        Ok(_) => Ok((0, "", String::new(alloc))),
-        Err(fault) => {
-            let (number, name) = (fault.number(), fault.name());
-            match fault {
-                WordsFault::Usage(text) => Ok((number, name, text)),
-                WordsFault::Help(text) => Ok((number, name, text)),
-                WordsFault::OutOfMemory => Ok((number, name, String::new(alloc))),
-            }
-        }
+/// Ends the test where a command line asks for something else.
+fn asks(rt: &impl Abort, alloc: Global, line: &str, verb: Verb, file: &str) {
+    let asked = read_words(alloc, words(rt, alloc, line))
+        .ok()
+        .expect(rt, line);
+    same(rt, line, (asked.verb, asked.file.as_str()), (verb, file));
+}
+
+/// The text of a command line's fault. Ends the test where the fault has another number or name.
+fn fault(rt: &impl Abort, alloc: Global, line: &str, number: u8, name: &str) -> String {
+    let fault = read_words(alloc, words(rt, alloc, line))
+        .err()
+        .expect(rt, line);
+    same(rt, line, (fault.number(), fault.name()), (number, name));
+    match fault {
+        WordsFault::Usage(text) | WordsFault::Help(text) => text,
+        WordsFault::OutOfMemory => String::new(alloc),
     }
+}
+
+/// Ends the test where a command line's fault has another number or name, or no text.
+fn refuses(rt: &impl Abort, alloc: Global, line: &str, number: u8, name: &str) {
+    let text = fault(rt, alloc, line, number, name);
+    assert!(rt; !text.is_empty(), "{line}: no text");
 }
 
 #[test]
-fn a_verb_and_a_file_are_wanted(rt: HostRuntime) -> Result<(), Fail> {
+fn a_verb_and_a_file_are_wanted(rt: HostRuntime) {
     let alloc = rt.alloc();
-    let asked = read_words(alloc, words(alloc, "cbsrun replay a.toml")?)
-        .ok()
-        .ok_or("replay")?;
-    same(
-        &rt,
-        "replay",
-        (asked.verb, asked.file.as_str()),
-        (Verb::Replay, "a.toml"),
-    );
-    let asked = read_words(alloc, words(alloc, "cbsrun serve a.toml")?)
-        .ok()
-        .ok_or("serve")?;
-    same(
-        &rt,
-        "serve",
-        (asked.verb, asked.file.as_str()),
-        (Verb::Serve, "a.toml"),
-    );
-    for line in [
+    asks(&rt, alloc, "cbsrun replay a.toml", Verb::Replay, "a.toml");
+    asks(&rt, alloc, "cbsrun serve a.toml", Verb::Serve, "a.toml");
+    for line in &[
         "",
         "cbsrun",
         "cbsrun replay",
@@ -60,37 +56,24 @@ fn a_verb_and_a_file_are_wanted(rt: HostRuntime) -> Result<(), Fail> {
         "cbsrun run a.toml",
         "cbsrun replay --fast a.toml",
     ] {
-        let (number, name, text) = fault(alloc, line)?;
-        same(
-            &rt,
-            line,
-            (number, name, text.is_empty()),
-            (1, "Usage", false),
-        );
+        refuses(&rt, alloc, line, 1, "Usage");
     }
-    for line in [
+    for line in &[
         "cbsrun --help",
         "cbsrun -h",
         "cbsrun help",
         "cbsrun replay --help",
         "cbsrun serve --help",
     ] {
-        let (number, name, text) = fault(alloc, line)?;
-        same(
-            &rt,
-            line,
-            (number, name, text.is_empty()),
-            (2, "Help", false),
-        );
+        refuses(&rt, alloc, line, 2, "Help");
     }
-    Ok(())
 }
 
 #[test]
-fn help_teaches(rt: HostRuntime) -> Result<(), Fail> {
+fn help_teaches(rt: HostRuntime) {
     let alloc = rt.alloc();
-    let (_, _, help) = fault(alloc, "cbsrun --help")?;
-    for part in [
+    let help = fault(&rt, alloc, "cbsrun --help", 2, "Help");
+    for part in &[
         "Constant Bandwidth Servers under EDF",
         "replay",
         "serve",
@@ -100,7 +83,6 @@ fn help_teaches(rt: HostRuntime) -> Result<(), Fail> {
         "cbsrun serve FIRST.toml",
         "Exit status:",
     ] {
-        assert!(rt; help.as_str().contains(part), "{part}");
+        assert!(rt; help.as_str().contains(*part), "{part}");
     }
-    Ok(())
 }

@@ -1,5 +1,4 @@
-use Rattle.std.proofs.Common.{sym, ◌∙◌, arith}
-use Rattle.std.proofs.lemmas.Grind.{common_steps}
+use Rattle.std.proofs.Common.{◌≡◌, sym, ◌∙◌, arith}
 use Rattle.cbs_house.specs.Clients.{server_of, ring_of}
 use Rattle.cbs_house.specs.Opened.{IsNewEnd, IsUnused}
 use Rattle.cbs_house.specs.Rings.{consumer_ring}
@@ -31,7 +30,7 @@ pub returns-clause-rings : goal.returns-clause-rings
 returns-clause-rings g c = c.loop-server.invariant.rings
 
 pub returns-clause-clients : goal.returns-clause-clients
-returns-clause-clients g c = grind (arith, common_steps)
+returns-clause-clients g c = let e : c.loop-server.server ≡ c.args.servers = omega arith in rw (← e) c.loop-server.invariant.clients
 
 pub returns-clause-unused : goal.returns-clause-unused
 returns-clause-unused g c = c.loop-server.invariant.unused

@@ -1,4 +1,5 @@
 use Rattle.cbs_house.specs.Houses.{received}
+use Rattle.cbs_house.proofs.Feeds.{feeds_on}
 use Rattle.cbs_house.proofs.RingLooks.{prefix_same}
 use Rattle.cbs_house.proofs.Moves.{serves_drained, serves_looked}
 use Rattle.cbs_house.proofs.StandingMessages.{all_taken_after}
@@ -17,3 +18,6 @@ pub returns-clause-steps : goal.returns-clause-steps
 returns-clause-steps g c =
     let drained = serves_drained g.W.Work.meaning c.args.house.now c.take_rest.new.house c.drain.new.self c.take_rest.ensures.steps c.drain.ensures.moves in
     serves_looked g.W.Work.meaning c.args.house.now c.drain.new.self c.settle_all.new.house drained c.settle_all.ensures.looked
+
+pub returns-clause-feeds : goal.returns-clause-feeds
+returns-clause-feeds g c = feeds_on c.args.feeds.now c.take_rest.new.feeds c.settle_all.new.feeds c.take_rest.ensures.feeds c.settle_all.ensures.feeds

@@ -10,6 +10,16 @@ use Rattle.cbs_house.proofs.serving.serve.Goals as goal
 pub loop-init : goal.loop-init
 loop-init g c = record { ready = c.requires.ready; feeds = feeds_same c.args.feeds.now; steps = serves_none g.W.Work.meaning c.args.house.now; stalled = λ p. absurd (omega (arith, p)) }
 
+pub returns-in_err-finish_round-clause-feeds : goal.returns-in_err-finish_round-clause-feeds
+returns-in_err-finish_round-clause-feeds g c =
+    let r = c.serve_round in
+    feeds_on c.args.feeds.now r.new.feeds c.finish_round.new.feeds (feeds_on c.args.feeds.now c.loop.feeds r.new.feeds c.loop.invariant.feeds r.ensures.feeds) c.finish_round.ensures.feeds
+
+pub returns-then-branch-clause-feeds : goal.returns-then-branch-clause-feeds
+returns-then-branch-clause-feeds g c =
+    let r = c.serve_round in
+    feeds_on c.args.feeds.now r.new.feeds c.finish_round.new.feeds (feeds_on c.args.feeds.now c.loop.feeds r.new.feeds c.loop.invariant.feeds r.ensures.feeds) c.finish_round.ensures.feeds
+
 pub returns-in_err-finish_round-clause-steps : goal.returns-in_err-finish_round-clause-steps
 returns-in_err-finish_round-clause-steps g c =
     let r = c.serve_round in

@@ -1,38 +1,27 @@
-use Rattle.std.proofs.Common.{◌≡◌, ◌+◌, ◌≤◌, ◌<◌, refl, arith}
-use Rattle.cbs_rules.specs.Rules.{clock_end}
-use Rattle.cbs_core.specs.Held.{CoreHeld}
-use Rattle.cbs_core.specs.History.{world_after}
+use Rattle.std.proofs.Common.{◌+◌, refl, arith}
 use Rattle.cbs_core.proofs.Agreements.{advance_agrees, advance_none}
 use Rattle.cbs_core.proofs.Cores.{core_jumped, budgets_kept}
 use Rattle.cbs_core.proofs.Effects.{jumped_same, all_same}
 use Rattle.cbs_core.proofs.executor.Core.advance.Goals as goal
 
 pub invariant_of-self : goal.invariant_of-self
-invariant_of-self g c =
-    let early : c.self.inside.clock + c.args.n ≤ clock_end = let k = c.self.invariant.clock in omega arith in
-    core_jumped g.W.Work.meaning _ c.self.invariant c.args.n _ _ early c.replenish.ensures
+invariant_of-self g c = core_jumped c.self.invariant c.args.n (omega arith) c.replenish.ensures
 
 pub returns-then-n-gt0-clause-state : goal.returns-then-n-gt0-clause-state
 returns-then-n-gt0-clause-state g c = λ M agrees.
-    let inside = rw (← c.self.view_is) at agrees.world in
-    let early : c.self.inside.clock + c.args.n ≤ clock_end = let k = c.self.invariant.clock in omega arith in
-    let some : 0 < c.args.n = omega arith in
-    record { world = advance_agrees g.W.Work.meaning _ M.setup.backlog (world_after g.W.Work.meaning M) inside c.args.n early c.replenish.new.self c.self.inside.queues.rooms some c.replenish.ensures }
+    advance_agrees c.self.view_is agrees c.args.n (omega arith) (omega arith) c.replenish.ensures
 
 pub returns-else-n-gt0-clause-state : goal.returns-else-n-gt0-clause-state
 returns-else-n-gt0-clause-state g c = λ M agrees.
-    let inside = rw (← c.self.view_is) at agrees.world in
-    let early : c.self.inside.clock + c.args.n ≤ clock_end = let k = c.self.invariant.clock in omega arith in
-    let none : c.args.n ≡ 0 = omega arith in
-    record { world = rw (advance_none g.W.Work.meaning _ M.setup.backlog (world_after g.W.Work.meaning M) inside c.args.n early none) agrees.world }
+    record { world = rw (advance_none c.self.view_is agrees c.args.n (omega arith)) agrees.world }
 
 pub returns-then-n-gt0-clause-jobs : goal.returns-then-n-gt0-clause-jobs
 returns-then-n-gt0-clause-jobs g c =
-    let old : CoreHeld g.row.W.Denot = record { backlog = c.self.inside.backlog; clock = c.self.inside.clock; faces = c.self.inside.servers; queues = c.self.inside.queues.lists; rooms = c.self.inside.queues.rooms } in
-    rw (← c.self.view_is) (jumped_same old (old.clock + c.args.n) c.replenish.new.self old.queues old.rooms (old.clock + c.args.n) c.replenish.ensures refl)
+    jumped_same c.self.view_is (c.self.inside.clock + c.args.n) c.replenish.new.self c.self.inside.queues.lists
+    c.self.inside.queues.rooms _ c.replenish.ensures refl
 
 pub returns-else-n-gt0-clause-jobs : goal.returns-else-n-gt0-clause-jobs
 returns-else-n-gt0-clause-jobs g c = all_same c.args.self.now
 
 pub returns-then-n-gt0-clause-budgets : goal.returns-then-n-gt0-clause-budgets
-returns-then-n-gt0-clause-budgets g c = budgets_kept g.W.Work.meaning _ (invariant_of-self g c)
+returns-then-n-gt0-clause-budgets g c = budgets_kept (invariant_of-self g c)

@@ -1,6 +1,4 @@
-use Rattle.std.proofs.Common.{sym, refl}
-use Rattle.cbs_core.specs.History.{world_after}
-use Rattle.cbs_core.specs.Held.{CoreHeld}
+use Rattle.std.proofs.Common.{refl}
 use Rattle.cbs_core.proofs.Agreements.{close_replied, close_agrees}
 use Rattle.cbs_core.proofs.Cores.{core_closed, budgets_kept}
 use Rattle.cbs_core.proofs.Effects.{closed_server}
@@ -11,23 +9,21 @@ pub close-requires : goal.close-requires
 close-requires g c = (rw (← c.self.view_is) at c.requires).within
 
 pub invariant_of-self : goal.invariant_of-self
-invariant_of-self g c = core_closed g.W.Work.meaning _ c.self.invariant c.args.server c.close.new.self c.self.inside.queues.rooms (rw (← c.self.view_is) at c.requires).within c.close.ensures
+invariant_of-self g c =
+    core_closed c.self.invariant c.args.server (rw (← c.self.view_is) at c.requires).within c.close.ensures
 
 pub returns-clause-reply : goal.returns-clause-reply
 returns-clause-reply g c = λ M agrees.
-    let inside = rw (← c.self.view_is) at agrees.world in
-    sym (close_replied g.W.Work.meaning _ M.setup.backlog (world_after g.W.Work.meaning M) inside c.args.server _ (sym (open_free _ c.args.server (rw (← c.self.view_is) at c.requires))))
+    close_replied c.self.view_is agrees c.args.server _ (open_free c.self.view_is c.args.server c.requires)
 
 pub returns-clause-state : goal.returns-clause-state
 returns-clause-state g c = λ M agrees.
-    let inside = rw (← c.self.view_is) at agrees.world in
-    let is = rw (← c.self.view_is) at c.requires in
-    record { world = close_agrees g.W.Work.meaning _ M.setup.backlog (world_after g.W.Work.meaning M) inside c.args.server c.close.new.self c.self.inside.queues.rooms (sym (open_free _ c.args.server is)) is.within c.close.ensures }
+    close_agrees c.self.view_is agrees c.args.server (open_free c.self.view_is c.args.server c.requires) c.close.ensures
 
 pub returns-clause-closed : goal.returns-clause-closed
 returns-clause-closed g c =
-    let old : CoreHeld g.row.W.Denot = record { backlog = c.self.inside.backlog; clock = c.self.inside.clock; faces = c.self.inside.servers; queues = c.self.inside.queues.lists; rooms = c.self.inside.queues.rooms } in
-    rw (← c.self.view_is) (closed_server old old.clock c.close.new.self old.queues old.rooms c.args.server (rw (← c.self.view_is) at c.requires).within c.close.ensures refl)
+    closed_server c.self.view_is c.self.inside.clock c.close.new.self c.self.inside.queues.lists c.self.inside.queues.rooms
+    c.args.server (rw (← c.self.view_is) at c.requires).within c.close.ensures refl
 
 pub returns-clause-budgets : goal.returns-clause-budgets
-returns-clause-budgets g c = budgets_kept g.W.Work.meaning _ (invariant_of-self g c)
+returns-clause-budgets g c = budgets_kept (invariant_of-self g c)

@@ -1,57 +1,41 @@
-use Rattle.std.proofs.Common.{◌≡◌, ◌+◌, ◌<◌, length, map, is_some, sym, ap, arith}
+use Rattle.std.proofs.Common.{◌≡◌, ◌+◌, map, is_some}
 use Rattle.cbs_core.specs.Lists.{changed_at}
 use Rattle.cbs_core.specs.Faces.{face_at, with_unit, with_replenishment}
-use Rattle.cbs_core.specs.Held.{CoreHeld}
 use Rattle.cbs_core.specs.Queues.{list_at, result_run, ran_of}
-use Rattle.cbs_core.specs.History.{world_after}
-use Rattle.cbs_core.specs.declared.reply.Reply.TheVariants as reply
 use Rattle.cbs_core.proofs.Agreements.{idle_next, reply_by, next_late, end_reply, unit_agrees, unit_answered}
-use Rattle.cbs_core.proofs.Cores.{core_run, ready_runs, may_use_tick, queue_count, budgets_kept}
+use Rattle.cbs_core.proofs.Cores.{core_run, may_run, budgets_kept}
 use Rattle.cbs_core.proofs.Effects.{did_run}
-use Rattle.cbs_core.proofs.Faces.{chosen_is}
 use Rattle.cbs_core.proofs.executor.Core.run.Given.{Over}
 use Rattle.cbs_core.proofs.executor.Core.run.Goals as goal
 
 pub returns-in_default-clause-reply : goal.returns-in_default-clause-reply
 returns-in_default-clause-reply g c = λ M agrees.
-    let inside = rw (← c.self.view_is) at agrees.world in
-    ap reply.Ran (sym (reply_by g.W.Work.meaning _ M.setup.backlog (world_after g.W.Work.meaning M) inside _ c.in_default.ensures.first))
+    reply_by c.self.view_is agrees _ c.in_default.ensures.first
 
 pub returns-in_default-clause-state : goal.returns-in_default-clause-state
 returns-in_default-clause-state g c = λ M agrees.
-    let inside = rw (← c.self.view_is) at agrees.world in
-    record { world = rw (idle_next g.W.Work.meaning _ M.setup.backlog (world_after g.W.Work.meaning M) inside c.in_default.ensures.first) agrees.world }
+    record { world = rw (idle_next c.self.view_is agrees c.in_default.ensures.first) agrees.world }
 
 pub returns-then-self-ge-LIMIT-clause-reply : goal.returns-then-self-ge-LIMIT-clause-reply
 returns-then-self-ge-LIMIT-clause-reply g c = λ M agrees.
-    let inside = rw (← c.self.view_is) at agrees.world in
-    ap reply.Ran (sym (end_reply g.W.Work.meaning _ M.setup.backlog (world_after g.W.Work.meaning M) inside c.in-Some.server c.in-Some.ensures.first c.if-self-ge-LIMIT.true))
+    end_reply c.self.view_is agrees c.in-Some.server c.in-Some.ensures.first c.if-self-ge-LIMIT.true
 
 pub returns-then-self-ge-LIMIT-clause-state : goal.returns-then-self-ge-LIMIT-clause-state
 returns-then-self-ge-LIMIT-clause-state g c = λ M agrees.
-    let inside = rw (← c.self.view_is) at agrees.world in
-    record { world = rw (next_late g.W.Work.meaning _ M.setup.backlog (world_after g.W.Work.meaning M) inside c.if-self-ge-LIMIT.true) agrees.world }
+    record { world = rw (next_late c.self.view_is agrees c.if-self-ge-LIMIT.true) agrees.world }
 
-pub run_first-result-requires-clause-some : goal.run_first-result-requires-clause-some
-run_first-result-requires-clause-some g c = let is = chosen_is c.self.inside.servers c.in-Some.server c.in-Some.ensures.choice in (ready_runs g.W.Work.meaning _ c.self.invariant c.in-Some.server is.within is.ready).active
-
-pub run_first-result-requires-clause-unfinished : goal.run_first-result-requires-clause-unfinished
-run_first-result-requires-clause-unfinished g c = let is = chosen_is c.self.inside.servers c.in-Some.server c.in-Some.ensures.choice in (ready_runs g.W.Work.meaning _ c.self.invariant c.in-Some.server is.within is.ready).unfinished
+pub run_first-result-requires : goal.run_first-result-requires
+run_first-result-requires g c =
+    let may = may_run c.self.invariant c.in-Some.ensures.choice c.if-self-ge-LIMIT.false in
+    record { some = may.active; unfinished = may.unfinished }
 
 pub finished-seq-requires : goal.finished-seq-requires
-finished-seq-requires g c = (chosen_is c.self.inside.servers c.in-Some.server c.in-Some.ensures.choice).within
+finished-seq-requires g c = c.in-Some.ensures.choice.within
 
-pub use_tick-requires-clause-within : goal.use_tick-requires-clause-within
-use_tick-requires-clause-within g c = (chosen_is c.self.inside.servers c.in-Some.server c.in-Some.ensures.choice).within
-
-pub use_tick-requires-clause-ready : goal.use_tick-requires-clause-ready
-use_tick-requires-clause-ready g c = (chosen_is c.self.inside.servers c.in-Some.server c.in-Some.ensures.choice).ready
-
-pub use_tick-requires-clause-some : goal.use_tick-requires-clause-some
-use_tick-requires-clause-some g c = let is = chosen_is c.self.inside.servers c.in-Some.server c.in-Some.ensures.choice in (may_use_tick g.W.Work.meaning _ c.self.invariant c.in-Some.server c.if-self-ge-LIMIT.false is.within is.ready).some
-
-pub use_tick-requires-clause-room : goal.use_tick-requires-clause-room
-use_tick-requires-clause-room g c = let is = chosen_is c.self.inside.servers c.in-Some.server c.in-Some.ensures.choice in (may_use_tick g.W.Work.meaning _ c.self.invariant c.in-Some.server c.if-self-ge-LIMIT.false is.within is.ready).room
+pub use_tick-requires : goal.use_tick-requires
+use_tick-requires g c =
+    let may = may_run c.self.invariant c.in-Some.ensures.choice c.if-self-ge-LIMIT.false in
+    record { within = may.within; ready = may.ready; some = may.budget; room = may.room }
 
 -- what the servers show after the unit and the replenishment
 shown : (g : Over) (c : goal.After-ran_from g) → c.replenish.new.self ≡ map (with_replenishment (c.self.inside.clock + 1))
@@ -63,42 +47,27 @@ ran g c = rw (c.finished-seq.ensures, c.run_first-result.ensures.result) at c.ra
 
 pub invariant_of-self : goal.invariant_of-self
 invariant_of-self g c =
-    let is = chosen_is c.self.inside.servers c.in-Some.server c.in-Some.ensures.choice in
-    core_run g.W.Work.meaning _ c.self.invariant c.in-Some.server c.replenish.new.self c.run_first-result.new.self.lists c.run_first-result.new.self.rooms c.if-self-ge-LIMIT.false is.within is.ready (shown g c) c.run_first-result.ensures.lists
+    let may = may_run c.self.invariant c.in-Some.ensures.choice c.if-self-ge-LIMIT.false in
+    core_run c.self.invariant may (shown g c) c.run_first-result.ensures.lists
 
 pub returns-clause-reply : goal.returns-clause-reply
 returns-clause-reply g c = λ M agrees.
-    let inside = rw (← c.self.view_is) at agrees.world in
-    let is = chosen_is c.self.inside.servers c.in-Some.server c.in-Some.ensures.choice in
-    let runs = ready_runs g.W.Work.meaning _ c.self.invariant c.in-Some.server is.within is.ready in
-    ap reply.Ran (unit_answered g.W.Work.meaning _ M.setup.backlog (world_after g.W.Work.meaning M) inside c.in-Some.server g.met.W.Work.lowers c.in-Some.ensures.first c.if-self-ge-LIMIT.false is.within runs.active runs.unfinished c.ran_from.result (ran g c))
+    let may = may_run c.self.invariant c.in-Some.ensures.choice c.if-self-ge-LIMIT.false in
+    unit_answered c.self.view_is agrees c.in-Some.server g.met.W.Work.lowers c.in-Some.ensures.first may
+    c.ran_from.result (ran g c)
 
 pub returns-clause-state : goal.returns-clause-state
 returns-clause-state g c = λ M agrees.
-    let inside = rw (← c.self.view_is) at agrees.world in
-    let is = chosen_is c.self.inside.servers c.in-Some.server c.in-Some.ensures.choice in
-    let runs = ready_runs g.W.Work.meaning _ c.self.invariant c.in-Some.server is.within is.ready in
-    record {
-      world = unit_agrees g.W.Work.meaning _ M.setup.backlog (world_after g.W.Work.meaning M) inside c.in-Some.server g.met.W.Work.lowers c.in-Some.ensures.first c.if-self-ge-LIMIT.false is.within runs.active runs.unfinished
-          c.replenish.new.self c.run_first-result.new.self.lists c.run_first-result.new.self.rooms (shown g c) c.run_first-result.ensures.lists;
-    }
+    let may = may_run c.self.invariant c.in-Some.ensures.choice c.if-self-ge-LIMIT.false in
+    unit_agrees c.self.view_is agrees c.in-Some.server g.met.W.Work.lowers c.in-Some.ensures.first may
+    (shown g c) c.run_first-result.ensures.lists
 
 pub returns-clause-job : goal.returns-clause-job
 returns-clause-job g c =
-    let old : CoreHeld g.row.W.Denot = record { backlog = c.self.inside.backlog; clock = c.self.inside.clock; faces = c.self.inside.servers; queues = c.self.inside.queues.lists; rooms = c.self.inside.queues.rooms } in
-    let is = chosen_is c.self.inside.servers c.in-Some.server c.in-Some.ensures.choice in
-    let runs = ready_runs g.W.Work.meaning old c.self.invariant c.in-Some.server is.within is.ready in
-    let count = queue_count g.W.Work.meaning old c.self.invariant in
-    let within : c.in-Some.server < length old.queues = let lt = is.within in omega arith in
-    rw (← c.self.view_is)
-    (did_run g.W.Work.meaning g.met.W.Work.lowers old (old.clock + 1) (old.clock + 1) c.replenish.new.self c.run_first-result.new.self.lists c.run_first-result.new.self.rooms c.in-Some.server c.ran_from.result is.within within runs.active runs.unfinished
-    (ran g c) (shown g c) c.run_first-result.ensures.lists)
-
-pub returns-in_default-clause-budgets : goal.returns-in_default-clause-budgets
-returns-in_default-clause-budgets g c = rw (← c.self.view_is) (budgets_kept g.W.Work.meaning _ c.self.invariant)
-
-pub returns-then-self-ge-LIMIT-clause-budgets : goal.returns-then-self-ge-LIMIT-clause-budgets
-returns-then-self-ge-LIMIT-clause-budgets g c = rw (← c.self.view_is) (budgets_kept g.W.Work.meaning _ c.self.invariant)
+    let may = may_run c.self.invariant c.in-Some.ensures.choice c.if-self-ge-LIMIT.false in
+    let queues = c.run_first-result.new.self in
+    did_run g.met.W.Work.lowers c.self.view_is (c.self.inside.clock + 1) _ c.replenish.new.self queues.lists queues.rooms
+    c.in-Some.server c.ran_from.result may (ran g c) (shown g c) c.run_first-result.ensures.lists
 
 pub returns-clause-budgets : goal.returns-clause-budgets
-returns-clause-budgets g c = budgets_kept g.W.Work.meaning _ (invariant_of-self g c)
+returns-clause-budgets g c = budgets_kept (invariant_of-self g c)

@@ -1,52 +1,45 @@
-use Rattle.std.proofs.Common.{◌<◌, length, sym, arith}
-use Rattle.cbs_core.specs.History.{world_after}
-use Rattle.cbs_core.specs.Held.{CoreHeld}
 use Rattle.cbs_core.proofs.Agreements.{submit_answered, submit_agrees}
-use Rattle.cbs_core.proofs.Cores.{core_joined, few_jobs, queue_count, budgets_kept}
+use Rattle.cbs_core.proofs.Cores.{core_joined, few_jobs, queue_there, budgets_kept}
 use Rattle.cbs_core.proofs.Effects.{took_job}
-use Rattle.cbs_core.proofs.PaidUnits.{paid_after}
 use Rattle.cbs_core.proofs.Refusals.{accepts_free}
 use Rattle.cbs_core.proofs.executor.Core.submit_reserved.Goals as goal
 
-pub push-requires-clause-within : goal.push-requires-clause-within
-push-requires-clause-within g c = let is = rw (← c.self.view_is) at c.requires in let lt = is.accepts.is_open.within in let n = queue_count g.W.Work.meaning _ c.self.invariant in omega arith
+pub push-requires : goal.push-requires
+push-requires g c =
+    let is = rw (← c.self.view_is) at c.requires in
+    let free = accepts_free c.self.view_is c.args.server c.requires.accepts in
+    record { within = queue_there c.self.invariant c.args.server free; room = is.room }
 
-pub push-requires-clause-room : goal.push-requires-clause-room
-push-requires-clause-room g c = (rw (← c.self.view_is) at c.requires).room
-
-pub accept-requires-clause-within : goal.accept-requires-clause-within
-accept-requires-clause-within g c = (rw (← c.self.view_is) at c.requires).accepts.is_open.within
-
-pub accept-requires-clause-few : goal.accept-requires-clause-few
-accept-requires-clause-few g c = few_jobs g.W.Work.meaning _ c.self.invariant c.args.server (rw (← c.self.view_is) at c.requires).accepts.is_open.within
+pub accept-requires : goal.accept-requires
+accept-requires g c =
+    let within = (rw (← c.self.view_is) at c.requires).accepts.is_open.within in
+    record { within = within; clock = c.self.invariant.clock; few = few_jobs c.self.invariant c.args.server within }
 
 pub invariant_of-self : goal.invariant_of-self
 invariant_of-self g c =
-    core_joined g.W.Work.meaning _ c.self.invariant c.args.server c.args.task c.accept.new.self c.push.new.self.lists c.push.new.self.rooms (rw (← c.self.view_is) at c.requires).accepts c.push.ensures.some c.accept.ensures.servers c.push.ensures.lists
+    let is = rw (← c.self.view_is) at c.requires in
+    core_joined c.self.invariant c.args.server c.args.task {queues = c.push.new.self.lists} is.accepts c.push.ensures.some
+    c.accept.ensures.servers c.push.ensures.lists
 
 pub returns-clause-reply : goal.returns-clause-reply
 returns-clause-reply g c = λ M agrees.
-    let inside = rw (← c.self.view_is) at agrees.world in
-    let is = rw (← c.self.view_is) at c.requires in
-    submit_answered g.W.Work.meaning _ M.setup.backlog (world_after g.W.Work.meaning M) inside c.args.server c.args.task (sym (accepts_free _ c.args.server is.accepts)) c.accept.result is.accepts.is_open.within c.accept.ensures.number
+    let free = accepts_free c.self.view_is c.args.server c.requires.accepts in
+    submit_answered c.self.view_is agrees c.args.server c.args.task free c.accept.result c.accept.ensures.number
 
 pub returns-clause-state : goal.returns-clause-state
 returns-clause-state g c = λ M agrees.
-    let inside = rw (← c.self.view_is) at agrees.world in
+    let free = accepts_free c.self.view_is c.args.server c.requires.accepts in
     let is = rw (← c.self.view_is) at c.requires in
-    record {
-      world = submit_agrees g.W.Work.meaning _ M.setup.backlog (world_after g.W.Work.meaning M) inside c.args.server c.args.task (sym (accepts_free _ c.args.server is.accepts)) c.accept.new.self c.push.new.self.lists c.push.new.self.rooms
-          is.accepts.is_open.within c.accept.ensures.servers c.push.ensures.lists (paid_after g.W.Work.meaning M.setup M.steps c.args.server) c.push.ensures.some;
-    }
+    submit_agrees c.self.view_is agrees c.args.server c.args.task free {queues = c.push.new.self.lists} is.accepts.is_open.within
+    c.accept.ensures.servers c.push.ensures.lists c.push.ensures.some
 
 pub returns-clause-job : goal.returns-clause-job
 returns-clause-job g c =
-    let old : CoreHeld g.row.W.Denot = record { backlog = c.self.inside.backlog; clock = c.self.inside.clock; faces = c.self.inside.servers; queues = c.self.inside.queues.lists; rooms = c.self.inside.queues.rooms } in
     let is = rw (← c.self.view_is) at c.requires in
-    let count = queue_count g.W.Work.meaning old c.self.invariant in
-    let within : c.args.server < length old.queues = let lt = is.accepts.is_open.within in omega arith in
-    rw (← c.self.view_is)
-    (took_job old old.clock c.accept.new.self c.push.new.self.lists c.push.new.self.rooms c.args.server c.accept.result c.args.task is.accepts.is_open.within within c.accept.ensures.number c.accept.ensures.servers c.push.ensures.lists)
+    let free = accepts_free c.self.view_is c.args.server c.requires.accepts in
+    let queue = queue_there c.self.invariant c.args.server free in
+    took_job c.self.view_is c.self.inside.clock c.accept.new.self c.push.new.self.lists c.push.new.self.rooms
+    c.args.server c.accept.result c.args.task is.accepts.is_open.within queue c.accept.ensures.number c.accept.ensures.servers c.push.ensures.lists
 
 pub returns-clause-budgets : goal.returns-clause-budgets
-returns-clause-budgets g c = budgets_kept g.W.Work.meaning _ (invariant_of-self g c)
+returns-clause-budgets g c = budgets_kept (invariant_of-self g c)

@@ -3,7 +3,7 @@ use Rattle.std.specs.VecDeque.{deque_len, deque_capacity}
 use Rattle.std.specs.declared.collections.VecDeque.{VecDeque}
 use Rattle.cbs_core.specs.Queues.{jobs_run}
 use Rattle.cbs_core.proofs.Lists.{part_written}
-use Rattle.cbs_core.proofs.Tables.{within_list, room_kept}
+use Rattle.cbs_core.proofs.Tables.{within_parts, room_kept}
 use Rattle.cbs_core.proofs.queues.Queues.run_first.Goals as goal
 
 pub returns-clause-lists : goal.returns-clause-lists
@@ -11,7 +11,7 @@ returns-clause-lists g c =
     let f = λ (q : VecDeque g.row.W.Denot g.row.A.Denot). q.items in
     rw (← c.self.view_is)
     (part_written f (jobs_run g.W.Work.meaning) c.self.inside.queues.items c.from.result c.args.server c.index_mut-queue.result.now c.run_front.new.queue c.from.ensures
-    (within_list f c.self.inside.queues.items c.args.server (rw (← c.self.view_is) at c.requires.some)) c.index_mut-queue.ensures.value c.run_front.ensures.jobs)
+    (within_parts f c.self.inside.queues.items c.args.server (rw (← c.self.view_is) at c.requires.some)) c.index_mut-queue.ensures.value c.run_front.ensures.jobs)
 
 pub returns-clause-kept : goal.returns-clause-kept
 returns-clause-kept g c = λ t has.

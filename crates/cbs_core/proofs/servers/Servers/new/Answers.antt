@@ -1,11 +1,14 @@
 use Rattle.std.proofs.Common.{◌≡◌, ◌≤◌, ◌++◌, ◌∷◌, [], length, rules, sym, ◌∙◌, ap, arith}
 use Rattle.std.proofs.lemmas.Grind.{common_steps}
-use Rattle.cbs_core.proofs.Plans.{is_within, faces_more, faces_all, length-faces}
+use Rattle.std.proofs.lemmas.Option.{slice_get-get_or}
+use Rattle.cbs_core.proofs.Plans.{faces_more, faces_all, length-faces}
 use Rattle.cbs_core.proofs.servers.Servers.new.Goals as goal
 
 pub unwrap-reservation-requires : goal.unwrap-reservation-requires
 unwrap-reservation-requires g c =
-    is_within c.args.plan.now.rates c.loop-server.server c.get.result c.get.ensures.value (let n = c.len-server-end.ensures.value in omega arith)
+    let n = c.len-server-end.ensures.value in
+    let rates = c.args.plan.now.rates in
+    rw (c.get.ensures.value, slice_get-get_or rates c.loop-server.server (record { budget = 0; period = 0 }) (omega arith))
 
 pub loop-server-preserved : goal.loop-server-preserved
 loop-server-preserved g c =
