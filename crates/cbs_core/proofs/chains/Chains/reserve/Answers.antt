@@ -7,16 +7,13 @@ use Rattle.cbs_core.proofs.chains.Chains.reserve.Goals as goal
 
 pub returns-clause-room : goal.returns-clause-room
 returns-clause-room g c =
-    let within = within_lists _ _ c.args.server (rw (← c.self.view_is) at c.requires) in
-    on_ok_weaker c.reserve.result
-    (λ (has : HasRoomFor c.reserve.new.self 1). room_there c.reserve.new.self c.self.inside.ends.items c.args.server within has)
-    c.reserve.ensures.room
+    let within = within_lists _ _ _ (rw (← c.self.view_is) at c.requires) in
+    on_ok_weaker _ (λ (has : HasRoomFor c.reserve.new.self 1). room_there c.reserve.new.self _ _ within has) c.reserve.ensures.room
 
 pub returns-clause-kept : goal.returns-clause-kept
 returns-clause-kept g c =
     rw (← c.self.view_is)
-    (rooms_kept c.self.inside.nodes c.reserve.new.self c.self.inside.ends.items c.self.inside.ends.items refl
-    (λ has. rw (c.reserve.ensures.had_room has) has))
+    (rooms_kept c.self.inside.nodes c.reserve.new.self _ _ refl (λ has. rw (c.reserve.ensures.had_room has) has))
 
 pub returns-clause-succeeds : goal.returns-clause-succeeds
 returns-clause-succeeds g c = λ has.

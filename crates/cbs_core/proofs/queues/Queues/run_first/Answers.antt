@@ -4,13 +4,12 @@ use Rattle.cbs_core.proofs.queues.Queues.run_first.Goals as goal
 
 pub returns-then-left-gt0-clause-lists : goal.returns-then-left-gt0-clause-lists
 returns-then-left-gt0-clause-lists g c =
-    rw (← c.self.view_is)
-    (job_stays g.W.Work.meaning c.self.inside.jobs.lists c.args.server c.first_mut-job.result.now _ _ c.first_mut-job.ensures.value c.step.ensures.after (omega arith))
+    rw (← c.self.view_is) (job_stays g.W.Work.meaning _ _ _ _ _ c.first_mut-job.ensures.value c.step.ensures.after (omega arith))
 
 pub pop-requires : goal.pop-requires
-pop-requires g c = record { some = job_there g.W.Work.meaning c.self.inside.jobs.lists c.args.server c.first_mut-job.result.now _ _ c.first_mut-job.ensures.value }
+pop-requires g c = record { some = job_there g.W.Work.meaning c.self.inside.jobs.lists c.args.server _ _ _ c.first_mut-job.ensures.value }
 
 pub returns-clause-lists : goal.returns-clause-lists
 returns-clause-lists g c =
     rw (← c.self.view_is)
-    (c.pop.ensures.lists ∙ job_leaves g.W.Work.meaning c.self.inside.jobs.lists c.args.server c.first_mut-job.result.now _ _ c.first_mut-job.ensures.value c.step.ensures.after (omega arith))
+    (c.pop.ensures.lists ∙ job_leaves g.W.Work.meaning _ _ _ _ _ c.first_mut-job.ensures.value c.step.ensures.after (omega arith))
