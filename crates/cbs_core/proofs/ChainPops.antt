@@ -72,104 +72,118 @@ module _ {T : Type 0} (slots : List (Option (Node T))) (k : ℕ) (node : Node T)
 
 module _ {T : Type 0} (slots : List (Option (Node T))) (ends : List Ends) (s : ℕ) (sound : IsSound slots ends)
     (nonempty : 0 < length (list_at (lists_of slots ends) s)) where
+  -- the ends of a server, and the key at one of its places
+  abbrev was : ℕ → Ends
+  was t = ends_at ends t
+
+  abbrev key : ℕ → ℕ → ℕ
+  key t i = key_at slots ends t i
+
   -- the server is one of the table
   within : s < length ends
   within = within_list slots ends s nonempty
 
   -- the length that is kept says that there is a value
-  some : 0 < (ends_at ends s).len
+  some : 0 < (was s).len
   some = omega (arith, length-list slots ends sound s within)
 
   -- the head of a list with a value holds one
-  pub head_held : IsSome (node_at slots (ends_at ends s).head)
+  pub head_held : IsSome (node_at slots (was s).head)
   head_held = sound.held s 0 some
 
   -- it is the first of the list
-  pub first_value : (node : Node T) → node_at slots (ends_at ends s).head ≡ Some node
+  pub first_value : (node : Node T) → node_at slots (was s).head ≡ Some node
       → list_at (lists_of slots ends) s ≡ node.value ∷ drop 1 (list_at (lists_of slots ends) s)
-  first_value node found = rw (list_here slots ends s within) (first_and_rest slots (ends_at ends s) node found some)
+  first_value node found = rw (list_here slots ends s within) (first_and_rest slots (was s) node found some)
 
-  module _ (later : List (Option (Node T))) (node : Node T) (found : node_at slots (ends_at ends s).head ≡ Some node)
-      (others : (k : ℕ) → k ≢ (ends_at ends s).head → node_at later k ≡ node_at slots k) where
+  module _ (later : List (Option (Node T))) (node : Node T) (found : node_at slots (was s).head ≡ Some node)
+      (others : (k : ℕ) → k ≢ (was s).head → node_at later k ≡ node_at slots k) where
     -- each key but the first of s holds what it held
-    node_kept : (t i : ℕ) → i < (ends_at ends t).len → (t ≡ s → 0 < i) → node_at later (key_at slots ends t i) ≡ node_at slots (key_at slots ends t i)
-    node_kept t i lt behind = others (key_at slots ends t i) (λ e.
+    node_kept : (t i : ℕ) → i < (was t).len → (t ≡ s → 0 < i) → node_at later (key t i) ≡ node_at slots (key t i)
+    node_kept t i lt behind = others (key t i) (λ e.
         let same = sound.apart t s i 0 lt some e in
         let later_on = behind same.0 in
         let first = same.1 in
         absurd (omega arith))
 
     -- the keys behind the first of s
-    shift : (i : ℕ) → key_at slots ends s (suc i) ≡ key_from slots node.next i
+    shift : (i : ℕ) → key s (suc i) ≡ key_from slots node.next i
     shift i = rw found refl
 
     -- they hold what they held
-    rest_kept : (j : ℕ) → j < (ends_at ends s).len - 1 → node_at later (key_from slots node.next j) ≡ node_at slots (key_from slots node.next j)
+    rest_kept : (j : ℕ) → j < (was s).len - 1 → node_at later (key_from slots node.next j) ≡ node_at slots (key_from slots node.next j)
     rest_kept j lt = rw (shift j) at (node_kept s (suc j) (omega arith) (λ _. omega arith))
 
     -- the lists of the other servers are as they were
-    lists_elsewhere : (t : ℕ) → t ≢ s → t < length ends → list_of later (ends_at ends t) ≡ list_of slots (ends_at ends t)
-    lists_elsewhere t ne lt = chain_kept slots later (ends_at ends t).len (ends_at ends t).head (λ j below. node_kept t j below (λ e. absurd (ne e)))
+    lists_elsewhere : (t : ℕ) → t ≢ s → t < length ends → list_of later (was t) ≡ list_of slots (was t)
+    lists_elsewhere t ne lt = chain_kept slots later (was t).len (was t).head (λ j below. node_kept t j below (λ e. absurd (ne e)))
 
     -- the rest of the list of s is as it was
-    list_rest : chain later ((ends_at ends s).len - 1) node.next ≡ drop 1 (list_of slots (ends_at ends s))
-    list_rest = chain_kept slots later ((ends_at ends s).len - 1) node.next rest_kept ∙ sym (rest slots (ends_at ends s) node found some)
+    list_rest : chain later ((was s).len - 1) node.next ≡ drop 1 (list_of slots (was s))
+    list_rest = chain_kept slots later ((was s).len - 1) node.next rest_kept ∙ sym (rest slots (was s) node found some)
 
     -- the lists where the first value of s was written
-    lists_written_by : (w : T) → node_at later (ends_at ends s).head ≡ Some (record { value = w; next = node.next })
+    lists_written_by : (w : T) → node_at later (was s).head ≡ Some (record { value = w; next = node.next })
         → lists_of later ends ≡ changed_at (λ values. w ∷ drop 1 values) (lists_of slots ends) s
     lists_written_by w here =
         ap (lists_of later) (sym (set-get_or ends s no_ends))
-        ∙ map_written (list_of slots) (list_of later) (λ values. w ∷ drop 1 values) ends s (ends_at ends s) no_ends within
-        (front later (ends_at ends s) (record { value = w; next = node.next }) here (ends_at ends s).len some ∙ ap (λ values. w ∷ values) list_rest)
+        ∙ map_written (list_of slots) (list_of later) (λ values. w ∷ drop 1 values) ends s (was s) no_ends within
+        (front later (was s) (record { value = w; next = node.next }) here (was s).len some ∙ ap (λ values. w ∷ values) list_rest)
         lists_elsewhere
 
     -- the ends where the first value of s was taken out
     abbrev after : List Ends
-    after = set ends s (ends_popped (ends_at ends s) node.next)
+    after = set ends s (ends_popped (was s) node.next)
+
+    -- the ends of a server then, and the key at one of its places
+    abbrev is : ℕ → Ends
+    is t = ends_at after t
+
+    abbrev key_now : ℕ → ℕ → ℕ
+    key_now t i = key_at later after t i
 
     -- the lists where the first value of s was taken out
     pub lists_popped : lists_of later after ≡ changed_at (drop 1) (lists_of slots ends) s
-    lists_popped = map_written (list_of slots) (list_of later) (drop 1) ends s (ends_popped (ends_at ends s) node.next) no_ends within list_rest lists_elsewhere
+    lists_popped = map_written (list_of slots) (list_of later) (drop 1) ends s (ends_popped (was s) node.next) no_ends within list_rest lists_elsewhere
 
     -- the ends of another server are as they were
-    ends_elsewhere : (t : ℕ) → t ≢ s → ends_at after t ≡ ends_at ends t
-    ends_elsewhere t ne = get_or-set_other ends s t (ends_popped (ends_at ends s) node.next) no_ends ne
+    ends_elsewhere : (t : ℕ) → t ≢ s → is t ≡ was t
+    ends_elsewhere t ne = get_or-set_other ends s t (ends_popped (was s) node.next) no_ends ne
 
     -- the ends of s are one value shorter
-    ends_here : ends_at after s ≡ ends_popped (ends_at ends s) node.next
-    ends_here = get_or-set_same ends s (ends_popped (ends_at ends s) node.next) no_ends within
+    ends_here : is s ≡ ends_popped (was s) node.next
+    ends_here = get_or-set_same ends s (ends_popped (was s) node.next) no_ends within
 
     -- the keys of another server stand where they stood
-    key_elsewhere : (t i : ℕ) → t ≢ s → i < (ends_at ends t).len → key_at later after t i ≡ key_at slots ends t i
-    key_elsewhere t i ne lt = rw (ends_elsewhere t ne) (key_kept slots later (ends_at ends t).head i (λ j below. node_kept t j (omega arith) (λ e. absurd (ne e))))
+    key_elsewhere : (t i : ℕ) → t ≢ s → i < (was t).len → key_now t i ≡ key t i
+    key_elsewhere t i ne lt = rw (ends_elsewhere t ne) (key_kept slots later (was t).head i (λ j below. node_kept t j (omega arith) (λ e. absurd (ne e))))
 
     -- the keys of s stand one place further to the front
-    key_here : (i : ℕ) → i < (ends_at ends s).len - 1 → key_at later after s i ≡ key_at slots ends s (suc i)
+    key_here : (i : ℕ) → i < (was s).len - 1 → key_now s i ≡ key s (suc i)
     key_here i lt = rw ends_here (key_kept slots later node.next i (λ j below. rest_kept j (omega arith)) ∙ sym (shift i))
 
     -- where the key at place i of t stood before: at place j
     record WasAt (t i j : ℕ) : Type 0 where
-      below : j < (ends_at ends t).len
-      key : key_at later after t i ≡ key_at slots ends t j
+      below : j < (was t).len
+      key : key_now t i ≡ key t j
       moved : t ≡ s → j ≡ suc i
       stayed : t ≢ s → j ≡ i
 
     -- each key stood somewhere before
-    was_at : (t i : ℕ) → i < (ends_at after t).len → (j : ℕ) × WasAt t i j
+    was_at : (t i : ℕ) → i < (is t).len → (j : ℕ) × WasAt t i j
     was_at t i lt = elim (cases_eq t s) [
       | inl e ↦
-          let here : i < (ends_at ends s).len - 1 = rw ends_here at (subst (λ u. i < (ends_at after u).len) e lt) in (
+          let here : i < (was s).len - 1 = rw ends_here at (subst (λ u. i < (is u).len) e lt) in (
             suc i,
             record {
-              below = subst (λ u. suc i < (ends_at ends u).len) (sym e) (omega arith);
-              key = subst (λ u. key_at later after u i ≡ key_at slots ends u (suc i)) (sym e) (key_here i here);
+              below = subst (λ u. suc i < (was u).len) (sym e) (omega arith);
+              key = subst (λ u. key_now u i ≡ key u (suc i)) (sym e) (key_here i here);
               moved = λ _. refl;
               stayed = λ ne. absurd (ne e);
             },
           )
       | inr ne ↦
-          let there : i < (ends_at ends t).len = rw (ends_elsewhere t ne) at lt in
+          let there : i < (was t).len = rw (ends_elsewhere t ne) at lt in
           (i, record { below = there; key = key_elsewhere t i ne there; moved = λ e. absurd (ne e); stayed = λ _. refl })
     ]
 
@@ -181,21 +195,21 @@ module _ {T : Type 0} (slots : List (Option (Node T))) (ends : List Ends) (s : �
     ]
 
     -- the last key of s is its tail still, where one is left
-    tail_here : 0 < (ends_at after s).len → (ends_at after s).tail ≡ key_at later after s ((ends_at after s).len - 1)
+    tail_here : 0 < (is s).len → (is s).tail ≡ key_now s ((is s).len - 1)
     tail_here more =
-        let left : 0 < (ends_at ends s).len - 1 = rw ends_here at more in
-        let last : suc ((ends_at ends s).len - 1 - 1) ≡ (ends_at ends s).len - 1 = omega arith in
-        let len_is : (ends_at after s).len ≡ (ends_at ends s).len - 1 = ap (λ (e : Ends). e.len) ends_here in
-        let tail_is : (ends_at after s).tail ≡ (ends_at ends s).tail = ap (λ (e : Ends). e.tail) ends_here in
-        tail_is ∙ sound.tails s some ∙ sym (ap (λ n. key_at later after s (n - 1)) len_is ∙ key_here ((ends_at ends s).len - 1 - 1) (omega arith) ∙ ap (key_at slots ends s) last)
+        let left : 0 < (was s).len - 1 = rw ends_here at more in
+        let last : suc ((was s).len - 1 - 1) ≡ (was s).len - 1 = omega arith in
+        let len_is : (is s).len ≡ (was s).len - 1 = ap (λ (e : Ends). e.len) ends_here in
+        let tail_is : (is s).tail ≡ (was s).tail = ap (λ (e : Ends). e.tail) ends_here in
+        tail_is ∙ sound.tails s some ∙ sym (ap (λ n. key_now s (n - 1)) len_is ∙ key_here ((was s).len - 1 - 1) (omega arith) ∙ ap (key s) last)
 
     -- the last key of another server is its tail still
-    tail_elsewhere : (t : ℕ) → t ≢ s → 0 < (ends_at after t).len → (ends_at after t).tail ≡ key_at later after t ((ends_at after t).len - 1)
+    tail_elsewhere : (t : ℕ) → t ≢ s → 0 < (is t).len → (is t).tail ≡ key_now t ((is t).len - 1)
     tail_elsewhere t ne more =
-        let old : 0 < (ends_at ends t).len = rw (ends_elsewhere t ne) at more in
-        let len_is : (ends_at after t).len ≡ (ends_at ends t).len = ap (λ (e : Ends). e.len) (ends_elsewhere t ne) in
-        let tail_is : (ends_at after t).tail ≡ (ends_at ends t).tail = ap (λ (e : Ends). e.tail) (ends_elsewhere t ne) in
-        tail_is ∙ sound.tails t old ∙ sym (ap (λ n. key_at later after t (n - 1)) len_is ∙ key_elsewhere t ((ends_at ends t).len - 1) ne (omega arith))
+        let old : 0 < (was t).len = rw (ends_elsewhere t ne) at more in
+        let len_is : (is t).len ≡ (was t).len = ap (λ (e : Ends). e.len) (ends_elsewhere t ne) in
+        let tail_is : (is t).tail ≡ (was t).tail = ap (λ (e : Ends). e.tail) (ends_elsewhere t ne) in
+        tail_is ∙ sound.tails t old ∙ sym (ap (λ n. key_now t (n - 1)) len_is ∙ key_elsewhere t ((was t).len - 1) ne (omega arith))
 
     -- the lists are sound after the first value of s was taken out
     pub sound_popped : count_by is_some later + 1 ≡ count_by is_some slots → IsSound later after
@@ -210,15 +224,15 @@ module _ {T : Type 0} (slots : List (Option (Node T))) (ends : List Ends) (s : �
           let same = sound.apart t u a.0 b.0 a.1.below b.1.below (sym a.1.key ∙ e ∙ b.1.key) in
           (same.0, same_place t i j a.0 a.1 (subst (λ k. WasAt t j k) (sym same.1) (subst (λ v. WasAt v j b.0) (sym same.0) b.1)));
       tails = λ t more. elim (cases_eq t s) [
-        | inl e ↦ subst (λ u. 0 < (ends_at after u).len → (ends_at after u).tail ≡ key_at later after u ((ends_at after u).len - 1)) (sym e) tail_here more
+        | inl e ↦ subst (λ u. 0 < (is u).len → (is u).tail ≡ key_now u ((is u).len - 1)) (sym e) tail_here more
         | inr ne ↦ tail_elsewhere t ne more
       ];
-      counted = omega (arith, some, fewer, sound.counted, sum_by-set (λ (e : Ends). e.len) ends s (ends_popped (ends_at ends s) node.next) no_ends within);
+      counted = omega (arith, some, fewer, sound.counted, sum_by-set (λ (e : Ends). e.len) ends s (ends_popped (was s) node.next) no_ends within);
     }
 
   -- the lists where the first value of s is written in place
-  pub lists_written : (node : Node T) (w : T) (found : node_at slots (ends_at ends s).head ≡ Some node)
-      → lists_of (written slots (ends_at ends s).head node w found) ends ≡ changed_at (λ values. w ∷ drop 1 values) (lists_of slots ends) s
+  pub lists_written : (node : Node T) (w : T) (found : node_at slots (was s).head ≡ Some node)
+      → lists_of (written slots (was s).head node w found) ends ≡ changed_at (λ values. w ∷ drop 1 values) (lists_of slots ends) s
   lists_written node w found =
-      let k : ℕ = (ends_at ends s).head in
+      let k : ℕ = (was s).head in
       lists_written_by (written slots k node w found) node found (written_elsewhere slots k node w found) w (written_here slots k node w found)

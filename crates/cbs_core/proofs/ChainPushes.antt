@@ -89,88 +89,102 @@ module _ {T : Type 0} (slots filled : List (Option (Node T))) (ends : List Ends)
       unwritten : here.len ≡ 0 → later ≡ filled
       unwritten none = is ∙ if_none here.len filled (set filled here.tail last_now) none
 
-module _ {T : Type 0} (slots later : List (Option (Node T))) (ends : List Ends) (s q : ℕ) (v : T) (sound : IsSound slots ends) (pushed : IsPushed slots later ends s q v) (within : s < length ends) where
+module _ {T : Type 0} (slots later : List (Option (Node T))) (ends : List Ends) (s q : ℕ) (v : T)
+    (sound : IsSound slots ends) (pushed : IsPushed slots later ends s q v) (within : s < length ends) where
   -- the ends after a push
   abbrev after : List Ends
   after = set ends s (ends_pushed (ends_at ends s) q)
 
+  -- the ends of a server, and the key at one of its places, before the push and after it
+  abbrev was : ℕ → Ends
+  was t = ends_at ends t
+
+  abbrev is : ℕ → Ends
+  is t = ends_at after t
+
+  abbrev key : ℕ → ℕ → ℕ
+  key t i = key_at slots ends t i
+
+  abbrev key_now : ℕ → ℕ → ℕ
+  key_now t i = key_at later after t i
+
   -- no key of a list is the new one
-  not_new : (t i : ℕ) → i < (ends_at ends t).len → key_at slots ends t i ≢ q
-  not_new t i lt e = let held = sound.held t i lt in let fresh = pushed.fresh in let none : node_at slots (key_at slots ends t i) ≡ None = rw e fresh in cc
+  not_new : (t i : ℕ) → i < (was t).len → key t i ≢ q
+  not_new t i lt e = let held = sound.held t i lt in let fresh = pushed.fresh in let none : node_at slots (key t i) ≡ None = rw e fresh in cc
 
   -- no key of a list is the tail of s but the last of s
-  not_tail : (t i : ℕ) → i < (ends_at ends t).len → (t ≡ s → i + 1 < (ends_at ends s).len) → 0 < (ends_at ends s).len → key_at slots ends t i ≢ (ends_at ends s).tail
+  not_tail : (t i : ℕ) → i < (was t).len → (t ≡ s → i + 1 < (was s).len) → 0 < (was s).len → key t i ≢ (was s).tail
   not_tail t i lt before some e =
-      let same = sound.apart t s i ((ends_at ends s).len - 1) lt (omega arith) (e ∙ sound.tails s some) in
+      let same = sound.apart t s i ((was s).len - 1) lt (omega arith) (e ∙ sound.tails s some) in
       let short = before same.0 in
       let last = same.1 in
       absurd (omega arith)
 
   -- each key but the last of s holds what it held
-  node_kept : (t i : ℕ) → i < (ends_at ends t).len → (t ≡ s → i + 1 < (ends_at ends s).len) → node_at later (key_at slots ends t i) ≡ node_at slots (key_at slots ends t i)
-  node_kept t i lt before = pushed.others (key_at slots ends t i) (not_new t i lt) (not_tail t i lt before)
+  node_kept : (t i : ℕ) → i < (was t).len → (t ≡ s → i + 1 < (was s).len) → node_at later (key t i) ≡ node_at slots (key t i)
+  node_kept t i lt before = pushed.others (key t i) (not_new t i lt) (not_tail t i lt before)
 
   -- the keys of each list, from its head on, are as they were
-  keys_kept : (t i : ℕ) → i < (ends_at ends t).len → key_from later (ends_at ends t).head i ≡ key_at slots ends t i
-  keys_kept t i lt = key_kept slots later (ends_at ends t).head i (λ j below. node_kept t j (omega arith) (λ e. let l : i < (ends_at ends s).len = subst (λ u. i < (ends_at ends u).len) e lt in omega arith))
+  keys_kept : (t i : ℕ) → i < (was t).len → key_from later (was t).head i ≡ key t i
+  keys_kept t i lt = key_kept slots later (was t).head i (λ j below. node_kept t j (omega arith) (λ e. let l : i < (was s).len = subst (λ u. i < (was u).len) e lt in omega arith))
 
   -- the ends of another server are as they were
-  ends_elsewhere : (t : ℕ) → t ≢ s → ends_at after t ≡ ends_at ends t
-  ends_elsewhere t ne = get_or-set_other ends s t (ends_pushed (ends_at ends s) q) no_ends ne
+  ends_elsewhere : (t : ℕ) → t ≢ s → is t ≡ was t
+  ends_elsewhere t ne = get_or-set_other ends s t (ends_pushed (was s) q) no_ends ne
 
   -- the ends of s have the new value as the last
-  ends_here : ends_at after s ≡ ends_pushed (ends_at ends s) q
-  ends_here = get_or-set_same ends s (ends_pushed (ends_at ends s) q) no_ends within
+  ends_here : is s ≡ ends_pushed (was s) q
+  ends_here = get_or-set_same ends s (ends_pushed (was s) q) no_ends within
 
   -- the new key follows n keys, where n is the length
-  new_behind : (n : ℕ) → n ≡ (ends_at ends s).len → key_from later (if eqb n 0 then q else (ends_at ends s).head) n ≡ q
+  new_behind : (n : ℕ) → n ≡ (was s).len → key_from later (if eqb n 0 then q else (was s).head) n ≡ q
   new_behind zero e = refl
   new_behind (suc m) e =
-      let some : 0 < (ends_at ends s).len = omega arith in
-      let m_is : m ≡ (ends_at ends s).len - 1 = omega arith in
-      let at : key_from later (ends_at ends s).head m ≡ (ends_at ends s).tail = keys_kept s m (omega arith) ∙ ap (key_at slots ends s) m_is ∙ sym (sound.tails s some) in
+      let some : 0 < (was s).len = omega arith in
+      let m_is : m ≡ (was s).len - 1 = omega arith in
+      let at : key_from later (was s).head m ≡ (was s).tail = keys_kept s m (omega arith) ∙ ap (key s) m_is ∙ sym (sound.tails s some) in
       let last = pushed.last some in
-      rw (if_some (suc m) q (ends_at ends s).head (omega arith)) (key_behind later (ends_at ends s).head m ∙ rw (at, last.2) refl)
+      rw (if_some (suc m) q (was s).head (omega arith)) (key_behind later (was s).head m ∙ rw (at, last.2) refl)
 
   -- a key that was there stands where it stood
-  key_old : (t i : ℕ) → i < (ends_at ends t).len → key_at later after t i ≡ key_at slots ends t i
+  key_old : (t i : ℕ) → i < (was t).len → key_now t i ≡ key t i
   key_old t i lt = elim (cases_eq t s) [
-    | inl e ↦ subst (λ u. i < (ends_at ends u).len → key_at later after u i ≡ key_at slots ends u i) (sym e)
-        (λ here. rw (ends_here, if_some (ends_at ends s).len q (ends_at ends s).head (omega arith)) (keys_kept s i here)) lt
+    | inl e ↦ subst (λ u. i < (was u).len → key_now u i ≡ key u i) (sym e)
+        (λ here. rw (ends_here, if_some (was s).len q (was s).head (omega arith)) (keys_kept s i here)) lt
     | inr ne ↦ rw (ends_elsewhere t ne) (keys_kept t i lt)
   ]
 
   -- the new key stands behind those of s
-  key_new : (t i : ℕ) → (t ≡ s) × (i ≡ (ends_at ends s).len) → key_at later after t i ≡ q
-  key_new t i new = rw (new.0, new.1, ends_here) (new_behind (ends_at ends s).len refl)
+  key_new : (t i : ℕ) → (t ≡ s) × (i ≡ (was s).len) → key_now t i ≡ q
+  key_new t i new = rw (new.0, new.1, ends_here) (new_behind (was s).len refl)
 
   -- each place was there, or is the new one
-  old_or_new : (t i : ℕ) → i < (ends_at after t).len → (i < (ends_at ends t).len) ⊎ ((t ≡ s) × (i ≡ (ends_at ends s).len))
+  old_or_new : (t i : ℕ) → i < (is t).len → (i < (was t).len) ⊎ ((t ≡ s) × (i ≡ (was s).len))
   old_or_new t i lt = elim (cases_eq t s) [
     | inl e ↦
-        let here : i < (ends_at ends s).len + 1 = rw ends_here at (subst (λ u. i < (ends_at after u).len) e lt) in
-        elim (cases_lt i (ends_at ends s).len) [
-          | inl old ↦ inl (subst (λ u. i < (ends_at ends u).len) (sym e) old)
+        let here : i < (was s).len + 1 = rw ends_here at (subst (λ u. i < (is u).len) e lt) in
+        elim (cases_lt i (was s).len) [
+          | inl old ↦ inl (subst (λ u. i < (was u).len) (sym e) old)
           | inr new ↦ inr (e, omega arith)
         ]
     | inr ne ↦ inl (rw (ends_elsewhere t ne) at lt)
   ]
 
   -- a key that held a value does so still
-  still_held : (t i : ℕ) → i < (ends_at ends t).len → IsSome (node_at later (key_at slots ends t i))
-  still_held t i lt = elim (cases_lt 0 (ends_at ends s).len) [
-    | inl some ↦ elim (cases_eq (key_at slots ends t i) (ends_at ends s).tail) [
+  still_held : (t i : ℕ) → i < (was t).len → IsSome (node_at later (key t i))
+  still_held t i lt = elim (cases_lt 0 (was s).len) [
+    | inl some ↦ elim (cases_eq (key t i) (was s).tail) [
       | inl e ↦ let last = pushed.last some in rw (e, last.2) refl
-      | inr ne ↦ rw (pushed.others (key_at slots ends t i) (not_new t i lt) (λ _. ne)) (sound.held t i lt)
+      | inr ne ↦ rw (pushed.others (key t i) (not_new t i lt) (λ _. ne)) (sound.held t i lt)
     ]
-    | inr none ↦ rw (pushed.others (key_at slots ends t i) (not_new t i lt) (λ some. absurd (omega arith))) (sound.held t i lt)
+    | inr none ↦ rw (pushed.others (key t i) (not_new t i lt) (λ some. absurd (omega arith))) (sound.held t i lt)
   ]
 
   -- the new key is the last of s
-  tail_here : (ends_at after s).tail ≡ key_at later after s ((ends_at after s).len - 1)
+  tail_here : (is s).tail ≡ key_now s ((is s).len - 1)
   tail_here =
-      let n : (ends_at ends s).len + 1 - 1 ≡ (ends_at ends s).len = omega arith in
-      rw (ends_here, n) (sym (new_behind (ends_at ends s).len refl))
+      let n : (was s).len + 1 - 1 ≡ (was s).len = omega arith in
+      rw (ends_here, n) (sym (new_behind (was s).len refl))
 
   -- the lists are sound after a push
   pub sound_pushed : IsSound later after
@@ -190,29 +204,29 @@ module _ {T : Type 0} (slots later : List (Option (Node T))) (ends : List Ends) 
       ]
     ];
     tails = λ t some. elim (cases_eq t s) [
-      | inl e ↦ subst (λ u. (ends_at after u).tail ≡ key_at later after u ((ends_at after u).len - 1)) (sym e) tail_here
+      | inl e ↦ subst (λ u. (is u).tail ≡ key_now u ((is u).len - 1)) (sym e) tail_here
       | inr ne ↦
-          let old : 0 < (ends_at ends t).len = rw (ends_elsewhere t ne) at some in
-          rw (ends_elsewhere t ne) (sound.tails t old ∙ sym (keys_kept t ((ends_at ends t).len - 1) (omega arith)))
+          let old : 0 < (was t).len = rw (ends_elsewhere t ne) at some in
+          rw (ends_elsewhere t ne) (sound.tails t old ∙ sym (keys_kept t ((was t).len - 1) (omega arith)))
     ];
-    counted = omega (arith, sound.counted, pushed.grown, sum_by-set (λ (e : Ends). e.len) ends s (ends_pushed (ends_at ends s) q) no_ends within);
+    counted = omega (arith, sound.counted, pushed.grown, sum_by-set (λ (e : Ends). e.len) ends s (ends_pushed (was s) q) no_ends within);
   }
 
   -- the list of s has the new value behind its others
-  list_pushed : (n : ℕ) → n ≡ (ends_at ends s).len → chain later (n + 1) (if eqb n 0 then q else (ends_at ends s).head) ≡ chain slots n (ends_at ends s).head ++ v ∷ []
+  list_pushed : (n : ℕ) → n ≡ (was s).len → chain later (n + 1) (if eqb n 0 then q else (was s).head) ≡ chain slots n (was s).head ++ v ∷ []
   list_pushed zero e = let stored = pushed.stored in rw (stored.1, stored.2) refl
   list_pushed (suc m) e =
-      let some : 0 < (ends_at ends s).len = omega arith in
-      let m_is : m ≡ (ends_at ends s).len - 1 = omega arith in
-      let at : key_from slots (ends_at ends s).head m ≡ (ends_at ends s).tail = ap (key_at slots ends s) m_is ∙ sym (sound.tails s some) in
+      let some : 0 < (was s).len = omega arith in
+      let m_is : m ≡ (was s).len - 1 = omega arith in
+      let at : key_from slots (was s).head m ≡ (was s).tail = ap (key s) m_is ∙ sym (sound.tails s some) in
       let last = pushed.last some in
       let stored = pushed.stored in
-      rw (if_some (suc m) q (ends_at ends s).head (omega arith), add-one, ← stored.2)
-      (chain_pushed slots later m (ends_at ends s).head last.0 q stored.0 (λ j lt. node_kept s j (omega arith) (λ _. omega arith)) (rw at last.1) (rw at last.2) stored.1)
+      rw (if_some (suc m) q (was s).head (omega arith), add-one, ← stored.2)
+      (chain_pushed slots later m (was s).head last.0 q stored.0 (λ j lt. node_kept s j (omega arith) (λ _. omega arith)) (rw at last.1) (rw at last.2) stored.1)
 
   -- the lists after a push
   pub lists_pushed : lists_of later after ≡ changed_at (λ values. values ++ v ∷ []) (lists_of slots ends) s
   lists_pushed =
-      map_written (list_of slots) (list_of later) (λ values. values ++ v ∷ []) ends s (ends_pushed (ends_at ends s) q) no_ends within
-      (list_pushed (ends_at ends s).len refl)
-      (λ t ne lt. chain_kept slots later (ends_at ends t).len (ends_at ends t).head (λ j below. node_kept t j below (λ e. absurd (ne e))))
+      map_written (list_of slots) (list_of later) (λ values. values ++ v ∷ []) ends s (ends_pushed (was s) q) no_ends within
+      (list_pushed (was s).len refl)
+      (λ t ne lt. chain_kept slots later (was t).len (was t).head (λ j below. node_kept t j below (λ e. absurd (ne e))))

@@ -21,6 +21,14 @@ changed_twice f g [] i = refl
 changed_twice f g (x ∷ xs) zero = refl
 changed_twice f g (x ∷ xs) (suc i) = ap (λ ys. x ∷ ys) (changed_twice f g xs i)
 
+-- a queue whose first job was changed in place has a job still
+pub job_there : {W : Type 0} (lists : List (List W)) (s : ℕ) (now : W) → 0 < length (list_at lists s)
+    → 0 < length (list_at (changed_at (λ jobs. now ∷ drop 1 jobs) lists s) s)
+job_there lists s now some = elim (cases_lt s (length lists)) [
+  | inl lt ↦ let here = changed_here (λ jobs. now ∷ drop 1 jobs) lists s [] lt in omega (arith, ap length here)
+  | inr ge ↦ let past : list_at lists s ≡ [] = get_or_past lists s [] ge in let none : length (list_at lists s) ≡ 0 = ap length past in absurd (omega arith)
+]
+
 module _ {W : Type 0} (work : Meaning W) (lists : List (List W)) (s : ℕ) (job now : W) (rest : List W) (first : list_at lists s ≡ job ∷ rest) where
   -- where a unit is left, the first job stands there as it is after its unit
   pub job_stays : now ≡ work.after job → 0 < work.left now → changed_at (λ jobs. now ∷ drop 1 jobs) lists s ≡ changed_at (jobs_run work) lists s
@@ -34,10 +42,3 @@ module _ {W : Type 0} (work : Meaning W) (lists : List (List W)) (s : ℕ) (job 
       let last : work.left (work.after job) ≡ 0 = rw (← e) none in
       changed_twice (λ jobs. now ∷ drop 1 jobs) (drop 1) lists s
       ∙ changed_same (λ jobs. drop 1 jobs) (jobs_run work) lists s [] (rw (first, last) refl)
-
-  -- a job that was changed in place is there still
-  pub job_there : 0 < length (list_at (changed_at (λ jobs. now ∷ drop 1 jobs) lists s) s)
-  job_there = elim (cases_lt s (length lists)) [
-    | inl lt ↦ let here = changed_here (λ jobs. now ∷ drop 1 jobs) lists s [] lt in omega (arith, ap length here)
-    | inr ge ↦ let past : list_at lists s ≡ [] = get_or_past lists s [] ge in cc
-  ]

@@ -60,6 +60,7 @@ impl<W: Work, A: Allocator> Queues<W, A> {
 
     /// Runs one unit of the first job of a server. If that was its last, the job leaves the queue,
     /// and its output is answered.
+    #[tactic(auto, using(crate::proofs::QueueRuns::job_there))]
     pub fn run_first(&mut self, server: u16) -> Option<u64>
         requires some { 0 < length (list_at self.old.lists server) }
         requires unfinished { AllByRecursion (λ w. 0 < W.meaning.left w) (list_at self.old.lists server) }

@@ -1,13 +1,10 @@
 use Rattle.std.proofs.Common.{◌∙◌, arith}
-use Rattle.cbs_core.proofs.QueueRuns.{job_stays, job_leaves, job_there}
+use Rattle.cbs_core.proofs.QueueRuns.{job_stays, job_leaves}
 use Rattle.cbs_core.proofs.queues.Queues.run_first.Goals as goal
 
 pub returns-then-left-gt0-clause-lists : goal.returns-then-left-gt0-clause-lists
 returns-then-left-gt0-clause-lists g c =
     rw (← c.self.view_is) (job_stays g.W.Work.meaning _ _ _ _ _ c.first_mut-job.ensures.value c.step.ensures.after (omega arith))
-
-pub pop-requires : goal.pop-requires
-pop-requires g c = record { some = job_there g.W.Work.meaning c.self.inside.jobs.lists c.args.server _ _ _ c.first_mut-job.ensures.value }
 
 pub returns-clause-lists : goal.returns-clause-lists
 returns-clause-lists g c =
