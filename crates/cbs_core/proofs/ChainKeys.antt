@@ -1,5 +1,5 @@
 -- Chains of keys: where a key stands, and what slots that agree on a chain's keys give.
-use Rattle.std.proofs.Common.{◌≡◌, ◌≢◌, ℕ, zero, suc, ◌<◌, List, [], ◌∷◌, ◌++◌, length, map, replicate, get_or, set, Option, Some, None, IsSome, refl, ap, ◌∙◌, inl, inr, arith}
+use Rattle.std.proofs.Common.{◌≡◌, ◌≢◌, ℕ, zero, suc, ◌<◌, ◌≤◌, List, [], ◌∷◌, ◌++◌, length, map, replicate, get_or, set, Option, Some, None, IsSome, refl, ap, ◌∙◌, inl, inr, arith}
 use Rattle.std.proofs.lemmas.Bool.{cases_lt}
 use Rattle.std.proofs.lemmas.List.{get_or-map, get_or_past, get_or_default, length-map}
 use Rattle.std.proofs.lemmas.List.Folds.{sum_by-replicate}
@@ -11,7 +11,8 @@ use Rattle.cbs_core.specs.Chains.{no_ends, ends_at, node_at, next_of, key_from, 
 
 -- a key that holds something is one of the slots
 pub within_slots : {X : Type 0} (slots : List (Option X)) (k : ℕ) → IsSome (get_or slots k None) → k < length slots
-within_slots slots k some = elim (cases_lt k (length slots)) [ inl lt ↦ lt | inr ge ↦ let past = get_or_past slots k None ge in cc ]
+within_slots slots k some =
+    elim (cases_lt k (length slots)) [ inl lt ↦ lt | inr ge ↦ let past = get_or_past slots k None ge in cc ]
 
 module _ {T : Type 0} where
   -- one link more
@@ -21,7 +22,8 @@ module _ {T : Type 0} where
   key_behind slots k (suc i) = key_behind slots (next_of (node_at slots k)) i
 
   -- a value makes a list longer by one
-  length-value_before : (o : Option (Node T)) (rest : List T) → IsSome o → length (value_before o rest) ≡ suc (length rest)
+  length-value_before : (o : Option (Node T)) (rest : List T) → IsSome o
+      → length (value_before o rest) ≡ suc (length rest)
   length-value_before None rest some = cc
   length-value_before (Some node) rest some = refl
 
@@ -31,7 +33,8 @@ module _ {T : Type 0} where
   value_before-append (Some node) xs ys = refl
 
   -- a chain of n keys that all hold a value has n values
-  length-chain : (slots : List (Option (Node T))) (n k : ℕ) → ((i : ℕ) → i < n → IsSome (node_at slots (key_from slots k i)))
+  length-chain : (slots : List (Option (Node T))) (n k : ℕ)
+      → ((i : ℕ) → i < n → IsSome (node_at slots (key_from slots k i)))
       → length (chain slots n k) ≡ n
   length-chain slots zero k held = refl
   length-chain slots (suc n) k held =
@@ -40,18 +43,21 @@ module _ {T : Type 0} where
 
   module _ (slots later : List (Option (Node T))) where
     -- slots that agree on the first i keys have the same next key
-    pub key_kept : (k i : ℕ) → ((j : ℕ) → j < i → node_at later (key_from slots k j) ≡ node_at slots (key_from slots k j))
+    pub key_kept : (k i : ℕ)
+        → ((j : ℕ) → j < i → node_at later (key_from slots k j) ≡ node_at slots (key_from slots k j))
         → key_from later k i ≡ key_from slots k i
     key_kept k zero same = refl
-    key_kept k (suc i) same = rw (same 0 (omega arith)) (key_kept (next_of (node_at slots k)) i (λ j lt. same (suc j) (omega arith)))
+    key_kept k (suc i) same =
+        rw (same 0 (omega arith)) (key_kept (next_of (node_at slots k)) i (λ j lt. same (suc j) (omega arith)))
 
     -- slots that agree on all keys of a chain have the same values there
-    pub chain_kept : (n k : ℕ) → ((j : ℕ) → j < n → node_at later (key_from slots k j) ≡ node_at slots (key_from slots k j))
+    pub chain_kept : (n k : ℕ)
+        → ((j : ℕ) → j < n → node_at later (key_from slots k j) ≡ node_at slots (key_from slots k j))
         → chain later n k ≡ chain slots n k
     chain_kept zero k same = refl
     chain_kept (suc n) k same =
-        rw (same 0 (omega arith))
-        (ap (value_before (node_at slots k)) (chain_kept n (next_of (node_at slots k)) (λ j lt. same (suc j) (omega arith))))
+        let rest = chain_kept n (next_of (node_at slots k)) (λ j lt. same (suc j) (omega arith)) in
+        rw (same 0 (omega arith)) (ap (value_before (node_at slots k)) rest)
 
     -- a chain that is longer by one: what was its last key is followed by q now, and all before it is as it was
     pub chain_pushed : (m k : ℕ) (last : Node T) (q : ℕ) (new : Node T)
@@ -62,7 +68,8 @@ module _ {T : Type 0} where
         → chain later (suc (suc m)) k ≡ chain slots (suc m) k ++ new.value ∷ []
     chain_pushed zero k last q new same was is found = rw (is, found, was) refl
     chain_pushed (suc m) k last q new same was is found =
-        let rest = chain_pushed m (next_of (node_at slots k)) last q new (λ j lt. same (suc j) (omega arith)) was is found in
+        let kept = λ (j : ℕ) (lt : j < m). same (suc j) (omega arith) in
+        let rest = chain_pushed m (next_of (node_at slots k)) last q new kept was is found in
         rw (same 0 (omega arith)) (ap (value_before (node_at slots k)) rest ∙ value_before-append (node_at slots k) _ _)
 
 -- two maps that agree on every element
@@ -80,11 +87,13 @@ map_written before after change [] s x d lt here others = absurd (omega arith)
 map_written before after change (y ∷ xs) zero x d lt here others =
     rw (here, map_same after before xs d (λ t below. others (suc t) (λ e. omega arith) (omega arith)))
 map_written before after change (y ∷ xs) (suc s) x d lt here others =
-    let rest = map_written before after change xs s x d (omega arith) here (λ t ne below. others (suc t) (λ e. ne (omega arith)) (omega arith)) in
+    let rest = map_written before after change xs s x d (omega arith) here
+    (λ t ne below. others (suc t) (λ e. ne (omega arith)) (omega arith)) in
     rw (others 0 (λ e. omega arith) (omega arith), rest)
 
 -- the ends that a read of the table gives
-pub ends_read : (ends : List Ends) (i s : ℕ) (e : Ends) → i ≡ s → s < length ends → e ≡ get_or ends i e → e ≡ ends_at ends s
+pub ends_read : (ends : List Ends) (i s : ℕ) (e : Ends) → i ≡ s → s < length ends → e ≡ get_or ends i e
+    → e ≡ ends_at ends s
 ends_read ends i s e same within read = read ∙ rw same (get_or_default ends s e no_ends within)
 
 module _ {T : Type 0} (slots : List (Option (Node T))) (ends : List Ends) where
@@ -97,7 +106,8 @@ module _ {T : Type 0} (slots : List (Option (Node T))) (ends : List Ends) where
   within_list s some = elim (cases_lt s (length ends)) [
     | inl lt ↦ lt
     | inr ge ↦
-        let past : list_at (lists_of slots ends) s ≡ [] = get_or_past (lists_of slots ends) s [] (omega (arith, length-map ends (list_of slots))) in
+        let beyond : length (lists_of slots ends) ≤ s = omega (arith, length-map ends (list_of slots)) in
+        let past : list_at (lists_of slots ends) s ≡ [] = get_or_past (lists_of slots ends) s [] beyond in
         let none : length (list_at (lists_of slots ends) s) ≡ 0 = ap length past in
         absurd (omega arith)
   ]
@@ -107,12 +117,15 @@ module _ {T : Type 0} (slots : List (Option (Node T))) (ends : List Ends) where
   list_here s within = get_or-map (list_of slots) ends s no_ends [] within
 
   -- the length that is kept is that of the list
-  pub length-list : IsSound slots ends → (s : ℕ) → s < length ends → length (list_at (lists_of slots ends) s) ≡ (ends_at ends s).len
+  pub length-list : IsSound slots ends → (s : ℕ) → s < length ends
+      → length (list_at (lists_of slots ends) s) ≡ (ends_at ends s).len
   length-list sound s within =
-      ap length (list_here s within) ∙ length-chain slots (ends_at ends s).len (ends_at ends s).head (λ i lt. sound.held s i lt)
+      ap length (list_here s within)
+      ∙ length-chain slots (ends_at ends s).len (ends_at ends s).head (λ i lt. sound.held s i lt)
 
 -- at the start each list is empty
-pub lists_opened : {T : Type 0} (slots : List (Option (Node T))) (n : ℕ) → lists_of slots (replicate n no_ends) ≡ replicate n []
+pub lists_opened : {T : Type 0} (slots : List (Option (Node T))) (n : ℕ)
+    → lists_of slots (replicate n no_ends) ≡ replicate n []
 lists_opened slots zero = refl
 lists_opened slots (suc n) = ap (λ xs. [] ∷ xs) (lists_opened slots n)
 

@@ -10,7 +10,8 @@ use Rattle.cbs_core.specs.declared.chains.Ends.{Ends}
 use Rattle.cbs_core.specs.Chains.{no_ends, ends_at, ends_popped, node_at, next_of, key_from, key_at, chain, list_of, lists_of, IsSound}
 use Rattle.cbs_core.proofs.ChainKeys.{within_slots, key_kept, chain_kept, map_written, within_list, list_here, length-list}
 
-module _ {T : Type 0} (slots : List (Option (Node T))) (e : Ends) (node : Node T) (found : node_at slots e.head ≡ Some node) where
+module _ {T : Type 0} (slots : List (Option (Node T))) (e : Ends) (node : Node T)
+    (found : node_at slots e.head ≡ Some node) where
   -- a list begins with the value at its head
   front : (n : ℕ) → 0 < n → chain slots n e.head ≡ node.value ∷ chain slots (n - 1) node.next
   front zero some = absurd (omega arith)
@@ -24,7 +25,8 @@ module _ {T : Type 0} (slots : List (Option (Node T))) (e : Ends) (node : Node T
   pub first_and_rest : 0 < e.len → list_of slots e ≡ node.value ∷ drop 1 (list_of slots e)
   first_and_rest some = rw (rest some) (front e.len some)
 
-module _ {T : Type 0} (slots : List (Option (Node T))) (k : ℕ) (node : Node T) (w : T) (found : node_at slots k ≡ Some node) where
+module _ {T : Type 0} (slots : List (Option (Node T))) (k : ℕ) (node : Node T) (w : T)
+    (found : node_at slots k ≡ Some node) where
   -- the slots with w as the value at key k
   abbrev pub written : List (Option (Node T))
   written = set slots k (Some (record { value = w; next = node.next }))
@@ -50,11 +52,13 @@ module _ {T : Type 0} (slots : List (Option (Node T))) (k : ℕ) (node : Node T)
 
   -- each key is followed by the key that followed it
   next_kept : (j : ℕ) → next_of (node_at written j) ≡ next_of (node_at slots j)
-  next_kept j = elim (cases_eq j k) [ inl e ↦ rw (e, written_here, found) refl | inr ne ↦ rw (written_elsewhere j ne) refl ]
+  next_kept j =
+      elim (cases_eq j k) [ inl e ↦ rw (e, written_here, found) refl | inr ne ↦ rw (written_elsewhere j ne) refl ]
 
   -- each key that held a value does so still
   some_kept : (j : ℕ) → IsSome (node_at slots j) → IsSome (node_at written j)
-  some_kept j some = elim (cases_eq j k) [ inl e ↦ rw (e, written_here) refl | inr ne ↦ rw (written_elsewhere j ne) some ]
+  some_kept j some =
+      elim (cases_eq j k) [ inl e ↦ rw (e, written_here) refl | inr ne ↦ rw (written_elsewhere j ne) some ]
 
   -- the keys of each list stand where they stood
   keys_kept : (h i : ℕ) → key_from written h i ≡ key_from slots h i
@@ -65,7 +69,8 @@ module _ {T : Type 0} (slots : List (Option (Node T))) (k : ℕ) (node : Node T)
   pub sound_written : (ends : List Ends) → IsSound slots ends → IsSound written ends
   sound_written ends sound = record {
     held = λ s i lt. rw (keys_kept (ends_at ends s).head i) (some_kept (key_at slots ends s i) (sound.held s i lt));
-    apart = λ s t i j lt lu e. sound.apart s t i j lt lu (sym (keys_kept (ends_at ends s).head i) ∙ e ∙ keys_kept (ends_at ends t).head j);
+    apart = λ s t i j lt lu e.
+        sound.apart s t i j lt lu (sym (keys_kept (ends_at ends s).head i) ∙ e ∙ keys_kept (ends_at ends t).head j);
     tails = λ s more. sound.tails s more ∙ sym (keys_kept (ends_at ends s).head ((ends_at ends s).len - 1));
     counted = sound.counted ∙ sym count_written;
   }
@@ -111,12 +116,14 @@ module _ {T : Type 0} (slots : List (Option (Node T))) (ends : List Ends) (s : �
     shift i = rw found refl
 
     -- they hold what they held
-    rest_kept : (j : ℕ) → j < (was s).len - 1 → node_at later (key_from slots node.next j) ≡ node_at slots (key_from slots node.next j)
+    rest_kept : (j : ℕ) → j < (was s).len - 1
+        → node_at later (key_from slots node.next j) ≡ node_at slots (key_from slots node.next j)
     rest_kept j lt = rw (shift j) at (node_kept s (suc j) (omega arith) (λ _. omega arith))
 
     -- the lists of the other servers are as they were
     lists_elsewhere : (t : ℕ) → t ≢ s → t < length ends → list_of later (was t) ≡ list_of slots (was t)
-    lists_elsewhere t ne lt = chain_kept slots later (was t).len (was t).head (λ j below. node_kept t j below (λ e. absurd (ne e)))
+    lists_elsewhere t ne lt =
+        chain_kept slots later (was t).len (was t).head (λ j below. node_kept t j below (λ e. absurd (ne e)))
 
     -- the rest of the list of s is as it was
     list_rest : chain later ((was s).len - 1) node.next ≡ drop 1 (list_of slots (was s))
@@ -128,7 +135,8 @@ module _ {T : Type 0} (slots : List (Option (Node T))) (ends : List Ends) (s : �
     lists_written_by w here =
         ap (lists_of later) (sym (set-get_or ends s no_ends))
         ∙ map_written (list_of slots) (list_of later) (λ values. w ∷ drop 1 values) ends s (was s) no_ends within
-        (front later (was s) (record { value = w; next = node.next }) here (was s).len some ∙ ap (λ values. w ∷ values) list_rest)
+        (front later (was s) (record { value = w; next = node.next }) here (was s).len some
+        ∙ ap (λ values. w ∷ values) list_rest)
         lists_elsewhere
 
     -- the ends where the first value of s was taken out
@@ -144,7 +152,9 @@ module _ {T : Type 0} (slots : List (Option (Node T))) (ends : List Ends) (s : �
 
     -- the lists where the first value of s was taken out
     pub lists_popped : lists_of later after ≡ changed_at (drop 1) (lists_of slots ends) s
-    lists_popped = map_written (list_of slots) (list_of later) (drop 1) ends s (ends_popped (was s) node.next) no_ends within list_rest lists_elsewhere
+    lists_popped =
+        map_written (list_of slots) (list_of later) (drop 1)
+        ends s (ends_popped (was s) node.next) no_ends within list_rest lists_elsewhere
 
     -- the ends of another server are as they were
     ends_elsewhere : (t : ℕ) → t ≢ s → is t ≡ was t
@@ -156,11 +166,14 @@ module _ {T : Type 0} (slots : List (Option (Node T))) (ends : List Ends) (s : �
 
     -- the keys of another server stand where they stood
     key_elsewhere : (t i : ℕ) → t ≢ s → i < (was t).len → key_now t i ≡ key t i
-    key_elsewhere t i ne lt = rw (ends_elsewhere t ne) (key_kept slots later (was t).head i (λ j below. node_kept t j (omega arith) (λ e. absurd (ne e))))
+    key_elsewhere t i ne lt =
+        rw (ends_elsewhere t ne)
+        (key_kept slots later (was t).head i (λ j below. node_kept t j (omega arith) (λ e. absurd (ne e))))
 
     -- the keys of s stand one place further to the front
     key_here : (i : ℕ) → i < (was s).len - 1 → key_now s i ≡ key s (suc i)
-    key_here i lt = rw ends_here (key_kept slots later node.next i (λ j below. rest_kept j (omega arith)) ∙ sym (shift i))
+    key_here i lt =
+        rw ends_here (key_kept slots later node.next i (λ j below. rest_kept j (omega arith)) ∙ sym (shift i))
 
     -- where the key at place i of t stood before: at place j
     record WasAt (t i j : ℕ) : Type 0 where
@@ -184,7 +197,8 @@ module _ {T : Type 0} (slots : List (Option (Node T))) (ends : List Ends) (s : �
           )
       | inr ne ↦
           let there : i < (was t).len = rw (ends_elsewhere t ne) at lt in
-          (i, record { below = there; key = key_elsewhere t i ne there; moved = λ e. absurd (ne e); stayed = λ _. refl })
+          let key = key_elsewhere t i ne there in
+          (i, record { below = there; key = key; moved = λ e. absurd (ne e); stayed = λ _. refl })
     ]
 
     -- keys of one place before are keys of one place now
@@ -201,7 +215,8 @@ module _ {T : Type 0} (slots : List (Option (Node T))) (ends : List Ends) (s : �
         let last : suc ((was s).len - 1 - 1) ≡ (was s).len - 1 = omega arith in
         let len_is : (is s).len ≡ (was s).len - 1 = ap (λ (e : Ends). e.len) ends_here in
         let tail_is : (is s).tail ≡ (was s).tail = ap (λ (e : Ends). e.tail) ends_here in
-        tail_is ∙ sound.tails s some ∙ sym (ap (λ n. key_now s (n - 1)) len_is ∙ key_here ((was s).len - 1 - 1) (omega arith) ∙ ap (key s) last)
+        let key_is = key_here ((was s).len - 1 - 1) (omega arith) in
+        tail_is ∙ sound.tails s some ∙ sym (ap (λ n. key_now s (n - 1)) len_is ∙ key_is ∙ ap (key s) last)
 
     -- the last key of another server is its tail still
     tail_elsewhere : (t : ℕ) → t ≢ s → 0 < (is t).len → (is t).tail ≡ key_now t ((is t).len - 1)
@@ -209,30 +224,37 @@ module _ {T : Type 0} (slots : List (Option (Node T))) (ends : List Ends) (s : �
         let old : 0 < (was t).len = rw (ends_elsewhere t ne) at more in
         let len_is : (is t).len ≡ (was t).len = ap (λ (e : Ends). e.len) (ends_elsewhere t ne) in
         let tail_is : (is t).tail ≡ (was t).tail = ap (λ (e : Ends). e.tail) (ends_elsewhere t ne) in
-        tail_is ∙ sound.tails t old ∙ sym (ap (λ n. key_now t (n - 1)) len_is ∙ key_elsewhere t ((was t).len - 1) ne (omega arith))
+        let key_is = key_elsewhere t ((was t).len - 1) ne (omega arith) in
+        tail_is ∙ sound.tails t old ∙ sym (ap (λ n. key_now t (n - 1)) len_is ∙ key_is)
 
     -- the lists are sound after the first value of s was taken out
     pub sound_popped : count_by is_some later + 1 ≡ count_by is_some slots → IsSound later after
     sound_popped fewer = record {
       held = λ t i lt.
-          let was = was_at t i lt in
-          let place = was.1 in
-          rw (place.key, node_kept t was.0 place.below (λ e. let moved = place.moved e in omega arith)) (sound.held t was.0 place.below);
+          let old = was_at t i lt in
+          let place = old.1 in
+          let same = node_kept t old.0 place.below (λ e. let moved = place.moved e in omega arith) in
+          rw (place.key, same) (sound.held t old.0 place.below);
       apart = λ t u i j lt lu e.
           let a = was_at t i lt in
           let b = was_at u j lu in
           let same = sound.apart t u a.0 b.0 a.1.below b.1.below (sym a.1.key ∙ e ∙ b.1.key) in
-          (same.0, same_place t i j a.0 a.1 (subst (λ k. WasAt t j k) (sym same.1) (subst (λ v. WasAt v j b.0) (sym same.0) b.1)));
+          let here = subst (λ k. WasAt t j k) (sym same.1) (subst (λ v. WasAt v j b.0) (sym same.0) b.1) in
+          (same.0, same_place t i j a.0 a.1 here);
       tails = λ t more. elim (cases_eq t s) [
         | inl e ↦ subst (λ u. 0 < (is u).len → (is u).tail ≡ key_now u ((is u).len - 1)) (sym e) tail_here more
         | inr ne ↦ tail_elsewhere t ne more
       ];
-      counted = omega (arith, some, fewer, sound.counted, sum_by-set (λ (e : Ends). e.len) ends s (ends_popped (was s) node.next) no_ends within);
+      counted =
+          let sums = sum_by-set (λ (e : Ends). e.len) ends s (ends_popped (was s) node.next) no_ends within in
+          omega (arith, some, fewer, sound.counted, sums);
     }
 
   -- the lists where the first value of s is written in place
   pub lists_written : (node : Node T) (w : T) (found : node_at slots (was s).head ≡ Some node)
-      → lists_of (written slots (was s).head node w found) ends ≡ changed_at (λ values. w ∷ drop 1 values) (lists_of slots ends) s
+      → lists_of (written slots (was s).head node w found) ends
+      ≡ changed_at (λ values. w ∷ drop 1 values) (lists_of slots ends) s
   lists_written node w found =
       let k : ℕ = (was s).head in
-      lists_written_by (written slots k node w found) node found (written_elsewhere slots k node w found) w (written_here slots k node w found)
+      lists_written_by (written slots k node w found) node found
+      (written_elsewhere slots k node w found) w (written_here slots k node w found)

@@ -25,16 +25,20 @@ some_of None some = absurd (cc)
 some_of (Some x) some = (x, refl)
 
 module _ {T : Type 0} (slots later : List (Option (Node T))) (ends : List Ends) (s q : ℕ) (v : T) where
-  -- the slots once v stands at key q behind the last value of s: q was vacant, the last value, if there is one, is followed
-  -- by q, and each other key holds what it held
+  -- the slots once v stands at key q behind the last value of s: q was vacant, the last value, if there is one, is
+  -- followed by q, and each other key holds what it held
   pub record IsPushed : Type 0 where
     pub fresh : node_at slots q ≡ None
     pub stored : (node : Node T) × (node_at later q ≡ Some node) × (node.value ≡ v)
-    pub others : (k : ℕ) → k ≢ q → (0 < (ends_at ends s).len → k ≢ (ends_at ends s).tail) → node_at later k ≡ node_at slots k
-    pub last : 0 < (ends_at ends s).len → (node : Node T) × (node_at slots (ends_at ends s).tail ≡ Some node) × (node_at later (ends_at ends s).tail ≡ Some (record { value = node.value; next = q }))
+    pub others : (k : ℕ) → k ≢ q → (0 < (ends_at ends s).len → k ≢ (ends_at ends s).tail)
+        → node_at later k ≡ node_at slots k
+    pub last : 0 < (ends_at ends s).len
+        → (node : Node T) × (node_at slots (ends_at ends s).tail ≡ Some node)
+        × (node_at later (ends_at ends s).tail ≡ Some (record { value = node.value; next = q }))
     pub grown : count_by is_some later ≡ count_by is_some slots + 1
 
-module _ {T : Type 0} (slots filled : List (Option (Node T))) (ends : List Ends) (s q : ℕ) (sound : IsSound slots ends) (fresh : node_at slots q ≡ None)
+module _ {T : Type 0} (slots filled : List (Option (Node T))) (ends : List Ends) (s q : ℕ)
+    (sound : IsSound slots ends) (fresh : node_at slots q ≡ None)
     (others : (k : ℕ) → k ≢ q → node_at filled k ≡ node_at slots k) where
   -- the last key of s holds a value
   tail_held : 0 < (ends_at ends s).len → IsSome (node_at slots (ends_at ends s).tail)
@@ -42,7 +46,10 @@ module _ {T : Type 0} (slots filled : List (Option (Node T))) (ends : List Ends)
 
   -- it is not the new key
   tail_old : 0 < (ends_at ends s).len → (ends_at ends s).tail ≢ q
-  tail_old some same = let held = tail_held some in let none : node_at slots (ends_at ends s).tail ≡ None = rw same fresh in cc
+  tail_old some same =
+      let held = tail_held some in
+      let none : node_at slots (ends_at ends s).tail ≡ None = rw same fresh in
+      cc
 
   -- it still holds a value once the new key is filled
   pub tail_still_held : 0 < (ends_at ends s).len → IsSome (node_at filled (ends_at ends s).tail)
@@ -57,14 +64,17 @@ module _ {T : Type 0} (slots filled : List (Option (Node T))) (ends : List Ends)
   last_now = linked_to q (node_at filled here.tail)
 
   -- a value that is stored at a vacant key, to which the last value is linked then, is pushed
-  pub pushed_by : (later : List (Option (Node T))) (v : T) → node_at filled q ≡ Some (record { value = v; next = 0 }) → later ≡ linked filled here q
+  pub pushed_by : (later : List (Option (Node T))) (v : T)
+      → node_at filled q ≡ Some (record { value = v; next = 0 }) → later ≡ linked filled here q
       → count_by is_some later ≡ count_by is_some slots + 1 → IsPushed slots later ends s q v
   pushed_by later v stored is grown = record {
     fresh = fresh;
     stored = (
       record { value = v; next = 0 },
       elim (cases_lt 0 here.len) [
-        | inl some ↦ rw (written some) (get_or-set_other filled here.tail q last_now None (λ same. tail_old some (sym same)) ∙ stored)
+        | inl some ↦
+            let other : q ≢ here.tail = λ same. tail_old some (sym same) in
+            rw (written some) (get_or-set_other filled here.tail q last_now None other ∙ stored)
         | inr none ↦ rw (unwritten (omega arith)) stored
       ],
       refl,
@@ -75,10 +85,11 @@ module _ {T : Type 0} (slots filled : List (Option (Node T))) (ends : List Ends)
     ];
     last = λ some.
         let found = some_of (node_at slots here.tail) (tail_held some) in
-        let still : node_at filled here.tail ≡ Some found.0 = others here.tail (tail_old some) ∙ found.1 in (
+        let still : node_at filled here.tail ≡ Some found.0 = others here.tail (tail_old some) ∙ found.1 in
+        let inside = within_slots filled here.tail (rw still refl) in (
           found.0,
           found.1,
-          rw (written some) (get_or-set_same filled here.tail last_now None (within_slots filled here.tail (rw still refl)) ∙ ap (linked_to q) still),
+          rw (written some) (get_or-set_same filled here.tail last_now None inside ∙ ap (linked_to q) still),
         );
     grown = grown;
   }
@@ -110,7 +121,11 @@ module _ {T : Type 0} (slots later : List (Option (Node T))) (ends : List Ends) 
 
   -- no key of a list is the new one
   not_new : (t i : ℕ) → i < (was t).len → key t i ≢ q
-  not_new t i lt e = let held = sound.held t i lt in let fresh = pushed.fresh in let none : node_at slots (key t i) ≡ None = rw e fresh in cc
+  not_new t i lt e =
+      let held = sound.held t i lt in
+      let fresh = pushed.fresh in
+      let none : node_at slots (key t i) ≡ None = rw e fresh in
+      cc
 
   -- no key of a list is the tail of s but the last of s
   not_tail : (t i : ℕ) → i < (was t).len → (t ≡ s → i + 1 < (was s).len) → 0 < (was s).len → key t i ≢ (was s).tail
@@ -121,12 +136,16 @@ module _ {T : Type 0} (slots later : List (Option (Node T))) (ends : List Ends) 
       absurd (omega arith)
 
   -- each key but the last of s holds what it held
-  node_kept : (t i : ℕ) → i < (was t).len → (t ≡ s → i + 1 < (was s).len) → node_at later (key t i) ≡ node_at slots (key t i)
+  node_kept : (t i : ℕ) → i < (was t).len → (t ≡ s → i + 1 < (was s).len)
+      → node_at later (key t i) ≡ node_at slots (key t i)
   node_kept t i lt before = pushed.others (key t i) (not_new t i lt) (not_tail t i lt before)
 
   -- the keys of each list, from its head on, are as they were
   keys_kept : (t i : ℕ) → i < (was t).len → key_from later (was t).head i ≡ key t i
-  keys_kept t i lt = key_kept slots later (was t).head i (λ j below. node_kept t j (omega arith) (λ e. let l : i < (was s).len = subst (λ u. i < (was u).len) e lt in omega arith))
+  keys_kept t i lt =
+      key_kept slots later (was t).head i (λ j below. node_kept t j (omega arith) (λ e.
+      let here : i < (was s).len = subst (λ u. i < (was u).len) e lt in
+      omega arith))
 
   -- the ends of another server are as they were
   ends_elsewhere : (t : ℕ) → t ≢ s → is t ≡ was t
@@ -142,7 +161,8 @@ module _ {T : Type 0} (slots later : List (Option (Node T))) (ends : List Ends) 
   new_behind (suc m) e =
       let some : 0 < (was s).len = omega arith in
       let m_is : m ≡ (was s).len - 1 = omega arith in
-      let at : key_from later (was s).head m ≡ (was s).tail = keys_kept s m (omega arith) ∙ ap (key s) m_is ∙ sym (sound.tails s some) in
+      let at : key_from later (was s).head m ≡ (was s).tail = keys_kept s m (omega arith) ∙ ap (key s) m_is
+      ∙ sym (sound.tails s some) in
       let last = pushed.last some in
       rw (if_some (suc m) q (was s).head (omega arith)) (key_behind later (was s).head m ∙ rw (at, last.2) refl)
 
@@ -209,11 +229,14 @@ module _ {T : Type 0} (slots later : List (Option (Node T))) (ends : List Ends) 
           let old : 0 < (was t).len = rw (ends_elsewhere t ne) at some in
           rw (ends_elsewhere t ne) (sound.tails t old ∙ sym (keys_kept t ((was t).len - 1) (omega arith)))
     ];
-    counted = omega (arith, sound.counted, pushed.grown, sum_by-set (λ (e : Ends). e.len) ends s (ends_pushed (was s) q) no_ends within);
+    counted =
+        let sums = sum_by-set (λ (e : Ends). e.len) ends s (ends_pushed (was s) q) no_ends within in
+        omega (arith, sound.counted, pushed.grown, sums);
   }
 
   -- the list of s has the new value behind its others
-  list_pushed : (n : ℕ) → n ≡ (was s).len → chain later (n + 1) (if eqb n 0 then q else (was s).head) ≡ chain slots n (was s).head ++ v ∷ []
+  list_pushed : (n : ℕ) → n ≡ (was s).len
+      → chain later (n + 1) (if eqb n 0 then q else (was s).head) ≡ chain slots n (was s).head ++ v ∷ []
   list_pushed zero e = let stored = pushed.stored in rw (stored.1, stored.2) refl
   list_pushed (suc m) e =
       let some : 0 < (was s).len = omega arith in
@@ -222,11 +245,13 @@ module _ {T : Type 0} (slots later : List (Option (Node T))) (ends : List Ends) 
       let last = pushed.last some in
       let stored = pushed.stored in
       rw (if_some (suc m) q (was s).head (omega arith), add-one, ← stored.2)
-      (chain_pushed slots later m (was s).head last.0 q stored.0 (λ j lt. node_kept s j (omega arith) (λ _. omega arith)) (rw at last.1) (rw at last.2) stored.1)
+      (chain_pushed slots later m (was s).head last.0 q stored.0
+      (λ j lt. node_kept s j (omega arith) (λ _. omega arith)) (rw at last.1) (rw at last.2) stored.1)
 
   -- the lists after a push
   pub lists_pushed : lists_of later after ≡ changed_at (λ values. values ++ v ∷ []) (lists_of slots ends) s
   lists_pushed =
-      map_written (list_of slots) (list_of later) (λ values. values ++ v ∷ []) ends s (ends_pushed (was s) q) no_ends within
+      map_written (list_of slots) (list_of later) (λ values. values ++ v ∷ [])
+      ends s (ends_pushed (was s) q) no_ends within
       (list_pushed (was s).len refl)
       (λ t ne lt. chain_kept slots later (was t).len (was t).head (λ j below. node_kept t j below (λ e. absurd (ne e))))

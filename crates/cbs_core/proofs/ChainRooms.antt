@@ -16,7 +16,8 @@ module _ {T : Type 0} where
       rw (get_or-map (λ (_ : Ends). nodes.capacity - slab_len nodes) ends t no_ends 0 lt) (omega arith)
 
   -- a server with room is one of the table
-  within_rooms : (nodes : Slab (Node T)) (ends : List Ends) (t : ℕ) → 0 < room_of (rooms_of nodes ends) t → t < length ends
+  within_rooms : (nodes : Slab (Node T)) (ends : List Ends) (t : ℕ) → 0 < room_of (rooms_of nodes ends) t
+      → t < length ends
   within_rooms nodes ends t has = elim (cases_lt t (length ends)) [
     | inl lt ↦ lt
     | inr ge ↦
@@ -26,9 +27,11 @@ module _ {T : Type 0} where
   ]
 
   -- room for a server is room in the slab
-  pub room_here : (nodes : Slab (Node T)) (ends : List Ends) (t : ℕ) → 0 < room_of (rooms_of nodes ends) t → HasRoomFor nodes 1
+  pub room_here : (nodes : Slab (Node T)) (ends : List Ends) (t : ℕ) → 0 < room_of (rooms_of nodes ends) t
+      → HasRoomFor nodes 1
   room_here nodes ends t has =
-      let here = get_or-map (λ (_ : Ends). nodes.capacity - slab_len nodes) ends t no_ends 0 (within_rooms nodes ends t has) in
+      let within = within_rooms nodes ends t has in
+      let here = get_or-map (λ (_ : Ends). nodes.capacity - slab_len nodes) ends t no_ends 0 within in
       omega arith
 
   -- a slab that keeps its room keeps that of each server

@@ -58,11 +58,14 @@ module _ {T : Type 0} where
   abbrev pub key_at : List (Option (Node T)) → List Ends → ℕ → ℕ → ℕ
   key_at slots ends s i = key_from slots (ends_at ends s).head i
 
-  -- each key of a list holds a value; no key is on two lists or twice on one; the tail is the last key; and no value is on no list
+  -- each key of a list holds a value; no key is on two lists or twice on one; the tail is the last key; and no value
+  -- is on no list
   pub record IsSound (slots : List (Option (Node T))) (ends : List Ends) : Type 0 where
     pub held : (s i : ℕ) → i < (ends_at ends s).len → IsSome (node_at slots (key_at slots ends s i))
-    pub apart : (s t i j : ℕ) → i < (ends_at ends s).len → j < (ends_at ends t).len → key_at slots ends s i ≡ key_at slots ends t j → (s ≡ t) × (i ≡ j)
-    pub tails : (s : ℕ) → 0 < (ends_at ends s).len → (ends_at ends s).tail ≡ key_at slots ends s ((ends_at ends s).len - 1)
+    pub apart : (s t i j : ℕ) → i < (ends_at ends s).len → j < (ends_at ends t).len
+        → key_at slots ends s i ≡ key_at slots ends t j → (s ≡ t) × (i ≡ j)
+    pub tails : (s : ℕ) → 0 < (ends_at ends s).len
+        → (ends_at ends s).tail ≡ key_at slots ends s ((ends_at ends s).len - 1)
     pub counted : sum_by (λ e. e.len) ends ≡ count_by is_some slots
 
   -- for each server, how many more values fit with no allocation: as many as fit the slab

