@@ -1,6 +1,6 @@
 -- Lists of which one element is changed, and two lists place by place.
-use Rattle.std.proofs.Common.{◌≡◌, ◌≢◌, ℕ, zero, suc, ◌<◌, List, [], ◌∷◌, length, map, replicate, get_or, set, refl, ap, ◌∙◌, arith}
-use Rattle.std.proofs.lemmas.List.{length-map, map-id}
+use Rattle.std.proofs.Common.{◌≡◌, ◌≢◌, ℕ, zero, suc, ◌<◌, List, [], ◌∷◌, length, map, replicate, get_or, set, refl, ap, arith}
+use Rattle.std.proofs.lemmas.List.{length-map}
 use Rattle.std.specs.List.{AllZip, AllByRecursion}
 use Rattle.cbs_core.specs.Lists.{changed_at}
 
@@ -27,18 +27,14 @@ changed_elsewhere f (x ∷ xs) zero (suc j) d ne = refl
 changed_elsewhere f (x ∷ xs) (suc i) zero d ne = refl
 changed_elsewhere f (x ∷ xs) (suc i) (suc j) d ne = changed_elsewhere f xs i j d (λ e. ne (ap suc e))
 
-set_changed : {X Y : Type 0} (h : X → Y) (f : Y → Y) (xs : List X) (i : ℕ) (x y : X) → x ≡ get_or xs i x → h y ≡ f (h x) → i < length xs → map h (set xs i y) ≡ changed_at f (map h xs) i
-set_changed h f [] i x y read e lt = absurd (omega arith)
-set_changed h f (z ∷ zs) zero x y read e lt = ap (λ v. v ∷ map h zs) (e ∙ ap (λ v. f (h v)) read)
-set_changed h f (z ∷ zs) (suc i) x y read e lt = ap (λ ws. h z ∷ ws) (set_changed h f zs i x y read e (omega arith))
-
--- an element that was read and written back, as a part of each is seen
-pub part_written : {X Y : Type 0} (h : X → Y) (f : Y → Y) (xs : List X) (i s : ℕ) (x y : X) → i ≡ s → s < length xs → x ≡ get_or xs i x → h y ≡ f (h x) → map h (set xs i y) ≡ changed_at f (map h xs) s
-part_written h f xs i s x y same lt read e = rw same (set_changed h f xs s x y (rw same at read) e lt)
-
--- the same of whole elements
+-- an element that was read and written back, which is the same change
 pub written : {X : Type 0} (f : X → X) (xs : List X) (i s : ℕ) (x y : X) → i ≡ s → s < length xs → x ≡ get_or xs i x → y ≡ f x → set xs i y ≡ changed_at f xs s
-written f xs i s x y same lt read e = simp map-id at (part_written (λ v. v) f xs i s x y same lt read e)
+written f xs i s x y same lt read e = rw (same, e) (here f xs s x lt (rw same at read))
+  where
+    here : {X : Type 0} (f : X → X) (xs : List X) (i : ℕ) (x : X) → i < length xs → x ≡ get_or xs i x → set xs i (f x) ≡ changed_at f xs i
+    here f [] i x lt read = absurd (omega arith)
+    here f (z ∷ zs) zero x lt read = ap (λ v. f v ∷ zs) read
+    here f (z ∷ zs) (suc i) x lt read = ap (λ ws. z ∷ ws) (here f zs i x (omega arith) read)
 
 -- where a list of lists has an element, there is a list
 pub within_lists : {X : Type 0} (lists : List (List X)) (s : ℕ) → 0 < length (get_or lists s []) → s < length lists

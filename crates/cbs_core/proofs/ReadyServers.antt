@@ -4,13 +4,13 @@ use Rattle.std.proofs.lemmas.Bool.{cases_Bool}
 use Rattle.std.proofs.lemmas.Bool.Decides.{nat_tests}
 use Rattle.std.proofs.lemmas.List.{get_or-set_same, get_or-set_other}
 use Rattle.std.specs.List.{AllByRecursion}
-use Rattle.cbs_rules.specs.Rules.{is_renewed}
+use Rattle.cbs_rules.specs.Rules.{Terms, is_renewed}
 use Rattle.cbs_core.specs.declared.ready_list.Entry.{Entry}
 use Rattle.cbs_core.specs.Choice.{Rank, rank_at, is_before, chosen_among, IsEarliest, IsChoice}
-use Rattle.cbs_core.specs.Faces.{Face, no_face, face_at, is_active, is_ready, ready_by, ranks, with_job, with_replenishment}
+use Rattle.cbs_core.specs.Faces.{Face, no_face, face_at, new_face, is_active, is_ready, ready_by, ranks, with_job, with_replenishment}
 use Rattle.cbs_core.specs.ReadyList.{is_ahead, listed, first_of, IsOrdered, ListsReady, IsNotDueBefore, NoneDueBefore}
 use Rattle.cbs_core.proofs.Choices.{chosen_best}
-use Rattle.cbs_core.proofs.Faces.{length-ranks, rank_ready, IsChosen, chosen_is}
+use Rattle.cbs_core.proofs.Faces.{length-ranks, rank_ready}
 use Rattle.cbs_core.proofs.ReadyList.{first_ahead, rest_other}
 
 -- a server's deadline, as the choice sees it
@@ -71,11 +71,14 @@ pub first_chosen : (fs : List Face) (es : List Entry) (s : ℕ) → ListsReady e
 first_chosen fs es s lists h = chosen_listed fs es lists ∙ h
 
 -- and there, and ready
-pub ready_chosen : (fs : List Face) (es : List Entry) (s : ℕ) → ListsReady es fs → chosen_among (ranks fs) ≡ Some s → IsChosen fs s
-ready_chosen fs es s lists h = chosen_is fs s (subst (λ o. IsChoice (ranks fs) (length fs) o) (first_chosen fs es s lists h) (choice_listed fs es lists))
+chosen_earliest : (fs : List Face) (es : List Entry) (s : ℕ) → ListsReady es fs → chosen_among (ranks fs) ≡ Some s → IsEarliest (ranks fs) (length fs) s
+chosen_earliest fs es s lists h = subst (λ o. IsChoice (ranks fs) (length fs) o) (first_chosen fs es s lists h) (choice_listed fs es lists)
 
 pub within_chosen : (fs : List Face) (es : List Entry) (s : ℕ) → ListsReady es fs → chosen_among (ranks fs) ≡ Some s → s < length fs
-within_chosen fs es s lists h = (ready_chosen fs es s lists h).within
+within_chosen fs es s lists h = (chosen_earliest fs es s lists h).within
+
+pub ready_chosen : (fs : List Face) (es : List Entry) (s : ℕ) → ListsReady es fs → chosen_among (ranks fs) ≡ Some s → is_ready (face_at fs s) ≡ true
+ready_chosen fs es s lists h = sym (rank_ready fs s) ∙ (chosen_earliest fs es s lists h).ready
 
 -- one server and its entry change
 pub lists_set : (fs : List Face) (es es' : List Entry) (i : ℕ) (f : Face) → ListsReady es fs → i < length fs → IsOrdered es' → listed es' i ≡ ready_by f
@@ -92,9 +95,18 @@ lists_set fs es es' i f lists lt sorted here others = record {
   ];
 }
 
--- nobody is ready among new servers
-pub lists_new : (fs : List Face) → ((s : ℕ) → is_ready (face_at fs s) ≡ false) → ListsReady [] fs
-lists_new fs none = record { ordered = tt; each = λ s. rw (none s) refl }
+-- nobody is ready among new servers, nor due
+new_idle : (ts : List Terms) (s : ℕ) → is_ready (face_at (map new_face ts) s) ≡ false
+new_idle [] s = refl
+new_idle (t ∷ ts) zero = refl
+new_idle (t ∷ ts) (suc s) = new_idle ts s
+
+pub lists_new : (ts : List Terms) → ListsReady [] (map new_face ts)
+lists_new ts = record { ordered = tt; each = λ s. rw (new_idle ts s) refl }
+
+pub due_new : (tick : ℕ) (ts : List Terms) → NoneDueBefore tick (map new_face ts)
+due_new tick [] = tt
+due_new tick (t ∷ ts) = (λ throttled. absurd (cc), due_new tick ts)
 
 -- one server changes, and is not due before
 pub due_set : (tick : ℕ) (fs : List Face) (i : ℕ) (f : Face) → NoneDueBefore tick fs → IsNotDueBefore tick f → NoneDueBefore tick (set fs i f)

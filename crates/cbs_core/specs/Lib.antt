@@ -1,5 +1,6 @@
 pub mod Accounts
 pub mod Agreement
+pub mod Chains
 pub mod Choice
 pub mod Continuations
 pub mod Errors
@@ -9,6 +10,7 @@ pub mod History
 pub mod IdleSpans
 pub mod Invariant
 pub mod Laws
+pub mod Lends
 pub mod Lists
 pub mod Queues
 pub mod Quiet

@@ -2,6 +2,7 @@
 //! by earliest deadline, and the clock.
 #![tactic(auto)]
 
+mod chains;
 mod error;
 mod executor;
 mod queues;

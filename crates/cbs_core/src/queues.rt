@@ -1,31 +1,28 @@
 //! The jobs of all servers, in one queue for each.
 
-ghost use Rattle.std.specs.Prelude.{◌≡◌, ◌-◌, ◌<◌, ◌≤◌, [], ◌∷◌, ◌++◌, length, replicate, IfOk, OnOk, IsOk};
+ghost use Rattle.std.specs.Prelude.{◌≡◌, ◌<◌, [], ◌∷◌, ◌++◌, length, replicate, IfOk, OnOk, IsOk};
 ghost use Rattle.std.specs.List.{AllByRecursion};
-ghost use Rattle.std.specs.VecDeque.{deque_len, deque_capacity};
 ghost use Rattle.cbs_core.specs.Held.{room_of, KeepsRoom};
 ghost use Rattle.cbs_core.specs.Lists.{changed_at};
 ghost use Rattle.cbs_core.specs.Queues.{list_at, jobs_run, result_run};
 
+use crate::chains::Chains;
 use cbs_job::{Running, Task, Work};
 use std::alloc::{AllocError, Allocator, Global};
-use std::collections::VecDeque;
 use std::marker::Model;
 
 /// The jobs of all servers, in one queue for each.
 #[derive(Drop)]
 pub struct Queues<W: Work, A: Allocator = Global> {
-    queues: Vec<VecDeque<Running<W>, A>, A>,
+    jobs: Chains<Running<W>, A>,
 }
 
 impl<W: Work, A: Allocator> Model for Queues<W, A> {
-    ghost use Rattle.std.specs.Prelude.{◌-◌, map};
-    ghost use Rattle.std.specs.VecDeque.{deque_len, deque_capacity};
     ghost use Rattle.cbs_core.specs.Queues.{Queued};
 
     ghost Value = { Queued W };
 
-    ghost view = { λ q. record { lists = map (λ d. d.items) q.queues.items; rooms = map (λ d. deque_capacity d - deque_len d) q.queues.items } };
+    ghost view = { λ q. q.jobs };
 }
 
 impl<W: Work, A: Allocator> Queues<W, A> {
@@ -35,11 +32,9 @@ impl<W: Work, A: Allocator> Queues<W, A> {
         A: Clone,
         ensures empty { IfOk result (λ q. q.lists ≡ replicate servers []) }
     {
-        let mut queues = Vec::with_capacity(alloc.clone()?, usize::from(servers))?;
-        for _server in 0..servers {
-            queues.push(VecDeque::new(alloc.clone()?))?;
-        }
-        Ok(Queues { queues })
+        Ok(Queues {
+            jobs: Chains::new(alloc, servers)?,
+        })
     }
 
     /// Makes room for one more job of a server.
@@ -50,8 +45,7 @@ impl<W: Work, A: Allocator> Queues<W, A> {
         ensures kept { KeepsRoom self.old.rooms self.new.rooms }
         ensures succeeds { 0 < room_of self.old.rooms server → IsOk result }
     {
-        let queue = &mut self.queues[usize::from(server)];
-        queue.reserve(1)
+        self.jobs.reserve(server)
     }
 
     /// Puts a job at the end of a server's queue. There must be room for it.
@@ -61,12 +55,12 @@ impl<W: Work, A: Allocator> Queues<W, A> {
         ensures lists { self.new.lists ≡ changed_at (λ jobs. jobs ++ task ∷ []) self.old.lists server }
         ensures some { 0 < W.meaning.left task }
     {
-        let queue = &mut self.queues[usize::from(server)];
-        queue.push_back_reserved(task.start());
+        self.jobs.push(server, task.start());
     }
 
     /// Runs one unit of the first job of a server. If that was its last, the job leaves the queue,
     /// and its output is answered.
+    #[tactic(auto, using(crate::proofs::QueueRuns::job_there))]
     pub fn run_first(&mut self, server: u16) -> Option<u64>
         requires some { 0 < length (list_at self.old.lists server) }
         requires unfinished { AllByRecursion (λ w. 0 < W.meaning.left w) (list_at self.old.lists server) }
@@ -74,25 +68,13 @@ impl<W: Work, A: Allocator> Queues<W, A> {
         ensures result { result ≡ result_run W.meaning (list_at self.old.lists server) }
         ensures kept { KeepsRoom self.old.rooms self.new.rooms }
     {
-        let queue = &mut self.queues[usize::from(server)];
-        run_front(queue)
+        let job = self.jobs.first_mut(server);
+        job.step();
+        if job.left() > 0 {
+            return None;
+        }
+        let result = job.output();
+        self.jobs.pop(server);
+        Some(result)
     }
-}
-
-/// Runs one unit of the first job of a queue. If that was its last, the job leaves the queue.
-fn run_front<W: Work, A: Allocator>(queue: &mut VecDeque<Running<W>, A>) -> Option<u64>
-    requires some { 0 < length queue.old.items }
-    requires unfinished { AllByRecursion (λ w. 0 < W.meaning.left w) queue.old.items }
-    ensures jobs { queue.new.items ≡ jobs_run W.meaning queue.old.items }
-    ensures result { result ≡ result_run W.meaning queue.old.items }
-    ensures room { deque_capacity queue.old - deque_len queue.old ≤ deque_capacity queue.new - deque_len queue.new }
-{
-    let job = &mut queue[0];
-    job.step();
-    if job.left() > 0 {
-        return None;
-    }
-    let result = job.output();
-    queue.pop_front();
-    Some(result)
 }

@@ -140,39 +140,54 @@ fn steps_that_find_no_memory_come_back(rt: HostRuntime) {
     answers(&rt, &mut core, refused.steps, &wanted);
 }
 
+/// Submits sums of 1 to the first server until memory is refused.
+fn takes_all_room(rt: &impl Abort, alloc: Global, core: &mut Core<SumJob, &LocalHeap>) -> u64 {
+    for taken in 0..64 {
+        if let Err(refused) = core.submit(0, sum_of(rt, alloc, &[1])) {
+            same(rt, "refused.error", refused.error, CoreError::OutOfMemory);
+            return taken;
+        }
+    }
+    64
+}
+
 #[test]
 fn a_step_that_finds_no_memory_is_marked(rt: HostRuntime) {
     let alloc = rt.alloc();
-    let heap = LocalHeap::new(alloc, 1 << 12).expect(&rt, "a heap");
-    let mut core = core_of(&rt, &heap, Mode::Soft, &[(2, 5), (2, 5)], 4);
+    let heap = LocalHeap::new(alloc, 1 << 13).expect(&rt, "a heap");
+    let mut core = core_of(&rt, &heap, Mode::Soft, &[(2, 5), (2, 5)], 64);
     let asked = [
-        Asked::Submit(0, 1),
+        Asked::Submit(1, 2),
+        Asked::Run,
         Asked::Submit(1, 2),
         Asked::Submit(0, 3),
         Asked::Run,
+        Asked::Submit(0, 3),
         Asked::Run,
-        Asked::Run,
-    ];
-    let wanted = [
-        Told::Accepted(0),
-        Told::NotAccepted(CoreError::OutOfMemory),
-        Told::Accepted(1),
-        Told::Ran(done(0, 0, 1)),
-        Told::Ran(done(0, 1, 3)),
-        Told::Ran(Ran::Idle),
     ];
     let steps = steps_of(&rt, alloc, &heap, &asked);
-    makes_room(&rt, &mut core, 0, Ok(()));
+    makes_room(&rt, &mut core, 1, Ok(()));
 
-    // What is left of the heap is as long as the replies: only the second server finds no memory.
+    // What is left of the heap is as long as the replies: no job finds memory. Room is found again where a job is done, and it
+    // is the next job's, of whatever server.
     let replies: Vec<Reply<SumJob>, &LocalHeap> = Vec::with_capacity(&heap, asked.len()).expect(
         &rt, "memory",
     );
     let ballast = filled(&rt, alloc, &heap);
+    let taken = takes_all_room(&rt, alloc, &mut core);
     drop(replies);
+    let wanted = [
+        Told::NotAccepted(CoreError::OutOfMemory),
+        Told::Ran(done(0, 0, 1)),
+        Told::Accepted(0),
+        Told::NotAccepted(CoreError::OutOfMemory),
+        Told::Ran(done(0, 1, 1)),
+        Told::Accepted(taken),
+        Told::Ran(done(1, 0, 2)),
+    ];
     answers(&rt, &mut core, steps, &wanted);
-    stands_at(&rt, &core, 2);
+    stands_at(&rt, &core, 3);
     shows(&rt, &core, 0, (2, 10, false));
-    shows(&rt, &core, 1, (0, 0, false));
+    shows(&rt, &core, 1, (1, 6, false));
     drop(ballast);
 }

@@ -100,3 +100,57 @@ fn three_throttled_servers_take_turns(rt: HostRuntime) {
     stands_at(&rt, &core, 7);
     shows(&rt, &core, 0, (0, 12, true));
 }
+
+/// Submits a sum of one number, and looks for the number that it gets, and then at budget, deadline and clock.
+fn takes(
+    rt: &impl Abort,
+    alloc: Global,
+    core: &mut Core<SumJob>,
+    (server, number): (u16, u32),
+    seq: u64,
+    (budget, deadline, now): (u64, u64, u64),
+) {
+    accepts(rt, core, server, sum_of(rt, alloc, &[number]), seq);
+    same(
+        rt,
+        "state(rt, core, server)",
+        state(rt, core, server),
+        (budget, deadline, false),
+    );
+    same(rt, "core.now()", core.now(), now);
+}
+
+/// Runs a unit, and looks for the job that is done, and then at budget, deadline and clock.
+fn does(
+    rt: &impl Abort,
+    core: &mut Core<SumJob>,
+    (server, seq, output): (u16, u64, u64),
+    (budget, deadline, now): (u64, u64, u64),
+) {
+    same(rt, "core.run()", core.run(), done(server, seq, output));
+    same(
+        rt,
+        "state(rt, core, server)",
+        state(rt, core, server),
+        (budget, deadline, false),
+    );
+    same(rt, "core.now()", core.now(), now);
+}
+
+#[test]
+fn jobs_of_two_servers_keep_their_order(rt: HostRuntime) {
+    let alloc = rt.alloc();
+    let mut core = core_of(&rt, alloc, Mode::Soft, &[(2, 5), (2, 5)], 4);
+    takes(&rt, alloc, &mut core, (0, 1), 0, (2, 5, 0));
+    takes(&rt, alloc, &mut core, (1, 2), 0, (2, 5, 0));
+    takes(&rt, alloc, &mut core, (0, 3), 1, (2, 5, 0));
+    does(&rt, &mut core, (0, 0, 1), (1, 5, 1));
+
+    // The place of the finished job is free for the next one.
+    takes(&rt, alloc, &mut core, (0, 4), 2, (1, 5, 1));
+    takes(&rt, alloc, &mut core, (1, 5), 1, (2, 5, 1));
+    does(&rt, &mut core, (0, 1, 3), (2, 10, 2));
+    does(&rt, &mut core, (1, 0, 2), (1, 5, 3));
+    does(&rt, &mut core, (1, 1, 5), (2, 10, 4));
+    does(&rt, &mut core, (0, 2, 4), (1, 10, 5));
+}

@@ -1,4 +1,4 @@
-use Rattle.std.proofs.Common.{◌≡◌, ◌+◌, map, is_some}
+use Rattle.std.proofs.Common.{◌≡◌, ◌+◌, map, is_some, sym}
 use Rattle.cbs_core.specs.Lists.{changed_at}
 use Rattle.cbs_core.specs.Faces.{face_at, with_unit, with_replenishment}
 use Rattle.cbs_core.specs.Queues.{list_at, result_run, ran_of}
@@ -35,7 +35,7 @@ finished-seq-requires g c = c.in-Some.ensures.choice.within
 pub use_tick-requires : goal.use_tick-requires
 use_tick-requires g c =
     let may = may_run c.self.invariant c.in-Some.ensures.choice c.if-self-ge-LIMIT.false in
-    record { within = may.within; ready = may.ready; some = may.budget; room = may.room }
+    record { chosen = sym c.in-Some.ensures.first; some = may.budget; room = may.room }
 
 -- what the servers show after the unit and the replenishment
 shown : (g : Over) (c : goal.After-ran_from g) → c.replenish.new.self ≡ map (with_replenishment (c.self.inside.clock + 1))

@@ -9,9 +9,11 @@ pub use_tick-requires-clause-ready : goal.use_tick-requires-clause-ready
 use_tick-requires-clause-ready g c =
     let fs = c.self.inside.servers.items in
     let s = c.args.server in
-    let chosen = ready_chosen fs c.self.inside.ready s c.self.invariant.1 (rw (← c.self.view_is) at c.requires.chosen) in
+    let first = rw (← c.self.view_is) at c.requires.chosen in
+    let ready = ready_chosen fs c.self.inside.ready s c.self.invariant.1 first in
+    let within = within_chosen fs c.self.inside.ready s c.self.invariant.1 first in
     let read = rw c.from.ensures at c.index_mut-it.ensures.value in
-    rw (get_or_read fs s c.index_mut-it.result.now chosen.within read no_face) chosen.ready
+    rw (get_or_read fs s c.index_mut-it.result.now within read no_face) ready
 
 pub follow-requires-clause-first : goal.follow-requires-clause-first
 follow-requires-clause-first g c =
