@@ -1,11 +1,10 @@
 -- The choice: by a scan, and in words of its own.
-use Rattle.std.proofs.Common.{◌≡◌, ℕ, zero, suc, ◌+◌, ◌≤◌, ◌<◌, Bool, true, false, List, length, refl, sym, arith, ltb, ◌||◌, ◌&&◌, not, inl, inr, Option, Some, None, below_more, subst, add-one}
-use Rattle.std.specs.Prelude.{IfSome}
+use Rattle.std.proofs.Common.{◌≡◌, ℕ, zero, suc, ◌+◌, ◌≤◌, ◌<◌, Bool, true, false, List, length, refl, sym, arith, ltb, ◌||◌, ◌&&◌, not, inl, inr, Option, Some, None, below_more, subst, add-one, if◌then◌else◌}
 use Rattle.std.proofs.Math.Bool.{and-false}
 use Rattle.std.proofs.lemmas.Bool.{cases_lt, cases_Bool}
 use Rattle.std.proofs.lemmas.Bool.Decides.{nat_tests}
 use Rattle.cbs_core.specs.Lists.{first_below, all_below}
-use Rattle.cbs_core.specs.Choice.{Rank, rank_at, is_before, is_first, chosen_among, better_of, IsEarliest, IsChoice}
+use Rattle.cbs_core.specs.Choice.{Rank, rank_at, is_before, is_first, chosen_among, IsEarliest, IsChoice}
 
 -- what holds of each number below a bound, all_below says
 all_below-is : (p : ℕ → Bool) (n : ℕ) → ((r : ℕ) → r < n → p r ≡ true) → all_below p n ≡ true
@@ -60,6 +59,11 @@ pub chosen_best : (ranks : List Rank) (best : Option ℕ) → IsChoice ranks (le
 chosen_best ranks None none = sym (first_below-none (is_first ranks) (length ranks) (λ r lt. rw (none r lt)))
 chosen_best ranks (Some s) best = sym (first_below-is (is_first ranks) (length ranks) s best.within (first_by ranks s best) (earlier_not ranks s best))
 
+-- the better of the best so far and server i
+abbrev better_of : List Rank → Option ℕ → ℕ → Option ℕ
+better_of ranks None i = if (rank_at ranks i).ready then Some i else None
+better_of ranks (Some b) i = if (rank_at ranks i).ready && ltb (rank_at ranks i).deadline (rank_at ranks b).deadline then Some i else Some b
+
 before_itself : (ranks : List Rank) (i : ℕ) → is_before ranks i i ≡ true
 before_itself ranks i = grind (arith, nat_tests)
 
@@ -89,7 +93,7 @@ module _ (ranks : List Rank) (i : ℕ) where
   }
 
   -- the better of the choice among the first i servers and server i is the choice among one more
-  pub better_best : (best : Option ℕ) → IsChoice ranks i best → IsChoice ranks (i + 1) (better_of ranks best i)
+  better_best : (best : Option ℕ) → IsChoice ranks i best → IsChoice ranks (i + 1) (better_of ranks best i)
   better_best None h =
       elim (cases_Bool (rank_at ranks i).ready) [
         | inl t ↦ rw t (best_new t (λ r lt on. let off = h r lt in cc))
@@ -102,11 +106,6 @@ module _ (ranks : List Rank) (i : ℕ) where
             rw t (best_new (grind (arith, nat_tests)) (λ r lt on. before_along ranks i b r earlier (h.first r lt on)))
         | inr f ↦ rw f (best_old b h (λ on. grind (arith, nat_tests)))
       ]
-
-  -- a choice among the first n servers is one of them
-  pub best_within : (n : ℕ) (best : Option ℕ) → IsChoice ranks n best → IfSome best (λ b. b < n)
-  best_within n None h = tt
-  best_within n (Some b) h = h.within
 
 -- there is a choice among the first n servers: the scan finds it
 found_choice : (ranks : List Rank) (n : ℕ) → (best : Option ℕ) × IsChoice ranks n best

@@ -1,17 +1,16 @@
 -- The list of the ready servers, and when somebody is due, as servers change.
-use Rattle.std.proofs.Common.{◌≡◌, ◌≢◌, ℕ, zero, suc, ◌+◌, ◌<◌, ◌≤◌, Bool, true, false, ◌&&◌, leb, eqb, List, [], ◌∷◌, length, map, get_or, set, take, Option, Some, None, if◌then◌else◌, refl, sym, ap, ap₂, ◌∙◌, subst, inl, inr, arith}
+use Rattle.std.proofs.Common.{◌≡◌, ◌≢◌, ℕ, zero, suc, ◌<◌, ◌≤◌, true, false, leb, eqb, List, [], ◌∷◌, length, map, get_or, set, take, Some, None, refl, sym, ap, ap₂, ◌∙◌, subst, inl, inr, arith}
 use Rattle.std.proofs.lemmas.Bool.{cases_Bool}
 use Rattle.std.proofs.lemmas.Bool.Decides.{nat_tests}
 use Rattle.std.proofs.lemmas.List.{get_or-set_same, get_or-set_other}
-use Rattle.std.specs.List.{AllByRecursion}
 use Rattle.cbs_rules.specs.Rules.{Terms, is_renewed}
 use Rattle.cbs_core.specs.declared.ready_list.Entry.{Entry}
-use Rattle.cbs_core.specs.Choice.{Rank, rank_at, is_before, chosen_among, IsEarliest, IsChoice}
+use Rattle.cbs_core.specs.Choice.{rank_at, chosen_among, IsEarliest, IsChoice}
 use Rattle.cbs_core.specs.Faces.{Face, no_face, face_at, new_face, is_active, is_ready, ready_by, ranks, with_job, with_replenishment}
-use Rattle.cbs_core.specs.ReadyList.{is_ahead, listed, first_of, IsOrdered, ListsReady, IsNotDueBefore, NoneDueBefore}
+use Rattle.cbs_core.specs.ReadyList.{listed, first_of, IsOrdered, ListsReady, IsNotDueBefore, NoneDueBefore}
 use Rattle.cbs_core.proofs.Choices.{chosen_best}
 use Rattle.cbs_core.proofs.Faces.{length-ranks, rank_ready}
-use Rattle.cbs_core.proofs.ReadyList.{first_ahead, rest_other}
+use Rattle.cbs_core.proofs.ReadyList.{first_ahead}
 
 -- a server's deadline, as the choice sees it
 rank_deadline : (fs : List Face) (s : ℕ) → (rank_at (ranks fs) s).deadline ≡ (face_at fs s).state.deadline
@@ -155,9 +154,9 @@ pub due_job : (tick now : ℕ) (f : Face) → IsNotDueBefore tick f → IsNotDue
 due_job tick now f h t = elim (cases_Bool (is_active f)) [
   | inl a ↦ rw a (h (rw a at t))
   | inr a ↦ elim (cases_Bool f.state.throttled) [
-      | inl u ↦ rw (a, u) (h u)
-      | inr u ↦ absurd (arrived_free now f a u t)
-    ]
+    | inl u ↦ rw (a, u) (h u)
+    | inr u ↦ absurd (arrived_free now f a u t)
+  ]
 ]
 
 -- the first i are changed, and the others not yet

@@ -1,5 +1,5 @@
 -- Which server runs: earliest deadline first (Liu and Layland, JACM 1973), and of equal deadlines the lower number.
-use Rattle.std.specs.Prelude.{◌≡◌, ℕ, ◌<◌, Bool, true, false, not, ◌&&◌, ◌||◌, eqb, leb, ltb, if◌then◌else◌, List, length, get_or, Option, Some, None}
+use Rattle.std.specs.Prelude.{◌≡◌, ℕ, ◌<◌, Bool, true, false, not, ◌&&◌, ◌||◌, eqb, leb, ltb, List, length, get_or, Option, Some, None}
 use Rattle.cbs_core.specs.Lists.{all_below, first_below}
 
 -- what the choice looks at in each server
@@ -36,8 +36,3 @@ pub record IsEarliest (ranks : List Rank) (n s : ℕ) : Type 0 where
 abbrev pub IsChoice : List Rank → ℕ → Option ℕ → Type 0
 IsChoice ranks n None = (r : ℕ) → r < n → (rank_at ranks r).ready ≡ false
 IsChoice ranks n (Some s) = IsEarliest ranks n s
-
--- the better of the best so far and server i. A private word of this crate
-abbrev pub better_of : List Rank → Option ℕ → ℕ → Option ℕ
-better_of ranks None i = if (rank_at ranks i).ready then Some i else None
-better_of ranks (Some b) i = if (rank_at ranks i).ready && ltb (rank_at ranks i).deadline (rank_at ranks b).deadline then Some i else Some b

@@ -76,8 +76,7 @@ impl ReadyList {
         match (was, is) {
             (None, Some(deadline)) => self.insert(server, deadline),
             (Some(_), None) => self.remove_first(),
-            (Some(old), Some(deadline)) if old != deadline =>
-                self.postpone_first(server, deadline),
+            (Some(old), Some(deadline)) if old != deadline => self.postpone_first(server, deadline),
             _ => {}
         }
     }

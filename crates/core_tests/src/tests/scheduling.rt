@@ -111,13 +111,8 @@ fn takes(
     (budget, deadline, now): (u64, u64, u64),
 ) {
     accepts(rt, core, server, sum_of(rt, alloc, &[number]), seq);
-    same(
-        rt,
-        "state(rt, core, server)",
-        state(rt, core, server),
-        (budget, deadline, false),
-    );
-    same(rt, "core.now()", core.now(), now);
+    shows(rt, core, server, (budget, deadline, false));
+    stands_at(rt, core, now);
 }
 
 /// Runs a unit, and looks for the job that is done, and then at budget, deadline and clock.
@@ -127,14 +122,9 @@ fn does(
     (server, seq, output): (u16, u64, u64),
     (budget, deadline, now): (u64, u64, u64),
 ) {
-    same(rt, "core.run()", core.run(), done(server, seq, output));
-    same(
-        rt,
-        "state(rt, core, server)",
-        state(rt, core, server),
-        (budget, deadline, false),
-    );
-    same(rt, "core.now()", core.now(), now);
+    runs(rt, core, done(server, seq, output));
+    shows(rt, core, server, (budget, deadline, false));
+    stands_at(rt, core, now);
 }
 
 #[test]

@@ -1,5 +1,4 @@
 use Rattle.std.proofs.Common.{◌≡◌, refl, arith}
-use Rattle.std.specs.List.{insert}
 use Rattle.cbs_core.specs.declared.ready_list.Entry.{Entry}
 use Rattle.cbs_core.proofs.ReadyList.{entered, unlisted, listed-here, listed-other, place_for, insert-entered, ordered-entered, known-entered}
 use Rattle.cbs_core.proofs.ready_list.ReadyList.insert.Goals as goal
@@ -18,7 +17,7 @@ invariant_of-self c =
     let none = rw (← c.self.view_is) at c.requires.absent in
     let place = rw c.deref.ensures.0 at c.place_of-place.ensures in
     rw (c.insert.ensures.items, insert-entered x es c.place_of-place.result place.bound place.value (unlisted c.args.server es none))
-       (ordered-entered x es c.self.invariant.0 none, known-entered 64 x es c.requires.known c.self.invariant.1)
+    (ordered-entered x es c.self.invariant.0 none, known-entered 64 x es c.requires.known c.self.invariant.1)
 
 -- what the entries are after it
 entries_are : (c : goal.After-insert) → c.insert.new.self.items ≡ entered (record { deadline = c.args.deadline; server = c.args.server }) c.args.self.now

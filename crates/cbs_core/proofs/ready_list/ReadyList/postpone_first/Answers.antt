@@ -22,7 +22,7 @@ invariant_of-self c =
     let first = rw (← c.self.view_is) at c.requires in
     let none = rest_here c.args.server es c.self.invariant.0 first in
     rw (refilled es c.replace_first.new.entries (rw c.deref_mut.ensures.value at c.replace_first.auto.entries), entries_are c)
-       (ordered-entered x (drop 1 es) (rest_ordered es c.self.invariant.0) none, known-entered 64 x (drop 1 es) (first_known 64 c.args.server es first c.self.invariant.1) (rest_known 64 es c.self.invariant.1))
+    (ordered-entered x (drop 1 es) (rest_ordered es c.self.invariant.0) none, known-entered 64 x (drop 1 es) (first_known 64 c.args.server es first c.self.invariant.1) (rest_known 64 es c.self.invariant.1))
 
 -- what the list is after it
 list_is : (c : goal.After-self-1) →

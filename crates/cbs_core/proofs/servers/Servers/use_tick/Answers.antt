@@ -1,4 +1,4 @@
-use Rattle.std.proofs.Common.{◌≡◌, ◌≤◌, ◌<◌, length, get_or, Some, ◌∙◌, sym, inr, rules, arith, subst}
+use Rattle.std.proofs.Common.{◌∙◌, sym, inr, rules, arith}
 use Rattle.std.proofs.lemmas.List.{get_or_read}
 use Rattle.cbs_core.specs.Faces.{no_face, with_unit}
 use Rattle.cbs_core.proofs.Lists.{written}
