@@ -18,4 +18,3 @@ returns-clause-clients g c = grind (arith, common_steps)
 
 pub returns-clause-jobs : goal.returns-clause-jobs
 returns-clause-jobs g c = grind (arith, common_steps)
--- x

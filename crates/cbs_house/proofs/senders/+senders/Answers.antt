@@ -26,4 +26,3 @@ send_all-returns-clause-sends g t c =
     let parts = c.split_at_mut-front in
     let sent = c.send_both-a in
     rw parts.ensures.value (sends_both c.args.turns parts.result.0.now sent.new.front parts.result.1.now sent.new.back sent.ensures.sends.0 sent.ensures.sends.1)
--- x

@@ -19,4 +19,3 @@ loop-preserved g c =
       ];
       most = elim c.if-turn.branch [ then-turn w ↦ omega (arith, l.most, w.sent-is) | else-turn w ↦ omega (arith, l.most, w.sent-is) ];
     }
--- x
