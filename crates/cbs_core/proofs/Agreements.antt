@@ -26,6 +26,7 @@ use Rattle.cbs_core.proofs.PaidUnits.{paid_after}
 use Rattle.cbs_core.proofs.Lists.{map-changed_at, AllZip-length, AllZip-get, AllZip-map, AllZip-replicate, AllZip-changed_at, AllZip-changed_second}
 use Rattle.cbs_core.proofs.HeldJobs.{unit_jobs, unit_face, unit_ran, job_jobs, job_face}
 
+-- a choice between two that are the same is that one, whichever way it goes
 cond_same : {X : Type 0} {x : X} (b : Bool) → cond b x x ≡ x
 cond_same true = refl
 cond_same false = refl
@@ -55,6 +56,7 @@ module _ {W : Type 0} (work : Meaning W) where
 
 -- n ticks are one jump
 module _ {W : Type 0} where
+  -- a replenishment of all at tick k and then at tick m, no earlier, leaves what the one at m alone leaves
   all_twice : (k m : ℕ) (accounts : List (Account W)) → k ≤ m → map (account_with_replenishment m) (map (account_with_replenishment k) accounts) ≡ map (account_with_replenishment m) accounts
   all_twice k m [] h = refl
   all_twice k m (a ∷ accounts) h = rw (replenished_twice a.terms.reservation k m a.state h, all_twice k m accounts h)
@@ -63,6 +65,7 @@ module _ {W : Type 0} where
   abbrev pub jumped : ℕ → World W → World W
   jumped n w = record { now = w.now + n; accounts = map (account_with_replenishment (w.now + n)) w.accounts }
 
+  -- n + 1 ticks are one jump by n + 1
   ticks_jump : (n : ℕ) (w : World W) → ticks (suc n) w ≡ jumped (suc n) w
   unfolding ticks
   ticks_jump zero w = refl
@@ -97,9 +100,11 @@ module _ {W : Type 0} {work : Meaning W} {core held : CoreHeld W} {M : History W
   pub face_is : (s : ℕ) → face_of work (account w.accounts s) ≡ face_at core.faces s
   face_is s = sym (account_face work w.accounts s) ∙ ap (λ fs. face_at fs s) (sym agrees.shown)
 
+  -- each server that the core shows has a queue
   within_queues : (s : ℕ) → s < length core.faces → s < length core.queues
   within_queues s lt = let e = ap length agrees.shown in omega (arith, length-map w.accounts (face_of work), AllZip-length (AgreesJobs work) core.queues w.accounts agrees.jobs)
 
+  -- the jobs held of each server agree with its account
   jobs_are : (s : ℕ) → s < length core.faces → AgreesJobs work (list_at core.queues s) (account w.accounts s)
   jobs_are s lt = AllZip-get (AgreesJobs work) core.queues w.accounts s [] no_account agrees.jobs (within_queues s lt)
 
@@ -136,6 +141,7 @@ module _ {W : Type 0} {work : Meaning W} {core held : CoreHeld W} {M : History W
         let same = ap (λ (f : Face). ran_of s f.finished (result_run work (list_at core.queues s))) (sym (face_is s)) in
         ap reply.Ran (is ∙ same ∙ here) ∙ rw n at (reply_by (Some s) e)
 
+    -- the run leaves the world after a unit of server s and a tick
     next_early : world_after work (M ⊕ Run) ≡ after_run w (Some s)
     next_early =
         let n : ltb w.now clock_end ≡ true = let c = agrees.clock in let k = may.early in grind (arith, nat_tests) in
@@ -222,6 +228,7 @@ module _ {W : Type 0} {work : Meaning W} {core held : CoreHeld W} {M : History W
 
   -- a close of s, by why it is refused
   module _ (s : ℕ) (o : Option CoreError) (e : o ≡ close_refusal core.faces s) where
+    -- by what the accounts show, the close is refused for the same reason, or not refused either
     same_closing : close_refusal (faces work w) s ≡ o
     same_closing = sym (e ∙ rw agrees.shown refl)
 

@@ -27,6 +27,7 @@ first_below-is p (suc n) s lt h before =
           rw (first_below-none p n (λ r below. before r (omega arith)), e, h)
     ]
 
+-- where one number below a bound fails, not all below it pass
 all_below-not : (p : ℕ → Bool) (n s : ℕ) → s < n → p s ≡ false → all_below p n ≡ false
 all_below-not p zero s lt h = absurd (omega arith)
 all_below-not p (suc n) s lt h =
@@ -64,6 +65,7 @@ abbrev better_of : List Rank → Option ℕ → ℕ → Option ℕ
 better_of ranks None i = if (rank_at ranks i).ready then Some i else None
 better_of ranks (Some b) i = if (rank_at ranks i).ready && ltb (rank_at ranks i).deadline (rank_at ranks b).deadline then Some i else Some b
 
+-- each server is before itself
 before_itself : (ranks : List Rank) (i : ℕ) → is_before ranks i i ≡ true
 before_itself ranks i = grind (arith, nat_tests)
 
@@ -71,6 +73,7 @@ before_itself ranks i = grind (arith, nat_tests)
 before_along : (ranks : List Rank) (i b r : ℕ) → (rank_at ranks i).deadline < (rank_at ranks b).deadline → is_before ranks b r ≡ true → is_before ranks i r ≡ true
 before_along ranks i b r lt before = grind (arith, nat_tests)
 
+-- a server of a lower number and no later deadline is before the other
 before_later : (ranks : List Rank) (i b : ℕ) → b < i → (rank_at ranks b).deadline ≤ (rank_at ranks i).deadline → is_before ranks b i ≡ true
 before_later ranks i b lt le = grind (arith, nat_tests)
 

@@ -48,11 +48,13 @@ module _ {W : Type 0} (work : Meaning W) where
   tail_closing now a accounts s None = refl
   tail_closing now a accounts s (Some e) = refl
 
+  -- after a close of server s, which may be refused, s is closed; a server that is not there counts as closed
   closes_at : (now : ℕ) (accounts : List (Account W)) (s : ℕ) → (account (after_closing (record { now = now; accounts = accounts }) s (close_refusal (map (face_of work) accounts) s)).accounts s).closed ≡ true
   closes_at now [] s = refl
   closes_at now (a ∷ accounts) zero = elim (cases_Bool a.closed) [ inl t ↦ rw t refl | inr f ↦ rw f refl ]
   closes_at now (a ∷ accounts) (suc s) = ap (λ (b : Account W). b.closed) (tail_closing now a accounts s (close_refusal (map (face_of work) accounts) s)) ∙ closes_at now accounts s
 
+  -- after an answered close of t, server s is closed where it was closed before, or where t is s
   close_grown : (M : History W) (t s : ℕ) (r : Reply W) (closed : Bool) → (closed ≡ true → (account_in work M s).closed ≡ true) → Answers work M (Close t) r
       → (closed || eqb t s) ≡ true → (account_in work (grown M (Close t) r) s).closed ≡ true
   close_grown M t s r closed h answers either = elim (cases_Bool closed) [
@@ -79,6 +81,7 @@ module _ {W : Type 0} (work : Meaning W) where
   no_lack w s job None named = refl
   no_lack w s job (Some e) named = named e refl
 
+  -- a close is never answered by want of memory
   no_lack-close : (o : Option CoreError) → is_lack {W = W} (close_reply o) ≡ false
   no_lack-close None = refl
   no_lack-close (Some e) = refl

@@ -101,6 +101,7 @@ module _ {W : Type 0} (work : Meaning W) where
     | inr f ↦ let k : Some c ≡ None = rw f at e in cc
   ]
 
+  -- a ready server has finished fewer jobs than it accepted
   active_within : (a : Account W) → is_ready (face_of work a) ≡ true → finished work a < length a.accepted
   active_within a ready = (runnable (face_of work a) ready).active
 
@@ -115,10 +116,12 @@ module _ {W : Type 0} (work : Meaning W) where
         rw is record { within = active_within (account w.accounts s) (ready s refl); result = refl }
   ]
 
+  -- no completion is told by the answer to a submit
   submit_none : (w : World W) (s : ℕ) (job : W) (o : Option CoreError) → completion_in (submit_reply w s job o) ≡ None
   submit_none w s job None = refl
   submit_none w s job (Some e) = refl
 
+  -- no completion is told by the answer to a close
   close_none : (o : Option CoreError) → completion_in {W = W} (close_reply o) ≡ None
   close_none None = refl
   close_none (Some e) = refl
@@ -130,6 +133,7 @@ module _ {W : Type 0} (work : Meaning W) where
   reply_tells M (Advance n) c e = elim (cases_Bool (leb ((world_after work M).now + n) clock_end)) [ inl t ↦ let k : Some c ≡ None = rw t at e in cc | inr f ↦ let k : Some c ≡ None = rw f at e in cc ]
   reply_tells M (Close s) c e = let n = close_none (close_refusal (faces work (world_after work M)) s) in cc
 
+  -- no completion is told by a reply that says that memory refused a submit
   lack_none : (r : Reply W) → is_lack r ≡ true → completion_in r ≡ None
   lack_none (reply.Ran q) e = cc
   lack_none _ e = refl

@@ -28,6 +28,7 @@ use Rattle.cbs_core.proofs.Refusals.{free_accepts}
 
 -- a new core
 module _ {W : Type 0} (work : Meaning W) (mode : Mode) (backlog : ℕ) where
+  -- where each rate is within the limits of a reservation, each new server keeps what a server keeps
   all_new : (rates : List Rate) → AllByRecursion (λ r. IsRate r.budget r.period) rates → AllByRecursion (IsServer backlog 0) (map new_face (terms_of mode rates))
   all_new [] ok = tt
   all_new (r ∷ rates) ok = (server_new backlog 0 (record { mode = mode; reservation = r }) ok.0, all_new rates ok.1)
@@ -118,10 +119,12 @@ module _ {W : Type 0} {work : Meaning W} {core : CoreHeld W} (ok : IsCore work c
   pub few_jobs : (s : ℕ) → s < length core.faces → (face_at core.faces s).accepted + 1 < 2 ^ 64
   few_jobs s lt = let b = server_at s lt in let c = b.counted in let f = b.few_done in let j = b.few_jobs in let k = ok.clock in let m = ok.small in omega arith
 
+  -- after a unit of the first job, each job held has a unit left, as each had before
   unfinished_run : (jobs : List W) → AllByRecursion (λ w. 0 < work.left w) jobs → AllByRecursion (λ w. 0 < work.left w) (jobs_run work jobs)
   unfinished_run [] all = all
   unfinished_run (job ∷ jobs) all = elim (cases_Bool (eqb (work.left (work.after job)) 0)) [ inl e ↦ rw e all.1 | inr e ↦ rw e (grind (arith, nat_tests), all.1) ]
 
+  -- after a unit of the first job, as many jobs are held as the backlog is, as there were before
   counted_run : (jobs : List W) (f : Face) → 0 < length jobs → length jobs ≡ backlog_of f → length (jobs_run work jobs) ≡ backlog_of (with_unit (is_some (result_run work jobs)) f)
   counted_run [] f some e = absurd (omega arith)
   counted_run (job ∷ jobs) f some e = elim (cases_Bool (eqb (work.left (work.after job)) 0)) [ inl t ↦ rw t (omega arith) | inr n ↦ rw n (omega arith) ]

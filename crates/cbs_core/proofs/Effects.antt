@@ -37,9 +37,11 @@ module _ {W : Type 0} where
 
     -- server s alone is changed
     module _ (s : ℕ) (f : Face → Face) (g : List W → List W) (shown : faces ≡ changed_at f old.faces s) (jobs : queues ≡ changed_at g old.queues s) where
+      -- jobs, counts and close of every other server are as before
       pub others_same : OthersSame s old new
       others_same t ne = rw (shown, jobs, changed_elsewhere f old.faces s t no_face ne, changed_elsewhere g old.queues s t [] ne) record { jobs = refl; accepted = refl; finished = refl; closed = refl }
 
+      -- what is held of s is its face and its jobs, each changed
       pub held_here : s < length old.faces → s < length old.queues → held_at new s ≡ record { face = f (face_at old.faces s); jobs = g (list_at old.queues s) }
       held_here lt within = rw (shown, jobs, changed_here f old.faces s no_face lt, changed_here g old.queues s [] within) refl
 

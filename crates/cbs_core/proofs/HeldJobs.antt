@@ -71,15 +71,19 @@ module _ {W : Type 0} (work : Meaning W) (law : Lowers work) where
       (v : whole work job ≡ whole work y) (w : map (whole work) js ≡ map (whole work) ys)
       (l : work.left job ≡ sum_by work.left (take (k + 1) xs) - g) (ls : map work.left js ≡ map work.left ys)
       (all : AllByRecursion (λ w. 0 < work.left w) (job ∷ js)) where
+    -- the g units suffice for the k finished jobs
     begun : sum_by work.left (take k xs) ≤ g
     begun = rw c at (count_done_within work.left xs g)
 
+    -- they do not suffice for the next job
     beyond : g < sum_by work.left (take (k + 1) xs)
     beyond = let b : k < length xs → g < sum_by work.left (take (k + 1) xs) = rw c at (count_done_beyond work.left xs g) in b short
 
+    -- a unit leaves the first job held one unit less
     less : work.left (work.after job) ≡ work.left job - 1
     less = law job all.0
 
+    -- where that was its last unit, the other jobs held are those left of xs by g + 1 units, with k + 1 finished
     served_last : work.left (work.after job) ≡ 0 → Parts work js xs (g + 1) (k + 1)
     served_last none =
         let a = begun in
@@ -93,6 +97,7 @@ module _ {W : Type 0} (work : Meaning W) (law : Lowers work) where
           lefts = rw next (rest_lefts xs js ys (g + 1) (k + 1) ls next full);
         }
 
+    -- where it has a unit left, it and the other jobs are those left of xs by g + 1 units, with k finished
     served_some : 0 < work.left (work.after job) → Parts work (work.after job ∷ js) xs (g + 1) k
     served_some some =
         let a = begun in
@@ -106,6 +111,7 @@ module _ {W : Type 0} (work : Meaning W) (law : Lowers work) where
           lefts = rw d (cc);
         }
 
+    -- the unit was its last just where the jobs of xs up to it need g + 1 units
     test_served : eqb (work.left (work.after job)) 0 ≡ eqb (sum_by work.left (take (k + 1) xs)) (g + 1)
     test_served = let b = beyond in let e = less in let some = all.0 in grind (arith, nat_tests)
 
@@ -155,36 +161,45 @@ module _ {W : Type 0} (work : Meaning W) (xs : List W) (g k : ℕ) (job : W)
   abbrev more : List W
   more = xs ++ job ∷ []
 
+  -- no more jobs are finished than there were
   joined_le : k ≤ length xs
   joined_le = rw (← c) (count_done-le work.left xs g)
 
+  -- with the new job behind, the units still suffice for the finished jobs
   joined_begun : sum_by work.left (take k more) ≤ g
   joined_begun = rw (take-append-le k xs (job ∷ []) joined_le) (rw c at (count_done_within work.left xs g))
 
+  -- where a job was unfinished, the jobs up to the first such need the units that they needed before
   joined_need : k < length xs → sum_by work.left (take (k + 1) more) ≡ sum_by work.left (take (k + 1) xs)
   joined_need lt = rw (take-append-le (k + 1) xs (job ∷ []) (omega arith))
 
+  -- where all were finished, the jobs up to the new one need the units of all before it, and its own
   joined_last : length xs ≤ k → sum_by work.left (take (k + 1) more) ≡ sum_by work.left xs + work.left job
   joined_last ge =
       let n : length more ≤ k + 1 = omega (arith, length-append xs (job ∷ []), joined_le) in
       rw (take_all (k + 1) more n, sum_by-append work.left xs (job ∷ [])) (omega (arith, sum_by-cons work.left job []))
 
+  -- where all were finished, the units got are just those that they need
   joined_full : length xs ≤ k → g ≡ sum_by work.left xs
   joined_full ge = let w = joined_begun in let e : take k xs ≡ xs = take_all k xs ge in
       let f : sum_by work.left xs ≤ g = rw (← e) (rw c at (count_done_within work.left xs g)) in omega arith
 
+  -- with the new job behind, the units do not suffice for one job more than the finished ones
   joined_beyond : g < sum_by work.left (take (k + 1) more)
   joined_beyond = elim (cases_lt k (length xs)) [
     | inl lt ↦ let b : k < length xs → g < sum_by work.left (take (k + 1) xs) = rw c at (count_done_beyond work.left xs g) in rw (joined_need lt) (b lt)
     | inr ge ↦ omega (arith, joined_last ge, joined_full ge)
   ]
 
+  -- as many jobs are finished as before
   joined_count : count_done work.left more g ≡ k
   joined_count = count_done-is work.left more g k (omega (arith, length-append xs (job ∷ []), joined_le)) joined_begun (λ _. joined_beyond)
 
+  -- the unfinished jobs are those from before, and then the new one
   joined_drop : drop k more ≡ drop k xs ++ job ∷ []
   joined_drop = drop-append-le k xs (job ∷ []) joined_le
 
+  -- units left that agree with those of the unfinished jobs do so with the new job behind both
   joined_lefts : (jobs rest : List W) → drop k xs ≡ rest → map work.left jobs ≡ with_first (sum_by work.left (take (k + 1) xs) - g) (map work.left rest)
       → map work.left (jobs ++ job ∷ []) ≡ with_first (sum_by work.left (take (k + 1) more) - g) (map work.left (rest ++ job ∷ []))
   joined_lefts [] [] d l =
@@ -198,6 +213,7 @@ module _ {W : Type 0} (work : Meaning W) (xs : List W) (g k : ℕ) (job : W)
       let n = joined_need lt in
       rw (n, map-append work.left js (job ∷ []), map-append work.left ys (job ∷ [])) (cc)
 
+  -- the jobs held, and then the new one, are those left of xs and the new one, with as many finished
   joined_parts : (jobs : List W) → map (whole work) jobs ≡ map (whole work) (drop k xs)
       → map work.left jobs ≡ with_first (sum_by work.left (take (k + 1) xs) - g) (map work.left (drop k xs))
       → Parts work (jobs ++ job ∷ []) more g k
@@ -214,6 +230,7 @@ module _ {W : Type 0} (work : Meaning W) (jobs : List W) (a : Account W) (agrees
 
   -- a unit of the first job
   module _ (law : Lowers work) (some : 0 < length jobs) (left : AllByRecursion (λ w. 0 < work.left w) jobs) where
+    -- after the unit the jobs held are those left by one unit more, and the answer is as the accepted jobs say
     served_is : Served work jobs a.accepted a.got (finished work a)
     served_is = served_cases work law jobs a.accepted a.got (finished work a) (unfinished work a) refl (count_done-le work.left a.accepted a.got) refl agrees.results agrees.lefts left some
 
@@ -231,6 +248,7 @@ module _ {W : Type 0} (work : Meaning W) (jobs : List W) (a : Account W) (agrees
 
   -- one more job
   module _ (now : ℕ) (job : W) (paid : a.got ≤ need work a (length a.accepted)) (some : 0 < work.left job) where
+    -- the jobs held, and then the new one, are those left of the accepted jobs and the new one by the units got
     joined_is : Parts work (jobs ++ job ∷ []) (a.accepted ++ job ∷ []) a.got (finished work a)
     joined_is =
         let p : a.got ≤ sum_by work.left a.accepted = omega (arith, paid, sum_by-take-le work.left a.accepted (length a.accepted)) in

@@ -41,6 +41,7 @@ module _ {W : Type 0} (work : Meaning W) where
       (unit : (a : Account W) → is_ready (face_of work a) ≡ true → P a → P (account_with_unit a))
       (replenishment : (now : ℕ) (a : Account W) → P a → P (account_with_replenishment now a))
       (close : (a : Account W) → P a → P (account_with_close a)) where
+    -- where a change of account i keeps P of it, P still holds of each account of which it held
     holds_changed : (f : Account W → Account W) (accounts : List (Account W)) (i s : ℕ) → (P (account accounts i) → P (f (account accounts i))) → P (account accounts s) → P (account (changed_at f accounts i) s)
     holds_changed f [] i s k h = h
     holds_changed f (a ∷ accounts) zero zero k h = k h
@@ -48,27 +49,33 @@ module _ {W : Type 0} (work : Meaning W) where
     holds_changed f (a ∷ accounts) (suc i) zero k h = h
     holds_changed f (a ∷ accounts) (suc i) (suc s) k h = holds_changed f accounts i s k h
 
+    -- where a change keeps P of every account, P still holds of each of which it held when all are changed
     holds_map : (f : Account W → Account W) (accounts : List (Account W)) (s : ℕ) → ((a : Account W) → P a → P (f a)) → P (account accounts s) → P (account (map f accounts) s)
     holds_map f [] s k h = h
     holds_map f (a ∷ accounts) zero k h = k a h
     holds_map f (a ∷ accounts) (suc s) k h = holds_map f accounts s k h
 
+    -- a tick keeps P of each account
     holds_tick : (w : World W) (s : ℕ) → P (account w.accounts s) → P (account (tick w).accounts s)
     holds_tick w s h = holds_map (account_with_replenishment (w.now + 1)) w.accounts s (replenishment (w.now + 1)) h
 
+    -- so do n ticks
     holds_ticks : (n : ℕ) (w : World W) (s : ℕ) → P (account w.accounts s) → P (account (ticks n w).accounts s)
     unfolding ticks
     holds_ticks zero w s h = h
     holds_ticks (suc n) w s h = holds_ticks n (tick w) s (holds_tick w s h)
 
+    -- so does a submit, accepted or refused
     holds_submit : (w : World W) (t s : ℕ) (j : W) (o : Option CoreError) → P (account w.accounts s) → P (account (after_submit work w t j o).accounts s)
     holds_submit w t s j None h = holds_changed (account_with_job work w.now j) w.accounts t s (job w.now j (account w.accounts t)) h
     holds_submit w t s j (Some e) h = h
 
+    -- so does a close, refused or not
     holds_close : (w : World W) (t s : ℕ) (o : Option CoreError) → P (account w.accounts s) → P (account (after_closing w t o).accounts s)
     holds_close w t s None h = holds_changed account_with_close w.accounts t s (close (account w.accounts t)) h
     holds_close w t s (Some e) h = h
 
+    -- so does a run, where the server that runs, if one does, is ready
     holds_run : (w : World W) (s : ℕ) (o : Option ℕ) → ((t : ℕ) → o ≡ Some t → is_ready (face_of work (account w.accounts t)) ≡ true) → P (account w.accounts s) → P (account (after_run w o).accounts s)
     holds_run w s None ready h = h
     holds_run w s (Some t) ready h =

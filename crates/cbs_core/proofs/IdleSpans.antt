@@ -71,6 +71,7 @@ span_some now best (f ∷ fs) n e = elim (cases_Bool (is_ready f)) [
       }
 ]
 
+-- where no span is found, it is not so that nobody is ready
 span_none : (now best : ℕ) (fs : List Face) → span_from now best fs ≡ None → NoneReady fs → ⊥
 span_none now best [] e rest = cc
 span_none now best (f ∷ fs) e rest = span_none now (min best (wait now f)) fs (rw rest.0 at e) rest.1
@@ -86,9 +87,11 @@ all_waits now k [] end rest quiet = tt
 all_waits now k (f ∷ fs) end rest quiet = (wait_most now k f end rest.0 (λ m some lt. (quiet m some lt).0), all_waits now k fs end rest.1 (λ m some lt. (quiet m some lt).1))
 
 module _ {W : Type 0} (work : Meaning W) (w : World W) where
+  -- after m ticks, one at least, each server shows what one replenishment at the last tick makes of its face
   faces_ticked : (m : ℕ) → 0 < m → faces work (ticks m w) ≡ map (with_replenishment (w.now + m)) (faces work w)
   faces_ticked m some = ap (faces work) (ticks_some m w some) ∙ replenished_faces work (w.now + m) w.accounts
 
+  -- where nobody is ready, and each waits for n ticks at least, an advance by n is quiet
   quiet_by : (n : ℕ) → NoneReady (faces work w) → AllByRecursion (λ f. n ≤ wait w.now f) (faces work w) → IsQuiet work w n
   quiet_by n rest each zero lt = rw (ticks_none w) rest
   quiet_by n rest each (suc m) lt = rw (faces_ticked (suc m) (omega arith)) (all_sleep w.now (suc m) n (faces work w) (omega arith) lt rest each)

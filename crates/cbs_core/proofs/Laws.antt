@@ -28,6 +28,7 @@ pub use Rattle.cbs_core.proofs.ClosedServers.{steps_close}
 pub use Rattle.cbs_core.proofs.StepLists.{all_yielded}
 
 module _ {W : Type 0} (work : Meaning W) where
+  -- where the choice sees nobody ready, nobody is ready
   rest_from : (fs : List Face) → ((r : ℕ) → r < length (ranks fs) → (rank_at (ranks fs) r).ready ≡ false) → AllByRecursion (λ f. is_ready f ≡ false) fs
   rest_from [] h = tt
   rest_from (f ∷ fs) h = (h 0 (omega arith), rest_from fs (λ r lt. h (suc r) (omega arith)))
@@ -45,6 +46,7 @@ module _ {W : Type 0} (work : Meaning W) where
   pub run_later : (backlog : ℕ) (w : World W) → ¬ IsAtRest work w → w.now < clock_end → w.now < (next work backlog w Run).now
   run_later backlog w busy early = run_takes w (chosen work w) refl busy early
 
+  -- n ticks move the clock on by n
   ticks-now : (n : ℕ) (w : World W) → (ticks n w).now ≡ w.now + n
   unfolding ticks
   ticks-now zero w = omega arith
@@ -75,6 +77,7 @@ module _ {W : Type 0} (work : Meaning W) where
         absurd (omega (arith, AllZip-length (AgreesJobs work) core.queues w.accounts agrees.world.jobs, length-map w.accounts (face_of work)))))
   ]
 
+  -- a list of jobs that is not longer than 0 is empty
   none_of : (jobs : List W) → (0 < length jobs → ⊥) → jobs ≡ []
   none_of [] n = refl
   none_of (j ∷ jobs) n = absurd (n (omega arith))
@@ -112,6 +115,7 @@ module _ {W : Type 0} where
   allowed-append P M [] ys p q = q
   allowed-append P M (x ∷ xs) ys p q = (p.0, allowed-append P (M ⊕ x) xs ys p.1 q)
 
+  -- steps that one rule allows are allowed by a weaker one
   allowed-weaker : (P Q : History W → Step W → Type 0) (M : History W) (xs : List (Step W)) → ((N : History W) (x : Step W) → P N x → Q N x) → EachAllowed P M xs → EachAllowed Q M xs
   allowed-weaker P Q M [] w p = tt
   allowed-weaker P Q M (x ∷ xs) w p = (w M x p.0, allowed-weaker P Q (M ⊕ x) xs w p.1)
@@ -129,6 +133,7 @@ module _ {W : Type 0} (work : Meaning W) where
   pub allowed_weaker : (P Q : History W → Step W → Type 0) (a : CoreHeld W) (xs : List (Step W)) → ((N : History W) (x : Step W) → P N x → Q N x) → AllAllowed work P a xs → AllAllowed work Q a xs
   allowed_weaker P Q a xs w p = λ M agrees. allowed-weaker P Q M xs w (p M agrees)
 
+  -- steps leave what the executor was given
   setup_after : (M : History W) (xs : List (Step W)) → (M ⊕⊕ xs).setup ≡ M.setup
   setup_after M [] = refl
   setup_after M (x ∷ xs) = setup_after (M ⊕ x) xs

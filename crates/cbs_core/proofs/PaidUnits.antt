@@ -34,6 +34,7 @@ module _ {W : Type 0} (work : Meaning W) where
       let b = count_done_beyond work.left a.accepted a.got lt in
       omega (arith, need-mono work.left a.accepted (finished work a + 1) (length a.accepted) (omega arith))
 
+  -- at the start no server has got more units than its accepted jobs need
   paid_opened : (terms : List Terms) (s : ℕ) → IsPaid (account (map new_account terms) s)
   paid_opened [] s = omega arith
   paid_opened (t ∷ ts) zero = omega arith

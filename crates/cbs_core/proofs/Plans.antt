@@ -8,6 +8,7 @@ use Rattle.cbs_core.specs.Faces.{Face, new_face}
 use Rattle.cbs_core.specs.Setups.{terms_of}
 
 module _ (mode : Mode) where
+  -- the new servers of the first n + 1 rates are those of the first n, and then the one of rate n
   next_face : (rates : List Rate) (n : ℕ) (r : Rate) → Some r ≡ slice_get rates n → map new_face (terms_of mode (take (suc n) rates)) ≡ map new_face (terms_of mode (take n rates)) ++ new_face (record { mode = mode; reservation = r }) ∷ []
   next_face [] n r e = cc
   next_face (q ∷ rates) zero r e = let same : r ≡ q = cc in rw same refl

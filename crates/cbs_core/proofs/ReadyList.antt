@@ -47,6 +47,7 @@ apart_all : (x e : Entry) (es : List Entry) → is_ahead x e ≡ true → AllByR
 apart_all x e [] b all ne = tt
 apart_all x e (r ∷ rs) b all ne = (record { ahead = ahead_along x e r b all.0.ahead; other = ne.0 }, apart_all x e rs b all.1 ne.1)
 
+-- the list stays in order where an entry of a server that has none enters
 ordered_by : (x : Entry) (es : List Entry) → IsOrdered es → AllByRecursion (λ r. x.server ≢ r.server) es → IsOrdered (entered x es)
 ordered_by x [] sorted ne = (tt, tt)
 ordered_by x (e ∷ es) sorted ne = elim (cases_Bool (is_ahead x e)) [
@@ -77,6 +78,7 @@ listed-other x (e ∷ es) t ne =
       | inr f ↦ rw f (ap (λ o. if eqb e.server t then Some e.deadline else o) (listed-other x es t ne))
     ]
 
+-- where an entry of server s stands apart from each of a list, none of the list is an entry of s
 apart_first : (e : Entry) (s : ℕ) (es : List Entry) → e.server ≡ s → AllByRecursion (IsApart e) es → AllByRecursion (λ r. s ≢ r.server) es
 apart_first e s [] q all = tt
 apart_first e s (r ∷ rs) q all = (λ x. all.0.other (q ∙ x), apart_first e s rs q all.1)
@@ -108,10 +110,12 @@ pub rest_ordered : (es : List Entry) → IsOrdered es → IsOrdered (drop 1 es)
 rest_ordered [] sorted = sorted
 rest_ordered (e ∷ es) sorted = sorted.1
 
+-- where the numbers of all servers are below a bound, so are those behind the first
 pub rest_known : (n : ℕ) (es : List Entry) → AllByRecursion (λ r. r.server < n) es → AllByRecursion (λ r. r.server < n) (drop 1 es)
 rest_known n [] all = all
 rest_known n (e ∷ es) all = all.1
 
+-- where the numbers of all servers are below a bound, so is that of the first
 pub first_known : (n s : ℕ) (es : List Entry) → first_of es ≡ Some s → AllByRecursion (λ r. r.server < n) es → s < n
 first_known n s [] h all = cc
 first_known n s (e ∷ es) h all = let q : e.server ≡ s = cc in rw (← q) all.0
@@ -133,14 +137,17 @@ abbrev without : ℕ → List Entry → List Entry
 without s [] = []
 without s (e ∷ es) = if eqb e.server s then es else e ∷ without s es
 
+-- what holds of each entry holds of each that is left once a server is taken out
 All-without : (P : Entry → Type 0) (s : ℕ) (es : List Entry) → AllByRecursion P es → AllByRecursion P (without s es)
 All-without P s [] all = tt
 All-without P s (e ∷ es) all = elim (cases_Bool (eqb e.server s)) [ inl t ↦ rw t all.1 | inr f ↦ rw f (all.0, All-without P s es all.1) ]
 
+-- a list in order stays in order where a server is taken out
 ordered-without : (s : ℕ) (es : List Entry) → IsOrdered es → IsOrdered (without s es)
 ordered-without s [] sorted = tt
 ordered-without s (e ∷ es) sorted = elim (cases_Bool (eqb e.server s)) [ inl t ↦ rw t sorted.1 | inr f ↦ rw f (All-without (IsApart e) s es sorted.0, ordered-without s es sorted.1) ]
 
+-- once server s is taken out of a list in order, no entry of s is left
 without_none : (s : ℕ) (es : List Entry) → IsOrdered es → AllByRecursion (λ r. s ≢ r.server) (without s es)
 without_none s [] sorted = tt
 without_none s (e ∷ es) sorted = elim (cases_Bool (eqb e.server s)) [
@@ -148,10 +155,12 @@ without_none s (e ∷ es) sorted = elim (cases_Bool (eqb e.server s)) [
   | inr f ↦ rw f (λ q. let z : eqb e.server s ≡ true = grind (arith, nat_tests) in cc, without_none s es sorted.1)
 ]
 
+-- with a server taken out the list is shorter by one at most
 length-without : (s : ℕ) (es : List Entry) → length es ≤ length (without s es) + 1
 length-without s [] = omega arith
 length-without s (e ∷ es) = elim (cases_Bool (eqb e.server s)) [ inl t ↦ rw t (omega arith) | inr f ↦ let h = length-without s es in rw f (omega arith) ]
 
+-- servers whose numbers are below n + 1, and none of them n, have numbers below n
 below_both : (n : ℕ) (es : List Entry) → AllByRecursion (λ r. r.server < suc n) es → AllByRecursion (λ r. n ≢ r.server) es → AllByRecursion (λ r. r.server < n) es
 below_both n [] a b = tt
 below_both n (e ∷ es) a b = (let x = a.0 in let y = b.0 in omega arith, below_both n es a.1 b.1)
@@ -166,6 +175,7 @@ few (suc n) es sorted all =
     let l = length-without n es in
     omega arith
 
+-- the list with one entry more is longer by one
 length-entered : (x : Entry) (es : List Entry) → length (entered x es) ≡ length es + 1
 length-entered x [] = refl
 length-entered x (e ∷ es) = elim (cases_Bool (is_ahead x e)) [ inl t ↦ rw t (omega arith) | inr f ↦ let h = length-entered x es in rw f (omega arith) ]
@@ -181,6 +191,7 @@ place_for n x es sorted all none lt =
 pub known-entered : (n : ℕ) (x : Entry) (es : List Entry) → x.server < n → AllByRecursion (λ r. r.server < n) es → AllByRecursion (λ r. r.server < n) (entered x es)
 known-entered n x es lt all = All-entered (λ r. r.server < n) x es lt all
 
+-- an entry that stands apart from each of a list stands apart from the one at place i
 apart_at : (e : Entry) (es : List Entry) (i : ℕ) (d : Entry) → AllByRecursion (IsApart e) es → i < length es → IsApart e (get_or es i d)
 apart_at e [] i d all lt = absurd (omega arith)
 apart_at e (r ∷ rs) zero d all lt = all.0
@@ -208,6 +219,7 @@ module _ (x : Entry) where
       let f : is_ahead x e ≡ false = grind (arith, nat_tests) in
       rw f (ap (λ rs. e ∷ rs) (insert-entered es i (omega arith) (λ k d a b. point.0 (suc k) d (omega arith) (omega arith), λ k d a b. point.1 (suc k) d (omega arith) (omega arith)) ne.1))
 
+-- to put one entry in at place i and to write another over it is to insert the other there
 turned : (e x : Entry) (es : List Entry) (i : ℕ) → i ≤ length es → set ((take i es ++ e ∷ []) ++ drop i es) i x ≡ insert es i x
 turned e x es zero le = refl
 turned e x [] (suc i) le = absurd (omega arith)

@@ -23,6 +23,7 @@ record RunsBy (f : Face) (d : ℕ) : Type 0 where
   pub ready : is_ready f ≡ true
   pub deadline : f.state.deadline ≡ d
 
+-- so it is of each server that runs by a deadline
 runs_by : (f : Face) (d : ℕ) → ready_by f ≡ Some d → RunsBy f d
 runs_by f d h = elim (cases_Bool (is_ready f)) [
   | inl t ↦ let same : Some f.state.deadline ≡ Some d = rw t at h in record { ready = t; deadline = cc }
@@ -73,9 +74,11 @@ first_chosen fs es s lists h = chosen_listed fs es lists ∙ h
 chosen_earliest : (fs : List Face) (es : List Entry) (s : ℕ) → ListsReady es fs → chosen_among (ranks fs) ≡ Some s → IsEarliest (ranks fs) (length fs) s
 chosen_earliest fs es s lists h = subst (λ o. IsChoice (ranks fs) (length fs) o) (first_chosen fs es s lists h) (choice_listed fs es lists)
 
+-- a chosen server is there
 pub within_chosen : (fs : List Face) (es : List Entry) (s : ℕ) → ListsReady es fs → chosen_among (ranks fs) ≡ Some s → s < length fs
 within_chosen fs es s lists h = (chosen_earliest fs es s lists h).within
 
+-- a chosen server is ready
 pub ready_chosen : (fs : List Face) (es : List Entry) (s : ℕ) → ListsReady es fs → chosen_among (ranks fs) ≡ Some s → is_ready (face_at fs s) ≡ true
 ready_chosen fs es s lists h = sym (rank_ready fs s) ∙ (chosen_earliest fs es s lists h).ready
 
@@ -100,9 +103,11 @@ new_idle [] s = refl
 new_idle (t ∷ ts) zero = refl
 new_idle (t ∷ ts) (suc s) = new_idle ts s
 
+-- the empty list lists the ready servers among new ones
 pub lists_new : (ts : List Terms) → ListsReady [] (map new_face ts)
 lists_new ts = record { ordered = tt; each = λ s. rw (new_idle ts s) refl }
 
+-- no new server is due before any tick
 pub due_new : (tick : ℕ) (ts : List Terms) → NoneDueBefore tick (map new_face ts)
 due_new tick [] = tt
 due_new tick (t ∷ ts) = (λ throttled. absurd (cc), due_new tick ts)
@@ -185,6 +190,7 @@ module _ {X : Type 0} (f : X → X) where
   swept_all (x ∷ xs) zero le = absurd (omega arith)
   swept_all (x ∷ xs) (suc i) le = ap (λ ys. f x ∷ ys) (swept_all xs i (omega arith))
 
+  -- the list is as long as before
   pub length-swept : (xs : List X) (i : ℕ) → length (swept f xs i) ≡ length xs
   length-swept xs zero = refl
   length-swept [] (suc i) = refl

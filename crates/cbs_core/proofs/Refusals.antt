@@ -38,6 +38,7 @@ module _ {W : Type 0} {core held : CoreHeld W} (view : core ≡ held) (s : ℕ) 
   pub open_free : IsOpen held s → None ≡ closing
   open_free opened = let is = rw (← view) at opened in rw (slice_get-get_or core.faces s no_face is.within, is.unclosed)
 
+  -- one of the cases always stands
   case : Case
   case = elim (cases_lt s (length core.faces)) [
     | inl lt ↦
