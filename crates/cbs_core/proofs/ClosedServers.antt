@@ -42,7 +42,7 @@ module _ {W : Type 0} (work : Meaning W) where
         | inr f ↦ let p : r ≡ reply_in work M (Submit s job) = rw f at answers in let e = accepted.1 in cc
       ]
 
-  -- a close closes
+  -- the first account does not matter for a close further on
   tail_closing : (now : ℕ) (a : Account W) (accounts : List (Account W)) (s : ℕ) (o : Option CoreError)
       → account (after_closing (record { now = now; accounts = a ∷ accounts }) (suc s) o).accounts (suc s) ≡ account (after_closing (record { now = now; accounts = accounts }) s o).accounts s
   tail_closing now a accounts s None = refl

@@ -27,7 +27,7 @@ use Rattle.cbs_core.proofs.Faces.{runnable}
 use Rattle.cbs_core.proofs.Agreements.{face_is}
 use Rattle.cbs_core.proofs.StepLists.{grown_by-push}
 
--- lists of numbers, and parts of lists
+-- so many numbers from the first on are those of a part and those behind it
 range_with_len-append : (k m n : ℕ) → range_with_len k (m + n) ≡ range_with_len k m ++ range_with_len (k + m) n
 range_with_len-append k zero n = let e : zero + n ≡ n = omega arith in let f : k + 0 ≡ k = omega arith in rw (e, f) refl
 range_with_len-append k (suc m) n =
@@ -126,7 +126,7 @@ module _ {W : Type 0} (work : Meaning W) where
   close_none None = refl
   close_none (Some e) = refl
 
-  -- so does each reply that the rules give, since a run alone completes a job
+  -- a reply that the rules give tells a job's whole result, since a run alone completes a job
   reply_tells : (M : History W) (x : Step W) (c : Completion) → Some c ≡ completion_in (reply_in work M x) → Tells (account_in work M c.server) c
   reply_tells M (Submit s job) c e = let n = submit_none (world_after work M) s job (submit_refusal M.setup.backlog (faces work (world_after work M)) s) in cc
   reply_tells M Run c e = run_tells (world_after work M) (chosen work (world_after work M)) c (chosen_is_ready work (world_after work M)) e
@@ -138,7 +138,7 @@ module _ {W : Type 0} (work : Meaning W) where
   lack_none (reply.Ran q) e = cc
   lack_none _ e = refl
 
-  -- so does each answer, since want of memory completes no job
+  -- so does each answer: want of memory completes no job
   answer_tells : (M : History W) (x : Step W) (r : Reply W) (c : Completion) → Answers work M x r → Some c ≡ completion_in r → Tells (account_in work M c.server) c
   answer_tells M x r c answers e = elim (cases_Bool (is_lack r)) [
     | inl t ↦ let n = lack_none r t in cc

@@ -70,7 +70,7 @@ chosen_listed fs es lists = chosen_best (ranks fs) (first_of es) (rw (length-ran
 pub first_chosen : (fs : List Face) (es : List Entry) (s : ℕ) → ListsReady es fs → chosen_among (ranks fs) ≡ Some s → first_of es ≡ Some s
 first_chosen fs es s lists h = chosen_listed fs es lists ∙ h
 
--- and there, and ready
+-- the chosen server is the earliest
 chosen_earliest : (fs : List Face) (es : List Entry) (s : ℕ) → ListsReady es fs → chosen_among (ranks fs) ≡ Some s → IsEarliest (ranks fs) (length fs) s
 chosen_earliest fs es s lists h = subst (λ o. IsChoice (ranks fs) (length fs) o) (first_chosen fs es s lists h) (choice_listed fs es lists)
 
