@@ -1,9 +1,10 @@
 -- Entries come into the list of the ready servers, and leave it.
-use Rattle.std.proofs.Common.{◌≡◌, ◌≢◌, ℕ, zero, suc, ◌+◌, ◌-◌, ◌<◌, ◌≤◌, true, false, eqb, List, [], ◌∷◌, ◌++◌, length, drop, take, get_or, set, Some, None, if◌then◌else◌, add-one, refl, sym, ap, ◌∙◌, inl, inr, arith}
-use Rattle.std.proofs.Math.Seq.{take-append_seam, take-length}
+use Rattle.std.proofs.Common.{◌≡◌, ◌≢◌, ℕ, zero, suc, ◌+◌, ◌-◌, ◌<◌, ◌≤◌, true, false, eqb, List, [], ◌∷◌, ◌++◌, length, drop, take, get_or, set, Some, None, if◌then◌else◌, refl, sym, ap, ◌∙◌, inl, inr, arith}
+use Rattle.std.proofs.Math.Seq.{take-append_seam, take-length, drop-length}
+use Rattle.std.proofs.lemmas.List.{append-nil, length-append}
 use Rattle.std.proofs.lemmas.Bool.{cases_Bool}
 use Rattle.std.proofs.lemmas.Bool.Decides.{nat_tests}
-use Rattle.std.specs.List.{AllByRecursion, insert}
+use Rattle.std.specs.List.{AllByRecursion, insert, copy_within}
 use Rattle.std.specs.List.Sorted.{IsPartitionPoint, IsPartitionedBy}
 use Rattle.cbs_core.specs.declared.ready_list.Entry.{Entry}
 use Rattle.cbs_core.specs.ReadyList.{is_ahead, listed, first_of, IsApart, IsOrdered}
@@ -219,17 +220,44 @@ module _ (x : Entry) where
       let f : is_ahead x e ≡ false = grind (arith, nat_tests) in
       rw f (ap (λ rs. e ∷ rs) (insert-entered es i (omega arith) (λ k d a b. point.0 (suc k) d (omega arith) (omega arith), λ k d a b. point.1 (suc k) d (omega arith) (omega arith)) ne.1))
 
--- to put one entry in at place i and to write another over it is to insert the other there
-turned : (e x : Entry) (es : List Entry) (i : ℕ) → i ≤ length es → set ((take i es ++ e ∷ []) ++ drop i es) i x ≡ insert es i x
-turned e x es zero le = refl
-turned e x [] (suc i) le = absurd (omega arith)
-turned e x (r ∷ rs) (suc i) le = ap (λ ts. r ∷ ts) (turned e x rs i (omega arith))
+-- the front of a list moves down over the entry before it, and another entry takes the place behind it
+moved_down : (e x : Entry) (es : List Entry) (i : ℕ) → i ≤ length es → set (take i es ++ drop i (e ∷ es)) i x ≡ insert es i x
+moved_down e x es zero le = refl
+moved_down e x [] (suc i) le = absurd (omega arith)
+moved_down e x (r ∷ rs) (suc i) le = ap (λ ts. r ∷ ts) (moved_down r x rs i (omega arith))
 
 -- a list that is written over by one as long
 pub refilled : (xs ys : List Entry) → length ys ≡ length xs → take (length xs) (ys ++ drop (length ys) xs) ≡ ys
 refilled xs ys e = rw (← e) (take-append_seam ys (drop (length ys) xs))
 
 -- the first is taken away, and another entry put at a place among the rest
-pub replaced : (es : List Entry) (i : ℕ) (x : Entry) → i < length es → set ((drop 1 (take (i + 1) es) ++ take 1 (take (i + 1) es)) ++ drop (i + 1) es) i x ≡ insert (drop 1 es) i x
+pub replaced : (es : List Entry) (i : ℕ) (x : Entry) → i < length es → set (copy_within es 1 (i + 1) 0) i x ≡ insert (drop 1 es) i x
 replaced [] i x lt = absurd (omega arith)
-replaced (e ∷ es) i x lt = rw (add-one i) (turned e x es i (omega arith))
+replaced (e ∷ es) i x lt =
+    let one : i + 1 - 1 ≡ i = omega arith in
+    let none : 0 + i ≡ i = omega arith in
+    rw (one, none) (moved_down e x es i (omega arith))
+
+-- the back of a list moves up over its last entry, and another entry takes the place before it
+moved_up : (e x : Entry) (es : List Entry) (i : ℕ) → i ≤ length es
+    → set ((take (i + 1) (e ∷ es) ++ take (length es - i) (drop i (e ∷ es))) ++ drop (length es) es) i x ≡ insert (take (length es) (e ∷ es)) i x
+moved_up e x es zero le =
+    let all : length es - 0 ≡ length es = omega arith in
+    rw (all, drop-length es, append-nil (take (length es) (e ∷ es))) refl
+moved_up e x [] (suc i) le = absurd (omega arith)
+moved_up e x (r ∷ rs) (suc i) le =
+    let next : suc i + 1 ≡ suc (i + 1) = omega arith in
+    let rest : suc (length rs) - suc i ≡ length rs - i = omega arith in
+    rw (next, rest) (ap (λ ts. e ∷ ts) (moved_up r x rs i (omega arith)))
+
+-- a list with one entry behind it, but for that one
+pub all_but_last : (es : List Entry) (x : Entry) → take (length (es ++ x ∷ []) - 1) (es ++ x ∷ []) ≡ es
+all_but_last es x = let n : length (es ++ x ∷ []) - 1 ≡ length es = (let l = length-append es (x ∷ []) in omega arith) in rw n (take-append_seam es (x ∷ []))
+
+-- the last is taken away, and another entry put at a place among the rest
+pub replaced_last : (es : List Entry) (i : ℕ) (x : Entry) → i < length es → set (copy_within es i (length es - 1) (i + 1)) i x ≡ insert (take (length es - 1) es) i x
+replaced_last [] i x lt = absurd (omega arith)
+replaced_last (e ∷ es) i x lt =
+    let rest : suc (length es) - 1 ≡ length es = omega arith in
+    let end : (i + 1) + (length es - i) ≡ suc (length es) = omega arith in
+    rw (rest, end) (moved_up e x es i (omega arith))

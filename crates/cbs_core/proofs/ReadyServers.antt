@@ -2,7 +2,7 @@
 use Rattle.std.proofs.Common.{◌≡◌, ◌≢◌, ℕ, zero, suc, ◌<◌, ◌≤◌, true, false, leb, eqb, List, [], ◌∷◌, length, map, get_or, set, take, Some, None, refl, sym, ap, ap₂, ◌∙◌, subst, inl, inr, arith}
 use Rattle.std.proofs.lemmas.Bool.{cases_Bool}
 use Rattle.std.proofs.lemmas.Bool.Decides.{nat_tests}
-use Rattle.std.proofs.lemmas.List.{get_or-set_same, get_or-set_other}
+use Rattle.std.proofs.lemmas.List.{get_or_read, get_or-set_same, get_or-set_other}
 use Rattle.cbs_rules.specs.Rules.{Terms, is_renewed}
 use Rattle.cbs_core.specs.declared.ready_list.Entry.{Entry}
 use Rattle.cbs_core.specs.Choice.{rank_at, chosen_among, IsEarliest, IsChoice}
@@ -74,13 +74,21 @@ first_chosen fs es s lists h = chosen_listed fs es lists ∙ h
 chosen_earliest : (fs : List Face) (es : List Entry) (s : ℕ) → ListsReady es fs → chosen_among (ranks fs) ≡ Some s → IsEarliest (ranks fs) (length fs) s
 chosen_earliest fs es s lists h = subst (λ o. IsChoice (ranks fs) (length fs) o) (first_chosen fs es s lists h) (choice_listed fs es lists)
 
--- a chosen server is there
-pub within_chosen : (fs : List Face) (es : List Entry) (s : ℕ) → ListsReady es fs → chosen_among (ranks fs) ≡ Some s → s < length fs
-within_chosen fs es s lists h = (chosen_earliest fs es s lists h).within
+-- what the list says of the chosen server, which is this one
+pub record IsFirst (fs : List Face) (es : List Entry) (s : ℕ) (f : Face) : Type 0 where
+  pub within : s < length fs
+  pub ready : is_ready f ≡ true
+  pub first : first_of es ≡ Some s
+  pub listed : listed es s ≡ Some f.state.deadline
 
--- a chosen server is ready
-pub ready_chosen : (fs : List Face) (es : List Entry) (s : ℕ) → ListsReady es fs → chosen_among (ranks fs) ≡ Some s → is_ready (face_at fs s) ≡ true
-ready_chosen fs es s lists h = sym (rank_ready fs s) ∙ (chosen_earliest fs es s lists h).ready
+-- it stands first in the list, with its deadline
+pub chosen_first : (fs : List Face) (es : List Entry) (s : ℕ) (f : Face) → ListsReady es fs → chosen_among (ranks fs) ≡ Some s → f ≡ get_or fs s f → IsFirst fs es s f
+chosen_first fs es s f lists h read =
+    let earliest = chosen_earliest fs es s lists h in
+    let here : face_at fs s ≡ f = sym (get_or_read fs s f earliest.within read no_face) in
+    let ready : is_ready f ≡ true = rw here at (sym (rank_ready fs s) ∙ earliest.ready) in
+    let by : ready_by f ≡ Some f.state.deadline = rw ready refl in
+    record { within = earliest.within; ready = ready; first = first_chosen fs es s lists h; listed = rw here at (lists.each s) ∙ by }
 
 -- one server and its entry change
 pub lists_set : (fs : List Face) (es es' : List Entry) (i : ℕ) (f : Face) → ListsReady es fs → i < length fs → IsOrdered es' → listed es' i ≡ ready_by f
@@ -96,6 +104,22 @@ lists_set fs es es' i f lists lt sorted here others = record {
         rw (get_or-set_other fs i s f no_face ne) (others s ne ∙ lists.each s)
   ];
 }
+
+-- one server changes, but stays ready by the same deadline, or stays not ready
+pub lists_same : (fs : List Face) (es : List Entry) (s : ℕ) (f g : Face) → ListsReady es fs → s < length fs → f ≡ get_or fs s f → ready_by g ≡ ready_by f → ListsReady es (set fs s g)
+lists_same fs es s f g lists lt read same =
+    let here : face_at fs s ≡ f = sym (get_or_read fs s f lt read no_face) in
+    lists_set fs es es s g lists lt lists.ordered (rw here at (lists.each s) ∙ sym same) (λ t other. refl)
+
+-- a job that comes in behind others changes nothing of that
+pub ready_behind : (now : ℕ) (f : Face) → is_active f ≡ true → ready_by (with_job now f) ≡ ready_by f
+ready_behind now f a = let b : is_active (with_job now f) ≡ true = grind (arith, nat_tests) in rw (a, b) refl
+
+-- the first server stays ready by the same deadline
+pub lists_first : (fs : List Face) (es : List Entry) (s : ℕ) (f g : Face) → ListsReady es fs → IsFirst fs es s f → is_ready g ≡ true → g.state.deadline ≡ f.state.deadline → ListsReady es (set fs s g)
+lists_first fs es s f g lists first ready same =
+    let by : ready_by g ≡ Some f.state.deadline = rw (ready, same) refl in
+    lists_set fs es es s g lists first.within lists.ordered (first.listed ∙ sym by) (λ t other. refl)
 
 -- nobody is ready among new servers, nor due
 new_idle : (ts : List Terms) (s : ℕ) → is_ready (face_at (map new_face ts) s) ≡ false
@@ -117,6 +141,10 @@ pub due_set : (tick : ℕ) (fs : List Face) (i : ℕ) (f : Face) → NoneDueBefo
 due_set tick [] i f all h = tt
 due_set tick (g ∷ fs) zero f all h = (h, all.1)
 due_set tick (g ∷ fs) (suc i) f all h = (all.0, due_set tick fs i f all.1 h)
+
+-- a ready server is not due
+pub due_ready : (tick : ℕ) (f : Face) → is_ready f ≡ true → IsNotDueBefore tick f
+due_ready tick f h t = absurd (elim (cases_Bool (is_active f)) [ inl a ↦ let no = rw (a, t) at h in cc | inr a ↦ let no = rw a at h in cc ])
 
 -- a server among those of whom nobody is due
 pub due_at : (tick : ℕ) (fs : List Face) (i : ℕ) (d : Face) → i < length fs → NoneDueBefore tick fs → IsNotDueBefore tick (get_or fs i d)

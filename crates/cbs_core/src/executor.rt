@@ -171,6 +171,7 @@ impl<W: Work, A: Allocator> Core<W, A> {
     /// Answers [`Ran::Idle`] where no server is ready, and then [`Ran::ClockEnd`] where the clock
     /// stands at [`LIMIT`]; both change nothing.
     #[tactic(auto, using(crate::proofs::Lists::counted, crate::proofs::Cores::budgets_kept))]
+    #[inline(always)]
     pub fn run(&mut self) -> Ran
         ensures reply { (M : History W) → Agrees W.meaning self.old M → Reply.Ran result ≡ reply_in W.meaning M Step.Run }
         ensures state { (M : History W) → Agrees W.meaning self.old M → Agrees W.meaning self.new (M ⊕ Step.Run) }

@@ -1,6 +1,6 @@
 //! The ready servers, in the order of the choice.
 
-ghost use Rattle.std.specs.Prelude.{◌≡◌, ◌≢◌, ◌<◌, ◌≤◌, ◌⊎◌, ℕ, true, false, [], length, drop, Some, None};
+ghost use Rattle.std.specs.Prelude.{◌≡◌, ◌≢◌, ◌-◌, ◌<◌, ◌≤◌, ◌⊎◌, ℕ, true, false, [], length, drop, take, Some, None};
 ghost use Rattle.std.specs.List.{insert};
 ghost use Rattle.std.specs.List.Sorted.{IsPartitionPoint};
 ghost use Rattle.cbs_core.specs.ReadyList.{is_ahead, listed, first_of, IsOrdered};
@@ -20,8 +20,9 @@ impl Entry {
     fn is_ahead(&self, other: Entry) -> bool
         ensures { result ≡ is_ahead self.now other }
     {
-        self.deadline < other.deadline
-            || (self.deadline == other.deadline && self.server < other.server)
+        // Both sides are computed, so that a search takes no branch that nobody can foretell.
+        (self.deadline < other.deadline)
+            | ((self.deadline == other.deadline) & (self.server < other.server))
     }
 }
 
@@ -64,6 +65,7 @@ impl ReadyList {
 
     /// Follows a server, which was ready by a deadline or was not, and is so now. One that stays ready
     /// by another deadline, or is no longer ready, must come first.
+    #[inline]
     pub fn follow(&mut self, server: u16, was: Option<u64>, is: Option<u64>)
         requires known { server < 64 }
         requires ordered { IsOrdered self.old }
@@ -81,7 +83,10 @@ impl ReadyList {
         }
     }
 
+    // The three changes stand out of line, since most units make none.
+
     /// A server becomes ready.
+    #[inline(never)]
     fn insert(&mut self, server: u16, deadline: u64)
         requires known { server < 64 }
         requires absent { listed self.old server ≡ None }
@@ -91,10 +96,12 @@ impl ReadyList {
     {
         let entry = Entry { deadline, server };
         let place = place_of(&self.entries, entry);
-        self.entries.insert(place, entry);
+        self.entries.push(entry);
+        replace_last(&mut self.entries, place, entry);
     }
 
     /// The first server is no longer ready.
+    #[inline(never)]
     fn remove_first(&mut self)
         requires { 0 < length self.old }
         ensures ordered { IsOrdered self.new }
@@ -105,6 +112,7 @@ impl ReadyList {
     }
 
     /// The first server gets another deadline.
+    #[inline(never)]
     fn postpone_first(&mut self, server: u16, deadline: u64)
         requires { first_of self.old ≡ Some server }
         ensures ordered { IsOrdered self.new }
@@ -141,6 +149,17 @@ fn replace_first(entries: &mut [Entry], place: usize, entry: Entry)
     requires { place < length entries.old }
     ensures { entries.new ≡ insert (drop 1 entries.old) place entry }
 {
-    entries[..place + 1].rotate_left(1);
+    if place > 0 {
+        entries.copy_within(1..place + 1, 0);
+    }
+    entries[place] = entry;
+}
+
+/// Takes the last entry away, and puts another at this place among the rest.
+fn replace_last(entries: &mut [Entry], place: usize, entry: Entry)
+    requires { place < length entries.old }
+    ensures { entries.new ≡ insert (take (length entries.old - 1) entries.old) place entry }
+{
+    entries.copy_within(place..entries.len() - 1, place + 1);
     entries[place] = entry;
 }

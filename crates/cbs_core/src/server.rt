@@ -3,6 +3,7 @@
 ghost use Rattle.std.specs.Prelude.{◌≡◌, ◌+◌, ◌<◌, ◌≤◌, ◌^◌, true, Some};
 ghost use Rattle.cbs_core.specs.Faces.{new_face, is_active, is_ready, ready_by, backlog_of, refuses_close, refuses_submit, view_of, with_job, with_unit, with_replenishment, with_close};
 ghost use Rattle.cbs_core.specs.IdleSpans.{wait};
+ghost use Rattle.cbs_core.specs.ReadyList.{IsNotDueBefore};
 
 use crate::error::CoreError;
 use crate::view::ServerView;
@@ -60,7 +61,7 @@ impl Server {
     }
 
     /// Whether an accepted job is not finished.
-    fn is_active(&self) -> bool
+    pub fn is_active(&self) -> bool
         ensures { result ≡ is_active self.now }
     {
         self.finished < self.accepted
@@ -78,6 +79,17 @@ impl Server {
         ensures { result ≡ self.now.state.throttled }
     {
         self.state.throttled()
+    }
+
+    /// Before which tick it is not due for replenishment: its deadline, where it waits for that.
+    pub fn due(&self) -> u64
+        ensures { IsNotDueBefore result self.now }
+    {
+        if self.is_throttled() {
+            self.deadline()
+        } else {
+            u64::MAX
+        }
     }
 
     /// The deadline by which it runs, where it is ready.
@@ -158,17 +170,21 @@ impl Server {
         number
     }
 
-    /// Uses one tick of the budget, for a unit that finished a job or did not.
-    pub fn use_tick(&mut self, done: bool)
+    /// Uses one tick of the budget, for a unit that finished a job or did not. Answers true only where
+    /// it stays ready, by the same deadline.
+    pub fn use_tick(&mut self, done: bool) -> bool
         requires ready { is_ready self.old ≡ true }
         requires some { 0 < self.old.state.budget }
         requires room { self.old.state.deadline ≤ MAX_DEADLINE }
-        ensures { self.new ≡ with_unit done self.old }
+        ensures face { self.new ≡ with_unit done self.old }
+        ensures stays { result ≡ true → (is_ready self.new ≡ true) × (self.new.state.deadline ≡ self.old.state.deadline) }
     {
+        let more = self.state.budget() > 1;
         self.state.consume(self.mode);
         if done {
             self.finished += 1;
         }
+        more && self.is_active()
     }
 
     /// Replenishes the server at tick `now`, if that is due.

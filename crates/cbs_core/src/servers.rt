@@ -138,13 +138,17 @@ impl<A: Allocator> Servers<A> {
         ensures number { result ≡ (face_at self.old server).accepted }
     {
         let it = &mut self.servers[usize::from(server)];
-        let was = it.ready_by();
+        // A job behind others changes no place in the list.
+        if it.is_active() {
+            return it.accept(now);
+        }
         let number = it.accept(now);
-        self.ready.follow(server, was, it.ready_by());
+        self.ready.follow(server, None, it.ready_by());
         number
     }
 
     /// The chosen server uses one tick of its budget, for a unit that finished a job or did not.
+    #[inline]
     pub fn use_tick(&mut self, server: u16, done: bool)
         requires chosen { chosen_among (ranks self.old) ≡ Some server }
         requires some { 0 < (face_at self.old server).state.budget }
@@ -152,15 +156,17 @@ impl<A: Allocator> Servers<A> {
         ensures { self.new ≡ changed_at (with_unit done) self.old server }
     {
         let it = &mut self.servers[usize::from(server)];
-        let was = it.ready_by();
-        it.use_tick(done);
-        self.ready.follow(server, was, it.ready_by());
-        if it.is_throttled() {
-            self.due = self.due.min(it.deadline());
+        let was = it.deadline();
+        // Most units change no place in the list, and nobody's due.
+        if it.use_tick(done) {
+            return;
         }
+        self.ready.follow(server, Some(was), it.ready_by());
+        self.due = self.due.min(it.due());
     }
 
     /// Replenishes every server that is due at tick `now`.
+    #[inline]
     pub fn replenish(&mut self, now: u64)
         requires { now ≤ LIMIT }
         ensures { self.new ≡ map (with_replenishment now) self.old }
@@ -182,6 +188,7 @@ impl<A: Allocator> Servers<A> {
 
 /// Replenishes every server that is due at tick `now`, and lists those that are then ready. Before
 /// which tick nobody else is due.
+#[inline(never)]
 fn replenish_all(servers: &mut [Server], ready: &mut ReadyList, now: u64) -> u64
     requires clock { now ≤ LIMIT }
     requires few { length servers.old ≤ 64 }
@@ -215,9 +222,5 @@ fn replenish_one(it: &mut Server, number: u16, ready: &mut ReadyList, now: u64) 
     }
     it.replenish(now);
     ready.follow(number, None, it.ready_by());
-    if it.is_throttled() {
-        it.deadline()
-    } else {
-        u64::MAX
-    }
+    it.due()
 }

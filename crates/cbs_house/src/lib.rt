@@ -10,6 +10,7 @@ mod gate;
 mod house;
 mod message;
 mod opening;
+mod pause;
 mod poll;
 mod rings;
 mod round;

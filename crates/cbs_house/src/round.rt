@@ -12,10 +12,12 @@ ghost use Rattle.cbs_house.specs.Turns.{TakesTurn, TakesTurns};
 use crate::feed::Feed;
 use crate::gate::Gate;
 use crate::house::House;
+use crate::pause::Pause;
 use crate::poll::Poll;
 use crate::senders::send_all;
 use cbs_job::Work;
 use std::thread::{Threads, join_mut};
+use std::time::Clock;
 
 /// How many messages a round moved, ends included.
 #[derive(Clone, Copy, Debug, PartialEq, Eq)]
@@ -35,9 +37,12 @@ pub struct Round {
 /// nothing, and the next turn polls again. Where the system makes no thread, the sides, or some
 /// senders, take their turns one after the other.
 ///
+/// Behind turns that did nothing a side yields, and sleeps now and then, for at most 2 milliseconds.
+/// The runtime's clock serves for that alone: no time is read.
+///
 /// There are at most 64 feeds, each with a client that was opened with this house and that has not
 /// ended unless no job is left; `turns` is at most 1000000000.
-pub fn serve_round<R: Threads + Sync, G: Gate + Sync, W: Work + Send>(
+pub fn serve_round<R: Threads + Clock + Sync, G: Gate + Sync, W: Work + Send>(
     rt: &R,
     house: &mut House<W>,
     feeds: &mut [Feed<W>],
@@ -73,7 +78,7 @@ fn servers_of<'a, W: Work>(feeds: &[Feed<W>], servers: &'a mut [u16; 64]) -> &'a
 
 // The two sides at once: the senders, and the house. A function of its own, so that what its
 // closures require is what it is given.
-fn both_sides<R: Threads + Sync, G: Gate + Sync, W: Work + Send>(
+fn both_sides<R: Threads + Clock + Sync, G: Gate + Sync, W: Work + Send>(
     rt: &R,
     gate: &G,
     turns: u64,
@@ -99,22 +104,39 @@ fn both_sides<R: Threads + Sync, G: Gate + Sync, W: Work + Send>(
         &mut || -> u64
             requires { turns ≤ 1000000000 }
             ensures { TakesTurns W.meaning turns wanted.entry.now house.entry.now house.exit.now result × (result ≤ turns * length (core_of house.entry.now).faces) }
-        { house_turns(gate, turns, wanted, house) },
+        { house_turns(rt, gate, turns, wanted, house) },
     )
 }
 
-/// The turns of the house, until the wanted servers are closed. How many messages it took.
-fn house_turns<G: Gate, W: Work>(gate: &G, turns: u64, wanted: &[u16], house: &mut House<W>) -> u64
+/// The turns of the house, until the wanted servers are closed, with pauses behind those that take no
+/// message. How many messages it took.
+fn house_turns<R: Clock, G: Gate, W: Work>(
+    rt: &R,
+    gate: &G,
+    turns: u64,
+    wanted: &[u16],
+    house: &mut House<W>,
+) -> u64
     requires { turns ≤ 1000000000 }
     ensures turns { TakesTurns W.meaning turns wanted.now house.old house.new result }
     ensures few { result ≤ turns * length (core_of house.old).faces }
 {
     let mut took = 0;
+    let mut pause = Pause::new();
     for _ in 0..turns {
         if all_closed(house, wanted) {
             break;
         }
-        took += house_turn(gate, house);
+        let tick = house.now();
+        let taken = house_turn(gate, house);
+        took += taken;
+        if taken > 0 {
+            pause.moved();
+        } else if house.now() > tick {
+            pause.ran();
+        } else {
+            pause.idle(rt);
+        }
     }
     took
 }

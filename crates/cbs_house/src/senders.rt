@@ -8,23 +8,30 @@ ghost use Rattle.cbs_house.specs.Feeds.{IsOrderly, KeepsFeed, SendsFeeds, all_se
 
 use crate::feed::Feed;
 use crate::gate::Gate;
+use crate::pause::Pause;
 use cbs_job::Work;
 use std::thread::{Threads, join_mut};
+use std::time::Clock;
 
-/// One sender: takes turns until its feed is done. How many messages it sent.
-fn send_turns<W: Work, G: Gate>(feed: &mut Feed<W>, gate: &G, turns: u64) -> u64
+/// One sender: takes turns until its feed is done, and pauses behind those that send nothing. How
+/// many messages it sent.
+fn send_turns<R: Clock, W: Work, G: Gate>(rt: &R, feed: &mut Feed<W>, gate: &G, turns: u64) -> u64
     requires { IsOrderly feed.old }
     ensures kept { KeepsFeed feed.old feed.new }
     ensures count { length (sent_by feed.new.client) ≡ length (sent_by feed.old.client) + result }
     ensures most { result ≤ turns }
 {
     let mut sent = 0;
+    let mut pause = Pause::new();
     for _ in 0..turns {
         if feed.done() {
             break;
         }
         if feed.turn(gate) {
             sent += 1;
+            pause.moved();
+        } else {
+            pause.idle(rt);
         }
     }
     sent
@@ -32,7 +39,7 @@ fn send_turns<W: Work, G: Gate>(feed: &mut Feed<W>, gate: &G, turns: u64) -> u64
 
 /// The senders of all feeds, each in a part of its own of the joins. How many messages they sent.
 #[cycle(senders)]
-pub fn send_all<R: Threads + Sync, G: Gate + Sync, W: Work + Send>(
+pub fn send_all<R: Threads + Clock + Sync, G: Gate + Sync, W: Work + Send>(
     rt: &R,
     gate: &G,
     turns: u64,
@@ -47,7 +54,7 @@ pub fn send_all<R: Threads + Sync, G: Gate + Sync, W: Work + Send>(
 {
     if feeds.len() < 2 {
         return match feeds.first_mut() {
-            Some(feed) => send_turns(feed, gate, turns),
+            Some(feed) => send_turns(rt, feed, gate, turns),
             None => 0,
         };
     }
@@ -59,7 +66,7 @@ pub fn send_all<R: Threads + Sync, G: Gate + Sync, W: Work + Send>(
 // The senders of two parts, at once. A function of its own, so that what its closures require is
 // what it is given.
 #[cycle(senders)]
-fn send_both<R: Threads + Sync, G: Gate + Sync, W: Work + Send>(
+fn send_both<R: Threads + Clock + Sync, G: Gate + Sync, W: Work + Send>(
     rt: &R,
     gate: &G,
     turns: u64,

@@ -17,6 +17,7 @@ use crate::poll::Poll;
 use crate::round::serve_round;
 use cbs_job::Work;
 use std::thread::Threads;
+use std::time::Clock;
 
 /// How many turns each round of serving has.
 const TURNS: u64 = 10_000;
@@ -36,7 +37,7 @@ const TURNS: u64 = 10_000;
 ///
 /// There are at most 64 feeds, each with a client that was opened with this house and that has not
 /// ended unless no job is left.
-pub fn serve<R: Threads + Sync, G: Gate + Sync, W: Work + Send>(
+pub fn serve<R: Threads + Clock + Sync, G: Gate + Sync, W: Work + Send>(
     rt: &R,
     house: &mut House<W>,
     feeds: &mut [Feed<W>],

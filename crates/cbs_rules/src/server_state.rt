@@ -60,13 +60,8 @@ impl ServerState {
         ensures { self.new ≡ record { reservation = self.old.reservation; state = after_arrival mode self.old.reservation now self.old.state } }
     {
         if self.is_renewed(mode, now) {
-            let reservation = self.reservation;
-            *self = ServerState {
-                reservation,
-                budget: reservation.budget(),
-                deadline: now + reservation.period(),
-                throttled: false,
-            };
+            self.budget = self.reservation.budget();
+            self.deadline = now + self.reservation.period();
         }
     }
 
@@ -97,23 +92,17 @@ impl ServerState {
         requires room { mode ≡ Mode.Soft → self.old.state.budget ≡ 1 → self.old.state.deadline ≤ latest_deadline }
         ensures { self.new ≡ record { reservation = self.old.reservation; state = after_unit mode self.old.reservation self.old.state } }
     {
-        let reservation = self.reservation;
-        let budget = self.budget - 1;
-        let (budget, deadline, throttled) = match mode {
-            _ if budget > 0 => (budget, self.deadline, false),
-            Mode::Soft => (
-                reservation.budget(),
-                self.deadline + reservation.period(),
-                false,
-            ),
-            Mode::Throttled => (0, self.deadline, true),
-        };
-        *self = ServerState {
-            reservation,
-            budget,
-            deadline,
-            throttled,
-        };
+        self.budget -= 1;
+        if self.budget > 0 {
+            return;
+        }
+        match mode {
+            Mode::Soft => {
+                self.budget = self.reservation.budget();
+                self.deadline += self.reservation.period();
+            }
+            Mode::Throttled => self.throttled = true,
+        }
     }
 
     /// Replenishes the server at tick `now`: if it is throttled and its deadline has come, it gets Q
@@ -135,13 +124,9 @@ impl ServerState {
         ensures { self.new ≡ record { reservation = self.old.reservation; state = after_replenishment self.old.reservation now self.old.state } }
     {
         if self.throttled && self.deadline <= now {
-            let reservation = self.reservation;
-            *self = ServerState {
-                reservation,
-                budget: self.budget + reservation.budget(),
-                deadline: self.deadline + reservation.period(),
-                throttled: false,
-            };
+            self.budget += self.reservation.budget();
+            self.deadline += self.reservation.period();
+            self.throttled = false;
         }
     }
 

@@ -1,12 +1,13 @@
 //! The calls that steps make, as they are written.
 
-ghost use Rattle.std.specs.Prelude.{◌≡◌};
+ghost use Rattle.std.specs.Prelude.{◌≡◌, ◌++◌, OnOk, string_bytes};
+ghost use Rattle.cbs_run.specs.Lines.{call_text};
 ghost use Rattle.cbs_run.specs.StepTexts.{call_of};
 
+use crate::numbers::append_pair;
 use cbs_core::Step;
 use cbs_job::FileJob;
-use std::fmt;
-use std::fmt::Write;
+use std::alloc::AllocError;
 
 /// The call that a step makes.
 #[derive(Clone, Copy)]
@@ -21,18 +22,16 @@ pub enum Call {
     Close(u16),
 }
 
-impl fmt::Display for Call {
-    ghost use Rattle.std.specs.Prelude.{Some};
-    ghost use Rattle.cbs_run.specs.Lines.{call_text};
-
-    ghost output = { λ c. Some (call_text c) };
-
-    fn fmt<W: fmt::Write>(&self, f: &mut fmt::Formatter<W>) -> fmt::Result {
-        match self {
-            Call::Submit(server) => write!(f, "submit {server}"),
-            Call::Run => write!(f, "run"),
-            Call::Advance(ticks) => write!(f, "advance {ticks}"),
-            Call::Close(server) => write!(f, "close {server}"),
+impl Call {
+    /// Appends it to a text. Only want of memory is an error.
+    pub fn append_to(&self, text: &mut String) -> Result<(), AllocError>
+        ensures { OnOk result (string_bytes text.new ≡ string_bytes text.old ++ call_text self.now) }
+    {
+        match *self {
+            Call::Submit(server) => append_pair(text, "submit ", u64::from(server)),
+            Call::Run => text.push_str("run"),
+            Call::Advance(ticks) => append_pair(text, "advance ", ticks),
+            Call::Close(server) => append_pair(text, "close ", u64::from(server)),
         }
     }
 }

@@ -70,6 +70,9 @@ impl<R: Read> ByteInput for FromRead<R> {
 /// The most bytes that [`read_all`] takes: 16 MiB.
 pub const MAX_BYTES: usize = 16_777_216;
 
+/// The most bytes that one read is asked for: 64 KiB.
+const PIECE: usize = 65_536;
+
 /// Why the bytes of a reader could not be had.
 #[derive(Clone, Copy, Debug, PartialEq, Eq, Error)]
 pub enum ReadError {
@@ -120,7 +123,7 @@ pub fn read_all<R: ByteInput>(alloc: Global, reader: &mut R) -> Result<Vec<u8>, 
     // A read fault is one call that failed, and nothing else is.
     ensures fault { R.failed reader.new ≡ R.failed reader.old + (if is_read_fault result then 1 else 0) }
 {
-    let mut room = [0u8; 4096];
+    let mut room = [0u8; PIECE];
     let mut bytes = Vec::new(alloc);
     loop {
         let Ok(n) = reader.read(&mut room) else {

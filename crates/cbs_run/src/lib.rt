@@ -6,6 +6,7 @@ mod fault_lines;
 mod input;
 mod jobs_by_server;
 mod line;
+mod numbers;
 mod output;
 mod pending;
 mod result_lines;

@@ -1,13 +1,12 @@
 //! One line of a trace.
 
-ghost use Rattle.std.specs.Prelude.{◌≡◌, OnOk, Option, string_bytes};
-ghost use Rattle.cbs_run.specs.Lines.{line_text, shown_server};
+ghost use Rattle.std.specs.Prelude.{◌≡◌, ◌++◌, OnOk, string_bytes};
+ghost use Rattle.cbs_run.specs.Lines.{answer_text, state_text, line_text, shown_server};
 
 use crate::call::Call;
+use crate::numbers::append_pair;
 use cbs_core::{CoreError, Ran, ServerView};
 use std::alloc::AllocError;
-use std::fmt;
-use std::fmt::Write;
 
 /// What the call is answered.
 #[derive(Clone, Copy)]
@@ -38,47 +37,59 @@ pub struct State {
     pub server: Option<ServerView>,
 }
 
-impl fmt::Display for Answer {
-    ghost use Rattle.std.specs.Prelude.{Some};
-    ghost use Rattle.cbs_run.specs.Lines.{answer_text};
-
-    ghost output = { λ a. Some (answer_text a) };
-
-    fn fmt<W: fmt::Write>(&self, f: &mut fmt::Formatter<W>) -> fmt::Result {
+impl Answer {
+    /// Appends it to a text. Only want of memory is an error.
+    fn append_to(&self, text: &mut String) -> Result<(), AllocError>
+        ensures { OnOk result (string_bytes text.new ≡ string_bytes text.old ++ answer_text self.now) }
+    {
         match *self {
-            Answer::Accepted(seq) => write!(f, " job {seq} accepted"),
+            Answer::Accepted(seq) => {
+                append_pair(text, " job ", seq)?;
+                text.push_str(" accepted")
+            }
             Answer::Refused(error) => {
-                let name = error.name();
-                write!(f, " refused {name}")
+                text.push_str(" refused ")?;
+                text.push_str(error.name())
             }
-            Answer::Ran(Ran::Idle) => write!(f, " idle"),
-            Answer::Ran(Ran::ClockEnd) => write!(f, " refused ClockEnd"),
-            Answer::Ran(Ran::Unit { server, seq }) => write!(f, " {server} job {seq}"),
-            Answer::Ran(Ran::Done(done)) => {
-                let (server, seq, result) = (done.server, done.seq, done.result);
-                write!(f, " {server} job {seq} done {result}")
-            }
+            Answer::Ran(ran) => append_ran(text, ran),
             Answer::Made => Ok(()),
         }
     }
 }
 
-impl fmt::Display for State {
-    ghost use Rattle.std.specs.Prelude.{Some};
-    ghost use Rattle.cbs_run.specs.Lines.{state_text};
+/// Appends what a run did to a text. Only want of memory is an error.
+fn append_ran(text: &mut String, ran: Ran) -> Result<(), AllocError>
+    ensures { OnOk result (string_bytes text.new ≡ string_bytes text.old ++ answer_text (Answer.Ran ran)) }
+{
+    match ran {
+        Ran::Idle => text.push_str(" idle"),
+        Ran::ClockEnd => text.push_str(" refused ClockEnd"),
+        Ran::Unit { server, seq } => {
+            append_pair(text, " ", u64::from(server))?;
+            append_pair(text, " job ", seq)
+        }
+        Ran::Done(done) => {
+            append_pair(text, " ", u64::from(done.server))?;
+            append_pair(text, " job ", done.seq)?;
+            append_pair(text, " done ", done.result)
+        }
+    }
+}
 
-    ghost output = { λ s. Some (state_text s.server) };
-
-    fn fmt<W: fmt::Write>(&self, f: &mut fmt::Formatter<W>) -> fmt::Result {
+impl State {
+    /// Appends it to a text. Only want of memory is an error.
+    fn append_to(&self, text: &mut String) -> Result<(), AllocError>
+        ensures { OnOk result (string_bytes text.new ≡ string_bytes text.old ++ state_text self.now.server) }
+    {
         let Some(view) = self.server else {
             return Ok(());
         };
-        let (budget, deadline) = (view.budget, view.deadline);
+        append_pair(text, " c=", view.budget)?;
+        append_pair(text, " d=", view.deadline)?;
         if view.throttled {
-            write!(f, " c={budget} d={deadline} throttled")
-        } else {
-            write!(f, " c={budget} d={deadline}")
+            return text.push_str(" throttled");
         }
+        Ok(())
     }
 }
 
@@ -105,5 +116,10 @@ pub fn write_line(text: &mut String, line: &Line) -> Result<(), AllocError>
         state,
     } = *line;
     text.clear();
-    write!(text, "@{clock} {call}{answer}{state}\n")
+    append_pair(text, "@", clock)?;
+    text.push_str(" ")?;
+    call.append_to(text)?;
+    answer.append_to(text)?;
+    state.append_to(text)?;
+    text.push_str("\n")
 }

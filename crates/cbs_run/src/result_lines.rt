@@ -3,19 +3,20 @@
 ghost use Rattle.std.specs.Prelude.{◌≡◌, ◌++◌, ◌≤◌, IfOk, OnOk, length, map, string_bytes};
 ghost use Rattle.cbs_run.specs.ResultLines.{server_line, lines_from};
 
+use crate::numbers::append_pair;
 use std::alloc::{AllocError, Global};
-use std::fmt::Write;
 
 /// Appends the line of a server with these results. Only want of memory is an error.
 #[tactic(auto, unfolding(crate::specs::ResultLines::server_line))]
 fn append_line(text: &mut String, server: u16, results: &[u64]) -> Result<(), AllocError>
     ensures { OnOk result (string_bytes text.new ≡ string_bytes text.old ++ server_line server results.now) }
 {
-    write!(text, "server {server}:")?;
+    append_pair(text, "server ", u64::from(server))?;
+    text.push_str(":")?;
     for value in results {
-        write!(text, " {value}")?;
+        append_pair(text, " ", *value)?;
     }
-    write!(text, "\n")
+    text.push_str("\n")
 }
 
 /// The lines of all servers with their results, the first that of server 0. Only want of memory is an

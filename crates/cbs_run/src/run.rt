@@ -14,6 +14,7 @@ use crate::words::Verb;
 use cbs_file::{TaskFile, read_file};
 use std::alloc::Global;
 use std::thread::Threads;
+use std::time::Clock;
 
 /// The status of a run that is done, or of a request for help.
 pub const DONE: u8 = 0;
@@ -28,7 +29,7 @@ pub const BAD_FILE: u8 = 3;
 pub const RUN_FAULT: u8 = 4;
 
 /// Does with a task file what the verb says.
-fn run_file<R: Threads + Sync, O: ByteOutput>(
+fn run_file<R: Threads + Clock + Sync, O: ByteOutput>(
     rt: &R,
     alloc: Global,
     verb: Verb,
@@ -51,7 +52,7 @@ fn run_file<R: Threads + Sync, O: ByteOutput>(
 /// its line goes to `err`, and nothing to `out`. At status 4 the run ended early: the line of that
 /// goes to `err`, and `out` has a front of the output, which in serving is empty unless a write
 /// failed. A line that cannot be written changes no status.
-pub fn run_bytes<R: Threads + Sync, O: ByteOutput, E: ByteOutput>(
+pub fn run_bytes<R: Threads + Clock + Sync, O: ByteOutput, E: ByteOutput>(
     rt: &R,
     alloc: Global,
     verb: Verb,

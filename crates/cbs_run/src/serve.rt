@@ -23,6 +23,7 @@ use cbs_house::{Feed, House, HouseError, OpenGate, feeds_of, open_house, serve};
 use cbs_job::FileJob;
 use std::alloc::{AllocError, Global};
 use std::thread::Threads;
+use std::time::Clock;
 
 /// The run fault that an error of the house is, if it is one. The others never come of a task file,
 /// whose numbers are in range.
@@ -68,7 +69,7 @@ fn open_file(
 }
 
 /// The house of a task file, after the clients have sent all its jobs and all are finished.
-fn served_house<R: Threads + Sync>(
+fn served_house<R: Threads + Clock + Sync>(
     rt: &R,
     alloc: Global,
     file: TaskFile,
@@ -103,7 +104,7 @@ fn results_in(alloc: Global, house: &House<FileJob>) -> Result<Vec<Vec<u64>>, Al
 /// unfinished; and with [`RunError::Stalled`] where the clients did not send all in the rounds that
 /// they are given. Nothing is written then. Refuses with [`RunError::WriteFault`] where a write fails
 /// or takes no byte: then a front of the text is written.
-pub fn serve_file<R: Threads + Sync, O: ByteOutput>(
+pub fn serve_file<R: Threads + Clock + Sync, O: ByteOutput>(
     rt: &R,
     alloc: Global,
     file: TaskFile,

@@ -11,6 +11,7 @@ use std::fs::File;
 use std::io::ErrorKind;
 use std::process::ExitCode;
 use std::thread::Threads;
+use std::time::Clock;
 
 /// The words of the command line.
 fn words_of(rt: &HostRuntime, alloc: Global) -> Result<Vec<String>, WordsFault> {
@@ -38,7 +39,7 @@ fn bytes_of(rt: &HostRuntime, alloc: Global, path: &str) -> Result<Vec<u8>, Read
 }
 
 /// The status of a program that reads its words, its file and its steps. It serves on `threads`.
-fn status<R: Threads + Sync>(rt: &HostRuntime, threads: &R) -> u8 {
+fn status<R: Threads + Clock + Sync>(rt: &HostRuntime, threads: &R) -> u8 {
     let alloc = rt.alloc();
     let mut out = ToWrite::new(rt.stdout());
     let mut err = ToWrite::new(rt.stderr());

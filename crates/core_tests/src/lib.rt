@@ -1,6 +1,6 @@
-//! Tests of cbs_core, and a caller of it.
+//! Tests of cbs_rate, cbs_job, cbs_rules and cbs_core, and a caller of each.
 #![tactic(auto)]
 
-pub mod caller;
+pub mod callers;
 #[cfg(test)]
 mod tests;

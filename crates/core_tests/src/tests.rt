@@ -1,9 +1,12 @@
-//! The core, run on worked examples.
+//! The core and the crates below it, run on worked examples.
 
 mod calls;
 mod errors;
+mod jobs;
 mod lists;
 mod memory;
+mod rates;
+mod rules;
 mod scheduling;
 
 use cbs_core::{Core, CoreError, Ran};

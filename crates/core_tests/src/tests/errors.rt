@@ -2,40 +2,29 @@
 
 use super::same;
 use cbs_core::CoreError;
-use std::test::Fail;
+use std::alloc::Global;
+use std::process::Abort;
 
-#[test]
-fn errors_have_numbers_and_names(rt: HostRuntime) {
-    let errors = [
-        (CoreError::BadBacklog, 1, "BadBacklog"),
-        (CoreError::OutOfMemory, 2, "OutOfMemory"),
-        (CoreError::NoSuchServer, 3, "NoSuchServer"),
-        (CoreError::Closed, 4, "Closed"),
-        (CoreError::BacklogFull, 5, "BacklogFull"),
-        (CoreError::ClockEnd, 6, "ClockEnd"),
-    ];
-    for &(error, number, name) in &errors {
-        same(&rt, "error.number()", error.number(), number);
-        same(&rt, "error.name()", error.name(), name);
-    }
+/// Looks for the number, the name and the text of an error.
+fn says(rt: &impl Abort, alloc: Global, error: CoreError, number: u8, name: &str, text: &str) {
+    same(rt, name, (error.number(), error.name()), (number, name));
+    let said = format!(in alloc; "{error}").expect(rt, "memory");
+    assert!(rt; said.as_str() == text, "{said}");
 }
 
 #[test]
-fn errors_say_what_is_wrong(rt: HostRuntime) -> Result<(), Fail> {
+fn errors_say_what_is_wrong(rt: HostRuntime) {
     let alloc = rt.alloc();
-    for &(error, text) in &[
-        (
-            CoreError::BadBacklog,
-            "the backlog is not within 1 to 4096 jobs",
-        ),
-        (CoreError::OutOfMemory, "out of memory"),
-        (CoreError::NoSuchServer, "there is no such server"),
-        (CoreError::Closed, "the server is closed"),
-        (CoreError::BacklogFull, "the backlog of the server is full"),
-        (CoreError::ClockEnd, "the clock would pass 1000000000 ticks"),
-    ] {
-        let said = format!(in alloc; "{error}")?;
-        assert!(rt; said.as_str() == text, "{said}");
-    }
-    Ok(())
+    let text = "the backlog is not within 1 to 4096 jobs";
+    says(&rt, alloc, CoreError::BadBacklog, 1, "BadBacklog", text);
+    let text = "out of memory";
+    says(&rt, alloc, CoreError::OutOfMemory, 2, "OutOfMemory", text);
+    let text = "there is no such server";
+    says(&rt, alloc, CoreError::NoSuchServer, 3, "NoSuchServer", text);
+    let text = "the server is closed";
+    says(&rt, alloc, CoreError::Closed, 4, "Closed", text);
+    let text = "the backlog of the server is full";
+    says(&rt, alloc, CoreError::BacklogFull, 5, "BacklogFull", text);
+    let text = "the clock would pass 1000000000 ticks";
+    says(&rt, alloc, CoreError::ClockEnd, 6, "ClockEnd", text);
 }

@@ -29,6 +29,16 @@ enum Told {
     Refused(CoreError),
 }
 
+/// The step that is asked for.
+fn step_of(rt: &impl Abort, alloc: Global, asked: Asked) -> Step<SumJob> {
+    match asked {
+        Asked::Submit(server, number) => Step::Submit(server, sum_of(rt, alloc, &[number])),
+        Asked::Run => Step::Run,
+        Asked::Advance(n) => Step::Advance(n),
+        Asked::Close(server) => Step::Close(server),
+    }
+}
+
 /// The list of these steps.
 fn steps_of<A: Allocator>(
     rt: &impl Abort,
@@ -38,12 +48,7 @@ fn steps_of<A: Allocator>(
 ) -> Vec<Step<SumJob>, A> {
     let mut steps = Vec::with_capacity(alloc, asked.len()).expect(rt, "memory");
     for &step in asked {
-        let step = match step {
-            Asked::Submit(server, number) => Step::Submit(server, sum_of(rt, global, &[number])),
-            Asked::Run => Step::Run,
-            Asked::Advance(n) => Step::Advance(n),
-            Asked::Close(server) => Step::Close(server),
-        };
+        let step = step_of(rt, global, step);
         steps.push(step).ok().expect(rt, "memory");
     }
     steps

@@ -9,19 +9,33 @@ use cbs_rules::Mode;
 use std::alloc::Global;
 use std::process::Abort;
 
+/// A unit of a server's first job that is not its last.
+fn unit(server: u16) -> Ran {
+    Ran::Unit { server, seq: 0 }
+}
+
+/// Runs, and looks for the answer, and then at a server's budget, deadline and mark.
+fn leaves(
+    rt: &impl Abort,
+    core: &mut Core<SumJob>,
+    ran: Ran,
+    server: u16,
+    state: (u64, u64, bool),
+) {
+    runs(rt, core, ran);
+    shows(rt, core, server, state);
+}
+
 /// A throttled server with one unit of its job left and no budget.
 fn exhausted(rt: &impl Abort, alloc: Global) -> Core<SumJob> {
     let mut core = core_of(rt, alloc, Mode::Throttled, &[(2, 5)], 4);
     accepts(rt, &mut core, 0, sum_of(rt, alloc, &[1, 2, 3]), 0);
-    for &(ran, now, budget, throttled) in &[
-        (Ran::Unit { server: 0, seq: 0 }, 1, 1, false),
-        (Ran::Unit { server: 0, seq: 0 }, 2, 0, true),
-        (Ran::Idle, 2, 0, true),
-    ] {
-        runs(rt, &mut core, ran);
-        stands_at(rt, &core, now);
-        shows(rt, &core, 0, (budget, 5, throttled));
-    }
+    leaves(rt, &mut core, unit(0), 0, (1, 5, false));
+    stands_at(rt, &core, 1);
+    leaves(rt, &mut core, unit(0), 0, (0, 5, true));
+    stands_at(rt, &core, 2);
+    leaves(rt, &mut core, Ran::Idle, 0, (0, 5, true));
+    stands_at(rt, &core, 2);
     core
 }
 
@@ -54,25 +68,31 @@ fn the_idle_span_ends_where_somebody_is_ready(rt: HostRuntime) {
     idles_for(&rt, &exhausted(&rt, alloc), Some(3));
 }
 
+/// Looks for the server that would run, runs, and looks for the answer and at its budget and deadline.
+fn chosen(
+    rt: &impl Abort,
+    core: &mut Core<SumJob>,
+    server: u16,
+    ran: Ran,
+    (budget, deadline): (u64, u64),
+) {
+    chooses(rt, core, Some(server));
+    leaves(rt, core, ran, server, (budget, deadline, false));
+}
+
 #[test]
 fn the_earliest_deadline_runs(rt: HostRuntime) {
     let alloc = rt.alloc();
     let mut core = core_of(&rt, alloc, Mode::Soft, &[(2, 5), (3, 5)], 4);
     accepts(&rt, &mut core, 0, sum_of(&rt, alloc, &[1, 1, 1]), 0);
     accepts(&rt, &mut core, 1, sum_of(&rt, alloc, &[1, 1, 1, 1]), 0);
-    for &(ran, server, budget, deadline) in &[
-        (Ran::Unit { server: 0, seq: 0 }, 0, 1, 5),
-        (Ran::Unit { server: 0, seq: 0 }, 0, 2, 10),
-        (Ran::Unit { server: 1, seq: 0 }, 1, 2, 5),
-        (Ran::Unit { server: 1, seq: 0 }, 1, 1, 5),
-        (Ran::Unit { server: 1, seq: 0 }, 1, 3, 10),
-        (done(0, 0, 3), 0, 1, 10),
-        (done(1, 0, 4), 1, 2, 10),
-    ] {
-        chooses(&rt, &core, Some(server));
-        runs(&rt, &mut core, ran);
-        shows(&rt, &core, server, (budget, deadline, false));
-    }
+    chosen(&rt, &mut core, 0, unit(0), (1, 5));
+    chosen(&rt, &mut core, 0, unit(0), (2, 10));
+    chosen(&rt, &mut core, 1, unit(1), (2, 5));
+    chosen(&rt, &mut core, 1, unit(1), (1, 5));
+    chosen(&rt, &mut core, 1, unit(1), (3, 10));
+    chosen(&rt, &mut core, 0, done(0, 0, 3), (1, 10));
+    chosen(&rt, &mut core, 1, done(1, 0, 4), (2, 10));
     stands_at(&rt, &core, 7);
 }
 
@@ -83,17 +103,12 @@ fn three_throttled_servers_take_turns(rt: HostRuntime) {
     for server in 0..3 {
         accepts(&rt, &mut core, server, sum_of(&rt, alloc, &[1, 1]), 0);
     }
-    for &(ran, server, deadline) in &[
-        (Ran::Unit { server: 2, seq: 0 }, 2, 2),
-        (Ran::Unit { server: 1, seq: 0 }, 1, 3),
-        (done(2, 0, 2), 2, 4),
-        (Ran::Unit { server: 0, seq: 0 }, 0, 6),
-        (done(1, 0, 2), 1, 6),
-        (Ran::Idle, 1, 6),
-    ] {
-        runs(&rt, &mut core, ran);
-        shows(&rt, &core, server, (0, deadline, true));
-    }
+    leaves(&rt, &mut core, unit(2), 2, (0, 2, true));
+    leaves(&rt, &mut core, unit(1), 1, (0, 3, true));
+    leaves(&rt, &mut core, done(2, 0, 2), 2, (0, 4, true));
+    leaves(&rt, &mut core, unit(0), 0, (0, 6, true));
+    leaves(&rt, &mut core, done(1, 0, 2), 1, (0, 6, true));
+    leaves(&rt, &mut core, Ran::Idle, 1, (0, 6, true));
     idles_for(&rt, &core, Some(1));
     advances(&rt, &mut core, 1, Ok(()));
     runs(&rt, &mut core, done(0, 0, 2));

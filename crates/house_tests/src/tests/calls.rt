@@ -9,7 +9,7 @@ ghost use Rattle.cbs_house.specs.Houses.{rings_of};
 ghost use Rattle.cbs_house.specs.RingEnds.{IsOpened};
 
 use super::same;
-use cbs_core::Ran;
+use cbs_core::{Ran, ServerView};
 use cbs_house::{Client, CollectError, Collector, House, HouseError, Poll, SendError};
 use cbs_job::{Completion, SumJob, Task};
 use std::alloc::Allocator;
@@ -106,6 +106,21 @@ pub fn drains<A: Allocator>(
 /// Looks at the clock.
 pub fn stands_at<A: Allocator>(rt: &impl Abort, house: &House<SumJob, A>, wanted: u64) {
     same(rt, "now", house.now(), wanted);
+}
+
+/// Looks for how many ticks nobody will be ready.
+pub fn idles_for<A: Allocator>(rt: &impl Abort, house: &House<SumJob, A>, wanted: Option<u64>) {
+    same(rt, "idle_span", house.idle_span(), wanted);
+}
+
+/// Looks at what a server shows.
+pub fn shows<A: Allocator>(
+    rt: &impl Abort,
+    house: &House<SumJob, A>,
+    server: u16,
+    wanted: Result<ServerView, HouseError>,
+) {
+    same(rt, "view", house.view(server), wanted);
 }
 
 /// Looks at the results of a server.

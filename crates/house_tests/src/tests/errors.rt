@@ -1,58 +1,48 @@
 //! What the errors say.
 
 use cbs_house::{CollectError, HouseError, SendError};
-use std::test::Fail;
+use std::alloc::Global;
+use std::fmt::Display;
+use std::process::Abort;
 
-#[test]
-fn a_house_says_what_is_wrong(rt: HostRuntime) -> Result<(), Fail> {
-    let alloc = rt.alloc();
-    for &(error, text) in &[
-        (
-            HouseError::BadBacklog,
-            "the backlog is not within 1 to 4096 jobs",
-        ),
-        (
-            HouseError::BadRing,
-            "the ring is not within 1 to 1024 messages",
-        ),
-        (HouseError::OutOfMemory, "out of memory"),
-        (HouseError::NoSuchServer, "there is no such server"),
-        (
-            HouseError::ClockEnd,
-            "the clock would pass its end, 1000000000 ticks, or stands there with a job unfinished",
-        ),
-        (
-            HouseError::Stalled,
-            "the clients did not send all in the rounds that they are given",
-        ),
-    ] {
-        let said = format!(in alloc; "{error}")?;
-        assert!(rt; said.as_str() == text, "{said}");
-    }
-    Ok(())
+/// Looks for the text of an error.
+fn says<E: Display>(rt: &impl Abort, alloc: Global, error: &E, text: &str) {
+    let said = format!(in alloc; "{error}").expect(rt, "memory");
+    assert!(rt; said.as_str() == text, "{said}");
 }
 
 #[test]
-fn clients_and_collectors_say_what_is_wrong(rt: HostRuntime) -> Result<(), Fail> {
+fn a_house_says_what_is_wrong(rt: HostRuntime) {
     let alloc = rt.alloc();
-    for &(error, text) in &[
-        (SendError::Ended, "the client has ended"),
-        (SendError::RingFull, "the ring is full"),
-    ] {
-        let said = format!(in alloc; "{error}")?;
-        assert!(rt; said.as_str() == text, "{said}");
-    }
-    for &(error, text) in &[
-        (CollectError::Stranger, "there is no such server"),
-        (
-            CollectError::Double,
-            "the result of the job was taken before",
-        ),
-        (CollectError::Early, "the completion comes too early"),
-        (CollectError::OutOfMemory, "out of memory"),
-    ] {
-        let said = format!(in alloc; "{error}")?;
-        assert!(rt; said.as_str() == text, "{said}");
-    }
-    Ok(())
+    let text = "the backlog is not within 1 to 4096 jobs";
+    says(&rt, alloc, &HouseError::BadBacklog, text);
+    let text = "the ring is not within 1 to 1024 messages";
+    says(&rt, alloc, &HouseError::BadRing, text);
+    says(&rt, alloc, &HouseError::OutOfMemory, "out of memory");
+    let text = "there is no such server";
+    says(&rt, alloc, &HouseError::NoSuchServer, text);
+    let text =
+        "the clock would pass its end, 1000000000 ticks, or stands there with a job unfinished";
+    says(&rt, alloc, &HouseError::ClockEnd, text);
+    let text = "the clients did not send all in the rounds that they are given";
+    says(&rt, alloc, &HouseError::Stalled, text);
+}
+
+#[test]
+fn clients_say_what_is_wrong(rt: HostRuntime) {
+    let alloc = rt.alloc();
+    says(&rt, alloc, &SendError::Ended, "the client has ended");
+    says(&rt, alloc, &SendError::RingFull, "the ring is full");
+}
+
+#[test]
+fn collectors_say_what_is_wrong(rt: HostRuntime) {
+    let alloc = rt.alloc();
+    let text = "there is no such server";
+    says(&rt, alloc, &CollectError::Stranger, text);
+    let text = "the result of the job was taken before";
+    says(&rt, alloc, &CollectError::Double, text);
+    let text = "the completion comes too early";
+    says(&rt, alloc, &CollectError::Early, text);
+    says(&rt, alloc, &CollectError::OutOfMemory, "out of memory");
 }

@@ -10,7 +10,8 @@ use super::calls::{
 use super::{lists_of, plan_of, same, sum_of};
 use cbs_core::Ran;
 use cbs_house::{
-    Client, CollectError, Collector, FeedsRefused, House, HouseError, Poll, feeds_of, open_house,
+    Client, CollectError, Collector, Feed, FeedsRefused, House, HouseError, Poll, feeds_of,
+    open_house,
 };
 use cbs_job::{Completion, SumJob, Task};
 use cbs_rules::Mode;
@@ -273,35 +274,59 @@ fn what_is_taken_is_done_without_memory(rt: HostRuntime) {
     gave(&rt, &house, 1, &[9]);
 }
 
-/// Asks for feeds of two clients, which finds no memory, and gives back what was given.
-fn not_fed<A: Allocator + Copy>(
+/// Looks how many jobs each list has.
+fn lengths(rt: &impl Abort, lists: &[Vec<Task<SumJob>, &LocalHeap>], wanted: &[usize]) {
+    same(rt, "lists", lists.len(), wanted.len());
+    for (list, &length) in lists.iter().zip(wanted) {
+        same(rt, "list", list.len(), length);
+    }
+}
+
+/// Looks how many jobs are left of each feed.
+fn left(rt: &impl Abort, feeds: &[Feed<SumJob, &LocalHeap>], wanted: &[u64]) {
+    same(rt, "feeds", feeds.len(), wanted.len());
+    for (feed, &left) in feeds.iter().zip(wanted) {
+        same(rt, "left", feed.left(), left);
+    }
+}
+
+/// Sends a job by each client.
+fn all_send(rt: &impl Abort, alloc: Global, clients: &mut [Client<SumJob, &LocalHeap>]) {
+    for client in clients {
+        sends(rt, client, sum_of(rt, alloc, &[5]), 0);
+    }
+}
+
+/// Asks for feeds of clients, which finds no memory, and gives back what was given.
+fn not_fed<'a>(
     rt: &impl Abort,
-    alloc: A,
-    clients: Vec<Client<SumJob, A>, A>,
-    lists: Vec<Vec<Task<SumJob>, A>, A>,
-) -> FeedsRefused<SumJob, A> {
+    heap: &'a LocalHeap,
+    clients: Vec<Client<SumJob, &'a LocalHeap>, &'a LocalHeap>,
+    lists: Vec<Vec<Task<SumJob>, &'a LocalHeap>, &'a LocalHeap>,
+) -> FeedsRefused<SumJob, &'a LocalHeap> {
     assert!(rt; clients.len() == lists.len());
-    let refused = feeds_of(alloc, clients, lists)
-        .err()
-        .expect(rt, "a refusal");
-    assert!(rt; refused.clients.len() == 2 && refused.lists.len() == 2);
-    assert!(rt; refused.lists[0].len() == 2 && refused.lists[1].is_empty());
+    let Err(refused) = feeds_of(heap, clients, lists) else {
+        panic!(rt; "feeds without memory");
+    };
     refused
 }
 
-/// Feeds of two clients that have sent a job each, the first with two jobs and the second with none.
-fn fed<A: Allocator + Copy>(
+/// Makes feeds of two clients that have sent a job each, the first with two jobs and the second with none.
+fn fed<'a>(
     rt: &impl Abort,
-    alloc: A,
-    clients: Vec<Client<SumJob, A>, A>,
-    lists: Vec<Vec<Task<SumJob>, A>, A>,
+    heap: &'a LocalHeap,
+    clients: Vec<Client<SumJob, &'a LocalHeap>, &'a LocalHeap>,
+    lists: Vec<Vec<Task<SumJob>, &'a LocalHeap>, &'a LocalHeap>,
 ) {
     assert!(rt; clients.len() == lists.len());
-    let mut feeds = feeds_of(alloc, clients, lists).ok().expect(rt, "feeds");
-    assert!(rt; feeds.len() == 2 && feeds[0].left() == 2 && feeds[1].left() == 0);
+    let Ok(mut feeds) = feeds_of(heap, clients, lists) else {
+        panic!(rt; "feeds");
+    };
+    left(rt, feeds.as_slice(), &[2, 0]);
     for (index, feed) in feeds.iter_mut().enumerate() {
         let client = feed.client();
-        assert!(rt; client.sent() == 1 && usize::from(client.server()) == index);
+        let server = usize::from(client.server());
+        same(rt, "client", (client.sent(), server), (1, index));
     }
 }
 
@@ -315,9 +340,9 @@ fn feeds_that_find_no_memory_come_back(rt: HostRuntime) {
     let lists = lists_of(&rt, alloc, &heap, &[&[&[1, 2], &[3, 4]], &[]]);
     let ballast = filled(&rt, alloc, &heap);
     let mut refused = not_fed(&rt, &heap, clients, lists);
-    for client in &mut refused.clients {
-        sends(&rt, client, sum_of(&rt, alloc, &[5]), 0);
-    }
+    same(&rt, "clients", refused.clients.len(), 2);
+    lengths(&rt, refused.lists.as_slice(), &[2, 0]);
+    all_send(&rt, alloc, &mut refused.clients);
     drop(ballast);
     fed(&rt, &heap, refused.clients, refused.lists);
 }

@@ -3,7 +3,9 @@
 ghost use Rattle.cbs_house.specs.Houses.{rings_of};
 ghost use Rattle.cbs_house.specs.RingEnds.{IsOpened};
 
-use super::calls::{advances, drains, ends, gave, polls, refuses, runs, sends, settles, stands_at};
+use super::calls::{
+    advances, drains, ends, gave, idles_for, polls, refuses, runs, sends, settles, shows, stands_at,
+};
 use super::{plan_of, same, sum_of};
 use cbs_core::{Ran, ServerView};
 use cbs_house::{Client, House, HouseError, Poll, SendError, open_house};
@@ -60,8 +62,8 @@ fn messages_are_taken_in_order(rt: HostRuntime) {
         accepted: 2,
         finished: 2,
     };
-    same(&rt, "house.view(0)", house.view(0), Ok(view));
-    same(&rt, "house.idle_span()", house.idle_span(), Some(LIMIT - 2));
+    shows(&rt, &house, 0, Ok(view));
+    idles_for(&rt, &house, Some(LIMIT - 2));
     runs(&rt, &mut house, Ran::Idle);
     advances(&rt, &mut house, 3, Ok(()));
     stands_at(&rt, &house, 5);
@@ -93,12 +95,7 @@ fn a_full_ring_and_a_full_backlog_lose_nothing(rt: HostRuntime) {
     runs(&rt, &mut house, Ran::Done(done));
     polls(&rt, &mut house, 0, Poll::Took(1));
     polls(&rt, &mut house, 3, Poll::NoSuchServer);
-    same(
-        &rt,
-        "house.view(3)",
-        house.view(3),
-        Err(HouseError::NoSuchServer),
-    );
+    shows(&rt, &house, 3, Err(HouseError::NoSuchServer));
     assert!(rt; house.results(3) == Err(HouseError::NoSuchServer));
 }
 
@@ -152,7 +149,14 @@ fn the_clock_ends_with_a_job_unfinished(rt: HostRuntime) {
     drains(&rt, &mut house, Err(HouseError::ClockEnd));
     stands_at(&rt, &house, 1_000_000_000);
     gave(&rt, &house, 0, &[]);
-    let view = house.view(0).ok().expect(&rt, "a server");
-    assert!(rt; view.budget == 1 && view.deadline == 2_000_000_000 && !view.throttled);
+    let view = ServerView {
+        budget: 1,
+        deadline: 2_000_000_000,
+        throttled: false,
+        closed: false,
+        accepted: 1,
+        finished: 0,
+    };
+    shows(&rt, &house, 0, Ok(view));
     advances(&rt, &mut house, 1, Err(HouseError::ClockEnd));
 }

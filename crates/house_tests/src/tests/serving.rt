@@ -14,7 +14,9 @@ use cbs_job::SumJob;
 use cbs_rules::Mode;
 use std::alloc::Global;
 use std::process::Abort;
+use std::slice::from_mut;
 use std::thread::Threads;
+use std::time::Clock;
 
 /// A house of servers with these reservations, and for each a feed of the sums at its place.
 fn opened<R: Abort>(
@@ -51,7 +53,7 @@ fn two_feeds<R: Abort>(rt: &R, alloc: Global) -> (House<SumJob>, Vec<Feed<SumJob
 }
 
 /// Serves feeds.
-fn serves<R: Threads + Sync + Abort, G: Gate + Sync>(
+fn serves<R: Threads + Clock + Sync + Abort, G: Gate + Sync>(
     rt: &R,
     house: &mut House<SumJob>,
     feeds: &mut [Feed<SumJob>],
@@ -72,6 +74,14 @@ fn standing(house: &mut House<SumJob>, feeds: &mut [Feed<SumJob>], index: usize)
 {
     let feed = &mut feeds[index];
     house.settle(feed.client())
+}
+
+/// Looks at the only feed: how many jobs are left, and whether it is done.
+fn one_feed(rt: &impl Abort, feeds: &[Feed<SumJob>], wanted: (u64, bool)) {
+    same(rt, "feeds", feeds.len(), 1);
+    for feed in feeds {
+        same(rt, "left, done", (feed.left(), feed.done()), wanted);
+    }
 }
 
 #[test]
@@ -114,8 +124,7 @@ fn a_gate_that_holds_all_back_stalls(rt: HostRuntime) {
     gave(&rt, &house, 0, &[]);
     serves(&rt, &mut house, &mut feeds, &Shut, Err(HouseError::Stalled));
     gave(&rt, &house, 0, &[]);
-    let feed = feeds.pop().expect(&rt, "a feed");
-    assert!(rt; feed.left() == 2 && !feed.done());
+    one_feed(&rt, &feeds, (2, false));
 }
 
 #[test]
@@ -126,8 +135,7 @@ fn served_feeds_may_be_served_again(rt: HostRuntime) {
     gave(&rt, &house, 0, &[1, 2]);
     serves(&rt, &mut house, &mut feeds, &OpenGate, Ok(()));
     gave(&rt, &house, 0, &[1, 2]);
-    let feed = feeds.pop().expect(&rt, "a feed");
-    assert!(rt; feed.left() == 0 && feed.done());
+    one_feed(&rt, &feeds, (0, true));
 }
 
 #[test]
@@ -154,8 +162,8 @@ fn a_turn_polls_and_then_runs(rt: HostRuntime) {
     let (mut house, mut client) = one_client(&rt, alloc, Mode::Soft, (2, 5), (1, 2));
     sends(&rt, &mut client, sum_of(&rt, alloc, &[1]), 0);
     sends(&rt, &mut client, sum_of(&rt, alloc, &[2]), 1);
-    let mut feeds = [Feed::new(client, Vec::new(alloc))];
-    let round = serve_round(&rt, &mut house, &mut feeds, 2, &Shut);
+    let mut feed = Feed::new(client, Vec::new(alloc));
+    let round = serve_round(&rt, &mut house, from_mut(&mut feed), 2, &Shut);
     same(&rt, "two turns", round, Round { sent: 0, took: 2 });
     gave(&rt, &house, 0, &[1, 2]);
 }

@@ -8,6 +8,7 @@ use std::io;
 use std::io::ErrorKind;
 use std::process::Abort;
 use std::thread::Threads;
+use std::time::Clock;
 
 /// A writer that takes at most `step` bytes a call and `room` in all, and then fails.
 #[derive(Drop)]
@@ -38,8 +39,8 @@ impl Memory {
         Memory::new(alloc, usize::MAX, usize::MAX)
     }
 
-    pub fn holds(&self, text: &str) -> bool {
-        self.taken.as_slice() == text.as_bytes()
+    pub fn holds(&self, bytes: &[u8]) -> bool {
+        self.taken.as_slice() == bytes
     }
 }
 
@@ -122,13 +123,16 @@ impl Outcome {
     pub fn leaves(&self, rt: &impl Abort, label: &str, status: u8, out: &str, err: &str) {
         let found = self.status;
         assert!(rt; found == status, "{label}: status {found}, not {status}");
-        assert!(rt; self.out.holds(out), "{label}: another output");
-        assert!(rt; self.err.holds(err), "{label}: another error output");
+        assert!(rt; self.out.holds(out.as_bytes()), "{label}: another output");
+        assert!(rt;
+            self.err.holds(err.as_bytes()),
+            "{label}: another error output"
+        );
     }
 }
 
 /// Does with a file what the verb says, into ample memory.
-fn ran<R: Threads + Sync>(rt: &R, alloc: Global, verb: Verb, file: &[u8]) -> Outcome {
+pub fn ran<R: Threads + Clock + Sync>(rt: &R, alloc: Global, verb: Verb, file: &[u8]) -> Outcome {
     let mut out = Memory::ample(alloc);
     let mut err = Memory::ample(alloc);
     let status = run_bytes(rt, alloc, verb, file, &mut out, &mut err);
@@ -136,7 +140,7 @@ fn ran<R: Threads + Sync>(rt: &R, alloc: Global, verb: Verb, file: &[u8]) -> Out
 }
 
 /// Replays a file into ample memory, and looks for what that leaves.
-pub fn replays<R: Abort + Threads + Sync>(
+pub fn replays<R: Abort + Threads + Clock + Sync>(
     rt: &R,
     alloc: Global,
     label: &str,
@@ -149,7 +153,7 @@ pub fn replays<R: Abort + Threads + Sync>(
 }
 
 /// Serves a file into ample memory, and looks for what that leaves.
-pub fn serves<R: Abort + Threads + Sync>(
+pub fn serves<R: Abort + Threads + Clock + Sync>(
     rt: &R,
     alloc: Global,
     label: &str,

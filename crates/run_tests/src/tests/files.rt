@@ -1,14 +1,16 @@
 //! Task files: faulty ones, other spellings, and what a good one holds.
 
 use super::errors::says;
-use super::fakes::replays;
-use super::{FIRST_LINES, same};
+use super::fakes::{ran, replays};
+use super::{FIRST, FIRST_LINES, same};
 use cbs_core::Step;
 use cbs_file::{FileFault, FileKind, Place, TaskFile, read_file};
 use cbs_rules::Mode;
+use cbs_run::{BAD_FILE, Verb};
 use std::alloc::Global;
 use std::process::Abort;
 use std::thread::Threads;
+use std::time::Clock;
 
 const HEAD: &str = "format = 1\nmode = \"soft\"\nbound = [1, 1]\nbacklog = 4\nring = 4\n";
 
@@ -19,10 +21,20 @@ const THIRD: &str = "format = 1\nmode = \"soft\"\nbound = [1, 3]\nbacklog = 4\nr
 const BACKLOG_OVER: &str =
     "format = 1\nmode = \"soft\"\nbound = [1, 1]\nbacklog = 4097\nring = 4\n";
 
+const RING_OF_NONE: &str = "format = 1\nmode = \"soft\"\nbound = [1, 1]\nbacklog = 4\nring = 0\n";
+
+const BOUND_OVER_1: &str = "format = 1\nmode = \"soft\"\nbound = [2, 1]\nbacklog = 4\nring = 4\n";
+
+const BOUND_IN_WORDS: &str =
+    "format = 1\nmode = \"soft\"\nbound = [\"1\"]\nbacklog = 4\nring = 4\n";
+
+const MODE_TWICE: &str =
+    "format = 1\nmode = \"soft\"\nbound = [1, 1]\nbacklog = 4\nring = 4\nmode = \"soft\"\n";
+
 /// What stands before `server`, the line of `server`, what stands behind it, and the fault.
 type Faulty = [&'static str; 4];
 
-const FAULTS_AT_TOP: [Faulty; 8] = [
+const FAULTS_AT_TOP: [Faulty; 12] = [
     ["", "", "", "3 MissingKey at top"],
     ["format = 1\n", "mode = \"so", "", "1 NotToml at top"],
     ["format = 3", "", "", "5 OutOfRange at top"],
@@ -31,10 +43,20 @@ const FAULTS_AT_TOP: [Faulty; 8] = [
     [HEAD, ONE, "", "3 MissingKey at top"],
     [HEAD, "server = 2\n", "step = []", "4 WrongType at top"],
     [BACKLOG_OVER, ONE, "step = []", "5 OutOfRange at top"],
+    [RING_OF_NONE, ONE, "step = []", "5 OutOfRange at top"],
+    [BOUND_OVER_1, ONE, "step = []", "5 OutOfRange at top"],
+    [BOUND_IN_WORDS, ONE, "step = []", "4 WrongType at top"],
+    [MODE_TWICE, ONE, "step = []", "1 NotToml at top"],
 ];
 
 /// The entries of `server`, and the fault.
-const FAULTS_AT_SERVERS: [(&str, &str, &str); 4] = [
+const FAULTS_AT_SERVERS: [(&str, &str, &str); 6] = [
+    (HEAD, "{ budget = 2 }", "3 MissingKey at server 0"),
+    (
+        HEAD,
+        "{ budget = true, period = 5 }",
+        "4 WrongType at server 0",
+    ),
     (
         HEAD,
         "{ budget = 6, period = 5 }",
@@ -58,7 +80,12 @@ const FAULTS_AT_SERVERS: [(&str, &str, &str); 4] = [
 ];
 
 /// The entries of `step`, and the fault.
-const FAULTS_AT_STEPS: [(&str, &str); 8] = [
+const FAULTS_AT_STEPS: [(&str, &str); 10] = [
+    ("1", "4 WrongType at step 0"),
+    (
+        "{ op = \"advance\", ticks = 1000000001 }",
+        "5 OutOfRange at step 0",
+    ),
     ("{ op = \"jump\" }", "5 OutOfRange at step 0"),
     (
         "{ op = \"run\" }, { op = \"run\", server = 0 }",
@@ -82,7 +109,7 @@ const FAULTS_AT_STEPS: [(&str, &str); 8] = [
 ];
 
 /// Ends the test where a file is not refused with this fault.
-fn refuses<R: Abort + Threads + Sync>(rt: &R, alloc: Global, file: &str, fault: &str) {
+fn refuses<R: Abort + Threads + Clock + Sync>(rt: &R, alloc: Global, file: &str, fault: &str) {
     let line = format!(in alloc; "cbsrun: file fault {fault}\n").expect(rt, "memory");
     replays(rt, alloc, file, file.as_bytes(), 3, "", line.as_str());
 }
@@ -109,6 +136,51 @@ fn faults_at_servers_and_steps_have_their_places(rt: HostRuntime) {
         let file = format!(in alloc; "{HEAD}{ONE}step = [{steps}]").expect(&rt, "memory");
         refuses(&rt, alloc, file.as_str(), fault);
     }
+}
+
+#[test]
+fn the_first_fault_is_told(rt: HostRuntime) {
+    let alloc = rt.alloc();
+    let both = format!(in alloc;
+        "{HEAD}server = [{{ budget = 6, period = 5 }}]\nstep = [1]"
+    ).expect(&rt, "memory");
+    refuses(&rt, alloc, both.as_str(), "5 OutOfRange at server 0");
+
+    let mut many = format!(in alloc; "{HEAD}step = []\nserver = [").expect(&rt, "memory");
+    for _server in 0..65 {
+        many.push_str("{ budget = 1, period = 1000 },")
+            .expect(&rt, "memory");
+    }
+    many.push_str("]").expect(&rt, "memory");
+    refuses(&rt, alloc, many.as_str(), "6 NotAdmitted at server 64");
+}
+
+/// Ends the test where a file is not told to have a fault, or something is put out.
+fn has_a_fault<R: Abort + Threads + Clock + Sync>(rt: &R, alloc: Global, file: &[u8]) {
+    let outcome = ran(rt, alloc, Verb::Replay, file);
+    let told = outcome.err.taken.starts_with(b"cbsrun: file fault ");
+    let left = (outcome.status, outcome.out.taken.len(), told);
+    same(rt, "a file cut short", left, (BAD_FILE, 0, true));
+}
+
+#[test]
+fn a_file_cut_short_has_a_fault(rt: HostRuntime) {
+    let alloc = rt.alloc();
+    let file = FIRST.as_bytes();
+    // The last bytes are the bracket that ends the steps, and a line feed.
+    let open = file.len() - 2;
+    for end in 0..open + 1 {
+        has_a_fault(&rt, alloc, &file[..end]);
+    }
+    replays(
+        &rt,
+        alloc,
+        "no line feed",
+        &file[..open + 1],
+        0,
+        FIRST_LINES,
+        "",
+    );
 }
 
 /// The first example in tables with headers, in other bases, with comments and other quotes.

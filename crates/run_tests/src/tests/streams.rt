@@ -10,6 +10,7 @@ use cbs_run::{
 use std::alloc::Global;
 use std::process::Abort;
 use std::thread::Threads;
+use std::time::Clock;
 
 /// Replays the first example into a writer with so much room, that takes so many bytes a call, and looks
 /// for the fault and for what is written.
@@ -19,7 +20,7 @@ fn writes(
     label: &str,
     room: usize,
     step: usize,
-    text: &str,
+    text: &[u8],
     fault: Option<RunError>,
 ) {
     let mut out = Memory::new(alloc, room, step);
@@ -31,28 +32,31 @@ fn writes(
 fn a_writer_that_fails_has_the_front(rt: HostRuntime) {
     let alloc = rt.alloc();
     let fault = Some(RunError::WriteFault);
-    for &(room, step, front) in &[
-        (20, usize::MAX, "@0 submit 0 job 0 ac"),
-        (20, 1, "@0 submit 0 job 0 ac"),
-        (0, usize::MAX, ""),
-        (usize::MAX, 0, ""),
-    ] {
-        writes(&rt, alloc, front, room, step, front, fault);
+    let lines = FIRST_LINES.as_bytes();
+    for room in 0..lines.len() {
+        writes(
+            &rt,
+            alloc,
+            "whole calls",
+            room,
+            usize::MAX,
+            &lines[..room],
+            fault,
+        );
+        writes(&rt, alloc, "a byte a call", room, 1, &lines[..room], fault);
     }
-    writes(
-        &rt,
-        alloc,
-        "a byte a call",
-        usize::MAX,
-        1,
-        FIRST_LINES,
-        None,
-    );
+    writes(&rt, alloc, "no byte a call", usize::MAX, 0, b"", fault);
+    writes(&rt, alloc, "all, a byte a call", usize::MAX, 1, lines, None);
 }
 
 /// The status of a replay of a file, where the output takes 20 bytes and the error output so many; and
 /// what they took.
-fn into_small<R: Threads + Sync>(rt: &R, alloc: Global, file: &str, room: usize) -> Outcome {
+fn into_small<R: Threads + Clock + Sync>(
+    rt: &R,
+    alloc: Global,
+    file: &str,
+    room: usize,
+) -> Outcome {
     let mut out = Memory::new(alloc, 20, usize::MAX);
     let mut err = Memory::new(alloc, room, usize::MAX);
     let status = run_bytes(rt, alloc, Verb::Replay, file.as_bytes(), &mut out, &mut err);
@@ -100,7 +104,11 @@ fn a_reader_gives_all_its_bytes(rt: HostRuntime) {
     reads_text(&rt, alloc, "");
     reads(&rt, alloc, MAX_BYTES, 0, Ok(MAX_BYTES));
     reads(&rt, alloc, MAX_BYTES + 1, 0, Err(ReadError::TooLarge));
-    reads(&rt, alloc, MAX_BYTES, 2, Err(ReadError::ReadFault));
+    // Four pieces of up to 65536 bytes, and the read that finds the end.
+    for bad in 1..6 {
+        reads(&rt, alloc, 200_000, bad, Err(ReadError::ReadFault));
+    }
+    reads(&rt, alloc, 200_000, 6, Ok(200_000));
 }
 
 /// Puts a text at the end of another.

@@ -4,6 +4,7 @@ use super::fakes::replays;
 use std::alloc::Global;
 use std::process::Abort;
 use std::thread::Threads;
+use std::time::Clock;
 
 const SOFT: &str = "format = 1\nmode = \"soft\"\nbound = [1, 1]\nbacklog = 4\nring = 4\n";
 
@@ -320,7 +321,7 @@ fn file_of(rt: &impl Abort, alloc: Global, head: &str, server: &str, step: &str)
 }
 
 /// Ends the test where the file of a row gives other lines.
-fn gives<R: Abort + Threads + Sync>(rt: &R, alloc: Global, row: &Row) {
+fn gives<R: Abort + Threads + Clock + Sync>(rt: &R, alloc: Global, row: &Row) {
     let file = file_of(rt, alloc, row.head, row.server, row.step);
     replays(rt, alloc, row.name, file.as_bytes(), 0, row.lines, "");
 }

@@ -10,7 +10,7 @@ loop-preserved g c =
     let work = g.W.Work.meaning in
     let old = c.args.house.now in
     let l = c.loop in
-    let t = c.house_turn-took in
+    let t = c.house_turn-taken in
     let same = same_servers work old l.house old.housed l.house.housed l.invariant.taken.made.rings in
     record {
       taken = turns_next work old l.house t.new.house l.counter l.took t.result same l.invariant.taken t.ensures.turn;

@@ -1,4 +1,4 @@
-use Rattle.std.proofs.Common.{sym, ◌∙◌, arith}
+use Rattle.std.proofs.Common.{sym, ◌∙◌, arith, rules}
 use Rattle.std.proofs.lemmas.Bool.{false≢true}
 use Rattle.cbs_house.specs.Feeds.{servers_of}
 use Rattle.cbs_house.proofs.Feeds.{feeds_same, feeds_on}
@@ -48,3 +48,6 @@ loop-preserved g c =
       steps = serves_round g.W.Work.meaning 10000 (servers_of l.feeds) c.args.house.now l.house r.new.house f.new.house r.result.took l.invariant.steps r.ensures.took f.ensures.steps;
       stalled = λ p. record { drained = ok.drained; settled = ok.settled; undone = λ done. false≢true (sym c.if-branch.false ∙ ok.done.1 done) };
     }
+
+pub returns-then-branch-clause-stops : goal.returns-then-branch-clause-stops
+returns-then-branch-clause-stops g c = search rules

@@ -1,4 +1,4 @@
-use Rattle.std.proofs.Common.{◌≡◌, ◌≤◌, ◌∙◌, length, map, ap, sym, arith}
+use Rattle.std.proofs.Common.{◌≡◌, ◌≤◌, ◌∙◌, length, map, ap, sym, arith, rules}
 use Rattle.std.proofs.lemmas.List.{length-map}
 use Rattle.std.proofs.lemmas.List.FromFn.{length-range_with_len, length-map-range_with_len}
 use Rattle.std.proofs.lemmas.Simd.{map-map}
@@ -41,3 +41,9 @@ returns-in-Ok-feeds_of-clause-ready c =
     let count : length cs ≡ length c.into_parts-mode.result.plan.rates = sym (length-map cs server_of) ∙ (ap length c.in_ok-house.ensures.clients ∙ length-range_with_len 0 (length c.into_parts-mode.result.plan.rates)) in
     let few : length cs ≤ 64 = let l = c.len.ensures.lawful in omega (arith, count, l.few) in
     ready_new c.into_parts-mode.result.ring c.in-Ok-feeds_of.feeds.items cs c.in-Ok-feeds_of.ensures.clients c.in_ok-house.ensures.unused c.in_ok-house.house few c.in_ok-house.ensures.opened
+
+pub returns-in_err-house-clause-memory : goal.returns-in_err-house-clause-memory
+returns-in_err-house-clause-memory c = search rules
+
+pub returns-in-Ok-feeds_of-clause-core : goal.returns-in-Ok-feeds_of-clause-core
+returns-in-Ok-feeds_of-clause-core c = search rules

@@ -1,0 +1,109 @@
+//! Tasks, and the jobs of files, run on worked examples.
+
+use super::same;
+use cbs_job::{FileJob, PeakJob, SumJob, Task, TaskError, Work};
+use std::process::Abort;
+use std::test::Fail;
+
+/// Makes a task of `work`, and looks whether and why it is refused, and at the units left.
+fn answers<W: Work>(rt: &impl Abort, work: W, units: u32, refusal: Option<TaskError>) {
+    match Task::new(work) {
+        Ok(task) => {
+            same(rt, "task", (units, None), (units, refusal));
+            same(rt, "left of the task", task.left(), units);
+            same(rt, "left once started", task.start().left(), units);
+        }
+        Err(refused) => {
+            same(rt, "task", (units, Some(refused.error)), (units, refusal));
+            same(rt, "left once refused", refused.work.left(), units);
+        }
+    }
+}
+
+#[test]
+fn takes_one_to_a_million_units(rt: HostRuntime) -> Result<(), Fail> {
+    let table = [
+        (0, Some(TaskError::EmptyJob)),
+        (1, None),
+        (1_000_000, None),
+        (1_000_001, Some(TaskError::TooLong)),
+    ];
+    for &(units, refusal) in &table {
+        let len = units as usize;
+        let sum = SumJob::new(vec![in rt.alloc(); 7; len]?);
+        answers(&rt, sum, units, refusal);
+        let peak = PeakJob::new(vec![in rt.alloc(); 7; len]?);
+        answers(&rt, peak, units, refusal);
+        let sum = SumJob::new(vec![in rt.alloc(); 7; len]?);
+        answers(&rt, FileJob::from(sum), units, refusal);
+        let peak = PeakJob::new(vec![in rt.alloc(); 7; len]?);
+        answers(&rt, FileJob::from(peak), units, refusal);
+    }
+    Ok(())
+}
+
+/// Starts a task of `work` and does all its units: `outputs` are those before each unit and at the end.
+fn comes_to<W: Work>(rt: &impl Abort, work: W, outputs: &[u64]) {
+    let Ok(task) = Task::new(work) else {
+        panic!(rt; "a task");
+    };
+    let mut running = task.start();
+    let mut units = outputs.len();
+    for &output in outputs {
+        same(rt, "output", (units, running.output()), (units, output));
+        units = units.saturating_sub(1);
+        same(rt, "left", running.left() as usize, units);
+        if running.left() > 0 {
+            running.step();
+        }
+    }
+    same(rt, "left at the end", units, 0);
+}
+
+#[test]
+fn each_unit_takes_a_number_in(rt: HostRuntime) -> Result<(), Fail> {
+    let sum = SumJob::new(vec![in rt.alloc(); 4, 9, 2]?);
+    comes_to(&rt, sum, &[0, 4, 13, 15]);
+    let peak = PeakJob::new(vec![in rt.alloc(); 4, 9, 2]?);
+    comes_to(&rt, peak, &[0, 4, 9, 9]);
+    let sum = SumJob::new(vec![in rt.alloc(); 4_294_967_295, 4_294_967_295]?);
+    comes_to(&rt, FileJob::from(sum), &[0, 4_294_967_295, 8_589_934_590]);
+    let peak = PeakJob::new(vec![in rt.alloc(); 0, 4_294_967_295, 1]?);
+    comes_to(
+        &rt,
+        FileJob::from(peak),
+        &[0, 0, 4_294_967_295, 4_294_967_295],
+    );
+    Ok(())
+}
+
+#[test]
+fn errors_have_numbers_and_names(rt: HostRuntime) {
+    let errors = [
+        (TaskError::EmptyJob, 1, "EmptyJob"),
+        (TaskError::TooLong, 2, "TooLong"),
+    ];
+    for &(error, number, name) in &errors {
+        same(&rt, name, error.number(), number);
+        same(&rt, name, error.name(), name);
+    }
+}
+
+#[test]
+fn errors_say_what_is_wrong(rt: HostRuntime) -> Result<(), Fail> {
+    let alloc = rt.alloc();
+    for (error, text) in [
+        (
+            TaskError::EmptyJob,
+            "the job is empty: a job has at least 1 unit",
+        ),
+        (
+            TaskError::TooLong,
+            "the job is too long: a job has at most 1000000 units",
+        ),
+    ] {
+        let said = format!(in alloc; "{error}")?;
+        same(&rt, text, said.as_str(), text);
+    }
+    Ok(())
+}

@@ -1,0 +1,174 @@
+//! Reservations and plans, run on worked examples.
+
+use super::same;
+use cbs_rate::{AdmitError, Bound, Plan, RateError, Reservation};
+use std::process::Abort;
+use std::test::Fail;
+
+/// The reservation of `budget` in every `period`, which there has to be.
+fn reserved(rt: &impl Abort, budget: u64, period: u64) -> Reservation {
+    Reservation::new(budget, period).expect(rt, "a reservation")
+}
+
+/// Admits each of `asked`, a budget and a period, in turn to a new plan, and looks at what it answers.
+fn admits(
+    rt: &impl Abort,
+    bound: (u64, u64),
+    asked: &[(u64, u64, Result<u16, AdmitError>)],
+    len: usize,
+) {
+    let mut plan = Plan::new(Bound::new(bound.0, bound.1).expect(rt, "a bound"));
+    assert!(rt; plan.is_empty());
+    for &(budget, period, answer) in asked {
+        let reservation = reserved(rt, budget, period);
+        let admitted = (budget, period, plan.admit(reservation));
+        same(rt, "admit", admitted, (budget, period, answer));
+        if let Ok(server) = answer {
+            same(rt, "get", plan.get(server), Some(reservation));
+        }
+    }
+    same(rt, "len", plan.len(), len);
+    same(rt, "is_empty", plan.is_empty(), len == 0);
+    same(rt, "get beyond the servers", plan.get(64), None);
+}
+
+#[test]
+fn admits_exactly_up_to_the_limits(rt: HostRuntime) {
+    // the least common multiple of the first two periods is 999999997000000002
+    let fine = [
+        (1, 999_999_999, Ok(0)),
+        (1, 999_999_998, Ok(1)),
+        (1, 999_999_997, Err(AdmitError::PeriodsTooFine)),
+    ];
+    admits(&rt, (1, 1), &fine, 2);
+    let thirds = [
+        (1, 3, Ok(0)),
+        (1, 3, Ok(1)),
+        (1, 3, Ok(2)),
+        (1, 1_000_000_000, Err(AdmitError::OverBound)),
+    ];
+    admits(&rt, (1, 1), &thirds, 3);
+    admits(&rt, (1, 3), &[(333_333_333, 1_000_000_000, Ok(0))], 1);
+    let third = [
+        (333_333_334, 1_000_000_000, Err(AdmitError::OverBound)),
+        (1, 3, Ok(0)),
+        (1, 1_000_000_000, Err(AdmitError::OverBound)),
+    ];
+    admits(&rt, (1, 3), &third, 1);
+}
+
+#[test]
+fn refuses_the_sixty_fifth_server(rt: HostRuntime) {
+    let mut plan = Plan::new(Bound::new(1, 1).expect(&rt, "a bound"));
+    let reservation = reserved(&rt, 1, 1000);
+    for server in 0..64 {
+        same(&rt, "admit", plan.admit(reservation), Ok(server));
+    }
+    let refused = plan.admit(reservation);
+    same(&rt, "admit", refused, Err(AdmitError::TooManyServers));
+    same(&rt, "len", plan.len(), 64);
+}
+
+#[test]
+fn refuses_numbers_outside_the_limits(rt: HostRuntime) {
+    let reservations = [
+        (0, 5, RateError::ZeroBudget),
+        (0, 0, RateError::ZeroBudget),
+        (5, 1_000_000_001, RateError::PeriodTooLong),
+        (6, 5, RateError::BudgetOverPeriod),
+        (1, 0, RateError::BudgetOverPeriod),
+    ];
+    for &(budget, period, error) in &reservations {
+        let made = (budget, period, Reservation::new(budget, period));
+        same(&rt, "reservation", made, (budget, period, Err(error)));
+    }
+    let longest = reserved(&rt, 1_000_000_000, 1_000_000_000);
+    same(&rt, "budget", longest.budget(), 1_000_000_000);
+    same(&rt, "period", longest.period(), 1_000_000_000);
+    for &(num, den) in &[(0, 1), (2, 1), (1, 1_000_001)] {
+        let made = (num, den, Bound::new(num, den));
+        same(&rt, "bound", made, (num, den, Err(RateError::BadBound)));
+    }
+}
+
+#[test]
+fn compares_bandwidths_exactly(rt: HostRuntime) {
+    let third = reserved(&rt, 1, 3);
+    let less = reserved(&rt, 333_333_333, 1_000_000_000);
+    assert!(rt; !third.at_most(&less));
+    assert!(rt; less.at_most(&third));
+    assert!(rt; third.at_most(&third));
+}
+
+#[test]
+fn errors_have_numbers_and_names(rt: HostRuntime) {
+    let rates = [
+        (RateError::ZeroBudget, 1, "ZeroBudget"),
+        (RateError::PeriodTooLong, 2, "PeriodTooLong"),
+        (RateError::BudgetOverPeriod, 3, "BudgetOverPeriod"),
+        (RateError::BadBound, 4, "BadBound"),
+    ];
+    for &(error, number, name) in &rates {
+        same(&rt, name, error.number(), number);
+        same(&rt, name, error.name(), name);
+    }
+    let admissions = [
+        (AdmitError::TooManyServers, 1, "TooManyServers"),
+        (AdmitError::PeriodsTooFine, 2, "PeriodsTooFine"),
+        (AdmitError::OverBound, 3, "OverBound"),
+    ];
+    for &(error, number, name) in &admissions {
+        same(&rt, name, error.number(), number);
+        same(&rt, name, error.name(), name);
+    }
+}
+
+#[test]
+fn errors_say_what_is_wrong(rt: HostRuntime) -> Result<(), Fail> {
+    let alloc = rt.alloc();
+    for (error, text) in [
+        (
+            RateError::ZeroBudget,
+            "the budget is 0: a reservation needs a budget of at least 1 tick",
+        ),
+        (
+            RateError::PeriodTooLong,
+            "the period is longer than 1000000000 ticks",
+        ),
+        (
+            RateError::BudgetOverPeriod,
+            "the budget is larger than the period",
+        ),
+        (
+            RateError::BadBound,
+            "a bound N/D needs 1 <= N <= D <= 1000000",
+        ),
+    ] {
+        let said = format!(in alloc; "{error}")?;
+        same(&rt, text, said.as_str(), text);
+    }
+    Ok(())
+}
+
+#[test]
+fn refused_admissions_say_what_is_wrong(rt: HostRuntime) -> Result<(), Fail> {
+    let alloc = rt.alloc();
+    for (error, text) in [
+        (
+            AdmitError::TooManyServers,
+            "the plan has 64 servers already, and takes no more",
+        ),
+        (
+            AdmitError::PeriodsTooFine,
+            "the least common multiple of all periods would pass 10^18: choose periods that share more factors",
+        ),
+        (
+            AdmitError::OverBound,
+            "the total bandwidth would pass the plan's bound: a smaller budget or a longer period may fit",
+        ),
+    ] {
+        let said = format!(in alloc; "{error}")?;
+        same(&rt, text, said.as_str(), text);
+    }
+    Ok(())
+}
