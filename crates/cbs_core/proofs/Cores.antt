@@ -27,24 +27,25 @@ use Rattle.cbs_core.proofs.Plans.{length-faces}
 use Rattle.cbs_core.proofs.Refusals.{free_accepts}
 
 -- a new core
-module _ {W : Type 0} (work : Meaning W) (mode : Mode) (backlog : ℕ) where
+module _ {W : Type 0} (work : Meaning W) (backlog : ℕ) where
   -- where each rate is within the limits of a reservation, each new server keeps what a server keeps
-  all_new : (rates : List Rate) → AllByRecursion (λ r. IsRate r.budget r.period) rates → AllByRecursion (IsServer backlog 0) (map new_face (terms_of mode rates))
-  all_new [] ok = tt
-  all_new (r ∷ rates) ok = (server_new backlog 0 (record { mode = mode; reservation = r }) ok.0, all_new rates ok.1)
+  all_new : (modes : List Mode) (rates : List Rate) → AllByRecursion (λ r. IsRate r.budget r.period) rates → AllByRecursion (IsServer backlog 0) (map new_face (terms_of modes rates))
+  all_new [] rates ok = tt
+  all_new (m ∷ modes) [] ok = tt
+  all_new (m ∷ modes) (r ∷ rates) ok = (server_new backlog 0 (record { mode = m; reservation = r }) ok.0, all_new modes rates ok.1)
 
   -- a new core keeps all
-  pub core_new : (rates : List Rate) (n : ℕ) (faces : List Face) (queues : List (List W)) (rooms : List ℕ) → length rates ≤ 64 → backlog ≤ 4096 → AllByRecursion (λ r. IsRate r.budget r.period) rates
-      → faces ≡ map new_face (terms_of mode rates) → n ≡ length faces → queues ≡ replicate n [] → IsCore work (record { backlog = backlog; clock = 0; faces = faces; queues = queues; rooms = rooms })
-  core_new rates n faces queues rooms few small ok shown count empty =
-      let size : n ≡ length (terms_of mode rates) = count ∙ ap length shown ∙ length-map (terms_of mode rates) new_face in
+  pub core_new : (modes : List Mode) (rates : List Rate) (n : ℕ) (faces : List Face) (queues : List (List W)) (rooms : List ℕ) → length modes ≡ length rates → length rates ≤ 64 → backlog ≤ 4096
+      → AllByRecursion (λ r. IsRate r.budget r.period) rates → faces ≡ map new_face (terms_of modes rates) → n ≡ length faces → queues ≡ replicate n [] → IsCore work (record { backlog = backlog; clock = 0; faces = faces; queues = queues; rooms = rooms })
+  core_new modes rates n faces queues rooms same few small ok shown count empty =
+      let size : n ≡ length (terms_of modes rates) = count ∙ ap length shown ∙ length-map (terms_of modes rates) new_face in
       record {
-        few = rw (shown, length-faces mode rates) few;
+        few = rw (shown, length-faces modes rates same) few;
         small = small;
         clock = omega arith;
-        each = rw shown (all_new rates ok);
+        each = rw shown (all_new modes rates ok);
         jobs = rw (shown, empty, size)
-            (AllZip-replicate (HoldsBacklog work) [] new_face (terms_of mode rates) (λ t. record { counted = refl; unfinished = tt }));
+            (AllZip-replicate (HoldsBacklog work) [] new_face (terms_of modes rates) (λ t. record { counted = refl; unfinished = tt }));
       }
 
 -- what a run of server s may rest on

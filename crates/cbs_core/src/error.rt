@@ -23,7 +23,7 @@ pub enum CoreError {
     #[error("the backlog of the server is full")]
     BacklogFull = 5,
     /// The clock would pass [`LIMIT`](crate::LIMIT).
-    #[error("the clock would pass 1000000000 ticks")]
+    #[error("the clock would pass 1000000000000 ticks")]
     ClockEnd = 6,
 }
 

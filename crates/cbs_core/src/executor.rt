@@ -21,7 +21,7 @@ use crate::step::{Step, StepsRefused};
 use crate::view::ServerView;
 use cbs_job::{Completion, Task, Work};
 use cbs_rate::Plan;
-use cbs_rules::{LIMIT, Mode};
+use cbs_rules::{LIMIT, Modes};
 use std::alloc::{Allocator, Global};
 use std::marker::Model;
 
@@ -53,19 +53,22 @@ impl<W: Work, A: Allocator> Model for Core<W, A> {
 }
 
 impl<W: Work, A: Allocator + Clone> Core<W, A> {
-    /// A core whose servers have the reservations of the plan, all with the same mode, each with at
-    /// most `backlog` unfinished jobs. The clock stands at 0, and nobody has a job.
+    /// A core whose servers have the reservations of the plan and, by number, these modes, each with
+    /// at most `backlog` unfinished jobs. The clock stands at 0, and nobody has a job.
+    ///
+    /// There must be a mode for each server of the plan.
     ///
     /// Refuses a backlog outside 1 to [`MAX_BACKLOG`] by [`CoreError::BadBacklog`], and answers
     /// [`CoreError::OutOfMemory`] where an allocation is refused.
-    pub fn new(alloc: A, plan: Plan, mode: Mode, backlog: u64) -> Result<Self, CoreError>
-        ensures start { IfOk result (λ core. Agrees W.meaning core (record { setup = record { servers = terms_of mode plan.rates; backlog = backlog }; steps = [] })) }
+    pub fn new(alloc: A, plan: Plan, modes: Modes, backlog: u64) -> Result<Self, CoreError>
+        requires { length modes ≡ length plan.rates }
+        ensures start { IfOk result (λ core. Agrees W.meaning core (record { setup = record { servers = terms_of modes plan.rates; backlog = backlog }; steps = [] })) }
         ensures refusal { RefusesByOrMemory CoreError.OutOfMemory result (new_refusal backlog) }
     {
         if backlog == 0 || backlog > MAX_BACKLOG {
             return Err(CoreError::BadBacklog);
         }
-        let Ok(servers) = Servers::new(&alloc, &plan, mode) else {
+        let Ok(servers) = Servers::new(&alloc, &plan, &modes) else {
             return Err(CoreError::OutOfMemory);
         };
         let Ok(queues) = Queues::new(&alloc, servers.len()) else {

@@ -11,7 +11,7 @@ use std::marker::Model;
 /// A ready server, with its deadline.
 #[derive(Clone, Copy, Default)]
 struct Entry {
-    deadline: u64,
+    deadline: u128,
     server: u16,
 }
 
@@ -66,7 +66,7 @@ impl ReadyList {
     /// Follows a server, which was ready by a deadline or was not, and is so now. One that stays ready
     /// by another deadline, or is no longer ready, must come first.
     #[inline]
-    pub fn follow(&mut self, server: u16, was: Option<u64>, is: Option<u64>)
+    pub fn follow(&mut self, server: u16, was: Option<u128>, is: Option<u128>)
         requires known { server < 64 }
         requires ordered { IsOrdered self.old }
         requires was { listed self.old server ≡ was }
@@ -87,7 +87,7 @@ impl ReadyList {
 
     /// A server becomes ready.
     #[inline(never)]
-    fn insert(&mut self, server: u16, deadline: u64)
+    fn insert(&mut self, server: u16, deadline: u128)
         requires known { server < 64 }
         requires absent { listed self.old server ≡ None }
         ensures ordered { IsOrdered self.new }
@@ -113,7 +113,7 @@ impl ReadyList {
 
     /// The first server gets another deadline.
     #[inline(never)]
-    fn postpone_first(&mut self, server: u16, deadline: u64)
+    fn postpone_first(&mut self, server: u16, deadline: u128)
         requires { first_of self.old ≡ Some server }
         ensures ordered { IsOrdered self.new }
         ensures here { listed self.new server ≡ Some deadline }

@@ -54,7 +54,7 @@ impl Server {
     }
 
     /// The tick by which it may use its budget.
-    pub fn deadline(&self) -> u64
+    pub fn deadline(&self) -> u128
         ensures { result ≡ self.now.state.deadline }
     {
         self.state.deadline()
@@ -82,18 +82,18 @@ impl Server {
     }
 
     /// Before which tick it is not due for replenishment: its deadline, where it waits for that.
-    pub fn due(&self) -> u64
+    pub fn due(&self) -> u128
         ensures { IsNotDueBefore result self.now }
     {
         if self.is_throttled() {
             self.deadline()
         } else {
-            u64::MAX
+            u128::MAX
         }
     }
 
     /// The deadline by which it runs, where it is ready.
-    pub fn ready_by(&self) -> Option<u64>
+    pub fn ready_by(&self) -> Option<u128>
         ensures { result ≡ ready_by self.now }
     {
         self.is_ready().then_some(self.deadline())
@@ -107,14 +107,14 @@ impl Server {
     }
 
     /// After how many ticks it may be ready, where it is not.
-    pub fn wait(&self, now: u64) -> u64
+    pub fn wait(&self, now: u64) -> u128
         requires { now ≤ LIMIT }
         ensures { result ≡ wait now self.now }
     {
         if self.is_active() {
-            self.deadline().saturating_sub(now).max(1)
+            self.deadline().saturating_sub(u128::from(now)).max(1)
         } else {
-            LIMIT - now
+            u128::from(LIMIT - now)
         }
     }
 

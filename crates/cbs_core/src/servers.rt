@@ -14,7 +14,7 @@ use crate::ready_list::ReadyList;
 use crate::server::Server;
 use crate::view::ServerView;
 use cbs_rate::Plan;
-use cbs_rules::{LIMIT, MAX_DEADLINE, Mode};
+use cbs_rules::{LIMIT, MAX_DEADLINE, Modes};
 use std::alloc::{AllocError, Allocator, Global};
 use std::marker::Model;
 
@@ -24,7 +24,7 @@ pub struct Servers<A: Allocator = Global> {
     servers: Vec<Server, A>,
     ready: ReadyList,
     // Nobody is due for replenishment before.
-    due: u64,
+    due: u128,
 }
 
 impl<A: Allocator> Model for Servers<A> {
@@ -40,20 +40,22 @@ impl<A: Allocator> Model for Servers<A> {
 }
 
 impl<A: Allocator + Clone> Servers<A> {
-    /// The servers of a plan, all with the same mode.
-    pub fn new(alloc: &A, plan: &Plan, mode: Mode) -> Result<Self, AllocError>
-        ensures servers { IfOk result (λ s. s ≡ map new_face (terms_of mode plan.now.rates)) }
+    /// The servers of a plan, each with its mode.
+    pub fn new(alloc: &A, plan: &Plan, modes: &Modes) -> Result<Self, AllocError>
+        requires { length modes.now ≡ length plan.now.rates }
+        ensures servers { IfOk result (λ s. s ≡ map new_face (terms_of modes.now plan.now.rates)) }
         ensures plan { OnOk result (IsPlan plan.now) }
     {
         let mut servers = Vec::with_capacity(alloc.clone()?, plan.len())?;
         for server in 0..plan.len() as u16 {
+            let mode = modes.get(server).unwrap();
             let reservation = plan.get(server).unwrap();
             servers.push(Server::new(mode, reservation))?;
         }
         Ok(Servers {
             servers,
             ready: ReadyList::new(),
-            due: u64::MAX,
+            due: u128::MAX,
         })
     }
 }
@@ -80,14 +82,15 @@ impl<A: Allocator> Servers<A> {
         requires { now ≤ LIMIT }
         ensures { result ≡ span_from now (LIMIT - now) self.now }
     {
-        let mut least = LIMIT - now;
+        let mut least = u128::from(LIMIT - now);
         for server in &self.servers {
             if server.is_ready() {
                 return None;
             }
             least = least.min(server.wait(now));
         }
-        Some(least)
+        // At most what is left of the clock.
+        Some(least as u64)
     }
 
     /// Why a submit to a server is refused, if it is.
@@ -171,7 +174,7 @@ impl<A: Allocator> Servers<A> {
         requires { now ≤ LIMIT }
         ensures { self.new ≡ map (with_replenishment now) self.old }
     {
-        if now >= self.due {
+        if u128::from(now) >= self.due {
             self.due = replenish_all(&mut self.servers, &mut self.ready, now);
         }
     }
@@ -189,7 +192,7 @@ impl<A: Allocator> Servers<A> {
 /// Replenishes every server that is due at tick `now`, and lists those that are then ready. Before
 /// which tick nobody else is due.
 #[inline(never)]
-fn replenish_all(servers: &mut [Server], ready: &mut ReadyList, now: u64) -> u64
+fn replenish_all(servers: &mut [Server], ready: &mut ReadyList, now: u64) -> u128
     requires clock { now ≤ LIMIT }
     requires few { length servers.old ≤ 64 }
     requires listed { ListsReady ready.old servers.old }
@@ -197,7 +200,7 @@ fn replenish_all(servers: &mut [Server], ready: &mut ReadyList, now: u64) -> u64
     ensures listed { ListsReady ready.new servers.new }
     ensures due { NoneDueBefore result servers.new }
 {
-    let mut due = u64::MAX;
+    let mut due = u128::MAX;
     for index in 0..servers.len() {
         due = due.min(replenish_one(&mut servers[index], index as u16, ready, now));
     }
@@ -206,7 +209,7 @@ fn replenish_all(servers: &mut [Server], ready: &mut ReadyList, now: u64) -> u64
 
 /// Replenishes one server if it is due at tick `now`, and lists it if it is then ready. Before which
 /// tick it is not due.
-fn replenish_one(it: &mut Server, number: u16, ready: &mut ReadyList, now: u64) -> u64
+fn replenish_one(it: &mut Server, number: u16, ready: &mut ReadyList, now: u64) -> u128
     requires clock { now ≤ LIMIT }
     requires known { number < 64 }
     requires ordered { IsOrdered ready.old }
@@ -218,7 +221,7 @@ fn replenish_one(it: &mut Server, number: u16, ready: &mut ReadyList, now: u64) 
     ensures due { IsNotDueBefore result it.new }
 {
     if !it.is_throttled() {
-        return u64::MAX;
+        return u128::MAX;
     }
     it.replenish(now);
     ready.follow(number, None, it.ready_by());

@@ -6,7 +6,7 @@ pub struct ServerView {
     /// The ticks that it may still use, at most the budget of its reservation.
     pub budget: u64,
     /// The tick by which it may use them.
-    pub deadline: u64,
+    pub deadline: u128,
     /// Whether it waits to be replenished.
     pub throttled: bool,
     /// Whether it accepts no further job.

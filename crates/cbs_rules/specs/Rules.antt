@@ -8,12 +8,12 @@ use Rattle.cbs_rules.specs.declared.mode.Mode.TheVariants.{Soft, Throttled}
 
 -- the clock's end, in ticks
 abbrev pub clock_end : ℕ
-clock_end = 1000000000
+clock_end = 1000000000000
 
 -- the latest deadline to which a period may still be added, in ticks: no unit before the clock's end and no replenishment
--- starts from a later one, and with a period it fits 64 bits
+-- starts from a later one
 abbrev pub latest_deadline : ℕ
-latest_deadline = 1000000001000000000
+latest_deadline = 1000000001000000000000
 
 -- the mode and the reservation that a server was given
 pub record Terms : Type 0 where

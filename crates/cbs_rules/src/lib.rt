@@ -2,7 +2,9 @@
 #![tactic(auto)]
 
 mod mode;
+mod modes;
 mod server_state;
 
 pub use mode::Mode;
+pub use modes::Modes;
 pub use server_state::{LIMIT, MAX_DEADLINE, ServerState};

@@ -8,29 +8,30 @@ use cbs_rate::Reservation;
 use std::marker::Model;
 
 /// The clock's end, in ticks.
-pub const LIMIT: u64 = 1_000_000_000;
+pub const LIMIT: u64 = 1_000_000_000_000;
 
 /// The latest deadline to which a period may still be added, in ticks. No unit and no replenishment
 /// of an executor starts from a later one.
-pub const MAX_DEADLINE: u64 = 1_000_000_001_000_000_000;
+pub const MAX_DEADLINE: u128 = 1_000_000_001_000_000_000_000;
 
 /// Budget, deadline and the mark 'throttled' of one server, with its reservation.
 #[derive(Clone, Copy, Debug, PartialEq, Eq)]
 pub struct ServerState {
     reservation: Reservation,
     budget: u64,
-    deadline: u64,
+    deadline: u128,
     throttled: bool,
 }
 
 impl Model for ServerState {
-    ghost use Rattle.cbs_rules.specs.Rules.{Reserved, IsState};
+    ghost use Rattle.std.specs.Prelude.{◌+◌, ◌≤◌};
+    ghost use Rattle.cbs_rules.specs.Rules.{Reserved, IsState, latest_deadline};
 
     ghost Value = { Reserved };
 
     ghost view = { λ s. record { reservation = s.reservation; state = record { budget = s.budget; deadline = s.deadline; throttled = s.throttled } } };
 
-    ghost invariant = { λ s. IsState s.reservation (record { budget = s.budget; deadline = s.deadline; throttled = s.throttled }) };
+    ghost invariant = { λ s. IsState s.reservation (record { budget = s.budget; deadline = s.deadline; throttled = s.throttled }) × (s.deadline ≤ latest_deadline + 1000000000) };
 
     ghost inverse = { λ v. record { reservation = v.reservation; budget = v.state.budget; deadline = v.state.deadline; throttled = v.state.throttled } };
 }
@@ -61,7 +62,7 @@ impl ServerState {
     {
         if self.is_renewed(mode, now) {
             self.budget = self.reservation.budget();
-            self.deadline = now + self.reservation.period();
+            self.deadline = u128::from(now + self.reservation.period());
         }
     }
 
@@ -70,11 +71,12 @@ impl ServerState {
     fn is_renewed(&self, mode: Mode, now: u64) -> bool
         ensures { result ≡ is_renewed mode self.now.reservation now self.now.state }
     {
+        let now = u128::from(now);
         if self.deadline <= now {
             return true;
         }
         let held = u128::from(self.budget) * u128::from(self.reservation.period());
-        let earned = u128::from(self.deadline - now) * u128::from(self.reservation.budget());
+        let earned = (self.deadline - now) * u128::from(self.reservation.budget());
         match mode {
             Mode::Soft => held >= earned,
             Mode::Throttled => held > earned,
@@ -99,7 +101,7 @@ impl ServerState {
         match mode {
             Mode::Soft => {
                 self.budget = self.reservation.budget();
-                self.deadline += self.reservation.period();
+                self.deadline += u128::from(self.reservation.period());
             }
             Mode::Throttled => self.throttled = true,
         }
@@ -123,9 +125,9 @@ impl ServerState {
         requires { self.old.state.throttled ≡ true → self.old.state.deadline ≤ now → self.old.state.deadline ≤ latest_deadline }
         ensures { self.new ≡ record { reservation = self.old.reservation; state = after_replenishment self.old.reservation now self.old.state } }
     {
-        if self.throttled && self.deadline <= now {
+        if self.throttled && self.deadline <= u128::from(now) {
             self.budget += self.reservation.budget();
-            self.deadline += self.reservation.period();
+            self.deadline += u128::from(self.reservation.period());
             self.throttled = false;
         }
     }
@@ -139,7 +141,7 @@ impl ServerState {
     }
 
     /// The tick by which it may use them, 0 before its first job.
-    pub fn deadline(&self) -> u64
+    pub fn deadline(&self) -> u128
         ensures { result ≡ self.now.state.deadline }
     {
         self.deadline

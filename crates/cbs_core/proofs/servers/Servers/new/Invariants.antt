@@ -4,4 +4,4 @@ use Rattle.cbs_core.specs.Setups.{terms_of}
 use Rattle.cbs_core.proofs.servers.Servers.new.Given as goal
 
 abbrev pub invariant-loop-server : goal.invariant-loop-server
-invariant-loop-server g l = l.servers.items ≡ map new_face (terms_of l.mode (take l.server l.plan.rates))
+invariant-loop-server g l = l.servers.items ≡ map new_face (take l.server (terms_of l.modes l.plan.rates))
