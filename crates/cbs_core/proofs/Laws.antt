@@ -6,7 +6,9 @@ use Rattle.std.proofs.lemmas.Bool.{cases_eq, cases_lt}
 use Rattle.std.proofs.lemmas.Bool.Decides.{nat_tests}
 use Rattle.std.proofs.lemmas.List.{length-map, get_or-map, nil_from_length}
 use Rattle.cbs_job.specs.Work.{Meaning}
+use Rattle.cbs_rate.specs.Rate.{Rate}
 use Rattle.cbs_rules.specs.Rules.{clock_end}
+use Rattle.cbs_rules.specs.declared.mode.Mode.{Mode}
 use Rattle.cbs_core.specs.Choice.{rank_at}
 use Rattle.cbs_core.specs.Faces.{Face, face_at, new_face, no_face, is_active, is_ready, ranks}
 use Rattle.cbs_core.specs.Accounts.{Account, face_of, new_account, no_account}
@@ -14,6 +16,7 @@ use Rattle.cbs_core.specs.History.{World, Setup, History, ◌⊕◌, account, fa
 use Rattle.cbs_core.specs.Agreement.{AgreesJobs, Agrees}
 use Rattle.cbs_core.specs.Quiet.{IsAtRest, IsQuiet, IsIdleSpan}
 use Rattle.cbs_core.specs.Held.{CoreHeld, held_at, HoldsJob}
+use Rattle.cbs_core.specs.Setups.{terms_of}
 use Rattle.cbs_core.specs.Queues.{list_at}
 use Rattle.cbs_core.specs.Continuations.{IsBusy, HasHistory, Follows, ◌⊕⊕◌, EachAllowed, AllAllowed}
 use Rattle.cbs_core.specs.declared.step.Step.{Step}
@@ -23,6 +26,7 @@ use Rattle.cbs_core.proofs.Histories.{account_face}
 use Rattle.cbs_core.proofs.Choices.{choice_is}
 use Rattle.cbs_core.proofs.HeldJobs.{length_jobs}
 use Rattle.cbs_core.proofs.Lists.{within_lists, AllZip-length, AllZip-get}
+use Rattle.cbs_core.proofs.Plans.{length-terms}
 pub use Rattle.cbs_core.proofs.Completions.{Completes-none, after-push, steps_complete}
 pub use Rattle.cbs_core.proofs.ClosedServers.{steps_close}
 pub use Rattle.cbs_core.proofs.StepLists.{all_yielded}
@@ -155,6 +159,10 @@ pub record IsNew {W : Type 0} (core : CoreHeld W) (s : ℕ) : Type 0 where
   pub accepted : (held_at core s).face.accepted ≡ 0
   pub finished : (held_at core s).face.finished ≡ 0
   pub unclosed : (held_at core s).face.closed ≡ false
+
+-- as many servers as reservations were given, with a mode for each
+pub terms_count : (modes : List Mode) (rates : List Rate) → length modes ≡ length rates → length (terms_of modes rates) ≡ length rates
+terms_count modes rates same = length-terms modes rates same
 
 module _ {W : Type 0} (work : Meaning W) (core : CoreHeld W) (setup : Setup) (agrees : Agrees work core (record { setup = setup; steps = [] })) where
   -- as many servers as were given

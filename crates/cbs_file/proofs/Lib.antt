@@ -1,4 +1,4 @@
 pub mod Each
 pub mod Places
-pub mod PlanEntries
+pub mod Admitted
 pub mod Tables

@@ -1,21 +1,23 @@
 //! A task file, read from its bytes.
 
-ghost use Rattle.std.specs.Prelude.{◌≡◌, ◌≤◌, map, [], Ok, Err, IfOk, All};
+ghost use Rattle.std.specs.Prelude.{◌≡◌, ◌≤◌, map, length, Ok, Err, IfOk, OnOk, All};
 ghost use Rattle.toml.specs.View.{view, table_view};
 ghost use Rattle.cbs_file.specs.declared.fault.FileKind.TheVariants.{OutOfMemory};
 ghost use Rattle.cbs_file.specs.declared.fault.Place.TheVariants.{Step as AtStep};
 ghost use Rattle.cbs_file.specs.Entries.{step_entry};
 ghost use Rattle.cbs_file.specs.Fields.{Gives, seen, each_from};
 ghost use Rattle.cbs_file.specs.TaskFiles.{NamesServer};
-ghost use Rattle.cbs_file.specs.Spelling.{document, file, faulty, at, admitted_entry, plan_from, no_memory};
+ghost use Rattle.cbs_file.specs.Spelling.{document, file, faulty, at, admitted_entry, admitted_from, none_admitted, no_memory};
 
 use crate::entries::{server_entry, step_entry};
 use crate::fault::{FileFault, FileKind, Place};
+use crate::format::Format;
 use crate::task_file::TaskFile;
 use crate::top::top_table;
 use cbs_core::Step;
 use cbs_job::FileJob;
 use cbs_rate::{Bound, Plan};
+use cbs_rules::{Mode, Modes};
 use std::alloc::Global;
 use toml::{Table, Value};
 
@@ -53,38 +55,68 @@ fn at<T>(place: Place, read: Result<T, FileKind>) -> Result<T, FileFault>
     }
 }
 
-/// Admits the server of one entry to the plan.
-fn admit_entry(plan: &mut Plan, entry: &Value) -> Result<(), FileKind>
-    ensures { seen (λ _. plan.new) result ≡ admitted_entry plan.old (view entry.now) }
-{
-    let reservation = server_entry(entry)?;
-    match plan.admit(reservation) {
-        Ok(_) => Ok(()),
-        Err(_) => Err(FileKind::NotAdmitted),
-    }
+/// The servers that were admitted, with their modes.
+#[derive(Drop)]
+struct Admitted {
+    plan: Plan,
+    modes: Modes,
 }
 
-/// The plan of the entries of `server`.
-fn plan_of(bound: Bound, entries: &[Value]) -> Result<Plan, FileFault>
-    ensures { result ≡ plan_from 0 (record { bound = bound; rates = [] }) (map view entries.now) }
+/// Admits the server of one entry, where all servers may have a mode already.
+fn admit_entry(
+    admitted: &mut Admitted,
+    mode: Option<Mode>,
+    entry: &Value,
+) -> Result<(), FileKind>
+    requires { length admitted.old.modes ≡ length admitted.old.plan.rates }
+    ensures value { seen (λ _. admitted.new) result ≡ admitted_entry mode admitted.old (view entry.now) }
+    ensures moded { OnOk result (length admitted.new.modes ≡ length admitted.new.plan.rates) }
 {
-    let mut plan = Plan::new(bound);
+    let server = server_entry(mode, entry)?;
+    let Ok(_) = admitted.plan.admit(server.reservation) else {
+        return Err(FileKind::NotAdmitted);
+    };
+    admitted.modes.push(server.mode);
+    Ok(())
+}
+
+/// The plan and the modes of the entries of `server`, where all servers may have a mode already.
+fn admitted_of(
+    bound: Bound,
+    mode: Option<Mode>,
+    entries: &[Value],
+) -> Result<Admitted, FileFault>
+    ensures value { result ≡ admitted_from mode 0 (none_admitted bound) (map view entries.now) }
+    ensures moded { IfOk result (λ a. length a.modes ≡ length a.plan.rates) }
+{
+    let mut admitted = Admitted {
+        plan: Plan::new(bound),
+        modes: Modes::new(),
+    };
     for (i, entry) in entries.iter().enumerate() {
-        at(Place::Server(i as u64), admit_entry(&mut plan, entry))?;
+        at(
+            Place::Server(i as u64),
+            admit_entry(&mut admitted, mode, entry),
+        )?;
     }
-    Ok(plan)
+    Ok(admitted)
 }
 
-/// The steps of the entries of `step`, in a file with so many servers.
-fn steps_of(alloc: Global, servers: u64, entries: &[Value]) -> Result<Vec<Step<FileJob>>, FileFault>
+/// The steps of the entries of `step`, in a file of this format with so many servers.
+fn steps_of(
+    alloc: Global,
+    format: Format,
+    servers: u64,
+    entries: &[Value],
+) -> Result<Vec<Step<FileJob>>, FileFault>
     requires { servers ≤ 64 }
     ensures steps { Gives no_memory (λ v. v.items) result
-        (each_from 0 (λ i entry. at (AtStep i) (step_entry servers entry)) (map view entries.now)) }
+        (each_from 0 (λ i entry. at (AtStep i) (step_entry format servers entry)) (map view entries.now)) }
     ensures named { IfOk result (λ v. All (NamesServer servers) v.items) }
 {
     let mut steps = Vec::new(alloc);
     for (i, entry) in entries.iter().enumerate() {
-        let step = at(Place::Step(i as u64), step_entry(alloc, servers, entry))?;
+        let step = at(Place::Step(i as u64), step_entry(alloc, format, servers, entry))?;
         let Ok(()) = steps.push(step) else {
             return Err(faulty(Place::Top, FileKind::OutOfMemory));
         };
@@ -109,10 +141,10 @@ pub fn read_file(alloc: Global, bytes: &[u8]) -> Result<TaskFile, FileFault>
         Ok(top) => top,
         Err(kind) => return Err(faulty(Place::Top, kind)),
     };
-    let plan = plan_of(top.bound, top.servers)?;
-    let steps = steps_of(alloc, plan.len() as u64, top.steps)?;
+    let Admitted { plan, modes } = admitted_of(top.bound, top.mode, top.servers)?;
+    let steps = steps_of(alloc, top.format, plan.len() as u64, top.steps)?;
     Ok(TaskFile {
-        mode: top.mode,
+        modes,
         plan,
         backlog: top.backlog,
         ring: top.ring,

@@ -6,6 +6,7 @@ mod entries;
 mod fault;
 mod fields;
 mod file;
+mod format;
 mod task_file;
 mod top;
 

@@ -20,7 +20,7 @@ pub enum HouseError {
     #[error("there is no such server")]
     NoSuchServer = 4,
     /// The clock would pass its end, or stands there with a job unfinished.
-    #[error("the clock would pass its end, 1000000000 ticks, or stands there with a job unfinished")]
+    #[error("the clock would pass its end, 1000000000000 ticks, or stands there with a job unfinished")]
     ClockEnd = 5,
     /// The clients did not send all, in as many rounds as they are given.
     #[error("the clients did not send all in the rounds that they are given")]

@@ -18,16 +18,18 @@ use crate::rings::Rings;
 use cbs_core::{Core, MAX_BACKLOG};
 use cbs_job::Work;
 use cbs_rate::Plan;
-use cbs_rules::Mode;
+use cbs_rules::Modes;
 use rtrb::RingBuffer;
 use std::alloc::{AllocError, Allocator};
 
 /// The most messages that a ring has slots for.
 pub const MAX_RING: u64 = 1024;
 
-/// Opens a house whose servers have the reservations of the plan, all with the same mode, each with
-/// at most `backlog` unfinished jobs; and one client for each server, in order of their numbers,
+/// Opens a house whose servers have the reservations of the plan and, by number, these modes, each
+/// with at most `backlog` unfinished jobs; and one client for each server, in order of their numbers,
 /// each with a ring of `ring` slots.
+///
+/// There must be a mode for each server of the plan.
 ///
 /// Refuses, in this order: [`HouseError::BadBacklog`] where the backlog is not within 1 to
 /// [`MAX_BACKLOG`]; [`HouseError::BadRing`] where the ring is not within 1 to [`MAX_RING`];
@@ -35,11 +37,12 @@ pub const MAX_RING: u64 = 1024;
 pub fn open_house<W: Work, A: Allocator + Copy>(
     alloc: A,
     plan: Plan,
-    mode: Mode,
+    modes: Modes,
     backlog: u64,
     ring: u64,
 ) -> Result<(House<W, A>, Vec<Client<W, A>, A>), HouseError>
-    ensures agrees { IfOk result (λ r. Agrees W.meaning (core_of r.0) (record { setup = record { servers = terms_of mode plan.rates; backlog = backlog }; steps = [] })) }
+    requires { length modes ≡ length plan.rates }
+    ensures agrees { IfOk result (λ r. Agrees W.meaning (core_of r.0) (record { setup = record { servers = terms_of modes plan.rates; backlog = backlog }; steps = [] })) }
     ensures empty { IfOk result (λ r. (s : ℕ) → (received r.0 s ≡ []) × (known r.0 s ≡ []) × (results_of r.0 s ≡ [])) }
     ensures clients { IfOk result (λ r. map server_of r.1.items ≡ range_with_len 0 (length plan.rates)) }
     ensures unused { IfOk result (λ r. All (IsUnused ring) r.1.items) }
@@ -53,7 +56,7 @@ pub fn open_house<W: Work, A: Allocator + Copy>(
         return Err(HouseError::BadRing);
     }
     let servers = plan.len() as u16;
-    let Ok(core) = Core::new(alloc, plan, mode, backlog) else {
+    let Ok(core) = Core::new(alloc, plan, modes, backlog) else {
         return Err(HouseError::OutOfMemory);
     };
     let Ok(collector) = Collector::new(alloc, servers) else {

@@ -9,9 +9,6 @@ use Rattle.cbs_job.specs.Work.{Meaning, whole}
 use Rattle.cbs_job.specs.declared.work.Work.{Ghosts}
 use Rattle.cbs_job.specs.FileJobs.{of_files}
 use Rattle.cbs_job.specs.declared.file.FileJob.{FileJob}
-use Rattle.cbs_rate.specs.Rate.{Rate}
-use Rattle.cbs_rules.specs.Rules.{Terms}
-use Rattle.cbs_rules.specs.declared.mode.Mode.{Mode}
 use Rattle.cbs_core.specs.Agreement.{Agrees}
 use Rattle.cbs_core.specs.declared.step.Step.{Step}
 use Rattle.cbs_house.specs.Clients.{server_of}
@@ -25,15 +22,12 @@ use Rattle.cbs_house.specs.declared.feed.Feed.{Feed}
 use Rattle.cbs_house.specs.declared.house.House.{House}
 use Rattle.cbs_house.proofs.Feeds.{feeds_servers, feeds_jobs, unused_jobs}
 use Rattle.cbs_house.proofs.Moves.{serves_rings}
-use Rattle.cbs_core.proofs.Laws.{new_count}
-use Rattle.cbs_file.specs.TaskFiles.{File}
+use Rattle.cbs_core.proofs.Laws.{new_count, terms_count}
+use Rattle.cbs_file.specs.TaskFiles.{File, IsFile}
 use Rattle.cbs_run.specs.ResultLines.{jobs_for, results_by_server}
 use Rattle.cbs_run.specs.ServingStops.{HouseStops}
 use Rattle.cbs_run.specs.StepTexts.{start_of}
 
--- the terms of a server
-abbrev term_of : Mode → Rate → Terms
-term_of mode r = record { mode = mode; reservation = r }
 
 module _ {X Y : Type 0} where
   -- what is the same at each is the same of all
@@ -56,9 +50,9 @@ module _ {W A : Type 0} {g : Ghosts W} where
 
 module _ {A : Type 0} {g : Ghosts FileJob} (f : File) where
   -- a house that served has the servers that it was opened with
-  pub served_count : (a b : House FileJob A g) → Agrees of_files (core_of a) (start_of f) → ServesOn of_files a b → length (core_of b).faces ≡ length f.plan.rates
-  served_count a b agrees on =
-      sym b.housed.ring_count ∙ (ap length (serves_rings of_files a b on) ∙ (a.housed.ring_count ∙ (new_count of_files (core_of a) (start_of f).setup agrees ∙ length-map f.plan.rates (term_of f.mode))))
+  pub served_count : (a b : House FileJob A g) → Agrees of_files (core_of a) (start_of f) → ServesOn of_files a b → IsFile f → length (core_of b).faces ≡ length f.plan.rates
+  served_count a b agrees on lawful =
+      sym b.housed.ring_count ∙ (ap length (serves_rings of_files a b on) ∙ (a.housed.ring_count ∙ (new_count of_files (core_of a) (start_of f).setup agrees ∙ terms_count f.modes f.plan.rates lawful.moded)))
 
   -- why a house that serves the file stops
   pub stops_short : (a b : House FileJob A g) (fs : List (Feed FileJob A g)) (e : HouseError) → Agrees of_files (core_of a) (start_of f) → ServesOn of_files a b → Stops e b fs → HouseStops f e

@@ -18,7 +18,7 @@ use Rattle.cbs_run.specs.Writers.{Writer, IsUntouched, FailsToWrite}
 use Rattle.cbs_run.specs.declared.run_error.RunError.{RunError}
 use Rattle.cbs_run.specs.declared.run_error.RunError.TheVariants as run
 
--- a core with the file's servers, mode and backlog comes, by steps of serving, into such a state
+-- a core with the file's servers, modes and backlog comes, by steps of serving, into such a state
 pub record ComesTo (f : File) (state : CoreHeld FileJob → Type 0) : Type 0 where
   pub steps : List (Step FileJob)
   pub core : CoreHeld FileJob

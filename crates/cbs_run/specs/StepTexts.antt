@@ -36,9 +36,9 @@ unfoldable pub texts_after : StepText → History FileJob → List (Step FileJob
 texts_after text M [] = []
 texts_after text M (x ∷ xs) = text_after text M x ++ texts_after text (M ⊕ x) xs
 
--- the history of an executor with the file's servers, mode and backlog, before its first step
+-- the history of an executor with the file's servers, modes and backlog, before its first step
 abbrev pub start_of : File → History FileJob
-start_of f = record { setup = record { servers = terms_of f.mode f.plan.rates; backlog = f.backlog }; steps = [] }
+start_of f = record { setup = record { servers = terms_of f.modes f.plan.rates; backlog = f.backlog }; steps = [] }
 
 -- the texts of all steps of a file
 abbrev pub texts_of : StepText → File → List ℕ

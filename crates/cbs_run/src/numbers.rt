@@ -1,13 +1,13 @@
 //! Numbers behind a text.
 
-ghost use Rattle.std.specs.Prelude.{◌≡◌, ◌++◌, OnOk, decimal, string_bytes};
+ghost use Rattle.std.specs.Prelude.{◌≡◌, ◌++◌, OnOk, string_bytes};
 
-use itoa::Buffer;
+use itoa::{Buffer, Integer};
 use std::alloc::AllocError;
 
 /// Appends a word and a number in decimal. Only want of memory is an error.
-pub fn append_pair(text: &mut String, word: &str, number: u64) -> Result<(), AllocError>
-    ensures { OnOk result (string_bytes text.new ≡ string_bytes text.old ++ word.now ++ decimal number) }
+pub fn append_pair<N: Integer>(text: &mut String, word: &str, number: N) -> Result<(), AllocError>
+    ensures { OnOk result (string_bytes text.new ≡ string_bytes text.old ++ word.now ++ N.text number) }
 {
     text.push_str(word)?;
     text.push_str(Buffer::new().format(number))

@@ -9,6 +9,7 @@ ghost use Rattle.cbs_house.specs.Houses.{core_of, results_of};
 ghost use Rattle.cbs_house.specs.Opened.{IsUnused};
 ghost use Rattle.cbs_house.specs.Rounds.{Ready};
 ghost use Rattle.cbs_job.specs.FileJobs.{of_files};
+ghost use Rattle.cbs_file.specs.TaskFiles.{IsFile};
 ghost use Rattle.cbs_run.specs.ResultLines.{jobs_for, result_lines, results_by_server};
 ghost use Rattle.cbs_run.specs.ServingStops.{HouseStops, ServeStops, fault_of};
 ghost use Rattle.cbs_run.specs.StepTexts.{start_of};
@@ -38,7 +39,7 @@ fn fault_of(error: HouseError) -> Option<RunError>
     }
 }
 
-/// A house with the plan, mode, backlog and ring of a task file; and for each of its servers, in
+/// A house with the plan, modes, backlog and ring of a task file; and for each of its servers, in
 /// order, a feed of the jobs that the file submits to it. Only want of memory is an error.
 fn open_file(
     alloc: Global,
@@ -50,9 +51,10 @@ fn open_file(
     ensures jobs { IfOk result (λ opened. map unsent_jobs opened.1.items ≡ map (λ s. jobs_for s file.steps) (range_with_len 0 (length file.plan.rates))) }
     ensures ready { IfOk result (λ opened. Ready opened.0 opened.1.items) }
     ensures memory { IfErr result (λ error. error ≡ HouseError.OutOfMemory) }
+    ensures lawful { IsFile file }
 {
     let Parts {
-        mode,
+        modes,
         plan,
         backlog,
         ring,
@@ -61,7 +63,7 @@ fn open_file(
     let Ok(jobs) = jobs_by_server(alloc, plan.len() as u16, steps) else {
         return Err(HouseError::OutOfMemory);
     };
-    let (house, clients) = open_house(alloc, plan, mode, backlog, ring)?;
+    let (house, clients) = open_house(alloc, plan, modes, backlog, ring)?;
     match feeds_of(alloc, clients, jobs) {
         Ok(feeds) => Ok((house, feeds)),
         Err(_) => Err(HouseError::OutOfMemory),
@@ -99,7 +101,7 @@ fn results_in(alloc: Global, house: &House<FileJob>) -> Result<Vec<Vec<u64>>, Al
 
 /// Serves the submits of a task file, and writes the results of each server.
 ///
-/// The house has the plan, the mode, the backlog and the ring of the file. Refuses with
+/// The house has the plan, the modes, the backlog and the ring of the file. Refuses with
 /// [`RunError::OutOfMemory`]; with [`RunError::ClockEnd`] where the clock came to its end with a job
 /// unfinished; and with [`RunError::Stalled`] where the clients did not send all in the rounds that
 /// they are given. Nothing is written then. Refuses with [`RunError::WriteFault`] where a write fails

@@ -103,7 +103,7 @@ fn write_steps<V: StepView, O: ByteOutput>(
     Ok(())
 }
 
-/// Makes the steps of a task file on a new core with the file's plan, mode and backlog, and writes the
+/// Makes the steps of a task file on a new core with the file's plan, modes and backlog, and writes the
 /// text of each.
 ///
 /// Refuses with [`RunError::OutOfMemory`] where there is no memory: then the texts of some first steps
@@ -121,13 +121,13 @@ pub fn write_file_steps<V: StepView, O: ByteOutput>(
     ensures laws { OnOk result (KeepsLaws file) }
 {
     let Parts {
-        mode,
+        modes,
         plan,
         backlog,
         steps,
         ..
     } = file.into_parts();
-    match Core::new(alloc, plan, mode, backlog) {
+    match Core::new(alloc, plan, modes, backlog) {
         Ok(mut core) => write_steps(view, alloc, &mut core, steps, out),
         Err(error) => {
             // The backlog of a task file is in range.

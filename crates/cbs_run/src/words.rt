@@ -16,14 +16,16 @@ const ABOUT: &str =
 a budget of so many ticks in every period.";
 
 const TASK_FILES: &str = "\
-FILE is a task file, in TOML. It names the mode, the servers and the steps:
+FILE is a task file, in TOML. It names the servers and the steps:
 
-  format = 1                               # the only format there is
-  mode = \"soft\"                            # or \"throttled\"
+  format = 2
   bound = [1, 1]                           # the bandwidths add up to at most 1/1
   backlog = 4                              # unfinished jobs that a server may have
   ring = 4                                 # places in a client's ring of messages
-  server = [{ budget = 2, period = 5 }]    # 2 ticks in every 5
+  server = [
+    { budget = 2, period = 5, mode = \"soft\" },          # 2 ticks in every 5
+    { budget = 1, period = 4, mode = \"throttled\" },     # waits where they are used up
+  ]
   step = [
     { op = \"submit\", server = 0, job = \"sum\", units = [1, 2, 3] },
     { op = \"run\" },

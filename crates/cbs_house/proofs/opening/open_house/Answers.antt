@@ -1,8 +1,7 @@
 use Rattle.std.proofs.Common.{sym, arith, ◌≡◌, ◌∙◌, length}
-use Rattle.std.proofs.lemmas.List.{length-map}
 use Rattle.cbs_core.specs.History.{Setup}
 use Rattle.cbs_core.specs.Setups.{terms_of}
-use Rattle.cbs_core.proofs.Laws.{new_count}
+use Rattle.cbs_core.proofs.Laws.{new_count, terms_count}
 use Rattle.cbs_house.specs.Clients.{server_of, ring_of}
 use Rattle.cbs_house.specs.RingEnds.{rings_in}
 use Rattle.cbs_house.proofs.NewHouses.{new_rings, housed_new, same_count, all_opened}
@@ -11,10 +10,10 @@ use Rattle.cbs_house.proofs.opening.open_house.Goals as goal
 pub invariant_of-house : goal.invariant_of-house
 invariant_of-house g c =
     let core = c.in-Ok.core in
-    let setup : Setup = record { servers = terms_of c.args.mode c.args.plan.rates; backlog = c.args.backlog } in
+    let setup : Setup = record { servers = terms_of c.args.modes c.args.plan.rates; backlog = c.args.backlog } in
     let made = c.in-Ok-open_rings in
     let agrees = c.in-Ok.ensures.start in
-    let count : length core.faces ≡ c.len-servers.result = new_count g.W.Work.meaning core setup agrees ∙ (length-map c.args.plan.rates _ ∙ sym c.len-servers.ensures.value) in
+    let count : length core.faces ≡ c.len-servers.result = new_count g.W.Work.meaning core setup agrees ∙ (terms_count c.args.modes c.args.plan.rates c.requires ∙ sym c.len-servers.ensures.value) in
     record {
       housed = housed_new g.W.Work.meaning core setup agrees made.rings c.in-Ok-new.collector
           (same_count ring_of server_of (rings_in made.rings) made.clients.items c.len-servers.result made.ensures.rings made.ensures.clients ∙ sym count)

@@ -5,7 +5,7 @@ use Rattle.std.proofs.lemmas.Result.{err_from_is_err_and}
 use Rattle.cbs_run.proofs.serve.served_house.Goals as goal
 
 pub returns-clause-servers : goal.returns-clause-servers
-returns-clause-servers g c = served_count c.args.file c.in_ok-house.house c.serve.new.house c.in_ok-house.ensures.core c.in_ok-serve.ensures.steps
+returns-clause-servers g c = served_count c.args.file c.in_ok-house.house c.serve.new.house c.in_ok-house.ensures.core c.in_ok-serve.ensures.steps c.in_ok-house.ensures.lawful
 
 pub returns-clause-results : goal.returns-clause-results
 returns-clause-results g c =

@@ -1,0 +1,35 @@
+-- Which format a task file has, and what that decides: where the modes of the servers stand, and how long an advance may be.
+use Rattle.std.specs.Prelude.{ℕ, ℤ, codes, bytes_eq, eqb, if◌then◌else◌, List, Option, Some, None, Result, Ok, Err}
+use Rattle.cbs_rules.specs.Rules.{clock_end}
+use Rattle.cbs_rules.specs.declared.mode.Mode.{Mode}
+use Rattle.cbs_rules.specs.declared.mode.Mode.TheVariants.{Soft, Throttled}
+use Rattle.cbs_file.specs.declared.fault.FileKind.{FileKind}
+use Rattle.cbs_file.specs.declared.fault.FileKind.TheVariants.{OutOfRange}
+use Rattle.cbs_file.specs.declared.format.Format.{Format}
+use Rattle.cbs_file.specs.declared.format.Format.TheVariants.{One, Two}
+use Rattle.cbs_file.specs.Fields.{◌>>=◌, within}
+
+-- the format of this number
+abbrev pub format_of : ℤ → Result Format FileKind
+format_of format_number = do
+  number ← within 1 2 format_number
+  Ok (if eqb number 1 then One else Two)
+
+-- the mode that a word names
+abbrev pub mode_of : List ℕ → Result Mode FileKind
+mode_of word =
+    if bytes_eq word (codes "soft") then Ok Soft
+    else if bytes_eq word (codes "throttled") then Ok Throttled
+    else Err OutOfRange
+
+-- the longest advance of one step, in ticks
+abbrev pub longest_advance : Format → ℕ
+longest_advance One = 1000000000
+longest_advance Two = clock_end
+
+-- a test of what need not be there
+abbrev pub of_some : {A B : Type 0} → (A → Result B FileKind) → Option A → Result (Option B) FileKind
+of_some test None = Ok None
+of_some test (Some x) = do
+  y ← test x
+  Ok (Some y)

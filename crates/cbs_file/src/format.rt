@@ -1,0 +1,53 @@
+//! Which format a task file has, and what that decides.
+
+ghost use Rattle.std.specs.Prelude.{◌≡◌, ◌≤◌};
+ghost use Rattle.cbs_file.specs.Formats.{format_of, mode_of, longest_advance};
+
+use crate::fault::FileKind;
+use crate::fields::within;
+use cbs_rules::{LIMIT, Mode};
+
+/// The format of a task file.
+#[derive(Clone, Copy, Debug, PartialEq, Eq)]
+pub enum Format {
+    /// Format 1: all servers follow one mode, which the top table has.
+    One,
+    /// Format 2: each server has its mode, in its entry.
+    Two,
+}
+
+impl Format {
+    /// The longest advance of one step, in ticks.
+    pub fn longest_advance(self) -> u64
+        ensures value { result ≡ longest_advance self }
+        ensures most { result ≤ LIMIT }
+    {
+        match self {
+            Format::One => 1_000_000_000,
+            Format::Two => LIMIT,
+        }
+    }
+}
+
+/// The format of this number.
+pub fn format_of(number: i64) -> Result<Format, FileKind>
+    ensures { result ≡ format_of number }
+{
+    let number = within(1, 2, number)?;
+    Ok(if number == 1 {
+        Format::One
+    } else {
+        Format::Two
+    })
+}
+
+/// The mode that a word names.
+pub fn mode_of(word: &str) -> Result<Mode, FileKind>
+    ensures { result ≡ mode_of word.now }
+{
+    match word {
+        "soft" => Ok(Mode::Soft),
+        "throttled" => Ok(Mode::Throttled),
+        _ => Err(FileKind::OutOfRange),
+    }
+}
