@@ -9,14 +9,16 @@ use crate::timing::Timing;
 use anyhow::{Context, Result, bail, ensure};
 use cbs_house::{Feed, House, OpenGate, Poll, feeds_of, open_house, serve};
 use cbs_job::Task;
-use cbs_rules::Mode;
+use cbs_rules::{Mode, Modes};
 use std::alloc::Global;
 use std::thread::Threads;
 use std::time::{Clock, Instant};
 
 /// Polls of empty rings, of all servers in turn.
 pub fn polls(rt: &impl Clock, alloc: Global, servers: u16, polls: u64) -> Result<Timing> {
-    let (mut house, _clients) = open_house(alloc, plan_of(servers, 1)?, Mode::Soft, BACKLOG, 64)?;
+    let plan = plan_of(servers, 1)?;
+    let modes = Modes::uniform(Mode::Soft, plan.len() as u16);
+    let (mut house, _clients) = open_house(alloc, plan, modes, BACKLOG, 64)?;
     let turns = polls / u64::from(servers.max(1));
     let start = Instant::now(rt)?;
     for _turn in 0..turns {
@@ -65,7 +67,9 @@ fn opened(alloc: Global, servers: u16, jobs: u64) -> Result<(House<CountJob>, Ve
     ensures { IfOk result (λ r. Ready r.0 r.1.items) }
 {
     let lists = job_lists(alloc, servers, jobs)?;
-    let (house, clients) = open_house(alloc, plan_of(servers, 1)?, Mode::Soft, BACKLOG, 64)?;
+    let plan = plan_of(servers, 1)?;
+    let modes = Modes::uniform(Mode::Soft, plan.len() as u16);
+    let (house, clients) = open_house(alloc, plan, modes, BACKLOG, 64)?;
     ensure!(
         clients.len() <= 64 && clients.len() == lists.len(),
         "not a list of jobs for each of at most 64 servers"

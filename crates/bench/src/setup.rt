@@ -4,7 +4,7 @@ use crate::count::{CountJob, counting};
 use anyhow::{Context, Result};
 use cbs_core::Core;
 use cbs_rate::{Bound, Plan, Reservation};
-use cbs_rules::Mode;
+use cbs_rules::{Mode, Modes};
 use std::alloc::Global;
 
 /// The greatest backlog.
@@ -26,7 +26,9 @@ pub fn plan_of(servers: u16, least: u64) -> Result<Plan> {
 
 /// A core with such a plan and nothing to do.
 pub fn core_of(alloc: Global, servers: u16, least: u64, mode: Mode) -> Result<Core<CountJob>> {
-    Ok(Core::new(alloc, plan_of(servers, least)?, mode, BACKLOG)?)
+    let plan = plan_of(servers, least)?;
+    let modes = Modes::uniform(mode, plan.len() as u16);
+    Ok(Core::new(alloc, plan, modes, BACKLOG)?)
 }
 
 /// Gives each server so many jobs of so many units.

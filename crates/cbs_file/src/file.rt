@@ -141,7 +141,8 @@ pub fn read_file(alloc: Global, bytes: &[u8]) -> Result<TaskFile, FileFault>
         Ok(top) => top,
         Err(kind) => return Err(faulty(Place::Top, kind)),
     };
-    let Admitted { plan, modes } = admitted_of(top.bound, top.mode, top.servers)?;
+    let admitted = admitted_of(top.bound, top.mode, top.servers)?;
+    let Admitted { plan, modes } = admitted;
     let steps = steps_of(alloc, top.format, plan.len() as u64, top.steps)?;
     Ok(TaskFile {
         modes,

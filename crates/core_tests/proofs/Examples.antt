@@ -165,17 +165,17 @@ closing : rows (record { servers = terms Soft 2 5 ∷ []; backlog = 1 }) [] (sub
 closing = refl
 
 -- at the clock's end
-at_end : after of_files (one Soft 2 5) (Advance 1000000000 ∷ []) ≡ record { now = 1000000000; accounts = (after of_files (one Soft 2 5) []).accounts }
-at_end = ticks_some 1000000000 (after of_files (one Soft 2 5) []) (omega arith)
+at_end : after of_files (one Soft 2 5) (Advance 1000000000000 ∷ []) ≡ record { now = 1000000000000; accounts = (after of_files (one Soft 2 5) []).accounts }
+at_end = ticks_some 1000000000000 (after of_files (one Soft 2 5) []) (omega arith)
 
-idle_at_end : reply_to of_files 4 (after of_files (one Soft 2 5) (Advance 1000000000 ∷ [])) Run ≡ idle
+idle_at_end : reply_to of_files 4 (after of_files (one Soft 2 5) (Advance 1000000000000 ∷ [])) Run ≡ idle
 idle_at_end = rw at_end refl
 
-refused_at_end : reply_to of_files 4 (after of_files (one Soft 2 5) (Run ∷ Advance 1000000000 ∷ [])) (Advance 1) ≡ reply.Refused error.ClockEnd
+refused_at_end : reply_to of_files 4 (after of_files (one Soft 2 5) (Run ∷ Advance 1000000000000 ∷ [])) (Advance 1) ≡ reply.Refused error.ClockEnd
 refused_at_end = rw at_end refl
 
-accepted_at_end : row (one Soft 2 5) (Advance 1 ∷ Run ∷ Advance 1000000000 ∷ []) (Submit 0 (sum_of (1 ∷ []))) 0 ≡ (1000000000, accepted 0, at 2 1000000005)
+accepted_at_end : row (one Soft 2 5) (Advance 1 ∷ Run ∷ Advance 1000000000000 ∷ []) (Submit 0 (sum_of (1 ∷ []))) 0 ≡ (1000000000000, accepted 0, at 2 1000000000005)
 accepted_at_end = rw at_end refl
 
-stopped_at_end : row (one Soft 2 5) (Submit 0 (sum_of (1 ∷ [])) ∷ Advance 1 ∷ Run ∷ Advance 1000000000 ∷ []) Run 0 ≡ (1000000000, reply.Ran ran.ClockEnd, at 2 1000000005)
+stopped_at_end : row (one Soft 2 5) (Submit 0 (sum_of (1 ∷ [])) ∷ Advance 1 ∷ Run ∷ Advance 1000000000000 ∷ []) Run 0 ≡ (1000000000000, reply.Ran ran.ClockEnd, at 2 1000000000005)
 stopped_at_end = rw at_end refl

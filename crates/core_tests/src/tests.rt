@@ -12,7 +12,7 @@ mod scheduling;
 use cbs_core::{Core, CoreError, Ran};
 use cbs_job::{Completion, MAX_UNITS, SumJob, Task, Work};
 use cbs_rate::{Bound, Plan, Reservation};
-use cbs_rules::Mode;
+use cbs_rules::{Mode, Modes};
 use std::alloc::{Allocator, Global};
 use std::fmt::Debug;
 use std::process::Abort;
@@ -40,7 +40,9 @@ fn core_of<W: Work, A: Allocator + Clone>(
     rates: &[(u64, u64)],
     backlog: u64,
 ) -> Core<W, A> {
-    Core::new(alloc, plan_of(rt, rates), mode, backlog).expect(rt, "a core")
+    let plan = plan_of(rt, rates);
+    let modes = Modes::uniform(mode, plan.len() as u16);
+    Core::new(alloc, plan, modes, backlog).expect(rt, "a core")
 }
 
 /// The task that adds these numbers up.
@@ -79,7 +81,7 @@ fn shows<W: Work, A: Allocator>(
     rt: &impl Abort,
     core: &Core<W, A>,
     server: u16,
-    wanted: (u64, u64, bool),
+    wanted: (u64, u128, bool),
 ) {
     let view = core.view(server).expect(rt, "a server");
     same(

@@ -5,7 +5,7 @@ use anyhow::{Context, Result};
 use cbs_house::{Client, open_house};
 use cbs_job::{SumJob, Task};
 use cbs_rate::{Bound, Plan, Reservation};
-use cbs_rules::Mode;
+use cbs_rules::{Mode, Modes};
 use std::alloc::Global;
 
 /// Sends a job that adds these two numbers up, one a tick.
@@ -20,7 +20,8 @@ fn main(rt: HostRuntime) -> Result<()> {
     let alloc = rt.alloc();
     let mut plan = Plan::new(Bound::new(1, 1)?);
     plan.admit(Reservation::new(2, 5)?)?;
-    let (mut house, mut clients) = open_house(alloc, plan, Mode::Soft, 4, 4)?;
+    let modes = Modes::uniform(Mode::Soft, plan.len() as u16);
+    let (mut house, mut clients) = open_house(alloc, plan, modes, 4, 4)?;
     let mut client = clients.pop().context("a client for each server")?;
 
     send(alloc, &mut client, [2, 3])?;

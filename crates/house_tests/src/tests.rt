@@ -31,7 +31,7 @@ fn plan_of(rt: &impl Abort, rates: &[(u64, u64)]) -> Plan {
 
 /// The task that adds these numbers up.
 fn sum_of(rt: &impl Abort, alloc: Global, numbers: &[u32]) -> Task<SumJob> {
-    assert!(rt; numbers.len() < 100);
+    assert!(rt; numbers.len() < 2000);
     let numbers = Vec::from_slice(alloc, numbers).expect(rt, "memory");
     Task::new(SumJob::new(numbers)).ok().expect(rt, "a task")
 }

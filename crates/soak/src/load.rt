@@ -1,9 +1,9 @@
 //! A load: servers, and the jobs of their clients.
 
-use anyhow::{Context, Result, bail};
+use anyhow::{Context, Result, bail, ensure};
 use cbs_job::{FileJob, MAX_UNITS, PeakJob, SumJob, Task};
-use cbs_rate::{Bound, Plan, Reservation};
-use cbs_rules::Mode;
+use cbs_rate::{Bound, MAX_SERVERS, Plan, Reservation};
+use cbs_rules::{Mode, Modes};
 use std::alloc::Global;
 use std::str::SplitWhitespace;
 
@@ -11,16 +11,17 @@ use std::str::SplitWhitespace;
 #[derive(Drop)]
 pub struct Load {
     pub seed: u64,
-    pub mode: Mode,
     pub backlog: u64,
     pub ring: u64,
     pub plan: Plan,
+    /// The mode of each server.
+    pub modes: Modes,
     /// The jobs of each server, in order.
     pub jobs: Vec<Vec<Task<FileJob>>>,
 }
 
-/// Reads a load. Its first line is `SEED MODE BACKLOG RING`, and each further one is
-/// `server BUDGET PERIOD`, or `job SERVER KIND NUMBERS..`, of a server above it.
+/// Reads a load. Its first line is `SEED BACKLOG RING`, and each further one is
+/// `server BUDGET PERIOD MODE`, or `job SERVER KIND NUMBERS..`, of a server above it.
 pub fn read_load(alloc: Global, text: &str) -> Result<Load> {
     let mut lines = text.lines();
     let first = lines.next().context("line 1: there is none")?;
@@ -39,17 +40,12 @@ pub fn read_load(alloc: Global, text: &str) -> Result<Load> {
 /// A load with no server yet.
 fn read_first(alloc: Global, words: &mut SplitWhitespace<'_>) -> Result<Load> {
     let seed = number(words)?;
-    let mode = match words.next() {
-        Some("soft") => Mode::Soft,
-        Some("throttled") => Mode::Throttled,
-        _ => bail!("neither soft nor throttled"),
-    };
     Ok(Load {
         seed,
-        mode,
         backlog: number(words)?,
         ring: number(words)?,
         plan: Plan::new(Bound::new(1, 1)?),
+        modes: Modes::new(),
         jobs: Vec::new(alloc),
     })
 }
@@ -61,6 +57,8 @@ fn read_line(alloc: Global, load: &mut Load, line: &str) -> Result<()> {
         Some("server") => {
             let reservation = Reservation::new(number(&mut words)?, number(&mut words)?)?;
             load.plan.admit(reservation)?;
+            ensure!(load.modes.len() < MAX_SERVERS, "too many servers");
+            load.modes.push(read_mode(&mut words)?);
             load.jobs.push(Vec::new(alloc))?;
         }
         Some("job") => {
@@ -71,6 +69,15 @@ fn read_line(alloc: Global, load: &mut Load, line: &str) -> Result<()> {
         _ => bail!("neither a server nor a job"),
     }
     Ok(())
+}
+
+/// The mode that the next word names.
+fn read_mode(words: &mut SplitWhitespace<'_>) -> Result<Mode> {
+    match words.next() {
+        Some("soft") => Ok(Mode::Soft),
+        Some("throttled") => Ok(Mode::Throttled),
+        _ => bail!("neither soft nor throttled"),
+    }
 }
 
 /// The job of a kind and its numbers.

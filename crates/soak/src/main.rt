@@ -20,7 +20,11 @@ use std::io;
 fn opened(alloc: Global, load: Load) -> Result<(House<FileJob>, Vec<Feed<FileJob>>)>
     ensures { IfOk result (λ r. Ready r.0 r.1.items) }
 {
-    let (house, clients) = open_house(alloc, load.plan, load.mode, load.backlog, load.ring)?;
+    ensure!(
+        load.modes.len() == load.plan.len(),
+        "not a mode for each server"
+    );
+    let (house, clients) = open_house(alloc, load.plan, load.modes, load.backlog, load.ring)?;
     ensure!(
         clients.len() <= 64 && clients.len() == load.jobs.len(),
         "not a list of jobs for each of at most 64 servers"

@@ -10,7 +10,7 @@ use anyhow::{Result, bail};
 use cbs_house::{Client, House, open_house};
 use cbs_job::SumJob;
 use cbs_rate::{Bound, Plan, Reservation};
-use cbs_rules::Mode;
+use cbs_rules::{Mode, Modes};
 use clients::{JOBS, send_all};
 use std::alloc::Global;
 use std::thread::{Threads, join_mut};
@@ -59,7 +59,8 @@ fn main(rt: HostRuntime) -> Result<()> {
     for (_name, budget) in CLIENTS {
         plan.admit(Reservation::new(budget, 10)?)?;
     }
-    let (mut house, mut clients) = open_house(alloc, plan, Mode::Soft, 8, 8)?;
+    let modes = Modes::uniform(Mode::Soft, plan.len() as u16);
+    let (mut house, mut clients) = open_house(alloc, plan, modes, 8, 8)?;
     if !run_together(&rt, alloc, &mut clients, &mut house) {
         bail!("a client could not send all its jobs");
     }

@@ -6,7 +6,7 @@ use super::{
 };
 use cbs_core::{Core, CoreError, MAX_BACKLOG, Ran, ServerView};
 use cbs_job::SumJob;
-use cbs_rules::Mode;
+use cbs_rules::{Mode, Modes};
 
 #[test]
 fn a_refused_job_comes_back(rt: HostRuntime) {
@@ -60,7 +60,9 @@ fn each_call_on_a_core_with_one_server(rt: HostRuntime) {
 fn a_backlog_is_1_to_4096(rt: HostRuntime) {
     let alloc = rt.alloc();
     for &(backlog, accepted) in &[(0, false), (1, true), (4096, true), (4097, false)] {
-        let core = Core::<SumJob>::new(alloc, plan_of(&rt, &[(2, 5)]), Mode::Soft, backlog);
+        let plan = plan_of(&rt, &[(2, 5)]);
+        let modes = Modes::uniform(Mode::Soft, plan.len() as u16);
+        let core = Core::<SumJob>::new(alloc, plan, modes, backlog);
         let wanted = if accepted {
             None
         } else {
@@ -76,13 +78,13 @@ fn the_clock_ends(rt: HostRuntime) {
     let alloc = rt.alloc();
     let mut core = core_of(&rt, alloc, Mode::Soft, &[(2, 5)], 4);
     advances(&rt, &mut core, 1_000_000_001, Err(CoreError::ClockEnd));
-    advances(&rt, &mut core, 1_000_000_000, Ok(()));
+    advances(&rt, &mut core, 1_000_000_000_000, Ok(()));
     idles_for(&rt, &core, Some(0));
     runs(&rt, &mut core, Ran::Idle);
     advances(&rt, &mut core, 1, Err(CoreError::ClockEnd));
     advances(&rt, &mut core, 0, Ok(()));
     accepts(&rt, &mut core, 0, sum_of(&rt, alloc, &[1]), 0);
     runs(&rt, &mut core, Ran::ClockEnd);
-    stands_at(&rt, &core, 1_000_000_000);
+    stands_at(&rt, &core, 1_000_000_000_000);
     shows(&rt, &core, 0, (2, 1_000_000_005, false));
 }

@@ -25,6 +25,6 @@ fn errors_say_what_is_wrong(rt: HostRuntime) {
     says(&rt, alloc, CoreError::Closed, 4, "Closed", text);
     let text = "the backlog of the server is full";
     says(&rt, alloc, CoreError::BacklogFull, 5, "BacklogFull", text);
-    let text = "the clock would pass 1000000000 ticks";
+    let text = "the clock would pass 1000000000000 ticks";
     says(&rt, alloc, CoreError::ClockEnd, 6, "ClockEnd", text);
 }

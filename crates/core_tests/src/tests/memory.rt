@@ -6,7 +6,7 @@ use super::{
 };
 use cbs_core::{Core, CoreError, Ran};
 use cbs_job::{FileJob, PeakJob, SumJob, Task, Work};
-use cbs_rules::Mode;
+use cbs_rules::{Mode, Modes};
 use linked_list_allocator::LocalHeap;
 use std::alloc::{Allocator, Global};
 use std::process::Abort;
@@ -73,7 +73,8 @@ fn a_core_takes_memory_or_says_so(rt: HostRuntime) {
     for size in 1..256 {
         let heap = LocalHeap::new(alloc, 16 * size).expect(&rt, "a heap");
         let plan = plan_of(&rt, &[(2, 5), (2, 5)]);
-        let core = Core::<SumJob, &LocalHeap>::new(&heap, plan, Mode::Soft, 4);
+        let modes = Modes::uniform(Mode::Soft, plan.len() as u16);
+        let core = Core::<SumJob, &LocalHeap>::new(&heap, plan, modes, 4);
         let Some(error) = core.err() else {
             enough = size;
             break;

@@ -19,7 +19,7 @@ fn lives(
     rt: &impl Abort,
     mode: Mode,
     (budget, period): (u64, u64),
-    life: &[(Event, u64, u64, bool)],
+    life: &[(Event, u64, u128, bool)],
 ) {
     let reservation = Reservation::new(budget, period).expect(rt, "a reservation");
     let mut server = ServerState::fresh(reservation);
@@ -66,8 +66,9 @@ fn a_soft_server_follows_its_rules(rt: HostRuntime) {
         (Event::Consume, 1, 2_000_000_000, false),
         (Event::Consume, 1, 3_000_000_000, false),
         (Event::Consume, 1, 4_000_000_000, false),
-        // at the end of the clock
         (Event::Arrive(1_000_000_000), 1, 4_000_000_000, false),
+        // at the end of the clock
+        (Event::Arrive(1_000_000_000_000), 1, 1_001_000_000_000, false),
     ];
     lives(&rt, Mode::Soft, (1, 1_000_000_000), &longest_period);
 }
@@ -109,7 +110,8 @@ fn a_throttled_server_follows_its_rules(rt: HostRuntime) {
 }
 
 #[test]
-fn the_limits_are_those_of_a_clock_of_a_thousand_million_ticks(rt: HostRuntime) {
-    same(&rt, "LIMIT", LIMIT, 1_000_000_000);
-    same(&rt, "MAX_DEADLINE", MAX_DEADLINE, (LIMIT + 1) * MAX_PERIOD);
+fn the_limits_are_those_of_a_clock_of_a_million_million_ticks(rt: HostRuntime) {
+    same(&rt, "LIMIT", LIMIT, 1_000_000_000_000);
+    let latest = u128::from(LIMIT) * u128::from(MAX_PERIOD) + u128::from(LIMIT);
+    same(&rt, "MAX_DEADLINE", MAX_DEADLINE, latest);
 }

@@ -20,7 +20,7 @@ fn leaves(
     core: &mut Core<SumJob>,
     ran: Ran,
     server: u16,
-    state: (u64, u64, bool),
+    state: (u64, u128, bool),
 ) {
     runs(rt, core, ran);
     shows(rt, core, server, state);
@@ -61,7 +61,7 @@ fn a_jump_is_its_ticks(rt: HostRuntime) {
 fn the_idle_span_ends_where_somebody_is_ready(rt: HostRuntime) {
     let alloc = rt.alloc();
     let mut core = core_of(&rt, alloc, Mode::Soft, &[(2, 5), (2, 5)], 4);
-    idles_for(&rt, &core, Some(1_000_000_000));
+    idles_for(&rt, &core, Some(1_000_000_000_000));
     accepts(&rt, &mut core, 0, sum_of(&rt, alloc, &[7]), 0);
     accepts(&rt, &mut core, 1, sum_of(&rt, alloc, &[9]), 0);
     idles_for(&rt, &core, None);
@@ -74,7 +74,7 @@ fn chosen(
     core: &mut Core<SumJob>,
     server: u16,
     ran: Ran,
-    (budget, deadline): (u64, u64),
+    (budget, deadline): (u64, u128),
 ) {
     chooses(rt, core, Some(server));
     leaves(rt, core, ran, server, (budget, deadline, false));
@@ -123,7 +123,7 @@ fn takes(
     core: &mut Core<SumJob>,
     (server, number): (u16, u32),
     seq: u64,
-    (budget, deadline, now): (u64, u64, u64),
+    (budget, deadline, now): (u64, u128, u64),
 ) {
     accepts(rt, core, server, sum_of(rt, alloc, &[number]), seq);
     shows(rt, core, server, (budget, deadline, false));
@@ -135,7 +135,7 @@ fn does(
     rt: &impl Abort,
     core: &mut Core<SumJob>,
     (server, seq, output): (u16, u64, u64),
-    (budget, deadline, now): (u64, u64, u64),
+    (budget, deadline, now): (u64, u128, u64),
 ) {
     runs(rt, core, done(server, seq, output));
     shows(rt, core, server, (budget, deadline, false));

@@ -22,7 +22,7 @@ fn a_house_says_what_is_wrong(rt: HostRuntime) {
     let text = "there is no such server";
     says(&rt, alloc, &HouseError::NoSuchServer, text);
     let text =
-        "the clock would pass its end, 1000000000 ticks, or stands there with a job unfinished";
+        "the clock would pass its end, 1000000000000 ticks, or stands there with a job unfinished";
     says(&rt, alloc, &HouseError::ClockEnd, text);
     let text = "the clients did not send all in the rounds that they are given";
     says(&rt, alloc, &HouseError::Stalled, text);

@@ -14,7 +14,7 @@ use cbs_house::{
     open_house,
 };
 use cbs_job::{Completion, SumJob, Task};
-use cbs_rules::Mode;
+use cbs_rules::{Mode, Modes};
 use linked_list_allocator::LocalHeap;
 use std::alloc::{Allocator, Global};
 use std::process::Abort;
@@ -42,7 +42,8 @@ fn two_clients<R: Abort, A: Allocator + Copy>(
     ensures { IsOpened (rings_of result.0) result.1 × IsOpened (rings_of result.0) result.2 }
 {
     let plan = plan_of(rt, &[(2, 5), (2, 5)]);
-    let Ok((house, mut clients)) = open_house(alloc, plan, mode, 4, 4) else {
+    let modes = Modes::uniform(mode, plan.len() as u16);
+    let Ok((house, mut clients)) = open_house(alloc, plan, modes, 4, 4) else {
         panic!(rt; "a house");
     };
     let Some(second) = clients.pop() else {
@@ -61,7 +62,8 @@ fn a_house_takes_memory_or_says_so(rt: HostRuntime) {
     for size in 1..256 {
         let heap = LocalHeap::new(alloc, 16 * size).expect(&rt, "a heap");
         let plan = plan_of(&rt, &[(2, 5), (2, 5)]);
-        let opened = open_house::<SumJob, &LocalHeap>(&heap, plan, Mode::Soft, 4, 4);
+        let modes = Modes::uniform(Mode::Soft, plan.len() as u16);
+        let opened = open_house::<SumJob, &LocalHeap>(&heap, plan, modes, 4, 4);
         let Some(error) = opened.err() else {
             enough = size;
             break;
@@ -335,7 +337,8 @@ fn feeds_that_find_no_memory_come_back(rt: HostRuntime) {
     let alloc = rt.alloc();
     let heap = LocalHeap::new(alloc, 1 << 13).expect(&rt, "a heap");
     let plan = plan_of(&rt, &[(2, 5), (2, 5)]);
-    let opened = open_house::<SumJob, &LocalHeap>(&heap, plan, Mode::Soft, 4, 4);
+    let modes = Modes::uniform(Mode::Soft, plan.len() as u16);
+    let opened = open_house::<SumJob, &LocalHeap>(&heap, plan, modes, 4, 4);
     let (_house, clients) = opened.ok().expect(&rt, "a house");
     let lists = lists_of(&rt, alloc, &heap, &[&[&[1, 2], &[3, 4]], &[]]);
     let ballast = filled(&rt, alloc, &heap);

@@ -10,7 +10,7 @@ use super::{plan_of, same, sum_of};
 use cbs_core::{Ran, ServerView};
 use cbs_house::{Client, House, HouseError, Poll, SendError, open_house};
 use cbs_job::{Completion, SumJob, Task};
-use cbs_rules::{LIMIT, Mode};
+use cbs_rules::{LIMIT, Mode, Modes};
 use std::alloc::Global;
 use std::process::Abort;
 
@@ -25,7 +25,9 @@ pub fn one_client<R: Abort>(
     ensures { IsOpened (rings_of result.0) result.1 }
 {
     let (backlog, ring) = limits;
-    let opened = open_house(alloc, plan_of(rt, &[rate]), mode, backlog, ring);
+    let plan = plan_of(rt, &[rate]);
+    let modes = Modes::uniform(mode, plan.len() as u16);
+    let opened = open_house(alloc, plan, modes, backlog, ring);
     let Ok((house, mut clients)) = opened else {
         panic!(rt; "a house");
     };
@@ -129,29 +131,54 @@ fn limits_are_tested_in_their_order(rt: HostRuntime) {
         (4, 1025, HouseError::BadRing),
     ] {
         let plan = plan_of(&rt, &[(2, 5)]);
-        let refused = open_house::<SumJob, _>(rt.alloc(), plan, Mode::Soft, backlog, ring).err();
+        let modes = Modes::uniform(Mode::Soft, plan.len() as u16);
+        let refused = open_house::<SumJob, _>(rt.alloc(), plan, modes, backlog, ring).err();
         same(&rt, "refused", refused, Some(error));
     }
 }
 
-#[test]
-fn the_clock_ends_with_a_job_unfinished(rt: HostRuntime) {
-    let alloc = rt.alloc();
+/// A house of one throttled server with a tick in every 1000000000, to which a job of so many ones was
+/// sent, and taken by a poll.
+fn with_ones(rt: &impl Abort, alloc: Global, ones: &[u32]) -> House<SumJob> {
     let (mut house, mut client) = one_client(
-        &rt,
+        rt,
         alloc,
         Mode::Throttled,
         (1, 1_000_000_000),
         (4, 4),
     );
-    sends(&rt, &mut client, sum_of(&rt, alloc, &[1, 1, 1]), 0);
-    polls(&rt, &mut house, 0, Poll::Took(0));
+    sends(rt, &mut client, sum_of(rt, alloc, ones), 0);
+    polls(rt, &mut house, 0, Poll::Took(0));
+    house
+}
+
+#[test]
+fn a_drain_waits_for_replenishments(rt: HostRuntime) {
+    let mut house = with_ones(&rt, rt.alloc(), &[1, 1, 1]);
+    drains(&rt, &mut house, Ok(()));
+    stands_at(&rt, &house, 2_000_000_001);
+    gave(&rt, &house, 0, &[3]);
+    let view = ServerView {
+        budget: 0,
+        deadline: 3_000_000_000,
+        throttled: true,
+        closed: false,
+        accepted: 1,
+        finished: 1,
+    };
+    shows(&rt, &house, 0, Ok(view));
+    advances(&rt, &mut house, 1, Ok(()));
+}
+
+#[test]
+fn the_clock_ends_with_a_job_unfinished(rt: HostRuntime) {
+    let mut house = with_ones(&rt, rt.alloc(), &[1; 1001]);
     drains(&rt, &mut house, Err(HouseError::ClockEnd));
-    stands_at(&rt, &house, 1_000_000_000);
+    stands_at(&rt, &house, 1_000_000_000_000);
     gave(&rt, &house, 0, &[]);
     let view = ServerView {
         budget: 1,
-        deadline: 2_000_000_000,
+        deadline: 1_001_000_000_000,
         throttled: false,
         closed: false,
         accepted: 1,

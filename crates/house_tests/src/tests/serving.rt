@@ -11,7 +11,7 @@ use cbs_house::{
     Feed, Gate, House, HouseError, OpenGate, Round, feeds_of, open_house, serve, serve_round,
 };
 use cbs_job::SumJob;
-use cbs_rules::Mode;
+use cbs_rules::{Mode, Modes};
 use std::alloc::Global;
 use std::process::Abort;
 use std::slice::from_mut;
@@ -28,7 +28,9 @@ fn opened<R: Abort>(
 ) -> (House<SumJob>, Vec<Feed<SumJob>>)
     ensures { Ready result.0 result.1.items }
 {
-    let Ok((house, clients)) = open_house(alloc, plan_of(rt, rates), Mode::Soft, 4, ring) else {
+    let plan = plan_of(rt, rates);
+    let modes = Modes::uniform(Mode::Soft, plan.len() as u16);
+    let Ok((house, clients)) = open_house(alloc, plan, modes, 4, ring) else {
         panic!(rt; "a house");
     };
     let lists = lists_of(rt, alloc, alloc, lists);

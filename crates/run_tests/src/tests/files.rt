@@ -14,6 +14,12 @@ use std::time::Clock;
 
 const HEAD: &str = "format = 1\nmode = \"soft\"\nbound = [1, 1]\nbacklog = 4\nring = 4\n";
 
+/// The same of format 2.
+const HEAD_2: &str = "format = 2\nbound = [1, 1]\nbacklog = 4\nring = 4\n";
+
+const MODE_IN_FORMAT_2: &str =
+    "format = 2\nmode = \"soft\"\nbound = [1, 1]\nbacklog = 4\nring = 4\n";
+
 const ONE: &str = "server = [{ budget = 2, period = 5 }]\n";
 
 const THIRD: &str = "format = 1\nmode = \"soft\"\nbound = [1, 3]\nbacklog = 4\nring = 4\n";
@@ -34,7 +40,7 @@ const MODE_TWICE: &str =
 /// What stands before `server`, the line of `server`, what stands behind it, and the fault.
 type Faulty = [&'static str; 4];
 
-const FAULTS_AT_TOP: [Faulty; 12] = [
+const FAULTS_AT_TOP: [Faulty; 13] = [
     ["", "", "", "3 MissingKey at top"],
     ["format = 1\n", "mode = \"so", "", "1 NotToml at top"],
     ["format = 3", "", "", "5 OutOfRange at top"],
@@ -47,10 +53,11 @@ const FAULTS_AT_TOP: [Faulty; 12] = [
     [BOUND_OVER_1, ONE, "step = []", "5 OutOfRange at top"],
     [BOUND_IN_WORDS, ONE, "step = []", "4 WrongType at top"],
     [MODE_TWICE, ONE, "step = []", "1 NotToml at top"],
+    [MODE_IN_FORMAT_2, ONE, "step = []", "2 UnknownKey at top"],
 ];
 
 /// The entries of `server`, and the fault.
-const FAULTS_AT_SERVERS: [(&str, &str, &str); 6] = [
+const FAULTS_AT_SERVERS: [(&str, &str, &str); 9] = [
     (HEAD, "{ budget = 2 }", "3 MissingKey at server 0"),
     (
         HEAD,
@@ -76,6 +83,21 @@ const FAULTS_AT_SERVERS: [(&str, &str, &str); 6] = [
         THIRD,
         "{ budget = 1, period = 3 }, { budget = 1, period = 1000000000 }",
         "6 NotAdmitted at server 1",
+    ),
+    (
+        HEAD_2,
+        "{ budget = 2, period = 5 }",
+        "3 MissingKey at server 0",
+    ),
+    (
+        HEAD_2,
+        "{ budget = 2, period = 5, mode = \"hard\" }",
+        "5 OutOfRange at server 0",
+    ),
+    (
+        HEAD,
+        "{ budget = 2, period = 5, mode = \"soft\" }",
+        "2 UnknownKey at server 0",
     ),
 ];
 
@@ -266,7 +288,8 @@ fn a_file_holds_what_it_spells(rt: HostRuntime) {
         "format = 1\nmode = \"throttled\"\nbound = [2, 3]\nbacklog = 7\nring = 9\n{ONE}step = [{{ op = \"submit\", server = 0, job = \"peak\", units = [5] }}, {{ op = \"close\", server = 0 }}]\n"
     ).expect(&rt, "memory");
     let file = good_file(&rt, alloc, text.as_str());
-    same(&rt, "mode", file.mode(), Mode::Throttled);
+    same(&rt, "modes", file.modes().len(), 1);
+    same(&rt, "mode", file.modes().get(0), Some(Mode::Throttled));
     same(
         &rt,
         "backlog and ring",
@@ -283,7 +306,7 @@ fn a_file_holds_what_it_spells(rt: HostRuntime) {
 #[test]
 fn a_fault_has_its_place(rt: HostRuntime) {
     let alloc = rt.alloc();
-    let fault = read_file(alloc, b"format = 2").err();
+    let fault = read_file(alloc, b"format = 3").err();
     let expected = FileFault {
         kind: FileKind::OutOfRange,
         place: Place::Top,

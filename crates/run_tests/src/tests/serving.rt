@@ -32,14 +32,25 @@ fn results_are_those_of_the_file_at_every_ring(rt: HostRuntime) {
     }
 }
 
+/// A file of one server with a tick in every 1000000000, and a job of so many ones.
+fn of_ones(rt: &impl Abort, alloc: Global, ones: u32) -> String {
+    let mut units = String::new(alloc);
+    for _unit in 0..ones {
+        units.push_str("1, ").expect(rt, "memory");
+    }
+    format!(in alloc;
+        "{HEAD}ring = 4\nserver = [{{ budget = 1, period = 1000000000 }}]\n\
+         step = [{{ op = \"submit\", server = 0, job = \"sum\", units = [{units}] }}]\n"
+    )
+    .expect(rt, "memory")
+}
+
 #[test]
 fn a_clock_that_ends_writes_no_results(rt: HostRuntime) {
     let alloc = rt.alloc();
-    let file = format!(in alloc;
-        "{HEAD}ring = 4\nserver = [{{ budget = 1, period = 1000000000 }}]\n\
-         step = [{{ op = \"submit\", server = 0, job = \"sum\", units = [1, 1, 1] }}]\n"
-    )
-    .expect(&rt, "memory");
+    let file = of_ones(&rt, alloc, 3);
+    serves(&rt, alloc, "three ones", file.as_bytes(), 0, "server 0: 3\n", "");
+    let file = of_ones(&rt, alloc, 1001);
     let fault = "cbsrun: run fault 3 ClockEnd\n";
     serves(&rt, alloc, "the clock's end", file.as_bytes(), 4, "", fault);
 }

@@ -12,6 +12,8 @@ const SOFT_BACKLOG_1: &str = "format = 1\nmode = \"soft\"\nbound = [1, 1]\nbackl
 
 const THROTTLED: &str = "format = 1\nmode = \"throttled\"\nbound = [1, 1]\nbacklog = 4\nring = 4\n";
 
+const FORMAT_2: &str = "format = 2\nbound = [1, 1]\nbacklog = 4\nring = 4\n";
+
 /// A file, and the lines that it gives.
 #[derive(Clone, Copy)]
 struct Row {
@@ -162,6 +164,26 @@ const REFUSED: Row = Row {
 
 const CLOCK_END: Row = Row {
     name: "the end of the clock",
+    head: FORMAT_2,
+    server: "{ budget = 2, period = 5, mode = \"soft\" }",
+    step: "
+  { op = \"advance\", ticks = 1000000000000 },
+  { op = \"run\" },
+  { op = \"advance\", ticks = 1 },
+  { op = \"submit\", server = 0, job = \"sum\", units = [1] },
+  { op = \"run\" },
+",
+    lines: "\
+@1000000000000 advance 1000000000000
+@1000000000000 run idle
+@1000000000000 advance 1 refused ClockEnd
+@1000000000000 submit 0 job 0 accepted c=2 d=1000000000005
+@1000000000000 run refused ClockEnd
+",
+};
+
+const LONGEST_ADVANCE: Row = Row {
+    name: "the longest advance of format 1",
     head: SOFT,
     server: "{ budget = 2, period = 5 }",
     step: "
@@ -174,9 +196,37 @@ const CLOCK_END: Row = Row {
     lines: "\
 @1000000000 advance 1000000000
 @1000000000 run idle
-@1000000000 advance 1 refused ClockEnd
-@1000000000 submit 0 job 0 accepted c=2 d=1000000005
-@1000000000 run refused ClockEnd
+@1000000001 advance 1
+@1000000001 submit 0 job 0 accepted c=2 d=1000000006
+@1000000002 run 0 job 0 done 1 c=1 d=1000000006
+",
+};
+
+const TWO_MODES: Row = Row {
+    name: "a soft and a throttled server",
+    head: FORMAT_2,
+    server: "
+  { budget = 2, period = 5, mode = \"soft\" },
+  { budget = 2, period = 5, mode = \"throttled\" }",
+    step: "
+  { op = \"submit\", server = 0, job = \"sum\", units = [1, 1, 1] },
+  { op = \"submit\", server = 1, job = \"sum\", units = [1, 1, 1] },
+  { op = \"run\" },
+  { op = \"run\" },
+  { op = \"run\" },
+  { op = \"run\" },
+  { op = \"run\" },
+  { op = \"run\" },
+",
+    lines: "\
+@0 submit 0 job 0 accepted c=2 d=5
+@0 submit 1 job 0 accepted c=2 d=5
+@1 run 0 job 0 c=1 d=5
+@2 run 0 job 0 c=2 d=10
+@3 run 1 job 0 c=1 d=5
+@4 run 1 job 0 c=0 d=5 throttled
+@5 run 0 job 0 done 3 c=1 d=10
+@6 run 1 job 0 done 3 c=1 d=10
 ",
 };
 
@@ -339,6 +389,8 @@ fn files_give_their_lines(rt: HostRuntime) {
         ONE_REPLENISHMENT,
         REFUSED,
         CLOCK_END,
+        LONGEST_ADVANCE,
+        TWO_MODES,
         ARRIVAL_WHILE_THROTTLED,
         REPLENISHED_WHILE_IDLE,
         RENEWED_LATER,

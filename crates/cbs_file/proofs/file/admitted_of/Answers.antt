@@ -4,7 +4,7 @@ use Rattle.toml.specs.View.{view}
 use Rattle.cbs_file.specs.declared.fault.Place.TheVariants.{Server}
 use Rattle.cbs_file.specs.Spelling.{admitted_entry}
 use Rattle.cbs_file.proofs.Admitted.{admitted_on, admitted_ends, admitted_done}
-use Rattle.cbs_file.proofs.Places.{seen_at, seen_at_err}
+use Rattle.cbs_file.proofs.Places.{at_ok, seen_at, seen_at_err}
 use Rattle.cbs_file.proofs.file.admitted_of.Goals as goal
 
 pub returns-in_err-at-clause-value : goal.returns-in_err-at-clause-value
@@ -21,9 +21,10 @@ loop-i-preserved c =
     let i = c.loop-i.i in
     let v = c.index-entries-i.result in
     let next = seen_at (Server i) (λ _. c.admit_entry.new.admitted) c.admit_entry.result (admitted_entry c.args.mode c.loop-i.admitted (view v)) c.in_ok-at.field-0 c.admit_entry.ensures.value (sym c.at.ensures ∙ c.in_ok-at.was) in
+    let is = at_ok (Server i) c.admit_entry.result c.in_ok-at.field-0 (sym c.at.ensures ∙ c.in_ok-at.was) in
     record {
       so_far = admitted_on view c.args.mode i c.loop-i.admitted c.admit_entry.new.admitted c.args.entries.now v _ c.loop-i-test.true (rw (← c.index-entries-i.is) next) c.loop-i.invariant.so_far;
-      moded = ?;
+      moded = rw is at c.admit_entry.ensures.moded;
     }
 
 pub returns-clause-value : goal.returns-clause-value
