@@ -1,6 +1,8 @@
 //! Files that are served.
 
 use super::fakes::serves;
+use std::alloc::Global;
+use std::process::Abort;
 
 const HEAD: &str = "format = 1\nmode = \"throttled\"\nbound = [1, 1]\nbacklog = 2\n";
 
@@ -49,7 +51,15 @@ fn of_ones(rt: &impl Abort, alloc: Global, ones: u32) -> String {
 fn a_clock_that_ends_writes_no_results(rt: HostRuntime) {
     let alloc = rt.alloc();
     let file = of_ones(&rt, alloc, 3);
-    serves(&rt, alloc, "three ones", file.as_bytes(), 0, "server 0: 3\n", "");
+    serves(
+        &rt,
+        alloc,
+        "three ones",
+        file.as_bytes(),
+        0,
+        "server 0: 3\n",
+        "",
+    );
     let file = of_ones(&rt, alloc, 1001);
     let fault = "cbsrun: run fault 3 ClockEnd\n";
     serves(&rt, alloc, "the clock's end", file.as_bytes(), 4, "", fault);
