@@ -1,6 +1,7 @@
 pub mod Entries
 pub mod Faults
 pub mod Fields
+pub mod Memory
 pub mod Spelling
 pub mod TaskFiles
 pub mod TopTables

@@ -6,9 +6,11 @@ mod entries;
 mod fault;
 mod fields;
 mod file;
+mod memory;
 mod task_file;
 mod top;
 
 pub use fault::{FileFault, FileKind, Place};
-pub use file::read_file;
+pub use file::{read_file, read_file_within};
+pub use memory::{MEMORY, wants_within};
 pub use task_file::{Parts, TaskFile};
