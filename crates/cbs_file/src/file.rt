@@ -1,17 +1,19 @@
 //! A task file, read from its bytes.
 
-ghost use Rattle.std.specs.Prelude.{◌≡◌, ◌≤◌, map, length, Ok, Err, IfOk, OnOk, All};
+ghost use Rattle.std.specs.Prelude.{◌≡◌, ◌<◌, ◌≤◌, map, length, Ok, Err, IfOk, OnOk, All};
 ghost use Rattle.toml.specs.View.{view, table_view};
 ghost use Rattle.cbs_file.specs.declared.fault.FileKind.TheVariants.{OutOfMemory};
 ghost use Rattle.cbs_file.specs.declared.fault.Place.TheVariants.{Step as AtStep};
 ghost use Rattle.cbs_file.specs.Entries.{step_entry};
 ghost use Rattle.cbs_file.specs.Fields.{Gives, seen, each_from};
+ghost use Rattle.cbs_file.specs.Memory.{memory_wanted, usual_bound};
 ghost use Rattle.cbs_file.specs.TaskFiles.{NamesServer};
 ghost use Rattle.cbs_file.specs.Spelling.{document, file, faulty, at, admitted_entry, admitted_from, none_admitted, no_memory};
 
 use crate::entries::{server_entry, step_entry};
 use crate::fault::{FileFault, FileKind, Place};
 use crate::format::Format;
+use crate::memory::{MEMORY, wants_within};
 use crate::task_file::TaskFile;
 use crate::top::top_table;
 use cbs_core::Step;
@@ -125,15 +127,8 @@ fn steps_of(
 }
 
 /// The task file that the bytes spell, or its first fault.
-///
-/// The bytes are parsed as TOML; then the top table is tested, then each entry of `server` in order,
-/// then each entry of `step`. In each table the tests are, over all its keys: a key that it may not
-/// have, a key that is missing, a value of the wrong type, a value out of range. An entry of
-/// `server` is then admitted to the plan. The `format` of the top table, and the `op` of a step, are
-/// tested before the other keys. [`FileKind::OutOfMemory`] may come at any time, and stands
-/// at the top.
 #[tactic(auto, unfolding(crate::specs::Spelling::file))]
-pub fn read_file(alloc: Global, bytes: &[u8]) -> Result<TaskFile, FileFault>
+fn spelled_file(alloc: Global, bytes: &[u8]) -> Result<TaskFile, FileFault>
     ensures { Gives no_memory (λ f. f) result (file bytes.now) }
 {
     let table = at(Place::Top, document(alloc, bytes))?;
@@ -151,4 +146,33 @@ pub fn read_file(alloc: Global, bytes: &[u8]) -> Result<TaskFile, FileFault>
         ring: top.ring,
         steps,
     })
+}
+
+/// The task file that the bytes spell, or its first fault, as [`read_file`] reads it, where the bytes want at most `memory`
+/// bytes of memory.
+///
+/// Where they want more, the answer is [`FileKind::OutOfMemory`], before anything is parsed.
+pub fn read_file_within(alloc: Global, memory: u64, bytes: &[u8]) -> Result<TaskFile, FileFault>
+    ensures read { Gives no_memory (λ f. f) result (file bytes.now) }
+    ensures bounded { memory < memory_wanted bytes.now → result ≡ Err no_memory }
+{
+    if !wants_within(bytes, memory) {
+        return Err(faulty(Place::Top, FileKind::OutOfMemory));
+    }
+    spelled_file(alloc, bytes)
+}
+
+/// The task file that the bytes spell, or its first fault.
+///
+/// The bytes are parsed as TOML; then the top table is tested, then each entry of `server` in order,
+/// then each entry of `step`. In each table the tests are, over all its keys: a key that it may not
+/// have, a key that is missing, a value of the wrong type, a value out of range. An entry of
+/// `server` is then admitted to the plan. The `format` of the top table, and the `op` of a step, are
+/// tested before the other keys. [`FileKind::OutOfMemory`] may come at any time, and stands
+/// at the top. It comes at once where the bytes want more memory than [`MEMORY`].
+pub fn read_file(alloc: Global, bytes: &[u8]) -> Result<TaskFile, FileFault>
+    ensures read { Gives no_memory (λ f. f) result (file bytes.now) }
+    ensures bounded { usual_bound < memory_wanted bytes.now → result ≡ Err no_memory }
+{
+    read_file_within(alloc, MEMORY, bytes)
 }

@@ -7,9 +7,11 @@ mod fault;
 mod fields;
 mod file;
 mod format;
+mod memory;
 mod task_file;
 mod top;
 
 pub use fault::{FileFault, FileKind, Place};
-pub use file::read_file;
+pub use file::{read_file, read_file_within};
+pub use memory::{MEMORY, wants_within};
 pub use task_file::{Parts, TaskFile};

@@ -14,3 +14,7 @@ pub data Ends (verb : Verb) (bytes : List ℕ) (out out' err err' : Writer) : �
   done : (f : File) → file bytes ≡ Ok f → Writes out out' (output_of verb f) → IsUntouched err err' → Ends verb bytes out out' err err' 0
   refused : (fault : FileFault) → (fault ≡ no_memory) ⊎ (file bytes ≡ Err fault) → IsUntouched out out' → TriesToWrite err err' (file_line fault) → Ends verb bytes out out' err err' 3
   stopped : (f : File) (error : RunError) → file bytes ≡ Ok f → StopsShort verb f error out out' → TriesToWrite err err' (run_line error) → Ends verb bytes out out' err err' 4
+
+-- the file wanted more memory than it may: nothing was written but the line of that
+abbrev pub LacksMemory : Writer → Writer → Writer → Writer → ℕ → Type 0
+LacksMemory out out' err err' status = (status ≡ 3) × IsUntouched out out' × TriesToWrite err err' (file_line no_memory)

@@ -2,6 +2,7 @@
 #![tactic(auto)]
 
 mod call;
+mod environment;
 mod fault_lines;
 mod input;
 mod jobs_by_server;
@@ -17,10 +18,11 @@ mod steps;
 mod trace;
 mod words;
 
+pub use environment::{MEMORY_VARIABLE, memory_bound};
 pub use fault_lines::{write_file_fault, write_read_fault, write_run_fault};
 pub use input::{ByteInput, FromRead, MAX_BYTES, ReadError, read_all};
 pub use output::{ByteOutput, ToWrite, write_pieces, write_text};
-pub use run::{BAD_FILE, DONE, RUN_FAULT, WRONG_WORDS, run_bytes};
+pub use run::{BAD_FILE, DONE, RUN_FAULT, WRONG_WORDS, run_bytes, run_bytes_within};
 pub use run_error::RunError;
 pub use serve::serve_file;
 pub use trace::replay;

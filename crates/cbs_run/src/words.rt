@@ -37,9 +37,12 @@ Saved as FIRST.toml, it is run by
   cbsrun replay FIRST.toml
   cbsrun serve FIRST.toml
 
+A file that may want more than 2048 MiB of memory while it is read is refused, with
+status 3. CBSRUN_MEMORY, in the environment, is another bound, in MiB.
+
 Exit status:
   0  done, or this help
-  2  the command line is wrong
+  2  the command line is wrong, or CBSRUN_MEMORY is no whole number
   3  the file could not be read, or has a fault
   4  the run ended early: no memory, the output could not be written, or, in
      serve, the clock came to its end or the clients stalled";

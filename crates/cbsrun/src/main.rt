@@ -1,12 +1,15 @@
 //! `cbsrun` runs task files: jobs on Constant Bandwidth Servers, under earliest deadline first.
 #![tactic(auto)]
 
+use cbs_file::MEMORY;
 use cbs_run::{
-    Asked, BAD_FILE, DONE, FromRead, RUN_FAULT, ReadError, RunError, ToWrite, WRONG_WORDS,
-    WordsFault, read_all, read_words, run_bytes, write_pieces, write_read_fault, write_run_fault,
+    Asked, BAD_FILE, DONE, FromRead, MEMORY_VARIABLE, RUN_FAULT, ReadError, RunError, ToWrite,
+    WRONG_WORDS, WordsFault, memory_bound, read_all, read_words, run_bytes_within, write_pieces,
+    write_read_fault, write_run_fault,
 };
-use std::alloc::Global;
+use std::alloc::{AllocError, Global};
 use std::env;
+use std::env::VarError;
 use std::fs::File;
 use std::io::ErrorKind;
 use std::process::ExitCode;
@@ -25,9 +28,29 @@ fn words_of(rt: &HostRuntime, alloc: Global) -> Result<Vec<String>, WordsFault> 
     }
 }
 
-/// What the command line asks for.
-fn asked_of(rt: &HostRuntime, alloc: Global) -> Result<Asked, WordsFault> {
-    read_words(alloc, words_of(rt, alloc)?)
+/// The fault of an environment whose bound on memory is no number.
+fn no_bound(alloc: Global) -> Result<WordsFault, AllocError> {
+    let text = String::from_str(alloc, "cbsrun: CBSRUN_MEMORY is no whole number of MiB\n")?;
+    Ok(WordsFault::Usage(text))
+}
+
+/// How much memory the file may want, in bytes.
+fn memory_of(rt: &HostRuntime, alloc: Global) -> Result<u64, WordsFault> {
+    match env::var(rt, MEMORY_VARIABLE) {
+        Ok(mebibytes) => match memory_bound(mebibytes.as_str()) {
+            Ok(memory) => Ok(memory),
+            Err(_) => Err(no_bound(alloc)?),
+        },
+        Err(VarError::NotPresent) => Ok(MEMORY),
+        Err(VarError::NotUnicode) => Err(no_bound(alloc)?),
+        Err(VarError::OutOfMemory) => Err(WordsFault::OutOfMemory),
+    }
+}
+
+/// What the command line asks for, and how much memory its file may want.
+fn asked_of(rt: &HostRuntime, alloc: Global) -> Result<(Asked, u64), WordsFault> {
+    let asked = read_words(alloc, words_of(rt, alloc)?)?;
+    Ok((asked, memory_of(rt, alloc)?))
 }
 
 /// The bytes of a file. One that cannot be opened is a read fault.
@@ -38,12 +61,12 @@ fn bytes_of(rt: &HostRuntime, alloc: Global, path: &str) -> Result<Vec<u8>, Read
     read_all(alloc, &mut FromRead::new(file))
 }
 
-/// The status of a program that reads its words, its file and its steps. It serves on `threads`.
+/// The status of a program that reads its words, its environment, its file and its steps. It serves on `threads`.
 fn status<R: Threads + Clock + Sync>(rt: &HostRuntime, threads: &R) -> u8 {
     let alloc = rt.alloc();
     let mut out = ToWrite::new(rt.stdout());
     let mut err = ToWrite::new(rt.stderr());
-    let asked = match asked_of(rt, alloc) {
+    let (asked, memory) = match asked_of(rt, alloc) {
         Ok(asked) => asked,
         Err(WordsFault::Help(text)) => {
             let _written = write_pieces(&mut out, &[text.as_str()]);
@@ -59,7 +82,9 @@ fn status<R: Threads + Clock + Sync>(rt: &HostRuntime, threads: &R) -> u8 {
         }
     };
     match bytes_of(rt, alloc, asked.file.as_str()) {
-        Ok(bytes) => run_bytes(threads, alloc, asked.verb, &bytes, &mut out, &mut err),
+        Ok(bytes) => run_bytes_within(
+            threads, alloc, memory, asked.verb, &bytes, &mut out, &mut err,
+        ),
         Err(fault) => {
             let _written = write_read_fault(&mut err, fault);
             BAD_FILE

@@ -3,6 +3,7 @@
 mod errors;
 mod fakes;
 mod files;
+mod memory;
 mod serving;
 mod streams;
 mod traces;

@@ -81,6 +81,7 @@ fn help_teaches(rt: HostRuntime) {
         "units = [1, 2, 3]",
         "cbsrun replay FIRST.toml",
         "cbsrun serve FIRST.toml",
+        "CBSRUN_MEMORY",
         "Exit status:",
     ] {
         assert!(rt; help.as_str().contains(*part), "{part}");

@@ -6,7 +6,7 @@ use Rattle.cbs_file.specs.Fields.{each_from}
 use Rattle.cbs_file.specs.Spelling.{file, at, document, admitted_from, none_admitted, no_memory}
 use Rattle.cbs_file.specs.TopTables.{top_table, top_view}
 use Rattle.cbs_file.proofs.Places.{Gives-at, gives_ok}
-use Rattle.cbs_file.proofs.file.read_file.Goals as goal
+use Rattle.cbs_file.proofs.file.spelled_file.Goals as goal
 
 pub returns : goal.returns
 unfolding file

@@ -1,0 +1,72 @@
+//! The bound on what a file may want of memory.
+
+use super::fakes::Memory;
+use super::{FIRST, FIRST_LINES, same};
+use cbs_file::{FileFault, FileKind, Place, read_file_within, wants_within};
+use cbs_run::{Verb, memory_bound, run_bytes_within};
+
+/// Bytes, and what they want: 1400 for each dot, 750 for a `[`, 700 for a `=`, 500 for a `{`, 100 for a comma, 4 for another.
+const WANTED: [(&str, u64); 6] = [
+    ("ab\n", 12),
+    ("a=1", 708),
+    ("[a.b]", 2162),
+    ("{a=1},", 1312),
+    ("[[],[]]", 2362),
+    ("# a.b\n", 1420),
+];
+
+/// What the first example wants: 16 times 700, 5 times 500, 4 times 750, 11 times 100, and 193 times 4.
+const FIRST_WANTS: u64 = 18_572;
+
+#[test]
+fn bytes_want_the_sum_of_their_charges(rt: HostRuntime) {
+    for (bytes, wanted) in &WANTED {
+        let enough = wants_within(bytes.as_bytes(), *wanted);
+        let too_little = wants_within(bytes.as_bytes(), *wanted - 1);
+        same(&rt, bytes, (enough, too_little), (true, false));
+    }
+}
+
+#[test]
+fn a_file_that_wants_more_than_the_bound_is_not_read(rt: HostRuntime) {
+    let alloc = rt.alloc();
+    let fault = read_file_within(alloc, FIRST_WANTS - 1, FIRST.as_bytes()).err();
+    let expected = FileFault {
+        kind: FileKind::OutOfMemory,
+        place: Place::Top,
+    };
+    same(&rt, "fault", fault, Some(expected));
+    let line = "cbsrun: file fault 7 OutOfMemory at top\n";
+    for (memory, status, lines, fault) in &[
+        (FIRST_WANTS - 1, 3, "", line),
+        (FIRST_WANTS, 0, FIRST_LINES, ""),
+    ] {
+        let mut out = Memory::ample(alloc);
+        let mut err = Memory::ample(alloc);
+        let file = FIRST.as_bytes();
+        let verb = Verb::Replay;
+        let left = run_bytes_within(&rt, alloc, *memory, verb, file, &mut out, &mut err);
+        same(&rt, "status", left, *status);
+        assert!(rt; out.holds(lines.as_bytes()), "the output at status {left}");
+        assert!(rt;
+            err.holds(fault.as_bytes()),
+            "the error output at status {left}"
+        );
+    }
+}
+
+#[test]
+fn a_bound_is_a_whole_number_of_mebibytes(rt: HostRuntime) {
+    for (text, bound) in &[
+        ("0", Some(0)),
+        ("1", Some(1_048_576)),
+        ("2048", Some(2_147_483_648)),
+        ("18446744073709551615", Some(u64::MAX)),
+        ("18446744073709551616", None),
+        ("", None),
+        ("-1", None),
+        ("2 GiB", None),
+    ] {
+        same(&rt, text, memory_bound(text).ok(), *bound);
+    }
+}
