@@ -14,7 +14,7 @@ use std::thread::Threads;
 use std::time::Clock;
 
 /// So many turns that a round ends because all is taken.
-const TURNS: u64 = 1_000_000;
+const TURNS: u64 = 100_000;
 
 /// Jobs of three servers, of which the second has none.
 fn job_lists(alloc: Global) -> Result<Vec<Vec<Task<SumJob>>>> {
