@@ -3,6 +3,7 @@ pub mod Places
 pub mod RingLooks
 pub mod StepMessages
 pub mod HouseInvariant
+pub mod Beside
 pub mod ClosedServers
 pub mod MadeSteps
 pub mod Moves

@@ -59,6 +59,20 @@ pub fn polls<A: Allocator>(rt: &impl Abort, house: &mut House<SumJob, A>, server
     same(rt, "poll", house.poll(server), wanted);
 }
 
+/// Polls the server of a client that is at hand.
+pub fn polls_beside<A: Allocator>(
+    rt: &impl Abort,
+    house: &mut House<SumJob, A>,
+    client: &mut Client<SumJob, A>,
+    wanted: Poll,
+)
+    requires { IsOpened (rings_of house.old) client.old }
+    ensures rings { rings_of house.new ≡ rings_of house.old }
+    ensures client { SameClient client.old client.new }
+{
+    same(rt, "poll_beside", house.poll_beside(client), wanted);
+}
+
 /// Looks how many messages stand in the ring of a client.
 pub fn settles<A: Allocator>(
     rt: &impl Abort,

@@ -4,8 +4,8 @@ ghost use Rattle.cbs_house.specs.Houses.{rings_of};
 ghost use Rattle.cbs_house.specs.RingEnds.{IsOpened};
 
 use super::calls::{
-    advances, announces, collected, drains, ends, gave, makes_room, polls, runs, sends, settles,
-    stands_at, takes,
+    advances, announces, collected, drains, ends, gave, makes_room, polls, polls_beside, runs,
+    sends, settles, stands_at, takes,
 };
 use super::{lists_of, plan_of, same, sum_of};
 use cbs_core::Ran;
@@ -242,6 +242,7 @@ fn works_without_memory<A: Allocator>(
     requires { IsOpened (rings_of house.old) first.old × IsOpened (rings_of house.old) second.old }
 {
     polls(rt, house, 1, Poll::Nothing);
+    polls_beside(rt, house, second, Poll::Nothing);
     polls(rt, house, 2, Poll::NoSuchServer);
     sends(rt, first, sum_of(rt, alloc, &[4]), 1);
     sends(rt, second, sum_of(rt, alloc, &[9]), 0);

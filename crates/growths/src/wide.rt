@@ -1,0 +1,44 @@
+//! Jobs of which a list has room for one more at each growth.
+
+ghost use Rattle.std.specs.Prelude.{◌-◌};
+ghost use Rattle.std.proofs.Common.{refl};
+
+use anyhow::Result;
+use cbs_job::{Task, Work};
+
+/// Some units that come to a number. It is so wide that a list takes room for no more jobs than it has to
+/// hold, or for twice as many as before: the first three jobs of a core are three growths.
+#[derive(Drop)]
+pub struct WideJob {
+    left: u32,
+    output: u64,
+    _width: [u64; 128],
+}
+
+impl Work for WideJob {
+    ghost meaning = { record { left = λ w. w.left; output = λ w. w.output; after = λ w. record w { left = w.left - 1 } } };
+
+    ghost lowers = { λ w some. refl };
+
+    fn left(&self) -> u32 {
+        self.left
+    }
+
+    fn step(&mut self) {
+        self.left -= 1;
+    }
+
+    fn output(&self) -> u64 {
+        self.output
+    }
+}
+
+/// A job of one unit that comes to this number.
+pub fn wide(output: u64) -> Result<Task<WideJob>> {
+    let job = WideJob {
+        left: 1,
+        output,
+        _width: [0; 128],
+    };
+    Ok(Task::new(job).map_err(|refused| refused.error)?)
+}
