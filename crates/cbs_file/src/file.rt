@@ -65,11 +65,7 @@ struct Admitted {
 }
 
 /// Admits the server of one entry, where all servers may have a mode already.
-fn admit_entry(
-    admitted: &mut Admitted,
-    mode: Option<Mode>,
-    entry: &Value,
-) -> Result<(), FileKind>
+fn admit_entry(admitted: &mut Admitted, mode: Option<Mode>, entry: &Value) -> Result<(), FileKind>
     requires { length admitted.old.modes ≡ length admitted.old.plan.rates }
     ensures value { seen (λ _. admitted.new) result ≡ admitted_entry mode admitted.old (view entry.now) }
     ensures moded { OnOk result (length admitted.new.modes ≡ length admitted.new.plan.rates) }
@@ -83,11 +79,7 @@ fn admit_entry(
 }
 
 /// The plan and the modes of the entries of `server`, where all servers may have a mode already.
-fn admitted_of(
-    bound: Bound,
-    mode: Option<Mode>,
-    entries: &[Value],
-) -> Result<Admitted, FileFault>
+fn admitted_of(bound: Bound, mode: Option<Mode>, entries: &[Value]) -> Result<Admitted, FileFault>
     ensures value { result ≡ admitted_from mode 0 (none_admitted bound) (map view entries.now) }
     ensures moded { IfOk result (λ a. length a.modes ≡ length a.plan.rates) }
 {
@@ -118,7 +110,10 @@ fn steps_of(
 {
     let mut steps = Vec::new(alloc);
     for (i, entry) in entries.iter().enumerate() {
-        let step = at(Place::Step(i as u64), step_entry(alloc, format, servers, entry))?;
+        let step = at(
+            Place::Step(i as u64),
+            step_entry(alloc, format, servers, entry),
+        )?;
         let Ok(()) = steps.push(step) else {
             return Err(faulty(Place::Top, FileKind::OutOfMemory));
         };

@@ -28,7 +28,6 @@ use Rattle.cbs_run.specs.ResultLines.{jobs_for, results_by_server}
 use Rattle.cbs_run.specs.ServingStops.{HouseStops}
 use Rattle.cbs_run.specs.StepTexts.{start_of}
 
-
 module _ {X Y : Type 0} where
   -- what is the same at each is the same of all
   map_all : (f k : X → Y) (xs : List X) → All (λ x. f x ≡ k x) xs → map f xs ≡ map k xs

@@ -68,7 +68,12 @@ fn a_soft_server_follows_its_rules(rt: HostRuntime) {
         (Event::Consume, 1, 4_000_000_000, false),
         (Event::Arrive(1_000_000_000), 1, 4_000_000_000, false),
         // at the end of the clock
-        (Event::Arrive(1_000_000_000_000), 1, 1_001_000_000_000, false),
+        (
+            Event::Arrive(1_000_000_000_000),
+            1,
+            1_001_000_000_000,
+            false,
+        ),
     ];
     lives(&rt, Mode::Soft, (1, 1_000_000_000), &longest_period);
 }
