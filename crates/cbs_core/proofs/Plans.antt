@@ -3,7 +3,6 @@ use Rattle.std.proofs.Common.{◌≡◌, ℕ, zero, suc, ◌+◌, ◌≤◌, Lis
 use Rattle.std.specs.Prelude.{slice_get}
 use Rattle.std.proofs.lemmas.List.{take_all, length-map}
 use Rattle.cbs_rate.specs.Rate.{Rate}
-use Rattle.cbs_rules.specs.Rules.{Terms}
 use Rattle.cbs_rules.specs.declared.mode.Mode.{Mode}
 use Rattle.cbs_core.specs.Faces.{Face, new_face}
 use Rattle.cbs_core.specs.Setups.{terms_of}

@@ -1,4 +1,4 @@
-use Rattle.std.proofs.Common.{◌≡◌, rules, Ok, map, [], sym, ◌∙◌, length, refl}
+use Rattle.std.proofs.Common.{◌≡◌, rules, Ok, map, sym, ◌∙◌, length, refl}
 use Rattle.toml.specs.View.{view, table_view}
 use Rattle.cbs_file.specs.declared.fault.Place.TheVariants.{Top, Step as AtStep}
 use Rattle.cbs_file.specs.Entries.{step_entry}
