@@ -1,5 +1,6 @@
 //! Each call, where memory is there.
 
+use super::memory::filled;
 use super::{
     accepts, advances, chooses, closes, core_of, done, idles_for, makes_room, plan_of, refuses,
     runs, same, shows, stands_at, sum_of,
@@ -7,6 +8,7 @@ use super::{
 use cbs_core::{Core, CoreError, MAX_BACKLOG, Ran, ServerView};
 use cbs_job::SumJob;
 use cbs_rules::{Mode, Modes};
+use linked_list_allocator::LocalHeap;
 
 #[test]
 fn a_refused_job_comes_back(rt: HostRuntime) {
@@ -27,8 +29,11 @@ fn a_refused_job_comes_back(rt: HostRuntime) {
 #[test]
 fn each_call_on_a_core_with_one_server(rt: HostRuntime) {
     let alloc = rt.alloc();
-    let mut core = core_of(&rt, alloc, Mode::Soft, &[(2, 5)], 1);
+    let heap = LocalHeap::new(alloc, 1 << 12).expect(&rt, "a heap");
+    let mut core = core_of(&rt, &heap, Mode::Soft, &[(2, 5)], 1);
     makes_room(&rt, &mut core, 0, Ok(()));
+    // From here on no memory is found, and none is wanted.
+    let ballast = filled(&rt, alloc, &heap);
     makes_room(&rt, &mut core, 1, Err(CoreError::NoSuchServer));
     chooses(&rt, &core, None);
     accepts(&rt, &mut core, 0, sum_of(&rt, alloc, &[4]), 0);
@@ -54,6 +59,7 @@ fn each_call_on_a_core_with_one_server(rt: HostRuntime) {
         finished: 0,
     };
     same(&rt, "core.view(0)", core.view(0), Ok(view));
+    drop(ballast);
 }
 
 #[test]
@@ -77,7 +83,7 @@ fn a_backlog_is_1_to_4096(rt: HostRuntime) {
 fn the_clock_ends(rt: HostRuntime) {
     let alloc = rt.alloc();
     let mut core = core_of(&rt, alloc, Mode::Soft, &[(2, 5)], 4);
-    advances(&rt, &mut core, 1_000_000_001, Err(CoreError::ClockEnd));
+    advances(&rt, &mut core, 1_000_000_000_001, Err(CoreError::ClockEnd));
     advances(&rt, &mut core, 1_000_000_000_000, Ok(()));
     idles_for(&rt, &core, Some(0));
     runs(&rt, &mut core, Ran::Idle);
@@ -86,5 +92,5 @@ fn the_clock_ends(rt: HostRuntime) {
     accepts(&rt, &mut core, 0, sum_of(&rt, alloc, &[1]), 0);
     runs(&rt, &mut core, Ran::ClockEnd);
     stands_at(&rt, &core, 1_000_000_000_000);
-    shows(&rt, &core, 0, (2, 1_000_000_005, false));
+    shows(&rt, &core, 0, (2, 1_000_000_000_005, false));
 }

@@ -113,15 +113,17 @@ fn room_is_enough_for_the_next_job(rt: HostRuntime) {
     drop(ballast);
     makes_room(&rt, &mut core, 1, Ok(()));
     let ballast = filled(&rt, alloc, &heap);
-    advances(&rt, &mut core, 3, Ok(()));
     closes(&rt, &mut core, 0, Ok(()));
     runs(&rt, &mut core, Ran::Idle);
-    accepts(&rt, &mut core, 1, sum_of(&rt, alloc, &[4, 5, 6]), 0);
+    accepts(&rt, &mut core, 1, sum_of(&rt, alloc, &[1, 2, 3]), 0);
     closes(&rt, &mut core, 1, Ok(()));
     runs(&rt, &mut core, Ran::Unit { server: 1, seq: 0 });
     runs(&rt, &mut core, Ran::Unit { server: 1, seq: 0 });
+    runs(&rt, &mut core, Ran::Idle);
     idles_for(&rt, &core, Some(3));
-    advances(&rt, &mut core, 3, Ok(()));
-    runs(&rt, &mut core, done(1, 0, 15));
+    advances(&rt, &mut core, 7, Ok(()));
+    shows(&rt, &core, 1, (2, 10, false));
+    runs(&rt, &mut core, done(1, 0, 6));
+    stands_at(&rt, &core, 10);
     drop(ballast);
 }

@@ -1,8 +1,10 @@
 //! Completions, as a collector takes them.
 
 use super::calls::{announces, collected, makes_room, takes};
+use super::memory::filled;
 use cbs_house::{CollectError, Collector};
-use std::alloc::Global;
+use linked_list_allocator::LocalHeap;
+use std::alloc::{Allocator, Global};
 use std::process::Abort;
 
 /// A completion, and what taking it is answered.
@@ -26,9 +28,9 @@ const SECOND: [((u16, u64, u64), Result<(), CollectError>); 6] = [
 ];
 
 /// Takes each completion, and looks for its answer.
-fn answers<R: Abort>(
+fn answers<R: Abort, A: Allocator>(
     rt: &R,
-    collector: &mut Collector,
+    collector: &mut Collector<A>,
     rows: &[((u16, u64, u64), Result<(), CollectError>)],
 ) {
     for &(done, answer) in rows {
@@ -45,16 +47,20 @@ fn collector_of(rt: &impl Abort, alloc: Global, servers: u16) -> Collector {
 
 #[test]
 fn only_the_next_completion_is_taken(rt: HostRuntime) {
-    let mut collector = collector_of(&rt, rt.alloc(), 1);
-    for _time in 0..2 {
-        makes_room(&rt, &mut collector, 0, Ok(()));
-        announces(&rt, &mut collector, 0, Ok(()));
-    }
+    let heap = LocalHeap::new(rt.alloc(), 1 << 12).expect(&rt, "a heap");
+    let mut collector = Collector::new(&heap, 1).expect(&rt, "a collector");
+    makes_room(&rt, &mut collector, 0, Ok(()));
+    announces(&rt, &mut collector, 0, Ok(()));
+    makes_room(&rt, &mut collector, 0, Ok(()));
+    // From here on no memory is found, and none is wanted.
+    let ballast = filled(&rt, rt.alloc(), &heap);
+    announces(&rt, &mut collector, 0, Ok(()));
     answers(&rt, &mut collector, &ROWS);
     collected(&rt, &collector, 0, &[6, 7]);
     announces(&rt, &mut collector, 9, Err(CollectError::Stranger));
     makes_room(&rt, &mut collector, 9, Err(CollectError::Stranger));
     assert!(rt; collector.results(9).is_none());
+    drop(ballast);
 }
 
 #[test]

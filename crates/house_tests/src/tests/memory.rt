@@ -21,7 +21,11 @@ use std::process::Abort;
 use std::test::Fail;
 
 /// Takes all memory of a heap, and gives what holds it.
-fn filled<'a>(rt: &impl Abort, alloc: Global, heap: &'a LocalHeap) -> Vec<Vec<u8, &'a LocalHeap>> {
+pub fn filled<'a>(
+    rt: &impl Abort,
+    alloc: Global,
+    heap: &'a LocalHeap,
+) -> Vec<Vec<u8, &'a LocalHeap>> {
     let mut ballast = Vec::new(alloc);
     for _block in 0..heap.size() {
         let Ok(block) = Vec::with_capacity(heap, 1) else {

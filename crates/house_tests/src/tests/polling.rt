@@ -6,22 +6,24 @@ ghost use Rattle.cbs_house.specs.RingEnds.{IsOpened};
 use super::calls::{
     advances, drains, ends, gave, idles_for, polls, refuses, runs, sends, settles, shows, stands_at,
 };
+use super::memory::filled;
 use super::{plan_of, same, sum_of};
 use cbs_core::{Ran, ServerView};
 use cbs_house::{Client, House, HouseError, Poll, SendError, open_house};
 use cbs_job::{Completion, SumJob, Task};
 use cbs_rules::{LIMIT, Mode, Modes};
-use std::alloc::Global;
+use linked_list_allocator::LocalHeap;
+use std::alloc::{Allocator, Global};
 use std::process::Abort;
 
 /// A house of one server with this reservation, and its client.
-pub fn one_client<R: Abort>(
+pub fn one_client<R: Abort, A: Allocator + Copy>(
     rt: &R,
-    alloc: Global,
+    alloc: A,
     mode: Mode,
     rate: (u64, u64),
     limits: (u64, u64),
-) -> (House<SumJob>, Client<SumJob>)
+) -> (House<SumJob, A>, Client<SumJob, A>)
     ensures { IsOpened (rings_of result.0) result.1 }
 {
     let (backlog, ring) = limits;
@@ -40,7 +42,10 @@ pub fn one_client<R: Abort>(
 #[test]
 fn messages_are_taken_in_order(rt: HostRuntime) {
     let alloc = rt.alloc();
-    let (mut house, mut client) = one_client(&rt, alloc, Mode::Soft, (2, 5), (4, 4));
+    let heap = LocalHeap::new(alloc, 1 << 13).expect(&rt, "a heap");
+    let (mut house, mut client) = one_client(&rt, &heap, Mode::Soft, (2, 5), (4, 4));
+    // The polls that take a message alone want memory.
+    let ballast = filled(&rt, alloc, &heap);
     sends(&rt, &mut client, sum_of(&rt, alloc, &[5]), 0);
     sends(&rt, &mut client, sum_of(&rt, alloc, &[7]), 1);
     ends(&rt, &mut client, Ok(()));
@@ -48,9 +53,11 @@ fn messages_are_taken_in_order(rt: HostRuntime) {
     ends(&rt, &mut client, Err(SendError::Ended));
     assert!(rt; client.server() == 0 && client.sent() == 2 && client.ended());
     settles(&rt, &mut house, &mut client, 3);
+    drop(ballast);
     polls(&rt, &mut house, 0, Poll::Took(0));
     polls(&rt, &mut house, 0, Poll::Took(1));
     polls(&rt, &mut house, 0, Poll::Closed);
+    let ballast = filled(&rt, alloc, &heap);
     polls(&rt, &mut house, 0, Poll::Nothing);
     settles(&rt, &mut house, &mut client, 0);
     drains(&rt, &mut house, Ok(()));
@@ -69,6 +76,7 @@ fn messages_are_taken_in_order(rt: HostRuntime) {
     runs(&rt, &mut house, Ran::Idle);
     advances(&rt, &mut house, 3, Ok(()));
     stands_at(&rt, &house, 5);
+    drop(ballast);
 }
 
 #[test]
