@@ -1,66 +1,101 @@
--- A poll while both ends of the ring are at hand: a look behind it shows all that was sent.
-use Rattle.std.proofs.Common.{◌≡◌, ◌≢◌, ℕ, ◌+◌, ◌<◌, List, [], ◌∷◌, ◌++◌, length, refl, ap, ◌∙◌, arith, length-append}
+-- A poll behind a look at both ends of the ring, which shows all that was sent.
+use Rattle.std.proofs.Common.{◌≡◌, ℕ, ◌<◌, ◌≤◌, ◌⊎◌, true, List, [], ◌∷◌, ◌++◌, length, refl, ap, sym, subst, ◌∙◌, arith, length-append, inl, inr}
+use Rattle.std.proofs.lemmas.Bool.{false≢true}
+use Rattle.std.proofs.lemmas.List.{append-nil}
 use mathlib.Core.List.{IsPrefix}
 use Rattle.cbs_job.specs.Work.{Meaning}
 use Rattle.cbs_job.specs.declared.work.Work.{Ghosts}
-use Rattle.cbs_core.specs.declared.step.Step.{Step}
+use Rattle.cbs_core.specs.Held.{CoreHeld, IsOpen, IsClosed, Accepts}
+use Rattle.cbs_core.specs.Faces.{face_at, backlog_of}
 use Rattle.cbs_core.specs.declared.step.Step.TheVariants.{Submit, Close}
 use Rattle.cbs_house.specs.declared.house.House.{House}
 use Rattle.cbs_house.specs.declared.message.Message.{Message}
-use Rattle.cbs_house.specs.declared.message.Message.TheVariants.{Job, End}
 use Rattle.cbs_house.specs.declared.poll.Poll.{Poll}
 use Rattle.cbs_house.specs.declared.poll.Poll.TheVariants.{Nothing, Took, Closed, Full, OutOfMemory, NoSuchServer}
-use Rattle.cbs_house.specs.Houses.{core_of, received, known, Made, LooksOnly, Polled}
-use Rattle.cbs_house.specs.Steps.{messages_of}
-use Rattle.cbs_house.proofs.MadeSteps.{eqb_same, made_both, made_look}
+use Rattle.cbs_house.specs.declared.client.Client.{Client}
+use Rattle.cbs_house.specs.Clients.{server_of, sent_by, SameClient}
+use Rattle.cbs_house.specs.Houses.{core_of, received, known, LooksOnly, Polled}
+use Rattle.cbs_house.specs.Messages.{jobs_among}
+use Rattle.cbs_house.proofs.MadeSteps.{made_both, made_look}
 
-longer : {X : Type 0} (xs ys : List X) → IsPrefix xs ys → 0 < length xs → 0 < length ys
-longer xs ys p some = let e = ap length p.1 in omega (arith, e, some, length-append xs p.0)
+empty_of : {X : Type 0} (xs : List X) → length xs ≡ 0 → xs ≡ []
+empty_of [] e = refl
+empty_of (x ∷ xs) e = absurd (omega (arith, e))
+
+no_prefix : {X : Type 0} (xs : List X) → IsPrefix xs [] → length xs ≡ 0
+no_prefix xs p = let e = ap length p.1 in omega (arith, e, length-append xs p.0)
+
+module _ {W A : Type 0} {g : Ghosts W} where
+  -- a look at both ends: all that was sent is received or known, and n messages are known
+  pub record Shown (a b : House W A g) (s : ℕ) (sent : List (Message W)) (n : ℕ) : Type 0 where
+    pub looked : LooksOnly a b
+    pub all : sent ≡ received b s ++ known b s
+    pub count : n ≡ length (known b s)
+
+  -- what a settle says of the client as it was
+  pub shown : (a b : House W A g) (old new : Client W A g) (n : ℕ) → LooksOnly a b → SameClient old new → sent_by new ≡ sent_by old
+      → n ≡ length (known b (server_of new)) → sent_by new ≡ received b (server_of new) ++ known b (server_of new)
+      → Shown a b (server_of old) (sent_by old) n
+  shown a b old new n l same sent count all = record { looked = l; all = sym sent ∙ rw same.0 at all; count = rw same.0 at count }
+
+  -- where it shows nothing, all that was sent was taken
+  pub all_taken : (a b : House W A g) (s : ℕ) (sent : List (Message W)) → Shown a b s sent 0 → sent ≡ received a s
+  all_taken a b s sent k =
+      k.all ∙ (ap (λ ms. received b s ++ ms) (empty_of (known b s) (sym k.count)) ∙ (append-nil (received b s) ∙ k.looked.received s))
+
+  -- where all that was sent was taken, it shows nothing
+  pub none_shown : (a b : House W A g) (s : ℕ) (sent : List (Message W)) (n : ℕ) → Shown a b s sent n → sent ≡ received a s → n ≡ 0
+  none_shown a b s sent n k before =
+      let e = ap length (sym k.all ∙ before) in
+      let f = ap length (k.looked.received s) in
+      let count = k.count in
+      omega (arith, e, f, count, length-append (received b s) (known b s))
 
 module _ {W A : Type 0} {g : Ghosts W} (work : Meaning W) where
-  looked_behind : (a b c : House W A g) (xs : List (Step W)) → Made work a b xs → LooksOnly b c → Made work a c (xs ++ [])
-  looked_behind a b c xs m l = made_both work a b c xs [] m (made_look work b c l)
+  -- where a look shows nothing, it is a poll that answers so
+  pub nothing_polled : (a b : House W A g) (s : ℕ) (sent : List (Message W)) → s < length (core_of a).faces → Shown a b s sent 0 → Polled work a s Nothing b
+  nothing_polled a b s sent within k = (made_look work a b k.looked, within, inr (empty_of (known b s) (sym k.count)))
 
-  -- where the poll saw a message, it is seen still
-  pub polled_beside : (a b c : House W A g) (s : ℕ) (p : Poll) → Polled work a s p b → LooksOnly b c → p ≢ Nothing → Polled work a s p c
-  polled_beside a b c s Nothing k l n = absurd (n refl)
-  polled_beside a b c s Full k l n = (looked_behind a b c [] k.0 l, k.1, longer (known b s) (known c s) (l.known s) k.2, k.3)
-  polled_beside a b c s OutOfMemory k l n = (looked_behind a b c [] k.0 l, k.1, longer (known b s) (known c s) (l.known s) k.2)
-  polled_beside a b c s NoSuchServer k l n = (looked_behind a b c [] k.0 l, k.1)
-  polled_beside a b c s (Took q) k l n = (k.0, looked_behind a b c (Submit s k.0 ∷ []) k.1 l, k.2, k.3)
-  polled_beside a b c s Closed k l n = (looked_behind a b c (Close s ∷ []) k.0 l, k.1)
+  -- what a poll does behind a look, it does
+  pub polled_behind : (a b c : House W A g) (s : ℕ) (p : Poll) → LooksOnly a b → Polled work b s p c → Polled work a s p c
+  polled_behind a b c s Nothing l k = (
+    made_both work a b c [] [] (made_look work a b l) k.0,
+    subst (λ (core : CoreHeld W). s < length core.faces) l.core k.1,
+    subst (λ (core : CoreHeld W). ((face_at core.faces s).closed ≡ true) ⊎ (known c s ≡ [])) l.core k.2,
+  )
+  polled_behind a b c s Full l k = (
+    made_both work a b c [] [] (made_look work a b l) k.0,
+    subst (λ (core : CoreHeld W). IsOpen core s) l.core k.1,
+    k.2,
+    subst (λ (core : CoreHeld W). core.backlog ≤ backlog_of (face_at core.faces s)) l.core k.3,
+  )
+  polled_behind a b c s OutOfMemory l k =
+      (made_both work a b c [] [] (made_look work a b l) k.0, subst (λ (core : CoreHeld W). Accepts core s) l.core k.1, k.2)
+  polled_behind a b c s NoSuchServer l k =
+      (made_both work a b c [] [] (made_look work a b l) k.0, subst (λ (core : CoreHeld W). length core.faces ≤ s) l.core k.1)
+  polled_behind a b c s (Took q) l k = (
+    k.0,
+    made_both work a b c [] (Submit s k.0 ∷ []) (made_look work a b l) k.1,
+    subst (λ (core : CoreHeld W). Accepts core s) l.core k.2,
+    subst (λ ms. q ≡ length (jobs_among ms)) (l.received s) k.3,
+  )
+  polled_behind a b c s Closed l k =
+      (made_both work a b c [] (Close s ∷ []) (made_look work a b l) k.0, subst (λ (core : CoreHeld W). Accepts core s) l.core k.1)
 
-  pub nothing_beside : (a b c : House W A g) (s : ℕ) (p : Poll) → Polled work a s p b → LooksOnly b c → p ≡ Nothing → Made work a c []
-  nothing_beside a b c s p k l e = let none : Polled work a s Nothing b = rw e at k in looked_behind a b c [] none.0 l
+  -- where a look showed a message, a poll that sees nothing finds the server closed
+  pub nothing_seen : (a b : House W A g) (s : ℕ) (p : Poll) → Polled work a s p b → 0 < length (known a s) → p ≡ Nothing → IsClosed (core_of a) s
+  nothing_seen a b s p k some e =
+      let none : Polled work a s Nothing b = rw e at k in
+      elim none.2 [
+        | inl closed ↦ record { within = none.1; closed = closed }
+        | inr seen ↦ absurd (let within : IsPrefix (known a s) [] = rw seen at (none.0.known s) in let short = no_prefix (known a s) within in omega (arith, some, short))
+      ]
 
-  -- where all that was sent was received before, no message was popped, and none is seen
-  none_beside : (a b c : House W A g) (s : ℕ) (xs : List (Step W)) (sent : List (Message W)) → Made work a b xs → LooksOnly b c
-      → sent ≡ received a s → sent ≡ received c s ++ known c s → length (messages_of s xs) + length (known c s) ≡ 0
-  none_beside a b c s xs sent m l before behind =
-      let e = ap length before in
-      let f = ap length behind in
-      let r = ap length (l.received s ∙ m.received s) in
-      omega (arith, e, f, r, length-append (received a s) (messages_of s xs), length-append (received c s) (known c s))
-
-  none_seen : (a b c : House W A g) (s : ℕ) (sent : List (Message W)) → Made work a b [] → LooksOnly b c
-      → sent ≡ received a s → sent ≡ received c s ++ known c s → 0 < length (known b s) → ⊥
-  none_seen a b c s sent m l before behind some =
-      let none = none_beside a b c s [] sent m l before behind in
-      let more = longer (known b s) (known c s) (l.known s) some in
-      omega (arith, none, more)
-
-  none_popped : (a b c : House W A g) (s : ℕ) (x : Step W) (m : Message W) (sent : List (Message W)) → Made work a b (x ∷ []) → LooksOnly b c
-      → sent ≡ received a s → sent ≡ received c s ++ known c s → messages_of s (x ∷ []) ≡ m ∷ [] → ⊥
-  none_popped a b c s x m sent made l before behind one =
-      let none = none_beside a b c s (x ∷ []) sent made l before behind in
-      let e = ap length one in
-      omega (arith, none, e)
-
-  pub empty_beside : (a b c : House W A g) (s : ℕ) (p : Poll) (sent : List (Message W)) → s < length (core_of a).faces → Polled work a s p b → LooksOnly b c
-      → sent ≡ received a s → sent ≡ received c s ++ known c s → p ≡ Nothing
-  empty_beside a b c s Nothing sent i k l before behind = refl
-  empty_beside a b c s Full sent i k l before behind = absurd (none_seen a b c s sent k.0 l before behind k.2)
-  empty_beside a b c s OutOfMemory sent i k l before behind = absurd (none_seen a b c s sent k.0 l before behind k.2)
-  empty_beside a b c s NoSuchServer sent i k l before behind = absurd (let past = k.1 in omega (arith, i, past))
-  empty_beside a b c s (Took q) sent i k l before behind = absurd (none_popped a b c s (Submit s k.0) (Job k.0) sent k.1 l before behind (rw (eqb_same s) refl))
-  empty_beside a b c s Closed sent i k l before behind = absurd (none_popped a b c s (Close s) End sent k.0 l before behind (rw (eqb_same s) refl))
+  -- a closed server is polled in vain
+  pub closed_polled : (a b : House W A g) (s : ℕ) (p : Poll) → Polled work a s p b → IsClosed (core_of a) s → p ≡ Nothing
+  closed_polled a b s Nothing k c = refl
+  closed_polled a b s Full k c = absurd (false≢true (sym k.1.unclosed ∙ c.closed))
+  closed_polled a b s OutOfMemory k c = absurd (false≢true (sym k.1.is_open.unclosed ∙ c.closed))
+  closed_polled a b s NoSuchServer k c = absurd (let past = k.1 in let within = c.within in omega (arith, past, within))
+  closed_polled a b s (Took q) k c = absurd (false≢true (sym k.2.is_open.unclosed ∙ c.closed))
+  closed_polled a b s Closed k c = absurd (false≢true (sym k.1.is_open.unclosed ∙ c.closed))

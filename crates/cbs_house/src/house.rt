@@ -24,7 +24,7 @@ pub struct House<W: Work, A: Allocator = Global> {
 }
 
 impl<W: Work, A: Allocator> House<W, A> {
-    ghost use Rattle.std.specs.Prelude.{ℕ, ◌≡◌, ◌≢◌, ◌↔◌, IsTrue, ◌<◌, ◌≤◌, ◌+◌, ◌*◌, [], ◌∷◌, ◌++◌, length, slice_get, Ok, Err, Some, None, IfSome, IfNone, IfOk, IfErr, OnOk, MatchResult, MatchOption};
+    ghost use Rattle.std.specs.Prelude.{ℕ, ◌≡◌, ◌≢◌, ◌↔◌, ◌⊎◌, IsTrue, ◌<◌, ◌≤◌, ◌+◌, ◌*◌, [], ◌∷◌, ◌++◌, length, slice_get, Ok, Err, Some, None, IfSome, IfNone, IfOk, IfErr, OnOk, MatchResult, MatchOption};
     ghost use Rattle.cbs_core.specs.Agreement.{Agrees};
     ghost use Rattle.cbs_core.specs.History.{History, faces, world_after, reply_in};
     ghost use Rattle.cbs_core.specs.Quiet.{IsAtRest, IsIdleSpan};
@@ -92,21 +92,21 @@ impl<W: Work, A: Allocator> House<W, A> {
     /// Polls the server of a client, as [`poll`](House::poll), while nothing can be sent, since the client is
     /// at hand. It must have been opened with this house.
     ///
-    /// Where all that the client sent was taken, as where [`settle`](House::settle) just answered 0, the
-    /// answer is [`Poll::Nothing`], however little memory there is.
+    /// The answer is [`Poll::Nothing`] exactly where the server is closed or all that the client sent was
+    /// taken, as where [`settle`](House::settle) just answered 0: there, however little memory there is.
     pub fn poll_beside(&mut self, client: &mut Client<W, A>) -> Poll
         requires { IsOpened (rings_of self.old) client.old }
-        ensures empty { sent_by client.old ≡ received self.old (server_of client.old) → result ≡ Poll.Nothing }
-        ensures nothing { result ≡ Poll.Nothing → Made W.meaning self.old self.new [] }
-        ensures polled { result ≢ Poll.Nothing → Polled W.meaning self.old (server_of client.old) result self.new }
+        ensures nothing { (result ≡ Poll.Nothing) ↔ (IsClosed (core_of self.old) (server_of client.old) ⊎ (sent_by client.old ≡ received self.old (server_of client.old))) }
+        ensures polled { Polled W.meaning self.old (server_of client.old) result self.new }
         ensures rings { rings_of self.new ≡ rings_of self.old }
         ensures results { (s : ℕ) → results_of self.new s ≡ results_of self.old s }
         ensures client { SameClient client.old client.new × (sent_by client.new ≡ sent_by client.old) × (free client.old ≤ free client.new) }
     {
-        let answer = self.poll(client.server());
-        // A look at both ends, which pops nothing: what the poll saw, the client had sent.
-        self.settle(client);
-        answer
+        // A look at both ends shows all that was sent. Without it a poll may miss the newest messages.
+        if self.settle(client) == 0 {
+            return Poll::Nothing;
+        }
+        self.poll(client.server())
     }
 
     /// Pops nothing: gives an answer, or makes room for a message that is seen.

@@ -4,7 +4,8 @@ ghost use Rattle.cbs_house.specs.Houses.{rings_of};
 ghost use Rattle.cbs_house.specs.RingEnds.{IsOpened};
 
 use super::calls::{
-    advances, drains, ends, gave, idles_for, polls, refuses, runs, sends, settles, shows, stands_at,
+    advances, drains, ends, gave, idles_for, polls, polls_beside, refuses, runs, sends, settles,
+    shows, stands_at,
 };
 use super::memory::filled;
 use super::{plan_of, same, sum_of};
@@ -77,6 +78,23 @@ fn messages_are_taken_in_order(rt: HostRuntime) {
     advances(&rt, &mut house, 3, Ok(()));
     stands_at(&rt, &house, 5);
     drop(ballast);
+}
+
+#[test]
+fn a_poll_beside_the_client_takes_what_it_sent(rt: HostRuntime) {
+    let alloc = rt.alloc();
+    let (mut house, mut client) = one_client(&rt, alloc, Mode::Soft, (2, 5), (1, 4));
+    sends(&rt, &mut client, sum_of(&rt, alloc, &[5]), 0);
+    sends(&rt, &mut client, sum_of(&rt, alloc, &[7]), 1);
+    ends(&rt, &mut client, Ok(()));
+    polls_beside(&rt, &mut house, &mut client, Poll::Took(0));
+    polls_beside(&rt, &mut house, &mut client, Poll::Full);
+    drains(&rt, &mut house, Ok(()));
+    polls_beside(&rt, &mut house, &mut client, Poll::Took(1));
+    drains(&rt, &mut house, Ok(()));
+    polls_beside(&rt, &mut house, &mut client, Poll::Closed);
+    polls_beside(&rt, &mut house, &mut client, Poll::Nothing);
+    gave(&rt, &house, 0, &[5, 7]);
 }
 
 #[test]

@@ -1,36 +1,54 @@
-use Rattle.std.proofs.Common.{◌≡◌, ◌<◌, ◌++◌, length, subst, sym, ◌∙◌, arith}
-use Rattle.cbs_house.proofs.Beside.{empty_beside, nothing_beside, polled_beside}
+use Rattle.std.proofs.Common.{◌<◌, length, refl, subst, sym, ◌∙◌, arith, inl, inr}
+use Rattle.cbs_core.specs.Held.{IsClosed}
+use Rattle.cbs_house.proofs.Beside.{Shown, shown, all_taken, nothing_polled, none_shown, polled_behind, nothing_seen, closed_polled}
 use Rattle.cbs_house.proofs.RingLooks.{opened_within}
 use Rattle.cbs_house.specs.Clients.{server_of, sent_by}
-use Rattle.cbs_house.specs.Houses.{core_of, rings_of, received, known, Polled}
+use Rattle.cbs_house.specs.Houses.{core_of, rings_of, known, Polled}
 use Rattle.cbs_house.proofs.house.House.poll_beside.Goals as goal
 
-pub returns-clause-empty : goal.returns-clause-empty
-returns-clause-empty g c = λ before.
+pub returns-then-settle-eq0-clause-nothing : goal.returns-then-settle-eq0-clause-nothing
+returns-then-settle-eq0-clause-nothing g c =
+    let a = c.args.self.now in
+    let client = c.args.client.now in
+    let s = c.settle in
+    let k = shown a s.new.self client s.new.client s.result s.ensures.looked s.ensures.client.0 s.ensures.client.1 s.ensures.value s.ensures.lawful in
+    let none : Shown a s.new.self (server_of client) (sent_by client) 0 = rw c.if-settle-eq0.true at k in
+    ((λ e. inr (all_taken a s.new.self (server_of client) (sent_by client) none)), (λ e. refl))
+
+pub returns-then-settle-eq0-clause-polled : goal.returns-then-settle-eq0-clause-polled
+returns-then-settle-eq0-clause-polled g c =
+    let a = c.args.self.now in
+    let client = c.args.client.now in
+    let s = c.settle in
+    let k = shown a s.new.self client s.new.client s.result s.ensures.looked s.ensures.client.0 s.ensures.client.1 s.ensures.value s.ensures.lawful in
+    let opened : server_of client < length (rings_of a) = opened_within (rings_of a) client c.requires in
+    let count = a.housed.ring_count in
+    let within : server_of client < length (core_of a).faces = omega (arith, opened, count) in
+    nothing_polled g.W.Work.meaning a s.new.self (server_of client) (sent_by client) within (rw c.if-settle-eq0.true at k)
+
+pub returns-clause-nothing : goal.returns-clause-nothing
+returns-clause-nothing g c =
     let work = g.W.Work.meaning in
     let a = c.args.self.now in
     let client = c.args.client.now in
-    let p = c.poll-answer in
     let s = c.settle in
+    let p = c.poll in
     let t = server_of client in
-    let polled = subst (λ x. Polled work a x p.result p.new.self) c.server.ensures p.ensures.polled in
-    let opened : t < length (rings_of a) = opened_within (rings_of a) client c.requires in
-    let count = a.housed.ring_count in
-    let within : t < length (core_of a).faces = omega (arith, opened, count) in
-    let same : server_of s.new.client ≡ t = s.ensures.client.0.0 in
-    let lawful = s.ensures.lawful in
-    let behind : sent_by client ≡ received s.new.self t ++ known s.new.self t = sym s.ensures.client.1 ∙ rw same at lawful in
-    empty_beside work a p.new.self s.new.self t p.result (sent_by client) within polled s.ensures.looked before behind
-
-pub returns-clause-nothing : goal.returns-clause-nothing
-returns-clause-nothing g c = λ e.
-    let p = c.poll-answer in
-    nothing_beside g.W.Work.meaning c.args.self.now p.new.self c.settle.new.self c.server.result p.result p.ensures.polled c.settle.ensures.looked e
+    let k = shown a s.new.self client s.new.client s.result s.ensures.looked s.ensures.client.0 s.ensures.client.1 s.ensures.value s.ensures.lawful in
+    let polled = subst (λ x. Polled work s.new.self x p.result p.new.self) (c.server.ensures ∙ s.ensures.client.0.0) p.ensures.polled in
+    let count = k.count in
+    let nonzero = c.if-settle-eq0.false in
+    let some : 0 < length (known s.new.self t) = grind (arith, count, nonzero) in (
+      (λ e. inl (subst (λ core. IsClosed core t) s.ensures.looked.core (nothing_seen work s.new.self p.new.self t p.result polled some e))),
+      (λ why. elim why [
+        | inl closed ↦ closed_polled work s.new.self p.new.self t p.result polled (subst (λ core. IsClosed core t) (sym s.ensures.looked.core) closed)
+        | inr before ↦ absurd (nonzero (none_shown a s.new.self t (sent_by client) s.result k before))
+      ]),
+    )
 
 pub returns-clause-polled : goal.returns-clause-polled
 returns-clause-polled g c =
-    let work = g.W.Work.meaning in
-    let a = c.args.self.now in
-    let p = c.poll-answer in
-    let polled = subst (λ x. Polled work a x p.result p.new.self) c.server.ensures p.ensures.polled in
-    polled_beside work a p.new.self c.settle.new.self (server_of c.args.client.now) p.result polled c.settle.ensures.looked
+    let s = c.settle in
+    let p = c.poll in
+    let polled = subst (λ x. Polled g.W.Work.meaning s.new.self x p.result p.new.self) (c.server.ensures ∙ s.ensures.client.0.0) p.ensures.polled in
+    polled_behind g.W.Work.meaning c.args.self.now s.new.self p.new.self (server_of c.args.client.now) p.result s.ensures.looked polled
