@@ -1,16 +1,13 @@
 -- Entries come into the list of the ready servers, and leave it.
-use Rattle.std.proofs.Common.{◌≡◌, ◌≢◌, ℕ, zero, suc, ◌+◌, ◌-◌, ◌<◌, ◌≤◌, true, false, eqb, List, [], ◌∷◌, ◌++◌, length, drop, take, get_or, set, Some, None, if◌then◌else◌, refl, sym, ap, ◌∙◌, inl, inr, arith}
-use Rattle.std.proofs.Math.Seq.{take-append_seam, take-length, drop-length}
-use Rattle.std.proofs.lemmas.List.{append-nil, length-append}
+use Rattle.std.proofs.Common.{◌≡◌, ◌≢◌, ℕ, zero, suc, ◌+◌, ◌<◌, ◌≤◌, true, false, eqb, List, [], ◌∷◌, length, drop, Some, None, if◌then◌else◌, refl, sym, ap, ◌∙◌, inl, inr, arith}
 use Rattle.std.proofs.lemmas.Bool.{cases_Bool}
 use Rattle.std.proofs.lemmas.Bool.Decides.{nat_tests}
-use Rattle.std.specs.List.{AllByRecursion, insert, copy_within}
-use Rattle.std.specs.List.Sorted.{IsPartitionPoint, IsPartitionedBy}
-use Rattle.cbs_core.specs.declared.ready_list.Entry.{Entry}
-use Rattle.cbs_core.specs.ReadyList.{is_ahead, listed, first_of, IsApart, IsOrdered}
+use Rattle.std.specs.List.{AllByRecursion}
+use Rattle.cbs_core.specs.declared.entries.Entry.{Entry}
+use Rattle.cbs_core.specs.ReadyList.{is_ahead, listed, first_of, entered, IsApart, IsOrdered}
 
 -- an entry that is ahead of another is ahead of all that the other is ahead of
-ahead_along : (x e r : Entry) → is_ahead x e ≡ true → is_ahead e r ≡ true → is_ahead x r ≡ true
+pub ahead_along : (x e r : Entry) → is_ahead x e ≡ true → is_ahead e r ≡ true → is_ahead x r ≡ true
 ahead_along x e r a b = grind (arith, nat_tests)
 
 -- of two servers one is ahead
@@ -18,7 +15,7 @@ ahead_other : (x e : Entry) → x.server ≢ e.server → is_ahead x e ≡ false
 ahead_other x e ne f = grind (arith, nat_tests)
 
 -- a server that is not listed has no entry
-pub unlisted : (s : ℕ) (es : List Entry) → listed es s ≡ None → AllByRecursion (λ r. s ≢ r.server) es
+unlisted : (s : ℕ) (es : List Entry) → listed es s ≡ None → AllByRecursion (λ r. s ≢ r.server) es
 unlisted s [] none = tt
 unlisted s (e ∷ es) none = elim (cases_Bool (eqb e.server s)) [
   | inl t ↦ absurd (let h = rw t at none in cc)
@@ -26,17 +23,12 @@ unlisted s (e ∷ es) none = elim (cases_Bool (eqb e.server s)) [
 ]
 
 -- a server that has no entry is not listed
-pub listed-none : (s : ℕ) (es : List Entry) → AllByRecursion (λ r. s ≢ r.server) es → listed es s ≡ None
+listed-none : (s : ℕ) (es : List Entry) → AllByRecursion (λ r. s ≢ r.server) es → listed es s ≡ None
 listed-none s [] all = refl
 listed-none s (e ∷ es) all =
     let ne = all.0 in
     let f : eqb e.server s ≡ false = grind (arith, nat_tests) in
     rw f (listed-none s es all.1)
-
--- the list with one entry more, before the first that it is ahead of
-abbrev pub entered : Entry → List Entry → List Entry
-entered x [] = x ∷ []
-entered x (e ∷ es) = if is_ahead x e then x ∷ e ∷ es else e ∷ entered x es
 
 -- what holds of the new entry and of the others holds of all
 All-entered : (P : Entry → Type 0) (x : Entry) (es : List Entry) → P x → AllByRecursion P es → AllByRecursion P (entered x es)
@@ -85,41 +77,13 @@ apart_first e s [] q all = tt
 apart_first e s (r ∷ rs) q all = (λ x. all.0.other (q ∙ x), apart_first e s rs q all.1)
 
 -- the first server has no entry behind the first
-pub rest_without : (s : ℕ) (es : List Entry) → IsOrdered es → first_of es ≡ Some s → AllByRecursion (λ r. s ≢ r.server) (drop 1 es)
+rest_without : (s : ℕ) (es : List Entry) → IsOrdered es → first_of es ≡ Some s → AllByRecursion (λ r. s ≢ r.server) (drop 1 es)
 rest_without s [] sorted h = cc
 rest_without s (e ∷ es) sorted h = let q : e.server ≡ s = cc in apart_first e s es q sorted.0
 
 -- no first server is listed behind the first
 pub rest_here : (s : ℕ) (es : List Entry) → IsOrdered es → first_of es ≡ Some s → listed (drop 1 es) s ≡ None
 rest_here s es sorted h = listed-none s (drop 1 es) (rest_without s es sorted h)
-
--- every other server is listed behind the first as in the whole
-pub rest_other : (es : List Entry) (t : ℕ) → first_of es ≢ Some t → listed (drop 1 es) t ≡ listed es t
-rest_other [] t ne = refl
-rest_other (e ∷ es) t ne = elim (cases_Bool (eqb e.server t)) [
-  | inl b ↦ absurd (let q : e.server ≡ t = grind (arith, nat_tests) in ne (ap Some q))
-  | inr f ↦ rw f refl
-]
-
--- all that is behind the first
-pub rest_taken : (es : List Entry) → take (length es - 1) (drop 1 es) ≡ drop 1 es
-rest_taken [] = refl
-rest_taken (e ∷ es) = let n : suc (length es) - 1 ≡ length es = omega arith in rw n (take-length es)
-
--- what is behind the first is in order
-pub rest_ordered : (es : List Entry) → IsOrdered es → IsOrdered (drop 1 es)
-rest_ordered [] sorted = sorted
-rest_ordered (e ∷ es) sorted = sorted.1
-
--- where the numbers of all servers are below a bound, so are those behind the first
-pub rest_known : (n : ℕ) (es : List Entry) → AllByRecursion (λ r. r.server < n) es → AllByRecursion (λ r. r.server < n) (drop 1 es)
-rest_known n [] all = all
-rest_known n (e ∷ es) all = all.1
-
--- where the numbers of all servers are below a bound, so is that of the first
-pub first_known : (n s : ℕ) (es : List Entry) → first_of es ≡ Some s → AllByRecursion (λ r. r.server < n) es → s < n
-first_known n s [] h all = cc
-first_known n s (e ∷ es) h all = let q : e.server ≡ s = cc in rw (← q) all.0
 
 -- the first is ahead of every other that is listed
 pub first_ahead : (e : Entry) (es : List Entry) (t d : ℕ) → AllByRecursion (IsApart e) es → listed es t ≡ Some d → is_ahead e (record { deadline = d; server = t }) ≡ true
@@ -191,73 +155,3 @@ place_for n x es sorted all none lt =
 -- the servers' numbers stay below a bound
 pub known-entered : (n : ℕ) (x : Entry) (es : List Entry) → x.server < n → AllByRecursion (λ r. r.server < n) es → AllByRecursion (λ r. r.server < n) (entered x es)
 known-entered n x es lt all = All-entered (λ r. r.server < n) x es lt all
-
--- an entry that stands apart from each of a list stands apart from the one at place i
-apart_at : (e : Entry) (es : List Entry) (i : ℕ) (d : Entry) → AllByRecursion (IsApart e) es → i < length es → IsApart e (get_or es i d)
-apart_at e [] i d all lt = absurd (omega arith)
-apart_at e (r ∷ rs) zero d all lt = all.0
-apart_at e (r ∷ rs) (suc i) d all lt = apart_at e rs i d all.1 (omega arith)
-
-module _ (x : Entry) where
-  -- in a list in order, what is ahead of an entry stands before what is not
-  pub partitioned : (es : List Entry) → IsOrdered es → IsPartitionedBy (λ e. is_ahead e x) es
-  partitioned [] sorted i j d le lt h = absurd (omega arith)
-  partitioned (e ∷ es) sorted zero zero d le lt h = h
-  partitioned (e ∷ es) sorted zero (suc j) d le lt h = ahead_along e (get_or es j d) x (apart_at e es j d sorted.0 (omega arith)).ahead h
-  partitioned (e ∷ es) sorted (suc i) zero d le lt h = absurd (omega arith)
-  partitioned (e ∷ es) sorted (suc i) (suc j) d le lt h = partitioned es sorted.1 i j d (omega arith) (omega arith) h
-
-  -- an entry enters behind all that are ahead of it
-  pub insert-entered : (es : List Entry) (i : ℕ) → i ≤ length es → IsPartitionPoint (λ e. is_ahead e x ≡ true) (λ e. is_ahead e x ≡ false) es i
-      → AllByRecursion (λ r. x.server ≢ r.server) es → insert es i x ≡ entered x es
-  insert-entered [] zero le point ne = refl
-  insert-entered [] (suc i) le point ne = absurd (omega arith)
-  insert-entered (e ∷ es) zero le point ne =
-      let t : is_ahead x e ≡ true = ahead_other e x (λ q. ne.0 (sym q)) (point.1 0 e (omega arith) (omega arith)) in
-      rw t refl
-  insert-entered (e ∷ es) (suc i) le point ne =
-      let h : is_ahead e x ≡ true = point.0 0 e (omega arith) (omega arith) in
-      let f : is_ahead x e ≡ false = grind (arith, nat_tests) in
-      rw f (ap (λ rs. e ∷ rs) (insert-entered es i (omega arith) (λ k d a b. point.0 (suc k) d (omega arith) (omega arith), λ k d a b. point.1 (suc k) d (omega arith) (omega arith)) ne.1))
-
--- the front of a list moves down over the entry before it, and another entry takes the place behind it
-moved_down : (e x : Entry) (es : List Entry) (i : ℕ) → i ≤ length es → set (take i es ++ drop i (e ∷ es)) i x ≡ insert es i x
-moved_down e x es zero le = refl
-moved_down e x [] (suc i) le = absurd (omega arith)
-moved_down e x (r ∷ rs) (suc i) le = ap (λ ts. r ∷ ts) (moved_down r x rs i (omega arith))
-
--- a list that is written over by one as long
-pub refilled : (xs ys : List Entry) → length ys ≡ length xs → take (length xs) (ys ++ drop (length ys) xs) ≡ ys
-refilled xs ys e = rw (← e) (take-append_seam ys (drop (length ys) xs))
-
--- the first is taken away, and another entry put at a place among the rest
-pub replaced : (es : List Entry) (i : ℕ) (x : Entry) → i < length es → set (copy_within es 1 (i + 1) 0) i x ≡ insert (drop 1 es) i x
-replaced [] i x lt = absurd (omega arith)
-replaced (e ∷ es) i x lt =
-    let one : i + 1 - 1 ≡ i = omega arith in
-    let none : 0 + i ≡ i = omega arith in
-    rw (one, none) (moved_down e x es i (omega arith))
-
--- the back of a list moves up over its last entry, and another entry takes the place before it
-moved_up : (e x : Entry) (es : List Entry) (i : ℕ) → i ≤ length es
-    → set ((take (i + 1) (e ∷ es) ++ take (length es - i) (drop i (e ∷ es))) ++ drop (length es) es) i x ≡ insert (take (length es) (e ∷ es)) i x
-moved_up e x es zero le =
-    let all : length es - 0 ≡ length es = omega arith in
-    rw (all, drop-length es, append-nil (take (length es) (e ∷ es))) refl
-moved_up e x [] (suc i) le = absurd (omega arith)
-moved_up e x (r ∷ rs) (suc i) le =
-    let next : suc i + 1 ≡ suc (i + 1) = omega arith in
-    let rest : suc (length rs) - suc i ≡ length rs - i = omega arith in
-    rw (next, rest) (ap (λ ts. e ∷ ts) (moved_up r x rs i (omega arith)))
-
--- a list with one entry behind it, but for that one
-pub all_but_last : (es : List Entry) (x : Entry) → take (length (es ++ x ∷ []) - 1) (es ++ x ∷ []) ≡ es
-all_but_last es x = let n : length (es ++ x ∷ []) - 1 ≡ length es = (let l = length-append es (x ∷ []) in omega arith) in rw n (take-append_seam es (x ∷ []))
-
--- the last is taken away, and another entry put at a place among the rest
-pub replaced_last : (es : List Entry) (i : ℕ) (x : Entry) → i < length es → set (copy_within es i (length es - 1) (i + 1)) i x ≡ insert (take (length es - 1) es) i x
-replaced_last [] i x lt = absurd (omega arith)
-replaced_last (e ∷ es) i x lt =
-    let rest : suc (length es) - 1 ≡ length es = omega arith in
-    let end : (i + 1) + (length es - i) ≡ suc (length es) = omega arith in
-    rw (rest, end) (moved_up e x es i (omega arith))

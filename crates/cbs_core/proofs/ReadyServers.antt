@@ -4,7 +4,7 @@ use Rattle.std.proofs.lemmas.Bool.{cases_Bool}
 use Rattle.std.proofs.lemmas.Bool.Decides.{nat_tests}
 use Rattle.std.proofs.lemmas.List.{get_or_read, get_or-set_same, get_or-set_other}
 use Rattle.cbs_rules.specs.Rules.{Terms, is_renewed}
-use Rattle.cbs_core.specs.declared.ready_list.Entry.{Entry}
+use Rattle.cbs_core.specs.declared.entries.Entry.{Entry}
 use Rattle.cbs_core.specs.Choice.{rank_at, chosen_among, IsEarliest, IsChoice}
 use Rattle.cbs_core.specs.Faces.{Face, no_face, face_at, new_face, is_active, is_ready, ready_by, ranks, with_job, with_replenishment}
 use Rattle.cbs_core.specs.ReadyList.{listed, first_of, IsOrdered, ListsReady, IsNotDueBefore, NoneDueBefore}
@@ -217,9 +217,3 @@ module _ {X : Type 0} (f : X → X) where
   swept_all [] (suc i) le = refl
   swept_all (x ∷ xs) zero le = absurd (omega arith)
   swept_all (x ∷ xs) (suc i) le = ap (λ ys. f x ∷ ys) (swept_all xs i (omega arith))
-
-  -- the list is as long as before
-  pub length-swept : (xs : List X) (i : ℕ) → length (swept f xs i) ≡ length xs
-  length-swept xs zero = refl
-  length-swept [] (suc i) = refl
-  length-swept (x ∷ xs) (suc i) = ap suc (length-swept xs i)

@@ -1,7 +1,7 @@
 -- The list of the ready servers. Private words of this crate.
-use Rattle.std.specs.Prelude.{◌≡◌, ◌≢◌, ◌≤◌, ℕ, Bool, true, ◌&&◌, ◌||◌, eqb, ltb, if◌then◌else◌, List, [], ◌∷◌, Option, Some, None}
-use Rattle.std.specs.List.{AllByRecursion}
-use Rattle.cbs_core.specs.declared.ready_list.Entry.{Entry}
+use Rattle.std.specs.Prelude.{◌≡◌, ◌≢◌, ◌≤◌, ℕ, Bool, true, ◌&&◌, ◌||◌, eqb, ltb, if◌then◌else◌, List, [], ◌∷◌, length, drop, Option, Some, None}
+use Rattle.std.specs.List.{AllByRecursion, insert}
+use Rattle.cbs_core.specs.declared.entries.Entry.{Entry}
 use Rattle.cbs_core.specs.Faces.{Face, face_at, ready_by}
 
 -- whether entry a comes before entry b: by deadline, and of equal deadlines by number
@@ -18,6 +18,11 @@ abbrev pub first_of : List Entry → Option ℕ
 first_of [] = None
 first_of (e ∷ es) = Some e.server
 
+-- the list with one entry more, before the first that it is ahead of
+abbrev pub entered : Entry → List Entry → List Entry
+entered x [] = x ∷ []
+entered x (e ∷ es) = if is_ahead x e then x ∷ e ∷ es else e ∷ entered x es
+
 -- entry a stands before entry b, and is another server's
 pub record IsApart (a b : Entry) : Type 0 where
   pub ahead : is_ahead a b ≡ true
@@ -27,6 +32,13 @@ pub record IsApart (a b : Entry) : Type 0 where
 abbrev pub IsOrdered : List Entry → Type 0
 IsOrdered [] = Unit {0}
 IsOrdered (e ∷ es) = AllByRecursion (IsApart e) es × IsOrdered es
+
+-- Entry x is on its way from the back of a list to its place: the slot at this place is free, and those from there on are behind
+-- x and stand one slot further up.
+pub record IsMoved (x : Entry) (es slots : List Entry) (place : ℕ) : Type 0 where
+  pub within : place ≤ length es
+  pub moved : (free : Entry) × (slots ≡ insert es place free)
+  pub behind : AllByRecursion (λ e. is_ahead x e ≡ true) (drop place es)
 
 -- the list is in order, and has each ready server with its deadline, and nobody else
 pub record ListsReady (es : List Entry) (faces : List Face) : Type 0 where

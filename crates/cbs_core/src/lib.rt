@@ -3,6 +3,7 @@
 #![tactic(auto)]
 
 mod chains;
+mod entries;
 mod error;
 mod executor;
 mod queues;

@@ -1,49 +1,29 @@
 //! The ready servers, in the order of the choice.
 
 ghost use Rattle.std.specs.Prelude.{◌≡◌, ◌≢◌, ◌-◌, ◌<◌, ◌≤◌, ◌⊎◌, ℕ, true, false, [], length, drop, take, Some, None};
-ghost use Rattle.std.specs.List.{insert};
-ghost use Rattle.std.specs.List.Sorted.{IsPartitionPoint};
-ghost use Rattle.cbs_core.specs.ReadyList.{is_ahead, listed, first_of, IsOrdered};
+ghost use Rattle.cbs_core.specs.ReadyList.{listed, first_of, IsOrdered};
 
-use arrayvec::ArrayVec;
+use crate::entries::{Entries, Entry};
 use std::marker::Model;
-
-/// A ready server, with its deadline.
-#[derive(Clone, Copy, Default)]
-struct Entry {
-    deadline: u128,
-    server: u16,
-}
-
-impl Entry {
-    /// Whether it comes before another: by deadline, and of equal deadlines by number.
-    fn is_ahead(&self, other: Entry) -> bool
-        ensures { result ≡ is_ahead self.now other }
-    {
-        // Both sides are computed, so that a search takes no branch that nobody can foretell.
-        (self.deadline < other.deadline)
-            | ((self.deadline == other.deadline) & (self.server < other.server))
-    }
-}
 
 /// The ready servers with their deadlines, each once, in the order of the choice: by deadline, and of
 /// equal deadlines by number. Servers are numbered below 64.
 #[derive(Drop)]
 pub struct ReadyList {
-    entries: ArrayVec<Entry, 64>,
+    entries: Entries,
 }
 
 impl Model for ReadyList {
     ghost use Rattle.std.specs.Prelude.{List, ◌<◌};
     ghost use Rattle.std.specs.List.{AllByRecursion};
-    ghost use Rattle.cbs_core.specs.declared.ready_list.Entry.{Entry};
+    ghost use Rattle.cbs_core.specs.declared.entries.Entry.{Entry};
     ghost use Rattle.cbs_core.specs.ReadyList.{IsOrdered};
 
     ghost Value = { List Entry };
 
-    ghost view = { λ r. r.entries.items };
+    ghost view = { λ r. r.entries };
 
-    ghost invariant = { λ r. IsOrdered r.entries.items × AllByRecursion (λ e. e.server < 64) r.entries.items };
+    ghost invariant = { λ r. IsOrdered r.entries × AllByRecursion (λ e. e.server < 64) r.entries };
 }
 
 impl ReadyList {
@@ -52,7 +32,7 @@ impl ReadyList {
         ensures { result ≡ [] }
     {
         ReadyList {
-            entries: ArrayVec::new(),
+            entries: Entries::new(),
         }
     }
 
@@ -60,7 +40,7 @@ impl ReadyList {
     pub fn first(&self) -> Option<u16>
         ensures { result ≡ first_of self.now }
     {
-        first_server(&self.entries)
+        first_server(self.entries.as_slice())
     }
 
     /// Follows a server, which was ready by a deadline or was not, and is so now. One that stays ready
@@ -83,7 +63,7 @@ impl ReadyList {
         }
     }
 
-    // The three changes stand out of line, since most units make none.
+    // It stands out of line, since most units change nothing.
 
     /// A server becomes ready.
     #[inline(never)]
@@ -94,34 +74,34 @@ impl ReadyList {
         ensures here { listed self.new server ≡ Some deadline }
         ensures others { (t : ℕ) → t ≢ server → listed self.new t ≡ listed self.old t }
     {
-        let entry = Entry { deadline, server };
-        let place = place_of(&self.entries, entry);
-        self.entries.push(entry);
-        replace_last(&mut self.entries, place, entry);
+        self.entries.insert(Entry { deadline, server });
     }
 
     /// The first server is no longer ready.
-    #[inline(never)]
+    #[inline]
     fn remove_first(&mut self)
         requires { 0 < length self.old }
         ensures ordered { IsOrdered self.new }
         ensures gone { (s : ℕ) → first_of self.old ≡ Some s → listed self.new s ≡ None }
         ensures others { (t : ℕ) → first_of self.old ≢ Some t → listed self.new t ≡ listed self.old t }
     {
-        self.entries.remove(0);
+        self.entries.remove_first();
     }
 
     /// The first server gets another deadline.
-    #[inline(never)]
+    #[inline]
     fn postpone_first(&mut self, server: u16, deadline: u128)
         requires { first_of self.old ≡ Some server }
         ensures ordered { IsOrdered self.new }
         ensures here { listed self.new server ≡ Some deadline }
         ensures others { (t : ℕ) → t ≢ server → listed self.new t ≡ listed self.old t }
     {
-        let entry = Entry { deadline, server };
-        let place = place_of(&self.entries[1..], entry);
-        replace_first(&mut self.entries, place, entry);
+        if self.entries.len() == 1 {
+            self.entries.set_first(Entry { deadline, server });
+        } else {
+            self.remove_first();
+            self.insert(server, deadline);
+        }
     }
 }
 
@@ -133,33 +113,4 @@ fn first_server(entries: &[Entry]) -> Option<u16>
         return None;
     }
     Some(entries[0].server)
-}
-
-/// Where an entry belongs among others: behind those that are ahead of it.
-fn place_of(entries: &[Entry], entry: Entry) -> usize
-    requires { IsOrdered entries.now }
-    ensures bound { result ≤ length entries.now }
-    ensures value { IsPartitionPoint (λ e. is_ahead e entry ≡ true) (λ e. is_ahead e entry ≡ false) entries.now result }
-{
-    entries.partition_point(|other| other.is_ahead(entry))
-}
-
-/// Takes the first entry away, and puts another at this place among the rest.
-fn replace_first(entries: &mut [Entry], place: usize, entry: Entry)
-    requires { place < length entries.old }
-    ensures { entries.new ≡ insert (drop 1 entries.old) place entry }
-{
-    if place > 0 {
-        entries.copy_within(1..place + 1, 0);
-    }
-    entries[place] = entry;
-}
-
-/// Takes the last entry away, and puts another at this place among the rest.
-fn replace_last(entries: &mut [Entry], place: usize, entry: Entry)
-    requires { place < length entries.old }
-    ensures { entries.new ≡ insert (take (length entries.old - 1) entries.old) place entry }
-{
-    entries.copy_within(place..entries.len() - 1, place + 1);
-    entries[place] = entry;
 }

@@ -81,14 +81,14 @@ impl Server {
         self.state.throttled()
     }
 
-    /// Before which tick it is not due for replenishment: its deadline, where it waits for that.
-    pub fn due(&self) -> u128
+    /// Before which tick of the clock it is not due for replenishment: its deadline, where it waits for that.
+    pub fn due(&self) -> u64
         ensures { IsNotDueBefore result self.now }
     {
         if self.is_throttled() {
-            self.deadline()
+            u64::try_from(self.deadline()).unwrap_or(u64::MAX)
         } else {
-            u128::MAX
+            u64::MAX
         }
     }
 

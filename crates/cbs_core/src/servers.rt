@@ -24,7 +24,7 @@ pub struct Servers<A: Allocator = Global> {
     servers: Vec<Server, A>,
     ready: ReadyList,
     // Nobody is due for replenishment before.
-    due: u128,
+    due: u64,
 }
 
 impl<A: Allocator> Model for Servers<A> {
@@ -55,7 +55,7 @@ impl<A: Allocator + Clone> Servers<A> {
         Ok(Servers {
             servers,
             ready: ReadyList::new(),
-            due: u128::MAX,
+            due: u64::MAX,
         })
     }
 }
@@ -174,7 +174,7 @@ impl<A: Allocator> Servers<A> {
         requires { now ≤ LIMIT }
         ensures { self.new ≡ map (with_replenishment now) self.old }
     {
-        if u128::from(now) >= self.due {
+        if now >= self.due {
             self.due = replenish_all(&mut self.servers, &mut self.ready, now);
         }
     }
@@ -192,7 +192,7 @@ impl<A: Allocator> Servers<A> {
 /// Replenishes every server that is due at tick `now`, and lists those that are then ready. Before
 /// which tick nobody else is due.
 #[inline(never)]
-fn replenish_all(servers: &mut [Server], ready: &mut ReadyList, now: u64) -> u128
+fn replenish_all(servers: &mut [Server], ready: &mut ReadyList, now: u64) -> u64
     requires clock { now ≤ LIMIT }
     requires few { length servers.old ≤ 64 }
     requires listed { ListsReady ready.old servers.old }
@@ -200,7 +200,7 @@ fn replenish_all(servers: &mut [Server], ready: &mut ReadyList, now: u64) -> u12
     ensures listed { ListsReady ready.new servers.new }
     ensures due { NoneDueBefore result servers.new }
 {
-    let mut due = u128::MAX;
+    let mut due = u64::MAX;
     for index in 0..servers.len() {
         due = due.min(replenish_one(&mut servers[index], index as u16, ready, now));
     }
@@ -209,7 +209,7 @@ fn replenish_all(servers: &mut [Server], ready: &mut ReadyList, now: u64) -> u12
 
 /// Replenishes one server if it is due at tick `now`, and lists it if it is then ready. Before which
 /// tick it is not due.
-fn replenish_one(it: &mut Server, number: u16, ready: &mut ReadyList, now: u64) -> u128
+fn replenish_one(it: &mut Server, number: u16, ready: &mut ReadyList, now: u64) -> u64
     requires clock { now ≤ LIMIT }
     requires known { number < 64 }
     requires ordered { IsOrdered ready.old }
@@ -221,7 +221,7 @@ fn replenish_one(it: &mut Server, number: u16, ready: &mut ReadyList, now: u64) 
     ensures due { IsNotDueBefore result it.new }
 {
     if !it.is_throttled() {
-        return u128::MAX;
+        return u64::MAX;
     }
     it.replenish(now);
     ready.follow(number, None, it.ready_by());

@@ -2,5 +2,5 @@ use Rattle.std.proofs.Common.{sym, arith}
 use Rattle.cbs_core.proofs.ReadyServers.{none_replenished}
 use Rattle.cbs_core.proofs.servers.Servers.replenish.Goals as goal
 
-pub returns-else-from-self : goal.returns-else-from-self
-returns-else-from-self g c = rw (← c.self.view_is) (sym (none_replenished c.self.inside.due c.args.now c.self.inside.servers.items c.self.invariant.2 (omega arith)))
+pub returns-else-now-self : goal.returns-else-now-self
+returns-else-now-self g c = rw (← c.self.view_is) (sym (none_replenished c.self.inside.due c.args.now c.self.inside.servers.items c.self.invariant.2 (omega arith)))
