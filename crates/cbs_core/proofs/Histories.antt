@@ -11,7 +11,7 @@ use Rattle.cbs_core.specs.Accounts.{Account, face_of, new_account, no_account, a
 use Rattle.cbs_core.specs.History.{World, Setup, History, account, faces, chosen, tick, ticks, runner, after_submit, after_run, after_closing, next, after, world_after}
 use Rattle.cbs_core.proofs.Choices.{choice_is}
 use Rattle.cbs_core.proofs.Faces.{rank_ready}
-use Rattle.cbs_core.specs.Replies.{is_lack, grown}
+use Rattle.cbs_core.specs.Replies.{is_lack, grown, grown_by}
 use Rattle.cbs_core.specs.declared.error.CoreError.{CoreError}
 use Rattle.cbs_core.specs.declared.reply.Reply.{Reply}
 use Rattle.cbs_core.specs.declared.step.Step.{Step}
@@ -95,6 +95,13 @@ module _ {W : Type 0} (work : Meaning W) where
       | inl t ↦ rw t h
       | inr f ↦ rw f (holds_next M.setup.backlog (world_after work M) x s h)
     ]
+
+    -- more steps, as they were answered
+    pub holds_grown_by : (M : History W) (xs : List (Step W)) (rs : List (Reply W)) (s : ℕ) → P (account (world_after work M).accounts s)
+        → P (account (world_after work (grown_by M xs rs)).accounts s)
+    holds_grown_by M [] rs s h = h
+    holds_grown_by M (x ∷ xs) [] s h = h
+    holds_grown_by M (x ∷ xs) (r ∷ rs) s h = holds_grown_by (grown M x r) xs rs s (holds_grown M x r s h)
 
     -- a whole history
     pub holds_after : (setup : Setup) (M : List (Step W)) (s : ℕ) → P (account (map new_account setup.servers) s) → P (account (after work setup M).accounts s)

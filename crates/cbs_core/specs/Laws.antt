@@ -1,5 +1,5 @@
 -- What holds of whole runs.
-use Rattle.std.specs.Prelude.{◌≡◌, ℕ, ◌+◌, ◌≤◌, ◌<◌, Bool, true, ◌||◌, eqb, if◌then◌else◌, List, [], ◌∷◌, ◌++◌, length, map, take, drop, Option, Some, None}
+use Rattle.std.specs.Prelude.{◌≡◌, ℕ, ◌+◌, ◌*◌, ◌≤◌, ◌<◌, Bool, true, ◌||◌, eqb, if◌then◌else◌, List, [], ◌∷◌, ◌++◌, length, map, take, drop, Option, Some, None}
 use Rattle.std.specs.List.{range_with_len}
 use Rattle.cbs_job.specs.Work.{Meaning, whole}
 use Rattle.cbs_job.specs.declared.completion.Completion.{Completion}
@@ -61,6 +61,14 @@ module _ {W : Type 0} where
   NoneAfterClose s closed (step.Submit t job ∷ xs) (r ∷ rs) = (closed ≡ true → t ≡ s → ¬ IsAccepted r) × NoneAfterClose s closed xs rs
   NoneAfterClose s closed (step.Close t ∷ xs) (r ∷ rs) = NoneAfterClose s (closed || eqb t s) xs rs
   NoneAfterClose s closed (x ∷ xs) (r ∷ rs) = NoneAfterClose s closed xs rs
+
+  -- No server takes more than its share of the time that its deadline goes over. From what was known of it to what is known
+  -- later, with Q ticks in every T: (units got since) + (budget) - (budget before) <= Q / T * (deadline - deadline before), both
+  -- sides taken T times, and each subtracted number on the other side. It is the bandwidth lemma of Abeni and Buttazzo 1998.
+  abbrev pub IsWithinShare : Account W → Account W → Type 0
+  IsWithinShare before after =
+      (after.got + after.state.budget) * before.terms.reservation.period + before.state.deadline * before.terms.reservation.budget
+      ≤ (before.got + before.state.budget) * before.terms.reservation.period + after.state.deadline * before.terms.reservation.budget
 
 -- the budget of a server: never more than its reservation's; some while it is ready, and none while it is throttled
 pub record IsWithinBudget (f : Face) : Type 0 where

@@ -8,6 +8,8 @@ use Rattle.cbs_core.proofs.StepLists.{AnswersAll-push, agrees_more, all_yielded}
 use Rattle.cbs_core.proofs.Completions.{Completes-none, step_completes, completes_more}
 use Rattle.cbs_core.proofs.Cores.{budgets_kept}
 use Rattle.cbs_core.proofs.ClosedServers.{NoneAfterClose-all}
+use Rattle.cbs_core.proofs.LawfulServers.{lawful_at}
+use Rattle.cbs_core.proofs.Shares.{share_grown}
 use Rattle.cbs_core.proofs.executor.Core.run_steps.Goals as goal
 
 pub loop-step-init : goal.loop-step-init
@@ -75,3 +77,7 @@ returns-clause-closes g c = λ M agrees s.
 pub returns-clause-budgets : goal.returns-clause-budgets
 returns-clause-budgets g c = λ M agrees s lt.
     rw (returns-clause-state g c M agrees).world.shown at (c.loop-step.invariant.budgets s (rw (← c.loop-step.invariant.servers) at lt))
+
+pub returns-clause-share : goal.returns-clause-share
+returns-clause-share g c = λ M agrees s lt.
+    share_grown g.W.Work.meaning M c.args.steps.items c.loop-step.replies.items s (lawful_at c.self.view_is c.self.invariant agrees s lt)
