@@ -1,5 +1,5 @@
 -- No server takes more than its share: what it got, and its budget, against its deadline.
-use Rattle.std.proofs.Common.{◌≡◌, ℕ, ◌+◌, ◌-◌, ◌*◌, ◌≤◌, ◌<◌, true, leb, eqb, ◌||◌, ◌&&◌, List, arith, refl, inl, inr, ap}
+use Rattle.std.proofs.Common.{◌≡◌, ℕ, zero, suc, ◌+◌, ◌-◌, ◌*◌, ◌≤◌, ◌<◌, Bool, true, leb, eqb, ◌||◌, ◌&&◌, List, [], ◌∷◌, map, arith, refl, inl, inr, ap, ◌∙◌, if◌then◌else◌}
 use Rattle.std.proofs.lemmas.Bool.{cases_lt, cases_Bool}
 use Rattle.std.proofs.lemmas.Bool.Decides.{nat_tests}
 use Rattle.std.proofs.lemmas.Nat.{mul-le}
@@ -7,15 +7,16 @@ use Rattle.cbs_job.specs.Work.{Meaning}
 use Rattle.cbs_rate.specs.Rate.{Rate}
 use Rattle.cbs_rules.specs.Rules.{State, Terms, is_renewed, after_arrival, after_unit, after_replenishment}
 use Rattle.cbs_rules.specs.declared.mode.Mode.{Mode}
+use Rattle.cbs_rules.proofs.Deadlines.{deadline-arrived-le, deadline-replenished-le}
 use Rattle.cbs_rules.specs.declared.mode.Mode.TheVariants.{Soft, Throttled}
 use Rattle.cbs_core.specs.Faces.{is_active, is_ready}
-use Rattle.cbs_core.specs.Accounts.{Account, face_of, account_with_job, account_with_unit, account_with_replenishment, account_with_close}
-use Rattle.cbs_core.specs.History.{History}
+use Rattle.cbs_core.specs.Accounts.{Account, face_of, account_with_job, account_with_unit, new_account, account_with_replenishment, account_with_close}
+use Rattle.cbs_core.specs.History.{Setup, History, account, after, world_after}
 use Rattle.cbs_core.specs.Replies.{grown_by}
-use Rattle.cbs_core.specs.Laws.{account_in, IsWithinShare}
+use Rattle.cbs_core.specs.Laws.{account_in, IsWithinShare, IsWithinCap}
 use Rattle.cbs_core.specs.declared.step.Step.{Step}
 use Rattle.cbs_core.specs.declared.reply.Reply.{Reply}
-use Rattle.cbs_core.proofs.Histories.{holds_grown_by}
+use Rattle.cbs_core.proofs.Histories.{holds_grown_by, holds_after}
 use Rattle.cbs_core.proofs.LawfulServers.{IsLawful, lawful_job, lawful_unit, lawful_replenishment, lawful_close, ready_budget}
 
 -- the units got and the budget are within the share of the deadline, counted from where x and y stand for what they were
@@ -64,6 +65,24 @@ module _ (r : Rate) (x y got : ℕ) (s : State) where
     | inr f ↦ rw f h
   ]
 
+-- in throttled mode a deadline is at most a period from now
+abbrev IsNear : ℕ → Terms → State → Type 0
+IsNear now terms s = terms.mode ≡ Throttled → s.deadline ≤ now + terms.reservation.period
+
+-- a unit leaves a throttled server its deadline
+near_unit : (mode : Mode) (r : Rate) (now : ℕ) (s : State) → mode ≡ Throttled → s.deadline ≤ now + r.period → (after_unit mode r s).deadline ≤ now + r.period
+near_unit Soft r now s e h = cc
+near_unit Throttled r now s e h = grind (arith, nat_tests)
+
+-- what a job leaves of it
+near_job : (active : Bool) (terms : Terms) (now : ℕ) (s : State) → IsNear now terms s → IsNear now terms (if active || s.throttled then s else after_arrival terms.mode terms.reservation now s)
+near_job active terms now s h = λ mode.
+    let d = h mode in
+    elim (cases_Bool (active || s.throttled)) [
+      | inl t ↦ rw t d
+      | inr f ↦ rw f (deadline-arrived-le terms.mode terms.reservation now (now + terms.reservation.period) s d (omega arith))
+    ]
+
 module _ {W : Type 0} (work : Meaning W) (x y : ℕ) (terms : Terms) where
   -- what every step keeps of a server
   record IsKept (a : Account W) : Type 0 where
@@ -105,6 +124,10 @@ module _ {W : Type 0} (work : Meaning W) (x y : ℕ) (terms : Terms) where
       rw same (omega arith)
 
 module _ {W : Type 0} (work : Meaning W) where
+  -- a server keeps its terms
+  pub terms_grown : (M : History W) (xs : List (Step W)) (rs : List (Reply W)) (s : ℕ) → (account_in work (grown_by M xs rs) s).terms ≡ (account_in work M s).terms
+  terms_grown M xs rs s = holds_grown_by work (λ now a. a.terms ≡ (account_in work M s).terms) (λ now j a h. h) (λ now a ready h. h) (λ now a h. h) (λ now a h. h) M xs rs s refl
+
   -- from a history on, as its steps were answered
   pub share_grown : (M : History W) (xs : List (Step W)) (rs : List (Reply W)) (s : ℕ) → IsLawful work (account_in work M s) → IsWithinShare (account_in work M s) (account_in work (grown_by M xs rs) s)
   share_grown M xs rs s ok =
@@ -112,5 +135,31 @@ module _ {W : Type 0} (work : Meaning W) where
       let x = a.state.deadline * a.terms.reservation.budget in
       let y = (a.got + a.state.budget) * a.terms.reservation.period in
       kept_share work x y a.terms a (account_in work (grown_by M xs rs) s) refl refl refl
-      (holds_grown_by work (IsKept work x y a.terms) (kept_job work x y a.terms) (kept_unit work x y a.terms) (kept_replenishment work x y a.terms) (kept_close work x y a.terms) M xs rs s
+      (holds_grown_by work (λ now. IsKept work x y a.terms) (kept_job work x y a.terms) (λ now. kept_unit work x y a.terms) (λ now. kept_replenishment work x y a.terms (now + 1)) (λ now. kept_close work x y a.terms) M xs rs s
       (record { same = refl; lawful = ok; shared = omega arith }))
+
+  -- after every history a throttled server's deadline is at most a period from now
+  near_after : (setup : Setup) (M : List (Step W)) (s : ℕ) → (let w = after work setup M in let a = account w.accounts s in IsNear w.now a.terms a.state)
+  near_after setup M s = holds_after work (λ now a. IsNear now a.terms a.state)
+      (λ now j a h. near_job (is_active (face_of work a)) a.terms now a.state h)
+      (λ now a ready h mode. near_unit a.terms.mode a.terms.reservation now a.state mode (h mode))
+      (λ now a h mode. deadline-replenished-le a.terms.reservation (now + 1) (now + 1 + a.terms.reservation.period) a.state (let d = h mode in omega arith) (omega arith))
+      (λ now a h. h) setup M s (near_start setup.servers s)
+    where
+      near_start : (ts : List Terms) (s : ℕ) → (let a : Account W = account (map new_account ts) s in IsNear 0 a.terms a.state)
+      near_start [] s = λ mode. omega arith
+      near_start (t ∷ ts) zero = λ mode. omega arith
+      near_start (t ∷ ts) (suc s) = near_start ts s
+
+  -- a window of a throttled server, from its share
+  pub cap_grown : (M : History W) (xs : List (Step W)) (rs : List (Reply W)) (s : ℕ) → IsLawful work (account_in work M s) → IsWithinCap work M (grown_by M xs rs) s
+  cap_grown M xs rs s ok = λ mode ahead.
+      let N = grown_by M xs rs in
+      let a = account_in work M s in
+      let b = account_in work N s in
+      let share = share_grown M xs rs s ok in
+      let same = terms_grown M xs rs s in
+      let near : b.state.deadline ≤ (world_after work N).now + a.terms.reservation.period = rw same at (near_after N.setup N.steps s (ap (λ (t : Terms). t.mode) same ∙ mode)) in
+      let late = mul-le b.state.deadline a.terms.reservation.budget ((world_after work N).now + a.terms.reservation.period) a.terms.reservation.budget near (omega arith) in
+      let early = mul-le (world_after work M).now a.terms.reservation.budget a.state.deadline a.terms.reservation.budget ahead (omega arith) in
+      omega arith

@@ -8,7 +8,7 @@ ghost use Rattle.cbs_core.specs.Faces.{face_at, ranks, submit_refusal, view_repl
 ghost use Rattle.cbs_core.specs.History.{History, ◌⊕◌, faces, world_after, reply_in, chosen};
 ghost use Rattle.cbs_core.specs.Agreement.{Agrees};
 ghost use Rattle.cbs_core.specs.Replies.{submitted, advanced, closed, lacks_memory, IsAccepted, is_lack, Answers, AnswersAll, grown, grown_by};
-ghost use Rattle.cbs_core.specs.Laws.{account_in, completion_in, completion_of, completions_of, Completes, NoneAfterClose, IsWithinShare, IsWithinBudget, KeepsBudgets};
+ghost use Rattle.cbs_core.specs.Laws.{account_in, completion_in, completion_of, completions_of, Completes, NoneAfterClose, IsWithinShare, IsWithinCap, IsWithinBudget, KeepsBudgets};
 ghost use Rattle.cbs_core.specs.Held.{room_of, KeepsRoom, IsOpen, HasRoom, IsRefusedBy, held_at, TakesJob, ClosesServer, OthersSame, AllSame, DoesRun, CountsOn};
 ghost use Rattle.cbs_core.specs.Queues.{ran_of};
 ghost use Rattle.cbs_core.specs.Setups.{terms_of, new_refusal};
@@ -331,9 +331,10 @@ impl<W: Work, A: Allocator> Core<W, A> {
             → NoneAfterClose s (account_in W.meaning M s).closed steps.items replies.items) }
         ensures budgets { IfOk result (λ replies. (M : History W) → Agrees W.meaning self.old M → (s : ℕ) → s < length self.old.faces
             → IsWithinBudget (face_at (faces W.meaning (world_after W.meaning (grown_by M steps.items replies.items))) s)) }
-
         ensures share { IfOk result (λ replies. (M : History W) → Agrees W.meaning self.old M → (s : ℕ) → s < length self.old.faces
             → IsWithinShare (account_in W.meaning M s) (account_in W.meaning (grown_by M steps.items replies.items) s)) }
+        ensures cap { IfOk result (λ replies. (M : History W) → Agrees W.meaning self.old M → (s : ℕ) → s < length self.old.faces
+            → IsWithinCap W.meaning M (grown_by M steps.items replies.items) s) }
 
         ensures count { length self.new.faces ≡ length self.old.faces }
         ensures back { IfErr result (λ refused. refused.steps ≡ steps) }

@@ -9,7 +9,7 @@ use Rattle.cbs_core.proofs.Completions.{Completes-none, step_completes, complete
 use Rattle.cbs_core.proofs.Cores.{budgets_kept}
 use Rattle.cbs_core.proofs.ClosedServers.{NoneAfterClose-all}
 use Rattle.cbs_core.proofs.LawfulServers.{lawful_at}
-use Rattle.cbs_core.proofs.Shares.{share_grown}
+use Rattle.cbs_core.proofs.Shares.{share_grown, cap_grown}
 use Rattle.cbs_core.proofs.executor.Core.run_steps.Goals as goal
 
 pub loop-step-init : goal.loop-step-init
@@ -81,3 +81,7 @@ returns-clause-budgets g c = λ M agrees s lt.
 pub returns-clause-share : goal.returns-clause-share
 returns-clause-share g c = λ M agrees s lt.
     share_grown g.W.Work.meaning M c.args.steps.items c.loop-step.replies.items s (lawful_at c.self.view_is c.self.invariant agrees s lt)
+
+pub returns-clause-cap : goal.returns-clause-cap
+returns-clause-cap g c = λ M agrees s lt.
+    cap_grown g.W.Work.meaning M c.args.steps.items c.loop-step.replies.items s (lawful_at c.self.view_is c.self.invariant agrees s lt)
