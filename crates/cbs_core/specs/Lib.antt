@@ -12,6 +12,7 @@ pub mod Invariant
 pub mod Laws
 pub mod Lends
 pub mod Lists
+pub mod OnTime
 pub mod Queues
 pub mod Quiet
 pub mod ReadyList

@@ -9,6 +9,7 @@ use Rattle.cbs_core.proofs.Completions.{Completes-none, step_completes, complete
 use Rattle.cbs_core.proofs.Cores.{budgets_kept}
 use Rattle.cbs_core.proofs.ClosedServers.{NoneAfterClose-all}
 use Rattle.cbs_core.proofs.LawfulServers.{lawful_at}
+use Rattle.cbs_core.proofs.OnTime.{admitted_by, deadlines_kept, on_time_grown}
 use Rattle.cbs_core.proofs.Shares.{share_grown, cap_grown}
 use Rattle.cbs_core.proofs.executor.Core.run_steps.Goals as goal
 
@@ -85,3 +86,11 @@ returns-clause-share g c = λ M agrees s lt.
 pub returns-clause-cap : goal.returns-clause-cap
 returns-clause-cap g c = λ M agrees s lt.
     cap_grown g.W.Work.meaning M c.args.steps.items c.loop-step.replies.items s (lawful_at c.self.view_is c.self.invariant agrees s lt)
+
+pub returns-clause-never_late : goal.returns-clause-never_late
+returns-clause-never_late g c = λ M agrees.
+    deadlines_kept g.W.Work.meaning M c.args.steps.items c.loop-step.replies.items (admitted_by g.W.Work.meaning c.self.view_is c.self.invariant agrees)
+
+pub returns-clause-on_time : goal.returns-clause-on_time
+returns-clause-on_time g c = λ M agrees.
+    on_time_grown g.W.Work.meaning M c.args.steps.items c.loop-step.replies.items (admitted_by g.W.Work.meaning c.self.view_is c.self.invariant agrees)
