@@ -1,5 +1,5 @@
 -- What a job, a unit, a replenishment and a close keep of a server holds after every history.
-use Rattle.std.proofs.Common.{◌≡◌, ℕ, zero, suc, ◌+◌, List, [], ◌∷◌, length, map, refl, ap, sym, ◌∙◌, true, leb, ltb, Option, Some, None, inl, inr}
+use Rattle.std.proofs.Common.{◌≡◌, ℕ, zero, suc, ◌+◌, List, [], ◌∷◌, ◌++◌, length, map, refl, ap, sym, ◌∙◌, true, leb, ltb, Option, Some, None, inl, inr}
 use Rattle.std.proofs.Math.ListN.{get_or-map}
 use Rattle.std.proofs.lemmas.Bool.{cases_Bool}
 use Rattle.cbs_job.specs.Work.{Meaning}
@@ -109,3 +109,8 @@ module _ {W : Type 0} (work : Meaning W) where
     pub holds_after : (setup : Setup) (M : List (Step W)) (s : ℕ) → Holds (start setup) s → Holds (after work setup M) s
     holds_after setup [] s h = h
     holds_after setup (x ∷ M) s h = holds_next setup.backlog (after work setup M) x s (holds_after setup M s h)
+
+    -- more steps behind a list, the newest first
+    pub holds_behind : (setup : Setup) (K M : List (Step W)) (s : ℕ) → Holds (after work setup M) s → Holds (after work setup (K ++ M)) s
+    holds_behind setup [] M s h = h
+    holds_behind setup (x ∷ K) M s h = holds_next setup.backlog (after work setup (K ++ M)) x s (holds_behind setup K M s h)

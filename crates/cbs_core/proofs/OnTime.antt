@@ -44,7 +44,7 @@ pub record IsAdmitted (rates : List Rate) : Type 0 where
 
 module _ {W : Type 0} (work : Meaning W) where
   -- the reservation of an account
-  abbrev reservation : Account W → Rate
+  abbrev pub reservation : Account W → Rate
   reservation a = a.terms.reservation
 
   -- the reservations of a world are those of its accounts
@@ -79,10 +79,10 @@ module _ {W : Type 0} (work : Meaning W) where
   rates_next backlog w (Close s) = rates_close w s (close_refusal (faces work w) s)
 
   -- the reservations that an executor was given
-  abbrev given : Setup → List Rate
+  abbrev pub given : Setup → List Rate
   given setup = map reservation (start setup).accounts
 
-  rates_after : (setup : Setup) (M : List (Step W)) → map reservation (after work setup M).accounts ≡ given setup
+  pub rates_after : (setup : Setup) (M : List (Step W)) → map reservation (after work setup M).accounts ≡ given setup
   rates_after setup [] = refl
   rates_after setup (x ∷ M) = rates_next setup.backlog (after work setup M) x ∙ rates_after setup M
 
@@ -142,11 +142,11 @@ module _ {W : Type 0} (work : Meaning W) where
       }
 
   -- ---- lists of steps
-  sound_after : (setup : Setup) (M : List (Step W)) → IsAdmitted (given setup) → AllSound work (all_periods (given setup)) (after work setup M)
+  pub sound_after : (setup : Setup) (M : List (Step W)) → IsAdmitted (given setup) → AllSound work (all_periods (given setup)) (after work setup M)
   sound_after setup [] ok = sound_start setup ok
   sound_after setup (x ∷ M) ok = sound_next work (all_periods (given setup)) setup.backlog (after work setup M) x (sound_after setup M ok)
 
-  timely_after : (setup : Setup) (M : List (Step W)) → IsAdmitted (given setup) → AreQuiet work setup M → IsTimely work (all_periods (given setup)) (after work setup M)
+  pub timely_after : (setup : Setup) (M : List (Step W)) → IsAdmitted (given setup) → AreQuiet work setup M → IsTimely work (all_periods (given setup)) (after work setup M)
   timely_after setup [] ok quiet = timely_start setup ok
   timely_after setup (x ∷ M) ok quiet = timely_next work (all_periods (given setup)) setup.backlog (after work setup M) x (sound_after setup M ok) quiet.1 (timely_after setup M ok quiet.0)
 
@@ -231,9 +231,12 @@ module _ {W : Type 0} (work : Meaning W) where
       one : (grown M x r).setup ≡ M.setup
       one = elim (cases_Bool (is_lack r)) [ inl t ↦ rw t refl | inr f ↦ rw f refl ]
 
+  pub admitted_grown : (M : History W) (xs : List (Step W)) (rs : List (Reply W)) → IsAdmitted (given M.setup) → IsAdmitted (given (grown_by M xs rs).setup)
+  admitted_grown M xs rs ok = rw (setup_grown M xs rs) ok
+
   -- so is it of a history and the steps behind it
   pub deadlines_kept : (M : History W) (xs : List (Step W)) (rs : List (Reply W)) → IsAdmitted (given M.setup) → KeepsDeadlines work (grown_by M xs rs)
-  deadlines_kept M xs rs ok = never_late (grown_by M xs rs).setup (grown_by M xs rs).steps (rw (setup_grown M xs rs) ok)
+  deadlines_kept M xs rs ok = never_late (grown_by M xs rs).setup (grown_by M xs rs).steps (admitted_grown M xs rs ok)
 
   module _ {core held : CoreHeld W} {M : History W} (view : core ≡ held) (ok : IsCore work core) (agrees : Agrees work held M) where
     -- each step from a core keeps what is on time so

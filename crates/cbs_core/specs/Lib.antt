@@ -13,6 +13,7 @@ pub mod Laws
 pub mod Lends
 pub mod Lists
 pub mod OnTime
+pub mod Promises
 pub mod Queues
 pub mod Quiet
 pub mod ReadyList

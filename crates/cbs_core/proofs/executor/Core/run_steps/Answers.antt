@@ -9,7 +9,8 @@ use Rattle.cbs_core.proofs.Completions.{Completes-none, step_completes, complete
 use Rattle.cbs_core.proofs.Cores.{budgets_kept}
 use Rattle.cbs_core.proofs.ClosedServers.{NoneAfterClose-all}
 use Rattle.cbs_core.proofs.LawfulServers.{lawful_at}
-use Rattle.cbs_core.proofs.OnTime.{admitted_by, deadlines_kept, on_time_grown}
+use Rattle.cbs_core.proofs.OnTime.{admitted_by, admitted_grown, deadlines_kept, on_time_grown}
+use Rattle.cbs_core.proofs.Promises.{promise_kept, bound_kept}
 use Rattle.cbs_core.proofs.Shares.{share_grown, cap_grown}
 use Rattle.cbs_core.proofs.executor.Core.run_steps.Goals as goal
 
@@ -94,3 +95,13 @@ returns-clause-never_late g c = λ M agrees.
 pub returns-clause-on_time : goal.returns-clause-on_time
 returns-clause-on_time g c = λ M agrees.
     on_time_grown g.W.Work.meaning M c.args.steps.items c.loop-step.replies.items (admitted_by g.W.Work.meaning c.self.view_is c.self.invariant agrees)
+
+pub returns-clause-promise : goal.returns-clause-promise
+returns-clause-promise g c = λ M agrees.
+    promise_kept g.W.Work.meaning (grown_by M c.args.steps.items c.loop-step.replies.items)
+    (admitted_grown g.W.Work.meaning M c.args.steps.items c.loop-step.replies.items (admitted_by g.W.Work.meaning c.self.view_is c.self.invariant agrees))
+
+pub returns-clause-bound : goal.returns-clause-bound
+returns-clause-bound g c = λ M agrees.
+    bound_kept g.W.Work.meaning (grown_by M c.args.steps.items c.loop-step.replies.items)
+    (admitted_grown g.W.Work.meaning M c.args.steps.items c.loop-step.replies.items (admitted_by g.W.Work.meaning c.self.view_is c.self.invariant agrees))
