@@ -1,9 +1,10 @@
 -- The units that a server owes are covered: budget by budget and period by period, from its state to a tick.
 use Rattle.std.proofs.Common.{◌≡◌, ℕ, zero, suc, ◌+◌, ◌-◌, ◌*◌, ◌≤◌, ◌<◌, true, false, leb, eqb, ◌&&◌, arith, inl, inr}
+use Rattle.std.specs.Prelude.{max}
 use Rattle.std.proofs.lemmas.Bool.{cases_Bool}
 use Rattle.std.proofs.lemmas.Bool.Decides.{nat_tests}
 use Rattle.cbs_rate.specs.Rate.{Rate}
-use Rattle.cbs_rules.specs.Rules.{State, after_unit, after_replenishment}
+use Rattle.cbs_rules.specs.Rules.{State, is_renewed, after_arrival, after_unit, after_replenishment}
 use Rattle.cbs_rules.specs.declared.mode.Mode.{Mode}
 use Rattle.cbs_rules.specs.declared.mode.Mode.TheVariants.{Soft, Throttled}
 
@@ -54,3 +55,21 @@ module _ (r : Rate) (n b got : ℕ) (s : State) where
     | inl t ↦ let marked : s.throttled ≡ true = grind (arith, nat_tests) in rw t (replenished c.periods some paid (spent marked) c.units c.by)
     | inr f ↦ rw f c
   ]
+
+  -- m budgets more cover as many units more, by m periods later
+  pub covered_queued : (now m : ℕ) → IsCovered r n b got s → IsCovered r (n + m * r.budget) (max b now + m * r.period) got s
+  covered_queued now m c =
+      let u = c.units in
+      let d = c.by in
+      record { periods = c.periods + m; units = omega arith; by = omega arith }
+
+  -- so they do where nothing is owed, and a job comes in
+  pub covered_arrival : (mode : Mode) (now m : ℕ) → got ≡ n → IsCovered r n b got s → IsCovered r (n + m * r.budget) (max b now + m * r.period) got (after_arrival mode r now s)
+  covered_arrival mode now m paid c = elim (cases_Bool (is_renewed mode r now s)) [
+    | inl t ↦ rw t (record { periods = m; units = omega arith; by = omega arith })
+    | inr f ↦ rw f (covered_queued now m c)
+  ]
+
+  -- fewer units are covered, too
+  pub covered-less : (fewer : ℕ) → fewer ≤ n → IsCovered r n b got s → IsCovered r fewer b got s
+  covered-less fewer le c = let u = c.units in record { periods = c.periods; units = omega arith; by = c.by }

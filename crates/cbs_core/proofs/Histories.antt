@@ -37,7 +37,6 @@ module _ {W : Type 0} (work : Meaning W) where
   ]
 
   module _ (P : ℕ → Account W → Type 0)
-      (job : (now : ℕ) (j : W) (a : Account W) → P now a → P now (account_with_job work now j a))
       (unit : (now : ℕ) (a : Account W) → is_ready (face_of work a) ≡ true → P now a → P now (account_with_unit a))
       (replenishment : (now : ℕ) (a : Account W) → P now a → P (now + 1) (account_with_replenishment (now + 1) a))
       (close : (now : ℕ) (a : Account W) → P now a → P now (account_with_close a)) where
@@ -69,11 +68,6 @@ module _ {W : Type 0} (work : Meaning W) where
     holds_ticks zero w s h = h
     holds_ticks (suc n) w s h = holds_ticks n (tick w) s (holds_tick w s h)
 
-    -- so does a submit, accepted or refused
-    holds_submit : (w : World W) (t s : ℕ) (j : W) (o : Option CoreError) → Holds w s → Holds (after_submit work w t j o) s
-    holds_submit w t s j None h = holds_changed w.now (account_with_job work w.now j) w.accounts t s (job w.now j (account w.accounts t)) h
-    holds_submit w t s j (Some e) h = h
-
     -- so does a close, refused or not
     holds_close : (w : World W) (t s : ℕ) (o : Option CoreError) → Holds w s → Holds (after_closing w t o) s
     holds_close w t s None h = holds_changed w.now account_with_close w.accounts t s (close w.now (account w.accounts t)) h
@@ -85,32 +79,48 @@ module _ {W : Type 0} (work : Meaning W) where
     holds_run w s (Some t) ready h =
         holds_tick (record w { accounts = changed_at account_with_unit w.accounts t }) s (holds_changed w.now account_with_unit w.accounts t s (unit w.now (account w.accounts t) (ready t refl)) h)
 
-    -- one step more
-    pub holds_next : (backlog : ℕ) (w : World W) (x : Step W) (s : ℕ) → Holds w s → Holds (next work backlog w x) s
-    holds_next backlog w (Submit t j) s h = holds_submit w t s j (submit_refusal backlog (faces work w) t) h
-    holds_next backlog w Run s h = holds_run w s (runner work w) (runner_ready w) h
-    holds_next backlog w (Advance n) s h = elim (cases_Bool (leb (w.now + n) clock_end)) [ inl t ↦ rw t (holds_ticks n w s h) | inr f ↦ rw f h ]
-    holds_next backlog w (Close t) s h = holds_close w t s (close_refusal (faces work w) t) h
+    -- so does each step that is no submit
+    pub holds_run_step : (backlog : ℕ) (w : World W) (s : ℕ) → Holds w s → Holds (next work backlog w Run) s
+    holds_run_step backlog w s h = holds_run w s (runner work w) (runner_ready w) h
 
-    -- one step more, as it was answered
-    pub holds_grown : (M : History W) (x : Step W) (r : Reply W) (s : ℕ) → Holds (world_after work M) s → Holds (world_after work (grown M x r)) s
-    holds_grown M x r s h = elim (cases_Bool (is_lack r)) [
-      | inl t ↦ rw t h
-      | inr f ↦ rw f (holds_next M.setup.backlog (world_after work M) x s h)
-    ]
+    pub holds_advance_step : (backlog : ℕ) (w : World W) (n s : ℕ) → Holds w s → Holds (next work backlog w (Advance n)) s
+    holds_advance_step backlog w n s h = elim (cases_Bool (leb (w.now + n) clock_end)) [ inl t ↦ rw t (holds_ticks n w s h) | inr f ↦ rw f h ]
 
-    -- more steps, as they were answered
-    pub holds_grown_by : (M : History W) (xs : List (Step W)) (rs : List (Reply W)) (s : ℕ) → Holds (world_after work M) s → Holds (world_after work (grown_by M xs rs)) s
-    holds_grown_by M [] rs s h = h
-    holds_grown_by M (x ∷ xs) [] s h = h
-    holds_grown_by M (x ∷ xs) (r ∷ rs) s h = holds_grown_by (grown M x r) xs rs s (holds_grown M x r s h)
+    pub holds_close_step : (backlog : ℕ) (w : World W) (t s : ℕ) → Holds w s → Holds (next work backlog w (Close t)) s
+    holds_close_step backlog w t s h = holds_close w t s (close_refusal (faces work w) t) h
 
-    -- a whole history
-    pub holds_after : (setup : Setup) (M : List (Step W)) (s : ℕ) → Holds (start setup) s → Holds (after work setup M) s
-    holds_after setup [] s h = h
-    holds_after setup (x ∷ M) s h = holds_next setup.backlog (after work setup M) x s (holds_after setup M s h)
+    module _ (job : (now : ℕ) (j : W) (a : Account W) → P now a → P now (account_with_job work now j a)) where
+      -- a submit keeps it, accepted or refused
+      holds_submit : (w : World W) (t s : ℕ) (j : W) (o : Option CoreError) → Holds w s → Holds (after_submit work w t j o) s
+      holds_submit w t s j None h = holds_changed w.now (account_with_job work w.now j) w.accounts t s (job w.now j (account w.accounts t)) h
+      holds_submit w t s j (Some e) h = h
 
-    -- more steps behind a list, the newest first
-    pub holds_behind : (setup : Setup) (K M : List (Step W)) (s : ℕ) → Holds (after work setup M) s → Holds (after work setup (K ++ M)) s
-    holds_behind setup [] M s h = h
-    holds_behind setup (x ∷ K) M s h = holds_next setup.backlog (after work setup (K ++ M)) x s (holds_behind setup K M s h)
+      -- one step more
+      pub holds_next : (backlog : ℕ) (w : World W) (x : Step W) (s : ℕ) → Holds w s → Holds (next work backlog w x) s
+      holds_next backlog w (Submit t j) s h = holds_submit w t s j (submit_refusal backlog (faces work w) t) h
+      holds_next backlog w Run s h = holds_run_step backlog w s h
+      holds_next backlog w (Advance n) s h = holds_advance_step backlog w n s h
+      holds_next backlog w (Close t) s h = holds_close_step backlog w t s h
+
+      -- one step more, as it was answered
+      pub holds_grown : (M : History W) (x : Step W) (r : Reply W) (s : ℕ) → Holds (world_after work M) s → Holds (world_after work (grown M x r)) s
+      holds_grown M x r s h = elim (cases_Bool (is_lack r)) [
+        | inl t ↦ rw t h
+        | inr f ↦ rw f (holds_next M.setup.backlog (world_after work M) x s h)
+      ]
+
+      -- more steps, as they were answered
+      pub holds_grown_by : (M : History W) (xs : List (Step W)) (rs : List (Reply W)) (s : ℕ) → Holds (world_after work M) s → Holds (world_after work (grown_by M xs rs)) s
+      holds_grown_by M [] rs s h = h
+      holds_grown_by M (x ∷ xs) [] s h = h
+      holds_grown_by M (x ∷ xs) (r ∷ rs) s h = holds_grown_by (grown M x r) xs rs s (holds_grown M x r s h)
+
+      -- a whole history
+      pub holds_after : (setup : Setup) (M : List (Step W)) (s : ℕ) → Holds (start setup) s → Holds (after work setup M) s
+      holds_after setup [] s h = h
+      holds_after setup (x ∷ M) s h = holds_next setup.backlog (after work setup M) x s (holds_after setup M s h)
+
+      -- more steps behind a list, the newest first
+      pub holds_behind : (setup : Setup) (K M : List (Step W)) (s : ℕ) → Holds (after work setup M) s → Holds (after work setup (K ++ M)) s
+      holds_behind setup [] M s h = h
+      holds_behind setup (x ∷ K) M s h = holds_next setup.backlog (after work setup (K ++ M)) x s (holds_behind setup K M s h)

@@ -108,7 +108,7 @@ module _ {W : Type 0} (work : Meaning W) where
     sound_new P ts all.1 common.1,
   )
 
-  sound_start : (setup : Setup) → IsAdmitted (given setup) → AllSound work (all_periods (given setup)) (start setup)
+  pub sound_start : (setup : Setup) → IsAdmitted (given setup) → AllSound work (all_periods (given setup)) (start setup)
   sound_start setup ok =
       let P = all_periods (given setup) in
       record {

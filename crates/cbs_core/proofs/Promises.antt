@@ -28,18 +28,27 @@ use Rattle.cbs_core.proofs.PaidUnits.{paid_after}
 
 module _ {W : Type 0} (work : Meaning W) where
   -- all that the server was asked for
-  abbrev all : Account W → ℕ
+  abbrev pub all : Account W → ℕ
   all a = sum_by work.left a.accepted
 
   all_needed : (a : Account W) → need work a (length a.accepted) ≡ all a
   all_needed a = let e = take_all (length a.accepted) a.accepted (omega arith) in rw e
 
-  -- an idle server got all that it was asked for
-  idle_paid : (a : Account W) → is_active (face_of work a) ≡ false → a.got ≤ need work a (length a.accepted) → a.got ≡ all a
-  idle_paid a idle p =
+  -- an idle server is owed nothing
+  pub idle_owed : (a : Account W) → is_active (face_of work a) ≡ false → a.got ≤ all a → a.got ≡ all a
+  idle_owed a idle p =
       let no_less : length a.accepted ≤ finished work a = grind (arith, nat_tests) in
       let w : need work a (finished work a) ≤ a.got = count_done_within work.left a.accepted a.got in
       let m : need work a (length a.accepted) ≤ need work a (finished work a) = need-mono work.left a.accepted (length a.accepted) (finished work a) no_less in
+      let e = all_needed a in
+      omega arith
+
+  -- an active one is owed a unit
+  pub active_owed : (a : Account W) → is_active (face_of work a) ≡ true → a.got < all a
+  active_owed a active =
+      let lt : finished work a < length a.accepted = grind (arith, nat_tests) in
+      let b = count_done_beyond work.left a.accepted a.got lt in
+      let m = need-mono work.left a.accepted (finished work a + 1) (length a.accepted) (omega arith) in
       let e = all_needed a in
       omega arith
 
@@ -131,7 +140,7 @@ module _ {W : Type 0} (work : Meaning W) where
     awaited_finished setup K M s ok quiet lt start late =
         let w = after work setup (K ++ M) in
         let a = account w.accounts s in
-        let h : IsAwaited a = holds_behind work (λ now. IsAwaited) awaited_job (λ now. awaited_unit) (λ now. awaited_replenishment (now + 1)) (λ now. awaited_close) setup K M s start in
+        let h : IsAwaited a = holds_behind work (λ now. IsAwaited) (λ now. awaited_unit) (λ now. awaited_replenishment (now + 1)) (λ now. awaited_close) awaited_job setup K M s start in
         elim (cases_lt a.got goal) [
           | inr done ↦ done-finished a h done
           | inl owes ↦
@@ -150,7 +159,7 @@ module _ {W : Type 0} (work : Meaning W) where
 
   -- ---- a job that was accepted
   -- there are as many servers as were given
-  count_after : (setup : Setup) (L : List (Step W)) → length (after work setup L).accounts ≡ length (given work setup)
+  pub count_after : (setup : Setup) (L : List (Step W)) → length (after work setup L).accounts ≡ length (given work setup)
   count_after setup L = sym (length-map (after work setup L).accounts (reservation work)) ∙ ap length (rates_after work setup L)
 
   module _ (setup : Setup) (M : List (Step W)) (s : ℕ) (job : W) (accepted : submit_refusal setup.backlog (faces work (after work setup M)) s ≡ None) where
@@ -161,7 +170,7 @@ module _ {W : Type 0} (work : Meaning W) where
     a = account w.accounts s
 
     -- its server is there
-    place : s < length w.accounts
+    pub place : s < length w.accounts
     place =
         let core : CoreHeld W = record { backlog = setup.backlog; clock = 0; faces = faces work w; queues = []; rooms = [] } in
         let lt : s < length (faces work w) = (free_accepts {core = core} refl s (sym accepted)).is_open.within in
@@ -176,7 +185,7 @@ module _ {W : Type 0} (work : Meaning W) where
     total = omega (arith, sum_by-append work.left a.accepted (job ∷ []))
 
     -- where b covers it, it is finished by then
-    covered_finished : (b : ℕ) (L K : List (Step W)) → L ≡ K ++ Submit s job ∷ M → IsAdmitted (given work setup) → AreQuiet work setup L
+    pub covered_finished : (b : ℕ) (L K : List (Step W)) → L ≡ K ++ Submit s job ∷ M → IsAdmitted (given work setup) → AreQuiet work setup L
         → IsCovered a.terms.reservation (sum_by work.left a.accepted + work.left job) b a.got (account_with_job work w.now job a).state
         → b ≤ (after work setup L).now → length a.accepted < finished work (account (after work setup L).accounts s)
     covered_finished b L K e ok quiet c late =
@@ -204,7 +213,9 @@ module _ {W : Type 0} (work : Meaning W) where
     bounded : (L K : List (Step W)) → L ≡ K ++ Submit s job ∷ M → IsAdmitted (given work setup) → AreQuiet work setup L → IsRenewal work (record { setup = setup; steps = M }) s job
         → w.now + a.terms.reservation.period ≤ (after work setup L).now → length a.accepted < finished work (account (after work setup L).accounts s)
     bounded L K e ok quiet r late =
-        let paid = idle_paid a r.idle (paid_after work setup M s) in
+        let p = paid_after work setup M s in
+        let n = all_needed a in
+        let paid = idle_owed a r.idle (omega arith) in
         let small = r.small in
         let busy : (is_active (face_of work a) || a.state.throttled) ≡ false = rw (r.idle, r.free) in
         let new : (account_with_job work w.now job a).state ≡ record { budget = a.terms.reservation.budget; deadline = w.now + a.terms.reservation.period; throttled = a.state.throttled } = rw (busy, r.renewed) refl in

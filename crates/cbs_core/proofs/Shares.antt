@@ -126,7 +126,7 @@ module _ {W : Type 0} (work : Meaning W) (x y : ℕ) (terms : Terms) where
 module _ {W : Type 0} (work : Meaning W) where
   -- a server keeps its terms
   pub terms_grown : (M : History W) (xs : List (Step W)) (rs : List (Reply W)) (s : ℕ) → (account_in work (grown_by M xs rs) s).terms ≡ (account_in work M s).terms
-  terms_grown M xs rs s = holds_grown_by work (λ now a. a.terms ≡ (account_in work M s).terms) (λ now j a h. h) (λ now a ready h. h) (λ now a h. h) (λ now a h. h) M xs rs s refl
+  terms_grown M xs rs s = holds_grown_by work (λ now a. a.terms ≡ (account_in work M s).terms) (λ now a ready h. h) (λ now a h. h) (λ now a h. h) (λ now j a h. h) M xs rs s refl
 
   -- from a history on, as its steps were answered
   pub share_grown : (M : History W) (xs : List (Step W)) (rs : List (Reply W)) (s : ℕ) → IsLawful work (account_in work M s) → IsWithinShare (account_in work M s) (account_in work (grown_by M xs rs) s)
@@ -135,16 +135,17 @@ module _ {W : Type 0} (work : Meaning W) where
       let x = a.state.deadline * a.terms.reservation.budget in
       let y = (a.got + a.state.budget) * a.terms.reservation.period in
       kept_share work x y a.terms a (account_in work (grown_by M xs rs) s) refl refl refl
-      (holds_grown_by work (λ now. IsKept work x y a.terms) (kept_job work x y a.terms) (λ now. kept_unit work x y a.terms) (λ now. kept_replenishment work x y a.terms (now + 1)) (λ now. kept_close work x y a.terms) M xs rs s
+      (holds_grown_by work (λ now. IsKept work x y a.terms) (λ now. kept_unit work x y a.terms) (λ now. kept_replenishment work x y a.terms (now + 1)) (λ now. kept_close work x y a.terms) (kept_job work x y a.terms) M xs rs s
       (record { same = refl; lawful = ok; shared = omega arith }))
 
   -- after every history a throttled server's deadline is at most a period from now
   near_after : (setup : Setup) (M : List (Step W)) (s : ℕ) → (let w = after work setup M in let a = account w.accounts s in IsNear w.now a.terms a.state)
   near_after setup M s = holds_after work (λ now a. IsNear now a.terms a.state)
-      (λ now j a h. near_job (is_active (face_of work a)) a.terms now a.state h)
       (λ now a ready h mode. near_unit a.terms.mode a.terms.reservation now a.state mode (h mode))
       (λ now a h mode. deadline-replenished-le a.terms.reservation (now + 1) (now + 1 + a.terms.reservation.period) a.state (let d = h mode in omega arith) (omega arith))
-      (λ now a h. h) setup M s (near_start setup.servers s)
+      (λ now a h. h)
+      (λ now j a h. near_job (is_active (face_of work a)) a.terms now a.state h)
+      setup M s (near_start setup.servers s)
     where
       near_start : (ts : List Terms) (s : ℕ) → (let a : Account W = account (map new_account ts) s in IsNear 0 a.terms a.state)
       near_start [] s = λ mode. omega arith

@@ -8,6 +8,7 @@ use Rattle.cbs_core.proofs.StepLists.{AnswersAll-push, agrees_more, all_yielded}
 use Rattle.cbs_core.proofs.Completions.{Completes-none, step_completes, completes_more}
 use Rattle.cbs_core.proofs.Cores.{budgets_kept}
 use Rattle.cbs_core.proofs.ClosedServers.{NoneAfterClose-all}
+use Rattle.cbs_core.proofs.Dues.{due_kept}
 use Rattle.cbs_core.proofs.LawfulServers.{lawful_at}
 use Rattle.cbs_core.proofs.OnTime.{admitted_by, admitted_grown, deadlines_kept, on_time_grown}
 use Rattle.cbs_core.proofs.Promises.{promise_kept, bound_kept}
@@ -104,4 +105,9 @@ returns-clause-promise g c = λ M agrees.
 pub returns-clause-bound : goal.returns-clause-bound
 returns-clause-bound g c = λ M agrees.
     bound_kept g.W.Work.meaning (grown_by M c.args.steps.items c.loop-step.replies.items)
+    (admitted_grown g.W.Work.meaning M c.args.steps.items c.loop-step.replies.items (admitted_by g.W.Work.meaning c.self.view_is c.self.invariant agrees))
+
+pub returns-clause-due : goal.returns-clause-due
+returns-clause-due g c = λ M agrees.
+    due_kept g.W.Work.meaning (grown_by M c.args.steps.items c.loop-step.replies.items)
     (admitted_grown g.W.Work.meaning M c.args.steps.items c.loop-step.replies.items (admitted_by g.W.Work.meaning c.self.view_is c.self.invariant agrees))
