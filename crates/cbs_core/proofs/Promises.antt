@@ -52,6 +52,27 @@ module _ {W : Type 0} (work : Meaning W) where
       let e = all_needed a in
       omega arith
 
+  -- the units that tick b covers are got by then, of a server that is active where it owes one of them
+  pub covered_got : (setup : Setup) (L : List (Step W)) (s n b : ℕ) → IsAdmitted (given work setup) → AreQuiet work setup L → s < length (after work setup L).accounts → (let a = account (after work setup L).accounts s in
+      (a.got < n → is_active (face_of work a) ≡ true) → a.state.budget ≤ a.terms.reservation.budget → (a.got < n → IsCovered a.terms.reservation n b a.got a.state) → b ≤ (after work setup L).now → n ≤ a.got)
+  covered_got setup L s n b ok quiet lt busy capped covered late =
+      let w = after work setup L in
+      let a = account w.accounts s in
+      elim (cases_lt a.got n) [
+        | inr done ↦ done
+        | inl owes ↦
+            let by = covered-deadline a.terms.reservation n b a.got a.state capped (covered owes) owes in
+            let on = timely_after work setup L ok quiet in
+            elim (cases_Bool a.state.throttled) [
+              | inl t ↦
+                  let l = AllByRecursion-get (λ a. IsAhead w.now (face_of work a)) w.accounts s no_account on.ahead lt t in
+                  absurd (omega arith)
+              | inr f ↦
+                  let l = ready_early work setup L ok on s lt (rw (busy owes, f)) in
+                  absurd (omega arith)
+            ]
+      ]
+
   -- one job: those before it, and the tick by which it is covered
   module _ (before : List W) (job : W) (b : ℕ) where
     -- the units that the jobs up to it need
@@ -141,21 +162,7 @@ module _ {W : Type 0} (work : Meaning W) where
         let w = after work setup (K ++ M) in
         let a = account w.accounts s in
         let h : IsAwaited a = holds_behind work (λ now. IsAwaited) (λ now. awaited_unit) (λ now. awaited_replenishment (now + 1)) (λ now. awaited_close) awaited_job setup K M s start in
-        elim (cases_lt a.got goal) [
-          | inr done ↦ done-finished a h done
-          | inl owes ↦
-              let active = pending_active a h owes in
-              let by = covered-deadline a.terms.reservation goal b a.got a.state h.lawful.state.capped (h.pending owes) owes in
-              let on = timely_after work setup (K ++ M) ok quiet in
-              elim (cases_Bool a.state.throttled) [
-                | inl t ↦
-                    let l = AllByRecursion-get (λ a. IsAhead w.now (face_of work a)) w.accounts s no_account on.ahead lt t in
-                    absurd (omega arith)
-                | inr f ↦
-                    let l = ready_early work setup (K ++ M) ok on s lt (rw (active, f)) in
-                    absurd (omega arith)
-              ]
-        ]
+        done-finished a h (covered_got setup (K ++ M) s goal b ok quiet lt (pending_active a h) h.lawful.state.capped h.pending late)
 
   -- ---- a job that was accepted
   -- there are as many servers as were given

@@ -5,6 +5,7 @@ pub mod Choice
 pub mod Continuations
 pub mod Errors
 pub mod Faces
+pub mod HardTasks
 pub mod Held
 pub mod History
 pub mod IdleSpans
@@ -19,3 +20,4 @@ pub mod Quiet
 pub mod ReadyList
 pub mod Replies
 pub mod Setups
+pub mod Supplies

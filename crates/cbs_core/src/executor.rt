@@ -11,8 +11,10 @@ ghost use Rattle.cbs_core.specs.Replies.{submitted, advanced, closed, lacks_memo
 ghost use Rattle.cbs_core.specs.Laws.{account_in, completion_in, completion_of, completions_of, Completes, NoneAfterClose, IsWithinShare, IsWithinCap, IsWithinBudget, KeepsBudgets};
 ghost use Rattle.cbs_core.specs.Held.{room_of, KeepsRoom, IsOpen, HasRoom, IsRefusedBy, held_at, TakesJob, ClosesServer, OthersSame, AllSame, DoesRun, CountsOn};
 ghost use Rattle.cbs_core.specs.OnTime.{IsOnTime, IsWorldOnTime, KeepsDeadlines, KeepsTime, KeepsTimeAll};
+ghost use Rattle.cbs_core.specs.HardTasks.{KeepsHard};
 ghost use Rattle.cbs_core.specs.Promises.{KeepsPromise, KeepsBound, KeepsDue};
 ghost use Rattle.cbs_core.specs.Queues.{ran_of};
+ghost use Rattle.cbs_core.specs.Supplies.{KeepsSupply};
 ghost use Rattle.cbs_core.specs.Setups.{terms_of, new_refusal};
 
 use crate::error::CoreError;
@@ -354,6 +356,10 @@ impl<W: Work, A: Allocator> Core<W, A> {
             → KeepsBound W.meaning (grown_by M steps.items replies.items)) }
         ensures due { IfOk result (λ replies. (M : History W) → Agrees W.meaning self.old M
             → KeepsDue W.meaning (grown_by M steps.items replies.items)) }
+        ensures hard { IfOk result (λ replies. (M : History W) → Agrees W.meaning self.old M
+            → KeepsHard W.meaning (grown_by M steps.items replies.items)) }
+        ensures supply { IfOk result (λ replies. (M : History W) → Agrees W.meaning self.old M
+            → KeepsSupply W.meaning (grown_by M steps.items replies.items)) }
         ensures on_time { IfOk result (λ replies. (M : History W) → Agrees W.meaning self.old M
             → KeepsTimeAll W.meaning M steps.items replies.items) }
 

@@ -9,10 +9,12 @@ use Rattle.cbs_core.proofs.Completions.{Completes-none, step_completes, complete
 use Rattle.cbs_core.proofs.Cores.{budgets_kept}
 use Rattle.cbs_core.proofs.ClosedServers.{NoneAfterClose-all}
 use Rattle.cbs_core.proofs.Dues.{due_kept}
+use Rattle.cbs_core.proofs.HardTasks.{hard_kept}
 use Rattle.cbs_core.proofs.LawfulServers.{lawful_at}
 use Rattle.cbs_core.proofs.OnTime.{admitted_by, admitted_grown, deadlines_kept, on_time_grown}
 use Rattle.cbs_core.proofs.Promises.{promise_kept, bound_kept}
 use Rattle.cbs_core.proofs.Shares.{share_grown, cap_grown}
+use Rattle.cbs_core.proofs.Supplies.{supply_kept}
 use Rattle.cbs_core.proofs.executor.Core.run_steps.Goals as goal
 
 pub loop-step-init : goal.loop-step-init
@@ -110,4 +112,14 @@ returns-clause-bound g c = λ M agrees.
 pub returns-clause-due : goal.returns-clause-due
 returns-clause-due g c = λ M agrees.
     due_kept g.W.Work.meaning (grown_by M c.args.steps.items c.loop-step.replies.items)
+    (admitted_grown g.W.Work.meaning M c.args.steps.items c.loop-step.replies.items (admitted_by g.W.Work.meaning c.self.view_is c.self.invariant agrees))
+
+pub returns-clause-hard : goal.returns-clause-hard
+returns-clause-hard g c = λ M agrees.
+    hard_kept g.W.Work.meaning (grown_by M c.args.steps.items c.loop-step.replies.items)
+    (admitted_grown g.W.Work.meaning M c.args.steps.items c.loop-step.replies.items (admitted_by g.W.Work.meaning c.self.view_is c.self.invariant agrees))
+
+pub returns-clause-supply : goal.returns-clause-supply
+returns-clause-supply g c = λ M agrees.
+    supply_kept g.W.Work.meaning (grown_by M c.args.steps.items c.loop-step.replies.items)
     (admitted_grown g.W.Work.meaning M c.args.steps.items c.loop-step.replies.items (admitted_by g.W.Work.meaning c.self.view_is c.self.invariant agrees))
