@@ -24,7 +24,7 @@ module _ {W : Type 0} (work : Meaning W) where
   -- a closed server stays closed by every step
   closed_grown : (M : History W) (x : Step W) (r : Reply W) (s : ℕ) → (account_in work M s).closed ≡ true → (account_in work (grown M x r) s).closed ≡ true
   closed_grown M x r s h =
-      holds_grown work (λ a. a.closed ≡ true) (λ now j a k. k) (λ a ready k. k) (λ now a k. k) (λ a k. refl) M x r s h
+      holds_grown work (λ now a. a.closed ≡ true) (λ now a ready k. k) (λ now a k. k) (λ now a k. refl) (λ now j a k. k) M x r s h
 
   -- a closed server refuses
   closed_refuses : (backlog : ℕ) (fs : List Face) (s : ℕ) → (face_at fs s).closed ≡ true → (e : CoreError) × (submit_refusal backlog fs s ≡ Some e)

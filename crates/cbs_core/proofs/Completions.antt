@@ -81,9 +81,10 @@ module _ {W : Type 0} (work : Meaning W) where
       → (more : List W) × ((account_in work (grown M x r) s).accepted ≡ (account_in work M s).accepted ++ more)
   accepted_grown M x r s =
       let before = (account_in work M s).accepted in
-      holds_grown work (λ a. (more : List W) × (a.accepted ≡ before ++ more))
+      holds_grown work (λ now a. (more : List W) × (a.accepted ≡ before ++ more))
+      (λ now a ready h. h) (λ now a h. h) (λ now a h. h)
       (λ now j a h. (h.0 ++ j ∷ [], ap (λ xs. xs ++ j ∷ []) h.1 ∙ append_assoc before h.0 (j ∷ [])))
-      (λ a ready h. h) (λ now a h. h) (λ a h. h) M x r s ([], sym (append-nil before))
+      M x r s ([], sym (append-nil before))
 
   -- a core counts as many finished jobs as are known
   finished_agrees : (core : CoreHeld W) (M : History W) → Agrees work core M → (s : ℕ) → (held_at core s).face.finished ≡ finished work (account_in work M s)

@@ -8,12 +8,13 @@ use Rattle.std.proofs.lemmas.List.{length-map}
 use Rattle.std.specs.List.{AllByRecursion}
 use Rattle.cbs_job.specs.Work.{Meaning}
 use Rattle.cbs_rate.specs.Rate.{Rate, IsRate}
+use Rattle.cbs_rate.specs.Plan.{total_share, all_periods}
 use Rattle.cbs_rate.proofs.Lists.{AllByRecursion-push}
 use Rattle.cbs_rules.specs.Rules.{clock_end, latest_deadline}
 use Rattle.cbs_rules.specs.declared.mode.Mode.{Mode}
 use Rattle.cbs_core.specs.Lists.{changed_at}
 use Rattle.cbs_core.specs.Choice.{IsChoice}
-use Rattle.cbs_core.specs.Faces.{Face, new_face, no_face, face_at, is_ready, backlog_of, ranks, with_job, with_unit, with_replenishment, with_close, submit_refusal, view_reply}
+use Rattle.cbs_core.specs.Faces.{Face, new_face, no_face, face_at, is_ready, backlog_of, reservations, ranks, with_job, with_unit, with_replenishment, with_close, submit_refusal, view_reply}
 use Rattle.cbs_core.specs.Laws.{IsWithinBudget, KeepsBudgets}
 use Rattle.cbs_core.specs.declared.error.CoreError.{CoreError}
 use Rattle.cbs_core.specs.declared.view.ServerView.{ServerView}
@@ -22,9 +23,20 @@ use Rattle.cbs_core.specs.Queues.{list_at, jobs_run, result_run}
 use Rattle.cbs_core.specs.Setups.{terms_of}
 use Rattle.cbs_core.specs.Invariant.{IsServer, HoldsBacklog, IsCore}
 use Rattle.cbs_core.proofs.Faces.{server_new, server_later, server_replenished, server_closed, server_joined, server_run, rank_ready, runnable, budget_some, within_budget}
-use Rattle.cbs_core.proofs.Lists.{length-changed_at, AllByRecursion-map, AllByRecursion-get, AllByRecursion-changed_at, AllZip-length, AllZip-get, AllZip-map, AllZip-replicate, AllZip-changed_at, AllZip-changed_second}
+use Rattle.cbs_core.proofs.Lists.{length-changed_at, map_kept, changed_kept, AllByRecursion-map, AllByRecursion-get, AllByRecursion-changed_at, AllZip-length, AllZip-get, AllZip-map, AllZip-replicate, AllZip-changed_at, AllZip-changed_second}
 use Rattle.cbs_core.proofs.Plans.{length-faces}
 use Rattle.cbs_core.proofs.Refusals.{free_accepts}
+
+-- the reservation of a server
+abbrev reservation : Face → Rate
+reservation f = f.terms.reservation
+
+-- new servers have the reservations that they were given
+new_reservations : (modes : List Mode) (rates : List Rate) → length modes ≡ length rates → reservations (map new_face (terms_of modes rates)) ≡ rates
+new_reservations [] [] e = refl
+new_reservations [] (r ∷ rates) e = cc
+new_reservations (m ∷ modes) [] e = cc
+new_reservations (m ∷ modes) (r ∷ rates) e = ap (λ rs. r ∷ rs) (new_reservations modes rates (omega arith))
 
 -- a new core
 module _ {W : Type 0} (work : Meaning W) (backlog : ℕ) where
@@ -36,13 +48,14 @@ module _ {W : Type 0} (work : Meaning W) (backlog : ℕ) where
 
   -- a new core keeps all
   pub core_new : (modes : List Mode) (rates : List Rate) (n : ℕ) (faces : List Face) (queues : List (List W)) (rooms : List ℕ) → length modes ≡ length rates → length rates ≤ 64 → backlog ≤ 4096
-      → AllByRecursion (λ r. IsRate r.budget r.period) rates → faces ≡ map new_face (terms_of modes rates) → n ≡ length faces → queues ≡ replicate n [] → IsCore work (record { backlog = backlog; clock = 0; faces = faces; queues = queues; rooms = rooms })
-  core_new modes rates n faces queues rooms same few small ok shown count empty =
+      → AllByRecursion (λ r. IsRate r.budget r.period) rates → total_share rates ≤ all_periods rates → faces ≡ map new_face (terms_of modes rates) → n ≡ length faces → queues ≡ replicate n [] → IsCore work (record { backlog = backlog; clock = 0; faces = faces; queues = queues; rooms = rooms })
+  core_new modes rates n faces queues rooms same few small ok one shown count empty =
       let size : n ≡ length (terms_of modes rates) = count ∙ ap length shown ∙ length-map (terms_of modes rates) new_face in
       record {
         few = rw (shown, length-faces modes rates same) few;
         small = small;
         clock = omega arith;
+        at_most_one = rw (shown, new_reservations modes rates same) one;
         each = rw shown (all_new modes rates ok);
         jobs = rw (shown, empty, size)
             (AllZip-replicate (HoldsBacklog work) [] new_face (terms_of modes rates) (λ t. record { counted = refl; unfinished = tt }));
@@ -141,6 +154,7 @@ module _ {W : Type 0} {work : Meaning W} {core : CoreHeld W} (ok : IsCore work c
         few = omega (arith, ok.few, length-map (changed_at (with_unit done) core.faces s) (with_replenishment (core.clock + 1)), length-changed_at (with_unit done) core.faces s);
         small = ok.small;
         clock = let e = may.early in omega arith;
+        at_most_one = rw (map_kept reservation (with_replenishment (core.clock + 1)) (changed_at (with_unit done) core.faces s) (λ f. refl), changed_kept reservation (with_unit done) core.faces s (λ f. refl)) ok.at_most_one;
         each = AllByRecursion-map (IsServer core.backlog (core.clock + 1)) (IsServer core.backlog (core.clock + 1)) (with_replenishment (core.clock + 1)) (changed_at (with_unit done) core.faces s)
             (AllByRecursion-changed_at (IsServer core.backlog core.clock) (IsServer core.backlog (core.clock + 1)) (with_unit done) core.faces s no_face ok.each
             (λ f is. server_later core.backlog core.clock f is (core.clock + 1) (omega arith)) (λ is. server_run core.backlog core.clock (face_at core.faces s) is done may.ready))
@@ -159,6 +173,7 @@ module _ {W : Type 0} {work : Meaning W} {core : CoreHeld W} (ok : IsCore work c
     few = omega (arith, ok.few, length-map core.faces (with_replenishment (core.clock + n)));
     small = ok.small;
     clock = let k = ok.clock in omega arith;
+    at_most_one = rw (map_kept reservation (with_replenishment (core.clock + n)) core.faces (λ f. refl)) ok.at_most_one;
     each = AllByRecursion-map (IsServer core.backlog core.clock) (IsServer core.backlog (core.clock + n)) (with_replenishment (core.clock + n)) core.faces ok.each
         (λ f is. server_replenished core.backlog (core.clock + n) f (server_later core.backlog core.clock f is (core.clock + n) (omega arith)));
     jobs = AllZip-map (HoldsBacklog work) (with_replenishment (core.clock + n)) core.queues core.faces ok.jobs (λ jobs f h. record { counted = h.counted; unfinished = h.unfinished });
@@ -172,6 +187,7 @@ module _ {W : Type 0} {work : Meaning W} {core : CoreHeld W} (ok : IsCore work c
     few = omega (arith, ok.few, length-changed_at (with_job core.clock) core.faces s);
     small = ok.small;
     clock = ok.clock;
+    at_most_one = rw (changed_kept reservation (with_job core.clock) core.faces s (λ f. refl)) ok.at_most_one;
     each = AllByRecursion-changed_at (IsServer core.backlog core.clock) (IsServer core.backlog core.clock) (with_job core.clock) core.faces s no_face ok.each (λ f is. is)
         (λ is. server_joined core.backlog core.clock (face_at core.faces s) is accepts.few);
     jobs = AllZip-changed_at (HoldsBacklog work) core.queues core.faces s [] no_face (λ jobs. jobs ++ job ∷ []) (with_job core.clock) ok.jobs (let n = queue_count in let lt = accepts.is_open.within in omega arith)
@@ -188,6 +204,7 @@ module _ {W : Type 0} {work : Meaning W} {core : CoreHeld W} (ok : IsCore work c
     few = omega (arith, ok.few, length-changed_at with_close core.faces s);
     small = ok.small;
     clock = ok.clock;
+    at_most_one = rw (changed_kept reservation with_close core.faces s (λ f. refl)) ok.at_most_one;
     each = AllByRecursion-changed_at (IsServer core.backlog core.clock) (IsServer core.backlog core.clock) with_close core.faces s no_face ok.each (λ f is. is) (λ is. server_closed core.backlog core.clock (face_at core.faces s) is);
     jobs = AllZip-changed_second (HoldsBacklog work) with_close core.queues core.faces s ok.jobs (λ jobs f h. record { counted = h.counted; unfinished = h.unfinished });
   }

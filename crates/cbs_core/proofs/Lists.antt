@@ -49,6 +49,17 @@ module _ {X Y : Type 0} (h : X → Y) (f : X → X) (g : Y → Y) where
   map-changed_at (x ∷ xs) zero d e = ap (λ y. y ∷ map h xs) e
   map-changed_at (x ∷ xs) (suc i) d e = ap (λ ys. h x ∷ ys) (map-changed_at xs i d e)
 
+-- a part of each element that a change keeps, where all are changed
+pub map_kept : {X Y : Type 0} (g : X → Y) (f : X → X) (xs : List X) → ((x : X) → g (f x) ≡ g x) → map g (map f xs) ≡ map g xs
+map_kept g f [] same = refl
+map_kept g f (x ∷ xs) same = rw (same x, map_kept g f xs same) refl
+
+-- or one is
+pub changed_kept : {X Y : Type 0} (g : X → Y) (f : X → X) (xs : List X) (i : ℕ) → ((x : X) → g (f x) ≡ g x) → map g (changed_at f xs i) ≡ map g xs
+changed_kept g f [] i same = refl
+changed_kept g f (x ∷ xs) zero same = rw (same x) refl
+changed_kept g f (x ∷ xs) (suc i) same = rw (changed_kept g f xs i same) refl
+
 -- what holds of each, and is weaker
 pub AllByRecursion-weaker : {X : Type 0} (P Q : X → Type 0) (xs : List X) → AllByRecursion P xs → ((x : X) → P x → Q x) → AllByRecursion Q xs
 AllByRecursion-weaker P Q [] all k = tt
@@ -58,6 +69,16 @@ AllByRecursion-weaker P Q (x ∷ xs) all k = (k x all.0, AllByRecursion-weaker P
 pub AllByRecursion-map : {X Y : Type 0} (P : X → Type 0) (Q : Y → Type 0) (f : X → Y) (xs : List X) → AllByRecursion P xs → ((x : X) → P x → Q (f x)) → AllByRecursion Q (map f xs)
 AllByRecursion-map P Q f [] all h = tt
 AllByRecursion-map P Q f (x ∷ xs) all h = (h x all.0, AllByRecursion-map P Q f xs all.1 h)
+
+-- what holds of each mapped element
+pub AllByRecursion-mapped : {X Y : Type 0} (P : Y → Type 0) (f : X → Y) (xs : List X) → AllByRecursion P (map f xs) → AllByRecursion (λ x. P (f x)) xs
+AllByRecursion-mapped P f [] all = tt
+AllByRecursion-mapped P f (x ∷ xs) all = (all.0, AllByRecursion-mapped P f xs all.1)
+
+-- what holds of each place holds of each
+pub AllByRecursion-make : {X : Type 0} (P : X → Type 0) (xs : List X) (d : X) → ((i : ℕ) → i < length xs → P (get_or xs i d)) → AllByRecursion P xs
+AllByRecursion-make P [] d h = tt
+AllByRecursion-make P (x ∷ xs) d h = (h 0 (omega arith), AllByRecursion-make P xs d (λ i lt. h (suc i) (omega arith)))
 
 -- what holds of each holds of one
 pub AllByRecursion-get : {X : Type 0} (P : X → Type 0) (xs : List X) (i : ℕ) (d : X) → AllByRecursion P xs → i < length xs → P (get_or xs i d)

@@ -1,5 +1,6 @@
 -- What a server shows beside its jobs, what is read off it, and what each step does to it.
 use Rattle.std.specs.Prelude.{ℕ, ◌+◌, ◌-◌, Bool, true, false, not, ◌&&◌, ◌||◌, leb, ltb, if◌then◌else◌, List, map, get_or, slice_get, Option, Some, None, Result, Ok, Err}
+use Rattle.cbs_rate.specs.Rate.{Rate}
 use Rattle.cbs_rules.specs.Rules.{State, Terms, fresh_state, after_arrival, after_unit, after_replenishment}
 use Rattle.cbs_rules.specs.declared.mode.Mode.TheVariants.{Soft}
 use Rattle.cbs_core.specs.Choice.{Rank}
@@ -64,6 +65,10 @@ close_refusal faces s = refuses_close (slice_get faces s)
 
 abbrev pub submit_refusal : ℕ → List Face → ℕ → Option CoreError
 submit_refusal backlog faces s = refuses_submit backlog (slice_get faces s)
+
+-- the reservations of the servers
+abbrev pub reservations : List Face → List Rate
+reservations faces = map (λ f. f.terms.reservation) faces
 
 -- what a server shows to a caller
 abbrev pub view_of : Face → ServerView

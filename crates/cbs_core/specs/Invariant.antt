@@ -2,9 +2,10 @@
 use Rattle.std.specs.Prelude.{◌≡◌, ℕ, ◌+◌, ◌*◌, ◌≤◌, ◌<◌, true, List, length}
 use Rattle.std.specs.List.{AllByRecursion, AllZip}
 use Rattle.cbs_job.specs.Work.{Meaning}
+use Rattle.cbs_rate.specs.Plan.{total_share, all_periods}
 use Rattle.cbs_rate.specs.Rate.{IsRate}
 use Rattle.cbs_rules.specs.Rules.{clock_end, IsState}
-use Rattle.cbs_core.specs.Faces.{Face, is_active, backlog_of}
+use Rattle.cbs_core.specs.Faces.{Face, is_active, backlog_of, reservations}
 use Rattle.cbs_core.specs.Held.{CoreHeld}
 
 -- what each server keeps, against the backlog that it may have and the clock
@@ -22,10 +23,11 @@ pub record HoldsBacklog {W : Type 0} (work : Meaning W) (jobs : List W) (f : Fac
   pub counted : length jobs ≡ backlog_of f
   pub unfinished : AllByRecursion (λ w. 0 < work.left w) jobs
 
--- what each core keeps
+-- what each core keeps; the total bandwidth of its servers is at most one, as in every plan
 pub record IsCore {W : Type 0} (work : Meaning W) (core : CoreHeld W) : Type 0 where
   pub few : length core.faces ≤ 64
   pub small : core.backlog ≤ 4096
   pub clock : core.clock ≤ clock_end
+  pub at_most_one : total_share (reservations core.faces) ≤ all_periods (reservations core.faces)
   pub each : AllByRecursion (IsServer core.backlog core.clock) core.faces
   pub jobs : AllZip (HoldsBacklog work) core.queues core.faces

@@ -5,6 +5,7 @@ pub mod Choice
 pub mod Continuations
 pub mod Errors
 pub mod Faces
+pub mod HardTasks
 pub mod Held
 pub mod History
 pub mod IdleSpans
@@ -12,8 +13,11 @@ pub mod Invariant
 pub mod Laws
 pub mod Lends
 pub mod Lists
+pub mod OnTime
+pub mod Promises
 pub mod Queues
 pub mod Quiet
 pub mod ReadyList
 pub mod Replies
 pub mod Setups
+pub mod Supplies

@@ -1,10 +1,14 @@
 -- When an advance of the clock takes nobody's time.
-use Rattle.std.specs.Prelude.{◌≡◌, ℕ, ◌-◌, ◌≤◌, ◌<◌, false}
+use Rattle.std.specs.Prelude.{◌≡◌, ℕ, ◌+◌, ◌-◌, ◌≤◌, ◌<◌, false, List, [], ◌∷◌}
 use Rattle.std.specs.List.{AllByRecursion}
 use Rattle.cbs_job.specs.Work.{Meaning}
 use Rattle.cbs_rules.specs.Rules.{clock_end}
 use Rattle.cbs_core.specs.Faces.{is_ready}
-use Rattle.cbs_core.specs.History.{World, faces, ticks}
+use Rattle.cbs_core.specs.History.{World, Setup, History, faces, ticks, after, world_after}
+use Rattle.cbs_core.specs.Replies.{grown}
+use Rattle.cbs_core.specs.declared.reply.Reply.{Reply}
+use Rattle.cbs_core.specs.declared.step.Step.{Step}
+use Rattle.cbs_core.specs.declared.step.Step.TheVariants.{Advance}
 
 module _ {W : Type 0} where
   -- nobody is ready
@@ -21,3 +25,19 @@ module _ {W : Type 0} where
     pub within : n ≤ clock_end - w.now
     pub quiet : IsQuiet work w n
     pub greatest : (k : ℕ) → k ≤ clock_end - w.now → IsQuiet work w k → k ≤ n
+
+  -- a step that takes nobody's time: it is no advance, or one that is refused, or a quiet one
+  abbrev pub IsQuietStep : Meaning W → World W → Step W → Type 0
+  IsQuietStep work w (Advance n) = w.now + n ≤ clock_end → IsQuiet work w n
+  IsQuietStep work w _ = Unit {0}
+
+  -- each step of a list, the newest first, took nobody's time where it stands
+  abbrev pub AreQuiet : Meaning W → Setup → List (Step W) → Type 0
+  AreQuiet work setup [] = Unit {0}
+  AreQuiet work setup (x ∷ M) = AreQuiet work setup M × IsQuietStep work (after work setup M) x
+
+  -- each of the steps, made after M and those before it and answered so, takes nobody's time where it stands
+  abbrev pub EachQuiet : Meaning W → History W → List (Step W) → List (Reply W) → Type 0
+  EachQuiet work M [] rs = Unit {0}
+  EachQuiet work M (x ∷ xs) [] = Unit {0}
+  EachQuiet work M (x ∷ xs) (r ∷ rs) = IsQuietStep work (world_after work M) x × EachQuiet work (grown M x r) xs rs

@@ -8,9 +8,13 @@ ghost use Rattle.cbs_core.specs.Faces.{face_at, ranks, submit_refusal, view_repl
 ghost use Rattle.cbs_core.specs.History.{History, ◌⊕◌, faces, world_after, reply_in, chosen};
 ghost use Rattle.cbs_core.specs.Agreement.{Agrees};
 ghost use Rattle.cbs_core.specs.Replies.{submitted, advanced, closed, lacks_memory, IsAccepted, is_lack, Answers, AnswersAll, grown, grown_by};
-ghost use Rattle.cbs_core.specs.Laws.{account_in, completion_in, completion_of, completions_of, Completes, NoneAfterClose, IsWithinBudget, KeepsBudgets};
+ghost use Rattle.cbs_core.specs.Laws.{account_in, completion_in, completion_of, completions_of, Completes, NoneAfterClose, IsWithinShare, IsWithinCap, IsWithinBudget, KeepsBudgets};
 ghost use Rattle.cbs_core.specs.Held.{room_of, KeepsRoom, IsOpen, HasRoom, IsRefusedBy, held_at, TakesJob, ClosesServer, OthersSame, AllSame, DoesRun, CountsOn};
+ghost use Rattle.cbs_core.specs.OnTime.{IsOnTime, IsWorldOnTime, KeepsDeadlines, KeepsTime, KeepsTimeAll};
+ghost use Rattle.cbs_core.specs.HardTasks.{KeepsHard};
+ghost use Rattle.cbs_core.specs.Promises.{KeepsPromise, KeepsBound, KeepsDue};
 ghost use Rattle.cbs_core.specs.Queues.{ran_of};
+ghost use Rattle.cbs_core.specs.Supplies.{KeepsSupply};
 ghost use Rattle.cbs_core.specs.Setups.{terms_of, new_refusal};
 
 use crate::error::CoreError;
@@ -63,6 +67,7 @@ impl<W: Work, A: Allocator + Clone> Core<W, A> {
     pub fn new(alloc: A, plan: Plan, modes: Modes, backlog: u64) -> Result<Self, CoreError>
         requires { length modes ≡ length plan.rates }
         ensures start { IfOk result (λ core. Agrees W.meaning core (record { setup = record { servers = terms_of modes plan.rates; backlog = backlog }; steps = [] })) }
+        ensures on_time { IfOk result (λ core. IsOnTime core.clock core.faces) }
         ensures refusal { RefusesByOrMemory CoreError.OutOfMemory result (new_refusal backlog) }
     {
         if backlog == 0 || backlog > MAX_BACKLOG {
@@ -134,6 +139,7 @@ impl<W: Work, A: Allocator> Core<W, A> {
             × OthersSame server self.old self.new) }
         ensures count { length self.new.faces ≡ length self.old.faces }
         ensures budgets { KeepsBudgets self.new }
+        ensures on_time { (M : History W) → Agrees W.meaning self.old M → KeepsTime W.meaning M (Step.Submit server task) }
         ensures unchanged { OnErr result (self.new ≡ record self.old { rooms = self.new.rooms }) }
         ensures kept { OnErr result (KeepsRoom self.old.rooms self.new.rooms) }
     {
@@ -164,6 +170,7 @@ impl<W: Work, A: Allocator> Core<W, A> {
             × OthersSame server self.old self.new }
         ensures count { length self.new.faces ≡ length self.old.faces }
         ensures budgets { KeepsBudgets self.new }
+        ensures on_time { (M : History W) → Agrees W.meaning self.old M → KeepsTime W.meaning M (Step.Submit server task) }
     {
         self.queues.push(server, task);
         self.servers.accept(server, self.clock)
@@ -181,6 +188,7 @@ impl<W: Work, A: Allocator> Core<W, A> {
         ensures job { DoesRun W.meaning result self.old self.new }
         ensures count { length self.new.faces ≡ length self.old.faces }
         ensures budgets { KeepsBudgets self.new }
+        ensures on_time { (M : History W) → Agrees W.meaning self.old M → KeepsTime W.meaning M Step.Run }
         ensures kept { KeepsRoom self.old.rooms self.new.rooms }
     {
         let Some(server) = self.servers.choose() else {
@@ -208,6 +216,7 @@ impl<W: Work, A: Allocator> Core<W, A> {
         ensures jobs { AllSame self.old self.new }
         ensures count { length self.new.faces ≡ length self.old.faces }
         ensures budgets { KeepsBudgets self.new }
+        ensures on_time { (M : History W) → Agrees W.meaning self.old M → KeepsTime W.meaning M (Step.Advance n) }
         ensures unchanged { OnErr result (self.new ≡ self.old) }
         ensures kept { KeepsRoom self.old.rooms self.new.rooms }
     {
@@ -233,6 +242,7 @@ impl<W: Work, A: Allocator> Core<W, A> {
             × OthersSame server self.old self.new) }
         ensures count { length self.new.faces ≡ length self.old.faces }
         ensures budgets { KeepsBudgets self.new }
+        ensures on_time { (M : History W) → Agrees W.meaning self.old M → KeepsTime W.meaning M (Step.Close server) }
         ensures succeeds { IsOpen self.old server → IsOk result }
         ensures unchanged { OnErr result (self.new ≡ self.old) }
         ensures kept { KeepsRoom self.old.rooms self.new.rooms }
@@ -254,6 +264,7 @@ impl<W: Work, A: Allocator> Core<W, A> {
             × OthersSame server self.old self.new }
         ensures count { length self.new.faces ≡ length self.old.faces }
         ensures budgets { KeepsBudgets self.new }
+        ensures on_time { (M : History W) → Agrees W.meaning self.old M → KeepsTime W.meaning M (Step.Close server) }
         ensures kept { KeepsRoom self.old.rooms self.new.rooms }
     {
         self.servers.close(server);
@@ -304,6 +315,8 @@ impl<W: Work, A: Allocator> Core<W, A> {
             → IfOk result (λ view. let now = (world_after W.meaning M).now in view.deadline ≤ now + (now + 1) * 1000000000) }
         ensures budget { (M : History W) → Agrees W.meaning self.now M
             → OnOk result (IsWithinBudget (face_at (faces W.meaning (world_after W.meaning M)) server)) }
+        ensures in_time { (M : History W) → Agrees W.meaning self.now M → IsWorldOnTime W.meaning (world_after W.meaning M)
+            → IfOk result (λ view. view.finished < view.accepted → view.throttled ≡ false → (world_after W.meaning M).now < view.deadline) }
     {
         self.servers.view(server)
     }
@@ -331,6 +344,24 @@ impl<W: Work, A: Allocator> Core<W, A> {
             → NoneAfterClose s (account_in W.meaning M s).closed steps.items replies.items) }
         ensures budgets { IfOk result (λ replies. (M : History W) → Agrees W.meaning self.old M → (s : ℕ) → s < length self.old.faces
             → IsWithinBudget (face_at (faces W.meaning (world_after W.meaning (grown_by M steps.items replies.items))) s)) }
+        ensures share { IfOk result (λ replies. (M : History W) → Agrees W.meaning self.old M → (s : ℕ) → s < length self.old.faces
+            → IsWithinShare (account_in W.meaning M s) (account_in W.meaning (grown_by M steps.items replies.items) s)) }
+        ensures cap { IfOk result (λ replies. (M : History W) → Agrees W.meaning self.old M → (s : ℕ) → s < length self.old.faces
+            → IsWithinCap W.meaning M (grown_by M steps.items replies.items) s) }
+        ensures never_late { IfOk result (λ replies. (M : History W) → Agrees W.meaning self.old M
+            → KeepsDeadlines W.meaning (grown_by M steps.items replies.items)) }
+        ensures promise { IfOk result (λ replies. (M : History W) → Agrees W.meaning self.old M
+            → KeepsPromise W.meaning (grown_by M steps.items replies.items)) }
+        ensures bound { IfOk result (λ replies. (M : History W) → Agrees W.meaning self.old M
+            → KeepsBound W.meaning (grown_by M steps.items replies.items)) }
+        ensures due { IfOk result (λ replies. (M : History W) → Agrees W.meaning self.old M
+            → KeepsDue W.meaning (grown_by M steps.items replies.items)) }
+        ensures hard { IfOk result (λ replies. (M : History W) → Agrees W.meaning self.old M
+            → KeepsHard W.meaning (grown_by M steps.items replies.items)) }
+        ensures supply { IfOk result (λ replies. (M : History W) → Agrees W.meaning self.old M
+            → KeepsSupply W.meaning (grown_by M steps.items replies.items)) }
+        ensures on_time { IfOk result (λ replies. (M : History W) → Agrees W.meaning self.old M
+            → KeepsTimeAll W.meaning M steps.items replies.items) }
 
         ensures count { length self.new.faces ≡ length self.old.faces }
         ensures back { IfErr result (λ refused. refused.steps ≡ steps) }
@@ -358,6 +389,7 @@ impl<W: Work, A: Allocator> Core<W, A> {
             → Completes W.meaning (account_in W.meaning M s) (account_in W.meaning (M ⊕ step) s) (completion_of s (completion_in result)) }
         ensures count { length self.new.faces ≡ length self.old.faces }
         ensures budgets { KeepsBudgets self.new }
+        ensures on_time { (M : History W) → Agrees W.meaning self.old M → KeepsTime W.meaning M step }
     {
         self.make(step)
     }
@@ -369,6 +401,7 @@ impl<W: Work, A: Allocator> Core<W, A> {
         ensures counts { CountsOn (completion_in result) self.old self.new }
         ensures count { length self.new.faces ≡ length self.old.faces }
         ensures budgets { KeepsBudgets self.new }
+        ensures on_time { (M : History W) → Agrees W.meaning self.old M → KeepsTime W.meaning M step }
     {
         match step {
             Step::Submit(server, task) => submit_reply(self.submit(server, task)),

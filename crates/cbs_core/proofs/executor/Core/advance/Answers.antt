@@ -2,6 +2,8 @@ use Rattle.std.proofs.Common.{◌+◌, refl, arith}
 use Rattle.cbs_core.proofs.Agreements.{advance_agrees, advance_none}
 use Rattle.cbs_core.proofs.Cores.{core_jumped, budgets_kept}
 use Rattle.cbs_core.proofs.Effects.{jumped_same, all_same}
+use Rattle.cbs_core.specs.declared.step.Step.TheVariants as step
+use Rattle.cbs_core.proofs.OnTime.{keeps_time}
 use Rattle.cbs_core.proofs.executor.Core.advance.Goals as goal
 
 pub invariant_of-self : goal.invariant_of-self
@@ -25,3 +27,12 @@ returns-else-n-gt0-clause-jobs g c = all_same c.args.self.now
 
 pub returns-then-n-gt0-clause-budgets : goal.returns-then-n-gt0-clause-budgets
 returns-then-n-gt0-clause-budgets g c = budgets_kept (invariant_of-self g c)
+
+pub returns-then-n-self-clause-on_time : goal.returns-then-n-self-clause-on_time
+returns-then-n-self-clause-on_time g c = λ M agrees. keeps_time g.W.Work.meaning c.self.view_is c.self.invariant agrees (step.Advance c.args.n)
+
+pub returns-then-n-gt0-clause-on_time : goal.returns-then-n-gt0-clause-on_time
+returns-then-n-gt0-clause-on_time g c = λ M agrees. keeps_time g.W.Work.meaning c.self.view_is c.self.invariant agrees (step.Advance c.args.n)
+
+pub returns-else-n-gt0-clause-on_time : goal.returns-else-n-gt0-clause-on_time
+returns-else-n-gt0-clause-on_time g c = λ M agrees. keeps_time g.W.Work.meaning c.self.view_is c.self.invariant agrees (step.Advance c.args.n)

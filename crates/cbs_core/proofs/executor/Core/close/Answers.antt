@@ -1,5 +1,7 @@
 use Rattle.cbs_core.proofs.Agreements.{close_replied, close_left}
 use Rattle.cbs_core.proofs.Refusals.{free_open, open_free}
+use Rattle.cbs_core.specs.declared.step.Step.TheVariants as step
+use Rattle.cbs_core.proofs.OnTime.{keeps_time}
 use Rattle.cbs_core.proofs.executor.Core.close.Goals as goal
 
 pub returns-in-Some-clause-reply : goal.returns-in-Some-clause-reply
@@ -18,3 +20,6 @@ returns-in-Some-clause-succeeds g c = λ is.
 
 pub close_open-requires : goal.close_open-requires
 close_open-requires g c = free_open c.self.view_is c.args.server c.in_default.ensures
+
+pub returns-in-Some-clause-on_time : goal.returns-in-Some-clause-on_time
+returns-in-Some-clause-on_time g c = λ M agrees. keeps_time g.W.Work.meaning c.self.view_is c.self.invariant agrees (step.Close c.args.server)

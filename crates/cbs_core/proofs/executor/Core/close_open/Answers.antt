@@ -3,6 +3,8 @@ use Rattle.cbs_core.proofs.Agreements.{close_replied, close_agrees}
 use Rattle.cbs_core.proofs.Cores.{core_closed, budgets_kept}
 use Rattle.cbs_core.proofs.Effects.{closed_server}
 use Rattle.cbs_core.proofs.Refusals.{open_free}
+use Rattle.cbs_core.specs.declared.step.Step.TheVariants as step
+use Rattle.cbs_core.proofs.OnTime.{keeps_time}
 use Rattle.cbs_core.proofs.executor.Core.close_open.Goals as goal
 
 pub close-requires : goal.close-requires
@@ -27,3 +29,6 @@ returns-clause-closed g c =
 
 pub returns-clause-budgets : goal.returns-clause-budgets
 returns-clause-budgets g c = budgets_kept (invariant_of-self g c)
+
+pub returns-clause-on_time : goal.returns-clause-on_time
+returns-clause-on_time g c = λ M agrees. keeps_time g.W.Work.meaning c.self.view_is c.self.invariant agrees (step.Close c.args.server)

@@ -2,14 +2,18 @@ use Rattle.std.proofs.Common.{arith}
 use Rattle.cbs_core.specs.Setups.{terms_of}
 use Rattle.cbs_core.proofs.Agreements.{start_agrees}
 use Rattle.cbs_core.proofs.Cores.{core_new}
+use Rattle.cbs_core.proofs.OnTime.{new_on_time}
 use Rattle.cbs_core.proofs.executor.Core.new.Goals as goal
 
 pub invariant_of-result : goal.invariant_of-result
 invariant_of-result g c =
     core_new g.W.Work.meaning c.args.backlog c.args.modes c.args.plan.rates c.len.result c.in-Ok.servers c.in-Ok-new.queues.lists c.in-Ok-new.queues.rooms
-    c.requires c.in-Ok.ensures.plan.few (omega arith) c.in-Ok.ensures.plan.lawful c.in-Ok.ensures.servers c.len.ensures.value c.in-Ok-new.ensures.empty
+    c.requires c.in-Ok.ensures.plan.few (omega arith) c.in-Ok.ensures.plan.lawful c.in-Ok.ensures.plan.at_most_one c.in-Ok.ensures.servers c.len.ensures.value c.in-Ok-new.ensures.empty
 
 pub returns-clause-start : goal.returns-clause-start
 returns-clause-start g c = record {
   world = start_agrees g.W.Work.meaning (terms_of c.args.modes c.args.plan.rates) c.args.backlog c.len.result c.in-Ok.servers c.in-Ok-new.queues.lists c.in-Ok-new.queues.rooms c.in-Ok.ensures.servers c.len.ensures.value c.in-Ok-new.ensures.empty;
 }
+
+pub returns-clause-on_time : goal.returns-clause-on_time
+returns-clause-on_time g c = new_on_time g.W.Work.meaning (invariant_of-result g c) (returns-clause-start g c)

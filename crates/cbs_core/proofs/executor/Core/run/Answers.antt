@@ -5,6 +5,8 @@ use Rattle.cbs_core.specs.Queues.{list_at, result_run, ran_of}
 use Rattle.cbs_core.proofs.Agreements.{idle_next, reply_by, next_late, end_reply, unit_agrees, unit_answered}
 use Rattle.cbs_core.proofs.Cores.{core_run, may_run, budgets_kept}
 use Rattle.cbs_core.proofs.Effects.{did_run}
+use Rattle.cbs_core.specs.declared.step.Step.TheVariants as step
+use Rattle.cbs_core.proofs.OnTime.{keeps_time}
 use Rattle.cbs_core.proofs.executor.Core.run.Given.{Over}
 use Rattle.cbs_core.proofs.executor.Core.run.Goals as goal
 
@@ -71,3 +73,12 @@ returns-clause-job g c =
 
 pub returns-clause-budgets : goal.returns-clause-budgets
 returns-clause-budgets g c = budgets_kept (invariant_of-self g c)
+
+pub returns-in_default-clause-on_time : goal.returns-in_default-clause-on_time
+returns-in_default-clause-on_time g c = λ M agrees. keeps_time g.W.Work.meaning c.self.view_is c.self.invariant agrees step.Run
+
+pub returns-then-self-ge-LIMIT-clause-on_time : goal.returns-then-self-ge-LIMIT-clause-on_time
+returns-then-self-ge-LIMIT-clause-on_time g c = λ M agrees. keeps_time g.W.Work.meaning c.self.view_is c.self.invariant agrees step.Run
+
+pub returns-clause-on_time : goal.returns-clause-on_time
+returns-clause-on_time g c = λ M agrees. keeps_time g.W.Work.meaning c.self.view_is c.self.invariant agrees step.Run

@@ -2,6 +2,8 @@ use Rattle.std.proofs.Common.{refl, rules}
 use Rattle.cbs_core.proofs.Agreements.{submit_replied, submit_left, submit_accepted}
 use Rattle.cbs_core.proofs.Cores.{queue_there}
 use Rattle.cbs_core.proofs.Refusals.{free_accepts, accepts_free}
+use Rattle.cbs_core.specs.declared.step.Step.TheVariants as step
+use Rattle.cbs_core.proofs.OnTime.{keeps_time}
 use Rattle.cbs_core.proofs.executor.Core.submit.Goals as goal
 
 pub returns-in-Some-clause-reply : goal.returns-in-Some-clause-reply
@@ -28,3 +30,9 @@ submit_reserved-requires g c =
 pub returns-then-is_err-clause-only_accepted : goal.returns-then-is_err-clause-only_accepted
 returns-then-is_err-clause-only_accepted g c = λ lacks M agrees.
     submit_accepted c.self.view_is agrees c.args.server c.args.task c.in_default.ensures
+
+pub returns-in-Some-clause-on_time : goal.returns-in-Some-clause-on_time
+returns-in-Some-clause-on_time g c = λ M agrees. keeps_time g.W.Work.meaning c.self.view_is c.self.invariant agrees (step.Submit c.args.server c.args.task)
+
+pub returns-then-is_err-clause-on_time : goal.returns-then-is_err-clause-on_time
+returns-then-is_err-clause-on_time g c = λ M agrees. keeps_time g.W.Work.meaning c.self.view_is c.self.invariant agrees (step.Submit c.args.server c.args.task)

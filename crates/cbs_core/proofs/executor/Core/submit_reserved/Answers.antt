@@ -2,6 +2,8 @@ use Rattle.cbs_core.proofs.Agreements.{submit_answered, submit_agrees}
 use Rattle.cbs_core.proofs.Cores.{core_joined, few_jobs, queue_there, budgets_kept}
 use Rattle.cbs_core.proofs.Effects.{took_job}
 use Rattle.cbs_core.proofs.Refusals.{accepts_free}
+use Rattle.cbs_core.specs.declared.step.Step.TheVariants as step
+use Rattle.cbs_core.proofs.OnTime.{keeps_time}
 use Rattle.cbs_core.proofs.executor.Core.submit_reserved.Goals as goal
 
 pub push-requires : goal.push-requires
@@ -43,3 +45,6 @@ returns-clause-job g c =
 
 pub returns-clause-budgets : goal.returns-clause-budgets
 returns-clause-budgets g c = budgets_kept (invariant_of-self g c)
+
+pub returns-clause-on_time : goal.returns-clause-on_time
+returns-clause-on_time g c = λ M agrees. keeps_time g.W.Work.meaning c.self.view_is c.self.invariant agrees (step.Submit c.args.server c.args.task)

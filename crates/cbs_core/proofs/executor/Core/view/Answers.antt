@@ -2,6 +2,7 @@ use Rattle.std.proofs.Common.{◌∙◌, ap}
 use Rattle.std.specs.Prelude.{slice_get}
 use Rattle.cbs_core.specs.Faces.{view_reply}
 use Rattle.cbs_core.proofs.Cores.{view_early, view_budget}
+use Rattle.cbs_core.proofs.OnTime.{shown_in_time}
 use Rattle.cbs_core.proofs.executor.Core.view.Goals as goal
 
 pub returns-clause-view : goal.returns-clause-view
@@ -12,3 +13,6 @@ returns-clause-early g c = λ M agrees. rw (rw (← c.self.view_is) at agrees.wo
 
 pub returns-clause-budget : goal.returns-clause-budget
 returns-clause-budget g c = λ M agrees. rw (rw (← c.self.view_is) at agrees.world).shown at (view_budget c.self.invariant c.args.server c.view.result c.view.ensures)
+
+pub returns-clause-in_time : goal.returns-clause-in_time
+returns-clause-in_time g c = λ M agrees on. shown_in_time g.W.Work.meaning c.self.view_is c.self.invariant agrees c.args.server c.view.result c.view.ensures on
