@@ -33,6 +33,7 @@ module _ {W : Type 0} (work : Meaning W) where
     paid : a.got ≤ all work a
     covered : IsCovered a.terms.reservation (all work a) b a.got a.state
 
+  -- a unit keeps it
   kept_unit : (b : ℕ) (a : Account W) → is_ready (face_of work a) ≡ true → IsKept b a → IsKept b (account_with_unit a)
   kept_unit b a ready k =
       let active = (runnable (face_of work a) ready).active in
@@ -43,6 +44,7 @@ module _ {W : Type 0} (work : Meaning W) where
         covered = covered_unit a.terms.reservation (all work a) b a.got a.state a.terms.mode k.lawful.state.capped owed k.covered;
       }
 
+  -- so does a replenishment
   kept_replenishment : (b now : ℕ) (a : Account W) → IsKept b a → IsKept b (account_with_replenishment now a)
   kept_replenishment b now a k = record {
     lawful = lawful_replenishment work now a k.lawful;
@@ -50,6 +52,7 @@ module _ {W : Type 0} (work : Meaning W) where
     covered = covered_replenishment a.terms.reservation (all work a) b a.got a.state now k.lawful.rate.some k.paid k.lawful.state.spent k.covered;
   }
 
+  -- and a close
   kept_close : (b : ℕ) (a : Account W) → IsKept b a → IsKept b (account_with_close a)
   kept_close b a k = record { lawful = lawful_close work a k.lawful; paid = k.paid; covered = k.covered }
 
@@ -70,6 +73,7 @@ module _ {W : Type 0} (work : Meaning W) where
       ] in
       covered-less r (all work a + m * r.budget) (max b now + m * r.period) a.got (account_with_job work now job a).state (all work a + work.left job) (omega arith) whole
 
+  -- so it is kept, for a later tick
   kept_job : (b now : ℕ) (job : W) (a : Account W) → IsKept b a → IsKept (due_from a.terms.reservation b now (work.left job)) (account_with_job work now job a)
   kept_job b now job a k =
       let more : all work (account_with_job work now job a) ≡ all work a + work.left job = omega (arith, sum_by-append work.left a.accepted (job ∷ [])) in
@@ -98,6 +102,7 @@ module _ {W : Type 0} (work : Meaning W) where
           rw n goal
     ]
 
+    -- each step, by when the last job is then due
     kept_next : (backlog b : ℕ) (w : World W) (x : Step W) → s < length w.accounts → IsKept b (account w.accounts s) → IsKept (due_next work backlog w s b x) (account (next work backlog w x).accounts s)
     kept_next backlog b w (Submit t job) lt k = kept_submit b w t job (submit_refusal backlog (faces work w) t) lt k
     kept_next backlog b w Run lt k = holds_run_step work (λ now. IsKept b) (λ now. kept_unit b) (λ now. kept_replenishment b (now + 1)) (λ now. kept_close b) backlog w s k
@@ -118,6 +123,7 @@ module _ {W : Type 0} (work : Meaning W) where
       got : a.got ≡ 0
       deadline : a.state.deadline ≡ 0
 
+    -- each server is new at the start
     fresh : (ts : List Terms) (i : ℕ) → IsFresh (account (map new_account ts) i)
     fresh [] i = record { none = refl; got = refl; deadline = refl }
     fresh (t ∷ ts) zero = record { none = refl; got = refl; deadline = refl }

@@ -79,13 +79,15 @@ module _ {W : Type 0} (work : Meaning W) where
     holds_run w s (Some t) ready h =
         holds_tick (record w { accounts = changed_at account_with_unit w.accounts t }) s (holds_changed w.now account_with_unit w.accounts t s (unit w.now (account w.accounts t) (ready t refl)) h)
 
-    -- so does each step that is no submit
+    -- so does each step that is no submit: a run
     pub holds_run_step : (backlog : ℕ) (w : World W) (s : ℕ) → Holds w s → Holds (next work backlog w Run) s
     holds_run_step backlog w s h = holds_run w s (runner work w) (runner_ready w) h
 
+    -- an advance
     pub holds_advance_step : (backlog : ℕ) (w : World W) (n s : ℕ) → Holds w s → Holds (next work backlog w (Advance n)) s
     holds_advance_step backlog w n s h = elim (cases_Bool (leb (w.now + n) clock_end)) [ inl t ↦ rw t (holds_ticks n w s h) | inr f ↦ rw f h ]
 
+    -- and a close
     pub holds_close_step : (backlog : ℕ) (w : World W) (t s : ℕ) → Holds w s → Holds (next work backlog w (Close t)) s
     holds_close_step backlog w t s h = holds_close w t s (close_refusal (faces work w) t) h
 

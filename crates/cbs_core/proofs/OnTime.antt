@@ -55,23 +55,28 @@ module _ {W : Type 0} (work : Meaning W) where
   rates_tick : (w : World W) → map reservation (tick w).accounts ≡ map reservation w.accounts
   rates_tick w = map_kept reservation (account_with_replenishment (w.now + 1)) w.accounts (λ a. refl)
 
+  -- nor do n ticks
   rates_ticks : (n : ℕ) (w : World W) → map reservation (ticks n w).accounts ≡ map reservation w.accounts
   unfolding ticks
   rates_ticks zero w = refl
   rates_ticks (suc n) w = rates_ticks n (tick w) ∙ rates_tick w
 
+  -- nor does a submit
   rates_submit : (w : World W) (s : ℕ) (job : W) (o : Option CoreError) → map reservation (after_submit work w s job o).accounts ≡ map reservation w.accounts
   rates_submit w s job None = changed_kept reservation (account_with_job work w.now job) w.accounts s (λ a. refl)
   rates_submit w s job (Some e) = refl
 
+  -- nor does a run
   rates_run : (w : World W) (o : Option ℕ) → map reservation (after_run w o).accounts ≡ map reservation w.accounts
   rates_run w None = refl
   rates_run w (Some s) = rates_tick (record w { accounts = changed_at account_with_unit w.accounts s }) ∙ changed_kept reservation account_with_unit w.accounts s (λ a. refl)
 
+  -- nor does a close
   rates_close : (w : World W) (s : ℕ) (o : Option CoreError) → map reservation (after_closing w s o).accounts ≡ map reservation w.accounts
   rates_close w s None = changed_kept reservation account_with_close w.accounts s (λ a. refl)
   rates_close w s (Some e) = refl
 
+  -- nor does any step
   rates_next : (backlog : ℕ) (w : World W) (x : Step W) → map reservation (next work backlog w x).accounts ≡ map reservation w.accounts
   rates_next backlog w (Submit s job) = rates_submit w s job (submit_refusal backlog (faces work w) s)
   rates_next backlog w Run = rates_run w (runner work w)
@@ -82,6 +87,7 @@ module _ {W : Type 0} (work : Meaning W) where
   abbrev pub given : Setup → List Rate
   given setup = map reservation (start setup).accounts
 
+  -- nor does a list of steps
   pub rates_after : (setup : Setup) (M : List (Step W)) → map reservation (after work setup M).accounts ≡ given setup
   rates_after setup [] = refl
   rates_after setup (x ∷ M) = rates_next setup.backlog (after work setup M) x ∙ rates_after setup M
@@ -96,7 +102,6 @@ module _ {W : Type 0} (work : Meaning W) where
         at_most_one = ok.at_most_one;
       }
 
-  -- ---- the start
   -- each new account is sound
   sound_new : (P : ℕ) (ts : List Terms) → AllLawful (map reservation (map new_account ts)) → IsCommonMultiple P (map reservation (map new_account ts)) → AllByRecursion (IsSound work P) (map new_account ts)
   sound_new P [] all common = tt
@@ -108,6 +113,7 @@ module _ {W : Type 0} (work : Meaning W) where
     sound_new P ts all.1 common.1,
   )
 
+  -- so the start is sound
   pub sound_start : (setup : Setup) → IsAdmitted (given setup) → AllSound work (all_periods (given setup)) (start setup)
   sound_start setup ok =
       let P = all_periods (given setup) in
@@ -123,10 +129,12 @@ module _ {W : Type 0} (work : Meaning W) where
       let rest = new_demand P x ts in
       omega (arith, sum_by-cons (λ a. demand P 0 x (face_of work a)) (new_account t) (map new_account ts), sum_by-cons (λ a. (x - 0) * share P (reservation a)) (new_account t) (map new_account ts))
 
+  -- and is not throttled
   new_ahead : (ts : List Terms) → AllByRecursion (λ a. IsAhead 0 (face_of work a)) (map new_account ts)
   new_ahead [] = tt
   new_ahead (t ∷ ts) = (λ marked. cc, new_ahead ts)
 
+  -- so the start is on time
   timely_start : (setup : Setup) → IsAdmitted (given setup) → IsTimely work (all_periods (given setup)) (start setup)
   timely_start setup ok =
       let P = all_periods (given setup) in
@@ -141,11 +149,12 @@ module _ {W : Type 0} (work : Meaning W) where
         ahead = new_ahead setup.servers;
       }
 
-  -- ---- lists of steps
+  -- each list of steps leaves a sound world
   pub sound_after : (setup : Setup) (M : List (Step W)) → IsAdmitted (given setup) → AllSound work (all_periods (given setup)) (after work setup M)
   sound_after setup [] ok = sound_start setup ok
   sound_after setup (x ∷ M) ok = sound_next work (all_periods (given setup)) setup.backlog (after work setup M) x (sound_after setup M ok)
 
+  -- and one on time, where each advance takes nobody's time
   pub timely_after : (setup : Setup) (M : List (Step W)) → IsAdmitted (given setup) → AreQuiet work setup M → IsTimely work (all_periods (given setup)) (after work setup M)
   timely_after setup [] ok quiet = timely_start setup ok
   timely_after setup (x ∷ M) ok quiet = timely_next work (all_periods (given setup)) setup.backlog (after work setup M) x (sound_after setup M ok) quiet.1 (timely_after setup M ok quiet.0)
@@ -161,6 +170,7 @@ module _ {W : Type 0} (work : Meaning W) where
       } in
       rw same here
 
+  -- and the other way round
   known_on_time : (setup : Setup) (M : List (Step W)) → IsWorldOnTime work (after work setup M) → IsTimely work (all_periods (given setup)) (after work setup M)
   known_on_time setup M on =
       let w = after work setup M in
@@ -231,6 +241,7 @@ module _ {W : Type 0} (work : Meaning W) where
       one : (grown M x r).setup ≡ M.setup
       one = elim (cases_Bool (is_lack r)) [ inl t ↦ rw t refl | inr f ↦ rw f refl ]
 
+  -- so do its reservations
   pub admitted_grown : (M : History W) (xs : List (Step W)) (rs : List (Reply W)) → IsAdmitted (given M.setup) → IsAdmitted (given (grown_by M xs rs).setup)
   admitted_grown M xs rs ok = rw (setup_grown M xs rs) ok
 

@@ -96,7 +96,6 @@ module _ {W : Type 0} (work : Meaning W) (P : ℕ) where
       asks_run_before : x < a.state.deadline → asks (now + 1) x (account_with_replenishment (now + 1) (account_with_unit a)) ≡ 0
       asks_run_before near = run_before P a.terms.reservation ok.divides a.terms.mode now x (is_active (face_of work (account_with_unit a))) a.state (runnable (face_of work a) ready).free near
 
-  -- ---- sound worlds
   -- a tick keeps a world sound
   sound_tick : (w : World W) → AllSound work P w → AllSound work P (tick w)
   sound_tick w ok = record {
@@ -118,15 +117,18 @@ module _ {W : Type 0} (work : Meaning W) (P : ℕ) where
     fits = rw (sum_changed_same shares f w.accounts i (λ a. ap (λ (t : Terms). share P t.reservation) (same a))) ok.fits;
   }
 
+  -- so does a submit, accepted or refused
   sound_submit : (w : World W) (s : ℕ) (job : W) (o : Option CoreError) → AllSound work P w → AllSound work P (after_submit work w s job o)
   sound_submit w s job None ok = sound_changed w (account_with_job work w.now job) s (λ a. refl)
       (λ h. record { lawful = lawful_job work w.now job (account w.accounts s) h.lawful; divides = h.divides }) ok
   sound_submit w s job (Some e) ok = ok
 
+  -- so does a close
   sound_close : (w : World W) (s : ℕ) (o : Option CoreError) → AllSound work P w → AllSound work P (after_closing w s o)
   sound_close w s None ok = sound_changed w account_with_close s (λ a. refl) (λ h. record { lawful = lawful_close work (account w.accounts s) h.lawful; divides = h.divides }) ok
   sound_close w s (Some e) ok = ok
 
+  -- so does a run of the chosen server
   sound_run : (w : World W) (o : Option ℕ) → ((s : ℕ) → o ≡ Some s → chosen work w ≡ Some s) → AllSound work P w → AllSound work P (after_run w o)
   sound_run w None chose ok = ok
   sound_run w (Some s) chose ok = sound_tick (record w { accounts = changed_at account_with_unit w.accounts s })
@@ -144,7 +146,6 @@ module _ {W : Type 0} (work : Meaning W) (P : ℕ) where
   sound_next backlog w (Advance n) ok = elim (cases_Bool (leb (w.now + n) clock_end)) [ inl t ↦ rw t (sound_ticks n w ok) | inr f ↦ rw f ok ]
   sound_next backlog w (Close s) ok = sound_close w s (close_refusal (faces work w) s) ok
 
-  -- ---- worlds on time
   -- one account of a sound world
   sound_at : (w : World W) → AllSound work P w → (i : ℕ) → i < length w.accounts → IsSound work P (account w.accounts i)
   sound_at w ok i lt = AllByRecursion-get (IsSound work P) w.accounts i no_account ok.each lt
@@ -203,6 +204,7 @@ module _ {W : Type 0} (work : Meaning W) (P : ℕ) where
     place : s < length w.accounts
     least : (r : ℕ) → r < length w.accounts → is_ready (face_of work (account w.accounts r)) ≡ true → (account w.accounts s).state.deadline ≤ (account w.accounts r).state.deadline
 
+  -- so it is of the choice
   chosen_least : (w : World W) (s : ℕ) → chosen work w ≡ Some s → IsLeast w s
   chosen_least w s e =
       let fs = faces work w in
@@ -253,6 +255,7 @@ module _ {W : Type 0} (work : Meaning W) (P : ℕ) where
         ahead = all_ahead (w.now + 1) (changed_at account_with_unit w.accounts s);
       }
 
+  -- so does a run, where a server runs or none
   timely_run : (w : World W) (o : Option ℕ) → ((s : ℕ) → o ≡ Some s → chosen work w ≡ Some s) → AllSound work P w → IsTimely work P w → IsTimely work P (after_run w o)
   timely_run w None chose ok on = on
   timely_run w (Some s) chose ok on = timely_run_one w s (chose s refl) ok on
@@ -262,6 +265,7 @@ module _ {W : Type 0} (work : Meaning W) (P : ℕ) where
   unfolding ticks
   quiet_more w n q = λ m lt. q (suc m) (omega arith)
 
+  -- so does a quiet advance
   timely_ticks : (n : ℕ) (w : World W) → AllSound work P w → IsTimely work P w → IsQuiet work w n → IsTimely work P (ticks n w)
   unfolding ticks
   timely_ticks zero w ok on q = on

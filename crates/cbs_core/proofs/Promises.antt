@@ -31,6 +31,7 @@ module _ {W : Type 0} (work : Meaning W) where
   abbrev pub all : Account W → ℕ
   all a = sum_by work.left a.accepted
 
+  -- it is what all its accepted jobs need
   all_needed : (a : Account W) → need work a (length a.accepted) ≡ all a
   all_needed a = let e = take_all (length a.accepted) a.accepted (omega arith) in rw e
 
@@ -86,6 +87,7 @@ module _ {W : Type 0} (work : Meaning W) where
       jobs : a.accepted ≡ before ++ job ∷ behind
       pending : a.got < goal → IsCovered a.terms.reservation goal b a.got a.state
 
+    -- the jobs up to it need that many units
     need_job : (a : Account W) → IsAwaited a → (length before < length a.accepted) × (need work a (length before + 1) ≡ goal)
     need_job a h =
         let jobs : a.accepted ≡ before ++ job ∷ h.behind = h.jobs in
@@ -125,6 +127,7 @@ module _ {W : Type 0} (work : Meaning W) where
         ] in
         grind (arith, nat_tests)
 
+    -- a job behind it keeps all this
     awaited_job : (now : ℕ) (more : W) (a : Account W) → IsAwaited a → IsAwaited (account_with_job work now more a)
     awaited_job now more a h = record {
       lawful = lawful_job work now more a h.lawful;
@@ -136,6 +139,7 @@ module _ {W : Type 0} (work : Meaning W) where
           rw same (h.pending owes);
     }
 
+    -- so does a unit
     awaited_unit : (a : Account W) → is_ready (face_of work a) ≡ true → IsAwaited a → IsAwaited (account_with_unit a)
     awaited_unit a ready h = record {
       lawful = lawful_unit work a ready h.lawful;
@@ -144,6 +148,7 @@ module _ {W : Type 0} (work : Meaning W) where
       pending = λ owes. covered_unit a.terms.reservation goal b a.got a.state a.terms.mode h.lawful.state.capped (omega arith) (h.pending (omega arith));
     }
 
+    -- so does a replenishment
     awaited_replenishment : (now : ℕ) (a : Account W) → IsAwaited a → IsAwaited (account_with_replenishment now a)
     awaited_replenishment now a h = record {
       lawful = lawful_replenishment work now a h.lawful;
@@ -152,6 +157,7 @@ module _ {W : Type 0} (work : Meaning W) where
       pending = λ owes. covered_replenishment a.terms.reservation goal b a.got a.state now h.lawful.rate.some (omega arith) h.lawful.state.spent (h.pending owes);
     }
 
+    -- and a close
     awaited_close : (a : Account W) → IsAwaited a → IsAwaited (account_with_close a)
     awaited_close a h = record { lawful = lawful_close work a h.lawful; behind = h.behind; jobs = h.jobs; pending = h.pending }
 
@@ -164,7 +170,6 @@ module _ {W : Type 0} (work : Meaning W) where
         let h : IsAwaited a = holds_behind work (λ now. IsAwaited) (λ now. awaited_unit) (λ now. awaited_replenishment (now + 1)) (λ now. awaited_close) awaited_job setup K M s start in
         done-finished a h (covered_got setup (K ++ M) s goal b ok quiet lt (pending_active a h) h.lawful.state.capped h.pending late)
 
-  -- ---- a job that was accepted
   -- there are as many servers as were given
   pub count_after : (setup : Setup) (L : List (Step W)) → length (after work setup L).accounts ≡ length (given work setup)
   count_after setup L = sym (length-map (after work setup L).accounts (reservation work)) ∙ ap length (rates_after work setup L)
@@ -235,5 +240,6 @@ module _ {W : Type 0} (work : Meaning W) where
       let e = submitted N.setup M s job of.accepted in
       promised N.setup M s job of.accepted j N.steps K of.steps ok quiet (rw e at enough) (rw e at late)
 
+  -- and its bounds
   pub bound_kept : (N : History W) → IsAdmitted (given work N.setup) → KeepsBound work N
   bound_kept N ok = λ quiet K M s job of renewal late. bounded N.setup M s job of.accepted N.steps K of.steps ok quiet renewal late

@@ -16,6 +16,7 @@ use Rattle.cbs_core.specs.Replies.{grown_by}
 use Rattle.cbs_core.specs.Laws.{account_in, IsWithinShare, IsWithinCap}
 use Rattle.cbs_core.specs.declared.step.Step.{Step}
 use Rattle.cbs_core.specs.declared.reply.Reply.{Reply}
+use Rattle.cbs_core.proofs.Demands.{renewed_early}
 use Rattle.cbs_core.proofs.Histories.{holds_grown_by, holds_after}
 use Rattle.cbs_core.proofs.LawfulServers.{IsLawful, lawful_job, lawful_unit, lawful_replenishment, lawful_close, ready_budget}
 
@@ -44,18 +45,13 @@ module _ (r : Rate) (x y got : ℕ) (s : State) where
     | inr f ↦ rw f h
   ]
 
-  -- an arrival that renews before the deadline found a budget of at least the share of the time until then
-  renewed_early : (mode : Mode) (now : ℕ) → is_renewed mode r now s ≡ true → now < s.deadline → (s.deadline - now) * r.budget ≤ s.budget * r.period
-  renewed_early Soft now t lt = grind (arith, nat_tests)
-  renewed_early Throttled now t lt = grind (arith, nat_tests)
-
   -- so does an arrival
   shared_arrival : (mode : Mode) (now : ℕ) → IsShared r x y got s → IsShared r x y got (after_arrival mode r now s)
   shared_arrival mode now h = elim (cases_Bool (is_renewed mode r now s)) [
     | inl t ↦
         let k : got * r.period + x ≤ y + now * r.budget = elim (cases_lt now s.deadline) [
           | inl lt ↦
-              let l = renewed_early mode now t lt in
+              let l = renewed_early mode r now s t lt in
               let e : s.deadline ≡ now + (s.deadline - now) = omega arith in
               let d = ap (λ (v : ℕ). v * r.budget) e in
               omega arith
@@ -90,6 +86,7 @@ module _ {W : Type 0} (work : Meaning W) (x y : ℕ) (terms : Terms) where
     lawful : IsLawful work a
     shared : IsShared a.terms.reservation x y a.got a.state
 
+  -- a job that comes in keeps it
   kept_job : (now : ℕ) (job : W) (a : Account W) → IsKept a → IsKept (account_with_job work now job a)
   kept_job now job a k = record {
     same = k.same;
@@ -100,6 +97,7 @@ module _ {W : Type 0} (work : Meaning W) (x y : ℕ) (terms : Terms) where
     ];
   }
 
+  -- so does a unit
   kept_unit : (a : Account W) → is_ready (face_of work a) ≡ true → IsKept a → IsKept (account_with_unit a)
   kept_unit a ready k = record {
     same = k.same;
@@ -107,6 +105,7 @@ module _ {W : Type 0} (work : Meaning W) (x y : ℕ) (terms : Terms) where
     shared = shared_unit a.terms.reservation x y a.got a.state a.terms.mode (ready_budget work a ready k.lawful) k.shared;
   }
 
+  -- so does a replenishment
   kept_replenishment : (now : ℕ) (a : Account W) → IsKept a → IsKept (account_with_replenishment now a)
   kept_replenishment now a k = record {
     same = k.same;
@@ -114,6 +113,7 @@ module _ {W : Type 0} (work : Meaning W) (x y : ℕ) (terms : Terms) where
     shared = shared_replenishment a.terms.reservation x y a.got a.state now k.shared;
   }
 
+  -- and a close
   kept_close : (a : Account W) → IsKept a → IsKept (account_with_close a)
   kept_close a k = record { same = k.same; lawful = lawful_close work a k.lawful; shared = k.shared }
 

@@ -28,18 +28,21 @@ module _ {W : Type 0} (work : Meaning W) (n b : ℕ) where
     lawful : IsLawful work a
     pending : a.got < n → IsCovered a.terms.reservation n b a.got a.state
 
+  -- a unit keeps it
   supplied_unit : (a : Account W) → is_ready (face_of work a) ≡ true → IsSupplied a → IsSupplied (account_with_unit a)
   supplied_unit a ready h = record {
     lawful = lawful_unit work a ready h.lawful;
     pending = λ owes. covered_unit a.terms.reservation n b a.got a.state a.terms.mode h.lawful.state.capped (omega arith) (h.pending (omega arith));
   }
 
+  -- so does a replenishment
   supplied_replenishment : (now : ℕ) (a : Account W) → IsSupplied a → IsSupplied (account_with_replenishment now a)
   supplied_replenishment now a h = record {
     lawful = lawful_replenishment work now a h.lawful;
     pending = λ owes. covered_replenishment a.terms.reservation n b a.got a.state now h.lawful.rate.some (omega arith) h.lawful.state.spent (h.pending owes);
   }
 
+  -- and a close
   supplied_close : (a : Account W) → IsSupplied a → IsSupplied (account_with_close a)
   supplied_close a h = record { lawful = lawful_close work a h.lawful; pending = h.pending }
 
@@ -65,6 +68,7 @@ module _ {W : Type 0} (work : Meaning W) (n b : ℕ) where
           rw (changed_elsewhere (account_with_job work w.now job) w.accounts t s no_account other) h
     ]
 
+    -- each step keeps it, while the server is active
     supplied_next : (backlog : ℕ) (w : World W) (x : Step W) → s < length w.accounts → is_active (face_of work (account w.accounts s)) ≡ true → IsSupplied (account w.accounts s) → IsSupplied (account (next work backlog w x).accounts s)
     supplied_next backlog w (Submit t job) lt active h = supplied_submit w t job (submit_refusal backlog (faces work w) t) lt active h
     supplied_next backlog w Run lt active h = holds_run_step work (λ now. IsSupplied) (λ now. supplied_unit) (λ now. supplied_replenishment (now + 1)) (λ now. supplied_close) backlog w s h
@@ -88,6 +92,7 @@ module _ {W : Type 0} (work : Meaning W) (n b : ℕ) where
       | inr ge ↦ let none : account accounts s ≡ no_account = get_or_past accounts s no_account ge in let off : false ≡ true = rw none at active in cc
     ]
 
+    -- so do the steps behind M
     supplied_after : (setup : Setup) (K M : List (Step W)) → StaysActive work setup s M K → IsSupplied (account (after work setup M).accounts s) → IsSupplied (account (after work setup (K ++ M)).accounts s)
     supplied_after setup [] M busy h = h
     supplied_after setup (x ∷ K) M busy h =

@@ -1,0 +1,80 @@
+-- Lateness, demands, shares and due ticks of small examples, computed from the definitions. A job is the number of its units.
+use Rattle.std.proofs.Common.{◌≡◌, ℕ, ◌+◌, ◌-◌, ◌*◌, Bool, List, [], ◌∷◌, refl, true, map}
+use Rattle.std.specs.List.{sum_by}
+use Rattle.cbs_job.specs.Work.{Meaning}
+use Rattle.cbs_rules.specs.Rules.{Terms}
+use Rattle.cbs_rules.specs.declared.mode.Mode.{Mode}
+use Rattle.cbs_rules.specs.declared.mode.Mode.TheVariants.{Soft, Throttled}
+use Rattle.cbs_core.specs.Accounts.{Account, face_of}
+use Rattle.cbs_core.specs.History.{Setup, ticks, account, faces, after}
+use Rattle.cbs_core.specs.OnTime.{demand, is_late}
+use Rattle.cbs_core.specs.Promises.{due}
+use Rattle.cbs_core.specs.declared.step.Step.{Step}
+use Rattle.cbs_core.specs.declared.step.Step.TheVariants.{Submit, Run, Advance}
+
+-- work that is nothing but its units
+abbrev units : Meaning ℕ
+units = record { left = λ n. n; output = λ n. 0; after = λ n. n - 1 }
+
+-- a server of q ticks in every t
+abbrev server : Mode → ℕ → ℕ → Terms
+server m q t = record { mode = m; reservation = record { budget = q; period = t } }
+
+-- with a backlog of four jobs
+abbrev setup : List Terms → Setup
+setup servers = record { servers = servers; backlog = 4 }
+
+-- what is known of server s after the steps, the newest first
+abbrev left_of : List Terms → List (Step ℕ) → ℕ → Account ℕ
+left_of servers M s = account (after units (setup servers) M).accounts s
+
+-- whether server s is late after the steps
+abbrev late : List Terms → List (Step ℕ) → ℕ → Bool
+late servers M s = is_late (after units (setup servers) M).now (face_of units (left_of servers M s))
+
+-- an advance while somebody is ready leaves it late
+late_unquiet : late (server Throttled 1 10 ∷ []) (Advance 20 ∷ Submit 0 2 ∷ []) 0 ≡ true
+unfolding ticks
+late_unquiet = refl
+
+-- of two servers that want the whole of each tick one is late after a unit: admission lets no such plan through
+late_over : late (server Soft 1 1 ∷ server Soft 1 1 ∷ []) (Run ∷ Submit 1 1 ∷ Submit 0 1 ∷ []) 1 ≡ true
+late_over = refl
+
+-- two soft servers that take every tick, a job of nine units and one of two
+abbrev whole : List Terms
+whole = server Soft 3 5 ∷ server Soft 2 5 ∷ []
+
+abbrev both : List (Step ℕ)
+both = Submit 1 2 ∷ Submit 0 9 ∷ []
+
+-- all demands up to x after the steps, in 25th parts of a tick
+abbrev demands : List (Step ℕ) → ℕ → ℕ
+demands M x = sum_by (demand 25 (after units (setup whole) M).now x) (faces units (after units (setup whole) M))
+
+-- up to 5 and up to 10, after each unit: the ticks that are left until then, to the last
+demands_meet : (demands both 5 ∷ demands (Run ∷ both) 5 ∷ demands (Run ∷ Run ∷ both) 5 ∷ demands (Run ∷ Run ∷ Run ∷ both) 5 ∷ demands (Run ∷ Run ∷ Run ∷ Run ∷ both) 5 ∷ demands (Run ∷ Run ∷ Run ∷ Run ∷ Run ∷ both) 5 ∷ [])
+    ≡ 5 * 25 ∷ 4 * 25 ∷ 3 * 25 ∷ 2 * 25 ∷ 1 * 25 ∷ 0 ∷ []
+demands_meet = refl
+
+demands_meet_later : (demands both 10 ∷ demands (Run ∷ both) 10 ∷ demands (Run ∷ Run ∷ both) 10 ∷ demands (Run ∷ Run ∷ Run ∷ both) 10 ∷ demands (Run ∷ Run ∷ Run ∷ Run ∷ both) 10 ∷ demands (Run ∷ Run ∷ Run ∷ Run ∷ Run ∷ both) 10 ∷ [])
+    ≡ 10 * 25 ∷ 9 * 25 ∷ 8 * 25 ∷ 7 * 25 ∷ 6 * 25 ∷ 5 * 25 ∷ []
+demands_meet_later = refl
+
+-- a greedy client pays for each unit: after four, (got + c) * T is d * Q
+greedy : (let a = left_of (server Soft 1 10 ∷ []) (Run ∷ Run ∷ Run ∷ Run ∷ Submit 0 9 ∷ []) 0 in ((a.got + a.state.budget) * 10 ∷ a.state.deadline * 1 ∷ [])) ≡ 50 ∷ 50 ∷ []
+greedy = refl
+
+-- jobs of 2, 3 and 1 units that come at 0, 3 and 30 are due at 5, 15 and 35
+abbrev first : List (Step ℕ)
+first = Submit 0 2 ∷ []
+
+abbrev second : List (Step ℕ)
+second = Submit 0 3 ∷ Advance 1 ∷ Run ∷ Run ∷ first
+
+abbrev third : List (Step ℕ)
+third = Submit 0 1 ∷ Advance 24 ∷ Run ∷ Run ∷ Run ∷ second
+
+dues : map (due units (setup (server Soft 2 5 ∷ [])) 0) (first ∷ second ∷ third ∷ []) ≡ 5 ∷ 15 ∷ 35 ∷ []
+unfolding ticks
+dues = refl
