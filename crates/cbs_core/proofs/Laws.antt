@@ -17,6 +17,7 @@ use Rattle.cbs_core.specs.Agreement.{AgreesJobs, Agrees}
 use Rattle.cbs_core.specs.Quiet.{IsAtRest, IsQuiet, IsIdleSpan}
 use Rattle.cbs_core.specs.Held.{CoreHeld, held_at, HoldsJob}
 use Rattle.cbs_core.specs.Setups.{terms_of}
+use Rattle.cbs_core.specs.Punctual.{IsPunctual}
 use Rattle.cbs_core.specs.Queues.{list_at}
 use Rattle.cbs_core.specs.Continuations.{IsBusy, HasHistory, Follows, ◌⊕⊕◌, EachAllowed, AllAllowed}
 use Rattle.cbs_core.specs.declared.step.Step.{Step}
@@ -141,6 +142,10 @@ module _ {W : Type 0} (work : Meaning W) where
   setup_after : (M : History W) (xs : List (Step W)) → (M ⊕⊕ xs).setup ≡ M.setup
   setup_after M [] = refl
   setup_after M (x ∷ xs) = setup_after (M ⊕ x) xs
+
+  -- what is punctual whatever its steps will be, is so after these
+  pub punctual_after : (M : History W) → ((steps : List (Step W)) → IsPunctual work (record { setup = M.setup; steps = steps })) → (xs : List (Step W)) → IsPunctual work (M ⊕⊕ xs)
+  punctual_after M all xs = subst (λ s. IsPunctual work (record { setup = s; steps = (M ⊕⊕ xs).steps })) (sym (setup_after M xs)) (all (M ⊕⊕ xs).steps)
 
   -- steps leave the greatest backlog
   pub backlog_kept : (a b : CoreHeld W) (xs : List (Step W)) → HasHistory work a → Follows work a b xs → b.backlog ≡ a.backlog

@@ -15,6 +15,7 @@ pub mod Lends
 pub mod Lists
 pub mod OnTime
 pub mod Promises
+pub mod Punctual
 pub mod Queues
 pub mod Quiet
 pub mod ReadyList

@@ -1,6 +1,6 @@
 //! The core: all servers, and the clock.
 
-ghost use Rattle.std.specs.Prelude.{◌≡◌, ℕ, ◌+◌, ◌*◌, ◌<◌, ◌≤◌, true, false, Ok, Err, IfOk, IfErr, OnOk, OnErr, IsOk, length, slice_get, [], MatchOption, MatchResult, Some, None, ◌⊎◌};
+ghost use Rattle.std.specs.Prelude.{◌≡◌, ℕ, ◌+◌, ◌*◌, ◌<◌, ◌≤◌, true, false, Ok, Err, IfOk, IfErr, OnOk, OnErr, IsOk, length, slice_get, List, [], MatchOption, MatchResult, Some, None, ◌⊎◌};
 ghost use Rattle.cbs_rate.specs.Refusals.{RefusesByOrMemory};
 ghost use Rattle.cbs_core.specs.Quiet.{IsAtRest, IsIdleSpan};
 ghost use Rattle.cbs_core.specs.Choice.{IsChoice};
@@ -13,6 +13,7 @@ ghost use Rattle.cbs_core.specs.Held.{room_of, KeepsRoom, IsOpen, HasRoom, IsRef
 ghost use Rattle.cbs_core.specs.OnTime.{IsOnTime, IsWorldOnTime, KeepsDeadlines, KeepsTime, KeepsTimeAll};
 ghost use Rattle.cbs_core.specs.HardTasks.{KeepsHard};
 ghost use Rattle.cbs_core.specs.Promises.{KeepsPromise, KeepsBound, KeepsDue};
+ghost use Rattle.cbs_core.specs.Punctual.{IsPunctual};
 ghost use Rattle.cbs_core.specs.Queues.{ran_of};
 ghost use Rattle.cbs_core.specs.Supplies.{KeepsSupply};
 ghost use Rattle.cbs_core.specs.Setups.{terms_of, new_refusal};
@@ -68,6 +69,7 @@ impl<W: Work, A: Allocator + Clone> Core<W, A> {
         requires { length modes ≡ length plan.rates }
         ensures start { IfOk result (λ core. Agrees W.meaning core (record { setup = record { servers = terms_of modes plan.rates; backlog = backlog }; steps = [] })) }
         ensures on_time { IfOk result (λ core. IsOnTime core.clock core.faces) }
+        ensures punctual { OnOk result ((steps : List (Step W)) → IsPunctual W.meaning (record { setup = record { servers = terms_of modes plan.rates; backlog = backlog }; steps = steps })) }
         ensures refusal { RefusesByOrMemory CoreError.OutOfMemory result (new_refusal backlog) }
     {
         if backlog == 0 || backlog > MAX_BACKLOG {

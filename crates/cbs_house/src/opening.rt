@@ -1,9 +1,11 @@
 //! Opening a house with its clients.
 
-ghost use Rattle.std.specs.Prelude.{ℕ, ◌≡◌, [], length, map, IfOk};
+ghost use Rattle.std.specs.Prelude.{ℕ, ◌≡◌, List, [], length, map, IfOk, OnOk};
 ghost use Rattle.std.specs.List.{All, range_with_len};
 ghost use Rattle.cbs_core.specs.Agreement.{Agrees};
+ghost use Rattle.cbs_core.specs.Punctual.{IsPunctual};
 ghost use Rattle.cbs_core.specs.Setups.{terms_of};
+ghost use Rattle.cbs_core.specs.declared.step.Step.{Step};
 ghost use Rattle.cbs_rate.specs.Refusals.{RefusesByOrMemory};
 ghost use Rattle.cbs_house.specs.Clients.{server_of, ring_of};
 ghost use Rattle.cbs_house.specs.Houses.{core_of, rings_of, received, known, results_of};
@@ -47,6 +49,7 @@ pub fn open_house<W: Work, A: Allocator + Copy>(
     ensures clients { IfOk result (λ r. map server_of r.1.items ≡ range_with_len 0 (length plan.rates)) }
     ensures unused { IfOk result (λ r. All (IsUnused ring) r.1.items) }
     ensures opened { IfOk result (λ r. All (IsOpened (rings_of r.0)) r.1.items) }
+    ensures punctual { OnOk result ((steps : List (Step W)) → IsPunctual W.meaning (record { setup = record { servers = terms_of modes plan.rates; backlog = backlog }; steps = steps })) }
     ensures refusal { RefusesByOrMemory HouseError.OutOfMemory result (open_refusal backlog ring) }
 {
     if backlog == 0 || backlog > MAX_BACKLOG {

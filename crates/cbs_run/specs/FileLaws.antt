@@ -5,6 +5,7 @@ use Rattle.cbs_job.specs.declared.file.FileJob.{FileJob}
 use Rattle.cbs_core.specs.Continuations.{◌⊕⊕◌}
 use Rattle.cbs_core.specs.History.{History}
 use Rattle.cbs_core.specs.Laws.{account_in, completions_of, replies_after, Completes, NoneAfterClose}
+use Rattle.cbs_core.specs.Punctual.{IsPunctual}
 use Rattle.cbs_core.specs.declared.step.Step.{Step}
 use Rattle.cbs_file.specs.TaskFiles.{File}
 use Rattle.cbs_run.specs.StepTexts.{start_of}
@@ -14,7 +15,8 @@ use Rattle.cbs_run.specs.StepTexts.{start_of}
 abbrev pub CompletesAll : History FileJob → List (Step FileJob) → ℕ → Type 0
 CompletesAll M steps s = Completes of_files (account_in of_files M s) (account_in of_files (M ⊕⊕ steps) s) (completions_of s (replies_after of_files M steps))
 
--- so it is of the steps of the file, and after a close of a server no submit to it is accepted
+-- So it is of the steps of the file; after a close of a server no submit to it is accepted; and the laws on time hold.
 pub record KeepsLaws (f : File) : Type 0 where
   pub completions : (s : ℕ) → CompletesAll (start_of f) f.steps s
   pub closes : (s : ℕ) → NoneAfterClose s (account_in of_files (start_of f) s).closed f.steps (replies_after of_files (start_of f) f.steps)
+  pub punctual : IsPunctual of_files (start_of f ⊕⊕ f.steps)

@@ -4,7 +4,7 @@ use Rattle.cbs_core.specs.Agreement.{Agrees}
 use Rattle.cbs_file.specs.TaskFiles.{File}
 use Rattle.cbs_run.specs.StepTexts.{start_of}
 use Rattle.std.proofs.lemmas.Result.{on_ok_weaker}
-use Rattle.cbs_core.proofs.Laws.{steps_close}
+use Rattle.cbs_core.proofs.Laws.{punctual_after, steps_close}
 use Rattle.cbs_run.proofs.StepTexts.{nothing_written, without_core}
 use Rattle.cbs_run.proofs.steps.write_file_steps.Goals as goal
 
@@ -24,4 +24,5 @@ returns-in-Ok-clause-laws g c =
     on_ok_weaker c.write_steps.result (λ completes. record {
       completions = λ s. rw steps at (completes (start_of c.args.file) agrees s);
       closes = λ s. steps_close of_files (start_of c.args.file) c.args.file.steps s;
+      punctual = punctual_after of_files (start_of c.args.file) (rw (← c.into_parts-modes.ensures.value) c.in-Ok.ensures.punctual) c.args.file.steps;
     }) c.write_steps.ensures.completes

@@ -3,6 +3,7 @@ use Rattle.cbs_core.specs.Setups.{terms_of}
 use Rattle.cbs_core.proofs.Agreements.{start_agrees}
 use Rattle.cbs_core.proofs.Cores.{core_new}
 use Rattle.cbs_core.proofs.OnTime.{new_on_time}
+use Rattle.cbs_core.proofs.Punctual.{new_punctual}
 use Rattle.cbs_core.proofs.executor.Core.new.Goals as goal
 
 pub invariant_of-result : goal.invariant_of-result
@@ -17,3 +18,6 @@ returns-clause-start g c = record {
 
 pub returns-clause-on_time : goal.returns-clause-on_time
 returns-clause-on_time g c = new_on_time g.W.Work.meaning (invariant_of-result g c) (returns-clause-start g c)
+
+pub returns-clause-punctual : goal.returns-clause-punctual
+returns-clause-punctual g c = new_punctual g.W.Work.meaning (invariant_of-result g c) (returns-clause-start g c)

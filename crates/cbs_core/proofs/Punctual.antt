@@ -1,0 +1,30 @@
+-- The laws on time hold of every history whose reservations were admitted.
+use Rattle.std.proofs.Common.{List, [], refl}
+use Rattle.cbs_job.specs.Work.{Meaning}
+use Rattle.cbs_core.specs.Agreement.{Agrees}
+use Rattle.cbs_core.specs.Held.{CoreHeld}
+use Rattle.cbs_core.specs.History.{Setup, History}
+use Rattle.cbs_core.specs.Invariant.{IsCore}
+use Rattle.cbs_core.specs.Punctual.{IsPunctual}
+use Rattle.cbs_core.specs.declared.step.Step.{Step}
+use Rattle.cbs_core.proofs.Dues.{due_kept}
+use Rattle.cbs_core.proofs.HardTasks.{hard_kept}
+use Rattle.cbs_core.proofs.OnTime.{IsAdmitted, given, admitted_by, never_late}
+use Rattle.cbs_core.proofs.Promises.{promise_kept, bound_kept}
+use Rattle.cbs_core.proofs.Supplies.{supply_kept}
+
+module _ {W : Type 0} (work : Meaning W) where
+  punctual : (N : History W) → IsAdmitted (given work N.setup) → IsPunctual work N
+  punctual N ok = record {
+    never_late = never_late work N.setup N.steps ok;
+    promise = promise_kept work N ok;
+    bound = bound_kept work N ok;
+    due = due_kept work N ok;
+    hard = hard_kept work N ok;
+    supply = supply_kept work N ok;
+  }
+
+  -- so it is of a new core, whatever its steps will be
+  pub new_punctual : {core : CoreHeld W} {setup : Setup} → IsCore work core → Agrees work core (record { setup = setup; steps = [] })
+      → (steps : List (Step W)) → IsPunctual work (record { setup = setup; steps = steps })
+  new_punctual {core} {setup} ok agrees steps = punctual (record { setup = setup; steps = steps }) (admitted_by work {core = core} refl ok agrees)

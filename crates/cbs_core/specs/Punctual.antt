@@ -1,0 +1,16 @@
+-- The laws on time, together.
+use Rattle.cbs_job.specs.Work.{Meaning}
+use Rattle.cbs_core.specs.History.{History}
+use Rattle.cbs_core.specs.OnTime.{KeepsDeadlines}
+use Rattle.cbs_core.specs.Promises.{KeepsPromise, KeepsBound, KeepsDue}
+use Rattle.cbs_core.specs.HardTasks.{KeepsHard}
+use Rattle.cbs_core.specs.Supplies.{KeepsSupply}
+
+-- punctual: the laws on time hold of the history
+pub record IsPunctual {W : Type 0} (work : Meaning W) (N : History W) : Type 0 where
+  pub never_late : KeepsDeadlines work N
+  pub promise : KeepsPromise work N
+  pub bound : KeepsBound work N
+  pub due : KeepsDue work N
+  pub hard : KeepsHard work N
+  pub supply : KeepsSupply work N
