@@ -346,10 +346,14 @@ impl<W: Work, A: Allocator> Core<W, A> {
             → NoneAfterClose s (account_in W.meaning M s).closed steps.items replies.items) }
         ensures budgets { IfOk result (λ replies. (M : History W) → Agrees W.meaning self.old M → (s : ℕ) → s < length self.old.faces
             → IsWithinBudget (face_at (faces W.meaning (world_after W.meaning (grown_by M steps.items replies.items))) s)) }
+
+        // What a server takes, whatever it is asked for.
         ensures share { IfOk result (λ replies. (M : History W) → Agrees W.meaning self.old M → (s : ℕ) → s < length self.old.faces
             → IsWithinShare (account_in W.meaning M s) (account_in W.meaning (grown_by M steps.items replies.items) s)) }
         ensures cap { IfOk result (λ replies. (M : History W) → Agrees W.meaning self.old M → (s : ℕ) → s < length self.old.faces
             → IsWithinCap W.meaning M (grown_by M steps.items replies.items) s) }
+
+        // By when it gets it, whatever the others are asked for, where each advance takes nobody's time.
         ensures never_late { IfOk result (λ replies. (M : History W) → Agrees W.meaning self.old M
             → KeepsDeadlines W.meaning (grown_by M steps.items replies.items)) }
         ensures promise { IfOk result (λ replies. (M : History W) → Agrees W.meaning self.old M
