@@ -1,5 +1,5 @@
 -- What is kept of feeds, one call after another.
-use Rattle.std.proofs.Common.{◌≡◌, ℕ, zero, suc, ◌+◌, take, ◌<◌, ◌≤◌, ◌++◌, List, [], ◌∷◌, length, get_or, map, refl, ap, ap₂, sym, ◌∙◌, subst, arith}
+use Rattle.std.proofs.Common.{◌≡◌, ℕ, zero, suc, false, ◌+◌, take, ◌<◌, ◌≤◌, ◌++◌, List, [], ◌∷◌, length, get_or, map, refl, ap, ap₂, sym, ◌∙◌, subst, arith}
 use Rattle.std.proofs.Math.ListN.{set}
 use Rattle.std.proofs.lemmas.Bool.{false≢true}
 use Rattle.std.proofs.lemmas.List.{append-nil, length-map, get_or-map, take_more, take_more_set}
@@ -11,7 +11,9 @@ use Rattle.cbs_house.specs.declared.feed.Feed.{Feed}
 use Rattle.cbs_house.specs.declared.house.House.{House}
 use Rattle.cbs_house.specs.Clients.{server_of, sent_by, SameClient}
 use Rattle.cbs_house.specs.Houses.{rings_of}
+use Rattle.cbs_house.specs.declared.message.Message.TheVariants.{Job}
 use Rattle.cbs_house.specs.Messages.{jobs_among, has_end}
+use Rattle.cbs_house.proofs.Messages.{sent-job, has_end-job}
 use Rattle.cbs_house.specs.Opened.{IsUnused}
 use Rattle.cbs_house.specs.RingEnds.{IsOpened}
 use Rattle.cbs_house.specs.Rings.{Ring}
@@ -39,6 +41,17 @@ module _ {W A : Type 0} {g : Ghosts W} where
     sent = prefix_same (sent_by a.client) (sent_by b.client) e;
     orderly = λ o t. l ∙ o (ap has_end (sym e) ∙ t);
   }
+
+  -- the client looks for a slot, and sends the first of the jobs that are left
+  pub keeps_sent : (f h : Feed W A g) (b : Client W A g) (w : W) → SameClient f.client b × (sent_by b ≡ sent_by f.client) → SameClient b h.client → sent_by h.client ≡ sent_by b ++ Job w ∷ [] → unsent_jobs f ≡ w ∷ unsent_jobs h → has_end (sent_by f.client) ≡ false → KeepsFeed f h
+  keeps_sent f h b w c s e l n =
+      let sent : sent_by h.client ≡ sent_by f.client ++ Job w ∷ [] = e ∙ ap (λ ms. ms ++ Job w ∷ []) c.1 in
+      record {
+        client = (s.0 ∙ c.0.0, s.1 ∙ c.0.1);
+        jobs = ap (λ ms. jobs_among ms ++ unsent_jobs h) sent ∙ sent-job (sent_by f.client) w (unsent_jobs h) ∙ ap (λ ws. jobs_among (sent_by f.client) ++ ws) (sym l);
+        sent = (Job w ∷ [], sym sent);
+        orderly = λ o t. absurd (false≢true (sym n ∙ sym (has_end-job (sent_by f.client) w) ∙ ap has_end (sym sent) ∙ t));
+      }
 
   pub feeds_same : (fs : List (Feed W A g)) → KeepsFeeds fs fs
   unfolding KeepsFeeds

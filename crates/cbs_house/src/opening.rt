@@ -91,8 +91,8 @@ fn open_rings<W: Work, A: Allocator + Copy>(
     let mut clients = Vec::with_capacity(alloc, usize::from(servers))?;
     for server in 0..servers {
         let (producer, consumer) = RingBuffer::new(alloc, slots)?;
-        ends.push(consumer)?;
-        clients.push(Client::new(server, producer))?;
+        ends.push_reserved(consumer);
+        clients.push_reserved(Client::new(server, producer));
     }
     Ok((Rings { ends }, clients))
 }

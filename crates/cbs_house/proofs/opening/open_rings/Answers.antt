@@ -1,4 +1,5 @@
 use Rattle.std.proofs.Common.{◌≡◌, sym, ◌∙◌, arith}
+use Rattle.std.proofs.lemmas.Grind.{common_steps}
 use Rattle.cbs_house.specs.Clients.{server_of, ring_of}
 use Rattle.cbs_house.specs.Opened.{IsNewEnd, IsUnused}
 use Rattle.cbs_house.specs.Rings.{consumer_ring}
@@ -12,11 +13,13 @@ loop-server-preserved g c =
     let made = c.in_ok-producer in
     let client = c.new-in-loop-server.result in
     let is = c.new-in-loop-server.ensures in
-    let ends' = c.push.new.self.items in
-    let clients' = c.push-in-loop-server.new.self.items in
-    let a = c.in_ok-push.ensures.items in
-    let b = c.in_ok-push-2.ensures.items in
+    let ends' = c.push_reserved.new.self.items in
+    let clients' = c.push_reserved-in-loop-server.new.self.items in
+    let a = c.push_reserved.ensures.items in
+    let b = c.push_reserved-in-loop-server.ensures.items in
     record {
+      ends = grind (arith, common_steps);
+      places = grind (arith, common_steps);
       new = All_pushed IsNewEnd l.ends.items ends' made.consumer a (record { received = made.ensures.consumer.0; known = made.ensures.consumer.1 }) l.invariant.new;
       rings = map_pushed consumer_ring ring_of l.ends.items ends' l.clients.items clients' made.consumer client a b (pair_ring made.producer made.consumer made.ensures.pair ∙ sym is.ring) l.invariant.rings;
       clients = numbered_pushed server_of l.clients.items clients' client l.server b is.server l.invariant.clients;

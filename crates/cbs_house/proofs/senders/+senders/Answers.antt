@@ -26,3 +26,14 @@ send_all-returns-clause-sends g t c =
     let parts = c.split_at_mut-front in
     let sent = c.send_both-a in
     rw parts.ensures.value (sends_both c.args.turns parts.result.0.now sent.new.front parts.result.1.now sent.new.back sent.ensures.sends.0 sent.ensures.sends.1)
+
+pub send_both-join_mut+arg2-returns : goal.send_both-join_mut+arg2-returns
+send_both-join_mut+arg2-returns g t c = let sent = c.send_all.ensures in (sent.sends, sent.count, sent.most)
+
+pub send_both-join_mut+arg3-returns : goal.send_both-join_mut+arg3-returns
+send_both-join_mut+arg3-returns g t c = let sent = c.send_all.ensures in (sent.sends, sent.count, sent.most)
+
+pub send_all-returns-in-Some-clause-most : goal.send_all-returns-in-Some-clause-most
+send_all-returns-in-Some-clause-most g t c =
+    let one : length c.args.feeds.now ≡ 1 = omega (arith, c.if-feeds-lt2.true, c.in-Some.ensures.item.3.0) in
+    rw one (omega (arith, c.send_turns.ensures.most))

@@ -19,3 +19,27 @@ loop-preserved g c =
       ];
       most = elim c.if-turn.branch [ then-turn w ↦ omega (arith, l.most, w.sent-is) | else-turn w ↦ omega (arith, l.most, w.sent-is) ];
     }
+
+pub turn-requires : goal.turn-requires
+turn-requires g c = c.loop.invariant.orderly
+
+pub returns-after-loop-clause-kept : goal.returns-after-loop-clause-kept
+returns-after-loop-clause-kept g c = c.loop.invariant.kept
+
+pub returns-after-loop-clause-count : goal.returns-after-loop-clause-count
+returns-after-loop-clause-count g c = c.loop.invariant.count
+
+pub returns-after-loop-clause-most : goal.returns-after-loop-clause-most
+returns-after-loop-clause-most g c = omega (arith, c.loop.invariant.most)
+
+pub returns-then-done-clause-kept : goal.returns-then-done-clause-kept
+returns-then-done-clause-kept g c = c.loop.invariant.kept
+
+pub returns-then-done-clause-count : goal.returns-then-done-clause-count
+returns-then-done-clause-count g c = c.loop.invariant.count
+
+pub returns-then-done-clause-most : goal.returns-then-done-clause-most
+returns-then-done-clause-most g c = omega (arith, c.loop.invariant.most)
+
+pub overflow_add-sent : goal.overflow_add-sent
+overflow_add-sent g c = omega (arith, c.loop.invariant.most)

@@ -1,9 +1,15 @@
-use Rattle.std.proofs.Common.{arith}
+use Rattle.std.proofs.Common.{sym, arith}
+use Rattle.cbs_house.proofs.Feeds.{keeps_feed, keeps_sent}
 use Rattle.cbs_house.proofs.Messages.{pushed}
 use Rattle.cbs_house.proofs.feed.Feed.turn.Goals as goal
 
+pub returns-then-ended-clause-kept : goal.returns-then-ended-clause-kept
+returns-then-ended-clause-kept g c = keeps_feed c.args.self.now
+
 pub returns-in-Some-clause-kept : goal.returns-in-Some-clause-kept
-returns-in-Some-clause-kept g c = grind (arith, pushed)
+returns-in-Some-clause-kept g c =
+    let sent = c.send_reserved.ensures in
+    keeps_sent c.args.self.now (record { client = c.send_reserved.new.self; jobs = c.pop_front.new.self }) c.has_slot.new.self c.in-Some.task c.has_slot.ensures.same sent.same sent.sent c.in-Some.ensures.items (sym c.if-ended.ensures.ended)
 
 pub returns-in-None-clause-kept : goal.returns-in-None-clause-kept
 returns-in-None-clause-kept g c = grind (arith, pushed)

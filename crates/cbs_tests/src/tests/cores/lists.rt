@@ -1,0 +1,179 @@
+//! Lists of steps, and their replies.
+
+use super::{core_of, done, filled, makes_room, same, shows, stands_at, sum_of};
+use cbs_core::{Core, CoreError, Ran, Reply, Step};
+use cbs_job::SumJob;
+use cbs_rules::{LIMIT, Mode};
+use linked_list_allocator::LocalHeap;
+use std::alloc::{Allocator, Global};
+use std::process::Abort;
+
+/// A step that submits a sum of one number, or another step.
+#[derive(Clone, Copy)]
+enum Asked {
+    Submit(u16, u32),
+    Run,
+    Advance(u64),
+    Close(u16),
+}
+
+/// A reply, with no job in it.
+#[derive(Clone, Copy, Debug, PartialEq, Eq)]
+enum Told {
+    Accepted(u64),
+    NotAccepted(CoreError),
+    Ran(Ran),
+    Advanced,
+    Closed,
+    Refused(CoreError),
+}
+
+/// The step that is asked for.
+fn step_of(rt: &impl Abort, alloc: Global, asked: Asked) -> Step<SumJob> {
+    match asked {
+        Asked::Submit(server, number) => Step::Submit(server, sum_of(rt, alloc, &[number])),
+        Asked::Run => Step::Run,
+        Asked::Advance(n) => Step::Advance(n),
+        Asked::Close(server) => Step::Close(server),
+    }
+}
+
+/// The list of these steps.
+fn steps_of<A: Allocator>(
+    rt: &impl Abort,
+    global: Global,
+    alloc: A,
+    asked: &[Asked],
+) -> Vec<Step<SumJob>, A> {
+    let mut steps = Vec::with_capacity(alloc, asked.len()).expect(rt, "memory");
+    for &step in asked {
+        let step = step_of(rt, global, step);
+        steps.push(step).ok().expect(rt, "memory");
+    }
+    steps
+}
+
+/// A reply without its job.
+fn without_job(reply: &Reply<SumJob>) -> Told {
+    match reply {
+        Reply::Accepted(number) => Told::Accepted(*number),
+        Reply::NotAccepted(refused) => Told::NotAccepted(refused.error),
+        Reply::Ran(ran) => Told::Ran(*ran),
+        Reply::Advanced => Told::Advanced,
+        Reply::Closed => Told::Closed,
+        Reply::Refused(error) => Told::Refused(*error),
+    }
+}
+
+/// Does steps, and looks for these replies.
+fn answers<A: Allocator + Clone>(
+    rt: &impl Abort,
+    core: &mut Core<SumJob, A>,
+    steps: Vec<Step<SumJob>, A>,
+    wanted: &[Told],
+) {
+    let replies = core.run_steps(steps).ok().expect(rt, "replies");
+    same(rt, "replies.len()", replies.len(), wanted.len());
+    for (reply, &want) in replies.iter().zip(wanted) {
+        same(rt, "without_job(reply)", without_job(reply), want);
+    }
+}
+
+#[test]
+fn steps_are_answered_in_order(rt: HostRuntime) {
+    let alloc = rt.alloc();
+    let mut core = core_of(&rt, alloc, Mode::Soft, &[(2, 5), (2, 5)], 4);
+    let asked = [
+        Asked::Submit(0, 7),
+        Asked::Submit(1, 9),
+        Asked::Run,
+        Asked::Run,
+    ];
+    let wanted = [
+        Told::Accepted(0),
+        Told::Accepted(0),
+        Told::Ran(done(0, 0, 7)),
+        Told::Ran(done(1, 0, 9)),
+    ];
+    answers(&rt, &mut core, steps_of(&rt, alloc, alloc, &asked), &wanted);
+    stands_at(&rt, &core, 2);
+    shows(&rt, &core, 0, (1, 5, false));
+    shows(&rt, &core, 1, (1, 5, false));
+}
+
+#[test]
+fn each_step_has_its_reply(rt: HostRuntime) {
+    let alloc = rt.alloc();
+    let mut core = core_of(&rt, alloc, Mode::Soft, &[(2, 5)], 1);
+    let asked = [
+        Asked::Submit(0, 4),
+        Asked::Submit(0, 5),
+        Asked::Close(0),
+        Asked::Close(0),
+        Asked::Advance(LIMIT),
+        Asked::Advance(1),
+        Asked::Run,
+    ];
+    let wanted = [
+        Told::Accepted(0),
+        Told::NotAccepted(CoreError::BacklogFull),
+        Told::Closed,
+        Told::Refused(CoreError::Closed),
+        Told::Advanced,
+        Told::Refused(CoreError::ClockEnd),
+        Told::Ran(Ran::ClockEnd),
+    ];
+    answers(&rt, &mut core, steps_of(&rt, alloc, alloc, &asked), &wanted);
+}
+
+/// Submits sums of 1 to the first server until memory is refused.
+fn takes_all_room(rt: &impl Abort, alloc: Global, core: &mut Core<SumJob, &LocalHeap>) -> u64 {
+    for taken in 0..64 {
+        if let Err(refused) = core.submit(0, sum_of(rt, alloc, &[1])) {
+            same(rt, "refused.error", refused.error, CoreError::OutOfMemory);
+            return taken;
+        }
+    }
+    64
+}
+
+#[test]
+fn a_step_that_finds_no_memory_is_marked(rt: HostRuntime) {
+    let alloc = rt.alloc();
+    let heap = LocalHeap::new(alloc, 1 << 13).expect(&rt, "a heap");
+    let mut core = core_of(&rt, &heap, Mode::Soft, &[(2, 5), (2, 5)], 64);
+    let asked = [
+        Asked::Submit(1, 2),
+        Asked::Run,
+        Asked::Submit(1, 2),
+        Asked::Submit(0, 3),
+        Asked::Run,
+        Asked::Submit(0, 3),
+        Asked::Run,
+    ];
+    let steps = steps_of(&rt, alloc, &heap, &asked);
+    makes_room(&rt, &mut core, 1, Ok(()));
+
+    // What is left of the heap is as long as the replies: no job finds memory. Room is found again where a job is done, and it
+    // is the next job's, of whatever server.
+    let replies: Vec<Reply<SumJob>, &LocalHeap> = Vec::with_capacity(&heap, asked.len()).expect(
+        &rt, "memory",
+    );
+    let ballast = filled(&rt, alloc, &heap);
+    let taken = takes_all_room(&rt, alloc, &mut core);
+    drop(replies);
+    let wanted = [
+        Told::NotAccepted(CoreError::OutOfMemory),
+        Told::Ran(done(0, 0, 1)),
+        Told::Accepted(0),
+        Told::NotAccepted(CoreError::OutOfMemory),
+        Told::Ran(done(0, 1, 1)),
+        Told::Accepted(taken),
+        Told::Ran(done(1, 0, 2)),
+    ];
+    answers(&rt, &mut core, steps, &wanted);
+    stands_at(&rt, &core, 3);
+    shows(&rt, &core, 0, (2, 10, false));
+    shows(&rt, &core, 1, (1, 6, false));
+    drop(ballast);
+}

@@ -1,0 +1,80 @@
+//! Jobs of each kind in each memory, and what is done where no memory is found.
+
+use super::{
+    accepts, advances, closes, core_of, done, filled, idles_for, makes_room, runs, shows,
+    stands_at, sum_of,
+};
+use cbs_core::{Core, CoreError, Ran};
+use cbs_job::{FileJob, PeakJob, SumJob, Task, Work};
+use cbs_rules::Mode;
+use linked_list_allocator::LocalHeap;
+use std::alloc::{Allocator, Global};
+use std::process::Abort;
+
+/// The task that seeks the greatest of these numbers.
+fn peak_of(rt: &impl Abort, alloc: Global, numbers: &[u32]) -> Task<PeakJob> {
+    assert!(rt; numbers.len() < 100);
+    let numbers = Vec::from_slice(alloc, numbers).expect(rt, "memory");
+    Task::new(PeakJob::new(numbers)).ok().expect(rt, "a task")
+}
+
+/// Runs a task of three units, and looks at its result.
+fn comes_to<W: Work, A: Allocator + Clone>(rt: &impl Abort, alloc: A, task: Task<W>, output: u64) {
+    let mut core = core_of(rt, alloc, Mode::Soft, &[(2, 5)], 4);
+    let answer = core.submit(0, task);
+    assert!(rt; matches!(answer, Ok(0)));
+    runs(rt, &mut core, Ran::Unit { server: 0, seq: 0 });
+    runs(rt, &mut core, Ran::Unit { server: 0, seq: 0 });
+    runs(rt, &mut core, done(0, 0, output));
+    shows(rt, &core, 0, (1, 10, false));
+}
+
+/// Runs a sum and a peak, each as itself and as a job of a task file.
+fn all_come_to<A: Allocator + Clone + Copy>(rt: &impl Abort, global: Global, alloc: A) {
+    comes_to(rt, alloc, sum_of(rt, global, &[1, 2, 3]), 6);
+    comes_to(rt, alloc, peak_of(rt, global, &[4, 9, 2]), 9);
+    let sum = SumJob::new(Vec::from_slice(global, &[1, 2, 3]).expect(rt, "memory"));
+    let peak = PeakJob::new(Vec::from_slice(global, &[4, 9, 2]).expect(rt, "memory"));
+    let sum = Task::new(FileJob::Sum(sum)).ok().expect(rt, "a task");
+    let peak = Task::new(FileJob::Peak(peak)).ok().expect(rt, "a task");
+    comes_to(rt, alloc, sum, 6);
+    comes_to(rt, alloc, peak, 9);
+}
+
+#[test]
+fn jobs_of_any_kind_run_in_any_memory(rt: HostRuntime) {
+    let alloc = rt.alloc();
+    all_come_to(&rt, alloc, alloc);
+    let heap = LocalHeap::new(alloc, 1 << 12).expect(&rt, "a heap");
+    all_come_to(&rt, alloc, &heap);
+}
+
+/// What a core of two servers does while no memory is found: there is room for one job.
+fn works_without_memory(rt: &impl Abort, alloc: Global, core: &mut Core<SumJob, &LocalHeap>) {
+    closes(rt, core, 0, Ok(()));
+    runs(rt, core, Ran::Idle);
+    accepts(rt, core, 1, sum_of(rt, alloc, &[1, 2, 3]), 0);
+    closes(rt, core, 1, Ok(()));
+    runs(rt, core, Ran::Unit { server: 1, seq: 0 });
+    runs(rt, core, Ran::Unit { server: 1, seq: 0 });
+    runs(rt, core, Ran::Idle);
+    idles_for(rt, core, Some(3));
+    advances(rt, core, 7, Ok(()));
+    shows(rt, core, 1, (2, 10, false));
+    runs(rt, core, done(1, 0, 6));
+    stands_at(rt, core, 10);
+}
+
+#[test]
+fn room_is_enough_for_the_next_job(rt: HostRuntime) {
+    let alloc = rt.alloc();
+    let heap = LocalHeap::new(alloc, 1 << 12).expect(&rt, "a heap");
+    let mut core = core_of(&rt, &heap, Mode::Throttled, &[(2, 5), (2, 5)], 4);
+    let ballast = filled(&rt, alloc, &heap);
+    makes_room(&rt, &mut core, 1, Err(CoreError::OutOfMemory));
+    drop(ballast);
+    makes_room(&rt, &mut core, 1, Ok(()));
+    let ballast = filled(&rt, alloc, &heap);
+    works_without_memory(&rt, alloc, &mut core);
+    drop(ballast);
+}

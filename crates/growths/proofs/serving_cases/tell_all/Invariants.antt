@@ -1,5 +1,0 @@
-use Rattle.cbs_house.specs.Rounds.{Ready}
-use Rattle.growths.proofs.serving_cases.tell_all.Given as goal
-
-abbrev pub invariant-loop-index : goal.invariant-loop-index
-invariant-loop-index g l = Ready l.house l.feeds

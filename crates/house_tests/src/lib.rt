@@ -1,5 +1,0 @@
-//! Tests of cbs_house.
-#![tactic(auto)]
-
-#[cfg(test)]
-mod tests;

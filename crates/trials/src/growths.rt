@@ -1,0 +1,58 @@
+//! Makes one call, of which the word says which, and tells what it is answered. Just before the call it prints
+//! the line `call`, and just behind it another: between the two, `scripts/growths` refuses memory. Most calls
+//! are made once more then, with memory.
+
+mod core_cases;
+mod house_cases;
+mod serving_cases;
+mod telling;
+mod wide;
+
+use anyhow::{Result, bail};
+use std::alloc::Global;
+use std::thread::Threads;
+use std::time::Clock;
+
+/// The words of all calls.
+const CASES: [&str; 12] = [
+    "core",
+    "make_room",
+    "submit",
+    "run_steps",
+    "open_house",
+    "feeds_of",
+    "collector",
+    "collector_room",
+    "expect",
+    "poll",
+    "serve_round",
+    "serve",
+];
+
+/// Makes the call of this word.
+pub fn make<R: Print + Threads + Clock + Sync>(rt: &R, alloc: Global, case: &str) -> Result<()> {
+    match case {
+        "core" => core_cases::new_core(rt, alloc),
+        "make_room" => core_cases::make_room(rt, alloc),
+        "submit" => core_cases::submit(rt, alloc),
+        "run_steps" => core_cases::run_steps(rt, alloc),
+        "open_house" => house_cases::new_house(rt, alloc),
+        "feeds_of" => house_cases::feeds(rt, alloc),
+        "collector" => house_cases::new_collector(rt, alloc),
+        "collector_room" => house_cases::collector_room(rt, alloc),
+        "expect" => house_cases::announce(rt, alloc),
+        "poll" => house_cases::poll(rt, alloc),
+        "serve_round" => serving_cases::round(rt, alloc),
+        "serve" => serving_cases::whole(rt, alloc),
+        _ => bail!("no such call: {case}"),
+    }
+}
+
+/// Makes all calls in turn.
+pub fn make_all<R: Print + Threads + Clock + Sync>(rt: &R, alloc: Global) -> Result<()> {
+    for case in CASES {
+        println!(rt; "== {case}")?;
+        make(rt, alloc, case)?;
+    }
+    Ok(())
+}

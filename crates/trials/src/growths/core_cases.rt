@@ -1,0 +1,141 @@
+//! The calls of the core that take memory.
+
+use super::telling::{begin, tell};
+use super::wide::{WideJob, wide};
+use crate::setup::{plan_of, sum_of};
+use anyhow::Result;
+use cbs_core::{Core, CoreError, Reply, Step};
+use cbs_job::{SumJob, Task, Work};
+use cbs_rate::Plan;
+use cbs_rules::{Mode, Modes};
+use std::alloc::Global;
+
+/// Why a core of this plan is refused.
+fn refusal(alloc: Global, plan: Plan) -> Option<CoreError> {
+    let modes = Modes::uniform(Mode::Soft, plan.len() as u16);
+    Core::<SumJob>::new(alloc, plan, modes, 4).err()
+}
+
+/// A core of two servers.
+pub fn new_core(rt: &impl Print, alloc: Global) -> Result<()> {
+    let plan = plan_of(&[(2, 5), (2, 5)])?;
+    let same = plan_of(&[(2, 5), (2, 5)])?;
+    begin(rt);
+    tell(rt, "first", refusal(alloc, plan));
+    tell(rt, "again", refusal(alloc, same));
+    Ok(())
+}
+
+/// A soft core of one server with 2 ticks in every 5.
+fn core_of_one<W: Work>(alloc: Global) -> Result<Core<W>> {
+    let plan = plan_of(&[(2, 5)])?;
+    let modes = Modes::uniform(Mode::Soft, plan.len() as u16);
+    Ok(Core::new(alloc, plan, modes, 4)?)
+}
+
+// Each call stands in a function of its own, which promises nothing: so a case that makes many is proved
+// fast.
+
+/// Prints what is seen of a core.
+fn shows<W: Work>(rt: &impl Print, core: &Core<W>) {
+    tell(rt, "now", core.now());
+    tell(rt, "ready", core.ready());
+    tell(rt, "view", core.view(0));
+}
+
+/// Room for a job.
+pub fn make_room(rt: &impl Print, alloc: Global) -> Result<()> {
+    let mut core = core_of_one::<SumJob>(alloc)?;
+    begin(rt);
+    makes_room(rt, "first", &mut core);
+    shows(rt, &core);
+    makes_room(rt, "again", &mut core);
+    Ok(())
+}
+
+/// Makes room, and tells the answer.
+fn makes_room(rt: &impl Print, what: &str, core: &mut Core<SumJob>) {
+    tell(rt, what, core.make_room(0));
+}
+
+/// A job.
+pub fn submit(rt: &impl Print, alloc: Global) -> Result<()> {
+    let mut core = core_of_one(alloc)?;
+    let task = sum_of(alloc, [1, 2, 3])?;
+    begin(rt);
+    if let Some(task) = submitted(rt, &mut core, task) {
+        shows(rt, &core);
+        submitted(rt, &mut core, task);
+    }
+    shows(rt, &core);
+    Ok(())
+}
+
+/// Submits a job, and tells the answer. The job, if it comes back.
+fn submitted(rt: &impl Print, core: &mut Core<SumJob>, task: Task<SumJob>) -> Option<Task<SumJob>> {
+    match core.submit(0, task) {
+        Ok(number) => {
+            tell(rt, "accepted", number);
+            None
+        }
+        Err(refused) => {
+            tell(rt, "came back", (refused.error, refused.task.left()));
+            Some(refused.task)
+        }
+    }
+}
+
+/// Three submits and three runs.
+fn six_steps(alloc: Global) -> Result<Vec<Step<WideJob>>> {
+    let mut steps = Vec::with_capacity(alloc, 6)?;
+    for number in [1, 2, 3] {
+        steps.push(Step::Submit(0, wide(number)?))?;
+    }
+    for _run in 0..3 {
+        steps.push(Step::Run)?;
+    }
+    Ok(steps)
+}
+
+/// A list of steps.
+pub fn run_steps(rt: &impl Print, alloc: Global) -> Result<()> {
+    let mut core = core_of_one(alloc)?;
+    let steps = six_steps(alloc)?;
+    begin(rt);
+    if let Some(steps) = made(rt, &mut core, steps) {
+        shows(rt, &core);
+        made(rt, &mut core, steps);
+    }
+    shows(rt, &core);
+    Ok(())
+}
+
+/// Makes steps, and tells the replies. The steps, if they come back.
+fn made(
+    rt: &impl Print,
+    core: &mut Core<WideJob>,
+    steps: Vec<Step<WideJob>>,
+) -> Option<Vec<Step<WideJob>>> {
+    match core.run_steps(steps) {
+        Ok(replies) => {
+            for reply in &replies {
+                tell_reply(rt, reply);
+            }
+            None
+        }
+        Err(refused) => {
+            tell(rt, "steps that came back", refused.steps.len());
+            Some(refused.steps)
+        }
+    }
+}
+
+/// Prints the reply to a submit or a run.
+fn tell_reply(rt: &impl Print, reply: &Reply<WideJob>) {
+    match reply {
+        Reply::Accepted(number) => tell(rt, "accepted", *number),
+        Reply::NotAccepted(refused) => tell(rt, "not accepted", refused.error),
+        Reply::Ran(ran) => tell(rt, "ran", *ran),
+        Reply::Advanced | Reply::Closed | Reply::Refused(_) => tell(rt, "another reply", ()),
+    }
+}

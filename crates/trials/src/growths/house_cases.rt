@@ -1,0 +1,198 @@
+//! The calls of the house and the collector that take memory.
+
+ghost use Rattle.std.specs.Prelude.{◌≡◌, length, IfOk};
+ghost use Rattle.cbs_house.specs.Clients.{SameClient};
+ghost use Rattle.cbs_house.specs.Houses.{rings_of};
+ghost use Rattle.cbs_house.specs.RingEnds.{IsOpened};
+
+use super::telling::{begin, tell};
+use crate::setup::{plan_of, unit_of};
+use anyhow::{Result, bail, ensure};
+use cbs_house::{
+    Client, CollectError, Collector, FeedsRefused, House, HouseError, feeds_of, open_house,
+};
+use cbs_job::{Completion, SumJob, Task};
+use cbs_rate::Plan;
+use cbs_rules::{Mode, Modes};
+use std::alloc::Global;
+
+/// Why a house of this plan is refused.
+fn refusal(alloc: Global, plan: Plan) -> Option<HouseError> {
+    let modes = Modes::uniform(Mode::Soft, plan.len() as u16);
+    open_house::<SumJob, Global>(alloc, plan, modes, 4, 4).err()
+}
+
+/// A house of two servers.
+pub fn new_house(rt: &impl Print, alloc: Global) -> Result<()> {
+    let plan = plan_of(&[(2, 5), (2, 5)])?;
+    let same = plan_of(&[(2, 5), (2, 5)])?;
+    begin(rt);
+    tell(rt, "first", refusal(alloc, plan));
+    tell(rt, "again", refusal(alloc, same));
+    Ok(())
+}
+
+/// Feeds of two clients.
+pub fn feeds(rt: &impl Print, alloc: Global) -> Result<()> {
+    let plan = plan_of(&[(2, 5), (2, 5)])?;
+    let modes = Modes::uniform(Mode::Soft, plan.len() as u16);
+    let (_house, clients) = open_house(alloc, plan, modes, 4, 4)?;
+    let mut lists = Vec::with_capacity(alloc, 2)?;
+    lists.push(Vec::from_array(alloc, [unit_of(alloc, 5)?])?)?;
+    lists.push(Vec::new(alloc))?;
+    ensure!(clients.len() == lists.len(), "not a list for each client");
+    begin(rt);
+    if let Some(back) = fed(rt, alloc, clients, lists) {
+        ensure!(
+            back.clients.len() == back.lists.len(),
+            "not as many came back"
+        );
+        fed(rt, alloc, back.clients, back.lists);
+    }
+    Ok(())
+}
+
+/// Asks for feeds, and tells the answer. What was given, if it comes back.
+fn fed(
+    rt: &impl Print,
+    alloc: Global,
+    clients: Vec<Client<SumJob>>,
+    lists: Vec<Vec<Task<SumJob>>>,
+) -> Option<FeedsRefused<SumJob>>
+    requires { length lists.items ≡ length clients.items }
+{
+    match feeds_of(alloc, clients, lists) {
+        Ok(feeds) => {
+            tell(rt, "feeds", feeds.len());
+            None
+        }
+        Err(refused) => {
+            tell(rt, "clients that came back", refused.clients.len());
+            tell(rt, "lists that came back", refused.lists.len());
+            Some(refused)
+        }
+    }
+}
+
+/// Why a collector is refused.
+fn collector_refusal(alloc: Global) -> Option<CollectError> {
+    Collector::new(alloc, 2).err()
+}
+
+/// A collector of the results of two servers.
+pub fn new_collector(rt: &impl Print, alloc: Global) -> Result<()> {
+    begin(rt);
+    tell(rt, "first", collector_refusal(alloc));
+    tell(rt, "again", collector_refusal(alloc));
+    Ok(())
+}
+
+/// Makes a place for one more result.
+fn makes_place(rt: &impl Print, what: &str, collector: &mut Collector) {
+    tell(rt, what, collector.make_room(0));
+}
+
+/// Announces a completion.
+fn announces(rt: &impl Print, what: &str, collector: &mut Collector) {
+    tell(rt, what, collector.expect(0));
+}
+
+/// Gives the completion of a job.
+fn takes(rt: &impl Print, what: &str, collector: &mut Collector, seq: u64, output: u64) {
+    let done = Completion {
+        server: 0,
+        seq,
+        result: output,
+    };
+    tell(rt, what, collector.take(done));
+}
+
+/// Prints the results.
+fn tell_results(rt: &impl Print, collector: &Collector) {
+    tell(rt, "results", collector.results(0));
+}
+
+/// A place for a result, and no announcement.
+pub fn collector_room(rt: &impl Print, alloc: Global) -> Result<()> {
+    let mut collector = Collector::new(alloc, 1)?;
+    begin(rt);
+    makes_place(rt, "first", &mut collector);
+    takes(rt, "take", &mut collector, 0, 6);
+    makes_place(rt, "again", &mut collector);
+    takes(rt, "take", &mut collector, 0, 6);
+    tell_results(rt, &collector);
+    Ok(())
+}
+
+/// A completion that is announced.
+pub fn announce(rt: &impl Print, alloc: Global) -> Result<()> {
+    let mut collector = Collector::new(alloc, 1)?;
+    begin(rt);
+    announces(rt, "first", &mut collector);
+    takes(rt, "take", &mut collector, 0, 6);
+    announces(rt, "again", &mut collector);
+    takes(rt, "take", &mut collector, 0, 6);
+    takes(rt, "take the next", &mut collector, 1, 7);
+    tell_results(rt, &collector);
+    Ok(())
+}
+
+/// A soft house of one server with 2 ticks in every 5, and its client.
+fn house_of_one(alloc: Global) -> Result<(House<SumJob>, Client<SumJob>)>
+    ensures { IfOk result (λ r. IsOpened (rings_of r.0) r.1) }
+{
+    let plan = plan_of(&[(2, 5)])?;
+    let modes = Modes::uniform(Mode::Soft, plan.len() as u16);
+    let (house, mut clients) = open_house(alloc, plan, modes, 4, 4)?;
+    let Some(client) = clients.pop() else {
+        bail!("a house without a client");
+    };
+    Ok((house, client))
+}
+
+/// Sends a job, and tells its number.
+fn sends(rt: &impl Print, client: &mut Client<SumJob>, task: Task<SumJob>)
+    ensures { SameClient client.old client.new }
+{
+    match client.send(task) {
+        Ok(number) => tell(rt, "sent", number),
+        Err(refused) => tell(rt, "not sent", refused.error),
+    }
+}
+
+/// Polls the server.
+fn polls(rt: &impl Print, what: &str, house: &mut House<SumJob>)
+    ensures { rings_of house.new ≡ rings_of house.old }
+{
+    tell(rt, what, house.poll(0));
+}
+
+/// Tells how many messages stand in the ring.
+fn settles(rt: &impl Print, house: &mut House<SumJob>, client: &mut Client<SumJob>)
+    requires { IsOpened (rings_of house.old) client.old }
+    ensures rings { rings_of house.new ≡ rings_of house.old }
+    ensures client { SameClient client.old client.new }
+{
+    tell(rt, "settle", house.settle(client));
+}
+
+/// Runs all jobs, and prints what is seen.
+fn drains(rt: &impl Print, house: &mut House<SumJob>) {
+    tell(rt, "drain", house.drain());
+    tell(rt, "results", house.results(0));
+}
+
+/// A poll of a ring with two messages.
+pub fn poll(rt: &impl Print, alloc: Global) -> Result<()> {
+    let (mut house, mut client) = house_of_one(alloc)?;
+    sends(rt, &mut client, unit_of(alloc, 5)?);
+    sends(rt, &mut client, unit_of(alloc, 7)?);
+    begin(rt);
+    polls(rt, "first", &mut house);
+    settles(rt, &mut house, &mut client);
+    tell(rt, "view", house.view(0));
+    polls(rt, "again", &mut house);
+    settles(rt, &mut house, &mut client);
+    drains(rt, &mut house);
+    Ok(())
+}

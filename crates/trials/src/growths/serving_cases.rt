@@ -1,0 +1,137 @@
+//! Serving, by a round and to the end.
+
+ghost use Rattle.std.specs.Prelude.{◌<◌, ◌≡◌, length, IfOk};
+ghost use Rattle.cbs_house.specs.Rounds.{Ready};
+
+use super::telling::{begin, tell};
+use crate::setup::{fed, plan_of, sum_of, unit_of};
+use anyhow::Result;
+use cbs_house::{Feed, House, OpenGate, serve, serve_round};
+use cbs_job::{SumJob, Task};
+use cbs_rules::{Mode, Modes};
+use std::alloc::Global;
+use std::thread::Threads;
+use std::time::Clock;
+
+/// So many turns that a round ends because all is taken.
+const TURNS: u64 = 100_000;
+
+/// Jobs of three servers, of which the second has none.
+fn job_lists(alloc: Global) -> Result<Vec<Vec<Task<SumJob>>>> {
+    let mut lists = Vec::with_capacity(alloc, 3)?;
+    let first = [sum_of(alloc, [1, 2, 3])?, unit_of(alloc, 9)?];
+    lists.push(Vec::from_array(alloc, first)?)?;
+    lists.push(Vec::new(alloc))?;
+    let last = [unit_of(alloc, 10)?, sum_of(alloc, [20, 30, 0])?];
+    lists.push(Vec::from_array(alloc, last)?)?;
+    Ok(lists)
+}
+
+/// A house of three servers, and a feed of the jobs of each.
+fn three_fed(alloc: Global) -> Result<(House<SumJob>, Vec<Feed<SumJob>>)>
+    ensures { IfOk result (λ r. Ready r.0 r.1.items) }
+{
+    let plan = plan_of(&[(2, 5), (1, 10), (1, 4)])?;
+    let modes = Modes::uniform(Mode::Soft, plan.len() as u16);
+    fed(alloc, plan, modes, 4, 4, job_lists(alloc)?)
+}
+
+/// How many messages stand in the ring of the feed at this index.
+fn standing(house: &mut House<SumJob>, feeds: &mut [Feed<SumJob>], index: usize) -> u64
+    requires ready { Ready house.old feeds.old }
+    requires within { index < length feeds.old }
+    ensures ready { Ready house.new feeds.new }
+    ensures count { length feeds.new ≡ length feeds.old }
+{
+    let feed = &mut feeds[index];
+    house.settle(feed.client())
+}
+
+/// Prints where the jobs of a server's feed are, of which so many messages stand in the ring: not sent, in
+/// the ring, held by the core, or among the results.
+fn tell_feed(
+    rt: &impl Print,
+    house: &House<SumJob>,
+    server: u16,
+    feed: &Feed<SumJob>,
+    standing: u64,
+) {
+    let Ok(view) = house.view(server) else {
+        return;
+    };
+    let ends = u64::from(feed.done() && !view.closed);
+    tell(rt, "server", server);
+    tell(rt, "left", feed.left());
+    tell(rt, "in the ring", standing.saturating_sub(ends));
+    tell(rt, "held", view.accepted.saturating_sub(view.finished));
+    tell(rt, "results", house.results(server));
+}
+
+/// Prints where all jobs are.
+fn tell_all(rt: &impl Print, house: &mut House<SumJob>, feeds: &mut [Feed<SumJob>])
+    requires { Ready house.old feeds.old }
+    ensures { Ready house.new feeds.new }
+{
+    for index in 0..feeds.len() {
+        let standing = standing(house, feeds, index);
+        tell_feed(rt, house, index as u16, &feeds[index], standing);
+    }
+}
+
+/// Serves the feeds, and tells the answer.
+fn serves<R: Print + Threads + Clock + Sync>(
+    rt: &R,
+    what: &str,
+    house: &mut House<SumJob>,
+    feeds: &mut [Feed<SumJob>],
+)
+    requires { Ready house.old feeds.old }
+    ensures { Ready house.new feeds.new }
+{
+    let answer = serve(rt, house, feeds, &OpenGate);
+    tell(rt, what, answer);
+}
+
+/// Takes a round in which all is sent and taken, and then serves.
+fn take_round<R: Print + Threads + Clock + Sync>(
+    rt: &R,
+    house: &mut House<SumJob>,
+    feeds: &mut [Feed<SumJob>],
+)
+    requires { Ready house.old feeds.old }
+{
+    let round = serve_round(rt, house, feeds, TURNS, &OpenGate);
+    tell(rt, "round", round);
+    serves(rt, "serve", house, feeds);
+    tell_all(rt, house, feeds);
+}
+
+/// Serves feeds to their end, twice.
+fn serve_twice<R: Print + Threads + Clock + Sync>(
+    rt: &R,
+    house: &mut House<SumJob>,
+    feeds: &mut [Feed<SumJob>],
+)
+    requires { Ready house.old feeds.old }
+{
+    serves(rt, "first", house, feeds);
+    tell_all(rt, house, feeds);
+    serves(rt, "again", house, feeds);
+    tell_all(rt, house, feeds);
+}
+
+/// A round.
+pub fn round<R: Print + Threads + Clock + Sync>(rt: &R, alloc: Global) -> Result<()> {
+    let (mut house, mut feeds) = three_fed(alloc)?;
+    begin(rt);
+    take_round(rt, &mut house, &mut feeds);
+    Ok(())
+}
+
+/// Feeds that are served to their end.
+pub fn whole<R: Print + Threads + Clock + Sync>(rt: &R, alloc: Global) -> Result<()> {
+    let (mut house, mut feeds) = three_fed(alloc)?;
+    begin(rt);
+    serve_twice(rt, &mut house, &mut feeds);
+    Ok(())
+}

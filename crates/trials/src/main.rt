@@ -1,0 +1,49 @@
+//! What is tried from outside: calls that scripts refuse memory to, loads that are served with random delays, and
+//! how long calls take.
+//!
+//! `growth CALL` makes the call of that word, `soak` serves the load on standard input, and `bench` prints the
+//! table of times. With no word, all calls are made in turn, the load is served, and the cases of the table are
+//! made shortly.
+#![tactic(auto)]
+
+mod growths;
+mod setup;
+mod soak;
+mod times;
+
+use anyhow::{Context, Result, bail};
+use std::alloc::Global;
+use std::thread::Threads;
+use std::time::Clock;
+use std::{env, io};
+
+/// All that there is to try, shortly.
+fn try_all<R: Print + Threads + Clock + Sync>(rt: &R, alloc: Global, load: &str) -> Result<()> {
+    growths::make_all(rt, alloc)?;
+    println!(rt; "== soak")?;
+    soak::serve_load(rt, alloc, load)?;
+    println!(rt; "== bench")?;
+    times::print_table(rt, alloc, true)
+}
+
+/// The load on standard input.
+fn load_given(rt: &HostRuntime) -> Result<String> {
+    Ok(io::read_to_string(rt.alloc(), rt.reader())?)
+}
+
+fn main(rt: HostRuntime) -> Result<()> {
+    let alloc = rt.alloc();
+    let mut words = env::args(&rt)?.skip(1);
+    let Some(word) = words.next() else {
+        return try_all(&rt, alloc, load_given(&rt)?.as_str());
+    };
+    match word.as_str() {
+        "growth" => {
+            let call = words.next().context("usage: growth CALL")?;
+            growths::make(&rt, alloc, call.as_str())
+        }
+        "soak" => soak::serve_load(&rt, alloc, load_given(&rt)?.as_str()),
+        "bench" => times::print_table(&rt, alloc, false),
+        _ => bail!("usage: [growth CALL | soak | bench]"),
+    }
+}

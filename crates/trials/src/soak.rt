@@ -1,0 +1,52 @@
+//! Serves a load to clients that are delayed at random, and prints the results of
+//! each server. Whatever the delays, they are those of its jobs, in order.
+
+mod gate;
+mod load;
+
+use crate::setup::fed;
+use anyhow::{Result, ensure};
+use cbs_house::{House, serve};
+use cbs_job::FileJob;
+use gate::RandomDelays;
+use load::read_load;
+use std::alloc::Global;
+use std::thread::Threads;
+use std::time::Clock;
+
+/// Prints a line for each of so many servers.
+fn print_results(rt: &impl Print, house: &House<FileJob>, servers: u16) -> Result<()> {
+    for server in 0..servers {
+        print!(rt; "server {server}:")?;
+        for result in house.results(server)? {
+            print!(rt; " {result}")?;
+        }
+        println!(rt)?;
+    }
+    Ok(())
+}
+
+/// Serves the load of this text, and prints the results.
+pub fn serve_load<R: Print + Threads + Clock + Sync>(
+    rt: &R,
+    alloc: Global,
+    text: &str,
+) -> Result<()> {
+    let load = read_load(alloc, text)?;
+    ensure!(
+        load.modes.len() == load.plan.len(),
+        "not a mode for each server"
+    );
+    let servers = load.plan.len() as u16;
+    let gate = RandomDelays::new(load.seed);
+    let (mut house, mut feeds) = fed(
+        alloc,
+        load.plan,
+        load.modes,
+        load.backlog,
+        load.ring,
+        load.jobs,
+    )?;
+    serve(rt, &mut house, &mut feeds, &gate)?;
+    print_results(rt, &house, servers)
+}

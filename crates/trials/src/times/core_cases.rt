@@ -1,0 +1,72 @@
+//! What is timed of the core.
+
+use super::count::CountJob;
+use super::setup::{LONG, core_of, fill};
+use super::timing::Timing;
+use anyhow::Result;
+use cbs_core::{Core, Ran};
+use cbs_rules::Mode;
+use std::alloc::Global;
+use std::time::{Clock, Instant};
+
+/// Run steps with nobody idle. Where all servers are throttled, the clock advances by a tick.
+pub fn run_steps(
+    rt: &impl Clock,
+    alloc: Global,
+    servers: u16,
+    least: u64,
+    mode: Mode,
+    steps: u64,
+) -> Result<Timing> {
+    let mut core = core_of(alloc, servers, least, mode)?;
+    fill(&mut core, servers, 4, LONG)?;
+    let start = Instant::now(rt)?;
+    for _step in 0..steps {
+        if let Ran::Idle = core.run() {
+            core.advance(1)?;
+        }
+    }
+    let spent = start.elapsed(rt)?;
+    Ok(Timing {
+        spent,
+        made: core.now(),
+    })
+}
+
+/// Jobs of one unit, 64 of each server at a time: their submits and their units.
+pub fn submits(rt: &impl Clock, alloc: Global, servers: u16, jobs: u64) -> Result<Timing> {
+    let mut core = core_of(alloc, servers, 1, Mode::Soft)?;
+    let batch = 64 * u64::from(servers);
+    let start = Instant::now(rt)?;
+    for _round in 0..jobs / batch.max(1) {
+        fill(&mut core, servers, 64, 1)?;
+        run_batch(&mut core, batch);
+    }
+    let spent = start.elapsed(rt)?;
+    Ok(Timing {
+        spent,
+        made: core.now(),
+    })
+}
+
+/// So many run steps.
+fn run_batch(core: &mut Core<CountJob>, steps: u64) {
+    for _step in 0..steps {
+        core.run();
+    }
+}
+
+/// Advances by one tick while all servers are ready.
+pub fn advances(rt: &impl Clock, alloc: Global, servers: u16, ticks: u64) -> Result<Timing> {
+    let mut core = core_of(alloc, servers, 1, Mode::Soft)?;
+    fill(&mut core, servers, 1, LONG)?;
+    let start = Instant::now(rt)?;
+    for _tick in 0..ticks {
+        core.advance(1)?;
+    }
+    let spent = start.elapsed(rt)?;
+    Ok(Timing {
+        spent,
+        made: core.now(),
+    })
+}

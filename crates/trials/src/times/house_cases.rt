@@ -1,0 +1,98 @@
+//! What is timed of the house.
+
+ghost use Rattle.std.specs.Prelude.{IfOk};
+ghost use Rattle.cbs_house.specs.Rounds.{Ready};
+
+use super::count::{CountJob, counting};
+use super::setup::{BACKLOG, plan_of};
+use super::timing::Timing;
+use crate::setup::fed;
+use anyhow::{Context, Result, ensure};
+use cbs_house::{Feed, House, OpenGate, Poll, open_house, serve};
+use cbs_job::Task;
+use cbs_rules::{Mode, Modes};
+use std::alloc::Global;
+use std::thread::Threads;
+use std::time::{Clock, Instant};
+
+/// Polls of empty rings, of all servers in turn.
+pub fn polls(rt: &impl Clock, alloc: Global, servers: u16, polls: u64) -> Result<Timing> {
+    let plan = plan_of(servers, 1)?;
+    let modes = Modes::uniform(Mode::Soft, plan.len() as u16);
+    let (mut house, _clients) = open_house(alloc, plan, modes, BACKLOG, 64)?;
+    let turns = polls / u64::from(servers.max(1));
+    let start = Instant::now(rt)?;
+    for _turn in 0..turns {
+        ensure!(poll_all(&mut house), "a ring is not empty");
+    }
+    let spent = start.elapsed(rt)?;
+    let made = turns.saturating_mul(u64::from(servers));
+    Ok(Timing { spent, made })
+}
+
+/// Polls each server once. Whether all rings were empty.
+fn poll_all(house: &mut House<CountJob>) -> bool {
+    for server in 0..house.servers() {
+        if house.poll(server) != Poll::Nothing {
+            return false;
+        }
+    }
+    true
+}
+
+/// Serves clients on threads of their own, which send jobs of one unit over rings of 64.
+pub fn messages<R: Threads + Clock + Sync>(
+    rt: &R,
+    alloc: Global,
+    servers: u16,
+    jobs: u64,
+) -> Result<Timing> {
+    let each = jobs / u64::from(servers.max(1));
+    let (mut house, mut feeds) = opened(alloc, servers, each)?;
+    let start = Instant::now(rt)?;
+    serve(rt, &mut house, &mut feeds, &OpenGate)?;
+    let spent = start.elapsed(rt)?;
+    for server in 0..servers {
+        let results = house.results(server)?.len() as u64;
+        ensure!(
+            results == each,
+            "server {server} has {results} results of {each}"
+        );
+    }
+    let made = each.saturating_mul(u64::from(servers));
+    Ok(Timing { spent, made })
+}
+
+/// A house, and a feed of so many jobs of one unit for each server.
+fn opened(alloc: Global, servers: u16, jobs: u64) -> Result<(House<CountJob>, Vec<Feed<CountJob>>)>
+    ensures { IfOk result (λ r. Ready r.0 r.1.items) }
+{
+    let plan = plan_of(servers, 1)?;
+    let modes = Modes::uniform(Mode::Soft, plan.len() as u16);
+    fed(
+        alloc,
+        plan,
+        modes,
+        BACKLOG,
+        64,
+        job_lists(alloc, servers, jobs)?,
+    )
+}
+
+/// So many jobs of one unit for each server.
+fn job_lists(alloc: Global, servers: u16, jobs: u64) -> Result<Vec<Vec<Task<CountJob>>>> {
+    let mut lists = Vec::new(alloc);
+    for _server in 0..servers {
+        lists.push(job_list(alloc, jobs)?)?;
+    }
+    Ok(lists)
+}
+
+/// So many jobs of one unit.
+fn job_list(alloc: Global, jobs: u64) -> Result<Vec<Task<CountJob>>> {
+    let mut list = Vec::new(alloc);
+    for _job in 0..jobs {
+        list.push(counting(1).context("no such job")?)?;
+    }
+    Ok(list)
+}

@@ -1,0 +1,43 @@
+//! The executors that are timed.
+
+use super::count::{CountJob, counting};
+use anyhow::{Context, Result};
+use cbs_core::Core;
+use cbs_rate::{Bound, Plan, Reservation};
+use cbs_rules::{Mode, Modes};
+use std::alloc::Global;
+
+/// The greatest backlog.
+pub const BACKLOG: u64 = 4096;
+
+/// A unit count that no case comes to the end of.
+pub const LONG: u32 = 1_000_000;
+
+/// Equal shares of the whole: budgets of `least` to four times that, and periods of `servers` budgets.
+pub fn plan_of(servers: u16, least: u64) -> Result<Plan> {
+    let mut plan = Plan::new(Bound::new(1, 1)?);
+    for server in 0..servers {
+        let budget = least.saturating_mul(1 + u64::from(server % 4));
+        let period = budget.saturating_mul(u64::from(servers));
+        plan.admit(Reservation::new(budget, period)?)?;
+    }
+    Ok(plan)
+}
+
+/// A core with such a plan and nothing to do.
+pub fn core_of(alloc: Global, servers: u16, least: u64, mode: Mode) -> Result<Core<CountJob>> {
+    let plan = plan_of(servers, least)?;
+    let modes = Modes::uniform(mode, plan.len() as u16);
+    Ok(Core::new(alloc, plan, modes, BACKLOG)?)
+}
+
+/// Gives each server so many jobs of so many units.
+pub fn fill(core: &mut Core<CountJob>, servers: u16, jobs: u64, units: u32) -> Result<()> {
+    for _job in 0..jobs {
+        for server in 0..servers {
+            let task = counting(units).context("no such job")?;
+            core.submit(server, task).map_err(|refused| refused.error)?;
+        }
+    }
+    Ok(())
+}
