@@ -33,8 +33,8 @@ fn serves(rt: &impl Abort, core: &mut Core<SumJob>, server: u16) {
 }
 
 /// Runs the last unit of a server's first job, and looks that nobody is late.
-fn finishes(rt: &impl Abort, core: &mut Core<SumJob>, server: u16, result: u64) {
-    runs(rt, core, done(server, 0, result));
+fn finishes(rt: &impl Abort, core: &mut Core<SumJob>, server: u16, output: u64) {
+    runs(rt, core, done(server, 0, output));
     same(rt, "late servers", late(core), 0);
 }
 
