@@ -37,6 +37,16 @@ Saved as FIRST.toml, it is run by
   cbsrun replay FIRST.toml
   cbsrun serve FIRST.toml
 
+Guaranteed, for soft and throttled servers, whatever the clients ask for:
+  - No server takes more than its share: its deadline pays for what it gets, by a
+    period for each budget.
+  - No server is ever late, and each job is finished by a tick that is known when it
+    is accepted, as long as no advance comes where somebody is ready before its last
+    tick. serve makes no other advances.
+Not guaranteed:
+  - Time. A tick is one unit of one job, however long that takes.
+  - That an advance takes nobody's time. One where somebody is ready does.
+
 A file that may want more than 2048 MiB of memory while it is read is refused, with
 status 3. CBSRUN_MEMORY, in the environment, is another bound, in MiB.
 
