@@ -8,6 +8,7 @@ pub mod ClosedServers
 pub mod MadeSteps
 pub mod Moves
 pub mod Turns
+pub mod OwnTurns
 pub mod StandingMessages
 pub mod Feeds
 pub mod ServedFeeds

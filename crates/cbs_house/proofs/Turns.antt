@@ -1,7 +1,7 @@
 -- The turns of a house, one after another.
-use Rattle.std.proofs.Common.{◌≡◌, ℕ, ◌+◌, ◌≤◌, List, [], ◌∷◌, ◌++◌, length, refl, ap, sym, ◌∙◌, arith, length-append}
+use Rattle.std.proofs.Common.{◌≡◌, ℕ, ◌+◌, ◌≤◌, Bool, true, false, ◌||◌, List, [], ◌∷◌, ◌++◌, length, refl, ap, sym, ◌∙◌, arith, length-append}
 use Rattle.std.proofs.lemmas.List.{append-nil, append_assoc}
-use Rattle.std.specs.List.{AllByRecursion}
+use Rattle.std.specs.List.{AllByRecursion, list_any}
 use Rattle.cbs_job.specs.Work.{Meaning}
 use Rattle.cbs_job.specs.declared.work.Work.{Ghosts}
 use Rattle.cbs_core.specs.History.{History, ◌⊕◌}
@@ -12,6 +12,7 @@ use Rattle.cbs_house.specs.declared.poll.Poll.{Poll}
 use Rattle.cbs_house.specs.declared.poll.Poll.TheVariants.{Nothing, Took, Closed, Full, OutOfMemory, NoSuchServer}
 use Rattle.cbs_house.specs.HouseInvariant.{Housed}
 use Rattle.cbs_house.specs.Houses.{core_of, rings_of, Made, Polled}
+use Rattle.cbs_house.specs.Polls.{lacks_memory, Answered, PollsEach}
 use Rattle.cbs_house.specs.Rounds.{popped_by, ServesOn}
 use Rattle.cbs_house.specs.Steps.{pops, MayServe}
 use Rattle.cbs_core.specs.Continuations.{EachAllowed}
@@ -19,6 +20,19 @@ use Rattle.cbs_house.specs.Turns.{ArePolls, steps_in, TakesTurn, TakesExactly, T
 use Rattle.cbs_house.proofs.MadeSteps.{made_nothing, made_both}
 use Rattle.cbs_house.proofs.Moves.{serves_then}
 use Rattle.cbs_house.proofs.StepMessages.{pops-append}
+
+or_assoc : (a b c : Bool) → (a || (b || c)) ≡ ((a || b) || c)
+or_assoc true b c = refl
+or_assoc false b c = refl
+
+or_false : (a : Bool) → (a || false) ≡ a
+or_false true = refl
+or_false false = refl
+
+-- whether one of several polls lacks memory, and one more behind them
+any_more : (ps : List Poll) (p : Poll) → list_any lacks_memory (ps ++ p ∷ []) ≡ (list_any lacks_memory ps || lacks_memory p)
+any_more [] p = or_false (lacks_memory p)
+any_more (q ∷ ps) p = ap (λ x. lacks_memory q || x) (any_more ps p) ∙ or_assoc (lacks_memory q) (list_any lacks_memory ps) (lacks_memory p)
 
 module _ {W : Type 0} where
   polls_wider : (first n : ℕ) (xs : List (Step W)) → ArePolls first n xs → ArePolls first (n + 1) xs
@@ -65,47 +79,50 @@ module _ {W : Type 0} where
     allowed_turns n (xs ∷ turns) M p = allowed_polls 0 n xs (Run ∷ steps_in turns) M p.0 (λ N. (tt, allowed_turns n turns (N ⊕ Run) p.1))
 
 module _ {W A : Type 0} {g : Ghosts W} (work : Meaning W) where
-  -- the house polled its servers below n, each once, in order, and took k messages
-  pub record HasPolled (old new : House W A g) (n k : ℕ) : Type 0 where
-    pub polls : List (Step W)
-    pub each : ArePolls 0 n polls
-    pub made : Made work old new polls
-    pub count : pops polls ≡ k
+  pub polled_none : (a : House W A g) → PollsEach work 0 a a 0 false
+  polled_none a = record { answers = []; all = refl; answered = refl; memory = refl; polls = []; each = tt; made = made_nothing work a; count = refl }
 
-  pub polled_none : (a : House W A g) → HasPolled a a 0 0
-  polled_none a = record { polls = []; each = tt; made = made_nothing work a; count = refl }
+  -- one more poll, behind others
+  answered_more : (s n : ℕ) (a b c : House W A g) (ps : List Poll) (p : Poll) → s + length ps ≡ n → Answered work s a ps b → Polled work b n p c → Answered work s a (ps ++ p ∷ []) c
+  answered_more s n a b c [] p e h k = (c, let m : s ≡ n = omega (arith, e) in rw (m, ← h) k, refl)
+  answered_more s n a b c (q ∷ ps) p e h k = (h.0, h.1, answered_more (s + 1) n h.0 b c ps p (omega (arith, e)) h.2 k)
 
-  polled_nothing : (a b c : House W A g) (n k : ℕ) → HasPolled a b n k → Made work b c [] → HasPolled a c (n + 1) (k + 0)
-  polled_nothing a b c n k h m = record {
-    polls = h.polls ++ [];
-    each = rw (append-nil h.polls) (polls_wider 0 n h.polls h.each);
-    made = made_both work a b c h.polls [] h.made m;
-    count = rw (append-nil h.polls) (let e = h.count in omega (arith, e));
+  -- one more poll, whose answer is so, took j messages by these steps
+  polled_by : (a b c : House W A g) (n k j : ℕ) (m : Bool) (p : Poll) (xs : List (Step W)) → pops xs ≡ j
+      → ((ys : List (Step W)) → ArePolls 0 n ys → ArePolls 0 (n + 1) (ys ++ xs)) → PollsEach work n a b k m → Made work b c xs → Polled work b n p c → PollsEach work (n + 1) a c (k + j) (m || lacks_memory p)
+  polled_by a b c n k j m p xs e one h made q = record {
+    answers = h.answers ++ p ∷ [];
+    all = let l = h.all in omega (arith, length-append h.answers (p ∷ []), l);
+    answered = answered_more 0 n a b c h.answers p (let l = h.all in omega (arith, l)) h.answered q;
+    memory = ap (λ x. x || lacks_memory p) h.memory ∙ sym (any_more h.answers p);
+    polls = h.polls ++ xs;
+    each = one h.polls h.each;
+    made = made_both work a b c h.polls xs h.made made;
+    count = let f = h.count in omega (arith, pops-append h.polls xs, e, f);
   }
 
-  polled_one : (a b c : House W A g) (n k : ℕ) (x : Step W) → pops (x ∷ []) ≡ 1 → ((m : ℕ) → m ≤ n → ArePolls m (n + 1) (x ∷ [])) → HasPolled a b n k → Made work b c (x ∷ []) → HasPolled a c (n + 1) (k + 1)
-  polled_one a b c n k x e one h m = record {
-    polls = h.polls ++ x ∷ [];
-    each = polls_more 0 n h.polls x (omega arith) one h.each;
-    made = made_both work a b c h.polls (x ∷ []) h.made m;
-    count = let f = h.count in omega (arith, pops-append h.polls (x ∷ []), e, f);
-  }
+  polled_nothing : (a b c : House W A g) (n k : ℕ) (m : Bool) (p : Poll) → PollsEach work n a b k m → Made work b c [] → Polled work b n p c → PollsEach work (n + 1) a c (k + 0) (m || lacks_memory p)
+  polled_nothing a b c n k m p h made q = polled_by a b c n k 0 m p [] refl (λ ys each. rw (append-nil ys) (polls_wider 0 n ys each)) h made q
+
+  polled_one : (a b c : House W A g) (n k : ℕ) (m : Bool) (p : Poll) (x : Step W) → pops (x ∷ []) ≡ 1 → ((m : ℕ) → m ≤ n → ArePolls m (n + 1) (x ∷ []))
+      → PollsEach work n a b k m → Made work b c (x ∷ []) → Polled work b n p c → PollsEach work (n + 1) a c (k + 1) (m || lacks_memory p)
+  polled_one a b c n k m p x e one h made q = polled_by a b c n k 1 m p (x ∷ []) e (λ ys each. polls_more 0 n ys x (omega arith) one each) h made q
 
   -- one more server is polled
-  pub polled_next : (a b c : House W A g) (n k : ℕ) (p : Poll) → HasPolled a b n k → Polled work b n p c → HasPolled a c (n + 1) (k + popped_by p)
-  polled_next a b c n k Nothing h q = polled_nothing a b c n k h q.0
-  polled_next a b c n k Full h q = polled_nothing a b c n k h q.0
-  polled_next a b c n k OutOfMemory h q = polled_nothing a b c n k h q.0
-  polled_next a b c n k NoSuchServer h q = polled_nothing a b c n k h q.0
-  polled_next a b c n k (Took number) h q = polled_one a b c n k (Submit n q.0) refl (λ m l. (l, omega arith, tt)) h q.1
-  polled_next a b c n k Closed h q = polled_one a b c n k (Close n) refl (λ m l. (l, omega arith, tt)) h q.0
+  pub polled_next : (a b c : House W A g) (n k : ℕ) (m : Bool) (p : Poll) → PollsEach work n a b k m → Polled work b n p c → PollsEach work (n + 1) a c (k + popped_by p) (m || lacks_memory p)
+  polled_next a b c n k m Nothing h q = polled_nothing a b c n k m Nothing h q.0 q
+  polled_next a b c n k m Full h q = polled_nothing a b c n k m Full h q.0 q
+  polled_next a b c n k m OutOfMemory h q = polled_nothing a b c n k m OutOfMemory h q.0 q
+  polled_next a b c n k m NoSuchServer h q = polled_nothing a b c n k m NoSuchServer h q.0 q
+  polled_next a b c n k m (Took number) h q = polled_one a b c n k m (Took number) (Submit n q.0) refl (λ m l. (l, omega arith, tt)) h q.1 q
+  polled_next a b c n k m Closed h q = polled_one a b c n k m Closed (Close n) refl (λ m l. (l, omega arith, tt)) h q.0 q
 
-  pub polled_few : (a b : House W A g) (n k : ℕ) → HasPolled a b n k → k ≤ n
-  polled_few a b n k h = let l = polls_few 0 n h.polls (omega arith) h.each in let e = h.count in omega (arith, l, e)
+  pub polled_few : (a b : House W A g) (n k : ℕ) (m : Bool) → PollsEach work n a b k m → k ≤ n
+  polled_few a b n k m h = let l = polls_few 0 n h.polls (omega arith) h.each in let e = h.count in omega (arith, l, e)
 
   -- all servers are polled, and then the house runs
-  pub turn_taken : (a b c : House W A g) (n k : ℕ) → n ≡ length (core_of a).faces → HasPolled a b n k → Made work b c (Run ∷ []) → TakesTurn work a c k
-  turn_taken a b c n k e h m = record { polls = h.polls; each = rw (← e) h.each; made = made_both work a b c h.polls (Run ∷ []) h.made m; count = h.count }
+  pub turn_taken : (a b c : House W A g) (k : ℕ) (m : Bool) → PollsEach work (length (core_of a).faces) a b k m → Made work b c (Run ∷ []) → TakesTurn work a c k
+  turn_taken a b c k m h made = record { polls = h.polls; each = h.each; made = made_both work a b c h.polls (Run ∷ []) h.made made; count = h.count }
 
   pub turn_few : (a b : House W A g) (n : ℕ) → TakesTurn work a b n → n ≤ length (core_of a).faces
   turn_few a b n t = let h = polls_few 0 (length (core_of a).faces) t.polls (omega arith) t.each in let e = t.count in omega (arith, h, e)

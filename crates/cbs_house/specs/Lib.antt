@@ -9,5 +9,7 @@ pub mod HouseInvariant
 pub mod Houses
 pub mod Feeds
 pub mod Turns
+pub mod Polls
+pub mod OwnTurns
 pub mod Rounds
 pub mod Opened

@@ -36,7 +36,7 @@ impl<W: Work, A: Allocator> House<W, A> {
     }
 
     /// Whether an accepted job is not finished.
-    fn is_busy(&self) -> bool
+    pub(crate) fn is_busy(&self) -> bool
         ensures some { result ≡ true → HoldsJob (core_of self.now) }
         ensures none { result ≡ false → HoldsNoJob (core_of self.now) }
     {

@@ -12,11 +12,13 @@ mod message;
 mod opening;
 mod pause;
 mod poll;
+mod polls;
 mod rings;
 mod round;
 mod senders;
 mod serving;
 mod shelf;
+mod turn;
 
 pub use client::{Client, SendRefused};
 pub use collector::Collector;
@@ -29,3 +31,4 @@ pub use opening::{MAX_RING, open_house};
 pub use poll::Poll;
 pub use round::{Round, serve_round};
 pub use serving::serve;
+pub use turn::Turn;

@@ -6,14 +6,14 @@ ghost use Rattle.std.specs.Thread.{IsSync, IsSend};
 ghost use Rattle.cbs_house.specs.Feeds.{IsOrderly, KeepsFeeds, EachSendsAtMost, SendsFeeds, servers_of, all_sent};
 ghost use Rattle.cbs_house.specs.Houses.{core_of};
 ghost use Rattle.cbs_core.specs.Held.{IsClosed};
-ghost use Rattle.cbs_house.specs.Rounds.{popped_by, Ready};
+ghost use Rattle.cbs_house.specs.Rounds.{Ready};
 ghost use Rattle.cbs_house.specs.Turns.{TakesTurn, TakesTurns};
 
 use crate::feed::Feed;
 use crate::gate::Gate;
 use crate::house::House;
 use crate::pause::Pause;
-use crate::poll::Poll;
+use crate::polls::poll_each;
 use crate::senders::send_all;
 use cbs_job::Work;
 use std::thread::{Threads, join_mut};
@@ -154,23 +154,7 @@ fn house_turn<G: Gate, W: Work>(gate: &G, house: &mut House<W>) -> u64
     ensures few { result ≤ length (core_of house.old).faces }
     ensures most { result ≤ 64 }
 {
-    let mut took = 0;
-    for server in 0..house.servers() {
-        let poll = house.poll(server);
-        gate.answered(server, poll);
-        took += count(poll);
-    }
+    let polls = poll_each(gate, house);
     house.run();
-    took
-}
-
-/// How many messages a poll popped.
-fn count(poll: Poll) -> u64
-    ensures value { result ≡ popped_by poll }
-    ensures most { result ≤ 1 }
-{
-    match poll {
-        Poll::Took(_) | Poll::Closed => 1,
-        Poll::Nothing | Poll::Full | Poll::OutOfMemory | Poll::NoSuchServer => 0,
-    }
+    polls.took
 }

@@ -1,0 +1,8 @@
+use Rattle.cbs_house.proofs.OwnTurns.{collects_behind}
+use Rattle.cbs_house.proofs.house.House.turn.Goals as goal
+
+pub returns-clause-collects : goal.returns-clause-collects
+returns-clause-collects g c =
+    let p = c.poll_each-polls in
+    let o = c.go_on_if_busy-ran in
+    collects_behind o.result.0 c.args.self.now p.new.house o.new.self p.ensures.results o.ensures.collects
