@@ -1,8 +1,9 @@
 -- What agreement with a history becomes, through each step.
 use Rattle.std.proofs.Common.{◌≡◌, ℕ, zero, suc, ◌+◌, ◌-◌, ◌≤◌, ◌<◌, List, [], ◌∷◌, ◌++◌, length, map, replicate, refl, ap, sym, ◌∙◌, arith, true, false, Bool, leb, ltb, cond, is_some, Option, Some, None}
 use Rattle.std.proofs.lemmas.Bool.Decides.{nat_tests}
-use Rattle.std.proofs.lemmas.List.{length-map}
+use Rattle.std.proofs.lemmas.List.{length-map, get_or_past}
 use Rattle.std.proofs.lemmas.Simd.{map-map}
+use Rattle.std.specs.List.{sum_by}
 use Rattle.cbs_job.specs.Work.{Meaning, Lowers}
 use Rattle.cbs_rules.specs.Rules.{clock_end, Terms}
 use Rattle.cbs_rules.proofs.Replenishments.{replenished_twice}
@@ -12,6 +13,7 @@ use Rattle.cbs_core.specs.Faces.{Face, new_face, face_at, ranks, submit_refusal,
 use Rattle.cbs_core.specs.Accounts.{Account, face_of, new_account, no_account, account_with_job, account_with_unit, account_with_replenishment, account_with_close}
 use Rattle.cbs_core.specs.History.{World, History, ◌⊕◌, account, faces, chosen, tick, ticks, start, after_submit, after_run, after_closing, world_after, run_reply, submit_reply, close_reply, reply_in}
 use Rattle.cbs_core.specs.Agreement.{AgreesJobs, AgreesWorld, Agrees}
+use Rattle.cbs_core.specs.Promised.{promised_by, promised}
 use Rattle.cbs_core.specs.Replies.{IsAccepted}
 use Rattle.cbs_core.specs.Held.{CoreHeld}
 use Rattle.cbs_core.specs.Queues.{list_at, jobs_run, result_run, ran_of}
@@ -24,7 +26,7 @@ use Rattle.cbs_core.proofs.Cores.{MayRun}
 use Rattle.cbs_core.proofs.Histories.{account_face}
 use Rattle.cbs_core.proofs.PaidUnits.{paid_after}
 use Rattle.cbs_core.proofs.Lists.{map-changed_at, AllZip-length, AllZip-get, AllZip-map, AllZip-replicate, AllZip-changed_at, AllZip-changed_second}
-use Rattle.cbs_core.proofs.HeldJobs.{unit_jobs, unit_face, unit_ran, job_jobs, job_face}
+use Rattle.cbs_core.proofs.HeldJobs.{owed_jobs, unit_jobs, unit_face, unit_ran, job_jobs, job_face}
 
 -- a choice between two that are the same is that one, whichever way it goes
 cond_same : {X : Type 0} {x : X} (b : Bool) → cond b x x ≡ x
@@ -107,6 +109,21 @@ module _ {W : Type 0} {work : Meaning W} {core held : CoreHeld W} {M : History W
   -- the jobs held of each server agree with its account
   jobs_are : (s : ℕ) → s < length core.faces → AgreesJobs work (list_at core.queues s) (account w.accounts s)
   jobs_are s lt = AllZip-get (AgreesJobs work) core.queues w.accounts s [] no_account agrees.jobs (within_queues s lt)
+
+  -- what is promised is read off what is held: of a server that is there
+  pub promised_held : (s units : ℕ) (o : Option ℕ) → s < length core.faces → units ≡ sum_by work.left (list_at core.queues s)
+      → o ≡ promised_by (face_at core.faces s).terms.reservation (face_at core.faces s).state units → o ≡ promised work (account w.accounts s)
+  promised_held s units o lt count e =
+      let shown = ap (λ (f : Face). promised_by f.terms.reservation f.state units) (sym (face_is s)) in
+      let left = count ∙ owed_jobs work (list_at core.queues s) (account w.accounts s) (jobs_are s lt) in
+      e ∙ shown ∙ ap (promised_by (account w.accounts s).terms.reservation (account w.accounts s).state) left
+
+  -- and nothing beyond the last
+  pub promised_beyond : (s : ℕ) → length core.faces ≤ s → None ≡ promised work (account w.accounts s)
+  promised_beyond s ge =
+      let count = ap length agrees.shown in
+      let none : account w.accounts s ≡ no_account = get_or_past w.accounts s no_account (omega (arith, length-map w.accounts (face_of work))) in
+      rw none refl
 
   -- a run is answered by the choice among the faces held
   pub reply_by : (o : Option ℕ) → o ≡ chosen_among (ranks core.faces)

@@ -92,6 +92,10 @@ module _ {W : Type 0} {work : Meaning W} {core : CoreHeld W} (ok : IsCore work c
   pub backlog_at : (s : ℕ) → s < length core.faces → HoldsBacklog work (list_at core.queues s) (face_at core.faces s)
   backlog_at s lt = AllZip-get (HoldsBacklog work) core.queues core.faces s [] no_face ok.jobs (let n = queue_count in omega arith)
 
+  -- a server that a job may come in for holds fewer jobs than the greatest backlog is
+  pub few_held : (s : ℕ) → Accepts core s → length (list_at core.queues s) < 4096
+  few_held s accepts = let held = (backlog_at s accepts.is_open.within).counted in let few = accepts.few in let small = ok.small in omega arith
+
   -- the deadline that a view shows is within its limit
   pub view_early : (s : ℕ) (r : Result ServerView CoreError) → r ≡ view_reply (slice_get core.faces s) → IfOk r (λ v. v.deadline ≤ core.clock + (core.clock + 1) * 1000000000)
   view_early s r e = elim (cases_lt s (length core.faces)) [

@@ -4,7 +4,7 @@ use Rattle.std.specs.Prelude.{if◌then◌else◌}
 use Rattle.std.proofs.lemmas.Bool.{cases_lt, cases_Bool}
 use Rattle.std.proofs.lemmas.Bool.Decides.{nat_tests}
 use Rattle.std.proofs.lemmas.List.{take_all, take-append-le, drop-append-le, drop_more, get_or-map, map-append, length-map}
-use Rattle.std.proofs.lemmas.List.Sums.{sum_by-cons, sum_by-append, sum_by-take-le, sum_by_more}
+use Rattle.std.proofs.lemmas.List.Sums.{sum_by-cons, sum_by-append, sum_by-take-le, sum_by-take-drop, sum_by_more}
 use Rattle.std.specs.List.{sum_by, AllByRecursion}
 use Rattle.cbs_job.specs.Work.{Meaning, Lowers, whole}
 use Rattle.cbs_job.proofs.WholeResults.{whole_kept, output_whole}
@@ -12,6 +12,7 @@ use Rattle.cbs_core.specs.Faces.{backlog_of, with_job, with_unit}
 use Rattle.cbs_core.specs.Accounts.{Account, need, finished, unfinished, face_of, account_with_job, account_with_unit}
 use Rattle.cbs_core.specs.History.{unit_reply}
 use Rattle.cbs_core.specs.Agreement.{with_first, AgreesJobs}
+use Rattle.cbs_core.specs.Promised.{owed}
 use Rattle.cbs_core.specs.Queues.{jobs_run, result_run, ran_of}
 use Rattle.cbs_core.specs.declared.reply.Ran.TheVariants as ran
 use Rattle.cbs_core.proofs.FinishedJobs.{count_done, count_done-le, count_done_within, count_done_beyond, count_done-is}
@@ -114,6 +115,32 @@ module _ {W : Type 0} (work : Meaning W) (law : Lowers work) where
     -- the unit was its last just where the jobs of xs up to it need g + 1 units
     test_served : eqb (work.left (work.after job)) 0 ≡ eqb (sum_by work.left (take (k + 1) xs)) (g + 1)
     test_served = let b = beyond in let e = less in let some = all.0 in grind (arith, nat_tests)
+
+-- two lists of the same measures have one sum
+same_sum : {W : Type 0} (f : W → ℕ) (xs ys : List W) → map f xs ≡ map f ys → sum_by f xs ≡ sum_by f ys
+same_sum f [] [] e = refl
+same_sum f [] (y ∷ ys) e = cc
+same_sum f (x ∷ xs) [] e = cc
+same_sum f (x ∷ xs) (y ∷ ys) e =
+    let first : f x ≡ f y = cc in
+    let rest = same_sum f xs ys (cc) in
+    omega (arith, sum_by-cons f x xs, sum_by-cons f y ys)
+
+-- what is left of the jobs held is what the jobs xs need and g units have not paid
+owed_of : {W : Type 0} (f : W → ℕ) (jobs xs ys : List W) (g k : ℕ) → drop k xs ≡ ys → sum_by f (take k xs) ≤ g → (k < length xs → g < sum_by f (take (k + 1) xs))
+    → map f jobs ≡ with_first (sum_by f (take (k + 1) xs) - g) (map f ys) → sum_by f jobs ≡ sum_by f xs - g
+owed_of f [] xs [] g k d within beyond l = let n = sum_by-take-drop f xs k in let e = ap (sum_by f) d in omega arith
+owed_of f (j ∷ js) xs [] g k d within beyond l = cc
+owed_of f [] xs (y ∷ ys) g k d within beyond l = cc
+owed_of f (j ∷ js) xs (y ∷ ys) g k d within beyond l =
+    let short = (front xs k y ys d).within in
+    let over = beyond short in
+    let more = need_more f xs k y ys d in
+    let all = sum_by-take-drop f xs k in
+    let rest = ap (sum_by f) d in
+    let first : f j ≡ sum_by f (take (k + 1) xs) - g = cc in
+    let others = same_sum f js ys (cc) in
+    omega (arith, sum_by-cons f j js, sum_by-cons f y ys)
 
 -- what a unit of the first job does
 pub record Served {W : Type 0} (work : Meaning W) (jobs xs : List W) (g k : ℕ) : Type 0 where
@@ -227,6 +254,10 @@ module _ {W : Type 0} (work : Meaning W) (jobs : List W) (a : Account W) (agrees
   -- as many jobs are held as the backlog is
   pub length_jobs : length jobs ≡ backlog_of (face_of work a)
   length_jobs = let e = ap length agrees.results in simp (length-map, length-drop) at e
+
+  -- what is left of them is owed
+  pub owed_jobs : sum_by work.left jobs ≡ owed work a
+  owed_jobs = owed_of work.left jobs a.accepted (unfinished work a) a.got (finished work a) refl (count_done_within work.left a.accepted a.got) (count_done_beyond work.left a.accepted a.got) agrees.lefts
 
   -- a unit of the first job
   module _ (law : Lowers work) (some : 0 < length jobs) (left : AllByRecursion (λ w. 0 < work.left w) jobs) where

@@ -6,9 +6,10 @@ use Rattle.cbs_job.specs.Work.{Meaning}
 use Rattle.cbs_rules.specs.Rules.{clock_end}
 use Rattle.cbs_core.specs.Lists.{changed_at}
 use Rattle.cbs_core.specs.Choice.{IsChoice}
+use Rattle.cbs_core.specs.Continuations.{◌⊕⊕◌}
 use Rattle.cbs_core.specs.Faces.{face_at, is_ready, ranks, submit_refusal, close_refusal}
 use Rattle.cbs_core.specs.Accounts.{Account, face_of, no_account, account_with_job, account_with_unit, account_with_replenishment, account_with_close}
-use Rattle.cbs_core.specs.History.{World, Setup, History, account, faces, chosen, tick, ticks, start, runner, after_submit, after_run, after_closing, next, after, world_after}
+use Rattle.cbs_core.specs.History.{World, Setup, History, ◌⊕◌, account, faces, chosen, tick, ticks, start, runner, after_submit, after_run, after_closing, next, after, world_after}
 use Rattle.cbs_core.proofs.Choices.{choice_is}
 use Rattle.cbs_core.proofs.Faces.{rank_ready}
 use Rattle.cbs_core.specs.Replies.{is_lack, grown, grown_by}
@@ -126,3 +127,8 @@ module _ {W : Type 0} (work : Meaning W) where
       pub holds_behind : (setup : Setup) (K M : List (Step W)) (s : ℕ) → Holds (after work setup M) s → Holds (after work setup (K ++ M)) s
       holds_behind setup [] M s h = h
       holds_behind setup (x ∷ K) M s h = holds_next setup.backlog (after work setup (K ++ M)) x s (holds_behind setup K M s h)
+
+      -- more steps, in order
+      pub holds_on : (M : History W) (xs : List (Step W)) (s : ℕ) → Holds (world_after work M) s → Holds (world_after work (M ⊕⊕ xs)) s
+      holds_on M [] s h = h
+      holds_on M (x ∷ xs) s h = holds_on (M ⊕ x) xs s (holds_next M.setup.backlog (world_after work M) x s h)

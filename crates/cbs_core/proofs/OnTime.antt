@@ -171,7 +171,7 @@ module _ {W : Type 0} (work : Meaning W) where
       rw same here
 
   -- and the other way round
-  known_on_time : (setup : Setup) (M : List (Step W)) → IsWorldOnTime work (after work setup M) → IsTimely work (all_periods (given setup)) (after work setup M)
+  pub known_on_time : (setup : Setup) (M : List (Step W)) → IsWorldOnTime work (after work setup M) → IsTimely work (all_periods (given setup)) (after work setup M)
   known_on_time setup M on =
       let w = after work setup M in
       let same : reservations (faces work w) ≡ given setup = rates_are w.accounts ∙ rates_after setup M in

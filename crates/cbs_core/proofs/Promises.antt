@@ -23,7 +23,7 @@ use Rattle.cbs_core.proofs.OnTime.{IsAdmitted, reservation, given, rates_after, 
 use Rattle.cbs_core.proofs.Refusals.{free_accepts}
 use Rattle.cbs_core.specs.Held.{CoreHeld}
 use Rattle.cbs_rate.specs.Plan.{all_periods}
-use Rattle.cbs_core.proofs.OnTimeSteps.{IsSound}
+use Rattle.cbs_core.proofs.OnTimeSteps.{IsSound, IsTimely}
 use Rattle.cbs_core.proofs.PaidUnits.{paid_after}
 
 module _ {W : Type 0} (work : Meaning W) where
@@ -54,16 +54,16 @@ module _ {W : Type 0} (work : Meaning W) where
       omega arith
 
   -- the units that tick b covers are got by then, of a server that is active where it owes one of them
-  pub covered_got : (setup : Setup) (L : List (Step W)) (s n b : ℕ) → IsAdmitted (given work setup) → AreQuiet work setup L → s < length (after work setup L).accounts → (let a = account (after work setup L).accounts s in
+  pub covered_got : (setup : Setup) (L : List (Step W)) (s n b : ℕ) → IsAdmitted (given work setup) → IsTimely work (all_periods (given work setup)) (after work setup L) → s < length (after work setup L).accounts
+      → (let a = account (after work setup L).accounts s in
       (a.got < n → is_active (face_of work a) ≡ true) → a.state.budget ≤ a.terms.reservation.budget → (a.got < n → IsCovered a.terms.reservation n b a.got a.state) → b ≤ (after work setup L).now → n ≤ a.got)
-  covered_got setup L s n b ok quiet lt busy capped covered late =
+  covered_got setup L s n b ok on lt busy capped covered late =
       let w = after work setup L in
       let a = account w.accounts s in
       elim (cases_lt a.got n) [
         | inr done ↦ done
         | inl owes ↦
             let by = covered-deadline a.terms.reservation n b a.got a.state capped (covered owes) owes in
-            let on = timely_after work setup L ok quiet in
             elim (cases_Bool a.state.throttled) [
               | inl t ↦
                   let l = AllByRecursion-get (λ a. IsAhead w.now (face_of work a)) w.accounts s no_account on.ahead lt t in
@@ -77,15 +77,15 @@ module _ {W : Type 0} (work : Meaning W) where
   -- one job: those before it, and the tick by which it is covered
   module _ (before : List W) (job : W) (b : ℕ) where
     -- the units that the jobs up to it need
-    abbrev goal : ℕ
+    abbrev pub goal : ℕ
     goal = sum_by work.left before + work.left job
 
     -- the job's place stays, and until it has its units they are covered by tick b
-    record IsAwaited (a : Account W) : Type 0 where
-      lawful : IsLawful work a
-      behind : List W
-      jobs : a.accepted ≡ before ++ job ∷ behind
-      pending : a.got < goal → IsCovered a.terms.reservation goal b a.got a.state
+    pub record IsAwaited (a : Account W) : Type 0 where
+      pub lawful : IsLawful work a
+      pub behind : List W
+      pub jobs : a.accepted ≡ before ++ job ∷ behind
+      pub pending : a.got < goal → IsCovered a.terms.reservation goal b a.got a.state
 
     -- the jobs up to it need that many units
     need_job : (a : Account W) → IsAwaited a → (length before < length a.accepted) × (need work a (length before + 1) ≡ goal)
@@ -128,7 +128,7 @@ module _ {W : Type 0} (work : Meaning W) where
         grind (arith, nat_tests)
 
     -- a job behind it keeps all this
-    awaited_job : (now : ℕ) (more : W) (a : Account W) → IsAwaited a → IsAwaited (account_with_job work now more a)
+    pub awaited_job : (now : ℕ) (more : W) (a : Account W) → IsAwaited a → IsAwaited (account_with_job work now more a)
     awaited_job now more a h = record {
       lawful = lawful_job work now more a h.lawful;
       behind = h.behind ++ more ∷ [];
@@ -140,7 +140,7 @@ module _ {W : Type 0} (work : Meaning W) where
     }
 
     -- so does a unit
-    awaited_unit : (a : Account W) → is_ready (face_of work a) ≡ true → IsAwaited a → IsAwaited (account_with_unit a)
+    pub awaited_unit : (a : Account W) → is_ready (face_of work a) ≡ true → IsAwaited a → IsAwaited (account_with_unit a)
     awaited_unit a ready h = record {
       lawful = lawful_unit work a ready h.lawful;
       behind = h.behind;
@@ -149,7 +149,7 @@ module _ {W : Type 0} (work : Meaning W) where
     }
 
     -- so does a replenishment
-    awaited_replenishment : (now : ℕ) (a : Account W) → IsAwaited a → IsAwaited (account_with_replenishment now a)
+    pub awaited_replenishment : (now : ℕ) (a : Account W) → IsAwaited a → IsAwaited (account_with_replenishment now a)
     awaited_replenishment now a h = record {
       lawful = lawful_replenishment work now a h.lawful;
       behind = h.behind;
@@ -158,17 +158,22 @@ module _ {W : Type 0} (work : Meaning W) where
     }
 
     -- and a close
-    awaited_close : (a : Account W) → IsAwaited a → IsAwaited (account_with_close a)
+    pub awaited_close : (a : Account W) → IsAwaited a → IsAwaited (account_with_close a)
     awaited_close a h = record { lawful = lawful_close work a h.lawful; behind = h.behind; jobs = h.jobs; pending = h.pending }
 
-    -- behind the steps M and more steps K, at tick b or later, it is finished
-    awaited_finished : (setup : Setup) (K M : List (Step W)) (s : ℕ) → IsAdmitted (given work setup) → AreQuiet work setup (K ++ M) → s < length (after work setup (K ++ M)).accounts
+    -- in a world on time, at tick b or later, it is finished
+    pub awaited_finished : (setup : Setup) (L : List (Step W)) (s : ℕ) → IsAdmitted (given work setup) → IsTimely work (all_periods (given work setup)) (after work setup L) → s < length (after work setup L).accounts
+        → IsAwaited (account (after work setup L).accounts s) → b ≤ (after work setup L).now → length before < finished work (account (after work setup L).accounts s)
+    awaited_finished setup L s ok on lt h late =
+        let a = account (after work setup L).accounts s in
+        done-finished a h (covered_got setup L s goal b ok on lt (pending_active a h) h.lawful.state.capped h.pending late)
+
+    -- so it is behind the steps M and more steps K that take nobody's time
+    awaited_behind : (setup : Setup) (K M : List (Step W)) (s : ℕ) → IsAdmitted (given work setup) → AreQuiet work setup (K ++ M) → s < length (after work setup (K ++ M)).accounts
         → IsAwaited (account (after work setup M).accounts s) → b ≤ (after work setup (K ++ M)).now → length before < finished work (account (after work setup (K ++ M)).accounts s)
-    awaited_finished setup K M s ok quiet lt start late =
-        let w = after work setup (K ++ M) in
-        let a = account w.accounts s in
-        let h : IsAwaited a = holds_behind work (λ now. IsAwaited) (λ now. awaited_unit) (λ now. awaited_replenishment (now + 1)) (λ now. awaited_close) awaited_job setup K M s start in
-        done-finished a h (covered_got setup (K ++ M) s goal b ok quiet lt (pending_active a h) h.lawful.state.capped h.pending late)
+    awaited_behind setup K M s ok quiet lt start late =
+        let h = holds_behind work (λ now. IsAwaited) (λ now. awaited_unit) (λ now. awaited_replenishment (now + 1)) (λ now. awaited_close) awaited_job setup K M s start in
+        awaited_finished setup (K ++ M) s ok (timely_after work setup (K ++ M) ok quiet) lt h late
 
   -- there are as many servers as were given
   pub count_after : (setup : Setup) (L : List (Step W)) → length (after work setup L).accounts ≡ length (given work setup)
@@ -209,7 +214,7 @@ module _ {W : Type 0} (work : Meaning W) where
           pending = λ owes. c;
         } in
         subst (λ L. AreQuiet work setup L → b ≤ (after work setup L).now → length a.accepted < finished work (account (after work setup L).accounts s)) (sym e)
-        (λ quiet late. awaited_finished a.accepted job b setup K (Submit s job ∷ M) s ok quiet (let n = count_after setup (K ++ Submit s job ∷ M) in let m = count_after setup M in let lt = place in omega arith)
+        (λ quiet late. awaited_behind a.accepted job b setup K (Submit s job ∷ M) s ok quiet (let n = count_after setup (K ++ Submit s job ∷ M) in let m = count_after setup M in let lt = place in omega arith)
         (subst (λ (x : Account W). IsAwaited a.accepted job b x) (sym submitted) start) late) quiet late
 
     -- what is owed, and a budget more, is reached by as many budgets

@@ -18,7 +18,7 @@ use Rattle.cbs_core.proofs.Covers.{IsCovered, covered_unit, covered_replenishmen
 use Rattle.cbs_core.proofs.Histories.{holds_run_step, holds_advance_step, holds_close_step}
 use Rattle.cbs_core.proofs.LawfulServers.{IsLawful, lawful_job, lawful_unit, lawful_replenishment, lawful_close}
 use Rattle.cbs_core.proofs.Lists.{changed_here, changed_elsewhere, AllByRecursion-get}
-use Rattle.cbs_core.proofs.OnTime.{IsAdmitted, given, sound_after}
+use Rattle.cbs_core.proofs.OnTime.{IsAdmitted, given, sound_after, timely_after}
 use Rattle.cbs_core.proofs.OnTimeSteps.{IsSound}
 use Rattle.cbs_core.proofs.Promises.{covered_got}
 
@@ -112,7 +112,7 @@ module _ {W : Type 0} (work : Meaning W) where
       let law = (AllByRecursion-get (IsSound work (all_periods (given work setup))) w.accounts s no_account (sound_after work setup M ok).each there).lawful in
       let h = supplied_after work n b s setup K M busy (record { lawful = law; pending = λ owes. record { periods = suc j; units = omega arith; by = omega arith } }) in
       let active = active_last work n b s setup K M busy in
-      covered_got work setup (K ++ M) s n b ok quiet (active_there work n b s (after work setup (K ++ M)).accounts active) (λ owes. active) h.lawful.state.capped h.pending late
+      covered_got work setup (K ++ M) s n b ok (timely_after work setup (K ++ M) ok quiet) (active_there work n b s (after work setup (K ++ M)).accounts active) (λ owes. active) h.lawful.state.capped h.pending late
 
   -- every history keeps its supplies
   pub supply_kept : (N : History W) → IsAdmitted (given work N.setup) → KeepsSupply work N

@@ -14,6 +14,7 @@ pub mod Laws
 pub mod Lends
 pub mod Lists
 pub mod OnTime
+pub mod Promised
 pub mod Promises
 pub mod Punctual
 pub mod Queues

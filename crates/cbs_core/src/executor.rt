@@ -1,6 +1,6 @@
 //! The core: all servers, and the clock.
 
-ghost use Rattle.std.specs.Prelude.{◌≡◌, ℕ, ◌+◌, ◌*◌, ◌<◌, ◌≤◌, true, false, Ok, Err, IfOk, IfErr, OnOk, OnErr, IsOk, length, slice_get, List, [], MatchOption, MatchResult, Some, None, ◌⊎◌};
+ghost use Rattle.std.specs.Prelude.{◌≡◌, ℕ, ◌+◌, ◌*◌, ◌<◌, ◌≤◌, true, false, Ok, Err, IfOk, IfErr, IfSome, OnOk, OnErr, IsOk, length, slice_get, List, [], MatchOption, MatchResult, Some, None, ◌⊎◌};
 ghost use Rattle.cbs_rate.specs.Refusals.{RefusesByOrMemory};
 ghost use Rattle.cbs_core.specs.Quiet.{IsAtRest, IsIdleSpan};
 ghost use Rattle.cbs_core.specs.Choice.{IsChoice};
@@ -13,6 +13,7 @@ ghost use Rattle.cbs_core.specs.Held.{room_of, KeepsRoom, IsOpen, HasRoom, IsRef
 ghost use Rattle.cbs_core.specs.OnTime.{IsOnTime, IsWorldOnTime, KeepsDeadlines, KeepsTime, KeepsTimeAll};
 ghost use Rattle.cbs_core.specs.HardTasks.{KeepsHard};
 ghost use Rattle.cbs_core.specs.Promises.{KeepsPromise, KeepsBound, KeepsDue};
+ghost use Rattle.cbs_core.specs.Promised.{promised, AllFinishedBy};
 ghost use Rattle.cbs_core.specs.Punctual.{IsPunctual};
 ghost use Rattle.cbs_core.specs.Queues.{ran_of};
 ghost use Rattle.cbs_core.specs.Supplies.{KeepsSupply};
@@ -321,6 +322,23 @@ impl<W: Work, A: Allocator> Core<W, A> {
             → IfOk result (λ view. view.finished < view.accepted → view.throttled ≡ false → (world_after W.meaning M).now < view.deadline) }
     {
         self.servers.view(server)
+    }
+
+    /// By which tick every job that a server accepted so far is finished, if the advances to come take
+    /// no time from anybody, as those by [`idle_span`](Core::idle_span) do; `None` where all are
+    /// finished, and where there is no such server.
+    ///
+    /// With c and d the budget and the deadline of the server, Q ticks in every T, and its jobs `owed`
+    /// units, it is `d + ceil((owed - c) / Q) * T`, or d where c suffices. No later step makes it wrong:
+    /// it may be told to whoever waits for the job that was submitted last.
+    pub fn promised(&self, server: u16) -> Option<u128>
+        ensures value { (M : History W) → Agrees W.meaning self.now M → result ≡ promised W.meaning (account_in W.meaning M server) }
+        ensures kept { IfSome result (λ tick. (M : History W) → Agrees W.meaning self.now M → AllFinishedBy W.meaning M server tick) }
+    {
+        if server >= self.servers.len() {
+            return None;
+        }
+        self.servers.promised(server, self.queues.owed(server))
     }
 
     /// Does all steps, in order, and gives one reply for each.

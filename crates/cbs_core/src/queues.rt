@@ -1,7 +1,7 @@
 //! The jobs of all servers, in one queue for each.
 
 ghost use Rattle.std.specs.Prelude.{◌≡◌, ◌<◌, [], ◌∷◌, ◌++◌, length, replicate, IfOk, OnOk, IsOk};
-ghost use Rattle.std.specs.List.{AllByRecursion};
+ghost use Rattle.std.specs.List.{sum_by, AllByRecursion};
 ghost use Rattle.cbs_core.specs.Held.{room_of, KeepsRoom};
 ghost use Rattle.cbs_core.specs.Lists.{changed_at};
 ghost use Rattle.cbs_core.specs.Queues.{list_at, jobs_run, result_run};
@@ -15,14 +15,19 @@ use std::marker::Model;
 #[derive(Drop)]
 pub struct Queues<W: Work, A: Allocator = Global> {
     jobs: Chains<Running<W>, A>,
+    // How many units the jobs of each server have left.
+    owed: Vec<u64, A>,
 }
 
 impl<W: Work, A: Allocator> Model for Queues<W, A> {
-    ghost use Rattle.cbs_core.specs.Queues.{Queued};
+    ghost use Rattle.std.specs.List.{AllZip};
+    ghost use Rattle.cbs_core.specs.Queues.{Queued, IsOwed};
 
     ghost Value = { Queued W };
 
     ghost view = { λ q. q.jobs };
+
+    ghost invariant = { λ q. AllZip (IsOwed W.meaning) q.jobs.lists q.owed.items };
 }
 
 impl<W: Work, A: Allocator> Queues<W, A> {
@@ -32,9 +37,22 @@ impl<W: Work, A: Allocator> Queues<W, A> {
         A: Clone,
         ensures empty { IfOk result (λ q. q.lists ≡ replicate servers []) }
     {
+        let mut owed = Vec::with_capacity(alloc.clone()?, usize::from(servers))?;
+        for _server in 0..servers {
+            owed.push(0)?;
+        }
         Ok(Queues {
             jobs: Chains::new(alloc, servers)?,
+            owed,
         })
+    }
+
+    /// How many units the jobs of a server have left.
+    pub fn owed(&self, server: u16) -> u64
+        requires { server < length self.now.lists }
+        ensures { result ≡ sum_by W.meaning.left (list_at self.now.lists server) }
+    {
+        self.owed[usize::from(server)]
     }
 
     /// Makes room for one more job of a server.
@@ -52,9 +70,11 @@ impl<W: Work, A: Allocator> Queues<W, A> {
     pub fn push(&mut self, server: u16, task: Task<W>)
         requires within { server < length self.old.lists }
         requires room { 0 < room_of self.old.rooms server }
+        requires few { length (list_at self.old.lists server) < 4096 }
         ensures lists { self.new.lists ≡ changed_at (λ jobs. jobs ++ task ∷ []) self.old.lists server }
         ensures some { 0 < W.meaning.left task }
     {
+        self.owed[usize::from(server)] += u64::from(task.left());
         self.jobs.push(server, task.start());
     }
 
@@ -68,6 +88,7 @@ impl<W: Work, A: Allocator> Queues<W, A> {
         ensures result { result ≡ result_run W.meaning (list_at self.old.lists server) }
         ensures kept { KeepsRoom self.old.rooms self.new.rooms }
     {
+        self.owed[usize::from(server)] -= 1;
         let job = self.jobs.first_mut(server);
         job.step();
         if job.left() > 0 {

@@ -3,6 +3,7 @@
 ghost use Rattle.std.specs.Prelude.{◌≡◌, ◌+◌, ◌<◌, ◌≤◌, ◌^◌, true, Some};
 ghost use Rattle.cbs_core.specs.Faces.{new_face, is_active, is_ready, ready_by, backlog_of, refuses_close, refuses_submit, view_of, with_job, with_unit, with_replenishment, with_close};
 ghost use Rattle.cbs_core.specs.IdleSpans.{wait};
+ghost use Rattle.cbs_core.specs.Promised.{promised_by};
 ghost use Rattle.cbs_core.specs.ReadyList.{IsNotDueBefore};
 
 use crate::error::CoreError;
@@ -116,6 +117,21 @@ impl Server {
         } else {
             u128::from(LIMIT - now)
         }
+    }
+
+    /// By which tick it gets so many units, while no server is late; `None` where they are none.
+    pub fn promised(&self, units: u64) -> Option<u128>
+        requires { self.now.state.deadline < 2 ^ 127 }
+        ensures { result ≡ promised_by self.now.terms.reservation self.now.state units }
+    {
+        if units == 0 {
+            return None;
+        }
+        let reservation = self.state.reservation();
+        let budgets = units
+            .saturating_sub(self.state.budget())
+            .div_ceil(reservation.budget());
+        Some(self.deadline() + u128::from(budgets) * u128::from(reservation.period()))
     }
 
     /// Why a close is refused, if it is.

@@ -6,6 +6,7 @@ ghost use Rattle.cbs_core.specs.Lists.{changed_at};
 ghost use Rattle.cbs_core.specs.Choice.{chosen_among, IsChoice};
 ghost use Rattle.cbs_core.specs.Faces.{new_face, face_at, ready_by, ranks, close_refusal, submit_refusal, view_reply, with_job, with_unit, with_replenishment, with_close};
 ghost use Rattle.cbs_core.specs.IdleSpans.{span_from};
+ghost use Rattle.cbs_core.specs.Promised.{promised_by};
 ghost use Rattle.cbs_core.specs.ReadyList.{listed, IsOrdered, ListsReady, IsNotDueBefore, NoneDueBefore};
 ghost use Rattle.cbs_core.specs.Setups.{terms_of};
 
@@ -121,6 +122,15 @@ impl<A: Allocator> Servers<A> {
             Some(server) => Ok(server.view()),
             None => Err(CoreError::NoSuchServer),
         }
+    }
+
+    /// By which tick a server gets so many units, while no server is late; `None` where they are none.
+    pub fn promised(&self, server: u16, units: u64) -> Option<u128>
+        requires within { server < length self.now }
+        requires early { (face_at self.now server).state.deadline < 2 ^ 127 }
+        ensures { result ≡ promised_by (face_at self.now server).terms.reservation (face_at self.now server).state units }
+    {
+        self.servers[usize::from(server)].promised(units)
     }
 
     /// How many jobs of a server are finished.

@@ -132,6 +132,13 @@ impl ServerState {
         }
     }
 
+    /// The reservation that it was given.
+    pub fn reservation(&self) -> Reservation
+        ensures { result ≡ self.now.reservation }
+    {
+        self.reservation
+    }
+
     /// The ticks that it may still use: at most Q, none while it is throttled.
     pub fn budget(&self) -> u64
         ensures value { result ≡ self.now.state.budget }

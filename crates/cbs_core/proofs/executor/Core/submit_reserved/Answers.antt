@@ -1,5 +1,5 @@
 use Rattle.cbs_core.proofs.Agreements.{submit_answered, submit_agrees}
-use Rattle.cbs_core.proofs.Cores.{core_joined, few_jobs, queue_there, budgets_kept}
+use Rattle.cbs_core.proofs.Cores.{core_joined, few_held, few_jobs, queue_there, budgets_kept}
 use Rattle.cbs_core.proofs.Effects.{took_job}
 use Rattle.cbs_core.proofs.Refusals.{accepts_free}
 use Rattle.cbs_core.specs.declared.step.Step.TheVariants as step
@@ -10,7 +10,7 @@ pub push-requires : goal.push-requires
 push-requires g c =
     let is = rw (← c.self.view_is) at c.requires in
     let free = accepts_free c.self.view_is c.args.server c.requires.accepts in
-    record { within = queue_there c.self.invariant c.args.server free; room = is.room }
+    record { within = queue_there c.self.invariant c.args.server free; room = is.room; few = few_held c.self.invariant c.args.server is.accepts }
 
 pub accept-requires : goal.accept-requires
 accept-requires g c =
