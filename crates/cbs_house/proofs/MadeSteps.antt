@@ -22,7 +22,7 @@ use Rattle.cbs_house.specs.declared.message.Message.{Message}
 use Rattle.cbs_house.specs.declared.message.Message.TheVariants.{Job, End}
 use Rattle.cbs_house.specs.declared.poll.Poll.{Poll}
 use Rattle.cbs_house.specs.declared.poll.Poll.TheVariants.{Nothing, Took, Closed, Full, OutOfMemory, NoSuchServer}
-use Rattle.cbs_house.specs.Houses.{core_of, rings_of, received, known, results_of, Made, LooksOnly, Collects, Polled}
+use Rattle.cbs_house.specs.Houses.{core_of, rings_of, received, known, results_of, handed_of, Made, LooksOnly, Collects, Polled}
 use Rattle.cbs_house.specs.Messages.{jobs_among}
 use Rattle.cbs_house.specs.Steps.{message_of, messages_of}
 use Rattle.cbs_core.specs.Continuations.{Follows, HasHistory}
@@ -65,10 +65,11 @@ module _ {W A : Type 0} {g : Ghosts W} (work : Meaning W) where
     received = λ s. q.received s ∙ (ap (λ ms. ms ++ messages_of s ys) (p.received s) ∙ (append_assoc (received a s) (messages_of s xs) (messages_of s ys) ∙ ap (λ ms. received a s ++ ms) (sym (messages_of-append s xs ys))));
     known = λ s. prefix_through (known a s) (messages_of s xs) (known b s) (messages_of s ys ++ known c s) (p.known s) (q.known s) (messages_of s (xs ++ ys) ++ known c s)
         (ap (λ ms. ms ++ known c s) (messages_of-append s xs ys) ∙ append_assoc (messages_of s xs) (messages_of s ys) (known c s));
+    handed = λ s. q.handed s ∙ p.handed s;
   }
 
   pub made_nothing : (a : House W A g) → Made work a a []
-  made_nothing a = record { steps = λ M agrees. agrees; rings = refl; received = λ s. sym (append-nil (received a s)); known = λ s. ([], append-nil (known a s)) }
+  made_nothing a = record { steps = λ M agrees. agrees; rings = refl; received = λ s. sym (append-nil (received a s)); known = λ s. ([], append-nil (known a s)); handed = λ s. refl }
 
   -- a look is no step
   pub made_look : (a b : House W A g) → LooksOnly a b → Made work a b []
@@ -77,15 +78,17 @@ module _ {W A : Type 0} {g : Ghosts W} (work : Meaning W) where
     rings = l.rings;
     received = λ s. l.received s ∙ sym (append-nil (received a s));
     known = l.known;
+    handed = l.handed;
   }
 
   -- a step that takes no message
-  pub made_time : (a b : House W A g) (x : Step W) → ((s : ℕ) → message_of s x ≡ []) → Follows work (core_of a) (core_of b) (x ∷ []) → b.rings ≡ a.rings → Made work a b (x ∷ [])
-  made_time a b x none f e = record {
+  pub made_time : (a b : House W A g) (x : Step W) → ((s : ℕ) → message_of s x ≡ []) → Follows work (core_of a) (core_of b) (x ∷ []) → b.rings ≡ a.rings → ((s : ℕ) → handed_of b s ≡ handed_of a s) → Made work a b (x ∷ [])
+  made_time a b x none f e handed = record {
     steps = f;
     rings = rw e refl;
     received = λ s. rw (e, none s) (sym (append-nil (received a s)));
     known = λ s. rw (e, none s) ([], append-nil (known a s));
+    handed = handed;
   }
 
   -- the next message of server t is taken
@@ -93,8 +96,8 @@ module _ {W A : Type 0} {g : Ghosts W} (work : Meaning W) where
       (a b : House W A g) (t : ℕ) (m : Message W) (x : Step W) → message_of t x ≡ m ∷ [] → ((s : ℕ) → s ≢ t → message_of s x ≡ [])
       → rings_of b ≡ rings_of a → received b t ≡ received a t ++ m ∷ [] → known a t ≡ m ∷ known b t
       → ((s : ℕ) → s ≢ t → (received b s ≡ received a s) × (known b s ≡ known a s))
-      → Follows work (core_of a) (core_of b) (x ∷ []) → Made work a b (x ∷ [])
-  made_one a b t m x here elsewhere same taken first others f = record {
+      → ((s : ℕ) → handed_of b s ≡ handed_of a s) → Follows work (core_of a) (core_of b) (x ∷ []) → Made work a b (x ∷ [])
+  made_one a b t m x here elsewhere same taken first others handed f = record {
     steps = f;
     rings = same;
     received = λ s. elim (cases_eq s t) [
@@ -105,20 +108,21 @@ module _ {W A : Type 0} {g : Ghosts W} (work : Meaning W) where
       | inl e ↦ rw (e, here, first) ([], append-nil (m ∷ known b t))
       | inr n ↦ rw (elsewhere s n, (others s n).1) ([], append-nil (known a s))
     ];
+    handed = handed;
   }
 
   pub made_job :
       (a b : House W A g) (t : ℕ) (job : W)
       → rings_of b ≡ rings_of a → received b t ≡ received a t ++ Job job ∷ [] → known a t ≡ Job job ∷ known b t
       → ((s : ℕ) → s ≢ t → (received b s ≡ received a s) × (known b s ≡ known a s))
-      → Follows work (core_of a) (core_of b) (step.Submit t job ∷ []) → Made work a b (step.Submit t job ∷ [])
+      → ((s : ℕ) → handed_of b s ≡ handed_of a s) → Follows work (core_of a) (core_of b) (step.Submit t job ∷ []) → Made work a b (step.Submit t job ∷ [])
   made_job a b t job = made_one a b t (Job job) (step.Submit t job) (rw (eqb_same t) refl) (λ s n. rw (eqb_other t s n) refl)
 
   pub made_end :
       (a b : House W A g) (t : ℕ)
       → rings_of b ≡ rings_of a → received b t ≡ received a t ++ End ∷ [] → known a t ≡ End ∷ known b t
       → ((s : ℕ) → s ≢ t → (received b s ≡ received a s) × (known b s ≡ known a s))
-      → Follows work (core_of a) (core_of b) (step.Close t ∷ []) → Made work a b (step.Close t ∷ [])
+      → ((s : ℕ) → handed_of b s ≡ handed_of a s) → Follows work (core_of a) (core_of b) (step.Close t ∷ []) → Made work a b (step.Close t ∷ [])
   made_end a b t = made_one a b t End (step.Close t) (rw (eqb_same t) refl) (λ s n. rw (eqb_other t s n) refl)
 
   -- a run that finished no job leaves the results

@@ -15,7 +15,7 @@ use Rattle.cbs_house.specs.declared.feed.Feed.{Feed}
 use Rattle.cbs_house.specs.declared.house.House.{House}
 use Rattle.cbs_house.specs.declared.poll.Poll.{Poll}
 use Rattle.cbs_house.specs.declared.poll.Poll.TheVariants.{Nothing, Took, Closed, Full, OutOfMemory, NoSuchServer}
-use Rattle.cbs_house.specs.Houses.{core_of, rings_of, received, known, Made, Moves, LooksOnly, Polled}
+use Rattle.cbs_house.specs.Houses.{core_of, rings_of, received, known, handed_of, Made, Moves, LooksOnly, Polled}
 use Rattle.cbs_house.specs.Rounds.{ServesOn, IsSettled}
 use Rattle.cbs_house.specs.Steps.{messages_of, pops_of, pops, MayServe}
 use Rattle.cbs_core.specs.Continuations.{MayDrain}
@@ -64,6 +64,9 @@ module _ {W A : Type 0} {g : Ghosts W} (work : Meaning W) (P : History W → Ste
   pub moves_made : (a b : House W A g) → Made work a b [] → Moves work P a b 0
   moves_made a b m = record { some = ([], m, λ M agrees. tt, refl) }
 
+  pub moves_handed : (a b : House W A g) (n : ℕ) → Moves work P a b n → (s : ℕ) → handed_of b s ≡ handed_of a s
+  moves_handed a b n m = m.some.1.handed
+
   pub moves_rings : (a b : House W A g) (n : ℕ) → Moves work P a b n → rings_of b ≡ rings_of a
   moves_rings a b n m = m.some.1.rings
 
@@ -106,6 +109,9 @@ module _ {W A : Type 0} {g : Ghosts W} (work : Meaning W) where
   pub serves_looked : (a b c : House W A g) → ServesOn work a b → LooksOnly b c → ServesOn work a c
   serves_looked a b c done looked = serves_then a b c done (serves_look b c looked)
 
+  pub serves_handed : (a b : House W A g) → ServesOn work a b → (s : ℕ) → handed_of b s ≡ handed_of a s
+  serves_handed a b m = moves_handed work (MayServe work) a b m.moves.0 m.moves.1
+
   pub serves_rings : (a b : House W A g) → ServesOn work a b → rings_of b ≡ rings_of a
   serves_rings a b m = moves_rings work (MayServe work) a b m.moves.0 m.moves.1
 
@@ -113,7 +119,7 @@ pub ruleset serving = (serves_none, serves_then, serves_drain, serves_poll, serv
 
 module _ {W A : Type 0} {g : Ghosts W} where
   pub looks_none : (a : House W A g) → LooksOnly a a
-  looks_none a = record { core = refl; rings = refl; received = λ s. refl; results = λ s. refl; known = λ s. ([], append-nil (known a s)) }
+  looks_none a = record { core = refl; rings = refl; received = λ s. refl; results = λ s. refl; known = λ s. ([], append-nil (known a s)); handed = λ s. refl }
 
   pub looks_then : (a b c : House W A g) → LooksOnly a b → LooksOnly b c → LooksOnly a c
   looks_then a b c p q = record {
@@ -122,6 +128,7 @@ module _ {W A : Type 0} {g : Ghosts W} where
     received = λ s. q.received s ∙ p.received s;
     results = λ s. q.results s ∙ p.results s;
     known = λ s. prefix_along (known a s) (known b s) (known c s) (p.known s) (q.known s);
+    handed = λ s. q.handed s ∙ p.handed s;
   }
 
   -- what was settled stays so while nothing is popped

@@ -34,9 +34,10 @@ module _ {W A : Type 0} where
 
 module _ {W : Type 0} (work : Meaning W) where
   module _ (core : CoreHeld W) (setup : Setup) (agrees : Agrees work core (record { setup = setup; steps = [] })) where
-    pub new_kept : (s : ℕ) → s < length core.faces → KeepsServer work (held_at core s) [] []
+    pub new_kept : (s : ℕ) → s < length core.faces → KeepsServer work (held_at core s) [] 0 []
     new_kept s l = let n = new_server work core setup agrees s l in record {
       outputs = rw n.jobs refl;
+      within = omega arith;
       accepted = n.accepted;
       finished = n.finished;
       closed = n.unclosed;
@@ -49,7 +50,7 @@ module _ {W : Type 0} (work : Meaning W) where
     housed_new r shelves rings count new empty some = record {
       ring_count = rings;
       shelf_count = count;
-      servers = λ s l. rw ((new_rings r new s).0, (empty s).results) (new_kept s l);
+      servers = λ s l. rw ((new_rings r new s).0, (empty s).handed, (empty s).results) (new_kept s l);
       announced = λ s l. (empty s).announced ∙ sym (new_kept s l).accepted;
       history = λ none. none (record { setup = setup; steps = [] }) agrees;
       backlog = rw agrees.world.same_backlog some;

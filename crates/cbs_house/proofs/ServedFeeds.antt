@@ -1,5 +1,5 @@
 -- What is served at the end.
-use Rattle.std.proofs.Common.{◌≡◌, ◌<◌, ◌++◌, List, length, map, get_or, ap, sym, ◌∙◌, arith}
+use Rattle.std.proofs.Common.{◌≡◌, ◌<◌, ◌++◌, List, drop, length, map, get_or, ap, sym, ◌∙◌, arith}
 use Rattle.std.specs.List.{All}
 use Rattle.std.proofs.lemmas.List.{append-nil}
 use Rattle.cbs_job.specs.Work.{Meaning, whole}
@@ -7,7 +7,7 @@ use Rattle.cbs_job.specs.declared.work.Work.{Ghosts}
 use Rattle.cbs_house.specs.Clients.{server_of, sent_by}
 use Rattle.cbs_house.specs.Feeds.{IsDone, all_jobs}
 use Rattle.cbs_house.specs.HouseInvariant.{Housed}
-use Rattle.cbs_house.specs.Houses.{core_of, rings_of, received, results_of, AllFinished}
+use Rattle.cbs_house.specs.Houses.{core_of, rings_of, received, results_of, handed_of, AllFinished}
 use Rattle.cbs_core.specs.Held.{HoldsNoJob}
 use Rattle.cbs_house.specs.Messages.{jobs_among}
 use Rattle.cbs_house.specs.RingEnds.{IsOpened}
@@ -28,7 +28,7 @@ module _ {W A : Type 0} {g : Ghosts W} (work : Meaning W) (h : House W A g) (hou
       let all : jobs_among (received h s) ≡ all_jobs f = ap jobs_among settled ∙ (sym (append-nil (jobs_among (sent_by f.client))) ∙ ap (λ ws. jobs_among (sent_by f.client) ++ ws) (sym done.none_left)) in
       record {
         done = done;
-        results = none_held none s l ∙ ap (map (whole work)) all;
+        results = none_held none s l ∙ ap (λ ws. drop (handed_of h s) (map (whole work) ws)) all;
       }
 
   -- where no job is held, all feeds are done and all their messages received, all is served

@@ -4,23 +4,29 @@ use Rattle.cbs_job.specs.declared.completion.Completion.{Completion}
 use Rattle.cbs_house.specs.declared.error.CollectError.{CollectError}
 use Rattle.cbs_house.specs.declared.error.CollectError.TheVariants.{Stranger, Double, Early}
 
--- what a collector holds of one server: the results taken, in order, how many completions were announced, and how many more
--- can be announced with no allocation
+-- what a collector holds of one server: how many results were handed out; the results kept, which were taken behind those, in
+-- order; how many completions were announced, and how many more can be announced with no allocation
 pub record Shelved : Type 0 where
+  pub handed : ℕ
   pub results : List ℕ
   pub announced : ℕ
   pub spare : ℕ
 
 -- what is held of a server before its first result, and where there is no such server
 abbrev pub no_shelf : Shelved
-no_shelf = record { results = []; announced = 0; spare = 0 }
+no_shelf = record { handed = 0; results = []; announced = 0; spare = 0 }
 
 -- what is held of server s
 abbrev pub shelf_at : List Shelved → ℕ → Shelved
 shelf_at c s = get_or c s no_shelf
 
+-- how many results were taken: those handed out, and those kept
+abbrev pub taken : Shelved → ℕ
+taken h = h.handed + length h.results
+
 -- results and announcements of a server are as before, and where one more could be announced with no allocation, it still can
 pub record SameShelf (old new : Shelved) : Type 0 where
+  pub handed : new.handed ≡ old.handed
   pub results : new.results ≡ old.results
   pub announced : new.announced ≡ old.announced
   pub spare : 0 < old.spare → 0 < new.spare
@@ -35,34 +41,42 @@ AllShelvesSame old new = (t : ℕ) → SameShelf (shelf_at old t) (shelf_at new 
 
 -- one more completion is announced
 pub record Announces (old new : Shelved) : Type 0 where
+  pub handed : new.handed ≡ old.handed
   pub results : new.results ≡ old.results
   pub announced : new.announced ≡ old.announced + 1
 
 -- a result was taken, behind the others, and where one more could be announced with no allocation, it still can
 pub record TakesResult (result : ℕ) (old new : Shelved) : Type 0 where
+  pub handed : new.handed ≡ old.handed
   pub results : new.results ≡ old.results ++ result ∷ []
   pub announced : new.announced ≡ old.announced
   pub spare : 0 < old.spare → 0 < new.spare
 
+-- the results were handed out: none of them is kept, and they are counted
+pub record HandsOut (old new : Shelved) : Type 0 where
+  pub handed : new.handed ≡ taken old
+  pub results : new.results ≡ []
+  pub announced : new.announced ≡ old.announced
+
 -- a completion was announced and not taken
 abbrev pub IsWaiting : Shelved → Type 0
-IsWaiting h = length h.results < h.announced
+IsWaiting h = taken h < h.announced
 
 -- every completion that was announced was taken
 abbrev pub IsComplete : Shelved → Type 0
-IsComplete h = h.announced ≡ length h.results
+IsComplete h = h.announced ≡ taken h
 
 -- the completion is the next one: of a known server, with the number of results taken so far, and announced
 pub record IsNext (c : List Shelved) (done : Completion) : Type 0 where
   pub known : done.server < length c
-  pub number : done.seq ≡ length (shelf_at c done.server).results
+  pub number : done.seq ≡ taken (shelf_at c done.server)
   pub announced : done.seq < (shelf_at c done.server).announced
 
 -- why a completion of job seq is refused where this is held of its server, if it is
 abbrev pub shelf_refusal : Shelved → ℕ → Option CollectError
 shelf_refusal h seq =
-    if ltb seq (length h.results) then Some Double
-    else if ltb (length h.results) seq || leb h.announced seq then Some Early
+    if ltb seq (taken h) then Some Double
+    else if ltb (taken h) seq || leb h.announced seq then Some Early
     else None
 
 -- why a completion is refused, if it is

@@ -1,5 +1,5 @@
 -- What a contract sees of a house.
-use Rattle.std.specs.Prelude.{ℕ, ◌≡◌, ◌≢◌, ◌⊎◌, ◌≤◌, ◌<◌, true, Result, Ok, Err, List, [], ◌∷◌, ◌++◌, length, map}
+use Rattle.std.specs.Prelude.{ℕ, ◌≡◌, ◌≢◌, ◌⊎◌, ◌+◌, ◌≤◌, ◌<◌, true, Result, Ok, Err, List, [], ◌∷◌, ◌++◌, drop, length, map}
 use mathlib.Core.List.{IsPrefix}
 use Rattle.cbs_job.specs.Work.{Meaning, whole}
 use Rattle.cbs_job.specs.declared.work.Work.{Ghosts}
@@ -42,18 +42,23 @@ module _ {W A : Type 0} {g : Ghosts W} where
   abbrev pub known : House W A g → ℕ → List (Message W)
   known h s = known_in h.rings s
 
-  -- the results of server s, in order
+  -- how many results of server s were handed out
+  abbrev pub handed_of : House W A g → ℕ → ℕ
+  handed_of h s = (shelf_at h.collector s).handed
+
+  -- the results of server s that are kept, in order
   abbrev pub results_of : House W A g → ℕ → List ℕ
   results_of h s = (shelf_at h.collector s).results
 
   -- The house made these steps: whatever history its core agreed with, it now agrees with that and then the steps; the rings
-  -- are the same; what was received for each server is what the steps took, in order; and what is known to stand in a ring
-  -- gets shorter by a pop alone, from its front.
+  -- are the same; what was received for each server is what the steps took, in order; what is known to stand in a ring gets
+  -- shorter by a pop alone, from its front; and no result was handed out.
   pub record Made (work : Meaning W) (old new : House W A g) (xs : List (Step W)) : Type 0 where
     pub steps : Follows work (core_of old) (core_of new) xs
     pub rings : rings_of new ≡ rings_of old
     pub received : (s : ℕ) → received new s ≡ received old s ++ messages_of s xs
     pub known : (s : ℕ) → IsPrefix (known old s) (messages_of s xs ++ known new s)
+    pub handed : (s : ℕ) → handed_of new s ≡ handed_of old s
 
   -- the house looked at its rings, and nothing else
   pub record LooksOnly (old new : House W A g) : Type 0 where
@@ -62,6 +67,7 @@ module _ {W A : Type 0} {g : Ghosts W} where
     pub received : (s : ℕ) → received new s ≡ received old s
     pub results : (s : ℕ) → results_of new s ≡ results_of old s
     pub known : (s : ℕ) → IsPrefix (known old s) (known new s)
+    pub handed : (s : ℕ) → handed_of new s ≡ handed_of old s
 
   -- nothing of the house changed
   pub record SameHouse (old new : House W A g) : Type 0 where
@@ -70,6 +76,17 @@ module _ {W A : Type 0} {g : Ghosts W} where
     pub received : (s : ℕ) → received new s ≡ received old s
     pub known : (s : ℕ) → known new s ≡ known old s
     pub results : (s : ℕ) → results_of new s ≡ results_of old s
+    pub handed : (s : ℕ) → handed_of new s ≡ handed_of old s
+
+  -- the results of server s were handed out: none of them is kept, and they are counted; nothing else changed
+  pub record HandsOutResults (s : ℕ) (old new : House W A g) : Type 0 where
+    pub core : core_of new ≡ core_of old
+    pub rings : rings_of new ≡ rings_of old
+    pub received : (t : ℕ) → received new t ≡ received old t
+    pub known : (t : ℕ) → known new t ≡ known old t
+    pub results : results_of new s ≡ []
+    pub handed : handed_of new s ≡ handed_of old s + length (results_of old s)
+    pub others : (t : ℕ) → t ≢ s → (results_of new t ≡ results_of old t) × (handed_of new t ≡ handed_of old t)
 
 -- what a view is answered, by what the core answers
 abbrev pub view_answer : Result ServerView CoreError → Result ServerView HouseError
@@ -77,9 +94,10 @@ view_answer (Ok view) = Ok view
 view_answer (Err e) = Err house_error.NoSuchServer
 
 module _ {W A : Type 0} {g : Ghosts W} where
-  -- every job received is finished: the results of each server are what those jobs come to, in order
+  -- every job received is finished: the results of each server are what those jobs come to, in order, behind the results that
+  -- were handed out
   abbrev pub AllFinished : Meaning W → House W A g → Type 0
-  AllFinished work h = (s : ℕ) → s < length (core_of h).faces → results_of h s ≡ map (whole work) (jobs_among (received h s))
+  AllFinished work h = (s : ℕ) → s < length (core_of h).faces → results_of h s ≡ drop (handed_of h s) (map (whole work) (jobs_among (received h s)))
 
 module _ {W A : Type 0} {g : Ghosts W} where
   -- the house made some steps that each may stand where they stand, and they took n messages

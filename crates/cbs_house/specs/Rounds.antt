@@ -1,5 +1,5 @@
 -- What a contract says of rounds, and of serving.
-use Rattle.std.specs.Prelude.{ℕ, ◌≡◌, ◌≤◌, List, ◌++◌, length, map}
+use Rattle.std.specs.Prelude.{ℕ, ◌≡◌, ◌≤◌, List, ◌++◌, drop, length, map}
 use Rattle.std.specs.List.{All}
 use mathlib.Core.List.{IsPrefix}
 use Rattle.cbs_job.specs.Work.{Meaning, whole}
@@ -15,7 +15,7 @@ use Rattle.cbs_house.specs.declared.poll.Poll.{Poll}
 use Rattle.cbs_house.specs.declared.poll.Poll.TheVariants as poll
 use Rattle.cbs_house.specs.Clients.{server_of, sent_by}
 use Rattle.cbs_house.specs.Feeds.{IsOrderly, IsDone, all_jobs}
-use Rattle.cbs_house.specs.Houses.{core_of, rings_of, received, known, results_of, Moves}
+use Rattle.cbs_house.specs.Houses.{core_of, rings_of, received, known, results_of, handed_of, Moves}
 use Rattle.cbs_core.specs.Held.{HoldsJob, HoldsNoJob}
 use Rattle.cbs_house.specs.RingEnds.{IsOpened}
 use Rattle.cbs_house.specs.Steps.{MayServe}
@@ -56,10 +56,11 @@ module _ {W A : Type 0} {g : Ghosts W} where
   abbrev pub IsSettled : House W A g → Feed W A g → Type 0
   IsSettled h f = received h (server_of f.client) ≡ sent_by f.client
 
-  -- the feed is done, and the results of its server are what all its jobs come to, in order
+  -- the feed is done, and the results of its server are what all its jobs come to, in order, behind the results that were handed
+  -- out
   pub record IsServed (work : Meaning W) (h : House W A g) (f : Feed W A g) : Type 0 where
     pub done : IsDone f
-    pub results : results_of h (server_of f.client) ≡ map (whole work) (all_jobs f)
+    pub results : results_of h (server_of f.client) ≡ drop (handed_of h (server_of f.client)) (map (whole work) (all_jobs f))
 
   -- how the house stands where a round is not finished: by ClockEnd the clock is at its end with a job unfinished; of want of
   -- memory nothing is said

@@ -2,7 +2,7 @@
 
 ghost use Rattle.std.specs.Prelude.{ℕ, ◌≡◌, ◌<◌, ◌≤◌, ◌↔◌, ◌⊎◌, length, true, false, IfOk, OnOk, OnErr, IsOk, MatchResult, MatchOption, Some, None};
 ghost use Rattle.std.specs.List.{All};
-ghost use Rattle.cbs_house.specs.Collected.{shelf_at, no_shelf, SameShelf, OtherShelvesSame, AllShelvesSame, Announces, TakesResult, IsWaiting, IsComplete, IsNext, take_refusal};
+ghost use Rattle.cbs_house.specs.Collected.{shelf_at, no_shelf, SameShelf, OtherShelvesSame, AllShelvesSame, Announces, TakesResult, HandsOut, IsWaiting, IsComplete, IsNext, take_refusal};
 
 use crate::error::CollectError;
 use crate::shelf::Shelf;
@@ -10,8 +10,9 @@ use cbs_job::Completion;
 use std::alloc::{AllocError, Allocator, Global};
 use std::marker::Model;
 
-/// The results of all servers: of each server those of its jobs 0, 1, 2, .., in order, each once.
-/// A completion is announced before it is taken, and has its place from then on.
+/// The results of all servers: of each server those of its jobs 0, 1, 2, .., in order, each once; but
+/// for the first ones, where they were handed out. A completion is announced before it is taken, and has
+/// its place from then on.
 #[derive(Drop)]
 pub struct Collector<A: Allocator = Global> {
     shelves: Vec<Shelf<A>, A>,
@@ -47,7 +48,7 @@ impl<A: Allocator> Collector<A> {
     /// no memory. No result and no announcement changes.
     ///
     /// Refuses, in this order: [`CollectError::Stranger`] where there is no such server;
-    /// [`CollectError::OutOfMemory`] where an allocation is refused.
+    /// [`CollectError::OutOfMemory`] where an allocation is refused, or 2^64 - 1 completions are announced.
     pub fn make_room(&mut self, server: u16) -> Result<(), CollectError>
         ensures same { AllShelvesSame self.old self.new × (length self.new ≡ length self.old) }
         ensures room { OnOk result (0 < (shelf_at self.new server).spare) }
@@ -80,7 +81,8 @@ impl<A: Allocator> Collector<A> {
     /// [`make_room`](Collector::make_room) of that server since the last announcement of one.
     ///
     /// Refuses, in this order: [`CollectError::Stranger`] where there is no such server;
-    /// [`CollectError::OutOfMemory`] where an allocation is refused. Then nothing is announced.
+    /// [`CollectError::OutOfMemory`] where an allocation is refused, or 2^64 - 1 completions are announced.
+    /// Then nothing is announced.
     pub fn expect(&mut self, server: u16) -> Result<(), CollectError>
         ensures ok { OnOk result (Announces (shelf_at self.old server) (shelf_at self.new server)) }
         ensures others { OtherShelvesSame server self.old self.new × (length self.new ≡ length self.old) }
@@ -159,7 +161,34 @@ impl<A: Allocator> Collector<A> {
         false
     }
 
-    /// The results of a server, in order, or `None` where there is no such server.
+    /// Hands out the results of a server, in order, and keeps none of them. The numbers of its completions
+    /// go on, and each completion that is announced and not taken has its place still: that alone takes
+    /// memory, so that none is asked for where none is awaited.
+    ///
+    /// Refuses, in this order: [`CollectError::Stranger`] where there is no such server;
+    /// [`CollectError::OutOfMemory`] where an allocation is refused. Then nothing changed.
+    pub fn take_results(&mut self, server: u16) -> Result<Vec<u64, A>, CollectError>
+    where
+        A: Clone,
+        ensures ok { IfOk result (λ results. results.items ≡ (shelf_at self.old server).results) }
+        ensures handed { OnOk result (HandsOut (shelf_at self.old server) (shelf_at self.new server)) }
+        ensures others { OtherShelvesSame server self.old self.new × (length self.new ≡ length self.old) }
+        ensures refused { OnErr result (self.new ≡ self.old) }
+        ensures refusal { MatchResult result (λ _. server < length self.old)
+            (λ e. ((e ≡ CollectError.Stranger) × (length self.old ≤ server)) ⊎ ((e ≡ CollectError.OutOfMemory) × (server < length self.old))) }
+    {
+        let index = usize::from(server);
+        if index >= self.shelves.len() {
+            return Err(CollectError::Stranger);
+        }
+        let shelf = &mut self.shelves[index];
+        match shelf.hand_out() {
+            Ok(results) => Ok(results),
+            Err(_) => Err(CollectError::OutOfMemory),
+        }
+    }
+
+    /// The results of a server that are kept, in order, or `None` where there is no such server.
     pub fn results(&self, server: u16) -> Option<&[u64]>
         ensures { MatchOption result (length self.now ≤ server) (λ r. (server < length self.now) × (r.now ≡ (shelf_at self.now server).results)) }
     {

@@ -13,8 +13,8 @@ impl<W: Work, A: Allocator> House<W, A> {
     ghost use Rattle.cbs_core.specs.Continuations.{MayDrain};
 
     /// Runs until no accepted job is unfinished. Where nobody is ready it advances the clock by the
-    /// idle span, so that no time is lost; it takes no message. At `Ok` the results of each server are
-    /// those of all its jobs received.
+    /// idle span, so that no time is lost; it takes no message. At `Ok` the results of each server, behind
+    /// those that were handed out, are those of all its jobs received.
     ///
     /// Refuses by [`HouseError::ClockEnd`] where the clock stands at [`LIMIT`] with a job unfinished.
     /// The steps made stay made.

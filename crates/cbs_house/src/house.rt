@@ -35,7 +35,7 @@ impl<W: Work, A: Allocator> House<W, A> {
     ghost use Rattle.cbs_core.specs.declared.step.Step.TheVariants as step;
     ghost use Rattle.cbs_house.specs.Clients.{server_of, sent_by, free, SameClient};
     ghost use Rattle.cbs_house.specs.HouseInvariant.{KeepsServer};
-    ghost use Rattle.cbs_house.specs.Houses.{core_of, rings_of, received, known, results_of, view_answer, Made, LooksOnly, SameHouse, Polled, CanTake, Collects};
+    ghost use Rattle.cbs_house.specs.Houses.{core_of, rings_of, received, known, results_of, handed_of, view_answer, Made, LooksOnly, SameHouse, Polled, CanTake, Collects};
     ghost use Rattle.cbs_house.specs.RingEnds.{IsOpened};
 
     /// How many servers there are, at most 64. Their numbers are those below it.
@@ -222,12 +222,13 @@ impl<W: Work, A: Allocator> House<W, A> {
         }
     }
 
-    /// The results of a server, in the order of its jobs, or [`HouseError::NoSuchServer`].
+    /// The results of a server that were not handed out, in the order of its jobs, or [`HouseError::NoSuchServer`].
     pub fn results(&self, server: u16) -> Result<&[u64], HouseError>
         ensures ok { IfOk result (λ results. (server < length (core_of self.now).faces) × (results.now ≡ results_of self.now server)) }
         ensures error { IfErr result (λ error. (error ≡ HouseError.NoSuchServer) × (length (core_of self.now).faces ≤ server)) }
-        // At all times: with what the jobs held come to, they are what the jobs received come to.
-        ensures keeps { IfOk result (λ results. KeepsServer W.meaning (held_at (core_of self.now) server) (received self.now server) results.now) }
+        // At all times: with what the jobs held come to, they are what the jobs received come to, behind the
+        // results that were handed out.
+        ensures keeps { IfOk result (λ results. KeepsServer W.meaning (held_at (core_of self.now) server) (received self.now server) (handed_of self.now server) results.now) }
     {
         match self.collector.results(server) {
             Some(results) => Ok(results),

@@ -7,6 +7,7 @@ mod drain;
 mod error;
 mod feed;
 mod gate;
+mod handing;
 mod house;
 mod message;
 mod opening;

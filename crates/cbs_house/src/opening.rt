@@ -8,7 +8,7 @@ ghost use Rattle.cbs_core.specs.Setups.{terms_of};
 ghost use Rattle.cbs_core.specs.declared.step.Step.{Step};
 ghost use Rattle.cbs_rate.specs.Refusals.{RefusesByOrMemory};
 ghost use Rattle.cbs_house.specs.Clients.{server_of, ring_of};
-ghost use Rattle.cbs_house.specs.Houses.{core_of, rings_of, received, known, results_of};
+ghost use Rattle.cbs_house.specs.Houses.{core_of, rings_of, received, known, results_of, handed_of};
 ghost use Rattle.cbs_house.specs.Opened.{open_refusal, IsNewEnd, IsUnused};
 ghost use Rattle.cbs_house.specs.RingEnds.{rings_in, IsOpened};
 
@@ -45,7 +45,7 @@ pub fn open_house<W: Work, A: Allocator + Copy>(
 ) -> Result<(House<W, A>, Vec<Client<W, A>, A>), HouseError>
     requires { length modes ≡ length plan.rates }
     ensures agrees { IfOk result (λ r. Agrees W.meaning (core_of r.0) (record { setup = record { servers = terms_of modes plan.rates; backlog = backlog }; steps = [] })) }
-    ensures empty { IfOk result (λ r. (s : ℕ) → (received r.0 s ≡ []) × (known r.0 s ≡ []) × (results_of r.0 s ≡ [])) }
+    ensures empty { IfOk result (λ r. (s : ℕ) → (received r.0 s ≡ []) × (known r.0 s ≡ []) × (results_of r.0 s ≡ []) × (handed_of r.0 s ≡ 0)) }
     ensures clients { IfOk result (λ r. map server_of r.1.items ≡ range_with_len 0 (length plan.rates)) }
     ensures unused { IfOk result (λ r. All (IsUnused ring) r.1.items) }
     ensures opened { IfOk result (λ r. All (IsOpened (rings_of r.0)) r.1.items) }

@@ -22,8 +22,8 @@ use std::time::Clock;
 /// How many turns each round of serving has.
 const TURNS: u64 = 10_000;
 
-/// Serves the feeds until each is done and all its jobs are finished: the results of its server are
-/// then those of all its jobs, in order, each once, whatever the threads did.
+/// Serves the feeds until each is done and all its jobs are finished: the results of its server, behind
+/// those that were handed out, are then those of all its jobs, in order, each once, whatever the threads did.
 ///
 /// It makes rounds of 10000 turns ([`serve_round`]). After each it takes what stands in the rings,
 /// and drains; the gate is not told of the polls that it makes then. With no feed it makes one round,

@@ -1,5 +1,5 @@
 -- The results that a house has after it served the jobs of a file.
-use Rattle.std.proofs.Common.{◌≡◌, ℕ, ◌+◌, List, [], ◌∷◌, ◌++◌, length, map, refl, sym, ap, ap₂, ◌∙◌, arith}
+use Rattle.std.proofs.Common.{◌≡◌, ℕ, ◌+◌, List, [], ◌∷◌, ◌++◌, drop, length, map, refl, sym, ap, ap₂, ◌∙◌, arith}
 use Rattle.std.specs.List.{All, range_with_len}
 use Rattle.std.proofs.lemmas.List.{map-append}
 use Rattle.std.proofs.lemmas.List.FromFn.{map-range_with_len_more}
@@ -13,7 +13,7 @@ use Rattle.cbs_core.specs.Agreement.{Agrees}
 use Rattle.cbs_core.specs.declared.step.Step.{Step}
 use Rattle.cbs_house.specs.Clients.{server_of}
 use Rattle.cbs_house.specs.Feeds.{client_of, unsent_jobs, all_jobs, KeepsFeeds}
-use Rattle.cbs_house.specs.Houses.{core_of, results_of}
+use Rattle.cbs_house.specs.Houses.{core_of, results_of, handed_of}
 use Rattle.cbs_house.specs.Opened.{IsUnused}
 use Rattle.cbs_house.specs.Rounds.{IsServed, ServesOn, Stops}
 use Rattle.cbs_house.specs.declared.error.HouseError.{HouseError}
@@ -35,16 +35,16 @@ module _ {X Y : Type 0} where
   map_all f k (x ∷ xs) h = ap₂ ◌∷◌ (All-head (λ x. f x ≡ k x) x xs h) (map_all f k xs (All-tail (λ x. f x ≡ k x) x xs h))
 
 module _ {W A : Type 0} {g : Ghosts W} where
-  -- the results of the servers are those of the lists of jobs
+  -- where nothing was handed out, the results of the servers are those of the lists of jobs
   pub results_are : (work : Meaning W) (h : House W A g) (ring n : ℕ) (fs fs' : List (Feed W A g)) (jobs : List (List W)) → All (λ f. IsUnused ring (client_of f)) fs
-      → map (λ f. server_of (client_of f)) fs ≡ range_with_len 0 n → map unsent_jobs fs ≡ jobs → KeepsFeeds fs fs' → All (IsServed work h) fs' → map (results_of h) (range_with_len 0 n) ≡ map (map (whole work)) jobs
-  results_are work h ring n fs fs' jobs unused servers lefts kept served =
+      → map (λ f. server_of (client_of f)) fs ≡ range_with_len 0 n → map unsent_jobs fs ≡ jobs → KeepsFeeds fs fs' → ((s : ℕ) → handed_of h s ≡ 0) → All (IsServed work h) fs' → map (results_of h) (range_with_len 0 n) ≡ map (map (whole work)) jobs
+  results_are work h ring n fs fs' jobs unused servers lefts kept none served =
       let numbers : map (λ f. server_of (client_of f)) fs' ≡ range_with_len 0 n = feeds_servers fs fs' kept ∙ servers in
       let all : map all_jobs fs' ≡ jobs =
       feeds_jobs fs fs' kept ∙ (map_all all_jobs unsent_jobs fs (All-weaker (λ f. IsUnused ring (client_of f)) (λ f. all_jobs f ≡ unsent_jobs f) (unused_jobs ring) fs unused) ∙ lefts) in
       let each : map (λ f. results_of h (server_of (client_of f))) fs' ≡ map (λ f. map (whole work) (all_jobs f)) fs' =
       map_all (λ f. results_of h (server_of (client_of f))) (λ f. map (whole work) (all_jobs f)) fs'
-      (All-weaker (IsServed work h) (λ f. results_of h (server_of (client_of f)) ≡ map (whole work) (all_jobs f)) (λ f s. s.results) fs' served) in
+      (All-weaker (IsServed work h) (λ f. results_of h (server_of (client_of f)) ≡ map (whole work) (all_jobs f)) (λ f s. s.results ∙ ap (λ k. drop k (map (whole work) (all_jobs f))) (none (server_of (client_of f)))) fs' served) in
       ap (map (results_of h)) (sym numbers) ∙ (map-map (results_of h) (λ f. server_of (client_of f)) fs' ∙ (each ∙ (sym (map-map (map (whole work)) all_jobs fs') ∙ ap (map (map (whole work))) all)))
 
 module _ {A : Type 0} {g : Ghosts FileJob} (f : File) where

@@ -21,7 +21,7 @@ invariant_of-house g c =
     }
 
 pub returns-clause-empty : goal.returns-clause-empty
-returns-clause-empty g c = λ s. let r = new_rings c.in-Ok-open_rings.rings c.in-Ok-open_rings.ensures.new s in (r.0, r.1, (c.in-Ok-new.ensures.empty s).results)
+returns-clause-empty g c = λ s. let r = new_rings c.in-Ok-open_rings.rings c.in-Ok-open_rings.ensures.new s in (r.0, r.1, (c.in-Ok-new.ensures.empty s).results, (c.in-Ok-new.ensures.empty s).handed)
 
 pub returns-clause-opened : goal.returns-clause-opened
 returns-clause-opened g c =

@@ -22,5 +22,6 @@ returns-in-Err-clause-refused g c = (
     received = λ s. refl;
     known = λ s. refl;
     results = λ s. refl;
+    handed = λ s. refl;
   },
 )

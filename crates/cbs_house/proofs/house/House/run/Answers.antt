@@ -22,7 +22,7 @@ returns-in_default g c =
     record {
       reply = r.reply;
       rings = refl;
-      made = made_time work old _ Run (λ s. refl) r.state refl;
+      made = made_time work old _ Run (λ s. refl) r.state refl (λ s. refl);
       collects = collects_none work c.run-ran.result old _ c.in_default.not-Done (λ s. refl);
     }
 
@@ -37,7 +37,7 @@ invariant_of-self g c =
     record {
       housed = housed_one work old.core c.run-ran.new.self old.rings old.rings old.collector c.take_expected.new.self h done.server refl c.take_expected.ensures.others.1 r.count
           (Run ∷ []) r.state
-          (λ l. keeps_done work _ _ _ _ _ _ (h.servers done.server l) done r.job.0 refl taken.results)
+          (λ l. keeps_done work _ _ _ _ _ _ _ _ (h.servers done.server l) done r.job.0 refl taken.handed taken.results)
           (λ l. taken.announced ∙ (h.announced done.server l ∙ sym r.job.0.accepted))
           r.job.1 (λ s ne. refl) c.take_expected.ensures.others.0;
     }

@@ -1,6 +1,6 @@
 use Rattle.std.proofs.Common.{◌∙◌, ◌∷◌, [], refl, sym, arith}
 use Rattle.cbs_core.specs.declared.step.Step.TheVariants.{Submit, Close}
-use Rattle.cbs_house.proofs.HouseInvariant.{housed_one, keeps_job, keeps_end, same_shelf}
+use Rattle.cbs_house.proofs.HouseInvariant.{housed_one, keeps_job, keeps_end, same_shelf, none_handed}
 use Rattle.cbs_house.proofs.MadeSteps.{made_job, made_end}
 use Rattle.cbs_house.proofs.house.House.take_next.Goals as goal
 
@@ -16,7 +16,7 @@ invariant_of-self g c =
     record {
       housed = housed_one work old.core c.submit_reserved-number.new.self old.rings c.take.new.self old.collector e.new.self h s t.rings e.ensures.others.1 u.count
           (Submit s c.in-Job.task ∷ []) u.state
-          (λ l. keeps_job work _ _ _ _ _ _ (h.servers s l) c.in-Job.task c.submit_reserved-number.result u.job.0 c.requires.room.accepts.is_open.unclosed t.received e.ensures.announced.results)
+          (λ l. keeps_job work _ _ _ _ _ _ _ _ (h.servers s l) c.in-Job.task c.submit_reserved-number.result u.job.0 c.requires.room.accepts.is_open.unclosed t.received e.ensures.announced.handed e.ensures.announced.results)
           (λ l. let n = u.job.0.accepted in let m = e.ensures.announced.announced in omega (arith, h.announced s l))
           u.job.1 (λ r ne. (t.others r ne).0) e.ensures.others.0;
     }
@@ -32,7 +32,7 @@ invariant_of-self-in-End g c =
     record {
       housed = housed_one work old.core c.close_open.new.self old.rings c.take.new.self old.collector old.collector h s t.rings refl k.count
           (Close s ∷ []) k.state
-          (λ l. keeps_end work _ _ _ _ _ _ (h.servers s l) k.closed.0 c.requires.room.accepts.is_open.unclosed t.received refl)
+          (λ l. keeps_end work _ _ _ _ _ _ _ _ (h.servers s l) k.closed.0 c.requires.room.accepts.is_open.unclosed t.received refl refl)
           (λ l. h.announced s l ∙ sym k.closed.0.accepted)
           k.closed.1 (λ r ne. (t.others r ne).0) (λ r ne. same_shelf _);
     }
@@ -43,9 +43,11 @@ returns-in-Job-clause-polled g c =
     let s = c.args.server in
     let t = c.in-Job.ensures in
     let u = c.submit_reserved-number.ensures in
+    let e = c.expect_reserved in
     let accepts = c.requires.room.accepts in (
       c.in-Job.task,
-      made_job g.W.Work.meaning old _ s c.in-Job.task t.rings t.received t.known t.others u.state,
+      made_job g.W.Work.meaning old _ s c.in-Job.task t.rings t.received t.known t.others
+          (none_handed old.collector e.new.self s e.ensures.announced.handed e.ensures.others.0) u.state,
       accepts,
       u.job.0.number ∙ (old.housed.servers s accepts.is_open.within).accepted,
     )
@@ -54,6 +56,6 @@ pub returns-in-End-clause-polled : goal.returns-in-End-clause-polled
 returns-in-End-clause-polled g c =
     let t = c.in-End.ensures in
     let accepts = c.requires.room.accepts in (
-      made_end g.W.Work.meaning c.args.self.now _ c.args.server t.rings t.received t.known t.others c.close_open.ensures.state,
+      made_end g.W.Work.meaning c.args.self.now _ c.args.server t.rings t.received t.known t.others (λ s. refl) c.close_open.ensures.state,
       accepts,
     )

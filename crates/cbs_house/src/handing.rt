@@ -1,0 +1,44 @@
+//! Handing out results.
+
+use crate::error::{CollectError, HouseError};
+use crate::house::House;
+use cbs_job::Work;
+use std::alloc::Allocator;
+
+impl<W: Work, A: Allocator> House<W, A> {
+    ghost use Rattle.std.specs.Prelude.{◌≡◌, ◌⊎◌, ◌≤◌, ◌<◌, drop, length, map, IfOk, IfErr, OnOk, OnErr};
+    ghost use mathlib.Core.List.{IsPrefix};
+    ghost use Rattle.cbs_job.specs.Work.{whole};
+    ghost use Rattle.cbs_house.specs.Houses.{core_of, rings_of, received, results_of, handed_of, SameHouse, HandsOutResults};
+    ghost use Rattle.cbs_house.specs.Messages.{jobs_among};
+
+    /// Hands out the results of a server found so far, in the order of its jobs, and keeps none of them, so
+    /// that a house can serve for ever in bounded memory. All calls go on as before: the numbers of jobs do,
+    /// and [`results`](House::results) shows what comes from here on. So what the calls handed out, one
+    /// behind another, is at all times a front of what the jobs of the server come to, in order.
+    ///
+    /// Memory is taken for the places of the results of jobs that are accepted and not finished, so that
+    /// [`run`](House::run) and [`drain`](House::drain) need none; where no job is held, none is asked for.
+    ///
+    /// Refuses, in this order: [`HouseError::NoSuchServer`]; [`HouseError::OutOfMemory`] where an allocation,
+    /// or a clone of the allocator, is refused. Then nothing changed.
+    pub fn take_results(&mut self, server: u16) -> Result<Vec<u64, A>, HouseError>
+    where
+        A: Clone,
+        ensures ok { IfOk result (λ results. results.items ≡ results_of self.old server) }
+        ensures handed { OnOk result (HandsOutResults server self.old self.new) }
+        // What is handed out goes on where the results that were handed out before it end.
+        ensures front { IfOk result (λ results. IsPrefix results.items (drop (handed_of self.old server) (map (whole W.meaning) (jobs_among (received self.old server))))) }
+        ensures rings { rings_of self.new ≡ rings_of self.old }
+        ensures unchanged { OnErr result (SameHouse self.old self.new) }
+        ensures known { OnOk result (server < length (core_of self.old).faces) }
+        ensures refused { IfErr result (λ error. ((error ≡ HouseError.NoSuchServer) × (length (core_of self.old).faces ≤ server))
+            ⊎ ((error ≡ HouseError.OutOfMemory) × (server < length (core_of self.old).faces))) }
+    {
+        match self.collector.take_results(server) {
+            Ok(results) => Ok(results),
+            Err(CollectError::Stranger) => Err(HouseError::NoSuchServer),
+            Err(_) => Err(HouseError::OutOfMemory),
+        }
+    }
+}
