@@ -30,7 +30,8 @@ impl<W: Work, A: Allocator> House<W, A> {
     ghost use Rattle.cbs_core.specs.Quiet.{IsAtRest, IsIdleSpan};
     ghost use Rattle.cbs_core.specs.Held.{held_at, IsClosed};
     ghost use Rattle.cbs_core.specs.Faces.{face_at, view_reply};
-    ghost use Rattle.cbs_core.specs.Laws.{IsWithinBudget};
+    ghost use Rattle.cbs_core.specs.Laws.{account_in, IsWithinBudget};
+    ghost use Rattle.cbs_core.specs.Promised.{promised, AllFinishedBy};
     ghost use Rattle.cbs_core.specs.declared.reply.Reply.TheVariants as reply;
     ghost use Rattle.cbs_core.specs.declared.step.Step.TheVariants as step;
     ghost use Rattle.cbs_house.specs.Clients.{server_of, sent_by, free, SameClient};
@@ -205,6 +206,16 @@ impl<W: Work, A: Allocator> House<W, A> {
             → MatchOption result (¬ IsAtRest W.meaning (world_after W.meaning M)) (IsIdleSpan W.meaning (world_after W.meaning M)) }
     {
         self.core.idle_span()
+    }
+
+    /// By which tick every job that a server accepted so far is finished, as [`Core::promised`], if the
+    /// advances to come take no time from anybody, as those that [`drain`](House::drain) makes; `None`
+    /// where all are finished, and where there is no such server.
+    pub fn promised(&self, server: u16) -> Option<u128>
+        ensures value { (M : History W) → Agrees W.meaning (core_of self.now) M → result ≡ promised W.meaning (account_in W.meaning M server) }
+        ensures kept { IfSome result (λ tick. (M : History W) → Agrees W.meaning (core_of self.now) M → AllFinishedBy W.meaning M server tick) }
+    {
+        self.core.promised(server)
     }
 
     /// What a server shows, or [`HouseError::NoSuchServer`].
