@@ -6,6 +6,7 @@ mod in_time;
 mod jobs;
 mod lists;
 mod memory;
+mod promises;
 mod rates;
 mod rules;
 mod scheduling;

@@ -1,5 +1,5 @@
--- Lateness, demands, shares and due ticks of small examples, computed from the definitions. A job is the number of its units.
-use Rattle.std.proofs.Common.{◌≡◌, ℕ, ◌+◌, ◌-◌, ◌*◌, Bool, List, [], ◌∷◌, refl, true, map}
+-- Lateness, demands, shares, promises and due ticks of small examples, computed from the definitions. A job is the number of its units.
+use Rattle.std.proofs.Common.{◌≡◌, ℕ, ◌+◌, ◌-◌, ◌*◌, Bool, List, [], ◌∷◌, refl, true, map, Option, Some, None}
 use Rattle.std.specs.List.{sum_by}
 use Rattle.cbs_job.specs.Work.{Meaning}
 use Rattle.cbs_rules.specs.Rules.{Terms}
@@ -8,6 +8,7 @@ use Rattle.cbs_rules.specs.declared.mode.Mode.TheVariants.{Soft, Throttled}
 use Rattle.cbs_core.specs.Accounts.{Account, face_of}
 use Rattle.cbs_core.specs.History.{Setup, ticks, account, faces, after}
 use Rattle.cbs_core.specs.OnTime.{demand, is_late}
+use Rattle.cbs_core.specs.Promised.{promised}
 use Rattle.cbs_core.specs.Promises.{due}
 use Rattle.cbs_core.specs.declared.step.Step.{Step}
 use Rattle.cbs_core.specs.declared.step.Step.TheVariants.{Submit, Run, Advance}
@@ -78,3 +79,26 @@ third = Submit 0 1 ∷ Advance 24 ∷ Run ∷ Run ∷ Run ∷ second
 dues : map (due units (setup (server Soft 2 5 ∷ [])) 0) (first ∷ second ∷ third ∷ []) ≡ 5 ∷ 15 ∷ 35 ∷ []
 unfolding ticks
 dues = refl
+
+-- what is promised after the steps of a server of 2 ticks in every 5
+abbrev told : Mode → List (Step ℕ) → Option ℕ
+told m M = promised units (left_of (server m 2 5 ∷ []) M 0)
+
+abbrev three : List (Step ℕ)
+three = Submit 0 3 ∷ []
+
+-- a job of three units that comes at 0 has the budget of deadline 5, and one more: it is promised for 10, before each unit
+-- and after, by a soft server
+promised_soft : (told Soft [] ∷ told Soft three ∷ told Soft (Run ∷ three) ∷ told Soft (Run ∷ Run ∷ three) ∷ told Soft (Run ∷ Run ∷ Run ∷ three) ∷ [])
+    ≡ None ∷ Some 10 ∷ Some 10 ∷ Some 10 ∷ None ∷ []
+promised_soft = refl
+
+-- and by a throttled one, which has no budget left at 2, and a new one at 5
+promised_throttled : (told Throttled three ∷ told Throttled (Run ∷ Run ∷ three) ∷ told Throttled (Advance 3 ∷ Run ∷ Run ∷ three) ∷ told Throttled (Run ∷ Advance 3 ∷ Run ∷ Run ∷ three) ∷ [])
+    ≡ Some 10 ∷ Some 10 ∷ Some 10 ∷ None ∷ []
+unfolding ticks
+promised_throttled = refl
+
+-- four units more at 1: six are owed, the budget has one, and the five others want three budgets
+promised_more : told Soft (Submit 0 4 ∷ Run ∷ three) ≡ Some 20
+promised_more = refl
