@@ -3,6 +3,7 @@
 mod calls;
 mod collecting;
 mod errors;
+mod handing;
 mod meeting;
 mod memory;
 mod polling;

@@ -142,6 +142,21 @@ pub fn gave<A: Allocator>(rt: &impl Abort, house: &House<SumJob, A>, server: u16
     same(rt, "results", house.results(server), Ok(wanted));
 }
 
+/// Asks for the results of a server, to have them.
+pub fn hands_out<A: Allocator + Clone>(
+    rt: &impl Abort,
+    house: &mut House<SumJob, A>,
+    server: u16,
+    wanted: Result<&[u64], HouseError>,
+)
+    ensures { rings_of house.new ≡ rings_of house.old }
+{
+    match house.take_results(server) {
+        Ok(results) => same(rt, "take_results", Ok(results.as_slice()), wanted),
+        Err(error) => same(rt, "take_results", Err(error), wanted),
+    }
+}
+
 /// Makes a place for one more result.
 pub fn makes_room<A: Allocator>(
     rt: &impl Abort,
@@ -176,6 +191,19 @@ pub fn takes<A: Allocator>(
         result,
     };
     same(rt, "take", collector.take(done), wanted);
+}
+
+/// Asks for the results that were collected of a server, to have them.
+pub fn gives_up<A: Allocator + Clone>(
+    rt: &impl Abort,
+    collector: &mut Collector<A>,
+    server: u16,
+    wanted: Result<&[u64], CollectError>,
+) {
+    match collector.take_results(server) {
+        Ok(results) => same(rt, "take_results", Ok(results.as_slice()), wanted),
+        Err(error) => same(rt, "take_results", Err(error), wanted),
+    }
 }
 
 /// Looks at the results that were collected of a server.

@@ -1,6 +1,6 @@
 //! Completions, as a collector takes them.
 
-use super::calls::{announces, collected, makes_room, takes};
+use super::calls::{announces, collected, gives_up, makes_room, takes};
 use super::filled;
 use cbs_house::{CollectError, Collector};
 use linked_list_allocator::LocalHeap;
@@ -25,6 +25,16 @@ const SECOND: [((u16, u64, u64), Result<(), CollectError>); 6] = [
     ((2, 0, 3), Err(CollectError::Stranger)),
     ((1, 0, 3), Ok(())),
     ((1, 0, 4), Err(CollectError::Double)),
+];
+
+/// The same of a server of which four completions are announced and one result was handed out.
+const BEHIND: [((u16, u64, u64), Result<(), CollectError>); 6] = [
+    ((0, 0, 6), Err(CollectError::Double)),
+    ((0, 2, 8), Err(CollectError::Early)),
+    ((0, 1, 7), Ok(())),
+    ((0, 1, 7), Err(CollectError::Double)),
+    ((0, 2, 8), Ok(())),
+    ((0, 4, 9), Err(CollectError::Early)),
 ];
 
 /// Takes each completion, and looks for its answer.
@@ -73,4 +83,31 @@ fn each_server_has_its_own_results(rt: HostRuntime) {
     collected(&rt, &collector, 1, &[3]);
     let mut none = collector_of(&rt, rt.alloc(), 0);
     takes(&rt, &mut none, (0, 0, 1), Err(CollectError::Stranger));
+}
+
+#[test]
+fn completions_are_numbered_on_behind_results_handed_out(rt: HostRuntime) {
+    let heap = LocalHeap::new(rt.alloc(), 1 << 12).expect(&rt, "a heap");
+    let mut collector = Collector::new(&heap, 1).expect(&rt, "a collector");
+    for _completion in 0..4 {
+        announces(&rt, &mut collector, 0, Ok(()));
+    }
+    takes(&rt, &mut collector, (0, 0, 6), Ok(()));
+    let ballast = filled(&rt, rt.alloc(), &heap);
+    gives_up(&rt, &mut collector, 1, Err(CollectError::Stranger));
+    gives_up(&rt, &mut collector, 0, Err(CollectError::OutOfMemory));
+    collected(&rt, &collector, 0, &[6]);
+    drop(ballast);
+    gives_up(&rt, &mut collector, 0, Ok(&[6]));
+    collected(&rt, &collector, 0, &[]);
+    // The three that are announced have their places.
+    let ballast = filled(&rt, rt.alloc(), &heap);
+    answers(&rt, &mut collector, &BEHIND);
+    collected(&rt, &collector, 0, &[7, 8]);
+    takes(&rt, &mut collector, (0, 3, 9), Ok(()));
+    // None is awaited any more.
+    gives_up(&rt, &mut collector, 0, Ok(&[7, 8, 9]));
+    gives_up(&rt, &mut collector, 0, Ok(&[]));
+    takes(&rt, &mut collector, (0, 4, 1), Err(CollectError::Early));
+    drop(ballast);
 }
