@@ -9,6 +9,8 @@ pub mod MadeSteps
 pub mod Moves
 pub mod Turns
 pub mod OwnTurns
+pub mod OpenServers
+pub mod Tells
 pub mod StandingMessages
 pub mod Feeds
 pub mod ServedFeeds
