@@ -11,6 +11,7 @@ pub mod Turns
 pub mod OwnTurns
 pub mod OpenServers
 pub mod Tells
+pub mod Runs
 pub mod StandingMessages
 pub mod Feeds
 pub mod ServedFeeds

@@ -145,7 +145,7 @@ module _ {W A : Type 0} {g : Ghosts W} (work : Meaning W) where
   turn_serves a b t h = serves_then work a h.between b (serves_answered 0 a h.between h.polled.answers h.polled.answered) (serves_on h.between b t.ran t.advanced h.goes_on)
 
   -- what leads to a poll without memory, and on from it
-  lacked_behind : (a b c : House W A g) → ServesOn work a b → LackedMemory work b c → LackedMemory work a c
+  pub lacked_behind : (a b c : House W A g) → ServesOn work a b → LackedMemory work b c → LackedMemory work a c
   lacked_behind a b c h k = record { before = k.before; after = k.after; server = k.server; first = serves_then work a b k.before h k.first; polled = k.polled; rest = k.rest }
 
   lacked_before : (a b c : House W A g) → LackedMemory work a b → ServesOn work b c → LackedMemory work a c

@@ -18,7 +18,7 @@ impl<W: Work, A: Allocator> House<W, A> {
     ghost use Rattle.cbs_core.specs.Held.{HoldsNoJob};
     ghost use Rattle.cbs_house.specs.Houses.{core_of, rings_of, AllFinished};
     ghost use Rattle.cbs_house.specs.Rounds.{ServesOn};
-    ghost use Rattle.cbs_house.specs.Running.{AllClosed, open_servers, RunStops};
+    ghost use Rattle.cbs_house.specs.Running.{AllClosed, open_servers, MovesOn, RunsTelling, IsWaiting, RunStops};
     ghost use Rattle.cbs_house.specs.Sinks.{Tells};
 
     /// Takes turns ([`turn`](House::turn)) until every server is closed and every job is finished, and
@@ -46,10 +46,21 @@ impl<W: Work, A: Allocator> House<W, A> {
     {
         while !self.is_done() {
             if !self.move_on(rt, sink, idle_turns)? {
-                break;
+                return self.stand();
             }
         }
-        if self.is_done() {
+        Ok(())
+    }
+
+    /// Where no job is held: whether a server is open still.
+    fn stand(&self) -> Result<(), HouseError>
+        requires { HoldsNoJob (core_of self.now) }
+        ensures closed { OnOk result (AllClosed (core_of self.now)) }
+        ensures drained { OnOk result (HoldsNoJob (core_of self.now)) }
+        ensures finished { OnOk result (AllFinished W.meaning self.now) }
+        ensures stalled { IfErr result (λ error. (error ≡ HouseError.Stalled) × IsWaiting self.now) }
+    {
+        if self.open_servers() == 0 {
             Ok(())
         } else {
             Err(HouseError::Stalled)
@@ -59,7 +70,6 @@ impl<W: Work, A: Allocator> House<W, A> {
     /// Whether every server is closed and every job is finished.
     fn is_done(&self) -> bool
         ensures done { result ≡ true → AllClosed (core_of self.now) × HoldsNoJob (core_of self.now) }
-        ensures undone { result ≡ false → HoldsNoJob (core_of self.now) → 0 < open_servers (core_of self.now) }
     {
         self.open_servers() == 0 && !self.is_busy()
     }
@@ -86,12 +96,8 @@ impl<W: Work, A: Allocator> House<W, A> {
         sink: &mut S,
         turns: u64,
     ) -> Result<bool, HouseError>
-        ensures steps { ServesOn W.meaning self.old self.new }
-        ensures told { Tells S.hears self.old self.new sink.old sink.new }
-        ensures within { (core_of self.new).clock ≤ LIMIT × (open_servers (core_of self.new) ≤ 64) }
-        ensures moved { IfOk result (λ moved. moved ≡ true
-            → ((core_of self.old).clock < (core_of self.new).clock)
-            ⊎ (((core_of self.new).clock ≡ (core_of self.old).clock) × (open_servers (core_of self.new) < open_servers (core_of self.old)))) }
+        ensures run { RunsTelling W.meaning S.hears self.old self.new sink.old sink.new }
+        ensures moved { IfOk result (λ moved. moved ≡ true → MovesOn (core_of self.old) (core_of self.new)) }
         ensures idle { IfOk result (λ moved. moved ≡ false → HoldsNoJob (core_of self.new)) }
         ensures stops { IfErr result (λ error. RunStops W.meaning error self.old self.new) }
     {
@@ -100,7 +106,8 @@ impl<W: Work, A: Allocator> House<W, A> {
         let mut pause = Pause::new();
         for _ in 0..turns.max(1) {
             self.tell_turn(sink)?;
-            if self.now() > tick || self.open_servers() < open {
+            let left = self.open_servers();
+            if self.now() > tick || left < open {
                 return Ok(true);
             }
             pause.idle(rt);
@@ -110,8 +117,7 @@ impl<W: Work, A: Allocator> House<W, A> {
 
     /// Takes a turn, and tells the sink of a completion.
     fn tell_turn<S: Sink>(&mut self, sink: &mut S) -> Result<(), HouseError>
-        ensures steps { ServesOn W.meaning self.old self.new }
-        ensures told { Tells S.hears self.old self.new sink.old sink.new }
+        ensures run { RunsTelling W.meaning S.hears self.old self.new sink.old sink.new }
         ensures on { (core_of self.old).clock ≤ (core_of self.new).clock }
         ensures idle { OnOk result (((core_of self.old).clock < (core_of self.new).clock) ⊎ HoldsNoJob (core_of self.new)) }
         ensures stops { IfErr result (λ error. RunStops W.meaning error self.old self.new) }

@@ -7,13 +7,14 @@ behind_ok : {T E : Type 0} (r : Result T E) (P Q : Type 0) → (P → Q) → OnO
 behind_ok (Ok x) P Q f p = f p
 behind_ok (Err e) P Q f p = tt
 
-pub returns-clause-steps : goal.returns-clause-steps
-returns-clause-steps g c = turn_serves g.W.Work.meaning c.args.self.now c.turn-turn.new.self c.turn-turn.result c.turn-turn.ensures.turn
-
-pub returns-clause-told : goal.returns-clause-told
-returns-clause-told g c =
+pub returns-clause-run : goal.returns-clause-run
+returns-clause-run g c =
     let t = c.turn-turn in
-    tells_run g.S.Sink.hears t.result.ran c.args.self.now t.new.self c.args.sink.now c.tell.new.sink t.ensures.collects t.ensures.numbered c.tell.ensures
+    let a = c.args.self.now in
+    record {
+      steps = turn_serves g.W.Work.meaning a t.new.self t.result t.ensures.turn;
+      told = tells_run g.S.Sink.hears t.result.ran a t.new.self c.args.sink.now c.tell.new.sink t.ensures.collects t.ensures.numbered c.tell.ensures;
+    }
 
 pub returns-clause-on : goal.returns-clause-on
 returns-clause-on g c = turn_on c.args.self.now c.turn-turn.new.self c.turn-turn.result c.turn-turn.ensures.turn
