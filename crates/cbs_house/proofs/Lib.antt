@@ -9,6 +9,9 @@ pub mod MadeSteps
 pub mod Moves
 pub mod Turns
 pub mod OwnTurns
+pub mod OpenServers
+pub mod Tells
+pub mod Runs
 pub mod StandingMessages
 pub mod Feeds
 pub mod ServedFeeds

@@ -36,7 +36,7 @@ prefix_through a e b r p q z k =
 pub eqb_same : (t : ℕ) → eqb t t ≡ true
 eqb_same t = grind (arith, nat_tests)
 
-eqb_other : (t s : ℕ) → s ≢ t → eqb t s ≡ false
+pub eqb_other : (t s : ℕ) → s ≢ t → eqb t s ≡ false
 eqb_other t s n = grind (arith, nat_tests)
 
 -- what more room leaves

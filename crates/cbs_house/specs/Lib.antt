@@ -11,5 +11,7 @@ pub mod Feeds
 pub mod Turns
 pub mod Polls
 pub mod OwnTurns
+pub mod Sinks
+pub mod Running
 pub mod Rounds
 pub mod Opened

@@ -13,7 +13,7 @@ use Rattle.cbs_core.specs.declared.reply.Reply.TheVariants as reply
 use Rattle.cbs_core.specs.declared.step.Step.TheVariants.{Run, Advance}
 use Rattle.cbs_house.specs.declared.house.House.{House}
 use Rattle.cbs_house.specs.declared.turn.Turn.{Turn}
-use Rattle.cbs_house.specs.Houses.{core_of, Made}
+use Rattle.cbs_house.specs.Houses.{core_of, results_of, Made}
 use Rattle.cbs_house.specs.Polls.{PollsEach}
 
 module _ {W A : Type 0} {g : Ghosts W} where
@@ -39,6 +39,13 @@ module _ {W A : Type 0} {g : Ghosts W} where
   abbrev pub GoesOn : Meaning W → House W A g → House W A g → Ran → ℕ → Type 0
   GoesOn work old new told n =
       (RunsOne work old new told × (n ≡ 0)) ⊎ (Advances work old new n × (told ≡ ran.Idle)) ⊎ ((new ≡ old) × StaysBy told old × (n ≡ 0))
+
+  -- a completion has the number of its place among the results of its server, of which it is the next
+  abbrev pub IsNumbered : Ran → House W A g → Type 0
+  IsNumbered ran.Idle h = Unit {0}
+  IsNumbered ran.ClockEnd h = Unit {0}
+  IsNumbered (ran.Unit s q) h = Unit {0}
+  IsNumbered (ran.Done c) h = c.seq ≡ length (results_of h c.server)
 
   -- the house took a turn and told this of it: it polled each server once, in the order of their numbers, and then went on
   pub record TakesOwnTurn (work : Meaning W) (old new : House W A g) (turn : Turn) : Type 0 where

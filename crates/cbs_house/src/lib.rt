@@ -16,9 +16,11 @@ mod poll;
 mod polls;
 mod rings;
 mod round;
+mod running;
 mod senders;
 mod serving;
 mod shelf;
+mod sink;
 mod turn;
 
 pub use client::{Client, SendRefused};
@@ -32,4 +34,5 @@ pub use opening::{MAX_RING, open_house};
 pub use poll::Poll;
 pub use round::{Round, serve_round};
 pub use serving::serve;
+pub use sink::{NoSink, Sink};
 pub use turn::Turn;

@@ -24,7 +24,7 @@ pub struct Turn {
 impl<W: Work, A: Allocator> House<W, A> {
     ghost use Rattle.std.specs.Prelude.{ℕ, ◌≡◌, ◌<◌, ◌≤◌, length};
     ghost use Rattle.cbs_house.specs.Houses.{core_of, rings_of, results_of, Collects};
-    ghost use Rattle.cbs_house.specs.OwnTurns.{GoesOn, TakesOwnTurn};
+    ghost use Rattle.cbs_house.specs.OwnTurns.{GoesOn, IsNumbered, TakesOwnTurn};
     ghost use Rattle.cbs_core.specs.Held.{HoldsJob};
 
     /// Takes one turn: polls each server once, in the order of their numbers, and then runs one unit, as
@@ -38,6 +38,7 @@ impl<W: Work, A: Allocator> House<W, A> {
         ensures few { result.took ≤ length (core_of self.old).faces }
         ensures rings { rings_of self.new ≡ rings_of self.old }
         ensures collects { Collects result.ran self.old self.new }
+        ensures numbered { IsNumbered result.ran self.old }
     {
         let polls = poll_each(&OpenGate, self);
         let (ran, advanced) = self.go_on_if_busy();
@@ -55,6 +56,7 @@ impl<W: Work, A: Allocator> House<W, A> {
         ensures goes_on { GoesOn W.meaning self.old self.new result.0 result.1 }
         ensures rings { rings_of self.new ≡ rings_of self.old }
         ensures collects { Collects result.0 self.old self.new }
+        ensures numbered { IsNumbered result.0 self.old }
     {
         if !self.is_busy() {
             return (Ran::Idle, 0);

@@ -4,6 +4,7 @@ use Rattle.cbs_core.specs.Held.{HoldsJob}
 use Rattle.cbs_core.proofs.Laws.{busy_by}
 use Rattle.cbs_house.specs.Houses.{core_of}
 use Rattle.cbs_house.proofs.MadeSteps.{on_ok, span_granted}
+use Rattle.cbs_house.proofs.OwnTurns.{numbered}
 use Rattle.cbs_house.proofs.house.House.go_on_if_busy.Goals as goal
 
 pub returns-in-None-clause-goes_on : goal.returns-in-None-clause-goes_on
@@ -36,3 +37,6 @@ returns-in-Some-clause-goes_on g c =
       },
       refl,
     ))
+
+pub returns-in-None-clause-numbered : goal.returns-in-None-clause-numbered
+returns-in-None-clause-numbered g c = numbered g.W.Work.meaning c.args.self.now c.args.self.now.housed c.run.result c.run.ensures.reply

@@ -1,4 +1,4 @@
-use Rattle.cbs_house.proofs.OwnTurns.{collects_behind}
+use Rattle.cbs_house.proofs.OwnTurns.{collects_behind, numbered_behind}
 use Rattle.cbs_house.proofs.house.House.turn.Goals as goal
 
 pub returns-clause-collects : goal.returns-clause-collects
@@ -6,3 +6,9 @@ returns-clause-collects g c =
     let p = c.poll_each-polls in
     let o = c.go_on_if_busy-ran in
     collects_behind o.result.0 c.args.self.now p.new.house o.new.self p.ensures.results o.ensures.collects
+
+pub returns-clause-numbered : goal.returns-clause-numbered
+returns-clause-numbered g c =
+    let p = c.poll_each-polls in
+    let o = c.go_on_if_busy-ran in
+    numbered_behind o.result.0 c.args.self.now p.new.house p.ensures.results o.ensures.numbered

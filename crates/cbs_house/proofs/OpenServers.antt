@@ -1,0 +1,49 @@
+-- How many servers are open.
+use Rattle.std.proofs.Common.{◌≡◌, ◌↔◌, ℕ, suc, ◌+◌, ◌<◌, ◌≤◌, Bool, true, false, not, cond, List, [], ◌∷◌, length, get_or, take, refl, sym, ◌∙◌, arith, inl, inr}
+use Rattle.std.specs.Prelude.{IsTrue}
+use Rattle.std.specs.List.{count_by}
+use Rattle.std.proofs.lemmas.Bool.{cases_eq, false≢true, not-true, not-false}
+use Rattle.std.proofs.lemmas.List.Sums.{sum_by-cons, get_or-le-sum_by, count_by_more_yes, count_by_more_no}
+use Rattle.cbs_core.specs.Faces.{Face, face_at, no_face}
+use Rattle.cbs_core.specs.Held.{CoreHeld, IsOpen, IsClosed}
+use Rattle.cbs_house.specs.Running.{AllClosed, open_servers}
+
+one_or_none : (b : Bool) → cond b 1 0 ≤ 0 → b ≡ false
+one_or_none true l = absurd (omega (arith, l))
+one_or_none false l = refl
+
+-- where nothing of a list passes a test, no element does
+none_pass : (p : Face → Bool) (fs : List Face) (s : ℕ) → s < length fs → count_by p fs ≡ 0 → p (get_or fs s no_face) ≡ false
+none_pass p fs s lt e = one_or_none (p (get_or fs s no_face)) (let l = get_or-le-sum_by (λ (f : Face). cond (p f) 1 0) fs s no_face lt in omega (arith, l, e))
+
+-- where something does, some element does: the first, or one of the rest
+first_passes : (p : Face → Bool) (f : Face) (fs : List Face) (b : Bool) → p f ≡ b → (0 < count_by p fs → (s : ℕ) × (s < length fs) × (p (get_or fs s no_face) ≡ true))
+    → 0 < cond b 1 0 + count_by p fs → (s : ℕ) × (s < length (f ∷ fs)) × (p (get_or (f ∷ fs) s no_face) ≡ true)
+first_passes p f fs true e rest lt = (0, omega arith, e)
+first_passes p f fs false e rest lt = let k = rest (omega (arith, lt)) in let l = k.1 in (suc k.0, omega (arith, l), k.2)
+
+some_pass : (p : Face → Bool) (fs : List Face) → 0 < count_by p fs → (s : ℕ) × (s < length fs) × (p (get_or fs s no_face) ≡ true)
+some_pass p [] lt = absurd (omega (arith, lt))
+some_pass p (f ∷ fs) lt = first_passes p f fs (p f) refl (some_pass p fs) (let e = sum_by-cons (λ (f : Face). cond (p f) 1 0) f fs in omega (arith, e, lt))
+
+open_by : (b r : Bool) (P : Type 0) → (b ≡ true → P) → (P → r ≡ true) → r ≡ false → not b ≡ true
+open_by true r P f h e = absurd (false≢true (sym e ∙ h (f refl)))
+open_by false r P f h e = refl
+
+module _ {W : Type 0} (core : CoreHeld W) where
+  -- where no server is open, every server is closed
+  pub none_open : open_servers core ≡ 0 → AllClosed core
+  none_open e s lt = record { within = lt; closed = not-false (face_at core.faces s).closed (none_pass (λ f. not f.closed) core.faces s lt e) }
+
+  -- where the count is more than 0, some server is open
+  pub some_open : 0 < open_servers core → (s : ℕ) × IsOpen core s
+  some_open lt = let k = some_pass (λ f. not f.closed) core.faces lt in (k.0, record { within = k.1; unclosed = not-true (face_at core.faces k.0).closed k.2 })
+
+  -- one more server is looked at
+  pub counted_open : (s : ℕ) (r : Bool) → (IsTrue r ↔ IsClosed core s) → s < length core.faces → r ≡ false
+      → count_by (λ (f : Face). not f.closed) (take (s + 1) core.faces) ≡ count_by (λ (f : Face). not f.closed) (take s core.faces) + 1
+  counted_open s r h lt e = count_by_more_yes (λ (f : Face). not f.closed) core.faces s no_face lt (open_by (face_at core.faces s).closed r (IsClosed core s) (λ k. record { within = lt; closed = k }) h.1 e)
+
+  pub counted_closed : (s : ℕ) (r : Bool) → (IsTrue r ↔ IsClosed core s) → s < length core.faces → r ≡ true
+      → count_by (λ (f : Face). not f.closed) (take (s + 1) core.faces) ≡ count_by (λ (f : Face). not f.closed) (take s core.faces)
+  counted_closed s r h lt e = count_by_more_no (λ (f : Face). not f.closed) core.faces s no_face lt (let k = (h.0 e).closed in rw k refl)
