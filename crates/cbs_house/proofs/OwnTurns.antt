@@ -31,7 +31,7 @@ use Rattle.cbs_house.specs.declared.poll.Poll.TheVariants.{Nothing, Took, Closed
 use Rattle.cbs_house.specs.declared.turn.Turn.{Turn}
 use Rattle.cbs_house.specs.Collected.{shelf_at, no_shelf}
 use Rattle.cbs_house.specs.HouseInvariant.{Housed}
-use Rattle.cbs_house.specs.Houses.{core_of, results_of, Made, Collects}
+use Rattle.cbs_house.specs.Houses.{core_of, results_of, handed_of, result_count, Made, Collects}
 use Rattle.cbs_house.specs.OwnTurns.{GoesOn, StaysBy, IsNumbered, TakesOwnTurn}
 use Rattle.cbs_house.specs.Polls.{lacks_memory, Answered, PollsEach}
 use Rattle.cbs_house.specs.Rounds.{ServesOn}
@@ -49,11 +49,12 @@ module _ {W A : Type 0} {g : Ghosts W} where
   collects_behind (ran.Done x) a b c same k = (k.0 ∙ ap (λ rs. rs ++ x.result ∷ []) (same x.server), λ s ne. k.1 s ne ∙ same s)
 
   -- the number of a completion, behind what left the results
-  pub numbered_behind : (r : Ran) (a b : House W A g) → ((s : ℕ) → results_of b s ≡ results_of a s) → IsNumbered r b → IsNumbered r a
-  numbered_behind ran.Idle a b same k = tt
-  numbered_behind ran.ClockEnd a b same k = tt
-  numbered_behind (ran.Unit t q) a b same k = tt
-  numbered_behind (ran.Done x) a b same k = k ∙ ap length (same x.server)
+  pub numbered_behind : (r : Ran) (a b : House W A g) → ((s : ℕ) → results_of b s ≡ results_of a s) → ((s : ℕ) → handed_of b s ≡ handed_of a s) → IsNumbered r b → IsNumbered r a
+  numbered_behind ran.Idle a b same handed k = tt
+  numbered_behind ran.ClockEnd a b same handed k = tt
+  numbered_behind (ran.Unit t q) a b same handed k = tt
+  numbered_behind (ran.Done x) a b same handed k =
+      k ∙ (ap (λ n. n + length (results_of b x.server)) (handed x.server) ∙ ap (λ rs. handed_of a x.server + length rs) (same x.server))
 
 -- which completion a run that is done tells
 picked : (c d : Completion) (stopped last : Bool) (t q : ℕ) → ran.Done c ≡ (if stopped then ran.ClockEnd else (if last then ran.Done d else ran.Unit t q)) → c ≡ d
@@ -69,14 +70,14 @@ module _ {W : Type 0} (work : Meaning W) where
 
 module _ {W A : Type 0} {g : Ghosts W} (work : Meaning W) where
   -- a server has finished as many jobs as it has results, and one that is not there none
-  finished_results : (h : House W A g) → Housed work h.core h.rings h.collector → (s : ℕ) → (face_at (core_of h).faces s).finished ≡ length (results_of h s)
+  finished_results : (h : House W A g) → Housed work h.core h.rings h.collector → (s : ℕ) → (face_at (core_of h).faces s).finished ≡ result_count h s
   finished_results h housed s = elim (cases_lt s (length (core_of h).faces)) [
     | inl lt ↦ (housed.servers s lt).finished
     | inr ge ↦
         let face : face_at (core_of h).faces s ≡ no_face = get_or_past (core_of h).faces s no_face ge in
         let count = housed.shelf_count in
         let shelf : shelf_at h.collector s ≡ no_shelf = get_or_past h.collector s no_shelf (omega (arith, count, ge)) in
-        ap (λ f. f.finished) face ∙ sym (ap (λ x. length x.results) shelf)
+        ap (λ f. f.finished) face ∙ sym (ap (λ x. x.handed + length x.results) shelf)
   ]
 
   -- a completion has the number of its place among the results
@@ -84,7 +85,7 @@ module _ {W A : Type 0} {g : Ghosts W} (work : Meaning W) where
   numbered h housed ran.Idle answer = tt
   numbered h housed ran.ClockEnd answer = tt
   numbered h housed (ran.Unit t q) answer = tt
-  numbered h housed (ran.Done c) answer = elim (cases_eq c.seq (length (results_of h c.server))) [
+  numbered h housed (ran.Done c) answer = elim (cases_eq c.seq (result_count h c.server)) [
     | inl e ↦ e
     | inr ne ↦ absurd (housed.history (λ M agrees.
         let w = world_after work M in

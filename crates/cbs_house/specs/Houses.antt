@@ -50,6 +50,10 @@ module _ {W A : Type 0} {g : Ghosts W} where
   abbrev pub results_of : House W A g → ℕ → List ℕ
   results_of h s = (shelf_at h.collector s).results
 
+  -- how many results of server s there are: those handed out, and those kept
+  abbrev pub result_count : House W A g → ℕ → ℕ
+  result_count h s = handed_of h s + length (results_of h s)
+
   -- The house made these steps: whatever history its core agreed with, it now agrees with that and then the steps; the rings
   -- are the same; what was received for each server is what the steps took, in order; what is known to stand in a ring gets
   -- shorter by a pop alone, from its front; and no result was handed out.

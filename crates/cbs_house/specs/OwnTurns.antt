@@ -13,7 +13,7 @@ use Rattle.cbs_core.specs.declared.reply.Reply.TheVariants as reply
 use Rattle.cbs_core.specs.declared.step.Step.TheVariants.{Run, Advance}
 use Rattle.cbs_house.specs.declared.house.House.{House}
 use Rattle.cbs_house.specs.declared.turn.Turn.{Turn}
-use Rattle.cbs_house.specs.Houses.{core_of, results_of, Made}
+use Rattle.cbs_house.specs.Houses.{core_of, result_count, Made}
 use Rattle.cbs_house.specs.Polls.{PollsEach}
 
 module _ {W A : Type 0} {g : Ghosts W} where
@@ -45,7 +45,7 @@ module _ {W A : Type 0} {g : Ghosts W} where
   IsNumbered ran.Idle h = Unit {0}
   IsNumbered ran.ClockEnd h = Unit {0}
   IsNumbered (ran.Unit s q) h = Unit {0}
-  IsNumbered (ran.Done c) h = c.seq ≡ length (results_of h c.server)
+  IsNumbered (ran.Done c) h = c.seq ≡ result_count h c.server
 
   -- the house took a turn and told this of it: it polled each server once, in the order of their numbers, and then went on
   pub record TakesOwnTurn (work : Meaning W) (old new : House W A g) (turn : Turn) : Type 0 where

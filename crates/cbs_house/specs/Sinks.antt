@@ -6,7 +6,7 @@ use Rattle.cbs_job.specs.declared.work.Work.{Ghosts}
 use Rattle.cbs_core.specs.declared.reply.Ran.{Ran}
 use Rattle.cbs_core.specs.declared.reply.Ran.TheVariants as ran
 use Rattle.cbs_house.specs.declared.house.House.{House}
-use Rattle.cbs_house.specs.Houses.{results_of}
+use Rattle.cbs_house.specs.Houses.{results_of, result_count}
 
 -- the completions of server s, in order
 abbrev pub completions_of : ℕ → List Completion → List Completion
@@ -31,4 +31,4 @@ module _ {W A S : Type 0} {g : Ghosts W} where
     pub completions : List Completion
     pub heard : HearsEach hears old completions new
     pub results : (s : ℕ) → results_of new_house s ≡ results_of old_house s ++ map (λ c. c.result) (completions_of s completions)
-    pub numbers : (s : ℕ) → map (λ c. c.seq) (completions_of s completions) ≡ range_with_len (length (results_of old_house s)) (length (completions_of s completions))
+    pub numbers : (s : ℕ) → map (λ c. c.seq) (completions_of s completions) ≡ range_with_len (result_count old_house s) (length (completions_of s completions))

@@ -11,4 +11,4 @@ pub returns-clause-numbered : goal.returns-clause-numbered
 returns-clause-numbered g c =
     let p = c.poll_each-polls in
     let o = c.go_on_if_busy-ran in
-    numbered_behind o.result.0 c.args.self.now p.new.house p.ensures.results o.ensures.numbered
+    numbered_behind o.result.0 c.args.self.now p.new.house p.ensures.results p.ensures.polled.made.handed o.ensures.numbered
