@@ -184,10 +184,10 @@ module _ {W A : Type 0} {g : Ghosts W} (work : Meaning W) where
   at_end : (a b : House W A g) (n : ℕ) → Housed work a.core a.rings a.collector → GoesOn work a b ran.ClockEnd n → ((core_of b).clock ≡ clock_end) × HoldsJob (core_of b)
   at_end a b n housed (inl k) =
       absurd (housed.history (λ M agrees.
-        let told : ran.ClockEnd ≡ run_reply work (world_after work M) (chosen work (world_after work M)) = let e = k.0.answer M agrees in cc in
-        let l = stops_at_end work (world_after work M) (chosen work (world_after work M)) told in
-        let early = (k.0.useful M agrees).early in
-        omega (arith, l, early)))
+      let told : ran.ClockEnd ≡ run_reply work (world_after work M) (chosen work (world_after work M)) = let e = k.0.answer M agrees in cc in
+      let l = stops_at_end work (world_after work M) (chosen work (world_after work M)) told in
+      let early = (k.0.useful M agrees).early in
+      omega (arith, l, early)))
   at_end a b n housed (inr (inl k)) = absurd (cc (k.1))
   at_end a b n housed (inr (inr k)) = rw k.0 k.1
 

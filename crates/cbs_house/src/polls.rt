@@ -35,7 +35,10 @@ pub fn poll_each<G: Gate, W: Work, A: Allocator>(gate: &G, house: &mut House<W, 
         took += count(poll);
         out_of_memory |= is_out_of_memory(poll);
     }
-    Polls { took, out_of_memory }
+    Polls {
+        took,
+        out_of_memory,
+    }
 }
 
 /// How many messages a poll popped.

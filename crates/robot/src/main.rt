@@ -6,12 +6,10 @@ mod sensor;
 mod track;
 
 use anyhow::Result;
-use cbs_house::{House, open_house};
+use cbs_house::open_house;
 use cbs_rate::{Bound, Plan, Reservation};
 use cbs_rules::{Mode, Modes};
 use sensor::{Fitting, Sensor};
-use std::io::Write;
-use track::TrackJob;
 
 /// The sensors, whose jobs have four units. That on the right is broken: it reads at every turn, where its server has
 /// one tick in four.
@@ -56,15 +54,24 @@ fn main(rt: HostRuntime) -> Result<()> {
             sensor.read(alloc, turn)?;
         }
         house.turn();
-        let tick = house.now();
         for sensor in &mut sensors {
-            for result in house.results(sensor.server())? {
-                println!(rt; "tick {tick}: {} at {result} mm", sensor.fitting.name)?;
+            for result in house.take_results(sensor.server())? {
+                sensor.distance = u32::try_from(result)?;
+                println!(rt;
+                    "tick {}: {} at {result} mm",
+                    house.now(),
+                    sensor.fitting.name
+                )?;
             }
         }
     }
     for sensor in &sensors {
-        println!(rt; "{}: {} jobs sent, {} refused", sensor.fitting.name, sensor.sent(), sensor.refused)?;
+        println!(rt;
+            "{}: {} jobs sent, {} refused",
+            sensor.fitting.name,
+            sensor.sent(),
+            sensor.refused
+        )?;
     }
     Ok(())
 }

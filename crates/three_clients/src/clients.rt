@@ -3,13 +3,16 @@
 ghost use Rattle.std.specs.Prelude.{◌≡◌, ◌<◌, IfOk, length};
 ghost use Rattle.std.specs.Thread.{IsSync};
 
-use cbs_house::Client;
+use cbs_house::{Client, SendError};
 use cbs_job::{SumJob, Task};
 use std::alloc::{AllocError, Global};
-use std::thread::{Threads, join_mut};
+use std::thread::{Threads, join_mut, yield_now};
 
-/// How many jobs each client sends.
-pub const JOBS: u16 = 5;
+/// How many jobs each client sends: many more than its ring and the backlog of its server hold.
+pub const JOBS: u16 = 400;
+
+/// How often a message is tried at a full ring before a client gives up.
+const TRIES: u32 = 10_000_000;
 
 /// How many units the jobs of a server have: a camera's 3, an encoder's 5, one of telemetry 1.
 fn units_of(server: u16) -> u16 {
@@ -31,8 +34,33 @@ fn numbers(alloc: Global, job: u16, units: u16) -> Result<Vec<u32>, AllocError>
     Ok(numbers)
 }
 
+/// Sends a job, and waits while the ring is full, so that the house can take what is in it. Whether it was sent.
+fn send(client: &mut Client<SumJob>, task: Task<SumJob>) -> bool {
+    let mut task = task;
+    for _try in 0..TRIES {
+        match client.send(task) {
+            Ok(_number) => return true,
+            Err(refused) => task = refused.task,
+        }
+        yield_now();
+    }
+    false
+}
+
+/// Sends the end, and waits while the ring is full. Whether it was sent.
+fn end(client: &mut Client<SumJob>) -> bool {
+    for _try in 0..TRIES {
+        match client.end() {
+            Ok(()) => return true,
+            Err(SendError::Ended) => return true,
+            Err(SendError::RingFull) => yield_now(),
+        }
+    }
+    false
+}
+
 /// Makes the jobs of a client one by one and sends each, and then the end. False where memory ran out
-/// or a message was refused.
+/// or a message could not be sent.
 fn send_jobs(alloc: Global, client: &mut Client<SumJob>) -> bool {
     let units = units_of(client.server());
     for job in 0..JOBS {
@@ -42,11 +70,11 @@ fn send_jobs(alloc: Global, client: &mut Client<SumJob>) -> bool {
         let Ok(task) = Task::new(SumJob::new(numbers)) else {
             return false;
         };
-        if client.send(task).is_err() {
+        if !send(client, task) {
             return false;
         }
     }
-    client.end().is_ok()
+    end(client)
 }
 
 /// All clients at once, each in a part of its own of the joins.

@@ -1,56 +1,44 @@
-//! Three clients on threads of their own: a camera, an encoder and telemetry make their work as they
-//! go, while the house polls and runs. The output is the same on every schedule.
+//! Three clients on threads of their own: a camera, an encoder and telemetry make their jobs as they go, many more than the
+//! rings hold, while the house polls and runs until all have ended. The output is the same on every schedule.
 #![tactic(auto)]
 
 mod clients;
+mod finished;
 
 ghost use Rattle.std.specs.Thread.{IsSync};
 
-use anyhow::{Result, bail};
-use cbs_house::{Client, House, open_house};
+use anyhow::{Result, bail, ensure};
+use cbs_house::{Client, House, HouseError, open_house};
 use cbs_job::SumJob;
 use cbs_rate::{Bound, Plan, Reservation};
 use cbs_rules::{Mode, Modes};
-use clients::{JOBS, send_all};
+use clients::send_all;
+use finished::Finished;
 use std::alloc::Global;
 use std::thread::{Threads, join_mut};
+use std::time::Clock;
 
 /// The clients, each with the budget of its server in every ten ticks.
 const CLIENTS: [(&str, u64); 3] = [("camera", 3), ("encoder", 5), ("telemetry", 1)];
 
-/// How many turns the house takes while the clients send.
-const TURNS: u32 = 1000;
+/// How many turns in a row without anything to do the house waits for the clients: about 15 seconds.
+const IDLE_TURNS: u64 = 1_000_000;
 
-/// Polls each server once.
-fn poll_all(house: &mut House<SumJob>) {
-    for server in 0..house.servers() {
-        house.poll(server);
-    }
-}
-
-/// The house's turns while the clients send: it polls each server, and runs one unit.
-fn take_turns(house: &mut House<SumJob>) {
-    for _turn in 0..TURNS {
-        poll_all(house);
-        house.run();
-    }
-}
-
-/// The clients and the house at once. Whether all clients could send all.
-fn run_together<R: Threads + Sync>(
+/// The clients and the house at once. Whether all clients could send all, and how the house's run ended.
+fn run_together<R: Threads + Clock + Sync>(
     rt: &R,
     alloc: Global,
     clients: &mut [Client<SumJob>],
     house: &mut House<SumJob>,
-) -> bool {
-    let (sent, ()) = join_mut(
+    finished: &mut Finished,
+) -> (bool, Result<(), HouseError>) {
+    join_mut(
         rt,
         &mut || -> bool
             requires { IsSync R.row }
         { send_all(rt, alloc, clients) },
-        &mut || { take_turns(house) },
-    );
-    sent
+        &mut || -> Result<(), HouseError> { house.run_until_closed(rt, finished, IDLE_TURNS) },
+    )
 }
 
 fn main(rt: HostRuntime) -> Result<()> {
@@ -59,23 +47,25 @@ fn main(rt: HostRuntime) -> Result<()> {
     for (_name, budget) in CLIENTS {
         plan.admit(Reservation::new(budget, 10)?)?;
     }
-    let modes = Modes::uniform(Mode::Soft, plan.len() as u16);
-    let (mut house, mut clients) = open_house(alloc, plan, modes, 8, 8)?;
-    if !run_together(&rt, alloc, &mut clients, &mut house) {
+    // Telemetry gets its budget and no more; the other two may have what is left.
+    let mut modes = Modes::uniform(Mode::Soft, 2);
+    modes.push(Mode::Throttled);
+    ensure!(modes.len() == plan.len(), "not a mode for each server");
+    let (mut house, mut clients) = open_house(alloc, plan, modes, 4, 4)?;
+    let mut finished = Finished::none();
+    let (sent, run) = run_together(&rt, alloc, &mut clients, &mut house, &mut finished);
+    run?;
+    if !sent {
         bail!("a client could not send all its jobs");
     }
-    // What still stands in the rings.
-    for _message in 0..=JOBS {
-        poll_all(&mut house);
-    }
-    house.drain()?;
-
     for (server, (name, _budget)) in CLIENTS.iter().enumerate() {
-        print!(rt; "{name}:")?;
-        for result in house.results(server as u16)? {
+        let server = server as u16;
+        let results = house.results(server)?;
+        print!(rt; "{name}: {} jobs finished:", finished.count(server))?;
+        for result in results.iter().take(5) {
             print!(rt; " {result}")?;
         }
-        println!(rt)?;
+        println!(rt; " .. {}", results.last().copied().unwrap_or(0))?;
     }
     Ok(())
 }

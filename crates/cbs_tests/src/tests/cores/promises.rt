@@ -34,7 +34,13 @@ fn nothing_is_promised_where_nothing_is_owed(rt: HostRuntime) {
 fn two_soft_servers_that_take_every_tick_keep_their_promises(rt: HostRuntime) {
     let alloc = rt.alloc();
     let mut core = core_of(&rt, alloc, Mode::Soft, &[(3, 5), (2, 5)], 4);
-    accepts(&rt, &mut core, 0, sum_of(&rt, alloc, &[1, 1, 1, 1, 1, 1, 1, 1, 1]), 0);
+    accepts(
+        &rt,
+        &mut core,
+        0,
+        sum_of(&rt, alloc, &[1, 1, 1, 1, 1, 1, 1, 1, 1]),
+        0,
+    );
     promises(&rt, &core, 0, Some(15));
     accepts(&rt, &mut core, 1, sum_of(&rt, alloc, &[1, 1]), 0);
     promises(&rt, &core, 1, Some(5));
