@@ -1,4 +1,4 @@
--- The laws on time hold of every history whose reservations were admitted.
+-- The laws of a history hold of every one whose reservations were admitted.
 use Rattle.std.proofs.Common.{List, [], refl}
 use Rattle.cbs_job.specs.Work.{Meaning}
 use Rattle.cbs_core.specs.Agreement.{Agrees}
@@ -12,6 +12,7 @@ use Rattle.cbs_core.proofs.HardTasks.{hard_kept}
 use Rattle.cbs_core.proofs.OnTime.{IsAdmitted, given, admitted_by, never_late}
 use Rattle.cbs_core.proofs.Promises.{promise_kept, bound_kept}
 use Rattle.cbs_core.proofs.Supplies.{supply_kept}
+use Rattle.cbs_core.proofs.Windows.{share_kept, cap_kept}
 
 module _ {W : Type 0} (work : Meaning W) where
   punctual : (N : History W) → IsAdmitted (given work N.setup) → IsPunctual work N
@@ -22,6 +23,8 @@ module _ {W : Type 0} (work : Meaning W) where
     due = due_kept work N ok;
     hard = hard_kept work N ok;
     supply = supply_kept work N ok;
+    share = share_kept work N ok;
+    cap = cap_kept work N ok;
   }
 
   -- so it is of a new core, whatever its steps will be

@@ -1,5 +1,5 @@
 -- No server takes more than its share: what it got, and its budget, against its deadline.
-use Rattle.std.proofs.Common.{◌≡◌, ℕ, zero, suc, ◌+◌, ◌-◌, ◌*◌, ◌≤◌, ◌<◌, Bool, true, leb, eqb, ◌||◌, ◌&&◌, List, [], ◌∷◌, map, arith, refl, inl, inr, ap, ◌∙◌, if◌then◌else◌}
+use Rattle.std.proofs.Common.{◌≡◌, ℕ, zero, suc, ◌+◌, ◌-◌, ◌*◌, ◌≤◌, ◌<◌, Bool, true, leb, eqb, ◌||◌, ◌&&◌, List, [], ◌∷◌, ◌++◌, map, arith, refl, inl, inr, ap, ◌∙◌, if◌then◌else◌}
 use Rattle.std.proofs.lemmas.Bool.{cases_lt, cases_Bool}
 use Rattle.std.proofs.lemmas.Bool.Decides.{nat_tests}
 use Rattle.std.proofs.lemmas.Nat.{mul-le}
@@ -12,12 +12,13 @@ use Rattle.cbs_rules.specs.declared.mode.Mode.TheVariants.{Soft, Throttled}
 use Rattle.cbs_core.specs.Faces.{is_active, is_ready}
 use Rattle.cbs_core.specs.Accounts.{Account, face_of, account_with_job, account_with_unit, new_account, account_with_replenishment, account_with_close}
 use Rattle.cbs_core.specs.History.{Setup, History, account, after, world_after}
+use Rattle.cbs_core.specs.Promises.{when}
 use Rattle.cbs_core.specs.Replies.{grown_by}
 use Rattle.cbs_core.specs.Laws.{account_in, IsWithinShare, IsWithinCap}
 use Rattle.cbs_core.specs.declared.step.Step.{Step}
 use Rattle.cbs_core.specs.declared.reply.Reply.{Reply}
 use Rattle.cbs_core.proofs.Demands.{renewed_early}
-use Rattle.cbs_core.proofs.Histories.{holds_grown_by, holds_after}
+use Rattle.cbs_core.proofs.Histories.{holds_grown_by, holds_after, holds_behind}
 use Rattle.cbs_core.proofs.LawfulServers.{IsLawful, lawful_job, lawful_unit, lawful_replenishment, lawful_close, ready_budget}
 
 -- the units got and the budget are within the share of the deadline, counted from where x and y stand for what they were
@@ -128,6 +129,21 @@ module _ {W : Type 0} (work : Meaning W) where
   pub terms_grown : (M : History W) (xs : List (Step W)) (rs : List (Reply W)) (s : ℕ) → (account_in work (grown_by M xs rs) s).terms ≡ (account_in work M s).terms
   terms_grown M xs rs s = holds_grown_by work (λ now a. a.terms ≡ (account_in work M s).terms) (λ now a ready h. h) (λ now a h. h) (λ now a h. h) (λ now j a h. h) M xs rs s refl
 
+  -- behind more steps a server keeps its terms, too
+  terms_behind : (setup : Setup) (K M : List (Step W)) (s : ℕ) → (account (after work setup (K ++ M)).accounts s).terms ≡ (account (after work setup M).accounts s).terms
+  terms_behind setup K M s = let t = (account (after work setup M).accounts s).terms in holds_behind work (λ now a. a.terms ≡ t) (λ now a ready h. h) (λ now a h. h) (λ now a h. h) (λ now j a h. h) setup K M s refl
+
+  -- from a list of steps on, behind more of them
+  pub share_behind : (setup : Setup) (K M : List (Step W)) (s : ℕ) → IsLawful work (account (after work setup M).accounts s)
+      → IsWithinShare (account (after work setup M).accounts s) (account (after work setup (K ++ M)).accounts s)
+  share_behind setup K M s ok =
+      let a = account (after work setup M).accounts s in
+      let x = a.state.deadline * a.terms.reservation.budget in
+      let y = (a.got + a.state.budget) * a.terms.reservation.period in
+      kept_share work x y a.terms a (account (after work setup (K ++ M)).accounts s) refl refl refl
+      (holds_behind work (λ now. IsKept work x y a.terms) (λ now. kept_unit work x y a.terms) (λ now. kept_replenishment work x y a.terms (now + 1)) (λ now. kept_close work x y a.terms) (kept_job work x y a.terms) setup K M s
+      (record { same = refl; lawful = ok; shared = omega arith }))
+
   -- from a history on, as its steps were answered
   pub share_grown : (M : History W) (xs : List (Step W)) (rs : List (Reply W)) (s : ℕ) → IsLawful work (account_in work M s) → IsWithinShare (account_in work M s) (account_in work (grown_by M xs rs) s)
   share_grown M xs rs s ok =
@@ -153,14 +169,19 @@ module _ {W : Type 0} (work : Meaning W) where
       near_start (t ∷ ts) (suc s) = near_start ts s
 
   -- a window of a throttled server, from its share
-  pub cap_grown : (M : History W) (xs : List (Step W)) (rs : List (Reply W)) (s : ℕ) → IsLawful work (account_in work M s) → IsWithinCap work M (grown_by M xs rs) s
-  cap_grown M xs rs s ok = λ mode ahead.
-      let N = grown_by M xs rs in
+  cap_of : (M N : History W) (s : ℕ) → (account_in work N s).terms ≡ (account_in work M s).terms → IsWithinShare (account_in work M s) (account_in work N s) → IsWithinCap work M N s
+  cap_of M N s same share = λ mode ahead.
       let a = account_in work M s in
       let b = account_in work N s in
-      let share = share_grown M xs rs s ok in
-      let same = terms_grown M xs rs s in
       let near : b.state.deadline ≤ (world_after work N).now + a.terms.reservation.period = rw same at (near_after N.setup N.steps s (ap (λ (t : Terms). t.mode) same ∙ mode)) in
       let late = mul-le b.state.deadline a.terms.reservation.budget ((world_after work N).now + a.terms.reservation.period) a.terms.reservation.budget near (omega arith) in
       let early = mul-le (world_after work M).now a.terms.reservation.budget a.state.deadline a.terms.reservation.budget ahead (omega arith) in
       omega arith
+
+  -- behind steps as they were answered
+  pub cap_grown : (M : History W) (xs : List (Step W)) (rs : List (Reply W)) (s : ℕ) → IsLawful work (account_in work M s) → IsWithinCap work M (grown_by M xs rs) s
+  cap_grown M xs rs s ok = cap_of M (grown_by M xs rs) s (terms_grown M xs rs s) (share_grown M xs rs s ok)
+
+  -- and behind more steps of a list
+  pub cap_behind : (N : History W) (K M : List (Step W)) (s : ℕ) → IsLawful work (account_in work (when N M) s) → IsWithinCap work (when N M) (when N (K ++ M)) s
+  cap_behind N K M s ok = cap_of (when N M) (when N (K ++ M)) s (terms_behind N.setup K M s) (share_behind N.setup K M s ok)

@@ -23,3 +23,5 @@ pub mod ReadyList
 pub mod Replies
 pub mod Setups
 pub mod Supplies
+pub mod Fronts
+pub mod Windows

@@ -10,7 +10,7 @@ use Rattle.cbs_core.specs.Continuations.{◌⊕⊕◌, EachAllowed}
 use Rattle.cbs_core.specs.History.{History, world_after}
 use Rattle.cbs_core.specs.Laws.{account_in}
 use Rattle.cbs_core.specs.OnTime.{IsWorldOnTime}
-use Rattle.cbs_core.specs.Quiet.{IsQuietStep}
+use Rattle.cbs_core.specs.Quiet.{IsQuietAfter}
 use Rattle.cbs_core.specs.declared.step.Step.{Step}
 
 -- the tick by which a server gets so many units: its deadline, and a period later for each budget that they need beyond the
@@ -33,7 +33,7 @@ module _ {W : Type 0} where
 
   -- each of the steps, made after M and those before it, takes nobody's time where it stands
   abbrev pub AllQuiet : Meaning W → History W → List (Step W) → Type 0
-  AllQuiet work M xs = EachAllowed (λ N x. IsQuietStep work (world_after work N) x) M xs
+  AllQuiet work M xs = EachAllowed (IsQuietAfter work) M xs
 
   -- Each job that server s accepted in M is finished by the tick: where M leaves all on time, whatever steps follow that take
   -- nobody's time, once they have brought the clock there.

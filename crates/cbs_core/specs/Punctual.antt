@@ -1,12 +1,13 @@
--- The laws on time, together.
+-- The laws of a history: on time, and on what a server takes.
 use Rattle.cbs_job.specs.Work.{Meaning}
 use Rattle.cbs_core.specs.History.{History}
 use Rattle.cbs_core.specs.OnTime.{KeepsDeadlines}
 use Rattle.cbs_core.specs.Promises.{KeepsPromise, KeepsBound, KeepsDue}
 use Rattle.cbs_core.specs.HardTasks.{KeepsHard}
 use Rattle.cbs_core.specs.Supplies.{KeepsSupply}
+use Rattle.cbs_core.specs.Windows.{KeepsShare, KeepsCap}
 
--- punctual: the laws on time hold of the history
+-- punctual: the laws on time hold of the history, and no server took more than its share
 pub record IsPunctual {W : Type 0} (work : Meaning W) (N : History W) : Type 0 where
   pub never_late : KeepsDeadlines work N
   pub promise : KeepsPromise work N
@@ -14,3 +15,5 @@ pub record IsPunctual {W : Type 0} (work : Meaning W) (N : History W) : Type 0 w
   pub due : KeepsDue work N
   pub hard : KeepsHard work N
   pub supply : KeepsSupply work N
+  pub share : KeepsShare work N
+  pub cap : KeepsCap work N

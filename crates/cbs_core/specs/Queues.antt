@@ -1,5 +1,5 @@
 -- What the rest of this crate sees of the queues of jobs. Private words of this crate.
-use Rattle.std.specs.Prelude.{◌≡◌, ◌≤◌, ℕ, eqb, if◌then◌else◌, List, [], ◌∷◌, get_or, Option, Some, None}
+use Rattle.std.specs.Prelude.{◌≡◌, ◌≤◌, ℕ, eqb, if◌then◌else◌, List, [], ◌∷◌, length, drop, get_or, Option, Some, None}
 use Rattle.std.specs.List.{sum_by, AllByRecursion}
 use Rattle.cbs_job.specs.Work.{Meaning}
 use Rattle.cbs_core.specs.declared.reply.Ran.{Ran}
@@ -15,10 +15,12 @@ module _ {W : Type 0} where
   abbrev pub list_at : List (List W) → ℕ → List W
   list_at lists s = get_or lists s []
 
-  -- so many units are left of the jobs together, and of each no more than a task may have
-  pub record IsOwed (work : Meaning W) (jobs : List W) (units : ℕ) : Type 0 where
-    pub total : units ≡ sum_by work.left jobs
-    pub short : AllByRecursion (λ w. work.left w ≤ 1000000) jobs
+  -- so many units are left of the jobs behind the first together, of each no more than a task may have, and there
+  -- are no more jobs than a backlog holds
+  pub record IsBehind (work : Meaning W) (jobs : List W) (units : ℕ) : Type 0 where
+    pub total : units ≡ sum_by work.left (drop 1 jobs)
+    pub short : AllByRecursion (λ w. work.left w ≤ 1000000) (drop 1 jobs)
+    pub few : length jobs ≤ 4096
 
   -- the jobs after a unit of the first, which goes where the unit was its last
   abbrev pub jobs_run : Meaning W → List W → List W

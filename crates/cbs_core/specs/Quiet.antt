@@ -31,6 +31,10 @@ module _ {W : Type 0} where
   IsQuietStep work w (Advance n) = w.now + n ≤ clock_end → IsQuiet work w n
   IsQuietStep work w _ = Unit {0}
 
+  -- a step that takes nobody's time where it comes next after M
+  abbrev pub IsQuietAfter : Meaning W → History W → Step W → Type 0
+  IsQuietAfter work M x = IsQuietStep work (world_after work M) x
+
   -- each step of a list, the newest first, took nobody's time where it stands
   abbrev pub AreQuiet : Meaning W → Setup → List (Step W) → Type 0
   AreQuiet work setup [] = Unit {0}

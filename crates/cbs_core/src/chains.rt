@@ -1,6 +1,6 @@
 //! Lists of values, one for each server, all in one slab.
 
-ghost use Rattle.std.specs.Prelude.{◌≡◌, ◌+◌, ◌<◌, ◌^◌, [], ◌∷◌, ◌++◌, length, drop, replicate, IfOk, OnOk, IsOk};
+ghost use Rattle.std.specs.Prelude.{◌≡◌, ◌+◌, ◌<◌, ◌^◌, [], ◌∷◌, ◌++◌, length, drop, replicate, option_copied, slice_get, IfOk, OnOk, IsOk};
 ghost use Rattle.std.specs.Borrow.{Lends, sem};
 ghost use Rattle.slab.specs.Slab.{ContainsKey, slab_len};
 ghost use Rattle.cbs_core.specs.Chains.{ends_pushed, linked};
@@ -122,6 +122,18 @@ impl<T: Drop, A: Allocator> Chains<T, A> {
             len: ends.len - 1,
         };
         node.value
+    }
+
+    /// The first value of a server's list, if there is one.
+    pub fn first(&self, server: u16) -> Option<&T>
+        requires { server < length self.now.lists }
+        ensures { option_copied result ≡ slice_get (list_at self.now.lists server) 0 }
+    {
+        let ends = self.ends[usize::from(server)];
+        if ends.len == 0 {
+            return None;
+        }
+        Some(&self.nodes[ends.head].value)
     }
 
     /// The first value of a server's list, to be changed in place.

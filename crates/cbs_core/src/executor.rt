@@ -9,6 +9,7 @@ ghost use Rattle.cbs_core.specs.History.{History, ◌⊕◌, faces, world_after,
 ghost use Rattle.cbs_core.specs.Agreement.{Agrees};
 ghost use Rattle.cbs_core.specs.Replies.{submitted, advanced, closed, lacks_memory, IsAccepted, is_lack, Answers, AnswersAll, grown, grown_by};
 ghost use Rattle.cbs_core.specs.Laws.{account_in, completion_in, completion_of, completions_of, Completes, NoneAfterClose, IsWithinShare, IsWithinCap, IsWithinBudget, KeepsBudgets};
+ghost use Rattle.cbs_core.specs.Fronts.{front_output};
 ghost use Rattle.cbs_core.specs.Held.{room_of, KeepsRoom, IsOpen, HasRoom, IsRefusedBy, held_at, TakesJob, ClosesServer, OthersSame, AllSame, DoesRun, CountsOn};
 ghost use Rattle.cbs_core.specs.OnTime.{IsOnTime, IsWorldOnTime, KeepsDeadlines, KeepsTime, KeepsTimeAll};
 ghost use Rattle.cbs_core.specs.HardTasks.{KeepsHard};
@@ -303,6 +304,10 @@ impl<W: Work, A: Allocator> Core<W, A> {
     /// For how many ticks nobody will be ready: `None` if somebody is now, and else the greatest number
     /// of ticks, up to the clock's end, by which the clock may be advanced with nobody ready before
     /// the last of them. An advance by it takes no time from anybody.
+    ///
+    /// Where no job is held it reaches to the clock's end, [`LIMIT`]: nobody is ready until something is
+    /// submitted. Whoever waits for submits must not advance by it then, since nothing can run once the
+    /// clock stands at its end.
     pub fn idle_span(&self) -> Option<u64>
         ensures { (M : History W) → Agrees W.meaning self.now M
             → MatchOption result (¬ IsAtRest W.meaning (world_after W.meaning M)) (IsIdleSpan W.meaning (world_after W.meaning M)) }
@@ -339,6 +344,17 @@ impl<W: Work, A: Allocator> Core<W, A> {
             return None;
         }
         self.servers.promised(server, self.queues.owed(server))
+    }
+
+    /// The output so far of the job at the front of a server; `None` where it has no unfinished job, and
+    /// where there is no such server. After [`Ran::Unit`] that job is the one which got the unit.
+    pub fn front_output(&self, server: u16) -> Option<u64>
+        ensures { result ≡ front_output W.meaning (held_at self.now server).jobs }
+    {
+        if server >= self.servers.len() {
+            return None;
+        }
+        self.queues.front_output(server)
     }
 
     /// Does all steps, in order, and gives one reply for each.

@@ -1,7 +1,8 @@
 //! The jobs of all servers, in one queue for each.
 
-ghost use Rattle.std.specs.Prelude.{◌≡◌, ◌<◌, [], ◌∷◌, ◌++◌, length, replicate, IfOk, OnOk, IsOk};
+ghost use Rattle.std.specs.Prelude.{◌≡◌, ◌<◌, [], ◌∷◌, ◌++◌, length, replicate, drop, IfOk, OnOk, IsOk};
 ghost use Rattle.std.specs.List.{sum_by, AllByRecursion};
+ghost use Rattle.cbs_core.specs.Fronts.{front_output};
 ghost use Rattle.cbs_core.specs.Held.{room_of, KeepsRoom};
 ghost use Rattle.cbs_core.specs.Lists.{changed_at};
 ghost use Rattle.cbs_core.specs.Queues.{list_at, jobs_run, result_run};
@@ -15,19 +16,19 @@ use std::marker::Model;
 #[derive(Drop)]
 pub struct Queues<W: Work, A: Allocator = Global> {
     jobs: Chains<Running<W>, A>,
-    // How many units the jobs of each server have left.
-    owed: Vec<u64, A>,
+    // How many units the jobs of each server behind its first have left: a unit of the first changes none.
+    behind: Vec<u64, A>,
 }
 
 impl<W: Work, A: Allocator> Model for Queues<W, A> {
     ghost use Rattle.std.specs.List.{AllZip};
-    ghost use Rattle.cbs_core.specs.Queues.{Queued, IsOwed};
+    ghost use Rattle.cbs_core.specs.Queues.{Queued, IsBehind};
 
     ghost Value = { Queued W };
 
     ghost view = { λ q. q.jobs };
 
-    ghost invariant = { λ q. AllZip (IsOwed W.meaning) q.jobs.lists q.owed.items };
+    ghost invariant = { λ q. AllZip (IsBehind W.meaning) q.jobs.lists q.behind.items };
 }
 
 impl<W: Work, A: Allocator> Queues<W, A> {
@@ -37,13 +38,13 @@ impl<W: Work, A: Allocator> Queues<W, A> {
         A: Clone,
         ensures empty { IfOk result (λ q. q.lists ≡ replicate servers []) }
     {
-        let mut owed = Vec::with_capacity(alloc.clone()?, usize::from(servers))?;
+        let mut behind = Vec::with_capacity(alloc.clone()?, usize::from(servers))?;
         for _server in 0..servers {
-            owed.push(0)?;
+            behind.push(0)?;
         }
         Ok(Queues {
             jobs: Chains::new(alloc, servers)?,
-            owed,
+            behind,
         })
     }
 
@@ -52,7 +53,19 @@ impl<W: Work, A: Allocator> Queues<W, A> {
         requires { server < length self.now.lists }
         ensures { result ≡ sum_by W.meaning.left (list_at self.now.lists server) }
     {
-        self.owed[usize::from(server)]
+        match self.jobs.first(server) {
+            Some(job) => u64::from(job.left()) + self.behind[usize::from(server)],
+            None => 0,
+        }
+    }
+
+    /// The output so far of the first job of a server, if it has one.
+    pub fn front_output(&self, server: u16) -> Option<u64>
+        requires { server < length self.now.lists }
+        ensures { result ≡ front_output W.meaning (list_at self.now.lists server) }
+    {
+        let job = self.jobs.first(server)?;
+        Some(job.output())
     }
 
     /// Makes room for one more job of a server.
@@ -74,7 +87,9 @@ impl<W: Work, A: Allocator> Queues<W, A> {
         ensures lists { self.new.lists ≡ changed_at (λ jobs. jobs ++ task ∷ []) self.old.lists server }
         ensures some { 0 < W.meaning.left task }
     {
-        self.owed[usize::from(server)] += u64::from(task.left());
+        if self.jobs.first(server).is_some() {
+            self.behind[usize::from(server)] += u64::from(task.left());
+        }
         self.jobs.push(server, task.start());
     }
 
@@ -88,14 +103,27 @@ impl<W: Work, A: Allocator> Queues<W, A> {
         ensures result { result ≡ result_run W.meaning (list_at self.old.lists server) }
         ensures kept { KeepsRoom self.old.rooms self.new.rooms }
     {
-        self.owed[usize::from(server)] -= 1;
         let job = self.jobs.first_mut(server);
         job.step();
         if job.left() > 0 {
             return None;
         }
         let result = job.output();
-        self.jobs.pop(server);
+        self.pop(server);
         Some(result)
+    }
+
+    /// Takes the first job of a server out of its queue. The one behind it, if there is one, is the first then.
+    // Out of line, for most units are not the last of their job.
+    #[inline(never)]
+    fn pop(&mut self, server: u16)
+        requires some { 0 < length (list_at self.old.lists server) }
+        ensures lists { self.new.lists ≡ changed_at (drop 1) self.old.lists server }
+        ensures kept { KeepsRoom self.old.rooms self.new.rooms }
+    {
+        self.jobs.pop(server);
+        if let Some(next) = self.jobs.first(server) {
+            self.behind[usize::from(server)] -= u64::from(next.left());
+        }
     }
 }

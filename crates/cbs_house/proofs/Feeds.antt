@@ -3,7 +3,7 @@ use Rattle.std.proofs.Common.{◌≡◌, ℕ, zero, suc, false, ◌+◌, take, �
 use Rattle.std.proofs.Math.ListN.{set}
 use Rattle.std.proofs.lemmas.Bool.{false≢true}
 use Rattle.std.proofs.lemmas.List.{append-nil, length-map, get_or-map, take_more, take_more_set}
-use Rattle.std.proofs.lemmas.List.Elements.{All-nil, All-cons, All-head, All-tail, All-weaker}
+use Rattle.std.proofs.lemmas.List.Elements.{All-nil, All-cons, All-head, All-tail}
 use Rattle.std.specs.List.{All}
 use Rattle.cbs_job.specs.declared.work.Work.{Ghosts}
 use Rattle.cbs_house.specs.declared.client.Client.{Client}
@@ -15,10 +15,10 @@ use Rattle.cbs_house.specs.declared.message.Message.TheVariants.{Job}
 use Rattle.cbs_house.specs.Messages.{jobs_among, has_end}
 use Rattle.cbs_house.proofs.Messages.{sent-job, has_end-job}
 use Rattle.cbs_house.specs.Opened.{IsUnused}
-use Rattle.cbs_house.specs.RingEnds.{IsOpened}
+use Rattle.cbs_house.specs.RingEnds.{IsOpened, EachOpened}
 use Rattle.cbs_house.specs.Rings.{Ring}
 use Rattle.cbs_house.specs.Rounds.{Ready}
-use Rattle.cbs_house.specs.Feeds.{client_of, unsent_jobs, all_jobs, IsOrderly, KeepsFeed, KeepsFeeds, SendsAtMost, EachSendsAtMost, SendsFeeds, servers_of}
+use Rattle.cbs_house.specs.Feeds.{client_of, unsent_jobs, all_jobs, KeepsFeed, KeepsFeeds, SendsAtMost, EachSendsAtMost, SendsFeeds, servers_of}
 use Rattle.cbs_house.proofs.RingLooks.{prefix_along, prefix_same}
 
 module _ {W A : Type 0} {g : Ghosts W} where
@@ -91,13 +91,6 @@ module _ {W A : Type 0} {g : Ghosts W} where
   feeds_count (x ∷ a) [] p = absurd p
   feeds_count (x ∷ a) (y ∷ b) p = ap suc (feeds_count a b p.1)
 
-  pub feeds_orderly : (a b : List (Feed W A g)) → KeepsFeeds a b → All IsOrderly a → All IsOrderly b
-  unfolding KeepsFeeds
-  feeds_orderly [] [] p o = o
-  feeds_orderly [] (y ∷ b) p o = absurd p
-  feeds_orderly (x ∷ a) [] p o = absurd p
-  feeds_orderly (x ∷ a) (y ∷ b) p o = All-cons IsOrderly y b (p.0.orderly (All-head IsOrderly x a o)) (feeds_orderly a b p.1 (All-tail IsOrderly x a o))
-
   -- feeds that are kept have the same servers, and the same jobs
   pub feeds_servers : (a b : List (Feed W A g)) → KeepsFeeds a b → map (λ f. server_of (client_of f)) b ≡ map (λ f. server_of (client_of f)) a
   unfolding KeepsFeeds
@@ -127,12 +120,43 @@ module _ {W A : Type 0} {g : Ghosts W} where
   feeds_opened rings rings' (x ∷ a) (y ∷ b) e p o =
       All-cons (λ f. IsOpened rings' f.client) y b (opened_same rings rings' x y e p.0 (All-head (λ f. IsOpened rings f.client) x a o)) (feeds_opened rings rings' a b e p.1 (All-tail (λ f. IsOpened rings f.client) x a o))
 
+  -- two ways to say that each client was opened
+  one_of_all : (P : Client W A g → Type 0) (front back : List (Client W A g)) (c : Client W A g) → All P (front ++ c ∷ back) → P c
+  one_of_all P [] back c h = All-head P c back h
+  one_of_all P (x ∷ front) back c h = one_of_all P front back c (All-tail P x (front ++ c ∷ back) h)
+
+  pub each_opened : (rings : List (Ring A)) (cs : List (Client W A g)) → All (IsOpened rings) cs → EachOpened rings cs
+  each_opened rings cs h = λ front back c e. one_of_all (IsOpened rings) front back c (subst (λ xs. All (IsOpened rings) xs) e h)
+
+  all_to_map : (rings : List (Ring A)) (fs : List (Feed W A g)) → All (λ f. IsOpened rings f.client) fs → All (IsOpened rings) (map client_of fs)
+  all_to_map rings [] h = All-nil (IsOpened rings)
+  all_to_map rings (f ∷ fs) h = All-cons (IsOpened rings) (client_of f) (map client_of fs) (All-head (λ x. IsOpened rings x.client) f fs h) (all_to_map rings fs (All-tail (λ x. IsOpened rings x.client) f fs h))
+
+  each_of_feeds : (rings : List (Ring A)) (fs : List (Feed W A g)) → All (λ f. IsOpened rings f.client) fs → EachOpened rings (map client_of fs)
+  each_of_feeds rings fs h = each_opened rings (map client_of fs) (all_to_map rings fs h)
+
+  pub all_of_feeds : (rings : List (Ring A)) (fs : List (Feed W A g)) → EachOpened rings (map client_of fs) → All (λ f. IsOpened rings f.client) fs
+  all_of_feeds rings [] h = All-nil (λ f. IsOpened rings f.client)
+  all_of_feeds rings (f ∷ fs) h =
+      All-cons (λ x. IsOpened rings x.client) f fs (h [] (map client_of fs) (client_of f) refl)
+      (all_of_feeds rings fs (λ front back c e. h (client_of f ∷ front) back c (ap (λ cs. client_of f ∷ cs) e)))
+
+  -- the client of each feed that may be served was opened with the house
+  pub ready_at : (h : House W A g) (fs : List (Feed W A g)) (i : ℕ) (d : Feed W A g) → i < length fs → Ready h fs → IsOpened (rings_of h) (get_or fs i d).client
+  ready_at h fs i d l r = all_of_feeds (rings_of h) fs r.opened i d l
+
+  -- feeds of clients that were opened with the house may be served
+  pub ready_new : (h : House W A g) (fs : List (Feed W A g)) (cs : List (Client W A g)) → map client_of fs ≡ cs → length cs ≤ 64 → EachOpened (rings_of h) cs → Ready h fs
+  ready_new h fs cs clients few opened = record {
+    few = omega (arith, few, ap length clients, length-map fs (client_of {W = W}));
+    opened = subst (λ xs. EachOpened (rings_of h) xs) (sym clients) opened;
+  }
+
   -- feeds that are kept stay ready, as long as the rings are the same
   pub ready_on : (h h' : House W A g) (a b : List (Feed W A g)) → rings_of h' ≡ rings_of h → KeepsFeeds a b → Ready h a → Ready h' b
   ready_on h h' a b e p r = record {
     few = omega (arith, r.few, feeds_count a b p);
-    orderly = feeds_orderly a b p r.orderly;
-    opened = feeds_opened (rings_of h) (rings_of h') a b e p r.opened;
+    opened = each_of_feeds (rings_of h') b (feeds_opened (rings_of h) (rings_of h') a b e p (all_of_feeds (rings_of h) a r.opened));
   }
 
 module _ {W A : Type 0} {g : Ghosts W} where
@@ -146,23 +170,12 @@ module _ {X Y : Type 0} where
   all_of_map P f (x ∷ xs) h = All-cons (λ y. P (f y)) x xs (All-head P (f x) (map f xs) h) (all_of_map P f xs (All-tail P (f x) (map f xs) h))
 
 module _ {W A : Type 0} {g : Ghosts W} where
-  unused_orderly : (ring : ℕ) (f : Feed W A g) → IsUnused ring (client_of f) → IsOrderly f
-  unused_orderly ring f u = λ e. absurd (false≢true (sym (ap has_end u.sent) ∙ e))
-
   pub unused_jobs : (ring : ℕ) (f : Feed W A g) → IsUnused ring (client_of f) → all_jobs f ≡ unsent_jobs f
   unused_jobs ring f u = ap (λ ms. jobs_among ms ++ unsent_jobs f) u.sent
 
   module _ (ring : ℕ) (fs : List (Feed W A g)) (cs : List (Client W A g)) (clients : map client_of fs ≡ cs) (unused : All (IsUnused ring) cs) where
     pub feeds_unused : All (λ f. IsUnused ring (client_of f)) fs
     feeds_unused = all_of_map (IsUnused ring) client_of fs (subst (λ xs. All (IsUnused ring) xs) (sym clients) unused)
-
-    -- feeds of new clients may be served
-    pub ready_new : (h : House W A g) → length cs ≤ 64 → All (IsOpened (rings_of h)) cs → Ready h fs
-    ready_new h few opened = record {
-      few = omega (arith, few, ap length clients, length-map fs (client_of {W = W}));
-      orderly = All-weaker (λ f. IsUnused ring (client_of f)) IsOrderly (unused_orderly ring) fs feeds_unused;
-      opened = all_of_map (IsOpened (rings_of h)) client_of fs (subst (λ xs. All (IsOpened (rings_of h)) xs) (sym clients) opened);
-    }
 
 module _ {W A : Type 0} {g : Ghosts W} where
   -- the server of one more feed is noted
@@ -204,4 +217,4 @@ module _ {W A : Type 0} {g : Ghosts W} (n : ℕ) where
   pub sends_both : (a b c d : List (Feed W A g)) → SendsFeeds n a b → SendsFeeds n c d → SendsFeeds n (a ++ c) (b ++ d)
   sends_both a b c d p q = record { kept = feeds_both a b c d p.kept q.kept; most = most_both a b c d p.most q.most }
 
-pub ruleset fed = (keeps_looked, keeps_feed, keeps_feed_on, feeds_same, feeds_on, feeds_one, feeds_both, feeds_count, feeds_orderly)
+pub ruleset fed = (keeps_looked, keeps_feed, keeps_feed_on, feeds_same, feeds_on, feeds_one, feeds_both, feeds_count)

@@ -8,6 +8,7 @@ use Rattle.cbs_job.specs.Work.{Meaning}
 use Rattle.cbs_job.specs.declared.work.Work.{Ghosts}
 use Rattle.cbs_core.specs.Agreement.{Agrees}
 use Rattle.cbs_core.specs.History.{History}
+use Rattle.cbs_core.specs.Quiet.{IsQuietAfter}
 use Rattle.cbs_core.specs.declared.step.Step.{Step}
 use Rattle.cbs_core.specs.declared.step.Step.TheVariants.{Submit, Run, Advance, Close}
 use Rattle.cbs_house.specs.Clients.{server_of}
@@ -15,7 +16,7 @@ use Rattle.cbs_house.specs.declared.feed.Feed.{Feed}
 use Rattle.cbs_house.specs.declared.house.House.{House}
 use Rattle.cbs_house.specs.declared.poll.Poll.{Poll}
 use Rattle.cbs_house.specs.declared.poll.Poll.TheVariants.{Nothing, Took, Closed, Full, OutOfMemory, NoSuchServer}
-use Rattle.cbs_house.specs.Houses.{core_of, rings_of, received, known, handed_of, Made, Moves, LooksOnly, Polled}
+use Rattle.cbs_house.specs.Houses.{core_of, rings_of, received, known, handed_of, Made, Moves, MovesQuietly, LooksOnly, Polled}
 use Rattle.cbs_house.specs.Rounds.{ServesOn, IsSettled}
 use Rattle.cbs_house.specs.Steps.{messages_of, pops_of, pops, MayServe}
 use Rattle.cbs_core.specs.Continuations.{MayDrain}
@@ -76,6 +77,28 @@ module _ {W : Type 0} (work : Meaning W) where
   drain_serves N Run p = tt
   drain_serves N (Advance n) p = p
   drain_serves N (Close t) p = tt
+
+  -- an advance of a drain, and so of serving, takes nobody's time
+  drain_quiet : (N : History W) (x : Step W) → MayDrain work N x → IsQuietAfter work N x
+  drain_quiet N (Submit t job) p = tt
+  drain_quiet N Run p = tt
+  drain_quiet N (Advance n) p = λ early. p.span.quiet
+  drain_quiet N (Close t) p = tt
+
+  serve_quiet : (N : History W) (x : Step W) → MayServe work N x → IsQuietAfter work N x
+  serve_quiet N (Submit t job) p = tt
+  serve_quiet N Run p = tt
+  serve_quiet N (Advance n) p = λ early. p.span.quiet
+  serve_quiet N (Close t) p = tt
+
+module _ {W A : Type 0} {g : Ghosts W} (work : Meaning W) where
+  -- so all that a house does by itself is quiet: a drain
+  pub quiet_drain : (a b : House W A g) (n : ℕ) → Moves work (MayDrain work) a b n → MovesQuietly work a b
+  quiet_drain a b n m = record { moves = (n, moves_weaker work (MayDrain work) (IsQuietAfter work) a b n (drain_quiet work) m) }
+
+  -- and serving
+  pub quiet_serving : (a b : House W A g) → ServesOn work a b → MovesQuietly work a b
+  quiet_serving a b s = record { moves = (s.moves.0, moves_weaker work (MayServe work) (IsQuietAfter work) a b s.moves.0 (serve_quiet work) s.moves.1) }
 
 module _ {W A : Type 0} {g : Ghosts W} (work : Meaning W) where
   serves_made : (a b : House W A g) → Made work a b [] → ServesOn work a b

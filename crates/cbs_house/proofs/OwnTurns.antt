@@ -31,14 +31,14 @@ use Rattle.cbs_house.specs.declared.poll.Poll.TheVariants.{Nothing, Took, Closed
 use Rattle.cbs_house.specs.declared.turn.Turn.{Turn}
 use Rattle.cbs_house.specs.Collected.{shelf_at, no_shelf}
 use Rattle.cbs_house.specs.HouseInvariant.{Housed}
-use Rattle.cbs_house.specs.Houses.{core_of, results_of, handed_of, result_count, Made, Collects}
+use Rattle.cbs_house.specs.Houses.{core_of, results_of, handed_of, result_count, Made, Collects, MovesQuietly}
 use Rattle.cbs_house.specs.OwnTurns.{GoesOn, StaysBy, IsNumbered, TakesOwnTurn}
 use Rattle.cbs_house.specs.Polls.{lacks_memory, Answered, PollsEach}
 use Rattle.cbs_house.specs.Rounds.{ServesOn}
 use Rattle.cbs_house.specs.Running.{LackedMemory, RunStops}
 use Rattle.cbs_house.specs.Steps.{MayServe}
 use Rattle.cbs_house.specs.Turns.{ArePolls}
-use Rattle.cbs_house.proofs.Moves.{moves_step, serves_none, serves_then, serves_poll}
+use Rattle.cbs_house.proofs.Moves.{moves_step, serves_none, serves_then, serves_poll, quiet_serving}
 
 module _ {W A : Type 0} {g : Ghosts W} where
   -- what a run did to the results, behind what left them
@@ -140,6 +140,10 @@ module _ {W A : Type 0} {g : Ghosts W} (work : Meaning W) where
   serves_on a b r n (inl k) = record { moves = (0, moves_step work (MayServe work) a b Run k.0.made (λ M agrees. tt)) }
   serves_on a b r n (inr (inl k)) = record { moves = (0, moves_step work (MayServe work) a b (Advance n) k.0.made k.0.needed) }
   serves_on a b r n (inr (inr k)) = rw k.0 (serves_none work a)
+
+  -- polls, and what a turn does behind them, take nobody's time
+  pub polls_quiet : (a b c : House W A g) (n k j : ℕ) (m : Bool) (r : Ran) → PollsEach work n a b k m → GoesOn work b c r j → MovesQuietly work a c
+  polls_quiet a b c n k j m r h on = quiet_serving work a c (serves_then work a b c (serves_answered 0 a b h.answers h.answered) (serves_on b c r j on))
 
   -- a turn makes steps of serving
   pub turn_serves : (a b : House W A g) (t : Turn) → TakesOwnTurn work a b t → ServesOn work a b

@@ -14,6 +14,7 @@ use Rattle.cbs_house.specs.RingEnds.{IsOpened}
 use Rattle.cbs_house.specs.Rounds.{Ready, IsSettled, IsServed}
 use Rattle.cbs_house.specs.declared.feed.Feed.{Feed}
 use Rattle.cbs_house.specs.declared.house.House.{House}
+use Rattle.cbs_house.proofs.Feeds.{ready_at}
 use Rattle.cbs_house.proofs.RingLooks.{opened_within}
 
 module _ {W A : Type 0} {g : Ghosts W} (work : Meaning W) (h : House W A g) (housed : Housed work h.core h.rings h.collector) where
@@ -33,4 +34,4 @@ module _ {W A : Type 0} {g : Ghosts W} (work : Meaning W) (h : House W A g) (hou
 
   -- where no job is held, all feeds are done and all their messages received, all is served
   pub all_served : (fs : List (Feed W A g)) → HoldsNoJob (core_of h) → Ready h fs → All IsDone fs → All (IsSettled h) fs → All (IsServed work h) fs
-  all_served fs none ready done settled k d l = served_at (get_or fs k d) none (ready.opened k d l) (done k d l) (settled k d l)
+  all_served fs none ready done settled k d l = served_at (get_or fs k d) none (ready_at h fs k d l ready) (done k d l) (settled k d l)

@@ -151,7 +151,7 @@ module _ {W A : Type 0} {g : Ghosts W} (work : Meaning W) where
   turns_rings most servers a b n t = t.taken.made.rings
 
   -- turns are steps of serving
-  serves_turns : (most : ℕ) (servers : List ℕ) (a b : House W A g) (n : ℕ) → TakesTurns work most servers a b n → ServesOn work a b
+  pub serves_turns : (most : ℕ) (servers : List ℕ) (a b : House W A g) (n : ℕ) → TakesTurns work most servers a b n → ServesOn work a b
   serves_turns most servers a b n t =
       let k = t.taken in
       record { moves = (n, record { some = (steps_in k.polls, k.made, λ M agrees. allowed_turns work (length (core_of a).faces) k.polls M k.each, k.count) }) }

@@ -1,6 +1,6 @@
 -- What a contract sees of a client.
 use Rattle.std.specs.Prelude.{ℕ, ◌≡◌, ◌<◌, ◌⊎◌, List, length}
-use Rattle.rtrb.specs.Ring.{sent, known_free}
+use Rattle.rtrb.specs.Ring.{sent, known_free, producer_capacity}
 use Rattle.cbs_job.specs.declared.work.Work.{Ghosts}
 use Rattle.cbs_house.specs.declared.message.Message.{Message}
 use Rattle.cbs_house.specs.declared.client.Client.{Client}
@@ -23,6 +23,10 @@ module _ {W A : Type 0} {g : Ghosts W} where
   -- how many free slots of its ring the client knows of
   abbrev pub free : Client W A g → ℕ
   free c = known_free c.ring
+
+  -- how many slots its ring has
+  abbrev pub slots_of : Client W A g → ℕ
+  slots_of c = producer_capacity c.ring
 
   -- the client knows of a free slot in its ring, and has sent fewer jobs than it can count
   abbrev pub HasSlot : Client W A g → Type 0

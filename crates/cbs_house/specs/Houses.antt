@@ -6,6 +6,7 @@ use Rattle.cbs_job.specs.declared.work.Work.{Ghosts}
 use Rattle.cbs_core.specs.Faces.{face_at, backlog_of}
 use Rattle.cbs_core.specs.Held.{CoreHeld, IsOpen, Accepts, HasRoom}
 use Rattle.cbs_core.specs.History.{History}
+use Rattle.cbs_core.specs.Quiet.{IsQuietAfter}
 use Rattle.cbs_core.specs.declared.error.CoreError.{CoreError}
 use Rattle.cbs_core.specs.declared.reply.Ran.{Ran}
 use Rattle.cbs_core.specs.declared.reply.Ran.TheVariants as ran
@@ -107,6 +108,10 @@ module _ {W A : Type 0} {g : Ghosts W} where
   -- the house made some steps that each may stand where they stand, and they took n messages
   pub record Moves (work : Meaning W) (allowed : History W → Step W → Type 0) (old new : House W A g) (n : ℕ) : Type 0 where
     pub some : (xs : List (Step W)) × Made work old new xs × AllAllowed work allowed (core_of old) xs × (pops xs ≡ n)
+
+  -- the house made some steps, each advance of which took nobody's time: so the laws on time hold of them with no premise
+  pub record MovesQuietly (work : Meaning W) (old new : House W A g) : Type 0 where
+    pub moves : (n : ℕ) × Moves work (IsQuietAfter work) old new n
 
   -- What a poll of server s did, by its answer. The first four pop nothing: nothing is seen or the server is closed; a message
   -- is seen, and the backlog is full; a message is seen, and the backlog is not full, but there is no memory; there is no such

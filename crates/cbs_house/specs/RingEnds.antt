@@ -1,5 +1,5 @@
 -- What a contract sees of the house's ends of the rings.
-use Rattle.std.specs.Prelude.{ℕ, ◌≡◌, List, [], map, slice_get, get_or, Some}
+use Rattle.std.specs.Prelude.{ℕ, ◌≡◌, List, [], ◌∷◌, ◌++◌, map, slice_get, get_or, Some}
 use mathlib.Core.List.{IsPrefix}
 use Rattle.rtrb.specs.Ring.{received, known_items}
 use Rattle.cbs_job.specs.declared.work.Work.{Ghosts}
@@ -32,3 +32,7 @@ module _ {W A : Type 0} {g : Ghosts W} where
   -- the client pushes into the ring of its server
   abbrev pub IsOpened : List (Ring A) → Client W A g → Type 0
   IsOpened rings c = slice_get rings (server_of c) ≡ Some (ring_of c)
+
+  -- the same of each of several clients, wherever it stands among them
+  abbrev pub EachOpened : List (Ring A) → List (Client W A g) → Type 0
+  EachOpened rings cs = (front back : List (Client W A g)) (c : Client W A g) → cs ≡ front ++ c ∷ back → IsOpened rings c

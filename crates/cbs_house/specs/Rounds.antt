@@ -14,10 +14,10 @@ use Rattle.cbs_house.specs.declared.message.Message.{Message}
 use Rattle.cbs_house.specs.declared.poll.Poll.{Poll}
 use Rattle.cbs_house.specs.declared.poll.Poll.TheVariants as poll
 use Rattle.cbs_house.specs.Clients.{server_of, sent_by}
-use Rattle.cbs_house.specs.Feeds.{IsOrderly, IsDone, all_jobs}
+use Rattle.cbs_house.specs.Feeds.{client_of, IsDone, all_jobs}
 use Rattle.cbs_house.specs.Houses.{core_of, rings_of, received, known, results_of, handed_of, Moves}
 use Rattle.cbs_core.specs.Held.{HoldsJob, HoldsNoJob}
-use Rattle.cbs_house.specs.RingEnds.{IsOpened}
+use Rattle.cbs_house.specs.RingEnds.{EachOpened}
 use Rattle.cbs_house.specs.Steps.{MayServe}
 
 -- how many messages a poll popped
@@ -30,12 +30,10 @@ popped_by poll.OutOfMemory = 0
 popped_by poll.NoSuchServer = 0
 
 module _ {W A : Type 0} {g : Ghosts W} where
-  -- feeds that may be served by the house: at most 64, each with a client that was opened with the house and that has not
-  -- ended unless no job is left
+  -- feeds that may be served by the house: at most 64, each with a client that was opened with the house
   pub record Ready (h : House W A g) (fs : List (Feed W A g)) : Type 0 where
     pub few : length fs ≤ 64
-    pub orderly : All IsOrderly fs
-    pub opened : All (λ f. IsOpened (rings_of h) f.client) fs
+    pub opened : EachOpened (rings_of h) (map client_of fs)
 
   -- the house made some steps of serving
   pub record ServesOn (work : Meaning W) (old new : House W A g) : Type 0 where

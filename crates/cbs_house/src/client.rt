@@ -37,7 +37,7 @@ impl<W: Work, A: Allocator> Client<W, A> {
     ghost use Rattle.rtrb.specs.Ring.{sent, known_free};
     ghost use Rattle.cbs_house.specs.Messages.{jobs_among, has_end, end_is_last};
     ghost use Rattle.cbs_house.specs.Rings.{producer_ring};
-    ghost use Rattle.cbs_house.specs.Clients.{server_of, ring_of, sent_by, free, HasSlot, HasNoSlot, SameClient};
+    ghost use Rattle.cbs_house.specs.Clients.{server_of, ring_of, sent_by, free, slots_of, HasSlot, HasNoSlot, SameClient};
     ghost use Rattle.cbs_house.specs.declared.message.Message.TheVariants.{Job, End};
 
     /// The client of a server, at its end of a new ring.
@@ -70,12 +70,32 @@ impl<W: Work, A: Allocator> Client<W, A> {
         self.count
     }
 
+    /// How many messages of the client stand in its ring, not taken yet: the slots that are not known to be
+    /// free. The client looks anew; while the house polls there may be fewer when the call is over.
+    pub fn waiting(&mut self) -> u64
+        ensures same { SameClient self.old self.new × (sent_by self.new ≡ sent_by self.old) }
+        ensures looked { free self.old ≤ free self.new }
+        ensures value { result + free self.new ≡ slots_of self.new }
+    {
+        (self.ring.capacity() - self.ring.slots()) as u64
+    }
+
     /// Whether the client has ended: it sends no further job.
     pub fn ended(&self) -> bool
         ensures ended { result ≡ has_end (sent_by self.now) }
         ensures last { end_is_last (sent_by self.now) ≡ true }
     {
         self.ended
+    }
+
+    /// How many slots of the ring are free, as it is looked at now: so many messages will be taken, the end
+    /// among them. The house may free more at any time.
+    pub fn free(&mut self) -> u64
+        ensures same { SameClient self.old self.new × (sent_by self.new ≡ sent_by self.old) }
+        ensures looked { free self.old ≤ free self.new }
+        ensures value { result ≡ free self.new }
+    {
+        self.ring.slots() as u64
     }
 
     /// Whether a slot is free for the next message, and one more job can be counted.

@@ -188,6 +188,17 @@ impl<A: Allocator> Collector<A> {
         }
     }
 
+    /// Drops the results of a server, as if they were handed out; nothing where there is no such server. No
+    /// memory is taken.
+    pub fn discard(&mut self, server: u16)
+        ensures discarded { HandsOut (shelf_at self.old server) (shelf_at self.new server) }
+        ensures others { OtherShelvesSame server self.old self.new × (length self.new ≡ length self.old) }
+    {
+        if let Some(shelf) = self.shelves.get_mut(usize::from(server)) {
+            shelf.discard();
+        }
+    }
+
     /// The results of a server that are kept, in order, or `None` where there is no such server.
     pub fn results(&self, server: u16) -> Option<&[u64]>
         ensures { MatchOption result (length self.now ≤ server) (λ r. (server < length self.now) × (r.now ≡ (shelf_at self.now server).results)) }

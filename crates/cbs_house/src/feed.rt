@@ -22,7 +22,7 @@ impl<W: Work, A: Allocator> Feed<W, A> {
     ghost use Rattle.cbs_house.specs.contracts.feed.Feed.{the_row};
     ghost use Rattle.cbs_house.specs.contracts.client.Client.{the_row as client_row};
     ghost use Rattle.cbs_house.specs.Clients.{sent_by, HasNoSlot};
-    ghost use Rattle.cbs_house.specs.Feeds.{client_of, unsent_jobs, has_ended, IsOrderly, IsDone, KeepsFeed};
+    ghost use Rattle.cbs_house.specs.Feeds.{client_of, unsent_jobs, has_ended, IsDone, KeepsFeed};
 
     /// A feed of these jobs, in order. It takes no memory.
     pub fn new(client: Client<W, A>, jobs: Vec<Task<W>, A>) -> Feed<W, A>
@@ -59,7 +59,6 @@ impl<W: Work, A: Allocator> Feed<W, A> {
 
     /// One turn: asks the gate, and where it says true tries the next message. Whether one was sent.
     pub(crate) fn turn<G: Gate>(&mut self, gate: &G) -> bool
-        requires { IsOrderly self.old }
         ensures kept { KeepsFeed self.old self.new }
         ensures count { length (sent_by self.new.client) ≡ length (sent_by self.old.client) + (if result then 1 else 0) }
         ensures refused { result ≡ false → (has_ended self.new ≡ true) ⊎ (G.may_hold_back gate.now ⊎ HasNoSlot self.new.client) }

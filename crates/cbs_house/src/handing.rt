@@ -41,4 +41,13 @@ impl<W: Work, A: Allocator> House<W, A> {
             Err(_) => Err(HouseError::OutOfMemory),
         }
     }
+
+    /// Drops the results of a server found so far, as if they were handed out; nothing where there is no such
+    /// server. No memory is taken: a house whose results are dropped after each completion serves for ever in
+    /// the places that it has.
+    pub fn discard_results(&mut self, server: u16)
+        ensures discarded { HandsOutResults server self.old self.new }
+    {
+        self.collector.discard(server);
+    }
 }

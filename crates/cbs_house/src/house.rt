@@ -28,6 +28,7 @@ impl<W: Work, A: Allocator> House<W, A> {
     ghost use Rattle.cbs_core.specs.Agreement.{Agrees};
     ghost use Rattle.cbs_core.specs.History.{History, faces, world_after, reply_in};
     ghost use Rattle.cbs_core.specs.Quiet.{IsAtRest, IsIdleSpan};
+    ghost use Rattle.cbs_core.specs.Fronts.{front_output};
     ghost use Rattle.cbs_core.specs.Held.{held_at, IsClosed};
     ghost use Rattle.cbs_core.specs.Faces.{face_at, view_reply};
     ghost use Rattle.cbs_core.specs.Laws.{account_in, IsWithinBudget};
@@ -201,6 +202,10 @@ impl<W: Work, A: Allocator> House<W, A> {
     }
 
     /// For how many ticks nobody will be ready, as [`Core::idle_span`].
+    ///
+    /// Where no job is held it reaches to the clock's end, [`LIMIT`]: nobody is ready until a message is
+    /// taken. Whoever polls must not advance by it then, since nothing can run once the clock stands at its
+    /// end. [`turn`](House::turn) advances by it only while a job is held.
     pub fn idle_span(&self) -> Option<u64>
         ensures { (M : History W) → Agrees W.meaning (core_of self.now) M
             → MatchOption result (¬ IsAtRest W.meaning (world_after W.meaning M)) (IsIdleSpan W.meaning (world_after W.meaning M)) }
@@ -216,6 +221,14 @@ impl<W: Work, A: Allocator> House<W, A> {
         ensures kept { IfSome result (λ tick. (M : History W) → Agrees W.meaning (core_of self.now) M → AllFinishedBy W.meaning M server tick) }
     {
         self.core.promised(server)
+    }
+
+    /// The output so far of the job at the front of a server, as [`Core::front_output`]; `None` where it has
+    /// no unfinished job, and where there is no such server.
+    pub fn front_output(&self, server: u16) -> Option<u64>
+        ensures { result ≡ front_output W.meaning (held_at (core_of self.now) server).jobs }
+    {
+        self.core.front_output(server)
     }
 
     /// What a server shows, or [`HouseError::NoSuchServer`].

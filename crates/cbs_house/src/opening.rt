@@ -1,6 +1,6 @@
 //! Opening a house with its clients.
 
-ghost use Rattle.std.specs.Prelude.{ℕ, ◌≡◌, List, [], length, map, IfOk, OnOk};
+ghost use Rattle.std.specs.Prelude.{ℕ, ◌≡◌, ◌≤◌, List, [], length, map, IfOk, OnOk};
 ghost use Rattle.std.specs.List.{All, range_with_len};
 ghost use Rattle.cbs_core.specs.Agreement.{Agrees};
 ghost use Rattle.cbs_core.specs.Punctual.{IsPunctual};
@@ -10,7 +10,7 @@ ghost use Rattle.cbs_rate.specs.Refusals.{RefusesByOrMemory};
 ghost use Rattle.cbs_house.specs.Clients.{server_of, ring_of};
 ghost use Rattle.cbs_house.specs.Houses.{core_of, rings_of, received, known, results_of, handed_of};
 ghost use Rattle.cbs_house.specs.Opened.{open_refusal, IsNewEnd, IsUnused};
-ghost use Rattle.cbs_house.specs.RingEnds.{rings_in, IsOpened};
+ghost use Rattle.cbs_house.specs.RingEnds.{rings_in, IsOpened, EachOpened};
 
 use crate::client::Client;
 use crate::collector::Collector;
@@ -47,8 +47,11 @@ pub fn open_house<W: Work, A: Allocator + Copy>(
     ensures agrees { IfOk result (λ r. Agrees W.meaning (core_of r.0) (record { setup = record { servers = terms_of modes plan.rates; backlog = backlog }; steps = [] })) }
     ensures empty { IfOk result (λ r. (s : ℕ) → (received r.0 s ≡ []) × (known r.0 s ≡ []) × (results_of r.0 s ≡ []) × (handed_of r.0 s ≡ 0)) }
     ensures clients { IfOk result (λ r. map server_of r.1.items ≡ range_with_len 0 (length plan.rates)) }
+    ensures count { IfOk result (λ r. length r.1.items ≡ length plan.rates) }
+    ensures few { IfOk result (λ r. length r.1.items ≤ 64) }
     ensures unused { IfOk result (λ r. All (IsUnused ring) r.1.items) }
     ensures opened { IfOk result (λ r. All (IsOpened (rings_of r.0)) r.1.items) }
+    ensures each { IfOk result (λ r. EachOpened (rings_of r.0) r.1.items) }
     ensures punctual { OnOk result ((steps : List (Step W)) → IsPunctual W.meaning (record { setup = record { servers = terms_of modes plan.rates; backlog = backlog }; steps = steps })) }
     ensures refusal { RefusesByOrMemory HouseError.OutOfMemory result (open_refusal backlog ring) }
 {

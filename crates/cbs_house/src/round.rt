@@ -3,8 +3,8 @@
 ghost use Rattle.std.specs.Prelude.{◌≡◌, ◌+◌, ◌*◌, ◌≤◌, ◌↔◌, length, IsTrue};
 ghost use Rattle.std.specs.List.{All};
 ghost use Rattle.std.specs.Thread.{IsSync, IsSend};
-ghost use Rattle.cbs_house.specs.Feeds.{IsOrderly, KeepsFeeds, EachSendsAtMost, SendsFeeds, servers_of, all_sent};
-ghost use Rattle.cbs_house.specs.Houses.{core_of};
+ghost use Rattle.cbs_house.specs.Feeds.{KeepsFeeds, EachSendsAtMost, SendsFeeds, servers_of, all_sent};
+ghost use Rattle.cbs_house.specs.Houses.{core_of, MovesQuietly};
 ghost use Rattle.cbs_core.specs.Held.{IsClosed};
 ghost use Rattle.cbs_house.specs.Rounds.{Ready};
 ghost use Rattle.cbs_house.specs.Turns.{TakesTurn, TakesTurns};
@@ -40,8 +40,8 @@ pub struct Round {
 /// Behind turns that did nothing a side yields, and sleeps now and then, for at most 2 milliseconds.
 /// The runtime's clock serves for that alone: no time is read.
 ///
-/// There are at most 64 feeds, each with a client that was opened with this house and that has not
-/// ended unless no job is left; `turns` is at most 1000000000.
+/// There are at most 64 feeds, each with a client that was opened with this house; `turns` is at most
+/// 1000000000.
 pub fn serve_round<R: Threads + Clock + Sync, G: Gate + Sync, W: Work + Send>(
     rt: &R,
     house: &mut House<W>,
@@ -57,6 +57,7 @@ pub fn serve_round<R: Threads + Clock + Sync, G: Gate + Sync, W: Work + Send>(
     ensures sent { all_sent feeds.new ≡ all_sent feeds.old + result.sent }
     ensures most { result.sent ≤ turns * length feeds.old }
     ensures took { TakesTurns W.meaning turns (servers_of feeds.old) house.old house.new result.took }
+    ensures quiet { MovesQuietly W.meaning house.old house.new }
     ensures few { result.took ≤ turns * length (core_of house.old).faces }
 {
     let mut servers = [0u16; 64];
@@ -88,7 +89,6 @@ fn both_sides<R: Threads + Clock + Sync, G: Gate + Sync, W: Work + Send>(
 ) -> (u64, u64)
     requires few { length feeds.old ≤ 64 }
     requires turns { turns ≤ 1000000000 }
-    requires orderly { All IsOrderly feeds.old }
     ensures sends { SendsFeeds turns feeds.old feeds.new }
     ensures sent { all_sent feeds.new ≡ all_sent feeds.old + result.0 }
     ensures most { result.0 ≤ turns * length feeds.old }
@@ -98,7 +98,7 @@ fn both_sides<R: Threads + Clock + Sync, G: Gate + Sync, W: Work + Send>(
     join_mut(
         rt,
         &mut || -> u64
-            requires { IsSync R.row × IsSync G.row × IsSend W.row × (length feeds.now ≤ 64) × (turns ≤ 1000000000) × All IsOrderly feeds.now }
+            requires { IsSync R.row × IsSync G.row × IsSend W.row × (length feeds.now ≤ 64) × (turns ≤ 1000000000) }
             ensures { SendsFeeds turns feeds.entry.now feeds.exit.now × (all_sent feeds.exit.now ≡ all_sent feeds.entry.now + result) × (result ≤ turns * length feeds.entry.now) }
         { send_all(rt, gate, turns, feeds) },
         &mut || -> u64

@@ -16,7 +16,7 @@ use std::time::Clock;
 impl<W: Work, A: Allocator> House<W, A> {
     ghost use Rattle.std.specs.Prelude.{ℕ, ◌≡◌, ◌<◌, ◌≤◌, ◌⊎◌, ◌↔◌, true, false, length, IsTrue, OnOk, IfOk, IfErr};
     ghost use Rattle.cbs_core.specs.Held.{HoldsNoJob};
-    ghost use Rattle.cbs_house.specs.Houses.{core_of, rings_of, AllFinished};
+    ghost use Rattle.cbs_house.specs.Houses.{core_of, rings_of, AllFinished, MovesQuietly};
     ghost use Rattle.cbs_house.specs.Rounds.{ServesOn};
     ghost use Rattle.cbs_house.specs.Running.{AllClosed, open_servers, MovesOn, RunsTelling, IsWaiting, RunStops};
     ghost use Rattle.cbs_house.specs.Sinks.{Tells};
@@ -37,6 +37,7 @@ impl<W: Work, A: Allocator> House<W, A> {
         idle_turns: u64,
     ) -> Result<(), HouseError>
         ensures steps { ServesOn W.meaning self.old self.new }
+        ensures quiet { MovesQuietly W.meaning self.old self.new }
         ensures rings { rings_of self.new ≡ rings_of self.old }
         ensures told { Tells S.hears self.old self.new sink.old sink.new }
         ensures closed { OnOk result (AllClosed (core_of self.new)) }

@@ -3,7 +3,7 @@
 ghost use Rattle.std.specs.Prelude.{ℕ, suc, ◌≡◌, ◌≢◌, ◌+◌, ◌≤◌, ◌↔◌, true, length, IsTrue, IfOk, OnOk, IfErr, MatchResult};
 ghost use Rattle.std.specs.List.{All};
 ghost use Rattle.cbs_house.specs.Feeds.{IsDone, KeepsFeed, KeepsFeeds, all_unsent};
-ghost use Rattle.cbs_house.specs.Houses.{core_of, rings_of, LooksOnly};
+ghost use Rattle.cbs_house.specs.Houses.{core_of, rings_of, LooksOnly, MovesQuietly};
 ghost use Rattle.cbs_core.specs.Held.{HoldsNoJob};
 ghost use Rattle.cbs_house.specs.RingEnds.{IsOpened};
 ghost use Rattle.cbs_house.specs.Rounds.{Ready, ServesOn, Standing, IsTaken, IsSettled, IsServed, Halts, Stops};
@@ -35,8 +35,8 @@ const TURNS: u64 = 10_000;
 /// to send. No job is lost then: each is in its feed, its ring, the core or the results, and the
 /// feeds may be served again.
 ///
-/// There are at most 64 feeds, each with a client that was opened with this house and that has not
-/// ended unless no job is left.
+/// There are at most 64 feeds, each with a client that was opened with this house. A feed whose client
+/// ended with jobs left is never done.
 pub fn serve<R: Threads + Clock + Sync, G: Gate + Sync, W: Work + Send>(
     rt: &R,
     house: &mut House<W>,
@@ -47,6 +47,7 @@ pub fn serve<R: Threads + Clock + Sync, G: Gate + Sync, W: Work + Send>(
     ensures ready { Ready house.new feeds.new }
     ensures feeds { KeepsFeeds feeds.old feeds.new }
     ensures steps { ServesOn W.meaning house.old house.new }
+    ensures quiet { MovesQuietly W.meaning house.old house.new }
     ensures served { OnOk result (All (IsServed W.meaning house.new) feeds.new) }
     ensures drained { OnOk result (HoldsNoJob (core_of house.new)) }
     ensures stops { IfErr result (λ error. Stops error house.new feeds.new) }

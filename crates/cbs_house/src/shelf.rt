@@ -112,6 +112,13 @@ impl<A: Allocator> Shelf<A> {
         Ok(replace(&mut self.results, places))
     }
 
+    /// Drops the results, as if they were handed out, and keeps their places: no memory is taken.
+    pub fn discard(&mut self)
+        ensures { HandsOut self.old self.new }
+    {
+        self.results.clear();
+    }
+
     /// The results, in order.
     pub fn results(&self) -> &[u64]
         ensures { result.now ≡ self.now.results }

@@ -23,7 +23,7 @@ pub struct Turn {
 
 impl<W: Work, A: Allocator> House<W, A> {
     ghost use Rattle.std.specs.Prelude.{ℕ, ◌≡◌, ◌<◌, ◌≤◌, length};
-    ghost use Rattle.cbs_house.specs.Houses.{core_of, rings_of, results_of, Collects};
+    ghost use Rattle.cbs_house.specs.Houses.{core_of, rings_of, results_of, Collects, MovesQuietly};
     ghost use Rattle.cbs_house.specs.OwnTurns.{GoesOn, IsNumbered, TakesOwnTurn};
     ghost use Rattle.cbs_core.specs.Held.{HoldsJob};
 
@@ -35,6 +35,7 @@ impl<W: Work, A: Allocator> House<W, A> {
     /// in its ring, and the next turn polls again.
     pub fn turn(&mut self) -> Turn
         ensures turn { TakesOwnTurn W.meaning self.old self.new result }
+        ensures quiet { MovesQuietly W.meaning self.old self.new }
         ensures few { result.took ≤ length (core_of self.old).faces }
         ensures rings { rings_of self.new ≡ rings_of self.old }
         ensures collects { Collects result.ran self.old self.new }

@@ -1,7 +1,9 @@
 -- Lateness, demands, shares, promises and due ticks of small examples, computed from the definitions. A job is the number of its units.
-use Rattle.std.proofs.Common.{◌≡◌, ℕ, ◌+◌, ◌-◌, ◌*◌, Bool, List, [], ◌∷◌, refl, true, map, Option, Some, None}
+use Rattle.std.proofs.Common.{◌≡◌, ℕ, ◌+◌, ◌-◌, ◌*◌, Bool, List, [], ◌∷◌, refl, true, false, map, Option, Some, None}
 use Rattle.std.specs.List.{sum_by}
 use Rattle.cbs_job.specs.Work.{Meaning}
+use Rattle.cbs_rate.specs.Plan.{total_share, all_periods, fits}
+use Rattle.cbs_rate.specs.Rate.{Rate}
 use Rattle.cbs_rules.specs.Rules.{Terms}
 use Rattle.cbs_rules.specs.declared.mode.Mode.{Mode}
 use Rattle.cbs_rules.specs.declared.mode.Mode.TheVariants.{Soft, Throttled}
@@ -10,6 +12,7 @@ use Rattle.cbs_core.specs.History.{Setup, ticks, account, faces, after}
 use Rattle.cbs_core.specs.OnTime.{demand, is_late}
 use Rattle.cbs_core.specs.Promised.{promised}
 use Rattle.cbs_core.specs.Promises.{due}
+use Rattle.cbs_core.specs.Quiet.{AreQuiet}
 use Rattle.cbs_core.specs.declared.step.Step.{Step}
 use Rattle.cbs_core.specs.declared.step.Step.TheVariants.{Submit, Run, Advance}
 
@@ -48,6 +51,23 @@ whole = server Soft 3 5 ∷ server Soft 2 5 ∷ []
 
 abbrev both : List (Step ℕ)
 both = Submit 1 2 ∷ Submit 0 9 ∷ []
+
+-- together they are a plan of exactly one, which admission lets through: so what is promised of a plan is promised of some plan
+abbrev rates : List Rate
+rates = map (λ (t : Terms). t.reservation) whole
+
+whole_is_one : (total_share rates ∷ all_periods rates ∷ []) ≡ 25 ∷ 25 ∷ []
+whole_is_one = refl
+
+whole_fits : fits (record { num = 1; den = 1 }) rates ≡ true
+whole_fits = refl
+
+-- and steps that keep it busy, none of which takes anybody's time, after which nobody is late, to the last tick
+whole_quiet : AreQuiet units (setup whole) (Run ∷ Run ∷ Run ∷ Run ∷ Run ∷ both)
+whole_quiet = (((((((tt, tt), tt), tt), tt), tt), tt), tt)
+
+whole_in_time : (late whole (Run ∷ Run ∷ Run ∷ Run ∷ both) 0 ∷ late whole (Run ∷ Run ∷ Run ∷ Run ∷ both) 1 ∷ []) ≡ false ∷ false ∷ []
+whole_in_time = refl
 
 -- all demands up to x after the steps, in 25th parts of a tick
 abbrev demands : List (Step ℕ) → ℕ → ℕ

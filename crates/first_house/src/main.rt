@@ -1,8 +1,9 @@
-//! The shortest program with a house: one client sends two jobs, and their results are read.
+//! The shortest program with a house: one client sends two jobs, is told by when they will be done, and
+//! reads their results.
 #![tactic(auto)]
 
 use anyhow::{Context, Result};
-use cbs_house::{Client, open_house};
+use cbs_house::{Client, Poll, open_house};
 use cbs_job::{SumJob, Task};
 use cbs_rate::{Bound, Plan, Reservation};
 use cbs_rules::{Mode, Modes};
@@ -29,13 +30,17 @@ fn main(rt: HostRuntime) -> Result<()> {
     client.end()?;
 
     for _message in 0..3 {
-        house.poll(0);
+        if let Poll::Took(number) = house.poll(0) {
+            let tick = house.promised(0).context("a job is held")?;
+            println!(rt; "job {number} accepted: promised by tick {tick}")?;
+        }
     }
-    house.drain()?;
-
-    for result in house.results(0)? {
-        println!(rt; "{result}")?;
+    for _unit in 0..4 {
+        let done = house.results(0)?.len();
+        house.run();
+        if let Some(result) = house.results(0)?.get(done) {
+            println!(rt; "job {done} done at tick {}: {result}", house.now())?;
+        }
     }
-    println!(rt; "finished at tick {}", house.now())?;
     Ok(())
 }

@@ -14,7 +14,7 @@ use std::thread::Threads;
 use std::time::Clock;
 
 /// The words of all calls.
-const CASES: [&str; 12] = [
+const CASES: [&str; 13] = [
     "core",
     "make_room",
     "submit",
@@ -25,6 +25,7 @@ const CASES: [&str; 12] = [
     "collector_room",
     "expect",
     "poll",
+    "take_results",
     "serve_round",
     "serve",
 ];
@@ -42,6 +43,7 @@ pub fn make<R: Print + Threads + Clock + Sync>(rt: &R, alloc: Global, case: &str
         "collector_room" => house_cases::collector_room(rt, alloc),
         "expect" => house_cases::announce(rt, alloc),
         "poll" => house_cases::poll(rt, alloc),
+        "take_results" => house_cases::take_results(rt, alloc),
         "serve_round" => serving_cases::round(rt, alloc),
         "serve" => serving_cases::whole(rt, alloc),
         _ => bail!("no such call: {case}"),

@@ -3,8 +3,8 @@
 ghost use Rattle.std.specs.Prelude.{◌≡◌, length, IfOk};
 ghost use Rattle.cbs_house.specs.Rounds.{Ready};
 
-use anyhow::{Result, bail, ensure};
-use cbs_house::{Feed, House, feeds_of, open_house};
+use anyhow::{Result, ensure};
+use cbs_house::{Feed, House, open_feeds};
 use cbs_job::{SumJob, Task, Work};
 use cbs_rate::{Bound, Plan, Reservation};
 use cbs_rules::Modes;
@@ -43,14 +43,12 @@ pub fn fed<W: Work>(
     requires { length modes ≡ length plan.rates }
     ensures { IfOk result (λ r. Ready r.0 r.1.items) }
 {
-    let (house, clients) = open_house(alloc, plan, modes, backlog, ring)?;
-    ensure!(clients.len() <= 64, "more than 64 servers");
     ensure!(
-        clients.len() == lists.len(),
+        lists.len() == plan.len(),
         "not a list of jobs for each server"
     );
-    let Ok(feeds) = feeds_of(alloc, clients, lists) else {
-        bail!("out of memory");
-    };
-    Ok((house, feeds))
+    match open_feeds(alloc, plan, modes, backlog, ring, lists) {
+        Ok(opened) => Ok(opened),
+        Err(refused) => Err(refused.error.into()),
+    }
 }

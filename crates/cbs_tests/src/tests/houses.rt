@@ -1,13 +1,16 @@
 //! The house and its clients, run on worked examples.
 
 mod calls;
+mod closing;
 mod collecting;
 mod errors;
 mod handing;
+mod in_time;
 mod meeting;
 mod memory;
 mod polling;
 mod serving;
+mod turning;
 
 use super::{filled, plan_of, same, says, sum_of};
 use cbs_job::{SumJob, Task};

@@ -196,3 +196,27 @@ pub fn poll(rt: &impl Print, alloc: Global) -> Result<()> {
     drains(rt, &mut house);
     Ok(())
 }
+
+/// Asks for the results, to have them.
+fn hands_out(rt: &impl Print, what: &str, house: &mut House<SumJob>) {
+    match house.take_results(0) {
+        Ok(results) => tell(rt, what, results.as_slice()),
+        Err(error) => tell(rt, what, error),
+    }
+}
+
+/// Results that are handed out while a job is held.
+pub fn take_results(rt: &impl Print, alloc: Global) -> Result<()> {
+    let (mut house, mut client) = house_of_one(alloc)?;
+    sends(rt, &mut client, unit_of(alloc, 5)?);
+    sends(rt, &mut client, unit_of(alloc, 7)?);
+    polls(rt, "poll", &mut house);
+    polls(rt, "poll", &mut house);
+    tell(rt, "run", house.run());
+    begin(rt);
+    hands_out(rt, "first", &mut house);
+    tell(rt, "results", house.results(0));
+    hands_out(rt, "again", &mut house);
+    drains(rt, &mut house);
+    Ok(())
+}

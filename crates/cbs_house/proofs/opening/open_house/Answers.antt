@@ -1,9 +1,12 @@
-use Rattle.std.proofs.Common.{sym, arith, ◌≡◌, ◌∙◌, length}
+use Rattle.std.proofs.Common.{sym, ap, arith, ◌≡◌, ◌≤◌, ◌∙◌, length}
+use Rattle.std.proofs.lemmas.List.{length-map}
+use Rattle.std.proofs.lemmas.List.FromFn.{length-range_with_len}
 use Rattle.cbs_core.specs.History.{Setup}
 use Rattle.cbs_core.specs.Setups.{terms_of}
 use Rattle.cbs_core.proofs.Laws.{new_count, terms_count}
 use Rattle.cbs_house.specs.Clients.{server_of, ring_of}
 use Rattle.cbs_house.specs.RingEnds.{rings_in}
+use Rattle.cbs_house.proofs.Feeds.{each_opened}
 use Rattle.cbs_house.proofs.NewHouses.{new_rings, housed_new, same_count, all_opened}
 use Rattle.cbs_house.proofs.opening.open_house.Goals as goal
 
@@ -27,3 +30,19 @@ pub returns-clause-opened : goal.returns-clause-opened
 returns-clause-opened g c =
     let made = c.in-Ok-open_rings in
     all_opened (rings_in made.rings) made.clients.items c.len-servers.result made.ensures.rings made.ensures.clients
+
+pub returns-clause-count : goal.returns-clause-count
+returns-clause-count g c =
+    let made = c.in-Ok-open_rings in
+    sym (length-map made.clients.items server_of) ∙ (ap length made.ensures.clients ∙ (length-range_with_len 0 c.len-servers.result ∙ c.len-servers.ensures.value))
+
+pub returns-clause-few : goal.returns-clause-few
+returns-clause-few g c =
+    let made = c.in-Ok-open_rings in
+    let count : length made.clients.items ≡ c.len-servers.result = sym (length-map made.clients.items server_of) ∙ (ap length made.ensures.clients ∙ length-range_with_len 0 c.len-servers.result) in
+    omega (arith, count, c.len-servers.ensures)
+
+pub returns-clause-each : goal.returns-clause-each
+returns-clause-each g c =
+    let made = c.in-Ok-open_rings in
+    each_opened (rings_in made.rings) made.clients.items (all_opened (rings_in made.rings) made.clients.items c.len-servers.result made.ensures.rings made.ensures.clients)

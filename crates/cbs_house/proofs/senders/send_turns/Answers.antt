@@ -4,7 +4,7 @@ use Rattle.cbs_house.proofs.senders.send_turns.Goals.{then-turn, else-turn}
 use Rattle.cbs_house.proofs.senders.send_turns.Goals as goal
 
 pub loop-init : goal.loop-init
-loop-init g c = record { kept = keeps_feed c.args.feed.now; orderly = c.requires; count = omega arith; most = omega arith }
+loop-init g c = record { kept = keeps_feed c.args.feed.now; count = omega arith; most = omega arith }
 
 pub loop-preserved : goal.loop-preserved
 loop-preserved g c =
@@ -12,16 +12,12 @@ loop-preserved g c =
     let t = c.turn.ensures in
     record {
       kept = keeps_feed_on c.args.feed.now c.loop.feed c.turn.new.self l.kept t.kept;
-      orderly = t.kept.orderly l.orderly;
       count = elim c.if-turn.branch [
         | then-turn w ↦ let n = rw w.if-turn.true at t.count in omega (arith, n, l.count, w.sent-is)
         | else-turn w ↦ let n = rw w.if-turn.false at t.count in omega (arith, n, l.count, w.sent-is)
       ];
       most = elim c.if-turn.branch [ then-turn w ↦ omega (arith, l.most, w.sent-is) | else-turn w ↦ omega (arith, l.most, w.sent-is) ];
     }
-
-pub turn-requires : goal.turn-requires
-turn-requires g c = c.loop.invariant.orderly
 
 pub returns-after-loop-clause-kept : goal.returns-after-loop-clause-kept
 returns-after-loop-clause-kept g c = c.loop.invariant.kept

@@ -1,13 +1,12 @@
 use Rattle.std.proofs.Common.{◌≡◌, ◌+◌, ◌≤◌, length}
 use Rattle.cbs_house.specs.Clients.{sent_by}
-use Rattle.cbs_house.specs.Feeds.{IsOrderly, KeepsFeed}
+use Rattle.cbs_house.specs.Feeds.{KeepsFeed}
 use Rattle.cbs_house.proofs.senders.send_turns.Given as goal
 
 abbrev pub invariant-loop : goal.invariant-loop
 invariant-loop g l =
     record {
       kept : KeepsFeed l.initial.feed l.feed;
-      orderly : IsOrderly l.feed;
       count : length (sent_by l.feed.client) ≡ length (sent_by l.initial.feed.client) + l.sent;
       most : l.sent ≤ l.counter;
     }

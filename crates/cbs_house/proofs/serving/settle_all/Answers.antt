@@ -1,5 +1,5 @@
 use Rattle.std.proofs.Common.{◌<◌, length, arith}
-use Rattle.cbs_house.proofs.Feeds.{feeds_same, feeds_on, feeds_set, ready_set}
+use Rattle.cbs_house.proofs.Feeds.{feeds_same, feeds_on, feeds_set, ready_set, ready_at}
 use Rattle.cbs_house.proofs.Moves.{looks_none, looks_then, settled_more}
 use Rattle.cbs_house.proofs.StandingMessages.{taken_set, taken_looked, settled_is_taken}
 use Rattle.cbs_house.proofs.serving.settle_all.Goals as goal
@@ -27,3 +27,8 @@ loop-index-preserved g c =
       taken = taken_set t.new.house l.feeds l.index t.new.feed (taken_looked l.house t.new.house l.feeds t.ensures.looked l.invariant.taken) (settled_is_taken t.new.house t.new.feed settled);
       settled = settled_more l.house t.new.house l.feeds l.index t.new.feed within t.ensures.looked l.invariant.settled settled;
     }
+
+pub settle_feed-requires : goal.settle_feed-requires
+settle_feed-requires g c =
+    let l = c.loop-index in
+    record { opened = ready_at l.house l.feeds l.index c.index-feeds-index.result (omega (arith, c.loop-index-test.true)) l.invariant.ready }

@@ -1,5 +1,5 @@
 use Rattle.std.proofs.Common.{◌<◌, length, arith}
-use Rattle.cbs_house.proofs.Feeds.{feeds_same, feeds_on, feeds_set, ready_set}
+use Rattle.cbs_house.proofs.Feeds.{feeds_same, feeds_on, feeds_set, ready_set, ready_at}
 use Rattle.cbs_house.proofs.Moves.{serves_none, serves_then, serves_rings}
 use Rattle.cbs_house.proofs.StandingMessages.{received_more, taken_more}
 use Rattle.cbs_house.proofs.serving.take_rest.Goals as goal
@@ -28,3 +28,14 @@ loop-index-preserved g c =
       steps = serves_then work c.args.house.now l.house t.new.house l.invariant.steps t.ensures.steps;
       taken = taken_more l.house t.new.house l.feeds l.index t.new.feed within (received_more work l.house t.new.house t.ensures.steps) l.invariant.taken c.in_ok-take_ring.ensures.taken;
     }
+
+pub take_ring-requires : goal.take_ring-requires
+take_ring-requires g c =
+    let l = c.loop-index in
+    record { opened = ready_at l.house l.feeds l.index c.index-feeds-index.result (omega (arith, c.loop-index-test.true)) l.invariant.ready }
+
+pub returns-in_err-take_ring-clause-ready : goal.returns-in_err-take_ring-clause-ready
+returns-in_err-take_ring-clause-ready g c =
+    let l = c.loop-index in
+    let t = c.take_ring in
+    ready_set l.house t.new.house l.feeds l.index t.new.feed c.index-feeds-index.result (serves_rings g.W.Work.meaning l.house t.new.house t.ensures.steps) (omega (arith, c.loop-index-test.true)) t.ensures.feed l.invariant.ready

@@ -1,4 +1,4 @@
-use Rattle.std.proofs.Common.{◌≡◌, ◌≤◌, ◌∙◌, length, map, ap, sym, arith, rules}
+use Rattle.std.proofs.Common.{◌≡◌, ◌∙◌, length, map, ap, sym, rules}
 use Rattle.std.proofs.lemmas.List.{length-map}
 use Rattle.std.proofs.lemmas.List.FromFn.{length-range_with_len, length-map-range_with_len}
 use Rattle.std.proofs.lemmas.Simd.{map-map}
@@ -38,9 +38,7 @@ returns-in-Ok-feeds_of-clause-jobs c =
 pub returns-in-Ok-feeds_of-clause-ready : goal.returns-in-Ok-feeds_of-clause-ready
 returns-in-Ok-feeds_of-clause-ready c =
     let cs = c.in_ok-house.clients.items in
-    let count : length cs ≡ length c.into_parts-modes.result.plan.rates = sym (length-map cs server_of) ∙ (ap length c.in_ok-house.ensures.clients ∙ length-range_with_len 0 (length c.into_parts-modes.result.plan.rates)) in
-    let few : length cs ≤ 64 = let l = c.len.ensures.lawful in omega (arith, count, l.few) in
-    ready_new c.into_parts-modes.result.ring c.in-Ok-feeds_of.feeds.items cs c.in-Ok-feeds_of.ensures.clients c.in_ok-house.ensures.unused c.in_ok-house.house few c.in_ok-house.ensures.opened
+    ready_new c.in_ok-house.house c.in-Ok-feeds_of.feeds.items cs c.in-Ok-feeds_of.ensures.clients c.in_ok-house.ensures.few c.in_ok-house.ensures.each
 
 pub returns-in_err-house-clause-memory : goal.returns-in_err-house-clause-memory
 returns-in_err-house-clause-memory c = search rules

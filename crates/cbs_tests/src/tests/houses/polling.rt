@@ -80,6 +80,18 @@ fn messages_are_taken_in_order(rt: HostRuntime) {
 }
 
 #[test]
+fn a_client_sees_the_free_slots_of_its_ring(rt: HostRuntime) {
+    let alloc = rt.alloc();
+    let (mut house, mut client) = one_client(&rt, alloc, Mode::Soft, (2, 5), (1, 4));
+    same(&rt, "free", client.free(), 4);
+    sends(&rt, &mut client, sum_of(&rt, alloc, &[5]), 0);
+    ends(&rt, &mut client, Ok(()));
+    same(&rt, "free", client.free(), 2);
+    polls(&rt, &mut house, 0, Poll::Took(0));
+    same(&rt, "free", client.free(), 3);
+}
+
+#[test]
 fn a_poll_beside_the_client_takes_what_it_sent(rt: HostRuntime) {
     let alloc = rt.alloc();
     let (mut house, mut client) = one_client(&rt, alloc, Mode::Soft, (2, 5), (1, 4));

@@ -7,9 +7,7 @@ use super::calls::{drains, gave, sends};
 use super::meeting::{Meet, Shut};
 use super::polling::one_client;
 use super::{lists_of, plan_of, same, sum_of};
-use cbs_house::{
-    Feed, Gate, House, HouseError, OpenGate, Round, feeds_of, open_house, serve, serve_round,
-};
+use cbs_house::{Feed, Gate, House, HouseError, OpenGate, Round, open_feeds, serve, serve_round};
 use cbs_job::SumJob;
 use cbs_rules::{Mode, Modes};
 use std::alloc::Global;
@@ -30,15 +28,12 @@ fn opened<R: Abort>(
 {
     let plan = plan_of(rt, rates);
     let modes = Modes::uniform(Mode::Soft, plan.len() as u16);
-    let Ok((house, clients)) = open_house(alloc, plan, modes, 4, ring) else {
-        panic!(rt; "a house");
-    };
     let lists = lists_of(rt, alloc, lists);
-    assert!(rt; clients.len() <= 64 && clients.len() == lists.len());
-    let Ok(feeds) = feeds_of(alloc, clients, lists) else {
-        panic!(rt; "feeds");
+    assert!(rt; lists.len() == plan.len());
+    let Ok(opened) = open_feeds(alloc, plan, modes, 4, ring, lists) else {
+        panic!(rt; "a house with its feeds");
     };
-    (house, feeds)
+    opened
 }
 
 /// Two servers at rings of one place, and feeds of three jobs and of one.
@@ -168,4 +163,29 @@ fn a_turn_polls_and_then_runs(rt: HostRuntime) {
     let round = serve_round(&rt, &mut house, from_mut(&mut feed), 2, &Shut);
     same(&rt, "two turns", round, Round { sent: 0, took: 2 });
     gave(&rt, &house, 0, &[1, 2]);
+}
+
+#[test]
+fn feeds_are_refused_with_their_jobs(rt: HostRuntime) {
+    let alloc = rt.alloc();
+    let refused_by = [
+        (0, 4, HouseError::BadBacklog),
+        (4097, 4, HouseError::BadBacklog),
+        (4, 0, HouseError::BadRing),
+        (4, 1025, HouseError::BadRing),
+        (0, 0, HouseError::BadBacklog),
+    ];
+    for (backlog, ring, wanted) in refused_by {
+        let plan = plan_of(&rt, &[(2, 5)]);
+        let modes = Modes::uniform(Mode::Soft, plan.len() as u16);
+        let lists = lists_of(&rt, alloc, &[&[&[1], &[2]]]);
+        assert!(rt; lists.len() == plan.len());
+        let Err(refused) = open_feeds(alloc, plan, modes, backlog, ring, lists) else {
+            panic!(rt; "refused");
+        };
+        same(&rt, "error", refused.error, wanted);
+        for list in refused.lists {
+            same(&rt, "jobs back", list.len(), 2);
+        }
+    }
 }

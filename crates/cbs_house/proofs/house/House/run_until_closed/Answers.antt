@@ -2,6 +2,7 @@ use Rattle.std.proofs.Common.{rules}
 use Rattle.std.specs.Prelude.{IfErr}
 use Rattle.cbs_house.specs.Running.{RunStops}
 use Rattle.cbs_house.proofs.Runs.{run_none, run_then, result_behind}
+use Rattle.cbs_house.proofs.Moves.{quiet_serving}
 use Rattle.cbs_house.proofs.house.House.run_until_closed.Goals as goal
 
 pub loop-self-init : goal.loop-self-init
@@ -44,3 +45,12 @@ returns-then-not-branch-clause-told g c =
     let l = c.loop-self in
     let m = c.move_on in
     (run_then g.W.Work.meaning g.S.Sink.hears c.args.self.now l.self m.new.self c.args.sink.now l.sink m.new.sink l.invariant m.ensures.run).told
+
+pub returns-in_err-move_on-clause-quiet : goal.returns-in_err-move_on-clause-quiet
+returns-in_err-move_on-clause-quiet g c = quiet_serving g.W.Work.meaning c.args.self.now c.move_on.new.self (returns-in_err-move_on-clause-steps g c)
+
+pub returns-then-not-branch-clause-quiet : goal.returns-then-not-branch-clause-quiet
+returns-then-not-branch-clause-quiet g c = quiet_serving g.W.Work.meaning c.args.self.now c.move_on.new.self (returns-then-not-branch-clause-steps g c)
+
+pub returns-clause-quiet : goal.returns-clause-quiet
+returns-clause-quiet g c = quiet_serving g.W.Work.meaning c.args.self.now c.loop-self.self c.loop-self.invariant.steps

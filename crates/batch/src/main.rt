@@ -1,0 +1,47 @@
+//! A batch: the jobs of three servers are known beforehand, and a call serves them all. Each list has a thread that sends it.
+#![tactic(auto)]
+
+use anyhow::{Result, ensure};
+use cbs_house::{OpenGate, open_feeds, serve};
+use cbs_job::{SumJob, Task};
+use cbs_rate::{Bound, Plan, Reservation};
+use cbs_rules::{Mode, Modes};
+use std::alloc::Global;
+
+/// The servers, each with the budget that it has in every ten ticks.
+const SERVERS: [(&str, u64); 3] = [("camera", 3), ("encoder", 5), ("telemetry", 1)];
+
+/// The jobs that add these numbers up, one a tick.
+fn list_of(alloc: Global, sums: &[[u32; 3]]) -> Result<Vec<Task<SumJob>>> {
+    let mut list = Vec::new(alloc);
+    for numbers in sums {
+        let work = SumJob::new(Vec::from_array(alloc, *numbers)?);
+        list.push(Task::new(work).map_err(|refused| refused.error)?)?;
+    }
+    Ok(list)
+}
+
+fn main(rt: HostRuntime) -> Result<()> {
+    let alloc = rt.alloc();
+    let mut plan = Plan::new(Bound::new(1, 1)?);
+    for (_name, budget) in SERVERS {
+        plan.admit(Reservation::new(budget, 10)?)?;
+    }
+    let modes = Modes::uniform(Mode::Soft, plan.len() as u16);
+    let mut lists = Vec::new(alloc);
+    lists.push(list_of(alloc, &[[1, 2, 3], [4, 5, 6]])?)?;
+    lists.push(list_of(alloc, &[[7, 8, 9]])?)?;
+    lists.push(list_of(alloc, &[[10, 20, 30], [40, 50, 60]])?)?;
+    ensure!(lists.len() == plan.len(), "not a list for each server");
+
+    let opened = open_feeds(alloc, plan, modes, 4, 4, lists);
+    let (mut house, mut feeds) = opened.map_err(|refused| refused.error)?;
+    serve(&rt, &mut house, &mut feeds, &OpenGate)?;
+
+    for (server, (name, _budget)) in SERVERS.iter().enumerate() {
+        for result in house.results(server as u16)? {
+            println!(rt; "{name}: {result}")?;
+        }
+    }
+    Ok(())
+}

@@ -1,0 +1,68 @@
+//! Opening a house with its feeds.
+
+ghost use Rattle.std.specs.Prelude.{ℕ, ◌≡◌, ◌⊎◌, Some, None, List, [], length, map, IfOk, OnOk, MatchResult};
+ghost use Rattle.std.specs.List.{All, range_with_len};
+ghost use Rattle.cbs_core.specs.Agreement.{Agrees};
+ghost use Rattle.cbs_core.specs.Punctual.{IsPunctual};
+ghost use Rattle.cbs_core.specs.Setups.{terms_of};
+ghost use Rattle.cbs_core.specs.declared.step.Step.{Step};
+ghost use Rattle.cbs_house.specs.Feeds.{client_of, unsent_jobs, servers_of};
+ghost use Rattle.cbs_house.specs.Houses.{core_of, received, known, results_of, handed_of};
+ghost use Rattle.cbs_house.specs.Opened.{open_refusal, IsUnused};
+ghost use Rattle.cbs_house.specs.Rounds.{Ready};
+
+use crate::error::HouseError;
+use crate::feed::{Feed, feeds_of};
+use crate::house::House;
+use crate::opening::open_house;
+use cbs_job::{Task, Work};
+use cbs_rate::Plan;
+use cbs_rules::Modes;
+use std::alloc::{Allocator, Global};
+
+/// Lists of jobs for which no house was opened, handed back.
+#[derive(Drop)]
+pub struct OpenRefused<W: Work, A: Allocator = Global> {
+    /// Why it was refused.
+    pub error: HouseError,
+    /// The lists of jobs, as they were given.
+    pub lists: Vec<Vec<Task<W>, A>, A>,
+}
+
+/// Opens a house as [`open_house`] does, and for each server, in order of their numbers, a feed of the
+/// list of jobs at its place. They are ready to be served.
+///
+/// There must be a mode and a list for each server of the plan.
+///
+/// Refuses by the errors of [`open_house`], in the same order; [`HouseError::OutOfMemory`] also where no
+/// memory is found for the list of feeds. The lists come back then.
+pub fn open_feeds<W: Work, A: Allocator + Copy>(
+    alloc: A,
+    plan: Plan,
+    modes: Modes,
+    backlog: u64,
+    ring: u64,
+    lists: Vec<Vec<Task<W>, A>, A>,
+) -> Result<(House<W, A>, Vec<Feed<W, A>, A>), OpenRefused<W, A>>
+    requires modes { length modes ≡ length plan.rates }
+    requires lists { length lists.items ≡ length plan.rates }
+    ensures agrees { IfOk result (λ r. Agrees W.meaning (core_of r.0) (record { setup = record { servers = terms_of modes plan.rates; backlog = backlog }; steps = [] })) }
+    ensures empty { IfOk result (λ r. (s : ℕ) → (received r.0 s ≡ []) × (known r.0 s ≡ []) × (results_of r.0 s ≡ []) × (handed_of r.0 s ≡ 0)) }
+    ensures servers { IfOk result (λ r. servers_of r.1.items ≡ range_with_len 0 (length plan.rates)) }
+    ensures unused { IfOk result (λ r. All (λ f. IsUnused ring (client_of f)) r.1.items) }
+    ensures jobs { MatchResult result (λ r. map unsent_jobs r.1.items ≡ map (λ jobs. jobs.items) lists.items) (λ refused. refused.lists ≡ lists) }
+    ensures ready { IfOk result (λ r. Ready r.0 r.1.items) }
+    ensures punctual { OnOk result ((steps : List (Step W)) → IsPunctual W.meaning (record { setup = record { servers = terms_of modes plan.rates; backlog = backlog }; steps = steps })) }
+    ensures refusal { MatchResult result (λ _. open_refusal backlog ring ≡ None) (λ refused. (open_refusal backlog ring ≡ Some refused.error) ⊎ ((open_refusal backlog ring ≡ None) × (refused.error ≡ HouseError.OutOfMemory))) }
+{
+    match open_house(alloc, plan, modes, backlog, ring) {
+        Ok((house, clients)) => match feeds_of(alloc, clients, lists) {
+            Ok(feeds) => Ok((house, feeds)),
+            Err(refused) => Err(OpenRefused {
+                error: HouseError::OutOfMemory,
+                lists: refused.lists,
+            }),
+        },
+        Err(error) => Err(OpenRefused { error, lists }),
+    }
+}

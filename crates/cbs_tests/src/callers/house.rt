@@ -1,0 +1,26 @@
+//! A caller of cbs_house.
+
+ghost use Rattle.std.specs.Prelude.{◌≡◌, List, length, OnOk};
+ghost use Rattle.cbs_core.specs.Punctual.{IsPunctual};
+ghost use Rattle.cbs_core.specs.Setups.{terms_of};
+ghost use Rattle.cbs_core.specs.declared.step.Step.{Step};
+
+use cbs_house::{House, HouseError, open_house};
+use cbs_job::Work;
+use cbs_rate::Plan;
+use cbs_rules::Modes;
+use std::alloc::Global;
+
+/// Opens a house that is in time, with a backlog and rings of four: whatever steps it will make, the laws
+/// on time hold of them.
+pub fn opened_in_time<W: Work>(
+    alloc: Global,
+    plan: Plan,
+    modes: Modes,
+) -> Result<House<W>, HouseError>
+    requires { length modes ≡ length plan.rates }
+    ensures { OnOk result ((steps : List (Step W)) → IsPunctual W.meaning (record { setup = record { servers = terms_of modes plan.rates; backlog = 4 }; steps = steps })) }
+{
+    let (house, _clients) = open_house(alloc, plan, modes, 4, 4)?;
+    Ok(house)
+}
