@@ -81,7 +81,7 @@ module _ {W : Type 0} where
           let count : (held_at after s).face.finished ≡ (held_at before s).face.finished = rw more at late.finished in
           let answer : r ≡ ran.Unit s q = rw more at is in
           let here : RunsJob work q (held_at before s) (held_at after s) =
-          record { number = n; results = rw (j, left, whole_kept work law job all.0) refl; accepted = late.accepted; finished = count; closed = late.closed } in
+          record { number = n; some = rw left (omega arith); results = rw (j, left, whole_kept work law job all.0) refl; accepted = late.accepted; finished = count; closed = late.closed } in
           rw answer (here, others)
     ]
 

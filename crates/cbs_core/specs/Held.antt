@@ -86,9 +86,10 @@ pub record TakesJob {W : Type 0} (job : W) (q : ℕ) (old new : Held W) : Type 0
   pub finished : new.face.finished ≡ old.face.finished
   pub closed : new.face.closed ≡ old.face.closed
 
--- a unit of job q, the first that the server holds; what the jobs held come to as a whole is as before
+-- a unit of job q, the first that the server holds, which it holds still; what the jobs held come to as a whole is as before
 pub record RunsJob {W : Type 0} (work : Meaning W) (q : ℕ) (old new : Held W) : Type 0 where
   pub number : q ≡ old.face.finished
+  pub some : 0 < length new.jobs
   pub results : map (whole work) new.jobs ≡ map (whole work) old.jobs
   pub accepted : new.face.accepted ≡ old.face.accepted
   pub finished : new.face.finished ≡ old.face.finished

@@ -15,7 +15,7 @@ use Rattle.cbs_house.specs.declared.message.Message.TheVariants.{Job}
 use Rattle.cbs_house.specs.Messages.{jobs_among, has_end}
 use Rattle.cbs_house.proofs.Messages.{sent-job, has_end-job}
 use Rattle.cbs_house.specs.Opened.{IsUnused}
-use Rattle.cbs_house.specs.RingEnds.{IsOpened, EachOpened}
+use Rattle.cbs_house.specs.RingEnds.{IsOpened, AreOpened, EachOpened}
 use Rattle.cbs_house.specs.Rings.{Ring}
 use Rattle.cbs_house.specs.Rounds.{Ready}
 use Rattle.cbs_house.specs.Feeds.{client_of, unsent_jobs, all_jobs, KeepsFeed, KeepsFeeds, SendsAtMost, EachSendsAtMost, SendsFeeds, servers_of}
@@ -132,31 +132,33 @@ module _ {W A : Type 0} {g : Ghosts W} where
   all_to_map rings [] h = All-nil (IsOpened rings)
   all_to_map rings (f ∷ fs) h = All-cons (IsOpened rings) (client_of f) (map client_of fs) (All-head (λ x. IsOpened rings x.client) f fs h) (all_to_map rings fs (All-tail (λ x. IsOpened rings x.client) f fs h))
 
-  each_of_feeds : (rings : List (Ring A)) (fs : List (Feed W A g)) → All (λ f. IsOpened rings f.client) fs → EachOpened rings (map client_of fs)
-  each_of_feeds rings fs h = each_opened rings (map client_of fs) (all_to_map rings fs h)
+  pub are_opened : (rings : List (Ring A)) (cs : List (Client W A g)) → All (IsOpened rings) cs → AreOpened rings cs
+  are_opened rings [] h = refl
+  are_opened rings (c ∷ cs) h = ap₂ ◌∷◌ (All-head (IsOpened rings) c cs h) (are_opened rings cs (All-tail (IsOpened rings) c cs h))
 
-  pub all_of_feeds : (rings : List (Ring A)) (fs : List (Feed W A g)) → EachOpened rings (map client_of fs) → All (λ f. IsOpened rings f.client) fs
+  are_of_feeds : (rings : List (Ring A)) (fs : List (Feed W A g)) → All (λ f. IsOpened rings f.client) fs → AreOpened rings (map client_of fs)
+  are_of_feeds rings fs h = are_opened rings (map client_of fs) (all_to_map rings fs h)
+
+  pub all_of_feeds : (rings : List (Ring A)) (fs : List (Feed W A g)) → AreOpened rings (map client_of fs) → All (λ f. IsOpened rings f.client) fs
   all_of_feeds rings [] h = All-nil (λ f. IsOpened rings f.client)
-  all_of_feeds rings (f ∷ fs) h =
-      All-cons (λ x. IsOpened rings x.client) f fs (h [] (map client_of fs) (client_of f) refl)
-      (all_of_feeds rings fs (λ front back c e. h (client_of f ∷ front) back c (ap (λ cs. client_of f ∷ cs) e)))
+  all_of_feeds rings (f ∷ fs) h = All-cons (λ x. IsOpened rings x.client) f fs (cc h) (all_of_feeds rings fs (cc h))
 
   -- the client of each feed that may be served was opened with the house
   pub ready_at : (h : House W A g) (fs : List (Feed W A g)) (i : ℕ) (d : Feed W A g) → i < length fs → Ready h fs → IsOpened (rings_of h) (get_or fs i d).client
   ready_at h fs i d l r = all_of_feeds (rings_of h) fs r.opened i d l
 
   -- feeds of clients that were opened with the house may be served
-  pub ready_new : (h : House W A g) (fs : List (Feed W A g)) (cs : List (Client W A g)) → map client_of fs ≡ cs → length cs ≤ 64 → EachOpened (rings_of h) cs → Ready h fs
+  pub ready_new : (h : House W A g) (fs : List (Feed W A g)) (cs : List (Client W A g)) → map client_of fs ≡ cs → length cs ≤ 64 → AreOpened (rings_of h) cs → Ready h fs
   ready_new h fs cs clients few opened = record {
     few = omega (arith, few, ap length clients, length-map fs (client_of {W = W}));
-    opened = subst (λ xs. EachOpened (rings_of h) xs) (sym clients) opened;
+    opened = subst (λ xs. AreOpened (rings_of h) xs) (sym clients) opened;
   }
 
   -- feeds that are kept stay ready, as long as the rings are the same
   pub ready_on : (h h' : House W A g) (a b : List (Feed W A g)) → rings_of h' ≡ rings_of h → KeepsFeeds a b → Ready h a → Ready h' b
   ready_on h h' a b e p r = record {
     few = omega (arith, r.few, feeds_count a b p);
-    opened = each_of_feeds (rings_of h') b (feeds_opened (rings_of h) (rings_of h') a b e p (all_of_feeds (rings_of h) a r.opened));
+    opened = are_of_feeds (rings_of h') b (feeds_opened (rings_of h) (rings_of h') a b e p (all_of_feeds (rings_of h) a r.opened));
   }
 
 module _ {W A : Type 0} {g : Ghosts W} where

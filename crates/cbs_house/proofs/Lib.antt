@@ -9,6 +9,7 @@ pub mod MadeSteps
 pub mod Moves
 pub mod Turns
 pub mod OwnTurns
+pub mod NamedJobs
 pub mod OpenServers
 pub mod Tells
 pub mod Runs

@@ -1,10 +1,10 @@
 -- What a contract sees of a house.
-use Rattle.std.specs.Prelude.{ℕ, ◌≡◌, ◌≢◌, ◌⊎◌, ◌+◌, ◌≤◌, ◌<◌, true, Result, Ok, Err, List, [], ◌∷◌, ◌++◌, drop, length, map}
+use Rattle.std.specs.Prelude.{ℕ, ◌≡◌, ◌≢◌, ◌⊎◌, ◌+◌, ◌≤◌, ◌<◌, true, Result, Ok, Err, List, [], ◌∷◌, ◌++◌, drop, length, map, slice_get, Some}
 use mathlib.Core.List.{IsPrefix}
 use Rattle.cbs_job.specs.Work.{Meaning, whole}
 use Rattle.cbs_job.specs.declared.work.Work.{Ghosts}
 use Rattle.cbs_core.specs.Faces.{face_at, backlog_of}
-use Rattle.cbs_core.specs.Held.{CoreHeld, IsOpen, Accepts, HasRoom}
+use Rattle.cbs_core.specs.Held.{CoreHeld, held_at, IsOpen, Accepts, HasRoom}
 use Rattle.cbs_core.specs.History.{History}
 use Rattle.cbs_core.specs.Quiet.{IsQuietAfter}
 use Rattle.cbs_core.specs.declared.error.CoreError.{CoreError}
@@ -138,3 +138,15 @@ module _ {W A : Type 0} {g : Ghosts W} where
   Collects ran.ClockEnd old new = (s : ℕ) → results_of new s ≡ results_of old s
   Collects (ran.Unit t q) old new = (s : ℕ) → results_of new s ≡ results_of old s
   Collects (ran.Done c) old new = (results_of new c.server ≡ results_of old c.server ++ c.result ∷ []) × ((s : ℕ) → s ≢ c.server → results_of new s ≡ results_of old s)
+
+  -- of the jobs received for server s, that of number q comes to this result
+  pub record ComesTo (work : Meaning W) (h : House W A g) (s q result : ℕ) : Type 0 where
+    pub told : slice_get (map (whole work) (jobs_among (received h s))) q ≡ Some result
+
+  -- The job that a run tells of is that of its number among those received. Where it got a unit and is not done, it is the first that
+  -- its server holds, and comes to what that one comes to; a completion tells what it comes to.
+  abbrev pub NamesJob : Meaning W → Ran → House W A g → Type 0
+  NamesJob work ran.Idle h = Unit {0}
+  NamesJob work ran.ClockEnd h = Unit {0}
+  NamesJob work (ran.Unit s q) h = (job : W) × (rest : List W) × ((held_at (core_of h) s).jobs ≡ job ∷ rest) × ComesTo work h s q (whole work job)
+  NamesJob work (ran.Done c) h = ComesTo work h c.server c.seq c.result

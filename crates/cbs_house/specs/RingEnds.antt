@@ -33,6 +33,10 @@ module _ {W A : Type 0} {g : Ghosts W} where
   abbrev pub IsOpened : List (Ring A) → Client W A g → Type 0
   IsOpened rings c = slice_get rings (server_of c) ≡ Some (ring_of c)
 
-  -- the same of each of several clients, wherever it stands among them
+  -- the same of each of several clients
+  abbrev pub AreOpened : List (Ring A) → List (Client W A g) → Type 0
+  AreOpened rings cs = map (λ c. slice_get rings (server_of c)) cs ≡ map (λ c. Some (ring_of c)) cs
+
+  -- and of each, wherever it stands among them
   abbrev pub EachOpened : List (Ring A) → List (Client W A g) → Type 0
   EachOpened rings cs = (front back : List (Client W A g)) (c : Client W A g) → cs ≡ front ++ c ∷ back → IsOpened rings c

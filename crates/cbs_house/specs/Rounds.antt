@@ -17,7 +17,7 @@ use Rattle.cbs_house.specs.Clients.{server_of, sent_by}
 use Rattle.cbs_house.specs.Feeds.{client_of, IsDone, all_jobs}
 use Rattle.cbs_house.specs.Houses.{core_of, rings_of, received, known, results_of, handed_of, Moves}
 use Rattle.cbs_core.specs.Held.{HoldsJob, HoldsNoJob}
-use Rattle.cbs_house.specs.RingEnds.{EachOpened}
+use Rattle.cbs_house.specs.RingEnds.{AreOpened}
 use Rattle.cbs_house.specs.Steps.{MayServe}
 
 -- how many messages a poll popped
@@ -33,7 +33,7 @@ module _ {W A : Type 0} {g : Ghosts W} where
   -- feeds that may be served by the house: at most 64, each with a client that was opened with the house
   pub record Ready (h : House W A g) (fs : List (Feed W A g)) : Type 0 where
     pub few : length fs ≤ 64
-    pub opened : EachOpened (rings_of h) (map client_of fs)
+    pub opened : AreOpened (rings_of h) (map client_of fs)
 
   -- the house made some steps of serving
   pub record ServesOn (work : Meaning W) (old new : House W A g) : Type 0 where

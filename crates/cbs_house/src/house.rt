@@ -37,7 +37,7 @@ impl<W: Work, A: Allocator> House<W, A> {
     ghost use Rattle.cbs_core.specs.declared.step.Step.TheVariants as step;
     ghost use Rattle.cbs_house.specs.Clients.{server_of, sent_by, free, SameClient};
     ghost use Rattle.cbs_house.specs.HouseInvariant.{KeepsServer};
-    ghost use Rattle.cbs_house.specs.Houses.{core_of, rings_of, received, known, results_of, handed_of, view_answer, Made, LooksOnly, SameHouse, Polled, CanTake, Collects};
+    ghost use Rattle.cbs_house.specs.Houses.{core_of, rings_of, received, known, results_of, handed_of, view_answer, Made, LooksOnly, SameHouse, Polled, CanTake, Collects, NamesJob};
     ghost use Rattle.cbs_house.specs.RingEnds.{IsOpened};
 
     /// How many servers there are, at most 64. Their numbers are those below it.
@@ -166,6 +166,7 @@ impl<W: Work, A: Allocator> House<W, A> {
         ensures made { Made W.meaning self.old self.new (step.Run ∷ []) }
         ensures rings { rings_of self.new ≡ rings_of self.old }
         ensures collects { Collects result self.old self.new }
+        ensures job { NamesJob W.meaning result self.new }
     {
         let ran = self.core.run();
         if let Ran::Done(done) = ran {

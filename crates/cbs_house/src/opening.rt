@@ -10,7 +10,7 @@ ghost use Rattle.cbs_rate.specs.Refusals.{RefusesByOrMemory};
 ghost use Rattle.cbs_house.specs.Clients.{server_of, ring_of};
 ghost use Rattle.cbs_house.specs.Houses.{core_of, rings_of, received, known, results_of, handed_of};
 ghost use Rattle.cbs_house.specs.Opened.{open_refusal, IsNewEnd, IsUnused};
-ghost use Rattle.cbs_house.specs.RingEnds.{rings_in, IsOpened, EachOpened};
+ghost use Rattle.cbs_house.specs.RingEnds.{rings_in, IsOpened, AreOpened, EachOpened};
 
 use crate::client::Client;
 use crate::collector::Collector;
@@ -51,6 +51,7 @@ pub fn open_house<W: Work, A: Allocator + Copy>(
     ensures few { IfOk result (λ r. length r.1.items ≤ 64) }
     ensures unused { IfOk result (λ r. All (IsUnused ring) r.1.items) }
     ensures opened { IfOk result (λ r. All (IsOpened (rings_of r.0)) r.1.items) }
+    ensures together { IfOk result (λ r. AreOpened (rings_of r.0) r.1.items) }
     ensures each { IfOk result (λ r. EachOpened (rings_of r.0) r.1.items) }
     ensures punctual { OnOk result ((steps : List (Step W)) → IsPunctual W.meaning (record { setup = record { servers = terms_of modes plan.rates; backlog = backlog }; steps = steps })) }
     ensures refusal { RefusesByOrMemory HouseError.OutOfMemory result (open_refusal backlog ring) }

@@ -23,7 +23,7 @@ pub struct Turn {
 
 impl<W: Work, A: Allocator> House<W, A> {
     ghost use Rattle.std.specs.Prelude.{ℕ, ◌≡◌, ◌<◌, ◌≤◌, length};
-    ghost use Rattle.cbs_house.specs.Houses.{core_of, rings_of, results_of, Collects, MovesQuietly};
+    ghost use Rattle.cbs_house.specs.Houses.{core_of, rings_of, results_of, Collects, MovesQuietly, NamesJob};
     ghost use Rattle.cbs_house.specs.OwnTurns.{GoesOn, IsNumbered, TakesOwnTurn};
     ghost use Rattle.cbs_core.specs.Held.{HoldsJob};
 
@@ -40,6 +40,7 @@ impl<W: Work, A: Allocator> House<W, A> {
         ensures rings { rings_of self.new ≡ rings_of self.old }
         ensures collects { Collects result.ran self.old self.new }
         ensures numbered { IsNumbered result.ran self.old }
+        ensures job { NamesJob W.meaning result.ran self.new }
     {
         let polls = poll_each(&OpenGate, self);
         let (ran, advanced) = self.go_on_if_busy();
@@ -58,6 +59,7 @@ impl<W: Work, A: Allocator> House<W, A> {
         ensures rings { rings_of self.new ≡ rings_of self.old }
         ensures collects { Collects result.0 self.old self.new }
         ensures numbered { IsNumbered result.0 self.old }
+        ensures job { NamesJob W.meaning result.0 self.new }
     {
         if !self.is_busy() {
             return (Ran::Idle, 0);

@@ -6,7 +6,7 @@ use Rattle.cbs_core.specs.Setups.{terms_of}
 use Rattle.cbs_core.proofs.Laws.{new_count, terms_count}
 use Rattle.cbs_house.specs.Clients.{server_of, ring_of}
 use Rattle.cbs_house.specs.RingEnds.{rings_in}
-use Rattle.cbs_house.proofs.Feeds.{each_opened}
+use Rattle.cbs_house.proofs.Feeds.{each_opened, are_opened}
 use Rattle.cbs_house.proofs.NewHouses.{new_rings, housed_new, same_count, all_opened}
 use Rattle.cbs_house.proofs.opening.open_house.Goals as goal
 
@@ -46,3 +46,8 @@ pub returns-clause-each : goal.returns-clause-each
 returns-clause-each g c =
     let made = c.in-Ok-open_rings in
     each_opened (rings_in made.rings) made.clients.items (all_opened (rings_in made.rings) made.clients.items c.len-servers.result made.ensures.rings made.ensures.clients)
+
+pub returns-clause-together : goal.returns-clause-together
+returns-clause-together g c =
+    let made = c.in-Ok-open_rings in
+    are_opened (rings_in made.rings) made.clients.items (all_opened (rings_in made.rings) made.clients.items c.len-servers.result made.ensures.rings made.ensures.clients)

@@ -15,4 +15,4 @@ returns-in-Ok-feeds_of-clause-unused g c =
 
 pub returns-in-Ok-feeds_of-clause-ready : goal.returns-in-Ok-feeds_of-clause-ready
 returns-in-Ok-feeds_of-clause-ready g c =
-    ready_new c.in-Ok.house c.in-Ok-feeds_of.feeds.items c.in-Ok.clients.items c.in-Ok-feeds_of.ensures.clients c.in-Ok.ensures.few c.in-Ok.ensures.each
+    ready_new c.in-Ok.house c.in-Ok-feeds_of.feeds.items c.in-Ok.clients.items c.in-Ok-feeds_of.ensures.clients c.in-Ok.ensures.few c.in-Ok.ensures.together

@@ -38,7 +38,7 @@ returns-in-Ok-feeds_of-clause-jobs c =
 pub returns-in-Ok-feeds_of-clause-ready : goal.returns-in-Ok-feeds_of-clause-ready
 returns-in-Ok-feeds_of-clause-ready c =
     let cs = c.in_ok-house.clients.items in
-    ready_new c.in_ok-house.house c.in-Ok-feeds_of.feeds.items cs c.in-Ok-feeds_of.ensures.clients c.in_ok-house.ensures.few c.in_ok-house.ensures.each
+    ready_new c.in_ok-house.house c.in-Ok-feeds_of.feeds.items cs c.in-Ok-feeds_of.ensures.clients c.in_ok-house.ensures.few c.in_ok-house.ensures.together
 
 pub returns-in_err-house-clause-memory : goal.returns-in_err-house-clause-memory
 returns-in_err-house-clause-memory c = search rules

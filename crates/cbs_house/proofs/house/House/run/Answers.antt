@@ -1,7 +1,9 @@
 use Rattle.std.proofs.Common.{◌∷◌, ◌∙◌, [], refl, sym}
 use Rattle.cbs_core.specs.declared.step.Step.TheVariants.{Run}
+use Rattle.cbs_core.specs.declared.reply.Ran.TheVariants as ran
 use Rattle.cbs_house.proofs.HouseInvariant.{housed_one, housed_ran, keeps_done, finished_next}
 use Rattle.cbs_house.proofs.MadeSteps.{made_time, collects_none}
+use Rattle.cbs_house.proofs.NamedJobs.{names}
 use Rattle.cbs_house.proofs.house.House.run.Goals as goal
 
 pub invariant_of-self-in_default : goal.invariant_of-self-in_default
@@ -19,11 +21,13 @@ returns-in_default g c =
     let work = g.W.Work.meaning in
     let old = c.args.self.now in
     let r = c.run-ran.ensures in
+    let kept = collects_none work c.run-ran.result old _ c.in_default.not-Done (λ s. refl) in
     record {
       reply = r.reply;
       rings = refl;
       made = made_time work old _ Run (λ s. refl) r.state refl (λ s. refl);
-      collects = collects_none work c.run-ran.result old _ c.in_default.not-Done (λ s. refl);
+      collects = kept;
+      job = names old _ c.run-ran.result r.job kept;
     }
 
 pub invariant_of-self : goal.invariant_of-self
@@ -46,3 +50,6 @@ pub take_expected-requires : goal.take_expected-requires
 take_expected-requires g c =
     let old = c.args.self.now in
     finished_next g.W.Work.meaning old.core c.run-ran.new.self old.rings old.rings old.collector old.collector old.housed c.in-Done.done c.in-Done.ensures.job.0
+
+pub returns-in-Done-clause-job : goal.returns-in-Done-clause-job
+returns-in-Done-clause-job g c = names c.args.self.now _ (ran.Done c.in-Done.done) c.in-Done.ensures.job (c.take_expected.ensures.taken.results, λ s ne. (c.take_expected.ensures.others.0 s ne).results)

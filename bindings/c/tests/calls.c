@@ -1,0 +1,385 @@
+/* Every call of the library, with every status that it can answer but want of memory (memory.c). */
+#include "check.h"
+#include <stddef.h>
+#include <string.h>
+
+static uint32_t opened(const struct cbs_server *servers, size_t n, uint64_t backlog, uint64_t ring, size_t clients_n) {
+    struct cbs_handle house = CBS_HANDLE_INIT;
+    struct cbs_handle clients[65];
+    for (size_t i = 0; i < 65; i++) {
+        clients[i] = SHUT;
+    }
+    uint32_t status = cbs_open(servers, n, backlog, ring, &house, clients, clients_n);
+    CHECK(house.full == (status == CBS_OK));
+    for (size_t i = 0; i < 65; i++) {
+        CHECK(clients[i].full == (status == CBS_OK && i < n));
+        cbs_free(&clients[i]);
+    }
+    cbs_free(&house);
+    return status;
+}
+
+static uint32_t one(uint64_t budget, uint64_t period, uint32_t mode) {
+    struct cbs_server server = {budget, period, mode};
+    return opened(&server, 1, 4, 4, 1);
+}
+
+static void open_refuses_a_server(void) {
+    CHECK(one(1, 1, CBS_SOFT) == CBS_OK);
+    CHECK(one(1000000000, 1000000000, CBS_THROTTLED) == CBS_OK);
+    CHECK(one(0, 5, CBS_SOFT) == CBS_RATE_ZERO_BUDGET);
+    CHECK(one(1, 1000000001, CBS_SOFT) == CBS_RATE_PERIOD_TOO_LONG);
+    CHECK(one(6, 5, CBS_SOFT) == CBS_RATE_BUDGET_OVER_PERIOD);
+    CHECK(one(1, 5, 2) == CBS_CALL_BAD_MODE);
+}
+
+static void open_refuses_a_plan(void) {
+    /* 999999937 is a prime: with 10^9 the common multiple is just below 10^18, and with a third it is far above. */
+    struct cbs_server fine[3] = {{1, 999999937, CBS_SOFT}, {1, 1000000000, CBS_SOFT}, {1, 999999929, CBS_SOFT}};
+    CHECK(opened(fine, 2, 4, 4, 2) == CBS_OK);
+    CHECK(opened(fine, 3, 4, 4, 3) == CBS_ADMIT_PERIODS_TOO_FINE);
+    struct cbs_server over[2] = {{2, 5, CBS_SOFT}, {4, 5, CBS_THROTTLED}};
+    CHECK(opened(over, 2, 4, 4, 2) == CBS_ADMIT_OVER_BOUND);
+    over[1].budget = 3;
+    CHECK(opened(over, 2, 4, 4, 2) == CBS_OK);
+    struct cbs_server many[65];
+    for (size_t i = 0; i < 65; i++) {
+        many[i].budget = 1;
+        many[i].period = 100;
+        many[i].mode = CBS_SOFT;
+    }
+    CHECK(opened(many, 64, 4, 4, 64) == CBS_OK);
+    CHECK(opened(many, 65, 4, 4, 65) == CBS_ADMIT_TOO_MANY_SERVERS);
+    CHECK(opened(many, 0, 4, 4, 0) == CBS_OK);
+}
+
+static void open_refuses_its_sizes(void) {
+    struct cbs_server servers[2] = {{2, 5, CBS_SOFT}, {3, 5, CBS_SOFT}};
+    CHECK(opened(servers, 2, 0, 4, 2) == CBS_HOUSE_BAD_BACKLOG);
+    CHECK(opened(servers, 2, 4097, 4, 2) == CBS_HOUSE_BAD_BACKLOG);
+    CHECK(opened(servers, 2, 4096, 4, 2) == CBS_OK);
+    CHECK(opened(servers, 2, 4, 0, 2) == CBS_HOUSE_BAD_RING);
+    CHECK(opened(servers, 2, 4, 1025, 2) == CBS_HOUSE_BAD_RING);
+    CHECK(opened(servers, 2, 4, 1024, 2) == CBS_OK);
+    CHECK(opened(servers, 2, 4, 4, 1) == CBS_CALL_WRONG_COUNT);
+    CHECK(opened(servers, 2, 4, 4, 3) == CBS_CALL_WRONG_COUNT);
+}
+
+/* An open over open handles frees what they held; a refused one leaves them. */
+static void open_again(void) {
+    struct cbs_server servers[2] = {{2, 5, CBS_SOFT}, {3, 5, CBS_SOFT}};
+    struct setup setup;
+    set_up(&setup, servers, 2, 4, 4);
+    submit(&setup, 1, 7, 1, 0);
+    CHECK(cbs_open(servers, 2, 0, 4, &setup.house, setup.clients, 2) == CBS_HOUSE_BAD_BACKLOG);
+    runs(&setup, CBS_RUN_DONE, 1, 0, 7);
+    CHECK(cbs_open(servers, 2, 4, 4, &setup.house, setup.clients, 2) == CBS_OK);
+    runs(&setup, CBS_RUN_IDLE, 0, 0, 0);
+    submit(&setup, 1, 8, 1, 0);
+    runs(&setup, CBS_RUN_DONE, 1, 0, 8);
+    tear_down(&setup);
+}
+
+/* Every call of a house answers this for the handle, and writes nothing. */
+static void no_house(struct cbs_handle *handle, uint32_t status) {
+    uint64_t number = UNTOUCHED, other = UNTOUCHED;
+    uint32_t kind = 99;
+    struct cbs_unit unit;
+    struct cbs_turn turn;
+    struct cbs_view view;
+    memset(&unit, 0x5a, sizeof unit);
+    memset(&turn, 0x5a, sizeof turn);
+    memset(&view, 0x5a, sizeof view);
+    CHECK(cbs_poll(handle, 0, &kind) == status && kind == 99);
+    CHECK(cbs_run(handle, &unit) == status && unit.seq == UNTOUCHED && unit.token == UNTOUCHED);
+    CHECK(cbs_turn(handle, &turn) == status && turn.took == UNTOUCHED && turn.advanced == UNTOUCHED);
+    CHECK(cbs_advance(handle, 1) == status);
+    CHECK(cbs_now(handle, &number) == status && number == UNTOUCHED);
+    CHECK(cbs_idle_span(handle, &number) == status && number == UNTOUCHED);
+    CHECK(cbs_view(handle, 0, &view) == status && view.budget == UNTOUCHED && view.finished == UNTOUCHED);
+    CHECK(cbs_promised(handle, 0, &number, &other) == status && number == UNTOUCHED && other == UNTOUCHED);
+}
+
+/* Every call of a client answers this for the handle, and writes nothing. */
+static void no_client(struct cbs_handle *handle, uint32_t status) {
+    uint64_t number = UNTOUCHED;
+    CHECK(cbs_send(handle, 1, 1, &number) == status && number == UNTOUCHED);
+    CHECK(cbs_end(handle) == status);
+    CHECK(cbs_waiting(handle, &number) == status && number == UNTOUCHED);
+}
+
+static void handles(void) {
+    struct cbs_server server = {2, 5, CBS_SOFT};
+    struct setup setup;
+    struct cbs_handle shut = CBS_HANDLE_INIT, zero;
+    memset(&zero, 0, sizeof zero);
+    no_house(&shut, CBS_CALL_NOT_OPEN);
+    no_client(&shut, CBS_CALL_NOT_OPEN);
+    no_house(&zero, CBS_CALL_NOT_OPEN);
+    set_up(&setup, &server, 1, 4, 4);
+    no_house(&setup.clients[0], CBS_CALL_OTHER_KIND);
+    no_client(&setup.house, CBS_CALL_OTHER_KIND);
+    submit(&setup, 0, 7, 1, 0); /* both are as they were */
+    runs(&setup, CBS_RUN_DONE, 0, 0, 7);
+    tear_down(&setup);
+    no_house(&setup.house, CBS_CALL_NOT_OPEN);
+    no_client(&setup.clients[0], CBS_CALL_NOT_OPEN);
+    tear_down(&setup); /* a second free is none */
+}
+
+static void free_in_any_order(void) {
+    struct cbs_server server = {2, 5, CBS_SOFT};
+    struct setup setup;
+    uint64_t seq;
+    set_up(&setup, &server, 1, 4, 2);
+    cbs_free(&setup.house);
+    CHECK(cbs_send(&setup.clients[0], 1, 1, &seq) == CBS_OK);
+    CHECK(cbs_send(&setup.clients[0], 2, 1, &seq) == CBS_OK);
+    CHECK(cbs_send(&setup.clients[0], 3, 1, &seq) == CBS_SEND_RING_FULL);
+    tear_down(&setup);
+    set_up(&setup, &server, 1, 4, 2);
+    CHECK(cbs_send(&setup.clients[0], 9, 1, &seq) == CBS_OK);
+    cbs_free(&setup.clients[0]);
+    uint32_t kind;
+    CHECK(cbs_poll(&setup.house, 0, &kind) == CBS_OK && kind == CBS_POLL_TOOK);
+    runs(&setup, CBS_RUN_DONE, 0, 0, 9);
+    tear_down(&setup);
+}
+
+static void sending(void) {
+    struct cbs_server server = {2, 5, CBS_SOFT};
+    struct setup setup;
+    uint64_t seq = UNTOUCHED, waiting = UNTOUCHED;
+    set_up(&setup, &server, 1, 4, 2);
+    struct cbs_handle *client = &setup.clients[0];
+    CHECK(cbs_send(client, 1, 0, &seq) == CBS_TASK_EMPTY_JOB && seq == UNTOUCHED);
+    CHECK(cbs_send(client, 1, 1000001, &seq) == CBS_TASK_TOO_LONG && seq == UNTOUCHED);
+    CHECK(cbs_waiting(client, &waiting) == CBS_OK && waiting == 0);
+    CHECK(cbs_send(client, 1, 1000000, &seq) == CBS_OK && seq == 0);
+    CHECK(cbs_send(client, 2, 1, &seq) == CBS_OK && seq == 1);
+    CHECK(cbs_waiting(client, &waiting) == CBS_OK && waiting == 2);
+    CHECK(cbs_send(client, 3, 1, &seq) == CBS_SEND_RING_FULL && seq == 1);
+    CHECK(cbs_end(client) == CBS_SEND_RING_FULL);
+    uint32_t kind;
+    CHECK(cbs_poll(&setup.house, 0, &kind) == CBS_OK && kind == CBS_POLL_TOOK);
+    CHECK(cbs_waiting(client, &waiting) == CBS_OK && waiting == 1);
+    CHECK(cbs_end(client) == CBS_OK);
+    CHECK(cbs_end(client) == CBS_SEND_ENDED);
+    CHECK(cbs_send(client, 3, 1, &seq) == CBS_SEND_ENDED && seq == 1);
+    CHECK(cbs_waiting(client, &waiting) == CBS_OK && waiting == 2);
+    tear_down(&setup);
+}
+
+static void polls(struct setup *setup, uint16_t server, uint32_t wanted) {
+    uint32_t kind = 99;
+    CHECK(cbs_poll(&setup->house, server, &kind) == CBS_OK);
+    CHECK(kind == wanted);
+}
+
+static void polling(void) {
+    struct cbs_server server = {2, 5, CBS_SOFT};
+    struct setup setup;
+    uint64_t seq;
+    set_up(&setup, &server, 1, 1, 4);
+    polls(&setup, 0, CBS_POLL_NOTHING);
+    polls(&setup, 1, CBS_POLL_NO_SUCH_SERVER);
+    polls(&setup, 65535, CBS_POLL_NO_SUCH_SERVER);
+    CHECK(cbs_send(&setup.clients[0], 11, 1, &seq) == CBS_OK);
+    CHECK(cbs_send(&setup.clients[0], 12, 1, &seq) == CBS_OK);
+    CHECK(cbs_end(&setup.clients[0]) == CBS_OK);
+    polls(&setup, 0, CBS_POLL_TOOK);
+    polls(&setup, 0, CBS_POLL_FULL);
+    runs(&setup, CBS_RUN_DONE, 0, 0, 11);
+    polls(&setup, 0, CBS_POLL_TOOK);
+    polls(&setup, 0, CBS_POLL_FULL); /* the end waits, too */
+    runs(&setup, CBS_RUN_DONE, 0, 1, 12);
+    polls(&setup, 0, CBS_POLL_CLOSED);
+    polls(&setup, 0, CBS_POLL_NOTHING);
+    struct cbs_view view;
+    CHECK(cbs_view(&setup.house, 0, &view) == CBS_OK);
+    CHECK(view.accepted == 2 && view.finished == 2 && view.closed && !view.throttled);
+    CHECK(cbs_view(&setup.house, 1, &view) == CBS_HOUSE_NO_SUCH_SERVER && view.accepted == 2);
+    tear_down(&setup);
+}
+
+/* A soft server with 2 ticks in every 5, and a job of three units. */
+static void running(void) {
+    struct cbs_server server = {2, 5, CBS_SOFT};
+    struct setup setup;
+    uint64_t low = 0, high = 0, now = UNTOUCHED;
+    set_up(&setup, &server, 1, 4, 4);
+    shows(&setup, 0, 0, 0, false);
+    runs(&setup, CBS_RUN_IDLE, 0, 0, 0);
+    CHECK(cbs_promised(&setup.house, 0, &low, &high) == CBS_OK && low == UINT64_MAX && high == UINT64_MAX);
+    submit(&setup, 0, UINT64_MAX, 3, 0);
+    shows(&setup, 0, 2, 5, false);
+    CHECK(cbs_promised(&setup.house, 0, &low, &high) == CBS_OK && low == 10 && high == 0);
+    CHECK(cbs_promised(&setup.house, 1, &low, &high) == CBS_OK && low == UINT64_MAX && high == UINT64_MAX);
+    runs(&setup, CBS_RUN_UNIT, 0, 0, UINT64_MAX);
+    shows(&setup, 0, 1, 5, false);
+    runs(&setup, CBS_RUN_UNIT, 0, 0, UINT64_MAX);
+    shows(&setup, 0, 2, 10, false);
+    runs(&setup, CBS_RUN_DONE, 0, 0, UINT64_MAX);
+    shows(&setup, 0, 1, 10, false);
+    runs(&setup, CBS_RUN_IDLE, 0, 0, 0);
+    CHECK(cbs_now(&setup.house, &now) == CBS_OK && now == 3);
+    tear_down(&setup);
+}
+
+/* Two throttled servers with 2 ticks in every 5: the first has four units to do, the second two. */
+static void throttling(void) {
+    struct cbs_server servers[2] = {{2, 5, CBS_THROTTLED}, {2, 5, CBS_THROTTLED}};
+    struct setup setup;
+    uint64_t span = 0;
+    set_up(&setup, servers, 2, 4, 4);
+    submit(&setup, 0, 100, 4, 0);
+    submit(&setup, 1, 200, 2, 0);
+    CHECK(cbs_idle_span(&setup.house, &span) == CBS_OK && span == UINT64_MAX);
+    runs(&setup, CBS_RUN_UNIT, 0, 0, 100);
+    runs(&setup, CBS_RUN_UNIT, 0, 0, 100);
+    shows(&setup, 0, 0, 5, true);
+    runs(&setup, CBS_RUN_UNIT, 1, 0, 200);
+    runs(&setup, CBS_RUN_DONE, 1, 0, 200);
+    runs(&setup, CBS_RUN_IDLE, 0, 0, 0);
+    CHECK(cbs_idle_span(&setup.house, &span) == CBS_OK && span == 1);
+    CHECK(cbs_advance(&setup.house, 1) == CBS_OK);
+    shows(&setup, 0, 2, 10, false);
+    runs(&setup, CBS_RUN_UNIT, 0, 0, 100);
+    runs(&setup, CBS_RUN_DONE, 0, 0, 100);
+    shows(&setup, 0, 0, 10, true);
+    tear_down(&setup);
+}
+
+static void turns(struct setup *setup, uint64_t took, uint64_t advanced, uint32_t kind, uint64_t token) {
+    struct cbs_turn turn;
+    CHECK(cbs_turn(&setup->house, &turn) == CBS_OK);
+    CHECK(turn.took == took && turn.advanced == advanced && !turn.out_of_memory);
+    CHECK(turn.ran.kind == kind && (kind < CBS_RUN_UNIT || turn.ran.token == token));
+}
+
+/* A throttled server with 1 tick in every 10, and a soft one with 1 in every 2. */
+static void turning(void) {
+    struct cbs_server servers[2] = {{1, 10, CBS_THROTTLED}, {1, 2, CBS_SOFT}};
+    struct setup setup;
+    uint64_t seq, now = 0;
+    set_up(&setup, servers, 2, 4, 4);
+    turns(&setup, 0, 0, CBS_RUN_IDLE, 0);
+    CHECK(cbs_send(&setup.clients[0], 5, 2, &seq) == CBS_OK);
+    CHECK(cbs_send(&setup.clients[1], 6, 1, &seq) == CBS_OK);
+    CHECK(cbs_end(&setup.clients[1]) == CBS_OK);
+    turns(&setup, 2, 0, CBS_RUN_DONE, 6); /* tick 1: deadline 2 before 10 */
+    turns(&setup, 1, 0, CBS_RUN_UNIT, 5); /* tick 2: the end is taken, and server 0 is throttled */
+    turns(&setup, 0, 8, CBS_RUN_IDLE, 0); /* tick 10 */
+    turns(&setup, 0, 0, CBS_RUN_DONE, 5); /* tick 11 */
+    turns(&setup, 0, 0, CBS_RUN_IDLE, 0);
+    CHECK(cbs_now(&setup.house, &now) == CBS_OK && now == 11);
+    tear_down(&setup);
+}
+
+static void clock_ends(void) {
+    struct cbs_server server = {2, 5, CBS_SOFT};
+    struct setup setup;
+    struct cbs_turn turn;
+    uint64_t now = 0, span = UNTOUCHED;
+    set_up(&setup, &server, 1, 4, 4);
+    CHECK(cbs_idle_span(&setup.house, &span) == CBS_OK && span == 1000000000000);
+    CHECK(cbs_advance(&setup.house, 0) == CBS_OK);
+    CHECK(cbs_advance(&setup.house, 1000000000001) == CBS_HOUSE_CLOCK_END);
+    CHECK(cbs_now(&setup.house, &now) == CBS_OK && now == 0);
+    CHECK(cbs_advance(&setup.house, 1000000000000) == CBS_OK);
+    CHECK(cbs_advance(&setup.house, 1) == CBS_HOUSE_CLOCK_END);
+    CHECK(cbs_advance(&setup.house, UINT64_MAX) == CBS_HOUSE_CLOCK_END);
+    CHECK(cbs_now(&setup.house, &now) == CBS_OK && now == 1000000000000);
+    submit(&setup, 0, 7, 1, 0);
+    runs(&setup, CBS_RUN_CLOCK_END, 0, 0, 0);
+    CHECK(cbs_turn(&setup.house, &turn) == CBS_OK);
+    CHECK(turn.ran.kind == CBS_RUN_CLOCK_END && turn.took == 0 && turn.advanced == 0);
+    tear_down(&setup);
+}
+
+/* What the declarations of other languages count on. */
+static void layouts(void) {
+    CHECK(sizeof(struct cbs_handle) == 16 && sizeof(struct cbs_server) == 24 && sizeof(struct cbs_unit) == 24);
+    CHECK(sizeof(struct cbs_turn) == 48 && sizeof(struct cbs_view) == 48);
+    CHECK(offsetof(struct cbs_turn, ran) == 16 && offsetof(struct cbs_turn, out_of_memory) == 40);
+    CHECK(offsetof(struct cbs_view, throttled) == 40 && offsetof(struct cbs_view, closed) == 41);
+}
+
+static void greatest_budgets_of_none(void) {
+    struct cbs_server many[64];
+    uint64_t budget = UNTOUCHED;
+    for (size_t i = 0; i < 64; i++) {
+        many[i].budget = 1;
+        many[i].period = 100;
+        many[i].mode = CBS_SOFT;
+    }
+    CHECK(cbs_greatest_budget(many, 63, 100, &budget) == CBS_OK && budget == 37);
+    CHECK(cbs_greatest_budget(many, 64, 100, &budget) == CBS_OK && budget == 0);
+    CHECK(cbs_greatest_budget(many, 1, 1000000000, &budget) == CBS_OK && budget == 990000000);
+    CHECK(cbs_greatest_budget(many, 1, 1000000001, &budget) == CBS_OK && budget == 0);
+    CHECK(cbs_greatest_budget(many, 1, 0, &budget) == CBS_OK && budget == 0);
+    struct cbs_server fine[2] = {{1, 999999937, CBS_SOFT}, {1, 1000000000, CBS_SOFT}};
+    CHECK(cbs_greatest_budget(fine, 2, 999999929, &budget) == CBS_OK && budget == 0);
+}
+
+static void greatest_budgets(void) {
+    struct cbs_server servers[2] = {{2, 5, CBS_SOFT}, {1, 4, CBS_THROTTLED}};
+    uint64_t budget = UNTOUCHED;
+    CHECK(cbs_greatest_budget(servers, 0, 7, &budget) == CBS_OK && budget == 7);
+    CHECK(cbs_greatest_budget(servers, 1, 10, &budget) == CBS_OK && budget == 6);
+    CHECK(cbs_greatest_budget(servers, 2, 10, &budget) == CBS_OK && budget == 3); /* 7 of 20 are left: 3.5 of 10 */
+    CHECK(cbs_greatest_budget(servers, 2, 2, &budget) == CBS_OK && budget == 0);
+    servers[1].budget = 5;
+    budget = UNTOUCHED;
+    CHECK(cbs_greatest_budget(servers, 2, 10, &budget) == CBS_RATE_BUDGET_OVER_PERIOD && budget == UNTOUCHED);
+    servers[1].budget = 3;
+    CHECK(cbs_greatest_budget(servers, 2, 10, &budget) == CBS_ADMIT_OVER_BOUND && budget == UNTOUCHED);
+}
+
+static void is_text(uint32_t status, const char *wanted) {
+    char text[128], cut[8];
+    size_t length = cbs_status_text(status, text, sizeof text);
+    CHECK(length == strlen(wanted) && memcmp(text, wanted, length) == 0);
+    memset(cut, '#', sizeof cut);
+    CHECK(cbs_status_text(status, cut, 2) == length && cut[0] == text[0] && cut[1] == text[1] && cut[2] == '#');
+    CHECK(cbs_status_text(status, cut + 2, 0) == length && cut[2] == '#');
+}
+
+static void texts(void) {
+    static const uint32_t statuses[] = {
+        CBS_OK, CBS_RATE_ZERO_BUDGET, CBS_RATE_PERIOD_TOO_LONG, CBS_RATE_BUDGET_OVER_PERIOD, CBS_RATE_BAD_BOUND,
+        CBS_ADMIT_TOO_MANY_SERVERS, CBS_ADMIT_PERIODS_TOO_FINE, CBS_ADMIT_OVER_BOUND, CBS_HOUSE_BAD_BACKLOG,
+        CBS_HOUSE_BAD_RING, CBS_HOUSE_OUT_OF_MEMORY, CBS_HOUSE_NO_SUCH_SERVER, CBS_HOUSE_CLOCK_END, CBS_HOUSE_STALLED,
+        CBS_TASK_EMPTY_JOB, CBS_TASK_TOO_LONG, CBS_SEND_ENDED, CBS_SEND_RING_FULL, CBS_CALL_NOT_OPEN,
+        CBS_CALL_OTHER_KIND, CBS_CALL_WRONG_COUNT, CBS_CALL_BAD_MODE};
+    char text[256];
+    for (size_t i = 0; i < sizeof statuses / sizeof statuses[0]; i++) {
+        size_t length = cbs_status_text(statuses[i], text, sizeof text);
+        CHECK(length > 0 && length < sizeof text && memchr(text, 0, length) == NULL);
+    }
+    CHECK(cbs_status_text(0x999, text, sizeof text) > 0);
+    is_text(CBS_RATE_ZERO_BUDGET, "the budget is 0: a reservation needs a budget of at least 1 tick");
+    is_text(CBS_HOUSE_BAD_RING, "the ring is not within 1 to 1024 messages");
+    is_text(CBS_SEND_RING_FULL, "the ring is full");
+}
+
+int main(void) {
+    open_refuses_a_server();
+    open_refuses_a_plan();
+    open_refuses_its_sizes();
+    open_again();
+    handles();
+    free_in_any_order();
+    sending();
+    polling();
+    running();
+    throttling();
+    turning();
+    clock_ends();
+    greatest_budgets();
+    greatest_budgets_of_none();
+    layouts();
+    texts();
+    puts("every call and every status: as it should be");
+    return 0;
+}

@@ -1,0 +1,71 @@
+/* What the tests share: a check that tells where it failed, and the opening of a small house. */
+#ifndef CHECK_H
+#define CHECK_H
+
+#include "cbs.h"
+#include <stdio.h>
+#include <stdlib.h>
+
+#define CHECK(condition)                                                                \
+    do {                                                                                \
+        if (!(condition)) {                                                             \
+            fprintf(stderr, "%s:%d: not so: %s\n", __FILE__, __LINE__, #condition);      \
+            exit(1);                                                                    \
+        }                                                                               \
+    } while (0)
+
+/* What stands in an out parameter before a call, to see that a refusal leaves it. */
+#define UNTOUCHED 0x5a5a5a5a5a5a5a5aU
+
+/* A house of up to four servers with its clients. */
+struct setup {
+    struct cbs_handle house;
+    struct cbs_handle clients[4];
+    size_t n;
+};
+
+static const struct cbs_handle SHUT = CBS_HANDLE_INIT;
+
+static inline void set_up(struct setup *setup, const struct cbs_server *servers, size_t n, uint64_t backlog, uint64_t ring) {
+    setup->house = SHUT;
+    for (size_t i = 0; i < 4; i++) {
+        setup->clients[i] = SHUT;
+    }
+    setup->n = n;
+    CHECK(cbs_open(servers, n, backlog, ring, &setup->house, setup->clients, n) == CBS_OK);
+}
+
+static inline void tear_down(struct setup *setup) {
+    for (size_t i = 0; i < setup->n; i++) {
+        cbs_free(&setup->clients[i]);
+    }
+    cbs_free(&setup->house);
+}
+
+/* Sends a job, which has to get this number, and has the house take it. */
+static inline void submit(struct setup *setup, uint16_t server, uint64_t token, uint32_t units, uint64_t number) {
+    uint64_t seq = UNTOUCHED;
+    uint32_t kind = UINT32_MAX;
+    CHECK(cbs_send(&setup->clients[server], token, units, &seq) == CBS_OK);
+    CHECK(seq == number);
+    CHECK(cbs_poll(&setup->house, server, &kind) == CBS_OK);
+    CHECK(kind == CBS_POLL_TOOK);
+}
+
+/* Runs, and checks the unit that is answered. */
+static inline void runs(struct setup *setup, uint32_t kind, uint32_t server, uint64_t seq, uint64_t token) {
+    struct cbs_unit unit;
+    CHECK(cbs_run(&setup->house, &unit) == CBS_OK);
+    CHECK(unit.kind == kind);
+    CHECK(kind < CBS_RUN_UNIT || (unit.server == server && unit.seq == seq && unit.token == token));
+}
+
+/* Checks what a server shows of its budget. */
+static inline void shows(struct setup *setup, uint16_t server, uint64_t budget, uint64_t deadline, bool throttled) {
+    struct cbs_view view;
+    CHECK(cbs_view(&setup->house, server, &view) == CBS_OK);
+    CHECK(view.budget == budget && view.deadline_low == deadline && view.deadline_high == 0);
+    CHECK(view.throttled == throttled);
+}
+
+#endif

@@ -1,0 +1,105 @@
+//! The errors: each is one status of the library, with the library's own text.
+
+use crate::ffi::{status_text, Status};
+use std::error::Error;
+use std::fmt;
+
+/// Ends a program where the library answers what its contract rules out.
+#[cold]
+pub(crate) fn not_answered(status: Status) -> ! {
+    panic!(
+        "cbs: this call does not answer {:#x}: {}",
+        status.0,
+        status_text(status.0)
+    )
+}
+
+/// An error enum whose variants are statuses.
+macro_rules! errors {
+    ($(#[$doc:meta])* $name:ident { $($(#[$variant_doc:meta])* $variant:ident = $status:literal,)+ }) => {
+        $(#[$doc])*
+        #[derive(Clone, Copy, Debug, PartialEq, Eq, Hash)]
+        #[non_exhaustive]
+        pub enum $name {
+            $($(#[$variant_doc])* $variant,)+
+        }
+
+        impl $name {
+            /// The status of the interface for C, as in `cbs.h`.
+            pub fn status(self) -> u32 {
+                match self {
+                    $($name::$variant => $status,)+
+                }
+            }
+
+            pub(crate) fn of(status: Status) -> $name {
+                match status.0 {
+                    $($status => $name::$variant,)+
+                    _ => not_answered(status),
+                }
+            }
+        }
+
+        impl fmt::Display for $name {
+            fn fmt(&self, f: &mut fmt::Formatter<'_>) -> fmt::Result {
+                f.write_str(&status_text(self.status()))
+            }
+        }
+
+        impl Error for $name {}
+    };
+}
+
+errors! {
+    /// Why a server is not admitted. The plan is then as it was.
+    PlanError {
+        /// The budget is 0.
+        ZeroBudget = 0x101,
+        /// The period is longer than 10^9 ticks.
+        PeriodTooLong = 0x102,
+        /// The budget is larger than the period.
+        BudgetOverPeriod = 0x103,
+        /// There are 64 servers already.
+        TooManyServers = 0x201,
+        /// The least common multiple of all periods would pass 10^18.
+        PeriodsTooFine = 0x202,
+        /// The sum of budget / period would pass 1.
+        OverBound = 0x203,
+    }
+}
+
+errors! {
+    /// Why no house is opened.
+    OpenError {
+        /// The backlog is not within 1 to 4096 jobs.
+        BadBacklog = 0x301,
+        /// The ring is not within 1 to 1024 messages.
+        BadRing = 0x302,
+        /// There is not the memory.
+        OutOfMemory = 0x303,
+    }
+}
+
+errors! {
+    /// Why the house refuses.
+    HouseError {
+        /// The house has no server of that number.
+        NoSuchServer = 0x304,
+        /// The clock would pass its end, 10^12 ticks.
+        ClockEnd = 0x305,
+    }
+}
+
+errors! {
+    /// Why a client sends nothing.
+    SendError {
+        /// The job has no unit.
+        EmptyJob = 0x401,
+        /// The job has more than 1,000,000 units.
+        TooLong = 0x402,
+        /// The client has ended.
+        Ended = 0x501,
+        /// The ring is full: try again after the house has polled.
+        RingFull = 0x502,
+    }
+}

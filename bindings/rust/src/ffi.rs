@@ -1,0 +1,227 @@
+//! The declarations of `include/cbs.h`, and the one type that owns a handle. All that is unsafe in this crate stands here.
+//!
+//! What the header asks of a program is kept so: an open handle is owned by one [`Handle`], which is not `Clone`; each call
+//! takes it by `&mut`, so that it is in one call at a time; it goes to another thread as any value does, ordered by whatever
+//! sends it there; references are never null, and out parameters are locals of their own.
+
+use std::ffi::c_void;
+use std::ptr;
+
+/// `struct cbs_handle`, not open or owned by this value alone.
+#[repr(C)]
+pub(crate) struct Handle {
+    full: bool,
+    at: *mut c_void,
+}
+
+impl Handle {
+    /// A handle that is not open.
+    pub(crate) const SHUT: Handle = Handle {
+        full: false,
+        at: ptr::null_mut(),
+    };
+}
+
+// SAFETY: the library proves of what a handle owns, a house or a client, that it may go to another thread.
+unsafe impl Send for Handle {}
+
+impl Drop for Handle {
+    fn drop(&mut self) {
+        // SAFETY: the handle is not open, or is owned by this value, which is in no other call.
+        unsafe { cbs_free(self) }
+    }
+}
+
+/// `struct cbs_server`.
+#[repr(C)]
+#[derive(Clone, Copy, Debug, PartialEq, Eq)]
+pub(crate) struct Server {
+    pub(crate) budget: u64,
+    pub(crate) period: u64,
+    pub(crate) mode: u32,
+}
+
+/// `struct cbs_unit`.
+#[repr(C)]
+#[derive(Clone, Copy, Default)]
+pub(crate) struct Unit {
+    pub(crate) kind: u32,
+    pub(crate) server: u32,
+    pub(crate) seq: u64,
+    pub(crate) token: u64,
+}
+
+/// `struct cbs_turn`.
+#[repr(C)]
+#[derive(Clone, Copy, Default)]
+pub(crate) struct Turn {
+    pub(crate) took: u64,
+    pub(crate) advanced: u64,
+    pub(crate) ran: Unit,
+    pub(crate) out_of_memory: bool,
+}
+
+/// `struct cbs_view`.
+#[repr(C)]
+#[derive(Clone, Copy, Default)]
+pub(crate) struct View {
+    pub(crate) budget: u64,
+    pub(crate) deadline_low: u64,
+    pub(crate) deadline_high: u64,
+    pub(crate) accepted: u64,
+    pub(crate) finished: u64,
+    pub(crate) throttled: bool,
+    pub(crate) closed: bool,
+}
+
+extern "C" {
+    fn cbs_open(
+        servers: *const Server,
+        n: usize,
+        backlog: u64,
+        ring: u64,
+        house: *mut Handle,
+        clients: *mut Handle,
+        clients_n: usize,
+    ) -> u32;
+    fn cbs_free(handle: *mut Handle);
+    fn cbs_greatest_budget(servers: *const Server, n: usize, period: u64, out: *mut u64) -> u32;
+    fn cbs_status_text(status: u32, out: *mut u8, n: usize) -> usize;
+    fn cbs_turn(house: *mut Handle, out: *mut Turn) -> u32;
+    fn cbs_poll(house: *mut Handle, server: u16, kind: *mut u32) -> u32;
+    fn cbs_run(house: *mut Handle, out: *mut Unit) -> u32;
+    fn cbs_advance(house: *mut Handle, ticks: u64) -> u32;
+    fn cbs_now(house: *mut Handle, out: *mut u64) -> u32;
+    fn cbs_idle_span(house: *mut Handle, out: *mut u64) -> u32;
+    fn cbs_view(house: *mut Handle, server: u16, out: *mut View) -> u32;
+    fn cbs_promised(house: *mut Handle, server: u16, low: *mut u64, high: *mut u64) -> u32;
+    fn cbs_send(client: *mut Handle, token: u64, units: u32, seq: *mut u64) -> u32;
+    fn cbs_end(client: *mut Handle) -> u32;
+    fn cbs_waiting(client: *mut Handle, out: *mut u64) -> u32;
+}
+
+/// A status that is not 0.
+#[derive(Clone, Copy, Debug, PartialEq, Eq)]
+pub(crate) struct Status(pub(crate) u32);
+
+fn answered<T>(status: u32, value: T) -> Result<T, Status> {
+    match status {
+        0 => Ok(value),
+        refused => Err(Status(refused)),
+    }
+}
+
+// SAFETY of the calls below: each handle is not open or owned by the `Handle` that is borrowed, which is in no other call;
+// slices give a pointer that is not null, and their length; each out parameter is a local of its own.
+
+pub(crate) fn open(
+    servers: &[Server],
+    backlog: u64,
+    ring: u64,
+) -> Result<(Handle, Vec<Handle>), Status> {
+    let mut house = Handle::SHUT;
+    let mut clients: Vec<Handle> = servers.iter().map(|_| Handle::SHUT).collect();
+    let status = unsafe {
+        cbs_open(
+            servers.as_ptr(),
+            servers.len(),
+            backlog,
+            ring,
+            &mut house,
+            clients.as_mut_ptr(),
+            clients.len(),
+        )
+    };
+    answered(status, (house, clients))
+}
+
+pub(crate) fn greatest_budget(servers: &[Server], period: u64) -> Result<u64, Status> {
+    let mut budget = 0;
+    let status =
+        unsafe { cbs_greatest_budget(servers.as_ptr(), servers.len(), period, &mut budget) };
+    answered(status, budget)
+}
+
+pub(crate) fn status_text(status: u32) -> String {
+    let mut text = [0; 256];
+    let length = unsafe { cbs_status_text(status, text.as_mut_ptr(), text.len()) };
+    String::from_utf8_lossy(&text[..length.min(text.len())]).into_owned()
+}
+
+pub(crate) fn turn(house: &mut Handle) -> Result<Turn, Status> {
+    let mut turn = Turn::default();
+    let status = unsafe { cbs_turn(house, &mut turn) };
+    answered(status, turn)
+}
+
+pub(crate) fn poll(house: &mut Handle, server: u16) -> Result<u32, Status> {
+    let mut kind = 0;
+    let status = unsafe { cbs_poll(house, server, &mut kind) };
+    answered(status, kind)
+}
+
+pub(crate) fn run(house: &mut Handle) -> Result<Unit, Status> {
+    let mut unit = Unit::default();
+    let status = unsafe { cbs_run(house, &mut unit) };
+    answered(status, unit)
+}
+
+pub(crate) fn advance(house: &mut Handle, ticks: u64) -> Result<(), Status> {
+    answered(unsafe { cbs_advance(house, ticks) }, ())
+}
+
+pub(crate) fn now(house: &mut Handle) -> Result<u64, Status> {
+    let mut now = 0;
+    let status = unsafe { cbs_now(house, &mut now) };
+    answered(status, now)
+}
+
+pub(crate) fn idle_span(house: &mut Handle) -> Result<u64, Status> {
+    let mut span = 0;
+    let status = unsafe { cbs_idle_span(house, &mut span) };
+    answered(status, span)
+}
+
+pub(crate) fn view(house: &mut Handle, server: u16) -> Result<View, Status> {
+    let mut view = View::default();
+    let status = unsafe { cbs_view(house, server, &mut view) };
+    answered(status, view)
+}
+
+pub(crate) fn promised(house: &mut Handle, server: u16) -> Result<(u64, u64), Status> {
+    let (mut low, mut high) = (0, 0);
+    let status = unsafe { cbs_promised(house, server, &mut low, &mut high) };
+    answered(status, (low, high))
+}
+
+pub(crate) fn send(client: &mut Handle, token: u64, units: u32) -> Result<u64, Status> {
+    let mut seq = 0;
+    let status = unsafe { cbs_send(client, token, units, &mut seq) };
+    answered(status, seq)
+}
+
+pub(crate) fn end(client: &mut Handle) -> Result<(), Status> {
+    answered(unsafe { cbs_end(client) }, ())
+}
+
+pub(crate) fn waiting(client: &mut Handle) -> Result<u64, Status> {
+    let mut waiting = 0;
+    let status = unsafe { cbs_waiting(client, &mut waiting) };
+    answered(status, waiting)
+}
+
+#[cfg(test)]
+mod tests {
+    use super::*;
+    use std::mem::size_of;
+
+    // As in the header: bindings/c/tests/calls.c has the same numbers.
+    #[test]
+    fn structs_are_as_long_as_in_c() {
+        assert_eq!(size_of::<Handle>(), 16);
+        assert_eq!(size_of::<Server>(), 24);
+        assert_eq!(size_of::<Unit>(), 24);
+        assert_eq!(size_of::<Turn>(), 48);
+        assert_eq!(size_of::<View>(), 48);
+    }
+}

@@ -1,0 +1,91 @@
+use crate::client::Client;
+use crate::error::{not_answered, OpenError, PlanError};
+use crate::ffi::{self, Server};
+use crate::house::House;
+
+/// What a server does where its budget is used up.
+#[derive(Clone, Copy, Debug, PartialEq, Eq, Hash)]
+pub enum Mode {
+    /// It goes on at once, at a deadline one period later, behind everybody whose deadline is earlier. It may use idle time.
+    Soft,
+    /// It waits until its deadline, though the thread idles.
+    Throttled,
+}
+
+/// Servers that fit together: the sum of budget / period is at most 1, exactly.
+#[derive(Clone, Debug, Default, PartialEq, Eq)]
+pub struct Plan {
+    servers: Vec<Server>,
+}
+
+impl Plan {
+    /// A plan with no server.
+    pub fn new() -> Plan {
+        Plan::default()
+    }
+
+    /// Admits a server with a budget of `budget` ticks in every `period` ticks, and answers its number, from 0.
+    ///
+    /// # Errors
+    ///
+    /// Refuses exactly what does not fit, by the first reason of [`PlanError`]; the plan is then as it was.
+    ///
+    /// ```
+    /// use cbs::{Mode, Plan, PlanError};
+    ///
+    /// let mut plan = Plan::new();
+    /// assert_eq!(plan.admit(2, 5, Mode::Soft), Ok(0));
+    /// assert_eq!(plan.admit(4, 5, Mode::Soft), Err(PlanError::OverBound));
+    /// assert_eq!(plan.greatest_budget(5), 3);
+    /// assert_eq!(plan.admit(3, 5, Mode::Throttled), Ok(1));
+    /// ```
+    pub fn admit(&mut self, budget: u64, period: u64, mode: Mode) -> Result<u16, PlanError> {
+        let number = self.servers.len() as u16; // at most 64 are in it
+        let mode = match mode {
+            Mode::Soft => 0,
+            Mode::Throttled => 1,
+        };
+        self.servers.push(Server {
+            budget,
+            period,
+            mode,
+        });
+        // The library answers for the servers before it says anything of the period, which may be any.
+        match ffi::greatest_budget(&self.servers, 1) {
+            Ok(_) => Ok(number),
+            Err(status) => {
+                self.servers.pop();
+                Err(PlanError::of(status))
+            }
+        }
+    }
+
+    /// The greatest budget with which a server of this period would be admitted now; 0 where none would.
+    pub fn greatest_budget(&self, period: u64) -> u64 {
+        ffi::greatest_budget(&self.servers, period).unwrap_or_else(|status| not_answered(status))
+    }
+
+    /// How many servers it has, at most 64.
+    pub fn len(&self) -> usize {
+        self.servers.len()
+    }
+
+    /// Whether it has none.
+    pub fn is_empty(&self) -> bool {
+        self.servers.is_empty()
+    }
+
+    /// Opens a house with these servers, and a client for each, in their order. A server takes at most `backlog` jobs that are
+    /// not finished (1 to 4096); a client's ring has places for `ring` messages (1 to 1024).
+    ///
+    /// # Errors
+    ///
+    /// [`OpenError`]: `backlog` or `ring` is out of range, or there is not the memory.
+    pub fn open(&self, backlog: u64, ring: u64) -> Result<(House, Vec<Client>), OpenError> {
+        let (house, clients) = ffi::open(&self.servers, backlog, ring).map_err(OpenError::of)?;
+        Ok((
+            House::new(house, self.servers.len() as u16),
+            clients.into_iter().map(Client::new).collect(),
+        ))
+    }
+}

@@ -1,0 +1,64 @@
+-- What C sees of the answers of a house.
+use Rattle.std.specs.Prelude.{ℕ, ◌-◌, ◌%◌, ◌/◌, ◌^◌, Option}
+use Rattle.std.specs.Option.{unwrap_or}
+use Rattle.cbs_core.specs.declared.reply.Ran.{Ran}
+use Rattle.cbs_core.specs.declared.reply.Ran.TheVariants.{Idle, ClockEnd, Unit, Done}
+use Rattle.cbs_core.specs.declared.view.ServerView.{ServerView}
+use Rattle.cbs_house.specs.declared.poll.Poll.{Poll}
+use Rattle.cbs_house.specs.declared.poll.Poll.TheVariants as poll
+use Rattle.cbs_embed.specs.declared.calls.Ticked.{Ticked}
+use Rattle.cbs_embed.specs.declared.calls.Turned.{Turned}
+use Rattle.cbs_c.specs.declared.events.Event.{Event}
+use Rattle.cbs_c.specs.declared.events.TurnEvent.{TurnEvent}
+use Rattle.cbs_c.specs.declared.events.View.{View}
+
+-- the event of a run
+abbrev pub ran_event : Ran → ℕ → Event
+ran_event Idle token = record { kind = 0; server = 0; seq = 0; token = token }
+ran_event ClockEnd token = record { kind = 1; server = 0; seq = 0; token = token }
+ran_event (Unit s q) token = record { kind = 2; server = s; seq = q; token = token }
+ran_event (Done c) token = record { kind = 3; server = c.server; seq = c.seq; token = token }
+
+-- the event of a run, with its token
+abbrev pub tick_event : Ticked → Event
+tick_event t = ran_event t.ran t.token
+
+-- the event of a turn
+abbrev pub turn_event : Turned → TurnEvent
+turn_event t = record { took = t.turn.took; advanced = t.turn.advanced; ran = ran_event t.turn.ran t.token; out_of_memory = t.turn.out_of_memory }
+
+-- what C sees of a server
+abbrev pub view_shown : ServerView → View
+view_shown v = record {
+  budget = v.budget;
+  deadline_low = v.deadline % 2 ^ 64;
+  deadline_high = v.deadline / 2 ^ 64;
+  accepted = v.accepted;
+  finished = v.finished;
+  throttled = v.throttled;
+  closed = v.closed;
+}
+
+-- the number of a poll's answer
+abbrev pub poll_kind : Poll → ℕ
+poll_kind poll.Nothing = 0
+poll_kind (poll.Took q) = 1
+poll_kind poll.Closed = 2
+poll_kind poll.Full = 3
+poll_kind poll.OutOfMemory = 4
+poll_kind poll.NoSuchServer = 5
+
+-- the number of a span: the greatest of 64 bits where there is none
+abbrev pub span_shown : Option ℕ → ℕ
+span_shown span = unwrap_or span (2 ^ 64 - 1)
+
+-- the number of a promise: the greatest of 128 bits where there is none
+abbrev pub promise_shown : Option ℕ → ℕ
+promise_shown tick = unwrap_or tick (2 ^ 128 - 1)
+
+-- its halves
+abbrev pub promise_low : Option ℕ → ℕ
+promise_low tick = promise_shown tick % 2 ^ 64
+
+abbrev pub promise_high : Option ℕ → ℕ
+promise_high tick = promise_shown tick / 2 ^ 64

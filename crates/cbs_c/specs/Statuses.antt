@@ -1,0 +1,31 @@
+-- What C is told of a call on a handle.
+use Rattle.std.specs.Prelude.{ℕ, ◌≡◌, Option, Result, Ok, Err}
+use Rattle.cbs_embed.specs.Statuses.{refusal_status}
+use Rattle.cbs_embed.specs.declared.inside.Inside.{Inside}
+use Rattle.cbs_embed.specs.declared.refusal.Refusal.{Refusal}
+
+module _ {T : Type 0} where
+  -- the status of an answer
+  abbrev pub status_after : Result T Refusal → ℕ
+  status_after (Ok x) = 0
+  status_after (Err e) = refusal_status e
+
+  -- what stands at the caller's place afterwards: what C is shown of the value, or what stood there
+  abbrev pub shown_or : {U : Type 0} → (T → U) → Result T Refusal → U → U
+  shown_or shown (Ok x) before = shown x
+  shown_or shown (Err e) before = before
+
+-- A call did this to what a handle held: C is told the status of its answer, and of a value what it is shown of it; where the call is
+-- refused, what stood at its place.
+pub record Tells {T U : Type 0} (Does : Option Inside → Result T Refusal → Option Inside → Type 0) (shown : T → U)
+    (held : Option Inside) (before : U) (status : ℕ) (holds : Option Inside) (after : U) : Type 0 where
+  pub answer : Result T Refusal
+  pub does : Does held answer holds
+  pub told : status ≡ status_after answer
+  pub out : after ≡ shown_or shown answer before
+
+-- the same of a call with no value
+pub record Answers {T : Type 0} (Does : Option Inside → Result T Refusal → Option Inside → Type 0) (held : Option Inside) (status : ℕ) (holds : Option Inside) : Type 0 where
+  pub answer : Result T Refusal
+  pub does : Does held answer holds
+  pub told : status ≡ status_after answer

@@ -1,0 +1,39 @@
+//! The calls on a client.
+
+ghost use Rattle.cbs_embed.specs.Calls.{OnHeld, InClient, Sends, Ends, Waits};
+ghost use Rattle.cbs_embed.specs.Kepts.{held_by};
+ghost use Rattle.cbs_c.specs.Statuses.{Answers, Tells};
+
+use crate::status::{status_of, tell};
+use cbs_embed::{Kept, calls};
+use std::alloc::Global;
+
+/// Sends a job.
+#[unsafe(no_mangle)]
+pub extern "C" fn cbs_send(
+    alloc: Global,
+    client: &mut Kept,
+    token: u64,
+    units: u32,
+    seq: &mut u64,
+) -> u32
+    ensures { Tells (OnHeld (InClient (Sends token units))) (λ n. n) (held_by client.old) seq.old result (held_by client.new) seq.new }
+{
+    tell(seq, calls::send(alloc, client, token, units))
+}
+
+/// Sends the end.
+#[unsafe(no_mangle)]
+pub extern "C" fn cbs_end(alloc: Global, client: &mut Kept) -> u32
+    ensures { Answers (OnHeld (InClient Ends)) (held_by client.old) result (held_by client.new) }
+{
+    status_of(calls::end(alloc, client))
+}
+
+/// How many messages of the client stand in its ring.
+#[unsafe(no_mangle)]
+pub extern "C" fn cbs_waiting(alloc: Global, client: &mut Kept, out: &mut u64) -> u32
+    ensures { Tells (OnHeld (InClient Waits)) (λ n. n) (held_by client.old) out.old result (held_by client.new) out.new }
+{
+    tell(out, calls::waiting(alloc, client))
+}

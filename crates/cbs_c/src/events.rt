@@ -1,0 +1,133 @@
+//! What the calls on a house tell.
+
+ghost use Rattle.std.specs.Prelude.{◌≡◌, ◌%◌, ◌/◌, ◌^◌};
+ghost use Rattle.cbs_c.specs.Events.{ran_event, turn_event, view_shown, poll_kind};
+
+use cbs_core::{Ran, ServerView};
+use cbs_embed::calls::{Ticked, Turned};
+use cbs_house::Poll;
+
+/// What a run did: `struct cbs_unit`.
+#[repr(C)]
+#[derive(Clone, Copy, Debug, PartialEq, Eq)]
+pub struct Event {
+    /// 0 idle, 1 the clock's end, 2 a unit, 3 the last unit of its job.
+    pub kind: u32,
+    /// The server of the job that got a unit.
+    pub server: u32,
+    /// The job's number.
+    pub seq: u64,
+    /// The job's token.
+    pub token: u64,
+}
+
+/// What a turn did: `struct cbs_turn`.
+#[repr(C)]
+#[derive(Clone, Copy, Debug, PartialEq, Eq)]
+pub struct TurnEvent {
+    /// How many messages it took.
+    pub took: u64,
+    /// By how many ticks it advanced.
+    pub advanced: u64,
+    /// What ran.
+    pub ran: Event,
+    /// Whether there was no memory for some message.
+    pub out_of_memory: bool,
+}
+
+/// What a server shows: `struct cbs_view`.
+#[repr(C)]
+#[derive(Clone, Copy, Debug, PartialEq, Eq)]
+pub struct View {
+    /// The budget that is left.
+    pub budget: u64,
+    /// The lower 64 bits of the deadline.
+    pub deadline_low: u64,
+    /// And the upper.
+    pub deadline_high: u64,
+    /// How many jobs were accepted.
+    pub accepted: u64,
+    /// How many of them are finished.
+    pub finished: u64,
+    /// Whether it waits to be replenished.
+    pub throttled: bool,
+    /// Whether it is closed.
+    pub closed: bool,
+}
+
+/// The event of a run.
+pub(crate) fn event_of(ticked: Ticked) -> Event
+    ensures { result ≡ ran_event ticked.ran ticked.token }
+{
+    let (kind, server, seq) = match ticked.ran {
+        Ran::Idle => (0, 0, 0),
+        Ran::ClockEnd => (1, 0, 0),
+        Ran::Unit { server, seq } => (2, server, seq),
+        Ran::Done(done) => (3, done.server, done.seq),
+    };
+    Event {
+        kind,
+        server: u32::from(server),
+        seq,
+        token: ticked.token,
+    }
+}
+
+/// The event of a turn.
+pub(crate) fn turn_event_of(turned: Turned) -> TurnEvent
+    ensures { result ≡ turn_event turned }
+{
+    let Turned { turn, token } = turned;
+    TurnEvent {
+        took: turn.took,
+        advanced: turn.advanced,
+        ran: event_of(Ticked {
+            ran: turn.ran,
+            token,
+        }),
+        out_of_memory: turn.out_of_memory,
+    }
+}
+
+/// The lower 64 bits of a number.
+pub(crate) fn low(number: u128) -> u64
+    ensures { result ≡ number % 2 ^ 64 }
+{
+    (number % (1 << 64)) as u64
+}
+
+/// The upper 64 bits.
+pub(crate) fn high(number: u128) -> u64
+    ensures { result ≡ number / 2 ^ 64 }
+{
+    (number >> 64) as u64
+}
+
+/// What C sees of a server.
+pub(crate) fn view_of(view: ServerView) -> View
+    ensures { result ≡ view_shown view }
+{
+    View {
+        budget: view.budget,
+        deadline_low: low(view.deadline),
+        deadline_high: high(view.deadline),
+        accepted: view.accepted,
+        finished: view.finished,
+        throttled: view.throttled,
+        closed: view.closed,
+    }
+}
+
+/// The number of a poll's answer.
+pub(crate) fn kind_of(answer: Poll) -> u32
+    ensures { result ≡ poll_kind answer }
+{
+    match answer {
+        Poll::Nothing => 0,
+        Poll::Took(_) => 1,
+        Poll::Closed => 2,
+        Poll::Full => 3,
+        Poll::OutOfMemory => 4,
+        Poll::NoSuchServer => 5,
+    }
+}

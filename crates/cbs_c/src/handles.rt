@@ -1,0 +1,40 @@
+//! Opening and freeing, and what may be asked before.
+
+ghost use Rattle.std.specs.Prelude.{◌≡◌, None};
+ghost use Rattle.cbs_embed.specs.Kepts.{held_by};
+ghost use Rattle.cbs_c.specs.Openings.{OpensForC, TellsBudget};
+
+use crate::status::{status_of, tell};
+use cbs_embed::{Kept, Server, greatest_budget, open};
+use std::alloc::Global;
+
+/// Opens a house with a client for each server.
+#[unsafe(no_mangle)]
+pub extern "C" fn cbs_open(
+    alloc: Global,
+    servers: &[Server],
+    backlog: u64,
+    ring: u64,
+    house: &mut Kept,
+    clients: &mut [Kept],
+) -> u32
+    ensures { OpensForC servers.now backlog ring house.old house.new clients.old clients.new result }
+{
+    status_of(open(alloc, servers, backlog, ring, house, clients))
+}
+
+/// Frees what the handle holds, if it holds anything.
+#[unsafe(no_mangle)]
+pub extern "C" fn cbs_free(alloc: Global, handle: &mut Kept)
+    ensures { held_by handle.new ≡ None }
+{
+    drop(handle.take(alloc));
+}
+
+/// The greatest budget with which a server of this period would be admitted behind these.
+#[unsafe(no_mangle)]
+pub extern "C" fn cbs_greatest_budget(servers: &[Server], period: u64, out: &mut u64) -> u32
+    ensures { TellsBudget servers.now period out.old result out.new }
+{
+    tell(out, greatest_budget(servers, period))
+}

@@ -1,0 +1,40 @@
+//! Statuses, and their texts.
+
+ghost use Rattle.std.specs.Prelude.{◌≡◌};
+ghost use Rattle.cbs_c.specs.Statuses.{status_after, shown_or};
+
+use cbs_embed::{Refusal, text_of};
+
+/// The status of an answer.
+pub(crate) fn status_of<T: Drop>(answer: Result<T, Refusal>) -> u32
+    ensures { result ≡ status_after answer }
+{
+    match answer {
+        Ok(_) => 0,
+        Err(refusal) => refusal.status(),
+    }
+}
+
+/// Writes the value of an answer, and answers its status.
+pub(crate) fn tell(out: &mut u64, answer: Result<u64, Refusal>) -> u32
+    ensures status { result ≡ status_after answer }
+    ensures out { out.new ≡ shown_or (λ n. n) answer out.old }
+{
+    match answer {
+        Ok(value) => {
+            *out = value;
+            0
+        }
+        Err(refusal) => refusal.status(),
+    }
+}
+
+/// Writes the text of a status, as much as fits, and answers the length of the whole.
+#[unsafe(no_mangle)]
+pub extern "C" fn cbs_status_text(status: u32, out: &mut [u8]) -> usize {
+    let text = text_of(status).as_bytes();
+    for (place, byte) in out.iter_mut().zip(text.iter()) {
+        *place = *byte;
+    }
+    text.len()
+}

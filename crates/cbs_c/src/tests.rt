@@ -1,0 +1,275 @@
+//! Each export once, with rows by hand; and each refusal of a handle.
+
+use crate::client::{cbs_end, cbs_send, cbs_waiting};
+use crate::handles::{cbs_free, cbs_greatest_budget, cbs_open};
+use crate::house::{
+    cbs_advance, cbs_idle_span, cbs_now, cbs_poll, cbs_promised, cbs_run, cbs_turn, cbs_view,
+};
+use crate::status::cbs_status_text;
+use crate::{Event, TurnEvent, View};
+use cbs_embed::{Kept, Server};
+use std::alloc::Global;
+use std::process::Abort;
+
+const NOT_OPEN: u32 = 0x601;
+
+const OTHER_KIND: u32 = 0x602;
+
+/// Server 0 is soft with 2 in 5, server 1 throttled with 1 in 10.
+const SERVERS: [Server; 2] = [
+    Server {
+        budget: 2,
+        period: 5,
+        mode: 0,
+    },
+    Server {
+        budget: 1,
+        period: 10,
+        mode: 1,
+    },
+];
+
+const NO_EVENT: Event = Event {
+    kind: 9,
+    server: 9,
+    seq: 9,
+    token: 9,
+};
+
+fn is(rt: &impl Abort, status: u32, wanted: u32) {
+    assert_eq!(rt; status, wanted);
+}
+
+fn event(kind: u32, server: u32, seq: u64, token: u64) -> Event {
+    Event {
+        kind,
+        server,
+        seq,
+        token,
+    }
+}
+
+/// Runs, and is told this.
+fn runs(rt: &impl Abort, alloc: Global, house: &mut Kept, wanted: Event) {
+    let mut out = NO_EVENT;
+    is(rt, cbs_run(alloc, house, &mut out), 0);
+    assert_eq!(rt; out, wanted);
+}
+
+/// Takes a turn, and is told this.
+fn turns(
+    rt: &impl Abort,
+    alloc: Global,
+    house: &mut Kept,
+    took: u64,
+    advanced: u64,
+    wanted: Event,
+) {
+    let mut out = TurnEvent {
+        took: 9,
+        advanced: 9,
+        ran: NO_EVENT,
+        out_of_memory: true,
+    };
+    is(rt, cbs_turn(alloc, house, &mut out), 0);
+    let turn = TurnEvent {
+        took,
+        advanced,
+        ran: wanted,
+        out_of_memory: false,
+    };
+    assert_eq!(rt; out, turn);
+}
+
+/// Sends a job, whose number is then this.
+fn sends(rt: &impl Abort, alloc: Global, client: &mut Kept, token: u64, units: u32, number: u64) {
+    let mut seq = 9;
+    is(rt, cbs_send(alloc, client, token, units, &mut seq), 0);
+    assert_eq!(rt; seq, number);
+}
+
+/// For so many ticks nobody will be ready.
+fn rests_for(rt: &impl Abort, alloc: Global, house: &mut Kept, ticks: u64) {
+    let mut span = 9;
+    is(rt, cbs_idle_span(alloc, house, &mut span), 0);
+    assert_eq!(rt; span, ticks);
+}
+
+/// The clock stands there.
+fn stands_at(rt: &impl Abort, alloc: Global, house: &mut Kept, tick: u64) {
+    let mut now = 9;
+    is(rt, cbs_now(alloc, house, &mut now), 0);
+    assert_eq!(rt; now, tick);
+}
+
+/// Server 0 promises to be done by this tick.
+fn promises(rt: &impl Abort, alloc: Global, house: &mut Kept, low: u64, high: u64) {
+    let mut lower = 9;
+    let mut upper = 9;
+    is(rt, cbs_promised(alloc, house, 0, &mut lower, &mut upper), 0);
+    assert_eq!(rt; (lower, upper), (low, high));
+}
+
+#[test]
+fn serves_two_clients(rt: HostRuntime) {
+    let alloc = rt.alloc();
+    let mut house = Kept::shut(alloc);
+    let mut clients = [Kept::shut(alloc), Kept::shut(alloc)];
+    is(
+        &rt,
+        cbs_open(alloc, &SERVERS, 4, 4, &mut house, &mut clients),
+        0,
+    );
+    let [mut soft, mut throttled] = clients;
+    promises(&rt, alloc, &mut house, u64::MAX, u64::MAX);
+    sends(&rt, alloc, &mut soft, 7, 3, 0);
+    sends(&rt, alloc, &mut throttled, 9, 2, 0);
+    is(&rt, cbs_end(alloc, &mut throttled), 0);
+    let mut waiting = 9;
+    is(&rt, cbs_waiting(alloc, &mut throttled, &mut waiting), 0);
+    assert_eq!(rt; waiting, 2);
+
+    let mut kind = 9;
+    is(&rt, cbs_poll(alloc, &mut house, 0, &mut kind), 0);
+    assert_eq!(rt; kind, 1);
+    // Three units by 2 in 5: the third waits for the second budget.
+    promises(&rt, alloc, &mut house, 10, 0);
+    rests_for(&rt, alloc, &mut house, u64::MAX);
+    turns(&rt, alloc, &mut house, 1, 0, event(2, 0, 0, 7));
+    runs(&rt, alloc, &mut house, event(2, 0, 0, 7));
+    let mut view = View {
+        budget: 9,
+        deadline_low: 9,
+        deadline_high: 9,
+        accepted: 9,
+        finished: 9,
+        throttled: true,
+        closed: true,
+    };
+    is(&rt, cbs_view(alloc, &mut house, 0, &mut view), 0);
+    let postponed = View {
+        budget: 2,
+        deadline_low: 10,
+        deadline_high: 0,
+        accepted: 1,
+        finished: 0,
+        throttled: false,
+        closed: false,
+    };
+    assert_eq!(rt; view, postponed);
+    runs(&rt, alloc, &mut house, event(3, 0, 0, 7));
+    turns(&rt, alloc, &mut house, 1, 0, event(2, 1, 0, 9));
+    // Server 1 has used its budget up at 4, and waits until 10.
+    rests_for(&rt, alloc, &mut house, 6);
+    turns(&rt, alloc, &mut house, 0, 6, event(0, 0, 0, 0));
+    runs(&rt, alloc, &mut house, event(3, 1, 0, 9));
+    is(&rt, cbs_advance(alloc, &mut house, 1), 0);
+    stands_at(&rt, alloc, &mut house, 12);
+    runs(&rt, alloc, &mut house, event(0, 0, 0, 0));
+    cbs_free(alloc, &mut house);
+    cbs_free(alloc, &mut soft);
+    cbs_free(alloc, &mut throttled);
+}
+
+#[test]
+fn refuses_handles_by_name(rt: HostRuntime) {
+    let alloc = rt.alloc();
+    let mut house = Kept::shut(alloc);
+    let mut clients = [Kept::shut(alloc), Kept::shut(alloc)];
+    let mut out = NO_EVENT;
+    is(&rt, cbs_run(alloc, &mut house, &mut out), NOT_OPEN);
+    assert_eq!(rt; out, NO_EVENT);
+    is(
+        &rt,
+        cbs_open(alloc, &SERVERS, 4, 4, &mut house, &mut clients),
+        0,
+    );
+    is(&rt, cbs_end(alloc, &mut house), OTHER_KIND);
+    let [mut client, _other] = clients;
+    is(&rt, cbs_run(alloc, &mut client, &mut out), OTHER_KIND);
+    let mut seq = 9;
+    is(&rt, cbs_send(alloc, &mut client, 1, 0, &mut seq), 0x401);
+    is(
+        &rt,
+        cbs_advance(alloc, &mut house, 1_000_000_000_001),
+        0x305,
+    );
+    is(&rt, cbs_end(alloc, &mut client), 0);
+    is(&rt, cbs_send(alloc, &mut client, 1, 1, &mut seq), 0x501);
+    assert_eq!(rt; (seq, out), (9, NO_EVENT));
+    cbs_free(alloc, &mut house);
+    is(&rt, cbs_run(alloc, &mut house, &mut out), NOT_OPEN);
+    cbs_free(alloc, &mut house);
+    cbs_free(alloc, &mut client);
+    is(&rt, cbs_end(alloc, &mut client), NOT_OPEN);
+}
+
+/// Opening is refused by this status.
+fn refuses(
+    rt: &impl Abort,
+    alloc: Global,
+    servers: &[Server],
+    backlog: u64,
+    ring: u64,
+    status: u32,
+) {
+    let mut house = Kept::shut(alloc);
+    let mut clients = [Kept::shut(alloc), Kept::shut(alloc)];
+    is(
+        rt,
+        cbs_open(alloc, servers, backlog, ring, &mut house, &mut clients),
+        status,
+    );
+    is(rt, cbs_end(alloc, &mut house), NOT_OPEN);
+}
+
+#[test]
+fn refuses_to_open_by_name(rt: HostRuntime) {
+    let alloc = rt.alloc();
+    let [soft, throttled] = SERVERS;
+    refuses(
+        &rt,
+        alloc,
+        &[soft, Server { budget: 0, ..soft }],
+        4,
+        4,
+        0x101,
+    );
+    refuses(
+        &rt,
+        alloc,
+        &[soft, Server { budget: 4, ..soft }],
+        4,
+        4,
+        0x203,
+    );
+    refuses(&rt, alloc, &[soft, Server { mode: 2, ..soft }], 4, 4, 0x604);
+    refuses(&rt, alloc, &[soft], 4, 4, 0x603);
+    refuses(&rt, alloc, &[soft, throttled], 0, 4, 0x301);
+    refuses(&rt, alloc, &[soft, throttled], 4, 1025, 0x302);
+    // 2 in 5 and 1 in 10 leave 5 in 10, and 2 in 4.
+    let mut budget = 9;
+    is(&rt, cbs_greatest_budget(&SERVERS, 10, &mut budget), 0);
+    assert_eq!(rt; budget, 5);
+    is(&rt, cbs_greatest_budget(&SERVERS, 4, &mut budget), 0);
+    assert_eq!(rt; budget, 2);
+    is(
+        &rt,
+        cbs_greatest_budget(&[Server { mode: 2, ..soft }], 4, &mut budget),
+        0x604,
+    );
+    assert_eq!(rt; budget, 2);
+}
+
+#[test]
+fn tells_a_text(rt: HostRuntime) {
+    let mut text = [b'-'; 16];
+    assert_eq!(rt; cbs_status_text(0x502, &mut text), 16);
+    assert_eq!(rt; text, *b"the ring is full");
+    let mut front = [b'-'; 4];
+    assert_eq!(rt; cbs_status_text(0x502, &mut front), 16);
+    assert_eq!(rt; front, *b"the ");
+    let mut more = [b'-'; 10];
+    assert_eq!(rt; cbs_status_text(0, &mut more), 8);
+    assert_eq!(rt; more, *b"no error--");
+}

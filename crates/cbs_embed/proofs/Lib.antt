@@ -1,0 +1,5 @@
+pub mod AsBox
+pub mod Tokens
+pub mod Openings
+pub mod Held
+pub mod Admissions

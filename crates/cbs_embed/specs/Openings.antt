@@ -1,0 +1,56 @@
+-- What opening a house puts into handles.
+use Rattle.std.specs.Prelude.{ℕ, ◌≡◌, ◌≢◌, ◌⊎◌, Option, Some, None, Result, Ok, Err, List, [], length, map}
+use Rattle.std.specs.List.{All, range_with_len}
+use Rattle.cbs_rate.specs.Rate.{Rate}
+use Rattle.cbs_rules.specs.declared.mode.Mode.{Mode}
+use Rattle.cbs_core.specs.Agreement.{Agrees}
+use Rattle.cbs_core.specs.Punctual.{IsPunctual}
+use Rattle.cbs_core.specs.Setups.{terms_of}
+use Rattle.cbs_core.specs.declared.step.Step.{Step}
+use Rattle.cbs_house.specs.Clients.{server_of}
+use Rattle.cbs_house.specs.Houses.{core_of, rings_of, received, known, results_of, handed_of}
+use Rattle.cbs_house.specs.Opened.{open_refusal, IsUnused}
+use Rattle.cbs_house.specs.RingEnds.{IsOpened}
+use Rattle.cbs_house.specs.declared.error.HouseError.{HouseError}
+use Rattle.cbs_house.specs.declared.error.HouseError.TheVariants.{OutOfMemory}
+use Rattle.cbs_embed.specs.Calls.{TheHouse, TheClient}
+use Rattle.cbs_embed.specs.Jobs.{counting}
+use Rattle.cbs_embed.specs.Plans.{setup_refusal, plan_with, modes_with, whole_processor}
+use Rattle.cbs_embed.specs.declared.setup.Server.{Server}
+use Rattle.cbs_embed.specs.declared.inside.Inside.{Inside}
+use Rattle.cbs_embed.specs.declared.inside.Inside.TheVariants.{House, Client}
+use Rattle.cbs_embed.specs.declared.job.UnitJob.{UnitJob}
+use Rattle.cbs_embed.specs.declared.refusal.KeptError.TheVariants.{WrongCount}
+use Rattle.cbs_embed.specs.declared.refusal.Refusal.{Refusal}
+use Rattle.cbs_embed.specs.declared.refusal.Refusal.TheVariants as refused
+
+-- One handle holds a house with nothing taken, and the others its clients, in order of their servers, which have sent nothing: all
+-- that is said of a house that is opened.
+pub record Opens (modes : List Mode) (rates : List Rate) (backlog ring : ℕ) (held : Option Inside) (others : List (Option Inside)) : Type 0 where
+  pub house : TheHouse
+  pub clients : List TheClient
+  pub holds : held ≡ Some (House house)
+  pub hold : others ≡ map (λ c. Some (Client c)) clients
+  pub agrees : Agrees counting (core_of house) (record { setup = record { servers = terms_of modes rates; backlog = backlog }; steps = [] })
+  pub empty : (s : ℕ) → (received house s ≡ []) × (known house s ≡ []) × (results_of house s ≡ []) × (handed_of house s ≡ 0)
+  pub servers : map server_of clients ≡ range_with_len 0 (length rates)
+  pub unused : All (IsUnused ring) clients
+  pub opened : All (IsOpened (rings_of house)) clients
+  pub punctual : (steps : List (Step UnitJob)) → IsPunctual counting (record { setup = record { servers = terms_of modes rates; backlog = backlog }; steps = steps })
+
+-- the same of a house of these servers
+abbrev pub OpensServers : List Server → ℕ → ℕ → Option Inside → List (Option Inside) → Type 0
+OpensServers servers backlog ring = Opens (modes_with [] servers) (plan_with whole_processor servers).rates backlog ring
+
+-- a house of so many servers, with so many handles for its clients, is not opened: by their count, or as a house is not, memory included
+abbrev pub RefusesOpening : ℕ → ℕ → ℕ → ℕ → Refusal → Type 0
+RefusesOpening servers handles backlog ring error =
+    ((handles ≢ servers) × (error ≡ refused.Kept WrongCount))
+    ⊎ ((handles ≡ servers) × ((why : HouseError) × (error ≡ refused.House why)
+    × ((open_refusal backlog ring ≡ Some why) ⊎ ((open_refusal backlog ring ≡ None) × (why ≡ OutOfMemory)))))
+
+-- it is opened where nothing refuses it; the first server that does not fit refuses it before all else
+abbrev pub OpensOrRefuses : List Server → ℕ → ℕ → ℕ → Result (Unit {0}) Refusal → Type 0
+OpensOrRefuses servers handles backlog ring (Ok x) = (setup_refusal whole_processor servers ≡ None) × (handles ≡ length servers) × (open_refusal backlog ring ≡ None)
+OpensOrRefuses servers handles backlog ring (Err error) =
+    (setup_refusal whole_processor servers ≡ Some error) ⊎ ((setup_refusal whole_processor servers ≡ None) × RefusesOpening (length servers) handles backlog ring error)

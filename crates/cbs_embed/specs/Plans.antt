@@ -1,0 +1,77 @@
+-- Which reservations make a plan.
+use Rattle.std.specs.Prelude.{ℕ, ◌≡◌, ◌+◌, ◌<◌, ◌&&◌, Bool, true, false, zero, suc, List, [], ◌∷◌, ◌++◌, Option, Some, None}
+use Rattle.std.specs.Option.{unwrap_or, is_none}
+use Rattle.cbs_rate.specs.Plan.{Planned, admit_refusal}
+use Rattle.cbs_rate.specs.Rate.{rate_refusal}
+use Rattle.cbs_rate.specs.declared.error.RateError.{RateError}
+use Rattle.cbs_rate.specs.declared.error.AdmitError.{AdmitError}
+use Rattle.cbs_embed.specs.declared.setup.Server.{Server}
+use Rattle.cbs_embed.specs.declared.setup.Setup.{Setup}
+use Rattle.cbs_rules.specs.declared.mode.Mode.{Mode}
+use Rattle.cbs_rules.specs.declared.mode.Mode.TheVariants.{Soft, Throttled}
+use Rattle.cbs_embed.specs.declared.refusal.KeptError.TheVariants.{BadMode}
+use Rattle.cbs_embed.specs.declared.refusal.Refusal.{Refusal}
+use Rattle.cbs_embed.specs.declared.refusal.Refusal.TheVariants as refused
+
+-- the mode of a number
+abbrev pub mode_from : ℕ → Option Mode
+mode_from zero = Some Soft
+mode_from (suc zero) = Some Throttled
+mode_from (suc (suc n)) = None
+
+-- why a mode is refused, or else what is asked next
+abbrev pub mode_refusal : Option Mode → Option Refusal → Option Refusal
+mode_refusal (Some m) rest = rest
+mode_refusal None rest = Some (refused.Kept BadMode)
+
+-- the first refusal of the three, or else the rest
+abbrev pub first_of : Option RateError → Option AdmitError → Option Mode → Option Refusal → Option Refusal
+first_of (Some e) b m rest = Some (refused.Rate e)
+first_of None (Some e) m rest = Some (refused.Admit e)
+first_of None None m rest = mode_refusal m rest
+
+-- why one server is refused, or else the rest
+abbrev pub server_refusal : Planned → Server → Option Refusal → Option Refusal
+server_refusal p r rest = first_of (rate_refusal r.budget r.period) (admit_refusal p (record { budget = r.budget; period = r.period })) (mode_from r.mode) rest
+
+-- the plan with one more server
+abbrev pub with_server : Planned → Server → Planned
+with_server p r = record p { rates = p.rates ++ record { budget = r.budget; period = r.period } ∷ [] }
+
+-- the modes with one more server's. Where its number is of no mode, its server is refused
+abbrev pub with_mode : List Mode → Server → List Mode
+with_mode modes r = modes ++ unwrap_or (mode_from r.mode) Soft ∷ []
+
+-- a plan with no server, whose servers may take all of the processor
+abbrev pub whole_processor : Planned
+whole_processor = record { bound = record { num = 1; den = 1 }; rates = [] }
+
+-- why these servers are refused, taken one after another, if one is
+unfoldable pub setup_refusal : Planned → List Server → Option Refusal
+setup_refusal p [] = None
+setup_refusal p (r ∷ rs) = server_refusal p r (setup_refusal (with_server p r) rs)
+
+-- the plan after all of them
+unfoldable pub plan_with : Planned → List Server → Planned
+plan_with p [] = p
+plan_with p (r ∷ rs) = plan_with (with_server p r) rs
+
+-- the modes after all of them
+unfoldable pub modes_with : List Mode → List Server → List Mode
+modes_with modes [] = modes
+modes_with modes (r ∷ rs) = modes_with (with_mode modes r) rs
+
+-- these servers are all admitted within the whole processor, and the setup has their reservations and modes, in order
+pub record IsSetupOf (servers : List Server) (setup : Setup) : Type 0 where
+  pub admitted : setup_refusal whole_processor servers ≡ None
+  pub plan : setup.plan ≡ plan_with whole_processor servers
+  pub modes : setup.modes ≡ modes_with [] servers
+
+-- whether the plan takes one more server of this budget and period
+abbrev pub fits_plan : Planned → ℕ → ℕ → Bool
+fits_plan p budget period = is_none (rate_refusal budget period) && is_none (admit_refusal p (record { budget = budget; period = period }))
+
+-- the plan takes a server of this budget, or the budget is 0; and it takes none with one tick more
+pub record IsGreatestBudget (p : Planned) (period budget : ℕ) : Type 0 where
+  pub fits : 0 < budget → fits_plan p budget period ≡ true
+  pub greatest : fits_plan p (budget + 1) period ≡ false

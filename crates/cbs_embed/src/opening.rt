@@ -1,0 +1,95 @@
+//! Opening a house with its clients, each in a handle.
+
+ghost use Rattle.std.specs.Prelude.{◌≡◌, IfOk, OnOk, OnErr, Some, length, map};
+ghost use Rattle.cbs_rate.specs.Refusals.{RefusesByOrMemory};
+ghost use Rattle.cbs_house.specs.Opened.{open_refusal};
+ghost use Rattle.cbs_embed.specs.Kepts.{held_by};
+ghost use Rattle.cbs_embed.specs.Openings.{Opens, OpensServers, OpensOrRefuses};
+ghost use Rattle.cbs_embed.specs.declared.inside.Inside.TheVariants as inside;
+
+use crate::inside::Inside;
+use crate::job::UnitJob;
+use crate::kept::Kept;
+use crate::planning::setup_of;
+use crate::refusal::{KeptError, Refusal};
+use crate::setup::{Server, Setup};
+use cbs_house::{Client, HouseError, open_house};
+use cbs_rate::Plan;
+use cbs_rules::Modes;
+use std::alloc::{AllocError, Global};
+use std::collections::VecDeque;
+
+/// Opens a house of these servers with its clients, each in a handle: there have to be as many handles as
+/// servers.
+///
+/// What the handles held is dropped, at success alone. Refuses by the first server that does not fit, as
+/// [`setup_of`]; by [`KeptError::WrongCount`]; and as [`open_house`]. All handles are then as they were.
+pub fn open(
+    alloc: Global,
+    servers: &[Server],
+    backlog: u64,
+    ring: u64,
+    house: &mut Kept,
+    clients: &mut [Kept],
+) -> Result<(), Refusal>
+    ensures ok { OnOk result (OpensServers servers.now backlog ring (held_by house.new) (map held_by clients.new)) }
+    ensures err { OnErr result ((house.new ≡ house.old) × (clients.new ≡ clients.old)) }
+    ensures refusal { OpensOrRefuses servers.now (length clients.old) backlog ring result }
+{
+    let Setup { plan, modes } = setup_of(servers)?;
+    if clients.len() != plan.len() {
+        return Err(Refusal::Kept(KeptError::WrongCount));
+    }
+    match open_boxes(alloc, plan, modes, backlog, ring) {
+        Ok((inside, ends)) => {
+            fill(clients, ends);
+            house.put(inside);
+            Ok(())
+        }
+        Err(error) => Err(Refusal::House(error)),
+    }
+}
+
+/// Opens a house with its clients, each in a box.
+fn open_boxes(
+    alloc: Global,
+    plan: Plan,
+    modes: Modes,
+    backlog: u64,
+    ring: u64,
+) -> Result<(Box<Inside>, Vec<Box<Inside>>), HouseError>
+    requires { length modes ≡ length plan.rates }
+    ensures ok { IfOk result (λ r. Opens modes plan.rates backlog ring (Some r.0.value) (map (λ b. Some b.value) r.1.items)) }
+    ensures refusal { RefusesByOrMemory HouseError.OutOfMemory result (open_refusal backlog ring) }
+{
+    let (house, clients) = open_house(alloc, plan, modes, backlog, ring)?;
+    let Ok(inside) = Box::new(alloc, Inside::House(house)) else {
+        return Err(HouseError::OutOfMemory);
+    };
+    let Ok(ends) = box_all(alloc, clients) else {
+        return Err(HouseError::OutOfMemory);
+    };
+    Ok((inside, ends))
+}
+
+/// Each client in a box.
+fn box_all(alloc: Global, clients: Vec<Client<UnitJob>>) -> Result<Vec<Box<Inside>>, AllocError>
+    ensures { IfOk result (λ boxes. map (λ b. Some b.value) boxes.items ≡ map (λ c. Some (inside.Client c)) clients.items) }
+{
+    let mut boxes = Vec::with_capacity(alloc, clients.len())?;
+    for client in clients {
+        boxes.push(Box::new(alloc, Inside::Client(client))?)?;
+    }
+    Ok(boxes)
+}
+
+/// Puts a box into each handle.
+fn fill(handles: &mut [Kept], boxes: Vec<Box<Inside>>)
+    requires { length handles.old ≡ length boxes.items }
+    ensures { map held_by handles.new ≡ map (λ b. Some b.value) boxes.items }
+{
+    let mut boxes = VecDeque::from(boxes);
+    for handle in handles.iter_mut() {
+        handle.put(boxes.pop_front().unwrap());
+    }
+}

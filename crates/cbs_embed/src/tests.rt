@@ -1,0 +1,97 @@
+//! That what C keeps may go to another thread, and that C is told the text of each error.
+
+use crate::{Inside, Kept, KeptError, Refusal, text_of};
+use cbs_house::{HouseError, SendError};
+use cbs_job::TaskError;
+use cbs_rate::{AdmitError, RateError};
+use std::alloc::Global;
+use std::fmt::Display;
+use std::process::Abort;
+
+/// Demands that what it is given may go to another thread.
+fn crossing<T: Send>(value: T) -> T {
+    value
+}
+
+#[test]
+fn may_cross(rt: HostRuntime) {
+    let alloc = rt.alloc();
+    let mut kept = crossing(Kept::shut(alloc));
+    let inside = kept.take(alloc).map(|inside: Box<Inside>| crossing(inside));
+    assert!(rt; inside.is_none());
+}
+
+/// C is told of this refusal what its error says.
+fn says(rt: &impl Abort, alloc: Global, error: &impl Display, refusal: Refusal, status: u32) {
+    let said = format!(in alloc; "{error}").expect(rt, "memory");
+    assert_eq!(rt; refusal.status(), status);
+    assert!(rt; text_of(status) == said.as_str());
+}
+
+#[test]
+fn reservations_are_refused_by_their_texts(rt: HostRuntime) {
+    let alloc = rt.alloc();
+    for (error, status) in [
+        (RateError::ZeroBudget, 0x101),
+        (RateError::PeriodTooLong, 0x102),
+        (RateError::BudgetOverPeriod, 0x103),
+        (RateError::BadBound, 0x104),
+    ] {
+        says(&rt, alloc, &error, Refusal::Rate(error), status);
+    }
+    for (error, status) in [
+        (AdmitError::TooManyServers, 0x201),
+        (AdmitError::PeriodsTooFine, 0x202),
+        (AdmitError::OverBound, 0x203),
+    ] {
+        says(&rt, alloc, &error, Refusal::Admit(error), status);
+    }
+}
+
+#[test]
+fn houses_and_clients_refuse_by_their_texts(rt: HostRuntime) {
+    let alloc = rt.alloc();
+    for (error, status) in [
+        (HouseError::BadBacklog, 0x301),
+        (HouseError::BadRing, 0x302),
+        (HouseError::OutOfMemory, 0x303),
+        (HouseError::NoSuchServer, 0x304),
+        (HouseError::ClockEnd, 0x305),
+        (HouseError::Stalled, 0x306),
+    ] {
+        says(&rt, alloc, &error, Refusal::House(error), status);
+    }
+    for (error, status) in [(TaskError::EmptyJob, 0x401), (TaskError::TooLong, 0x402)] {
+        says(&rt, alloc, &error, Refusal::Task(error), status);
+    }
+    for (error, status) in [(SendError::Ended, 0x501), (SendError::RingFull, 0x502)] {
+        says(&rt, alloc, &error, Refusal::Send(error), status);
+    }
+}
+
+#[test]
+fn handles_are_refused_by_texts_of_their_own(rt: HostRuntime) {
+    for (error, status, text) in [
+        (KeptError::NotOpen, 0x601, "the handle is not open"),
+        (
+            KeptError::OtherKind,
+            0x602,
+            "the handle is of the other kind",
+        ),
+        (
+            KeptError::WrongCount,
+            0x603,
+            "there are not as many clients as servers",
+        ),
+        (
+            KeptError::BadMode,
+            0x604,
+            "the mode is neither soft nor throttled",
+        ),
+    ] {
+        assert_eq!(rt; Refusal::Kept(error).status(), status);
+        assert!(rt; text_of(status) == text);
+    }
+    assert!(rt; text_of(0) == "no error");
+    assert!(rt; text_of(0x100) == "no such status" && text_of(0x605) == "no such status");
+}
