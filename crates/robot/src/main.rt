@@ -6,10 +6,12 @@ mod sensor;
 mod track;
 
 use anyhow::Result;
-use cbs_house::open_house;
+use cbs_house::{Client, House, open_house};
 use cbs_rate::{Bound, Plan, Reservation};
 use cbs_rules::{Mode, Modes};
 use sensor::{Fitting, Sensor};
+use std::alloc::Global;
+use track::TrackJob;
 
 /// The sensors, whose jobs have four units. That on the right is broken: it reads at every turn, where its server has
 /// one tick in four.
@@ -37,41 +39,68 @@ const FITTINGS: [Fitting; 3] = [
 /// How many turns the robot drives. Each is a tick; where time is real, it would be a millisecond, say.
 const TURNS: u64 = 48;
 
-fn main(rt: HostRuntime) -> Result<()> {
-    let alloc = rt.alloc();
+/// A reservation for each sensor.
+fn plan() -> Result<Plan> {
     let mut plan = Plan::new(Bound::new(1, 1)?);
     for fitting in FITTINGS {
         plan.admit(Reservation::new(fitting.budget, fitting.period)?)?;
     }
+    Ok(plan)
+}
+
+/// The house, with a server for each sensor, and the sensors.
+fn open(alloc: Global) -> Result<(House<TrackJob>, Vec<Sensor>)> {
+    let plan = plan()?;
     let modes = Modes::uniform(Mode::Soft, plan.len() as u16);
-    let (mut house, clients) = open_house(alloc, plan, modes, 4, 4)?;
+    let (house, clients) = open_house(alloc, plan, modes, 4, 4)?;
+    Ok((house, fitted(alloc, clients)?))
+}
+
+/// The sensors, each with a client.
+fn fitted(alloc: Global, clients: Vec<Client<TrackJob>>) -> Result<Vec<Sensor>> {
     let mut sensors = Vec::new(alloc);
     for (client, fitting) in clients.into_iter().zip(FITTINGS) {
         sensors.push(Sensor::new(fitting, client))?;
     }
+    Ok(sensors)
+}
+
+/// Takes what came of a sensor's readings, and prints it.
+fn follow(rt: &impl Print, house: &mut House<TrackJob>, sensor: &mut Sensor) -> Result<()> {
+    let name = sensor.fitting.name;
+    for result in house.take_results(sensor.server())? {
+        sensor.distance = u32::try_from(result)?;
+        println!(rt; "tick {}: {name} at {result} mm", house.now())?;
+    }
+    Ok(())
+}
+
+/// One turn of the robot: the sensors read, the house takes its turn, and the robot follows what came of it.
+fn drive(
+    rt: &impl Print,
+    alloc: Global,
+    turn: u64,
+    house: &mut House<TrackJob>,
+    sensors: &mut [Sensor],
+) -> Result<()> {
+    for sensor in sensors.iter_mut() {
+        sensor.read(alloc, turn)?;
+    }
+    house.turn();
+    for sensor in sensors.iter_mut() {
+        follow(rt, house, sensor)?;
+    }
+    Ok(())
+}
+
+fn main(rt: HostRuntime) -> Result<()> {
+    let alloc = rt.alloc();
+    let (mut house, mut sensors) = open(alloc)?;
     for turn in 0..TURNS {
-        for sensor in &mut sensors {
-            sensor.read(alloc, turn)?;
-        }
-        house.turn();
-        for sensor in &mut sensors {
-            for result in house.take_results(sensor.server())? {
-                sensor.distance = u32::try_from(result)?;
-                println!(rt;
-                    "tick {}: {} at {result} mm",
-                    house.now(),
-                    sensor.fitting.name
-                )?;
-            }
-        }
+        drive(&rt, alloc, turn, &mut house, &mut sensors)?;
     }
     for sensor in &sensors {
-        println!(rt;
-            "{}: {} jobs sent, {} refused",
-            sensor.fitting.name,
-            sensor.sent(),
-            sensor.refused
-        )?;
+        sensor.print(&rt)?;
     }
     Ok(())
 }

@@ -49,9 +49,10 @@ impl Sensor {
         self.client.server()
     }
 
-    /// How many jobs it has sent.
-    pub fn sent(&self) -> u64 {
-        self.client.sent()
+    /// Prints how many jobs it has sent, and how many a full ring refused.
+    pub fn print(&self, rt: &impl Print) -> Result<()> {
+        let (name, sent, refused) = (self.fitting.name, self.client.sent(), self.refused);
+        Ok(println!(rt; "{name}: {sent} jobs sent, {refused} refused")?)
     }
 
     /// Sends four readings as one job, where it reads at this turn.
