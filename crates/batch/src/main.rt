@@ -2,11 +2,13 @@
 #![tactic(auto)]
 
 use anyhow::{Result, ensure};
-use cbs_house::{OpenGate, open_feeds, serve};
+use cbs_house::{House, OpenGate, open_feeds, serve};
 use cbs_job::{SumJob, Task};
 use cbs_rate::{Bound, Plan, Reservation};
 use cbs_rules::{Mode, Modes};
 use std::alloc::Global;
+use std::thread::Threads;
+use std::time::Clock;
 
 /// The servers, each with the budget that it has in every ten ticks.
 const SERVERS: [(&str, u64); 3] = [("camera", 3), ("encoder", 5), ("telemetry", 1)];
@@ -21,27 +23,47 @@ fn list_of(alloc: Global, sums: &[[u32; 3]]) -> Result<Vec<Task<SumJob>>> {
     Ok(list)
 }
 
-fn main(rt: HostRuntime) -> Result<()> {
-    let alloc = rt.alloc();
+/// A reservation for each server.
+fn plan() -> Result<Plan> {
     let mut plan = Plan::new(Bound::new(1, 1)?);
     for (_name, budget) in SERVERS {
         plan.admit(Reservation::new(budget, 10)?)?;
     }
-    let modes = Modes::uniform(Mode::Soft, plan.len() as u16);
+    Ok(plan)
+}
+
+/// The jobs of each server.
+fn lists(alloc: Global) -> Result<Vec<Vec<Task<SumJob>>>> {
     let mut lists = Vec::new(alloc);
     lists.push(list_of(alloc, &[[1, 2, 3], [4, 5, 6]])?)?;
     lists.push(list_of(alloc, &[[7, 8, 9]])?)?;
     lists.push(list_of(alloc, &[[10, 20, 30], [40, 50, 60]])?)?;
-    ensure!(lists.len() == plan.len(), "not a list for each server");
+    Ok(lists)
+}
 
+/// Serves all jobs. The house, which has their results.
+fn serve_all<R: Threads + Clock + Sync>(rt: &R, alloc: Global) -> Result<House<SumJob>> {
+    let (plan, lists) = (plan()?, lists(alloc)?);
+    ensure!(lists.len() == plan.len(), "not a list for each server");
+    let modes = Modes::uniform(Mode::Soft, plan.len() as u16);
     let opened = open_feeds(alloc, plan, modes, 4, 4, lists);
     let (mut house, mut feeds) = opened.map_err(|refused| refused.error)?;
-    serve(&rt, &mut house, &mut feeds, &OpenGate)?;
+    serve(rt, &mut house, &mut feeds, &OpenGate)?;
+    Ok(house)
+}
 
+/// Prints the results of a server.
+fn print_results(rt: &impl Print, name: &str, results: &[u64]) -> Result<()> {
+    for result in results {
+        println!(rt; "{name}: {result}")?;
+    }
+    Ok(())
+}
+
+fn main(rt: HostRuntime) -> Result<()> {
+    let house = serve_all(&rt, rt.alloc())?;
     for (server, (name, _budget)) in SERVERS.iter().enumerate() {
-        for result in house.results(server as u16)? {
-            println!(rt; "{name}: {result}")?;
-        }
+        print_results(&rt, name, house.results(server as u16)?)?;
     }
     Ok(())
 }

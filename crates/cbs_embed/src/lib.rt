@@ -23,6 +23,3 @@ pub use planning::{greatest_budget, mode_of, setup_of};
 pub use refusal::{KeptError, Refusal};
 pub use setup::{Server, Setup};
 pub use texts::text_of;
-
-#[cfg(test)]
-mod tests;

@@ -3,7 +3,7 @@
 #![tactic(auto)]
 
 use anyhow::{Context, Result};
-use cbs_house::{Client, Poll, open_house};
+use cbs_house::{Client, House, Poll, open_house};
 use cbs_job::{SumJob, Task};
 use cbs_rate::{Bound, Plan, Reservation};
 use cbs_rules::{Mode, Modes};
@@ -17,30 +17,51 @@ fn send(alloc: Global, client: &mut Client<SumJob>, numbers: [u32; 2]) -> Result
     Ok(number)
 }
 
-fn main(rt: HostRuntime) -> Result<()> {
-    let alloc = rt.alloc();
+/// Sends two jobs, and ends.
+fn send_all(alloc: Global, client: &mut Client<SumJob>) -> Result<()> {
+    send(alloc, client, [2, 3])?;
+    send(alloc, client, [40, 2])?;
+    Ok(client.end()?)
+}
+
+/// A house with one server, of two ticks in every five, and its client.
+fn open(alloc: Global) -> Result<(House<SumJob>, Client<SumJob>)> {
     let mut plan = Plan::new(Bound::new(1, 1)?);
     plan.admit(Reservation::new(2, 5)?)?;
     let modes = Modes::uniform(Mode::Soft, plan.len() as u16);
-    let (mut house, mut clients) = open_house(alloc, plan, modes, 4, 4)?;
-    let mut client = clients.pop().context("a client for each server")?;
+    let (house, mut clients) = open_house(alloc, plan, modes, 4, 4)?;
+    let client = clients.pop().context("a client for each server")?;
+    Ok((house, client))
+}
 
-    send(alloc, &mut client, [2, 3])?;
-    send(alloc, &mut client, [40, 2])?;
-    client.end()?;
+/// Takes the client's next message, and prints by when a job is promised.
+fn poll(rt: &impl Print, house: &mut House<SumJob>) -> Result<()> {
+    if let Poll::Took(number) = house.poll(0) {
+        let tick = house.promised(0).context("a job is held")?;
+        println!(rt; "job {number} accepted: promised by tick {tick}")?;
+    }
+    Ok(())
+}
 
+/// Runs one unit, and prints the job that it finished, if it did.
+fn run(rt: &impl Print, house: &mut House<SumJob>) -> Result<()> {
+    let done = house.results(0)?.len();
+    house.run();
+    if let Some(result) = house.results(0)?.get(done) {
+        println!(rt; "job {done} done at tick {}: {result}", house.now())?;
+    }
+    Ok(())
+}
+
+fn main(rt: HostRuntime) -> Result<()> {
+    let alloc = rt.alloc();
+    let (mut house, mut client) = open(alloc)?;
+    send_all(alloc, &mut client)?;
     for _message in 0..3 {
-        if let Poll::Took(number) = house.poll(0) {
-            let tick = house.promised(0).context("a job is held")?;
-            println!(rt; "job {number} accepted: promised by tick {tick}")?;
-        }
+        poll(&rt, &mut house)?;
     }
     for _unit in 0..4 {
-        let done = house.results(0)?.len();
-        house.run();
-        if let Some(result) = house.results(0)?.get(done) {
-            println!(rt; "job {done} done at tick {}: {result}", house.now())?;
-        }
+        run(&rt, &mut house)?;
     }
     Ok(())
 }

@@ -7,7 +7,7 @@ mod finished;
 
 ghost use Rattle.std.specs.Thread.{IsSync};
 
-use anyhow::{Result, bail, ensure};
+use anyhow::{Result, ensure};
 use cbs_house::{Client, House, HouseError, open_house};
 use cbs_job::SumJob;
 use cbs_rate::{Bound, Plan, Reservation};
@@ -41,31 +41,54 @@ fn run_together<R: Threads + Clock + Sync>(
     )
 }
 
-fn main(rt: HostRuntime) -> Result<()> {
-    let alloc = rt.alloc();
+/// The house and the clients, with a server for each. Telemetry gets its budget and no more; the other two may have
+/// what is left.
+fn open(alloc: Global) -> Result<(House<SumJob>, Vec<Client<SumJob>>)> {
+    let plan = plan()?;
+    let mut modes = Modes::uniform(Mode::Soft, 2);
+    modes.push(Mode::Throttled);
+    ensure!(modes.len() == plan.len(), "not a mode for each server");
+    Ok(open_house(alloc, plan, modes, 4, 4)?)
+}
+
+/// A reservation for each client.
+fn plan() -> Result<Plan> {
     let mut plan = Plan::new(Bound::new(1, 1)?);
     for (_name, budget) in CLIENTS {
         plan.admit(Reservation::new(budget, 10)?)?;
     }
-    // Telemetry gets its budget and no more; the other two may have what is left.
-    let mut modes = Modes::uniform(Mode::Soft, 2);
-    modes.push(Mode::Throttled);
-    ensure!(modes.len() == plan.len(), "not a mode for each server");
-    let (mut house, mut clients) = open_house(alloc, plan, modes, 4, 4)?;
-    let mut finished = Finished::none();
-    let (sent, run) = run_together(&rt, alloc, &mut clients, &mut house, &mut finished);
-    run?;
-    if !sent {
-        bail!("a client could not send all its jobs");
+    Ok(plan)
+}
+
+/// Prints how many jobs of a client are finished, the first results, and the last.
+fn print_results(rt: &impl Print, name: &str, finished: u64, results: &[u64]) -> Result<()> {
+    print!(rt; "{name}: {finished} jobs finished:")?;
+    for result in results.iter().take(5) {
+        print!(rt; " {result}")?;
     }
+    let last = results.last().copied().unwrap_or(0);
+    Ok(println!(rt; " .. {last}")?)
+}
+
+/// Runs until all clients have ended. The house, which has their results.
+fn run_all<R: Threads + Clock + Sync>(
+    rt: &R,
+    alloc: Global,
+    finished: &mut Finished,
+) -> Result<House<SumJob>> {
+    let (mut house, mut clients) = open(alloc)?;
+    let (sent, run) = run_together(rt, alloc, &mut clients, &mut house, finished);
+    run?;
+    ensure!(sent, "a client could not send all its jobs");
+    Ok(house)
+}
+
+fn main(rt: HostRuntime) -> Result<()> {
+    let mut finished = Finished::none();
+    let house = run_all(&rt, rt.alloc(), &mut finished)?;
     for (server, (name, _budget)) in CLIENTS.iter().enumerate() {
         let server = server as u16;
-        let results = house.results(server)?;
-        print!(rt; "{name}: {} jobs finished:", finished.count(server))?;
-        for result in results.iter().take(5) {
-            print!(rt; " {result}")?;
-        }
-        println!(rt; " .. {}", results.last().copied().unwrap_or(0))?;
+        print_results(&rt, name, finished.count(server), house.results(server)?)?;
     }
     Ok(())
 }

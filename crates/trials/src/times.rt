@@ -34,12 +34,16 @@ fn print_row<R: Print + Threads + Clock + Sync>(
         if brief {
             print!(rt; " {:>9}", case.time(rt, alloc, servers, BRIEFLY)?.made)?;
         } else {
-            let tenths = best(rt, alloc, case, servers)?;
-            print!(rt; " {:>7}.{}", tenths / 10, tenths % 10)?;
+            print_tenths(rt, best(rt, alloc, case, servers)?)?;
         }
     }
     println!(rt)?;
     Ok(())
+}
+
+/// Prints a number of tenths.
+fn print_tenths(rt: &impl Print, tenths: u128) -> Result<()> {
+    Ok(print!(rt; " {:>7}.{}", tenths / 10, tenths % 10)?)
 }
 
 /// The best of some times: nanoseconds for each, in tenths.

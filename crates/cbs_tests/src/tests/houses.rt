@@ -5,6 +5,7 @@ mod closing;
 mod collecting;
 mod errors;
 mod handing;
+mod handles;
 mod in_time;
 mod meeting;
 mod memory;

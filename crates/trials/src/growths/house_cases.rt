@@ -32,14 +32,25 @@ pub fn new_house(rt: &impl Print, alloc: Global) -> Result<()> {
     Ok(())
 }
 
-/// Feeds of two clients.
-pub fn feeds(rt: &impl Print, alloc: Global) -> Result<()> {
+/// The clients of a house of two servers.
+fn two_clients(alloc: Global) -> Result<Vec<Client<SumJob>>> {
     let plan = plan_of(&[(2, 5), (2, 5)])?;
     let modes = Modes::uniform(Mode::Soft, plan.len() as u16);
     let (_house, clients) = open_house(alloc, plan, modes, 4, 4)?;
+    Ok(clients)
+}
+
+/// A list of one job, and one of none.
+fn two_lists(alloc: Global) -> Result<Vec<Vec<Task<SumJob>>>> {
     let mut lists = Vec::with_capacity(alloc, 2)?;
     lists.push(Vec::from_array(alloc, [unit_of(alloc, 5)?])?)?;
     lists.push(Vec::new(alloc))?;
+    Ok(lists)
+}
+
+/// Feeds of two clients.
+pub fn feeds(rt: &impl Print, alloc: Global) -> Result<()> {
+    let (clients, lists) = (two_clients(alloc)?, two_lists(alloc)?);
     ensure!(clients.len() == lists.len(), "not a list for each client");
     begin(rt);
     if let Some(back) = fed(rt, alloc, clients, lists) {
@@ -182,11 +193,19 @@ fn drains(rt: &impl Print, house: &mut House<SumJob>) {
     tell(rt, "results", house.results(0));
 }
 
-/// A poll of a ring with two messages.
-pub fn poll(rt: &impl Print, alloc: Global) -> Result<()> {
-    let (mut house, mut client) = house_of_one(alloc)?;
+/// A house of one server, and its client, which has sent two jobs.
+fn two_sent(rt: &impl Print, alloc: Global) -> Result<(House<SumJob>, Client<SumJob>)>
+    ensures { IfOk result (λ r. IsOpened (rings_of r.0) r.1) }
+{
+    let (house, mut client) = house_of_one(alloc)?;
     sends(rt, &mut client, unit_of(alloc, 5)?);
     sends(rt, &mut client, unit_of(alloc, 7)?);
+    Ok((house, client))
+}
+
+/// A poll of a ring with two messages.
+pub fn poll(rt: &impl Print, alloc: Global) -> Result<()> {
+    let (mut house, mut client) = two_sent(rt, alloc)?;
     begin(rt);
     polls(rt, "first", &mut house);
     settles(rt, &mut house, &mut client);
@@ -207,9 +226,7 @@ fn hands_out(rt: &impl Print, what: &str, house: &mut House<SumJob>) {
 
 /// Results that are handed out while a job is held.
 pub fn take_results(rt: &impl Print, alloc: Global) -> Result<()> {
-    let (mut house, mut client) = house_of_one(alloc)?;
-    sends(rt, &mut client, unit_of(alloc, 5)?);
-    sends(rt, &mut client, unit_of(alloc, 7)?);
+    let (mut house, _client) = two_sent(rt, alloc)?;
     polls(rt, "poll", &mut house);
     polls(rt, "poll", &mut house);
     tell(rt, "run", house.run());

@@ -55,10 +55,7 @@ fn read_line(alloc: Global, load: &mut Load, line: &str) -> Result<()> {
     let mut words = line.split_whitespace();
     match words.next() {
         Some("server") => {
-            let reservation = Reservation::new(number(&mut words)?, number(&mut words)?)?;
-            load.plan.admit(reservation)?;
-            ensure!(load.modes.len() < MAX_SERVERS, "too many servers");
-            load.modes.push(read_mode(&mut words)?);
+            read_server(load, &mut words)?;
             load.jobs.push(Vec::new(alloc))?;
         }
         Some("job") => {
@@ -68,6 +65,15 @@ fn read_line(alloc: Global, load: &mut Load, line: &str) -> Result<()> {
         }
         _ => bail!("neither a server nor a job"),
     }
+    Ok(())
+}
+
+/// Takes the reservation and the mode of one more server.
+fn read_server(load: &mut Load, words: &mut SplitWhitespace<'_>) -> Result<()> {
+    let reservation = Reservation::new(number(words)?, number(words)?)?;
+    load.plan.admit(reservation)?;
+    ensure!(load.modes.len() < MAX_SERVERS, "too many servers");
+    load.modes.push(read_mode(words)?);
     Ok(())
 }
 

@@ -21,16 +21,22 @@ pub fn run_steps(
     let mut core = core_of(alloc, servers, least, mode)?;
     fill(&mut core, servers, 4, LONG)?;
     let start = Instant::now(rt)?;
-    for _step in 0..steps {
-        if let Ran::Idle = core.run() {
-            core.advance(1)?;
-        }
-    }
+    run_or_wait(&mut core, steps)?;
     let spent = start.elapsed(rt)?;
     Ok(Timing {
         spent,
         made: core.now(),
     })
+}
+
+/// So many run steps, with an advance by a tick after each that finds all servers throttled.
+fn run_or_wait(core: &mut Core<CountJob>, steps: u64) -> Result<()> {
+    for _step in 0..steps {
+        if let Ran::Idle = core.run() {
+            core.advance(1)?;
+        }
+    }
+    Ok(())
 }
 
 /// Jobs of one unit, 64 of each server at a time: their submits and their units.

@@ -17,9 +17,7 @@ use std::time::{Clock, Instant};
 
 /// Polls of empty rings, of all servers in turn.
 pub fn polls(rt: &impl Clock, alloc: Global, servers: u16, polls: u64) -> Result<Timing> {
-    let plan = plan_of(servers, 1)?;
-    let modes = Modes::uniform(Mode::Soft, plan.len() as u16);
-    let (mut house, _clients) = open_house(alloc, plan, modes, BACKLOG, 64)?;
+    let mut house = idle_house(alloc, servers)?;
     let turns = polls / u64::from(servers.max(1));
     let start = Instant::now(rt)?;
     for _turn in 0..turns {
@@ -28,6 +26,14 @@ pub fn polls(rt: &impl Clock, alloc: Global, servers: u16, polls: u64) -> Result
     let spent = start.elapsed(rt)?;
     let made = turns.saturating_mul(u64::from(servers));
     Ok(Timing { spent, made })
+}
+
+/// A house whose clients are gone.
+fn idle_house(alloc: Global, servers: u16) -> Result<House<CountJob>> {
+    let plan = plan_of(servers, 1)?;
+    let modes = Modes::uniform(Mode::Soft, plan.len() as u16);
+    let (house, _clients) = open_house(alloc, plan, modes, BACKLOG, 64)?;
+    Ok(house)
 }
 
 /// Polls each server once. Whether all rings were empty.
@@ -53,14 +59,20 @@ pub fn messages<R: Threads + Clock + Sync>(
     serve(rt, &mut house, &mut feeds, &OpenGate)?;
     let spent = start.elapsed(rt)?;
     for server in 0..servers {
-        let results = house.results(server)?.len() as u64;
-        ensure!(
-            results == each,
-            "server {server} has {results} results of {each}"
-        );
+        wants_results(&house, server, each)?;
     }
     let made = each.saturating_mul(u64::from(servers));
     Ok(Timing { spent, made })
+}
+
+/// Refuses a house whose server has another number of results.
+fn wants_results(house: &House<CountJob>, server: u16, wanted: u64) -> Result<()> {
+    let results = house.results(server)?.len() as u64;
+    ensure!(
+        results == wanted,
+        "server {server} has {results} results of {wanted}"
+    );
+    Ok(())
 }
 
 /// A house, and a feed of so many jobs of one unit for each server.

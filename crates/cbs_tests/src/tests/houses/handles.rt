@@ -1,6 +1,7 @@
-//! That what C keeps may go to another thread, and that C is told the text of each error.
+//! That what a handle keeps may go to another thread, and the text of each status.
 
-use crate::{Inside, Kept, KeptError, Refusal, text_of};
+use crate::tests::{same, says};
+use cbs_embed::{Inside, Kept, KeptError, Refusal, text_of};
 use cbs_house::{HouseError, SendError};
 use cbs_job::TaskError;
 use cbs_rate::{AdmitError, RateError};
@@ -21,11 +22,10 @@ fn may_cross(rt: HostRuntime) {
     assert!(rt; inside.is_none());
 }
 
-/// C is told of this refusal what its error says.
-fn says(rt: &impl Abort, alloc: Global, error: &impl Display, refusal: Refusal, status: u32) {
-    let said = format!(in alloc; "{error}").expect(rt, "memory");
-    assert_eq!(rt; refusal.status(), status);
-    assert!(rt; text_of(status) == said.as_str());
+/// A refusal is told by this status, and the status by the text of its error.
+fn tells(rt: &impl Abort, alloc: Global, error: &impl Display, refusal: Refusal, status: u32) {
+    same(rt, "status", refusal.status(), status);
+    says(rt, alloc, error, text_of(status));
 }
 
 #[test]
@@ -37,14 +37,14 @@ fn reservations_are_refused_by_their_texts(rt: HostRuntime) {
         (RateError::BudgetOverPeriod, 0x103),
         (RateError::BadBound, 0x104),
     ] {
-        says(&rt, alloc, &error, Refusal::Rate(error), status);
+        tells(&rt, alloc, &error, Refusal::Rate(error), status);
     }
     for (error, status) in [
         (AdmitError::TooManyServers, 0x201),
         (AdmitError::PeriodsTooFine, 0x202),
         (AdmitError::OverBound, 0x203),
     ] {
-        says(&rt, alloc, &error, Refusal::Admit(error), status);
+        tells(&rt, alloc, &error, Refusal::Admit(error), status);
     }
 }
 
@@ -59,14 +59,20 @@ fn houses_and_clients_refuse_by_their_texts(rt: HostRuntime) {
         (HouseError::ClockEnd, 0x305),
         (HouseError::Stalled, 0x306),
     ] {
-        says(&rt, alloc, &error, Refusal::House(error), status);
+        tells(&rt, alloc, &error, Refusal::House(error), status);
     }
     for (error, status) in [(TaskError::EmptyJob, 0x401), (TaskError::TooLong, 0x402)] {
-        says(&rt, alloc, &error, Refusal::Task(error), status);
+        tells(&rt, alloc, &error, Refusal::Task(error), status);
     }
     for (error, status) in [(SendError::Ended, 0x501), (SendError::RingFull, 0x502)] {
-        says(&rt, alloc, &error, Refusal::Send(error), status);
+        tells(&rt, alloc, &error, Refusal::Send(error), status);
     }
+}
+
+/// A handle is refused by this status, and the status has this text.
+fn refused(rt: &impl Abort, error: KeptError, status: u32, text: &str) {
+    same(rt, "status", Refusal::Kept(error).status(), status);
+    same(rt, "text", text_of(status), text);
 }
 
 #[test]
@@ -89,9 +95,13 @@ fn handles_are_refused_by_texts_of_their_own(rt: HostRuntime) {
             "the mode is neither soft nor throttled",
         ),
     ] {
-        assert_eq!(rt; Refusal::Kept(error).status(), status);
-        assert!(rt; text_of(status) == text);
+        refused(&rt, error, status, text);
     }
-    assert!(rt; text_of(0) == "no error");
-    assert!(rt; text_of(0x100) == "no such status" && text_of(0x605) == "no such status");
+}
+
+#[test]
+fn no_other_status_has_a_text(rt: HostRuntime) {
+    same(&rt, "text", text_of(0), "no error");
+    same(&rt, "text", text_of(0x100), "no such status");
+    same(&rt, "text", text_of(0x605), "no such status");
 }
