@@ -19,12 +19,15 @@ const TURNS: u64 = 100_000;
 /// Jobs of three servers, of which the second has none.
 fn job_lists(alloc: Global) -> Result<Vec<Vec<Task<SumJob>>>> {
     let mut lists = Vec::with_capacity(alloc, 3)?;
-    let first = [sum_of(alloc, [1, 2, 3])?, unit_of(alloc, 9)?];
-    lists.push(Vec::from_array(alloc, first)?)?;
+    lists.push(list_of(alloc, sum_of(alloc, [1, 2, 3])?, unit_of(alloc, 9)?)?)?;
     lists.push(Vec::new(alloc))?;
-    let last = [unit_of(alloc, 10)?, sum_of(alloc, [20, 30, 0])?];
-    lists.push(Vec::from_array(alloc, last)?)?;
+    lists.push(list_of(alloc, unit_of(alloc, 10)?, sum_of(alloc, [20, 30, 0])?)?)?;
     Ok(lists)
+}
+
+/// A list of two jobs.
+fn list_of(alloc: Global, first: Task<SumJob>, second: Task<SumJob>) -> Result<Vec<Task<SumJob>>> {
+    Ok(Vec::from_array(alloc, [first, second])?)
 }
 
 /// A house of three servers, and a feed of the jobs of each.

@@ -42,17 +42,23 @@ fn run_or_wait(core: &mut Core<CountJob>, steps: u64) -> Result<()> {
 /// Jobs of one unit, 64 of each server at a time: their submits and their units.
 pub fn submits(rt: &impl Clock, alloc: Global, servers: u16, jobs: u64) -> Result<Timing> {
     let mut core = core_of(alloc, servers, 1, Mode::Soft)?;
-    let batch = 64 * u64::from(servers);
     let start = Instant::now(rt)?;
-    for _round in 0..jobs / batch.max(1) {
-        fill(&mut core, servers, 64, 1)?;
-        run_batch(&mut core, batch);
-    }
+    run_batches(&mut core, servers, jobs)?;
     let spent = start.elapsed(rt)?;
     Ok(Timing {
         spent,
         made: core.now(),
     })
+}
+
+/// So many jobs of one unit, 64 of each server at a time, all of which are run before the next.
+fn run_batches(core: &mut Core<CountJob>, servers: u16, jobs: u64) -> Result<()> {
+    let batch = 64 * u64::from(servers);
+    for _round in 0..jobs / batch.max(1) {
+        fill(core, servers, 64, 1)?;
+        run_batch(core, batch);
+    }
+    Ok(())
 }
 
 /// So many run steps.
@@ -67,12 +73,18 @@ pub fn advances(rt: &impl Clock, alloc: Global, servers: u16, ticks: u64) -> Res
     let mut core = core_of(alloc, servers, 1, Mode::Soft)?;
     fill(&mut core, servers, 1, LONG)?;
     let start = Instant::now(rt)?;
-    for _tick in 0..ticks {
-        core.advance(1)?;
-    }
+    advance_by_ticks(&mut core, ticks)?;
     let spent = start.elapsed(rt)?;
     Ok(Timing {
         spent,
         made: core.now(),
     })
+}
+
+/// So many advances by one tick.
+fn advance_by_ticks(core: &mut Core<CountJob>, ticks: u64) -> Result<()> {
+    for _tick in 0..ticks {
+        core.advance(1)?;
+    }
+    Ok(())
 }

@@ -20,9 +20,7 @@ pub fn polls(rt: &impl Clock, alloc: Global, servers: u16, polls: u64) -> Result
     let mut house = idle_house(alloc, servers)?;
     let turns = polls / u64::from(servers.max(1));
     let start = Instant::now(rt)?;
-    for _turn in 0..turns {
-        ensure!(poll_all(&mut house), "a ring is not empty");
-    }
+    poll_turns(&mut house, turns)?;
     let spent = start.elapsed(rt)?;
     let made = turns.saturating_mul(u64::from(servers));
     Ok(Timing { spent, made })
@@ -34,6 +32,14 @@ fn idle_house(alloc: Global, servers: u16) -> Result<House<CountJob>> {
     let modes = Modes::uniform(Mode::Soft, plan.len() as u16);
     let (house, _clients) = open_house(alloc, plan, modes, BACKLOG, 64)?;
     Ok(house)
+}
+
+/// So many turns of polls.
+fn poll_turns(house: &mut House<CountJob>, turns: u64) -> Result<()> {
+    for _turn in 0..turns {
+        ensure!(poll_all(house), "a ring is not empty");
+    }
+    Ok(())
 }
 
 /// Polls each server once. Whether all rings were empty.
@@ -58,21 +64,21 @@ pub fn messages<R: Threads + Clock + Sync>(
     let start = Instant::now(rt)?;
     serve(rt, &mut house, &mut feeds, &OpenGate)?;
     let spent = start.elapsed(rt)?;
-    for server in 0..servers {
-        wants_results(&house, server, each)?;
-    }
-    let made = each.saturating_mul(u64::from(servers));
+    let made = count_results(&house)?;
+    ensure!(
+        made == each.saturating_mul(u64::from(servers)),
+        "{made} results"
+    );
     Ok(Timing { spent, made })
 }
 
-/// Refuses a house whose server has another number of results.
-fn wants_results(house: &House<CountJob>, server: u16, wanted: u64) -> Result<()> {
-    let results = house.results(server)?.len() as u64;
-    ensure!(
-        results == wanted,
-        "server {server} has {results} results of {wanted}"
-    );
-    Ok(())
+/// How many results all servers have.
+fn count_results(house: &House<CountJob>) -> Result<u64> {
+    let mut count = 0u64;
+    for server in 0..house.servers() {
+        count = count.saturating_add(house.results(server)?.len() as u64);
+    }
+    Ok(count)
 }
 
 /// A house, and a feed of so many jobs of one unit for each server.
