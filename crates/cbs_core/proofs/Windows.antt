@@ -1,5 +1,5 @@
 -- What a server takes in any window of a history.
-use Rattle.std.proofs.Common.{◌≡◌, ℕ, ◌<◌, List, [], length, arith}
+use Rattle.std.proofs.Common.{ℕ, ◌<◌, List, [], length, arith}
 use Rattle.std.proofs.lemmas.List.{length-map}
 use Rattle.cbs_job.specs.Work.{Meaning}
 use Rattle.cbs_rate.specs.Plan.{all_periods}

@@ -1,7 +1,8 @@
 -- What the rest of this crate sees of the queues of jobs. Private words of this crate.
-use Rattle.std.specs.Prelude.{◌≡◌, ◌≤◌, ℕ, eqb, if◌then◌else◌, List, [], ◌∷◌, length, drop, get_or, Option, Some, None}
+use Rattle.std.specs.Prelude.{◌≡◌, ◌≤◌, ℕ, ◌+◌, ◌%◌, ◌^◌, eqb, if◌then◌else◌, List, [], ◌∷◌, map, length, drop, get_or, Option, Some, None}
 use Rattle.std.specs.List.{sum_by, AllByRecursion}
 use Rattle.cbs_job.specs.Work.{Meaning}
+use Rattle.cbs_core.specs.declared.queues.QueuedJob.{QueuedJob}
 use Rattle.cbs_core.specs.declared.reply.Ran.{Ran}
 use Rattle.cbs_core.specs.declared.reply.Ran.TheVariants as ran
 
@@ -15,12 +16,21 @@ module _ {W : Type 0} where
   abbrev pub list_at : List (List W) → ℕ → List W
   list_at lists s = get_or lists s []
 
-  -- so many units are left of the jobs behind the first together, of each no more than a task may have, and there
-  -- are no more jobs than a backlog holds
-  pub record IsBehind (work : Meaning W) (jobs : List W) (units : ℕ) : Type 0 where
-    pub total : units ≡ sum_by work.left (drop 1 jobs)
-    pub short : AllByRecursion (λ w. work.left w ≤ 1000000) (drop 1 jobs)
-    pub few : length jobs ≤ 4096
+  -- the jobs of a queue
+  abbrev pub jobs_of : List (QueuedJob W) → List W
+  jobs_of queue = map (λ queued. queued.job) queue
+
+  -- what was taken in with each job, and what is left of those behind it, is what its server has taken in
+  abbrev pub AreCounted : Meaning W → List (QueuedJob W) → ℕ → Type 0
+  AreCounted work [] total = Unit
+  AreCounted work (first ∷ behind) total = ((first.taken_in + sum_by work.left (jobs_of behind)) % 2 ^ 64 ≡ total) × AreCounted work behind total
+
+  -- a queue whose server has taken in so many units: each job behind the first has no more units than a task may have,
+  -- and there are no more jobs than a backlog holds
+  pub record IsCounted (work : Meaning W) (queue : List (QueuedJob W)) (total : ℕ) : Type 0 where
+    pub counted : AreCounted work queue total
+    pub short : AllByRecursion (λ job. work.left job ≤ 1000000) (jobs_of (drop 1 queue))
+    pub few : length queue ≤ 4096
 
   -- the jobs after a unit of the first, which goes where the unit was its last
   abbrev pub jobs_run : Meaning W → List W → List W

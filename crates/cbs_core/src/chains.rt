@@ -102,8 +102,8 @@ impl<T: Drop, A: Allocator> Chains<T, A> {
     {
         // No list has more values, and a usize counts as many.
         let _capacity = self.nodes.capacity();
-        let key = self.nodes.insert_reserved(Node { value, next: 0 });
         let ends = self.ends[usize::from(server)];
+        let key = self.nodes.insert_reserved(Node { value, next: 0 });
         self.ends[usize::from(server)] = link(&mut self.nodes, ends, key);
     }
 
@@ -114,13 +114,10 @@ impl<T: Drop, A: Allocator> Chains<T, A> {
         ensures lists { self.new.lists ≡ changed_at (drop 1) self.old.lists server }
         ensures kept { KeepsRoom self.old.rooms self.new.rooms }
     {
-        let ends = self.ends[usize::from(server)];
+        let ends = &mut self.ends[usize::from(server)];
         let node = self.nodes.remove(ends.head);
-        self.ends[usize::from(server)] = Ends {
-            head: node.next,
-            tail: ends.tail,
-            len: ends.len - 1,
-        };
+        ends.head = node.next;
+        ends.len -= 1;
         node.value
     }
 

@@ -44,8 +44,9 @@ pub struct Core<W: Work, A: Allocator = Global> {
     alloc: A,
     backlog: u64,
     clock: u64,
-    servers: Servers<A>,
+    // In front of the servers, whose list of the ready ones is long.
     queues: Queues<W, A>,
+    servers: Servers<A>,
 }
 
 impl<W: Work, A: Allocator> Model for Core<W, A> {

@@ -1,6 +1,6 @@
 //! The jobs of all servers, in one queue for each.
 
-ghost use Rattle.std.specs.Prelude.{◌≡◌, ◌<◌, [], ◌∷◌, ◌++◌, length, replicate, drop, IfOk, OnOk, IsOk};
+ghost use Rattle.std.specs.Prelude.{◌≡◌, ◌+◌, ◌%◌, ◌^◌, ◌<◌, [], ◌∷◌, ◌++◌, length, replicate, drop, IfOk, OnOk, IsOk};
 ghost use Rattle.std.specs.List.{sum_by, AllByRecursion};
 ghost use Rattle.cbs_core.specs.Fronts.{front_output};
 ghost use Rattle.cbs_core.specs.Held.{room_of, KeepsRoom};
@@ -12,23 +12,41 @@ use cbs_job::{Running, Task, Work};
 use std::alloc::{AllocError, Allocator, Global};
 use std::marker::Model;
 
+/// A job in its queue.
+#[derive(Drop)]
+struct QueuedJob<W: Work> {
+    job: Running<W>,
+    // How many units its server had taken in once it had come in, modulo 2^64.
+    taken_in: u64,
+}
+
 /// The jobs of all servers, in one queue for each.
 #[derive(Drop)]
 pub struct Queues<W: Work, A: Allocator = Global> {
-    jobs: Chains<Running<W>, A>,
-    // How many units the jobs of each server behind its first have left: a unit of the first changes none.
-    behind: Vec<u64, A>,
+    jobs: Chains<QueuedJob<W>, A>,
+    // How many units each server has taken in, modulo 2^64. What came in behind a job is the difference.
+    taken_in: Vec<u64, A>,
 }
 
 impl<W: Work, A: Allocator> Model for Queues<W, A> {
+    ghost use Rattle.std.specs.Prelude.{map};
     ghost use Rattle.std.specs.List.{AllZip};
-    ghost use Rattle.cbs_core.specs.Queues.{Queued, IsBehind};
+    ghost use Rattle.cbs_core.specs.Queues.{Queued, jobs_of, IsCounted};
 
     ghost Value = { Queued W };
 
-    ghost view = { λ q. q.jobs };
+    ghost view = { λ q. record { lists = map jobs_of q.jobs.lists; rooms = q.jobs.rooms } };
 
-    ghost invariant = { λ q. AllZip (IsBehind W.meaning) q.jobs.lists q.behind.items };
+    ghost invariant = { λ q. AllZip (IsCounted W.meaning) q.jobs.lists q.taken_in.items };
+}
+
+impl<W: Work> QueuedJob<W> {
+    /// How many units came in behind it, where its server has taken in so many.
+    fn behind(&self, taken_in: u64) -> u64
+        ensures { (self.now.taken_in + result) % 2 ^ 64 ≡ taken_in }
+    {
+        taken_in.wrapping_sub(self.taken_in)
+    }
 }
 
 impl<W: Work, A: Allocator> Queues<W, A> {
@@ -38,13 +56,13 @@ impl<W: Work, A: Allocator> Queues<W, A> {
         A: Clone,
         ensures empty { IfOk result (λ q. q.lists ≡ replicate servers []) }
     {
-        let mut behind = Vec::with_capacity(alloc.clone()?, usize::from(servers))?;
+        let mut taken_in = Vec::with_capacity(alloc.clone()?, usize::from(servers))?;
         for _server in 0..servers {
-            behind.push(0)?;
+            taken_in.push(0)?;
         }
         Ok(Queues {
             jobs: Chains::new(alloc, servers)?,
-            behind,
+            taken_in,
         })
     }
 
@@ -54,7 +72,9 @@ impl<W: Work, A: Allocator> Queues<W, A> {
         ensures { result ≡ sum_by W.meaning.left (list_at self.now.lists server) }
     {
         match self.jobs.first(server) {
-            Some(job) => u64::from(job.left()) + self.behind[usize::from(server)],
+            Some(first) => {
+                u64::from(first.job.left()) + first.behind(self.taken_in[usize::from(server)])
+            }
             None => 0,
         }
     }
@@ -64,8 +84,8 @@ impl<W: Work, A: Allocator> Queues<W, A> {
         requires { server < length self.now.lists }
         ensures { result ≡ front_output W.meaning (list_at self.now.lists server) }
     {
-        let job = self.jobs.first(server)?;
-        Some(job.output())
+        let first = self.jobs.first(server)?;
+        Some(first.job.output())
     }
 
     /// Makes room for one more job of a server.
@@ -87,15 +107,17 @@ impl<W: Work, A: Allocator> Queues<W, A> {
         ensures lists { self.new.lists ≡ changed_at (λ jobs. jobs ++ task ∷ []) self.old.lists server }
         ensures some { 0 < W.meaning.left task }
     {
-        if self.jobs.first(server).is_some() {
-            self.behind[usize::from(server)] += u64::from(task.left());
-        }
-        self.jobs.push(server, task.start());
+        let units = u64::from(task.left());
+        let taken_in = self.taken_in[usize::from(server)].wrapping_add(units);
+        self.taken_in[usize::from(server)] = taken_in;
+        let job = task.start();
+        self.jobs.push(server, QueuedJob { job, taken_in });
     }
 
     /// Runs one unit of the first job of a server. If that was its last, the job leaves the queue,
     /// and its output is answered.
     #[tactic(auto, using(crate::proofs::QueueRuns::job_there))]
+    #[inline(always)]
     pub fn run_first(&mut self, server: u16) -> Option<u64>
         requires some { 0 < length (list_at self.old.lists server) }
         requires unfinished { AllByRecursion (λ w. 0 < W.meaning.left w) (list_at self.old.lists server) }
@@ -103,27 +125,13 @@ impl<W: Work, A: Allocator> Queues<W, A> {
         ensures result { result ≡ result_run W.meaning (list_at self.old.lists server) }
         ensures kept { KeepsRoom self.old.rooms self.new.rooms }
     {
-        let job = self.jobs.first_mut(server);
+        let job = &mut self.jobs.first_mut(server).job;
         job.step();
         if job.left() > 0 {
             return None;
         }
         let result = job.output();
-        self.pop(server);
-        Some(result)
-    }
-
-    /// Takes the first job of a server out of its queue. The one behind it, if there is one, is the first then.
-    // Out of line, for most units are not the last of their job.
-    #[inline(never)]
-    fn pop(&mut self, server: u16)
-        requires some { 0 < length (list_at self.old.lists server) }
-        ensures lists { self.new.lists ≡ changed_at (drop 1) self.old.lists server }
-        ensures kept { KeepsRoom self.old.rooms self.new.rooms }
-    {
         self.jobs.pop(server);
-        if let Some(next) = self.jobs.first(server) {
-            self.behind[usize::from(server)] -= u64::from(next.left());
-        }
+        Some(result)
     }
 }

@@ -45,7 +45,7 @@ impl ReadyList {
 
     /// Follows a server, which was ready by a deadline or was not, and is so now. One that stays ready
     /// by another deadline, or is no longer ready, must come first.
-    #[inline]
+    #[inline(always)]
     pub fn follow(&mut self, server: u16, was: Option<u128>, is: Option<u128>)
         requires known { server < 64 }
         requires ordered { IsOrdered self.old }
@@ -63,10 +63,8 @@ impl ReadyList {
         }
     }
 
-    // It stands out of line, since most units change nothing.
-
     /// A server becomes ready.
-    #[inline(never)]
+    #[inline]
     fn insert(&mut self, server: u16, deadline: u128)
         requires known { server < 64 }
         requires absent { listed self.old server ≡ None }
@@ -99,9 +97,22 @@ impl ReadyList {
         if self.entries.len() == 1 {
             self.entries.set_first(Entry { deadline, server });
         } else {
-            self.remove_first();
-            self.insert(server, deadline);
+            self.move_first(server, deadline);
         }
+    }
+
+    /// The first server gets another deadline, and with it another place.
+    // Out of line, for most units change nothing.
+    #[inline(never)]
+    fn move_first(&mut self, server: u16, deadline: u128)
+        requires known { server < 64 }
+        requires first { first_of self.old ≡ Some server }
+        ensures ordered { IsOrdered self.new }
+        ensures here { listed self.new server ≡ Some deadline }
+        ensures others { (t : ℕ) → t ≢ server → listed self.new t ≡ listed self.old t }
+    {
+        self.remove_first();
+        self.insert(server, deadline);
     }
 }
 

@@ -1,6 +1,6 @@
 //! One server, but for its jobs.
 
-ghost use Rattle.std.specs.Prelude.{◌≡◌, ◌+◌, ◌<◌, ◌≤◌, ◌^◌, true, Some};
+ghost use Rattle.std.specs.Prelude.{◌≡◌, ℕ, ◌+◌, ◌<◌, ◌≤◌, ◌^◌, false, true, Some};
 ghost use Rattle.cbs_core.specs.Faces.{new_face, is_active, is_ready, ready_by, backlog_of, refuses_close, refuses_submit, view_of, with_job, with_unit, with_replenishment, with_close};
 ghost use Rattle.cbs_core.specs.IdleSpans.{wait};
 ghost use Rattle.cbs_core.specs.Promised.{promised_by};
@@ -52,6 +52,13 @@ impl Server {
         ensures { result ≡ self.now.finished }
     {
         self.finished
+    }
+
+    /// How many jobs it has accepted.
+    pub fn accepted(&self) -> u64
+        ensures { result ≡ self.now.accepted }
+    {
+        self.accepted
     }
 
     /// The tick by which it may use its budget.
@@ -171,19 +178,32 @@ impl Server {
         }
     }
 
-    /// A job comes in at tick `now`. Answers the job's number.
-    pub fn accept(&mut self, now: u64) -> u64
-        requires clock { now ≤ LIMIT }
+    /// A job comes in, where it has others. Answers the job's number.
+    pub fn accept_behind(&mut self) -> u64
+        requires active { is_active self.old ≡ true }
         requires few { self.old.accepted + 1 < 2 ^ 64 }
-        ensures face { self.new ≡ with_job now self.old }
+        ensures face { (now : ℕ) → self.new ≡ with_job now self.old }
         ensures number { result ≡ self.old.accepted }
     {
-        if !self.is_active() && !self.state.throttled() {
-            self.state.arrive_idle(self.mode, now);
-        }
         let number = self.accepted;
         self.accepted += 1;
         number
+    }
+
+    /// A job comes in at tick `now`, where it has none. Answers the deadline by which it then runs, if it is ready.
+    pub fn accept_first(&mut self, now: u64) -> Option<u128>
+        requires clock { now ≤ LIMIT }
+        requires idle { is_active self.old ≡ false }
+        requires few { self.old.accepted + 1 < 2 ^ 64 }
+        ensures face { self.new ≡ with_job now self.old }
+        ensures ready { result ≡ ready_by self.new }
+    {
+        self.accepted += 1;
+        if self.state.throttled() {
+            return None;
+        }
+        self.state.arrive_idle(self.mode, now);
+        Some(self.deadline())
     }
 
     /// Uses one tick of the budget, for a unit that finished a job or did not. Answers true only where

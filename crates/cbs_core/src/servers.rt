@@ -1,10 +1,10 @@
 //! All servers, but for their jobs: the choice among them, and what the rules do to them.
 
-ghost use Rattle.std.specs.Prelude.{◌≡◌, ◌≢◌, ℕ, ◌+◌, ◌-◌, ◌<◌, ◌≤◌, ◌^◌, Some, IfOk, OnOk, length, map, slice_get};
+ghost use Rattle.std.specs.Prelude.{◌≡◌, ◌≢◌, ℕ, ◌+◌, ◌-◌, ◌<◌, ◌≤◌, ◌^◌, false, Some, IfOk, OnOk, length, map, slice_get};
 ghost use Rattle.cbs_rate.specs.Plan.{IsPlan};
 ghost use Rattle.cbs_core.specs.Lists.{changed_at};
 ghost use Rattle.cbs_core.specs.Choice.{chosen_among, IsChoice};
-ghost use Rattle.cbs_core.specs.Faces.{new_face, face_at, ready_by, ranks, close_refusal, submit_refusal, view_reply, with_job, with_unit, with_replenishment, with_close};
+ghost use Rattle.cbs_core.specs.Faces.{new_face, face_at, is_active, ready_by, ranks, close_refusal, submit_refusal, view_reply, with_job, with_unit, with_replenishment, with_close};
 ghost use Rattle.cbs_core.specs.IdleSpans.{span_from};
 ghost use Rattle.cbs_core.specs.Promised.{promised_by};
 ghost use Rattle.cbs_core.specs.ReadyList.{listed, IsOrdered, ListsReady, IsNotDueBefore, NoneDueBefore};
@@ -153,10 +153,27 @@ impl<A: Allocator> Servers<A> {
         let it = &mut self.servers[usize::from(server)];
         // A job behind others changes no place in the list.
         if it.is_active() {
-            return it.accept(now);
+            return it.accept_behind();
         }
-        let number = it.accept(now);
-        self.ready.follow(server, None, it.ready_by());
+        self.accept_first(server, now)
+    }
+
+    /// A job comes in for a server that has none, at tick `now`. Answers the job's number.
+    // Out of line, for most jobs of a busy server come in behind others.
+    #[inline(never)]
+    #[tactic(auto, using(crate::proofs::Lists::written))]
+    fn accept_first(&mut self, server: u16, now: u64) -> u64
+        requires within { server < length self.old }
+        requires clock { now ≤ LIMIT }
+        requires idle { is_active (face_at self.old server) ≡ false }
+        requires few { (face_at self.old server).accepted + 1 < 2 ^ 64 }
+        ensures servers { self.new ≡ changed_at (with_job now) self.old server }
+        ensures number { result ≡ (face_at self.old server).accepted }
+    {
+        let it = &mut self.servers[usize::from(server)];
+        let number = it.accepted();
+        let ready_by = it.accept_first(now);
+        self.ready.follow(server, None, ready_by);
         number
     }
 

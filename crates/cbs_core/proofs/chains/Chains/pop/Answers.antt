@@ -7,28 +7,28 @@ use Rattle.cbs_core.proofs.chains.Chains.pop.Goals as goal
 pub remove-node-requires : goal.remove-node-requires
 remove-node-requires g c =
     let some = rw (← c.self.view_is) at c.requires.some in
-    let read = ends_read _ _ _ _ c.from.ensures (within_list _ _ _ some) c.index-ends.ensures in
+    let read = ends_read _ _ _ _ c.from.ensures (within_list _ _ _ some) c.index_mut-ends.ensures.value in
     rw read (head_held _ _ _ c.self.invariant some)
 
 pub invariant_of-self : goal.invariant_of-self
 invariant_of-self g c =
     let some = rw (← c.self.view_is) at c.requires.some in
-    let read = ends_read _ _ _ _ c.from.ensures (within_list _ _ _ some) c.index-ends.ensures in
-    rw (c.from-2.ensures, read)
+    let read = ends_read _ _ _ _ c.from.ensures (within_list _ _ _ some) c.index_mut-ends.ensures.value in
+    rw (c.from.ensures, read)
     (sound_popped _ _ _ c.self.invariant some _ _ (rw read at c.remove-node.ensures.value)
     (rw read at c.remove-node.ensures.updates.others) c.remove-node.ensures.len)
 
 pub returns-clause-value : goal.returns-clause-value
 returns-clause-value g c =
     let some = rw (← c.self.view_is) at c.requires.some in
-    let read = ends_read _ _ _ _ c.from.ensures (within_list _ _ _ some) c.index-ends.ensures in
+    let read = ends_read _ _ _ _ c.from.ensures (within_list _ _ _ some) c.index_mut-ends.ensures.value in
     rw (← c.self.view_is) (first_value _ _ _ c.self.invariant some _ (rw read at c.remove-node.ensures.value))
 
 pub returns-clause-lists : goal.returns-clause-lists
 returns-clause-lists g c =
     let some = rw (← c.self.view_is) at c.requires.some in
-    let read = ends_read _ _ _ _ c.from.ensures (within_list _ _ _ some) c.index-ends.ensures in
-    rw (← c.self.view_is, c.from-2.ensures, read)
+    let read = ends_read _ _ _ _ c.from.ensures (within_list _ _ _ some) c.index_mut-ends.ensures.value in
+    rw (← c.self.view_is, c.from.ensures, read)
     (lists_popped _ _ _ c.self.invariant some _ _ (rw read at c.remove-node.ensures.value)
     (rw read at c.remove-node.ensures.updates.others))
 

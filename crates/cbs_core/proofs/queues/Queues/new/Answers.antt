@@ -1,8 +1,17 @@
-use Rattle.std.proofs.Common.{◌≡◌, arith}
-use Rattle.cbs_core.proofs.UnitsBehind.{behind_none}
+use Rattle.std.proofs.Common.{◌≡◌, ℕ, zero, suc, List, [], ◌∷◌, map, replicate, refl, ap, arith}
+use Rattle.cbs_core.specs.Queues.{jobs_of}
+use Rattle.cbs_core.proofs.UnitsTakenIn.{counted_none}
 use Rattle.cbs_core.proofs.queues.Queues.new.Goals as goal
 
 pub invariant_of-result : goal.invariant_of-result
 invariant_of-result g c =
     let all : c.loop-server._server ≡ c.args.servers = omega arith in
-    rw (c.in_ok-new.ensures.empty, c.loop-server.invariant, all) (behind_none g.W.Work.meaning c.args.servers)
+    rw (c.in_ok-new.ensures.empty, c.loop-server.invariant, all) (counted_none g.W.Work.meaning c.args.servers)
+
+-- empty queues have no jobs
+no_jobs : {W : Type 0} (n : ℕ) → map jobs_of (replicate n []) ≡ replicate {A = List W} n []
+no_jobs zero = refl
+no_jobs (suc n) = ap (λ lists. [] ∷ lists) (no_jobs n)
+
+pub returns : goal.returns
+returns g c = record { empty = rw (c.in_ok-new.ensures.empty) (no_jobs c.args.servers) }

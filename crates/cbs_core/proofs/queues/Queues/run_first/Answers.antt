@@ -1,23 +1,33 @@
-use Rattle.std.proofs.Common.{◌∙◌, arith}
+use Rattle.std.proofs.Common.{refl, drop, map, ap, ◌∙◌, arith}
+use Rattle.cbs_core.specs.Lists.{changed_at}
+use Rattle.cbs_core.specs.Queues.{jobs_of}
+use Rattle.cbs_core.proofs.QueuedJobs.{job_first, jobs_stepped, jobs_popped}
 use Rattle.cbs_core.proofs.QueueRuns.{job_stays, job_leaves}
-use Rattle.cbs_core.proofs.UnitsBehind.{all_stepped}
+use Rattle.cbs_core.proofs.UnitsTakenIn.{all_stepped, all_popped}
 use Rattle.cbs_core.proofs.queues.Queues.run_first.Goals as goal
-
-pub returns-then-left-gt0-clause-lists : goal.returns-then-left-gt0-clause-lists
-returns-then-left-gt0-clause-lists g c =
-    rw (← c.self.view_is) (job_stays g.W.Work.meaning _ _ _ _ _ c.first_mut-job.ensures.value c.step.ensures.after (omega arith))
-
-pub returns-clause-lists : goal.returns-clause-lists
-returns-clause-lists g c =
-    rw (← c.self.view_is)
-    (c.pop.ensures.lists ∙ job_leaves g.W.Work.meaning _ _ _ _ _ c.first_mut-job.ensures.value c.step.ensures.after (omega arith))
 
 pub invariant_of-self : goal.invariant_of-self
 invariant_of-self g c =
-    let is = rw (← c.self.view_is) at c.requires in
-    all_stepped g.W.Work.meaning c.self.inside.jobs.lists c.self.inside.behind.items c.self.invariant c.args.server _ is.some
+    all_stepped g.W.Work.meaning c.self.inside.jobs.lists c.self.inside.taken_in.items c.self.invariant c.args.server _ _ c.first_mut.ensures.value refl
 
 pub invariant_of-self-2 : goal.invariant_of-self-2
 invariant_of-self-2 g c =
-    let is = rw (← c.self.view_is) at c.requires in
-    all_stepped g.W.Work.meaning c.self.inside.jobs.lists c.self.inside.behind.items c.self.invariant c.args.server _ is.some
+    rw (c.pop.ensures.lists)
+    (all_popped g.W.Work.meaning _ c.self.inside.taken_in.items
+    (all_stepped g.W.Work.meaning c.self.inside.jobs.lists c.self.inside.taken_in.items c.self.invariant c.args.server _ _ c.first_mut.ensures.value refl)
+    c.args.server)
+
+pub returns-then-left-gt0-clause-lists : goal.returns-then-left-gt0-clause-lists
+returns-then-left-gt0-clause-lists g c =
+    let queues = c.self.inside.jobs.lists in
+    rw (← c.self.view_is)
+    (jobs_stepped queues c.args.server _
+    ∙ job_stays g.W.Work.meaning (map jobs_of queues) c.args.server _ _ _ (job_first queues c.args.server _ c.first_mut.ensures.value) c.step.ensures.after (omega arith))
+
+pub returns-clause-lists : goal.returns-clause-lists
+returns-clause-lists g c =
+    let queues = c.self.inside.jobs.lists in
+    rw (← c.self.view_is, c.pop.ensures.lists)
+    (jobs_popped _ c.args.server
+    ∙ ap (λ lists. changed_at (drop 1) lists c.args.server) (jobs_stepped queues c.args.server _)
+    ∙ job_leaves g.W.Work.meaning (map jobs_of queues) c.args.server _ _ _ (job_first queues c.args.server _ c.first_mut.ensures.value) c.step.ensures.after (omega arith))

@@ -1,6 +1,6 @@
 use Rattle.std.proofs.Common.{◌≡◌, ◌<◌, length, get_or, sym, ◌∙◌, rules}
 use Rattle.cbs_core.specs.ReadyList.{IsNotDueBefore}
-use Rattle.cbs_core.proofs.ReadyServers.{lists_same, ready_behind, lists_set, due_set, due_job, due_at}
+use Rattle.cbs_core.proofs.ReadyServers.{lists_same, ready_behind, due_set, due_job, due_at}
 use Rattle.cbs_core.proofs.servers.Servers.accept.Goals as goal
 
 pub invariant_of-self : goal.invariant_of-self
@@ -9,28 +9,12 @@ invariant_of-self g c =
     let fs = old.servers.items in
     let s = c.args.server in
     let x = c.index_mut-it.result.now in
-    let y = c.accept.new.self in
+    let y = c.accept_behind.new.self in
     let within : s < length fs = rw (← c.self.view_is) at c.requires.within in
     let read : x ≡ get_or fs s x = rw c.from.ensures at c.index_mut-it.ensures.value in
     let due : IsNotDueBefore old.due x = rw read (due_at old.due fs s x within c.self.invariant.2) in
     let behind = ready_behind c.args.now x (sym c.is_active.ensures ∙ c.if-is_active.true) in (
       search rules,
-      rw c.from.ensures (lists_same fs old.ready s x y c.self.invariant.1 within read (rw c.accept.ensures.face behind)),
-      rw c.from.ensures (due_set old.due fs s y c.self.invariant.2 (rw c.accept.ensures.face (due_job old.due c.args.now x due))),
-    )
-
-pub invariant_of-self-2 : goal.invariant_of-self-2
-invariant_of-self-2 g c =
-    let old = c.self.inside in
-    let fs = old.servers.items in
-    let s = c.args.server in
-    let x = c.index_mut-it.result.now in
-    let y = c.accept-number.new.self in
-    let f = c.follow.ensures in
-    let within : s < length fs = rw (← c.self.view_is) at c.requires.within in
-    let read : x ≡ get_or fs s x = rw c.from.ensures at c.index_mut-it.ensures.value in
-    let due : IsNotDueBefore old.due x = rw read (due_at old.due fs s x within c.self.invariant.2) in (
-      search rules,
-      rw c.from.ensures (lists_set fs old.ready c.follow.new.self s y c.self.invariant.1 within f.ordered (f.here ∙ c.ready_by.ensures) f.others),
-      rw c.from.ensures (due_set old.due fs s y c.self.invariant.2 (rw c.accept-number.ensures.face (due_job old.due c.args.now x due))),
+      rw c.from.ensures (lists_same fs old.ready s x y c.self.invariant.1 within read (rw (c.accept_behind.ensures.face c.args.now) behind)),
+      rw c.from.ensures (due_set old.due fs s y c.self.invariant.2 (rw (c.accept_behind.ensures.face c.args.now) (due_job old.due c.args.now x due))),
     )
