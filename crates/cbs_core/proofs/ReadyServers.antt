@@ -147,7 +147,7 @@ pub due_ready : (tick : ℕ) (f : Face) → is_ready f ≡ true → IsNotDueBefo
 due_ready tick f h t = absurd (elim (cases_Bool (is_active f)) [ inl a ↦ let no = rw (a, t) at h in cc | inr a ↦ let no = rw a at h in cc ])
 
 -- a server among those of whom nobody is due
-pub due_at : (tick : ℕ) (fs : List Face) (i : ℕ) (d : Face) → i < length fs → NoneDueBefore tick fs → IsNotDueBefore tick (get_or fs i d)
+due_at : (tick : ℕ) (fs : List Face) (i : ℕ) (d : Face) → i < length fs → NoneDueBefore tick fs → IsNotDueBefore tick (get_or fs i d)
 due_at tick [] i d lt all = absurd (omega arith)
 due_at tick (f ∷ fs) zero d lt all = all.0
 due_at tick (f ∷ fs) (suc i) d lt all = due_at tick fs i d (omega arith) all.1
@@ -183,7 +183,7 @@ arrived_free now f a u t = elim (cases_Bool (is_renewed f.terms.mode f.terms.res
 ]
 
 -- a job that comes in makes nobody due earlier
-pub due_job : (tick now : ℕ) (f : Face) → IsNotDueBefore tick f → IsNotDueBefore tick (with_job now f)
+due_job : (tick now : ℕ) (f : Face) → IsNotDueBefore tick f → IsNotDueBefore tick (with_job now f)
 due_job tick now f h t = elim (cases_Bool (is_active f)) [
   | inl a ↦ rw a (h (rw a at t))
   | inr a ↦ elim (cases_Bool f.state.throttled) [
@@ -191,6 +191,10 @@ due_job tick now f h t = elim (cases_Bool (is_active f)) [
     | inr u ↦ absurd (arrived_free now f a u t)
   ]
 ]
+
+-- a job that comes in for a server makes nobody due
+pub due_taken : (tick now : ℕ) (fs : List Face) (i : ℕ) (f : Face) → i < length fs → f ≡ get_or fs i f → NoneDueBefore tick fs → NoneDueBefore tick (set fs i (with_job now f))
+due_taken tick now fs i f within read all = due_set tick fs i (with_job now f) all (due_job tick now f (rw read (due_at tick fs i f within all)))
 
 -- the first i are changed, and the others not yet
 abbrev pub swept : {X : Type 0} → (X → X) → List X → ℕ → List X

@@ -67,14 +67,12 @@ impl<T: Drop, A: Allocator> Chains<T, A> {
         A: Clone,
         ensures empty { IfOk result (λ c. c.lists ≡ replicate servers []) }
     {
-        let mut ends = Vec::with_capacity(alloc.clone()?, usize::from(servers))?;
-        for _server in 0..servers {
-            ends.push(Ends {
-                head: 0,
-                tail: 0,
-                len: 0,
-            })?;
-        }
+        let empty = Ends {
+            head: 0,
+            tail: 0,
+            len: 0,
+        };
+        let ends = vec![in alloc.clone()?; empty; usize::from(servers)]?;
         Ok(Chains {
             nodes: Slab::new(alloc.clone()?),
             ends,

@@ -56,10 +56,7 @@ impl<W: Work, A: Allocator> Queues<W, A> {
         A: Clone,
         ensures empty { IfOk result (λ q. q.lists ≡ replicate servers []) }
     {
-        let mut taken_in = Vec::with_capacity(alloc.clone()?, usize::from(servers))?;
-        for _server in 0..servers {
-            taken_in.push(0)?;
-        }
+        let taken_in = vec![in alloc.clone()?; 0; usize::from(servers)]?;
         Ok(Queues {
             jobs: Chains::new(alloc, servers)?,
             taken_in,

@@ -1,11 +1,14 @@
-use Rattle.std.proofs.Common.{◌≡◌, arith}
+use Rattle.std.proofs.Common.{◌≡◌, replicate}
+use Rattle.cbs_core.specs.Chains.{no_ends}
 use Rattle.cbs_core.proofs.ChainKeys.{lists_opened, sound_opened}
 use Rattle.cbs_core.proofs.chains.Chains.new.Goals as goal
 
 pub invariant_of-result : goal.invariant_of-result
-invariant_of-result g c = rw (c.new.ensures.empty, c.loop-server.invariant) (sound_opened c.loop-server._server)
+invariant_of-result g c =
+    let empty : c.in_ok-ends.ends.items ≡ replicate c.args.servers no_ends = rw c.from.ensures at c.in_ok-ends.ensures.items_if_clones_equal (λ y same. same) in
+    rw (c.new.ensures.empty, empty) (sound_opened c.args.servers)
 
 pub returns : goal.returns
 returns g c =
-    let all : c.loop-server._server ≡ c.args.servers = omega arith in
-    record { empty = rw (c.loop-server.invariant, all) (lists_opened c.new.result.slots c.args.servers) }
+    let empty : c.in_ok-ends.ends.items ≡ replicate c.args.servers no_ends = rw c.from.ensures at c.in_ok-ends.ensures.items_if_clones_equal (λ y same. same) in
+    record { empty = rw empty (lists_opened c.new.result.slots c.args.servers) }

@@ -1,12 +1,12 @@
-use Rattle.std.proofs.Common.{◌≡◌, ℕ, zero, suc, List, [], ◌∷◌, map, replicate, refl, ap, arith}
+use Rattle.std.proofs.Common.{◌≡◌, ℕ, zero, suc, List, [], ◌∷◌, map, replicate, refl, ap}
 use Rattle.cbs_core.specs.Queues.{jobs_of}
 use Rattle.cbs_core.proofs.UnitsTakenIn.{counted_none}
 use Rattle.cbs_core.proofs.queues.Queues.new.Goals as goal
 
 pub invariant_of-result : goal.invariant_of-result
 invariant_of-result g c =
-    let all : c.loop-server._server ≡ c.args.servers = omega arith in
-    rw (c.in_ok-new.ensures.empty, c.loop-server.invariant, all) (counted_none g.W.Work.meaning c.args.servers)
+    let totals : c.in_ok-taken_in.taken_in.items ≡ replicate c.args.servers 0 = rw c.from.ensures at c.in_ok-taken_in.ensures.items_if_clones_equal (λ y same. same) in
+    rw (c.in_ok-new.ensures.empty, totals) (counted_none g.W.Work.meaning c.args.servers)
 
 -- empty queues have no jobs
 no_jobs : {W : Type 0} (n : ℕ) → map jobs_of (replicate n []) ≡ replicate {A = List W} n []

@@ -1,6 +1,5 @@
 use Rattle.std.proofs.Common.{◌≡◌, ◌<◌, length, get_or, sym, ◌∙◌, rules}
-use Rattle.cbs_core.specs.ReadyList.{IsNotDueBefore}
-use Rattle.cbs_core.proofs.ReadyServers.{lists_same, ready_behind, due_set, due_job, due_at}
+use Rattle.cbs_core.proofs.ReadyServers.{lists_same, ready_behind, due_taken}
 use Rattle.cbs_core.proofs.servers.Servers.accept.Goals as goal
 
 pub invariant_of-self : goal.invariant_of-self
@@ -12,9 +11,8 @@ invariant_of-self g c =
     let y = c.accept_behind.new.self in
     let within : s < length fs = rw (← c.self.view_is) at c.requires.within in
     let read : x ≡ get_or fs s x = rw c.from.ensures at c.index_mut-it.ensures.value in
-    let due : IsNotDueBefore old.due x = rw read (due_at old.due fs s x within c.self.invariant.2) in
     let behind = ready_behind c.args.now x (sym c.is_active.ensures ∙ c.if-is_active.true) in (
       search rules,
       rw c.from.ensures (lists_same fs old.ready s x y c.self.invariant.1 within read (rw (c.accept_behind.ensures.face c.args.now) behind)),
-      rw c.from.ensures (due_set old.due fs s y c.self.invariant.2 (rw (c.accept_behind.ensures.face c.args.now) (due_job old.due c.args.now x due))),
+      rw (c.from.ensures, c.accept_behind.ensures.face c.args.now) (due_taken old.due c.args.now fs s x within read c.self.invariant.2),
     )

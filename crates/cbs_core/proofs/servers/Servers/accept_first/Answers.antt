@@ -1,6 +1,5 @@
 use Rattle.std.proofs.Common.{◌≡◌, ◌<◌, length, get_or, ◌∙◌, rules}
-use Rattle.cbs_core.specs.ReadyList.{IsNotDueBefore}
-use Rattle.cbs_core.proofs.ReadyServers.{lists_set, due_set, due_job, due_at}
+use Rattle.cbs_core.proofs.ReadyServers.{lists_set, due_taken}
 use Rattle.cbs_core.proofs.servers.Servers.accept_first.Goals as goal
 
 pub invariant_of-self : goal.invariant_of-self
@@ -12,9 +11,8 @@ invariant_of-self g c =
     let y = c.accept_first-ready_by.new.self in
     let f = c.follow.ensures in
     let within : s < length fs = rw (← c.self.view_is) at c.requires.within in
-    let read : x ≡ get_or fs s x = rw c.from.ensures at c.index_mut-it.ensures.value in
-    let due : IsNotDueBefore old.due x = rw read (due_at old.due fs s x within c.self.invariant.2) in (
+    let read : x ≡ get_or fs s x = rw c.from.ensures at c.index_mut-it.ensures.value in (
       search rules,
       rw c.from.ensures (lists_set fs old.ready c.follow.new.self s y c.self.invariant.1 within f.ordered (f.here ∙ c.accept_first-ready_by.ensures.ready) f.others),
-      rw c.from.ensures (due_set old.due fs s y c.self.invariant.2 (rw c.accept_first-ready_by.ensures.face (due_job old.due c.args.now x due))),
+      rw (c.from.ensures, c.accept_first-ready_by.ensures.face) (due_taken old.due c.args.now fs s x within read c.self.invariant.2),
     )
