@@ -10,6 +10,7 @@ mod in_time;
 mod meeting;
 mod memory;
 mod polling;
+mod rows;
 mod serving;
 mod turning;
 

@@ -2,6 +2,7 @@
 
 use super::same;
 use cbs_job::{FileJob, PeakJob, SumJob, Task, TaskError, Work};
+use std::alloc::Global;
 use std::process::Abort;
 use std::test::Fail;
 
@@ -20,26 +21,41 @@ fn answers<W: Work>(rt: &impl Abort, work: W, units: u32, refusal: Option<TaskEr
     }
 }
 
+/// A sum of these numbers.
+fn sum(rt: &impl Abort, alloc: Global, numbers: &[u32]) -> SumJob {
+    assert!(rt; numbers.len() <= 1_000_001);
+    SumJob::new(Vec::from_slice(alloc, numbers).expect(rt, "memory"))
+}
+
+/// A peak of these numbers.
+fn peak(rt: &impl Abort, alloc: Global, numbers: &[u32]) -> PeakJob {
+    assert!(rt; numbers.len() <= 1_000_001);
+    PeakJob::new(Vec::from_slice(alloc, numbers).expect(rt, "memory"))
+}
+
 #[test]
-fn takes_one_to_a_million_units(rt: HostRuntime) -> Result<(), Fail> {
-    let table = [
+fn takes_one_to_a_million_units(rt: HostRuntime) {
+    let alloc = rt.alloc();
+    let numbers = vec![in alloc; 7; 1_000_001].expect(&rt, "memory");
+    for &(units, refusal) in &[
         (0, Some(TaskError::EmptyJob)),
         (1, None),
         (1_000_000, None),
         (1_000_001, Some(TaskError::TooLong)),
-    ];
-    for &(units, refusal) in &table {
-        let len = units as usize;
-        let sum = SumJob::new(vec![in rt.alloc(); 7; len]?);
-        answers(&rt, sum, units, refusal);
-        let peak = PeakJob::new(vec![in rt.alloc(); 7; len]?);
-        answers(&rt, peak, units, refusal);
-        let sum = SumJob::new(vec![in rt.alloc(); 7; len]?);
-        answers(&rt, FileJob::from(sum), units, refusal);
-        let peak = PeakJob::new(vec![in rt.alloc(); 7; len]?);
-        answers(&rt, FileJob::from(peak), units, refusal);
+    ] {
+        assert!(rt; units <= numbers.len());
+        let numbers = &numbers[..units];
+        let units = units as u32;
+        answers(&rt, sum(&rt, alloc, numbers), units, refusal);
+        answers(&rt, peak(&rt, alloc, numbers), units, refusal);
+        answers(&rt, FileJob::from(sum(&rt, alloc, numbers)), units, refusal);
+        answers(
+            &rt,
+            FileJob::from(peak(&rt, alloc, numbers)),
+            units,
+            refusal,
+        );
     }
-    Ok(())
 }
 
 /// Starts a task of `work` and does all its units: `outputs` are those before each unit and at the end.
@@ -60,21 +76,30 @@ fn comes_to<W: Work>(rt: &impl Abort, work: W, outputs: &[u64]) {
     same(rt, "left at the end", units, 0);
 }
 
-#[test]
-fn each_unit_takes_a_number_in(rt: HostRuntime) -> Result<(), Fail> {
-    let sum = SumJob::new(vec![in rt.alloc(); 4, 9, 2]?);
-    comes_to(&rt, sum, &[0, 4, 13, 15]);
-    let peak = PeakJob::new(vec![in rt.alloc(); 4, 9, 2]?);
-    comes_to(&rt, peak, &[0, 4, 9, 9]);
-    let sum = SumJob::new(vec![in rt.alloc(); 4_294_967_295, 4_294_967_295]?);
-    comes_to(&rt, FileJob::from(sum), &[0, 4_294_967_295, 8_589_934_590]);
-    let peak = PeakJob::new(vec![in rt.alloc(); 0, 4_294_967_295, 1]?);
-    comes_to(
-        &rt,
-        FileJob::from(peak),
+/// Numbers, and the outputs of a sum and of a peak of them before each unit and at the end.
+const OUTPUTS: [(&[u32], &[u64], &[u64]); 3] = [
+    (&[4, 9, 2], &[0, 4, 13, 15], &[0, 4, 9, 9]),
+    (
+        &[4_294_967_295, 4_294_967_295],
+        &[0, 4_294_967_295, 8_589_934_590],
+        &[0, 4_294_967_295, 4_294_967_295],
+    ),
+    (
+        &[0, 4_294_967_295, 1],
+        &[0, 0, 4_294_967_295, 4_294_967_296],
         &[0, 0, 4_294_967_295, 4_294_967_295],
-    );
-    Ok(())
+    ),
+];
+
+#[test]
+fn each_unit_takes_a_number_in(rt: HostRuntime) {
+    let alloc = rt.alloc();
+    for &(numbers, sums, peaks) in &OUTPUTS {
+        comes_to(&rt, sum(&rt, alloc, numbers), sums);
+        comes_to(&rt, peak(&rt, alloc, numbers), peaks);
+        comes_to(&rt, FileJob::from(sum(&rt, alloc, numbers)), sums);
+        comes_to(&rt, FileJob::from(peak(&rt, alloc, numbers)), peaks);
+    }
 }
 
 #[test]

@@ -1,6 +1,7 @@
 //! Lists of steps, and their replies.
 
-use super::{core_of, done, filled, makes_room, same, shows, stands_at, sum_of};
+use super::rows::{Row, plays};
+use super::{core_of, done, filled, same, sum_of};
 use cbs_core::{Core, CoreError, Ran, Reply, Step};
 use cbs_job::SumJob;
 use cbs_rules::{LIMIT, Mode};
@@ -96,9 +97,12 @@ fn steps_are_answered_in_order(rt: HostRuntime) {
         Told::Ran(done(1, 0, 9)),
     ];
     answers(&rt, &mut core, steps_of(&rt, alloc, alloc, &asked), &wanted);
-    stands_at(&rt, &core, 2);
-    shows(&rt, &core, 0, (1, 5, false));
-    shows(&rt, &core, 1, (1, 5, false));
+    let behind = [
+        Row::Now(2),
+        Row::State(0, 1, 5, false),
+        Row::State(1, 1, 5, false),
+    ];
+    plays(&rt, alloc, "behind the steps", &mut core, &behind);
 }
 
 #[test]
@@ -152,7 +156,7 @@ fn a_step_that_finds_no_memory_is_marked(rt: HostRuntime) {
         Asked::Run,
     ];
     let steps = steps_of(&rt, alloc, &heap, &asked);
-    makes_room(&rt, &mut core, 1, Ok(()));
+    same(&rt, "make_room", core.make_room(1), Ok(()));
 
     // What is left of the heap is as long as the replies: no job finds memory. Room is found again where a job is done, and it
     // is the next job's, of whatever server.
@@ -172,8 +176,11 @@ fn a_step_that_finds_no_memory_is_marked(rt: HostRuntime) {
         Told::Ran(done(1, 0, 2)),
     ];
     answers(&rt, &mut core, steps, &wanted);
-    stands_at(&rt, &core, 3);
-    shows(&rt, &core, 0, (2, 10, false));
-    shows(&rt, &core, 1, (1, 6, false));
+    let behind = [
+        Row::Now(3),
+        Row::State(0, 2, 10, false),
+        Row::State(1, 1, 6, false),
+    ];
+    plays(&rt, alloc, "behind the steps", &mut core, &behind);
     drop(ballast);
 }

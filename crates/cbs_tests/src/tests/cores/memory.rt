@@ -1,10 +1,8 @@
 //! Jobs of each kind in each memory, and what is done where no memory is found.
 
-use super::{
-    accepts, advances, closes, core_of, done, filled, idles_for, makes_room, runs, shows,
-    stands_at, sum_of,
-};
-use cbs_core::{Core, CoreError, Ran};
+use super::rows::{Row, does, plays};
+use super::{core_of, filled, same, sum_of};
+use cbs_core::{CoreError, Ran};
 use cbs_job::{FileJob, PeakJob, SumJob, Task, Work};
 use cbs_rules::Mode;
 use linked_list_allocator::LocalHeap;
@@ -21,12 +19,16 @@ fn peak_of(rt: &impl Abort, alloc: Global, numbers: &[u32]) -> Task<PeakJob> {
 /// Runs a task of three units, and looks at its result.
 fn comes_to<W: Work, A: Allocator + Clone>(rt: &impl Abort, alloc: A, task: Task<W>, output: u64) {
     let mut core = core_of(rt, alloc, Mode::Soft, &[(2, 5)], 4);
-    let answer = core.submit(0, task);
-    assert!(rt; matches!(answer, Ok(0)));
-    runs(rt, &mut core, Ran::Unit { server: 0, seq: 0 });
-    runs(rt, &mut core, Ran::Unit { server: 0, seq: 0 });
-    runs(rt, &mut core, done(0, 0, output));
-    shows(rt, &core, 0, (1, 10, false));
+    same(rt, "submit", core.submit(0, task).ok(), Some(0));
+    let rows = [
+        Row::Unit(0),
+        Row::Unit(0),
+        Row::Done(0, 0, output),
+        Row::State(0, 1, 10, false),
+    ];
+    for (place, &row) in rows.iter().enumerate() {
+        does(rt, ("three units", place), &mut core, row);
+    }
 }
 
 /// Runs a sum and a peak, each as itself and as a job of a task file.
@@ -50,20 +52,20 @@ fn jobs_of_any_kind_run_in_any_memory(rt: HostRuntime) {
 }
 
 /// What a core of two servers does while no memory is found: there is room for one job.
-fn works_without_memory(rt: &impl Abort, alloc: Global, core: &mut Core<SumJob, &LocalHeap>) {
-    closes(rt, core, 0, Ok(()));
-    runs(rt, core, Ran::Idle);
-    accepts(rt, core, 1, sum_of(rt, alloc, &[1, 2, 3]), 0);
-    closes(rt, core, 1, Ok(()));
-    runs(rt, core, Ran::Unit { server: 1, seq: 0 });
-    runs(rt, core, Ran::Unit { server: 1, seq: 0 });
-    runs(rt, core, Ran::Idle);
-    idles_for(rt, core, Some(3));
-    advances(rt, core, 7, Ok(()));
-    shows(rt, core, 1, (2, 10, false));
-    runs(rt, core, done(1, 0, 6));
-    stands_at(rt, core, 10);
-}
+const WITHOUT_MEMORY: [Row; 12] = [
+    Row::Close(0, Ok(())),
+    Row::Run(Ran::Idle),
+    Row::Submit(1, &[1, 2, 3], 0),
+    Row::Close(1, Ok(())),
+    Row::Unit(1),
+    Row::Unit(1),
+    Row::Run(Ran::Idle),
+    Row::IdleSpan(Some(3)),
+    Row::Advance(7, Ok(())),
+    Row::State(1, 2, 10, false),
+    Row::Done(1, 0, 6),
+    Row::Now(10),
+];
 
 #[test]
 fn room_is_enough_for_the_next_job(rt: HostRuntime) {
@@ -71,10 +73,11 @@ fn room_is_enough_for_the_next_job(rt: HostRuntime) {
     let heap = LocalHeap::new(alloc, 1 << 12).expect(&rt, "a heap");
     let mut core = core_of(&rt, &heap, Mode::Throttled, &[(2, 5), (2, 5)], 4);
     let ballast = filled(&rt, alloc, &heap);
-    makes_room(&rt, &mut core, 1, Err(CoreError::OutOfMemory));
+    let refused = Err(CoreError::OutOfMemory);
+    same(&rt, "make_room", core.make_room(1), refused);
     drop(ballast);
-    makes_room(&rt, &mut core, 1, Ok(()));
+    same(&rt, "make_room", core.make_room(1), Ok(()));
     let ballast = filled(&rt, alloc, &heap);
-    works_without_memory(&rt, alloc, &mut core);
+    plays(&rt, alloc, "without memory", &mut core, &WITHOUT_MEMORY);
     drop(ballast);
 }

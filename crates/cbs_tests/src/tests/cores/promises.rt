@@ -1,90 +1,98 @@
 //! By which tick the jobs of a server are finished, told after each step.
 
-use super::{accepts, advances, core_of, done, runs, same, stands_at, sum_of};
-use cbs_core::{Core, Ran};
-use cbs_job::SumJob;
+use super::rows::{Case, Row, plays_all};
 use cbs_rules::Mode;
-use std::process::Abort;
 
-/// Looks for the tick that is told of a server.
-fn promises(rt: &impl Abort, core: &Core<SumJob>, server: u16, wanted: Option<u128>) {
-    same(rt, "promised", core.promised(server), wanted);
-}
-
-/// Runs a unit of a server's first job, not its last, and looks for the tick that is told then.
-fn goes_on(rt: &impl Abort, core: &mut Core<SumJob>, server: u16, wanted: u128) {
-    runs(rt, core, Ran::Unit { server, seq: 0 });
-    promises(rt, core, server, Some(wanted));
-}
+const CASES: [Case; 4] = [
+    Case {
+        name: "nothing is promised where nothing is owed",
+        servers: &[(Mode::Soft, 2, 5)],
+        backlog: 4,
+        rows: &[
+            Row::Promised(0, None),
+            Row::Promised(1, None),
+            Row::Promised(u16::MAX, None),
+            Row::Submit(0, &[7], 0),
+            Row::Promised(0, Some(5)),
+            Row::Promised(1, None),
+            Row::Done(0, 0, 7),
+            Row::Promised(0, None),
+        ],
+    },
+    Case {
+        name: "two soft servers that take every tick keep their promises",
+        servers: &[(Mode::Soft, 3, 5), (Mode::Soft, 2, 5)],
+        backlog: 4,
+        rows: &[
+            Row::Submit(0, &[1, 1, 1, 1, 1, 1, 1, 1, 1], 0),
+            Row::Promised(0, Some(15)),
+            Row::Submit(1, &[1, 1], 0),
+            Row::Promised(1, Some(5)),
+            Row::Promised(0, Some(15)),
+            Row::Unit(0),
+            Row::Promised(0, Some(15)),
+            Row::Unit(0),
+            Row::Promised(0, Some(15)),
+            Row::Unit(0),
+            Row::Promised(0, Some(15)),
+            Row::Unit(1),
+            Row::Promised(1, Some(5)),
+            Row::Done(1, 0, 2),
+            Row::Now(5),
+            Row::Promised(1, None),
+            Row::Unit(0),
+            Row::Promised(0, Some(15)),
+            Row::Unit(0),
+            Row::Promised(0, Some(15)),
+            Row::Unit(0),
+            Row::Promised(0, Some(15)),
+            Row::Unit(0),
+            Row::Promised(0, Some(15)),
+            Row::Unit(0),
+            Row::Promised(0, Some(15)),
+            Row::Done(0, 0, 9),
+            Row::Now(11),
+            Row::Promised(0, None),
+        ],
+    },
+    Case {
+        name: "a throttled server keeps its promise after its wait",
+        servers: &[(Mode::Throttled, 2, 5)],
+        backlog: 4,
+        rows: &[
+            Row::Submit(0, &[1, 1, 1], 0),
+            Row::Promised(0, Some(10)),
+            Row::Unit(0),
+            Row::Promised(0, Some(10)),
+            Row::Unit(0),
+            Row::Promised(0, Some(10)),
+            Row::Advance(3, Ok(())),
+            Row::Promised(0, Some(10)),
+            Row::Done(0, 0, 3),
+            Row::Now(6),
+            Row::Promised(0, None),
+        ],
+    },
+    Case {
+        name: "a job more is promised for behind those before",
+        servers: &[(Mode::Soft, 2, 5)],
+        backlog: 4,
+        rows: &[
+            Row::Submit(0, &[1, 1, 1], 0),
+            Row::Promised(0, Some(10)),
+            Row::Unit(0),
+            Row::Promised(0, Some(10)),
+            Row::Submit(0, &[1, 1, 1, 1], 1),
+            Row::Promised(0, Some(20)),
+            Row::Unit(0),
+            Row::Promised(0, Some(20)),
+            Row::Done(0, 0, 3),
+            Row::Promised(0, Some(20)),
+        ],
+    },
+];
 
 #[test]
-fn nothing_is_promised_where_nothing_is_owed(rt: HostRuntime) {
-    let mut core = core_of(&rt, rt.alloc(), Mode::Soft, &[(2, 5)], 4);
-    promises(&rt, &core, 0, None);
-    promises(&rt, &core, 1, None);
-    promises(&rt, &core, u16::MAX, None);
-    accepts(&rt, &mut core, 0, sum_of(&rt, rt.alloc(), &[7]), 0);
-    promises(&rt, &core, 0, Some(5));
-    promises(&rt, &core, 1, None);
-    runs(&rt, &mut core, done(0, 0, 7));
-    promises(&rt, &core, 0, None);
-}
-
-#[test]
-fn two_soft_servers_that_take_every_tick_keep_their_promises(rt: HostRuntime) {
-    let alloc = rt.alloc();
-    let mut core = core_of(&rt, alloc, Mode::Soft, &[(3, 5), (2, 5)], 4);
-    accepts(
-        &rt,
-        &mut core,
-        0,
-        sum_of(&rt, alloc, &[1, 1, 1, 1, 1, 1, 1, 1, 1]),
-        0,
-    );
-    promises(&rt, &core, 0, Some(15));
-    accepts(&rt, &mut core, 1, sum_of(&rt, alloc, &[1, 1]), 0);
-    promises(&rt, &core, 1, Some(5));
-    promises(&rt, &core, 0, Some(15));
-    for _unit in 0..3 {
-        goes_on(&rt, &mut core, 0, 15);
-    }
-    goes_on(&rt, &mut core, 1, 5);
-    runs(&rt, &mut core, done(1, 0, 2));
-    stands_at(&rt, &core, 5);
-    promises(&rt, &core, 1, None);
-    for _unit in 0..5 {
-        goes_on(&rt, &mut core, 0, 15);
-    }
-    runs(&rt, &mut core, done(0, 0, 9));
-    stands_at(&rt, &core, 11);
-    promises(&rt, &core, 0, None);
-}
-
-#[test]
-fn a_throttled_server_keeps_its_promise_after_its_wait(rt: HostRuntime) {
-    let alloc = rt.alloc();
-    let mut core = core_of(&rt, alloc, Mode::Throttled, &[(2, 5)], 4);
-    accepts(&rt, &mut core, 0, sum_of(&rt, alloc, &[1, 1, 1]), 0);
-    promises(&rt, &core, 0, Some(10));
-    goes_on(&rt, &mut core, 0, 10);
-    goes_on(&rt, &mut core, 0, 10);
-    advances(&rt, &mut core, 3, Ok(()));
-    promises(&rt, &core, 0, Some(10));
-    runs(&rt, &mut core, done(0, 0, 3));
-    stands_at(&rt, &core, 6);
-    promises(&rt, &core, 0, None);
-}
-
-#[test]
-fn a_job_more_is_promised_for_behind_those_before(rt: HostRuntime) {
-    let alloc = rt.alloc();
-    let mut core = core_of(&rt, alloc, Mode::Soft, &[(2, 5)], 4);
-    accepts(&rt, &mut core, 0, sum_of(&rt, alloc, &[1, 1, 1]), 0);
-    promises(&rt, &core, 0, Some(10));
-    goes_on(&rt, &mut core, 0, 10);
-    accepts(&rt, &mut core, 0, sum_of(&rt, alloc, &[1, 1, 1, 1]), 1);
-    promises(&rt, &core, 0, Some(20));
-    goes_on(&rt, &mut core, 0, 20);
-    runs(&rt, &mut core, done(0, 0, 3));
-    promises(&rt, &core, 0, Some(20));
+fn each_promise_is_told_by_hand(rt: HostRuntime) {
+    plays_all(&rt, rt.alloc(), &CASES);
 }

@@ -1,9 +1,11 @@
 //! Houses that run until every client has ended.
 
+ghost use Rattle.std.specs.Prelude.{◌≡◌};
 ghost use Rattle.std.specs.Thread.{IsSync};
+ghost use Rattle.cbs_house.specs.Houses.{rings_of};
 
-use super::calls::{ends, gave, hands_out, sends, stands_at};
-use super::polling::one_client;
+use super::calls::{ends, gave, sends, stands_at};
+use super::rows::{Opened, Row};
 use super::{plan_of, same, sum_of};
 use cbs_house::{Client, House, HouseError, SendError, Sink, open_house};
 use cbs_job::{Completion, SumJob, Task};
@@ -43,91 +45,186 @@ impl Sink for Seen {
 /// Runs a house until its clients have ended, or it did nothing for so many turns.
 fn closes<R: Clock + Abort>(
     rt: &R,
+    at: (&str, usize),
     house: &mut House<SumJob>,
     seen: &mut Seen,
-    idle_turns: u64,
-    wanted: Result<(), HouseError>,
-) {
+    run: (u64, Result<(), HouseError>),
+)
+    ensures { rings_of house.new ≡ rings_of house.old }
+{
+    let (idle_turns, wanted) = run;
     let answer = house.run_until_closed(rt, seen, idle_turns);
-    same(rt, "run_until_closed", answer, wanted);
+    same(rt, "run_until_closed", (at, answer), (at, wanted));
 }
 
 /// Looks at what a sink was told: server, number and result of each job, in order.
-fn was_told(rt: &impl Abort, seen: &Seen, wanted: &[(u16, u64, u64)]) {
+fn was_told(rt: &impl Abort, at: (&str, usize), seen: &Seen, wanted: &[(u16, u64, u64)]) {
     assert!(rt; !seen.lost);
-    same(rt, "told", seen.told.len(), wanted.len());
+    same(rt, "told", (at, seen.told.len()), (at, wanted.len()));
     for (done, &(server, seq, output)) in seen.told.iter().zip(wanted) {
         let wanted = Completion {
             server,
             seq,
             result: output,
         };
-        same(rt, "told", *done, wanted);
+        same(rt, "told", (at, *done), (at, wanted));
     }
 }
 
-#[test]
-fn a_house_of_clients_that_end_at_once_takes_no_time(rt: HostRuntime) {
-    let alloc = rt.alloc();
-    for mode in [Mode::Soft, Mode::Throttled] {
-        let (mut house, mut client) = one_client(&rt, alloc, mode, (2, 5), (4, 4));
-        let mut seen = Seen::nothing(alloc);
-        ends(&rt, &mut client, Ok(()));
-        closes(&rt, &mut house, &mut seen, 1, Ok(()));
-        closes(&rt, &mut house, &mut seen, 1, Ok(()));
-        was_told(&rt, &seen, &[]);
-        stands_at(&rt, &house, 0);
-    }
+/// What is done with a house of one server, its client and a sink.
+#[derive(Clone, Copy)]
+enum Step {
+    /// Calls of the house or of its client.
+    Rows(&'static [Row]),
+    /// The house runs until its client has ended, or it did nothing for so many turns.
+    Close(u64, Result<(), HouseError>),
+    /// What the sink was told so far: server, number and result of each job, in order.
+    Told(&'static [(u16, u64, u64)]),
 }
 
-#[test]
-fn a_client_that_never_sends_stalls_the_house_until_it_ends(rt: HostRuntime) {
-    let alloc = rt.alloc();
-    for mode in [Mode::Soft, Mode::Throttled] {
-        let (mut house, mut client) = one_client(&rt, alloc, mode, (2, 5), (4, 4));
-        let mut seen = Seen::nothing(alloc);
-        for idle_turns in [0, 1, 100] {
-            closes(
-                &rt,
-                &mut house,
-                &mut seen,
-                idle_turns,
-                Err(HouseError::Stalled),
-            );
+/// What is done with a new house, in steps.
+#[derive(Clone, Copy)]
+struct Closing {
+    name: &'static str,
+    mode: Mode,
+    /// The budget and the period of its server.
+    rate: (u64, u64),
+    /// The backlog, and how many places the ring has.
+    limits: (u64, u64),
+    steps: &'static [Step],
+}
+
+/// Runs the house of a case, as `closes`.
+fn closes_opened<R: Clock + Abort>(
+    rt: &R,
+    at: (&str, usize),
+    opened: &mut Opened,
+    seen: &mut Seen,
+    run: (u64, Result<(), HouseError>),
+) {
+    closes(rt, at, &mut opened.house, seen, run);
+}
+
+/// Makes the steps of a case, and looks at each answer.
+fn goes<R: Clock + Abort>(rt: &R, alloc: Global, case: &Closing) {
+    let mut opened = Opened::new(rt, alloc, case.mode, case.rate, case.limits);
+    let mut seen = Seen::nothing(alloc);
+    for (place, &step) in case.steps.iter().enumerate() {
+        let at = (case.name, place);
+        match step {
+            Step::Rows(rows) => opened.plays(rt, alloc, case.name, rows),
+            Step::Close(idle_turns, wanted) => {
+                closes_opened(rt, at, &mut opened, &mut seen, (idle_turns, wanted));
+            }
+            Step::Told(wanted) => was_told(rt, at, &seen, wanted),
         }
-        stands_at(&rt, &house, 0);
-        ends(&rt, &mut client, Ok(()));
-        closes(&rt, &mut house, &mut seen, 100, Ok(()));
-        was_told(&rt, &seen, &[]);
     }
 }
 
+/// A client ends at once.
+const ENDED: [Step; 5] = [
+    Step::Rows(&[Row::End(Ok(()))]),
+    Step::Close(1, Ok(())),
+    Step::Close(1, Ok(())),
+    Step::Told(&[]),
+    Step::Rows(&[Row::Now(0)]),
+];
+
+/// A client sends nothing, and ends at last.
+const SILENT: [Step; 6] = [
+    Step::Close(0, Err(HouseError::Stalled)),
+    Step::Close(1, Err(HouseError::Stalled)),
+    Step::Close(100, Err(HouseError::Stalled)),
+    Step::Rows(&[Row::Now(0), Row::End(Ok(()))]),
+    Step::Close(100, Ok(())),
+    Step::Told(&[]),
+];
+
+/// What a client sends that does not end.
+const SENT: [Row; 3] = [Row::Send(&[5], 0), Row::Send(&[7], 1), Row::Send(&[9], 2)];
+
+/// What the sink is told of that.
+const TOLD: [(u16, u64, u64); 3] = [(0, 0, 5), (0, 1, 7), (0, 2, 9)];
+
+/// The results are handed out, and the client sends a last job and ends.
+const LAST: [Row; 3] = [
+    Row::TakeResults(0, Ok(&[5, 7, 9])),
+    Row::Send(&[11], 3),
+    Row::End(Ok(())),
+];
+
+/// What the sink is told in all.
+const ALL_TOLD: [(u16, u64, u64); 4] = [(0, 0, 5), (0, 1, 7), (0, 2, 9), (0, 3, 11)];
+
+const CASES: [Closing; 6] = [
+    Closing {
+        name: "a soft house of a client that ends at once takes no time",
+        mode: Mode::Soft,
+        rate: (2, 5),
+        limits: (4, 4),
+        steps: &ENDED,
+    },
+    Closing {
+        name: "a throttled house of a client that ends at once takes no time",
+        mode: Mode::Throttled,
+        rate: (2, 5),
+        limits: (4, 4),
+        steps: &ENDED,
+    },
+    Closing {
+        name: "a client that never sends stalls a soft house until it ends",
+        mode: Mode::Soft,
+        rate: (2, 5),
+        limits: (4, 4),
+        steps: &SILENT,
+    },
+    Closing {
+        name: "a client that never sends stalls a throttled house until it ends",
+        mode: Mode::Throttled,
+        rate: (2, 5),
+        limits: (4, 4),
+        steps: &SILENT,
+    },
+    Closing {
+        name: "what a client that never ends sent to a soft house is not lost",
+        mode: Mode::Soft,
+        rate: (1, 4),
+        limits: (1, 4),
+        steps: &[
+            Step::Rows(&SENT),
+            Step::Close(100, Err(HouseError::Stalled)),
+            Step::Told(&TOLD),
+            Step::Rows(&[Row::Results(0, Ok(&[5, 7, 9])), Row::Now(3)]),
+            Step::Rows(&LAST),
+            Step::Close(100, Ok(())),
+            Step::Told(&ALL_TOLD),
+            Step::Rows(&[Row::Results(0, Ok(&[11])), Row::Now(4)]),
+        ],
+    },
+    Closing {
+        name: "what a client that never ends sent to a throttled house is not lost",
+        mode: Mode::Throttled,
+        rate: (1, 4),
+        limits: (1, 4),
+        // A unit at 0, at 4 and at 8; the last one comes when the budget has been used up, and waits until 12.
+        steps: &[
+            Step::Rows(&SENT),
+            Step::Close(100, Err(HouseError::Stalled)),
+            Step::Told(&TOLD),
+            Step::Rows(&[Row::Results(0, Ok(&[5, 7, 9])), Row::Now(9)]),
+            Step::Rows(&LAST),
+            Step::Close(100, Ok(())),
+            Step::Told(&ALL_TOLD),
+            Step::Rows(&[Row::Results(0, Ok(&[11])), Row::Now(13)]),
+        ],
+    },
+];
+
 #[test]
-fn what_a_client_that_never_ends_sent_is_not_lost(rt: HostRuntime) {
+fn each_house_stalls_or_closes(rt: HostRuntime) {
     let alloc = rt.alloc();
-    // Throttled: a unit at 0, at 4 and at 8; the last one comes when the budget has been used up, and waits until 12.
-    for (mode, stalls_at, closes_at) in [(Mode::Soft, 3, 4), (Mode::Throttled, 9, 13)] {
-        let (mut house, mut client) = one_client(&rt, alloc, mode, (1, 4), (1, 4));
-        let mut seen = Seen::nothing(alloc);
-        for (number, value) in [5, 7, 9].iter().enumerate() {
-            sends(
-                &rt,
-                &mut client,
-                sum_of(&rt, alloc, &[*value]),
-                number as u64,
-            );
-        }
-        closes(&rt, &mut house, &mut seen, 100, Err(HouseError::Stalled));
-        was_told(&rt, &seen, &[(0, 0, 5), (0, 1, 7), (0, 2, 9)]);
-        gave(&rt, &house, 0, &[5, 7, 9]);
-        stands_at(&rt, &house, stalls_at);
-        hands_out(&rt, &mut house, 0, Ok(&[5, 7, 9]));
-        sends(&rt, &mut client, sum_of(&rt, alloc, &[11]), 3);
-        ends(&rt, &mut client, Ok(()));
-        closes(&rt, &mut house, &mut seen, 100, Ok(()));
-        was_told(&rt, &seen, &[(0, 0, 5), (0, 1, 7), (0, 2, 9), (0, 3, 11)]);
-        gave(&rt, &house, 0, &[11]);
-        stands_at(&rt, &house, closes_at);
+    for case in &CASES {
+        goes(&rt, alloc, case);
     }
 }
 
@@ -223,9 +320,12 @@ fn late_clients_that_send_more_than_fits_are_finished(rt: HostRuntime) {
         gave(&rt, &house, 0, &[0, 1, 2, 3, 4, 5, 6, 7, 8, 9]);
         gave(&rt, &house, 1, &[]);
         let told = [0, 1, 2, 3, 4, 5, 6, 7, 8, 9].map(|number| (0, number, number));
-        was_told(&rt, &seen, &told);
+        was_told(&rt, ("late clients", 0), &seen, &told);
     }
 }
+
+/// What a sink is told of two clients' jobs.
+const OF_TWO: [(u16, u64, u64); 4] = [(0, 0, 0), (0, 1, 1), (1, 0, 10), (1, 1, 11)];
 
 #[test]
 fn a_sink_is_told_in_the_order_of_the_completions(rt: HostRuntime) {
@@ -238,12 +338,20 @@ fn a_sink_is_told_in_the_order_of_the_completions(rt: HostRuntime) {
         sends(&rt, client, sum_of(&rt, alloc, &[first + 1]), 1);
     }
     // Both have the deadline 5, and the first server's two units are a whole budget.
-    closes(&rt, &mut house, &mut seen, 1, Err(HouseError::Stalled));
-    was_told(&rt, &seen, &[(0, 0, 0), (0, 1, 1), (1, 0, 10), (1, 1, 11)]);
+    let sent = ("both have sent", 0);
+    closes(
+        &rt,
+        sent,
+        &mut house,
+        &mut seen,
+        (1, Err(HouseError::Stalled)),
+    );
+    was_told(&rt, sent, &seen, &OF_TWO);
     for client in &mut clients {
         ends(&rt, client, Ok(()));
     }
-    closes(&rt, &mut house, &mut seen, 1, Ok(()));
-    was_told(&rt, &seen, &[(0, 0, 0), (0, 1, 1), (1, 0, 10), (1, 1, 11)]);
+    let ended = ("both have ended", 1);
+    closes(&rt, ended, &mut house, &mut seen, (1, Ok(())));
+    was_told(&rt, ended, &seen, &OF_TWO);
     stands_at(&rt, &house, 4);
 }

@@ -1,7 +1,8 @@
 //! Results that are handed out.
 
-use super::calls::{drains, ends, gave, hands_out, polls, runs, sends, shows};
+use super::calls::{drains, polls, runs, sends};
 use super::polling::one_client;
+use super::rows::{Case, Opened, Row, hands_out, plays_all};
 use super::{filled, sum_of};
 use cbs_core::{Ran, ServerView};
 use cbs_house::{Client, House, HouseError, Poll};
@@ -11,14 +12,95 @@ use linked_list_allocator::LocalHeap;
 use std::alloc::{Allocator, Global};
 use std::process::Abort;
 
-/// A run that finishes this job of server 0.
-fn finishes<A: Allocator>(rt: &impl Abort, house: &mut House<SumJob, A>, seq: u64, output: u64) {
-    let done = Completion {
-        server: 0,
-        seq,
-        result: output,
-    };
-    runs(rt, house, Ran::Done(done));
+/// What the server shows that was closed with three jobs, when all are finished.
+const CLOSED: ServerView = ServerView {
+    budget: 1,
+    deadline: 10,
+    throttled: false,
+    closed: true,
+    accepted: 3,
+    finished: 3,
+};
+
+const CASES: [Case; 1] = [Case {
+    name: "results are handed out once and in order",
+    mode: Mode::Soft,
+    rate: (2, 5),
+    limits: (4, 4),
+    rows: &[
+        Row::TakeResults(0, Ok(&[])),
+        Row::Send(&[5], 0),
+        Row::Poll(0, Poll::Took(0)),
+        Row::Send(&[7], 1),
+        Row::Poll(0, Poll::Took(1)),
+        Row::Done(0, 5),
+        Row::TakeResults(0, Ok(&[5])),
+        Row::TakeResults(0, Ok(&[])),
+        Row::TakeResults(1, Err(HouseError::NoSuchServer)),
+        Row::TakeResults(u16::MAX, Err(HouseError::NoSuchServer)),
+        Row::Results(0, Ok(&[])),
+        Row::Send(&[9], 2),
+        Row::Poll(0, Poll::Took(2)),
+        Row::End(Ok(())),
+        Row::Poll(0, Poll::Closed),
+        Row::Drain(Ok(())),
+        Row::Results(0, Ok(&[7, 9])),
+        Row::TakeResults(0, Ok(&[7, 9])),
+        Row::View(0, Ok(CLOSED)),
+        Row::Poll(0, Poll::Nothing),
+        Row::TakeResults(0, Ok(&[])),
+    ],
+}];
+
+#[test]
+fn results_are_handed_out_once_and_in_order(rt: HostRuntime) {
+    plays_all(&rt, rt.alloc(), &CASES);
+}
+
+/// Four jobs are taken, and the first is finished.
+const HELD: [Row; 9] = [
+    Row::Send(&[3], 0),
+    Row::Poll(0, Poll::Took(0)),
+    Row::Send(&[3], 1),
+    Row::Poll(0, Poll::Took(1)),
+    Row::Send(&[3], 2),
+    Row::Poll(0, Poll::Took(2)),
+    Row::Send(&[3], 3),
+    Row::Poll(0, Poll::Took(3)),
+    Row::Done(0, 3),
+];
+
+/// What is handed out while no memory is found.
+const REFUSED: [Row; 3] = [
+    Row::TakeResults(0, Err(HouseError::OutOfMemory)),
+    Row::TakeResults(1, Err(HouseError::NoSuchServer)),
+    Row::Results(0, Ok(&[3])),
+];
+
+/// What is handed out when memory is found again.
+const HANDED: [Row; 1] = [Row::TakeResults(0, Ok(&[3]))];
+
+/// The other three jobs are finished, while no memory is found.
+const FINISHED: [Row; 3] = [
+    Row::Done(1, 3),
+    Row::Drain(Ok(())),
+    // No job is held, so that no memory is wanted.
+    Row::TakeResults(0, Ok(&[3, 3, 3])),
+];
+
+#[test]
+fn jobs_held_keep_the_places_of_their_results(rt: HostRuntime) {
+    let alloc = rt.alloc();
+    let heap = LocalHeap::new(alloc, 1 << 13).expect(&rt, "a heap");
+    let mut opened = Opened::new(&rt, &heap, Mode::Soft, (2, 5), (4, 4));
+    opened.plays(&rt, alloc, "jobs are held", &HELD);
+    let ballast = filled(&rt, alloc, &heap);
+    opened.plays(&rt, alloc, "no memory is found", &REFUSED);
+    drop(ballast);
+    opened.plays(&rt, alloc, "memory is found", &HANDED);
+    let ballast = filled(&rt, alloc, &heap);
+    opened.plays(&rt, alloc, "jobs held keep their places", &FINISHED);
+    drop(ballast);
 }
 
 /// Sends a job of a single unit, as the job of this number, and takes it.
@@ -34,59 +116,14 @@ fn gets<A: Allocator>(
     polls(rt, house, 0, Poll::Took(number));
 }
 
-#[test]
-fn results_are_handed_out_once_and_in_order(rt: HostRuntime) {
-    let alloc = rt.alloc();
-    let (mut house, mut client) = one_client(&rt, alloc, Mode::Soft, (2, 5), (4, 4));
-    hands_out(&rt, &mut house, 0, Ok(&[]));
-    gets(&rt, alloc, &mut house, &mut client, (0, 5));
-    gets(&rt, alloc, &mut house, &mut client, (1, 7));
-    finishes(&rt, &mut house, 0, 5);
-    hands_out(&rt, &mut house, 0, Ok(&[5]));
-    hands_out(&rt, &mut house, 0, Ok(&[]));
-    hands_out(&rt, &mut house, 1, Err(HouseError::NoSuchServer));
-    hands_out(&rt, &mut house, u16::MAX, Err(HouseError::NoSuchServer));
-    gave(&rt, &house, 0, &[]);
-    gets(&rt, alloc, &mut house, &mut client, (2, 9));
-    ends(&rt, &mut client, Ok(()));
-    polls(&rt, &mut house, 0, Poll::Closed);
-    drains(&rt, &mut house, Ok(()));
-    gave(&rt, &house, 0, &[7, 9]);
-    hands_out(&rt, &mut house, 0, Ok(&[7, 9]));
-    let view = ServerView {
-        budget: 1,
-        deadline: 10,
-        throttled: false,
-        closed: true,
-        accepted: 3,
-        finished: 3,
+/// A run that finishes this job of server 0.
+fn finishes<A: Allocator>(rt: &impl Abort, house: &mut House<SumJob, A>, seq: u64, output: u64) {
+    let done = Completion {
+        server: 0,
+        seq,
+        result: output,
     };
-    shows(&rt, &house, 0, Ok(view));
-    polls(&rt, &mut house, 0, Poll::Nothing);
-    hands_out(&rt, &mut house, 0, Ok(&[]));
-}
-
-#[test]
-fn jobs_held_keep_the_places_of_their_results(rt: HostRuntime) {
-    let alloc = rt.alloc();
-    let heap = LocalHeap::new(alloc, 1 << 13).expect(&rt, "a heap");
-    let (mut house, mut client) = one_client(&rt, &heap, Mode::Soft, (2, 5), (4, 4));
-    for number in 0..4 {
-        gets(&rt, alloc, &mut house, &mut client, (number, 3));
-    }
-    finishes(&rt, &mut house, 0, 3);
-    let ballast = filled(&rt, alloc, &heap);
-    hands_out(&rt, &mut house, 0, Err(HouseError::OutOfMemory));
-    hands_out(&rt, &mut house, 1, Err(HouseError::NoSuchServer));
-    gave(&rt, &house, 0, &[3]);
-    drop(ballast);
-    hands_out(&rt, &mut house, 0, Ok(&[3]));
-    let ballast = filled(&rt, alloc, &heap);
-    finishes(&rt, &mut house, 1, 3);
-    drains(&rt, &mut house, Ok(()));
-    // No job is held, so that no memory is wanted.
-    hands_out(&rt, &mut house, 0, Ok(&[3, 3, 3]));
-    drop(ballast);
+    runs(rt, house, Ran::Done(done));
 }
 
 /// A round of a service: two jobs come, and the results of both are handed out, one after the other.
@@ -101,9 +138,9 @@ fn serves_two<A: Allocator + Clone>(
     gets(rt, alloc, house, client, (first, round));
     gets(rt, alloc, house, client, (first + 1, 1));
     finishes(rt, house, first, u64::from(round));
-    hands_out(rt, house, 0, Ok(&[u64::from(round)]));
+    hands_out(rt, ("the first", 0), house, 0, Ok(&[u64::from(round)]));
     drains(rt, house, Ok(()));
-    hands_out(rt, house, 0, Ok(&[1]));
+    hands_out(rt, ("the second", 1), house, 0, Ok(&[1]));
 }
 
 #[test]

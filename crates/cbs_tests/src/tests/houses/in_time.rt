@@ -1,6 +1,5 @@
 //! Nobody is late in a house, and each job is done when it was promised: seen after every step.
 
-use super::calls::{advances, gave, idles_for, polls, runs, sends, stands_at};
 use super::{plan_of, same, sum_of};
 use cbs_core::Ran;
 use cbs_house::{Client, House, Poll, open_house};
@@ -9,29 +8,50 @@ use cbs_rules::{Mode, Modes};
 use std::alloc::Global;
 use std::process::Abort;
 
-/// A house of throttled servers with these reservations and this backlog, with rings of one place.
-fn house_of(
-    rt: &impl Abort,
-    alloc: Global,
-    rates: &[(u64, u64)],
+/// A call of a house or of one of its clients, with what it answers.
+#[derive(Clone, Copy)]
+enum Row {
+    /// A job of these numbers is sent to a server, as the one of this number, and taken: it is promised by this
+    /// tick.
+    Take(u16, &'static [u32], u64, u128),
+    /// A unit of this job of a server, not its last.
+    Unit(u16, u64),
+    /// The last unit of this job of a server, which comes to this, at this tick.
+    Done(u16, u64, u64, u64),
+    /// A tick, for which nobody is ready.
+    Wait,
+    Results(u16, &'static [u64]),
+    Promised(u16, Option<u128>),
+}
+
+/// Calls of a new house of throttled servers with rings of one place, in rows.
+#[derive(Clone, Copy)]
+struct Case {
+    name: &'static str,
+    /// The budget and the period of each server.
+    rates: &'static [(u64, u64)],
     backlog: u64,
-) -> (House<SumJob>, Vec<Client<SumJob>>) {
-    let plan = plan_of(rt, rates);
+    rows: &'static [Row],
+}
+
+/// The house of a case as it is at first, and its clients, in the order of the servers.
+fn house_of(rt: &impl Abort, alloc: Global, case: &Case) -> (House<SumJob>, Vec<Client<SumJob>>) {
+    let plan = plan_of(rt, case.rates);
     let modes = Modes::uniform(Mode::Throttled, plan.len() as u16);
-    open_house(alloc, plan, modes, backlog, 1)
+    open_house(alloc, plan, modes, case.backlog, 1)
         .ok()
         .expect(rt, "a house")
 }
 
 /// Looks that no server is late: ready, with a deadline that has come.
-fn nobody_late(rt: &impl Abort, house: &House<SumJob>) {
+fn nobody_late(rt: &impl Abort, at: (&str, usize), house: &House<SumJob>) {
     let now = u128::from(house.now());
     for server in 0..house.servers() {
         if let Ok(view) = house.view(server) {
             let ready = view.finished < view.accepted && !view.throttled;
             assert!(rt;
                 !ready || now < view.deadline,
-                "server {server} is late at {now}"
+                "{at:?}: server {server} is late at {now}"
             );
         }
     }
@@ -41,83 +61,116 @@ fn nobody_late(rt: &impl Abort, house: &House<SumJob>) {
 fn takes(
     rt: &impl Abort,
     alloc: Global,
+    at: (&str, usize),
     house: &mut House<SumJob>,
     client: &mut Client<SumJob>,
-    job: (&[u32], u64),
-    tick: u128,
+    (numbers, number, tick): (&[u32], u64, u128),
 ) {
-    let (numbers, number) = job;
-    sends(rt, client, sum_of(rt, alloc, numbers), number);
-    polls(rt, house, client.server(), Poll::Took(number));
-    same(rt, "promised", house.promised(client.server()), Some(tick));
-    nobody_late(rt, house);
+    let sent = client.send(sum_of(rt, alloc, numbers)).ok();
+    same(rt, "send", (at, sent), (at, Some(number)));
+    let polled = house.poll(client.server());
+    same(rt, "poll", (at, polled), (at, Poll::Took(number)));
+    let promised = house.promised(client.server());
+    same(rt, "promised", (at, promised), (at, Some(tick)));
 }
 
-/// Runs a unit of this job of a server, not its last.
-fn serves(rt: &impl Abort, house: &mut House<SumJob>, server: u16, seq: u64) {
-    runs(rt, house, Ran::Unit { server, seq });
-    nobody_late(rt, house);
+/// Makes the call of a row that sends nothing.
+fn does(rt: &impl Abort, at: (&str, usize), house: &mut House<SumJob>, row: Row) {
+    match row {
+        Row::Unit(server, seq) => {
+            same(
+                rt,
+                "run",
+                (at, house.run()),
+                (at, Ran::Unit { server, seq }),
+            );
+        }
+        Row::Done(server, seq, result, tick) => {
+            let done = Completion {
+                server,
+                seq,
+                result,
+            };
+            same(rt, "run", (at, house.run()), (at, Ran::Done(done)));
+            same(rt, "now", (at, house.now()), (at, tick));
+        }
+        Row::Wait => {
+            same(rt, "idle_span", (at, house.idle_span()), (at, Some(1)));
+            same(rt, "advance", (at, house.advance(1)), (at, Ok(())));
+        }
+        Row::Results(server, wanted) => {
+            same(rt, "results", (at, house.results(server)), (at, Ok(wanted)));
+        }
+        Row::Promised(server, wanted) => {
+            same(rt, "promised", (at, house.promised(server)), (at, wanted));
+        }
+        Row::Take(..) => {}
+    }
 }
 
-/// Runs the last unit of this job of a server, which comes to this, at this tick.
-fn finishes(rt: &impl Abort, house: &mut House<SumJob>, job: (u16, u64), output: u64, tick: u64) {
-    let (server, seq) = job;
-    let done = Completion {
-        server,
-        seq,
-        result: output,
-    };
-    runs(rt, house, Ran::Done(done));
-    stands_at(rt, house, tick);
-    nobody_late(rt, house);
+/// Makes the calls of a case, and looks at each answer, and that nobody is late then.
+fn plays(rt: &impl Abort, alloc: Global, case: &Case) {
+    let (mut house, mut clients) = house_of(rt, alloc, case);
+    for (place, &row) in case.rows.iter().enumerate() {
+        let at = (case.name, place);
+        if let Row::Take(server, numbers, number, tick) = row {
+            let client = clients.get_mut(usize::from(server)).expect(rt, "a client");
+            takes(rt, alloc, at, &mut house, client, (numbers, number, tick));
+        } else {
+            does(rt, at, &mut house, row);
+        }
+        nobody_late(rt, at, &house);
+    }
 }
 
-/// Waits a tick, for which nobody is ready.
-fn waits(rt: &impl Abort, house: &mut House<SumJob>) {
-    idles_for(rt, house, Some(1));
-    advances(rt, house, 1, Ok(()));
-    nobody_late(rt, house);
-}
+const CASES: [Case; 2] = [
+    Case {
+        name: "nobody is late in a house of three servers",
+        rates: &[(2, 5), (1, 10), (1, 4)],
+        backlog: 2,
+        rows: &[
+            Row::Take(0, &[1, 2, 3], 0, 10),
+            Row::Take(2, &[10], 0, 4),
+            Row::Take(0, &[4, 9, 2], 1, 15),
+            Row::Take(2, &[20, 30], 1, 12),
+            Row::Done(2, 0, 10, 1),
+            Row::Unit(0, 0),
+            Row::Unit(0, 0),
+            Row::Wait,
+            Row::Unit(2, 1),
+            Row::Done(0, 0, 6, 6),
+            Row::Unit(0, 1),
+            Row::Wait,
+            Row::Done(2, 1, 50, 9),
+            Row::Wait,
+            Row::Unit(0, 1),
+            Row::Done(0, 1, 15, 12),
+            Row::Results(0, &[6, 15]),
+            Row::Results(1, &[]),
+            Row::Results(2, &[10, 50]),
+            Row::Promised(0, None),
+        ],
+    },
+    Case {
+        name: "jobs a period apart are done a period after they came",
+        rates: &[(2, 2)],
+        backlog: 1,
+        rows: &[
+            Row::Take(0, &[1, 1], 0, 2),
+            Row::Unit(0, 0),
+            Row::Done(0, 0, 2, 2),
+            Row::Take(0, &[3, 4], 1, 4),
+            Row::Unit(0, 1),
+            Row::Done(0, 1, 7, 4),
+            Row::Results(0, &[2, 7]),
+        ],
+    },
+];
 
 #[test]
-fn nobody_is_late_in_a_house_of_three_servers(rt: HostRuntime) {
+fn nobody_is_late(rt: HostRuntime) {
     let alloc = rt.alloc();
-    let (mut house, mut clients) = house_of(&rt, alloc, &[(2, 5), (1, 10), (1, 4)], 2);
-    let mut third = clients.pop().expect(&rt, "a client");
-    let _second = clients.pop().expect(&rt, "a client");
-    let mut first = clients.pop().expect(&rt, "a client");
-    takes(&rt, alloc, &mut house, &mut first, (&[1, 2, 3], 0), 10);
-    takes(&rt, alloc, &mut house, &mut third, (&[10], 0), 4);
-    takes(&rt, alloc, &mut house, &mut first, (&[4, 9, 2], 1), 15);
-    takes(&rt, alloc, &mut house, &mut third, (&[20, 30], 1), 12);
-    finishes(&rt, &mut house, (2, 0), 10, 1);
-    serves(&rt, &mut house, 0, 0);
-    serves(&rt, &mut house, 0, 0);
-    waits(&rt, &mut house);
-    serves(&rt, &mut house, 2, 1);
-    finishes(&rt, &mut house, (0, 0), 6, 6);
-    serves(&rt, &mut house, 0, 1);
-    waits(&rt, &mut house);
-    finishes(&rt, &mut house, (2, 1), 50, 9);
-    waits(&rt, &mut house);
-    serves(&rt, &mut house, 0, 1);
-    finishes(&rt, &mut house, (0, 1), 15, 12);
-    gave(&rt, &house, 0, &[6, 15]);
-    gave(&rt, &house, 1, &[]);
-    gave(&rt, &house, 2, &[10, 50]);
-    same(&rt, "promised", house.promised(0), None);
-}
-
-#[test]
-fn jobs_a_period_apart_are_done_a_period_after_they_came(rt: HostRuntime) {
-    let alloc = rt.alloc();
-    let (mut house, mut clients) = house_of(&rt, alloc, &[(2, 2)], 1);
-    let mut client = clients.pop().expect(&rt, "a client");
-    takes(&rt, alloc, &mut house, &mut client, (&[1, 1], 0), 2);
-    serves(&rt, &mut house, 0, 0);
-    finishes(&rt, &mut house, (0, 0), 2, 2);
-    takes(&rt, alloc, &mut house, &mut client, (&[3, 4], 1), 4);
-    serves(&rt, &mut house, 0, 1);
-    finishes(&rt, &mut house, (0, 1), 7, 4);
-    gave(&rt, &house, 0, &[2, 7]);
+    for case in &CASES {
+        plays(&rt, alloc, case);
+    }
 }

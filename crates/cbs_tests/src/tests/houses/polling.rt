@@ -3,14 +3,12 @@
 ghost use Rattle.cbs_house.specs.Houses.{rings_of};
 ghost use Rattle.cbs_house.specs.RingEnds.{IsOpened};
 
-use super::calls::{
-    advances, drains, ends, gave, idles_for, polls, polls_beside, refuses, runs, sends, settles,
-    shows, stands_at,
-};
+use super::calls::{polls, sends};
+use super::rows::{Case, Opened, Row, does_all, plays_all};
 use super::{filled, plan_of, same, sum_of};
 use cbs_core::{Ran, ServerView};
 use cbs_house::{Client, House, HouseError, Poll, SendError, open_house};
-use cbs_job::{Completion, SumJob, Task};
+use cbs_job::SumJob;
 use cbs_rules::{LIMIT, Mode, Modes};
 use linked_list_allocator::LocalHeap;
 use std::alloc::{Allocator, Global};
@@ -39,124 +37,142 @@ pub fn one_client<R: Abort, A: Allocator + Copy>(
     (house, client)
 }
 
+/// What is sent before the first poll.
+const SENT: [Row; 7] = [
+    Row::Send(&[5], 0),
+    Row::Send(&[7], 1),
+    Row::End(Ok(())),
+    Row::Refused(8, SendError::Ended),
+    Row::End(Err(SendError::Ended)),
+    Row::Client(0, 2, true),
+    Row::Settle(3),
+];
+
+/// The polls that take what was sent.
+const TAKEN: [Row; 3] = [
+    Row::Poll(0, Poll::Took(0)),
+    Row::Poll(0, Poll::Took(1)),
+    Row::Poll(0, Poll::Closed),
+];
+
+/// What the server shows that was closed with two jobs, when both are finished.
+const CLOSED: ServerView = ServerView {
+    budget: 2,
+    deadline: 10,
+    throttled: false,
+    closed: true,
+    accepted: 2,
+    finished: 2,
+};
+
+/// What is done with what was taken.
+const DRAINED: [Row; 10] = [
+    Row::Poll(0, Poll::Nothing),
+    Row::Settle(0),
+    Row::Drain(Ok(())),
+    Row::Results(0, Ok(&[5, 7])),
+    Row::Now(2),
+    Row::View(0, Ok(CLOSED)),
+    Row::IdleSpan(Some(LIMIT - 2)),
+    Row::Run(Ran::Idle),
+    Row::Advance(3, Ok(())),
+    Row::Now(5),
+];
+
 #[test]
 fn messages_are_taken_in_order(rt: HostRuntime) {
     let alloc = rt.alloc();
     let heap = LocalHeap::new(alloc, 1 << 13).expect(&rt, "a heap");
-    let (mut house, mut client) = one_client(&rt, &heap, Mode::Soft, (2, 5), (4, 4));
+    let mut opened = Opened::new(&rt, &heap, Mode::Soft, (2, 5), (4, 4));
     // The polls that take a message alone want memory.
     let ballast = filled(&rt, alloc, &heap);
-    sends(&rt, &mut client, sum_of(&rt, alloc, &[5]), 0);
-    sends(&rt, &mut client, sum_of(&rt, alloc, &[7]), 1);
-    ends(&rt, &mut client, Ok(()));
-    refuses(&rt, &mut client, sum_of(&rt, alloc, &[8]), SendError::Ended);
-    ends(&rt, &mut client, Err(SendError::Ended));
-    assert!(rt; client.server() == 0 && client.sent() == 2 && client.ended());
-    settles(&rt, &mut house, &mut client, 3);
+    opened.plays(&rt, alloc, "messages are sent", &SENT);
     drop(ballast);
-    polls(&rt, &mut house, 0, Poll::Took(0));
-    polls(&rt, &mut house, 0, Poll::Took(1));
-    polls(&rt, &mut house, 0, Poll::Closed);
+    opened.plays(&rt, alloc, "messages are taken in order", &TAKEN);
     let ballast = filled(&rt, alloc, &heap);
-    polls(&rt, &mut house, 0, Poll::Nothing);
-    settles(&rt, &mut house, &mut client, 0);
-    drains(&rt, &mut house, Ok(()));
-    gave(&rt, &house, 0, &[5, 7]);
-    stands_at(&rt, &house, 2);
-    let view = ServerView {
-        budget: 2,
-        deadline: 10,
-        throttled: false,
-        closed: true,
-        accepted: 2,
-        finished: 2,
-    };
-    shows(&rt, &house, 0, Ok(view));
-    idles_for(&rt, &house, Some(LIMIT - 2));
-    runs(&rt, &mut house, Ran::Idle);
-    advances(&rt, &mut house, 3, Ok(()));
-    stands_at(&rt, &house, 5);
+    opened.plays(&rt, alloc, "what was taken is done", &DRAINED);
     drop(ballast);
 }
 
-#[test]
-fn a_client_sees_the_free_slots_of_its_ring(rt: HostRuntime) {
-    let alloc = rt.alloc();
-    let (mut house, mut client) = one_client(&rt, alloc, Mode::Soft, (2, 5), (1, 4));
-    same(&rt, "free", client.free(), 4);
-    sends(&rt, &mut client, sum_of(&rt, alloc, &[5]), 0);
-    ends(&rt, &mut client, Ok(()));
-    same(&rt, "free", client.free(), 2);
-    polls(&rt, &mut house, 0, Poll::Took(0));
-    same(&rt, "free", client.free(), 3);
-}
+const CASES: [Case; 4] = [
+    Case {
+        name: "a client sees the free slots of its ring",
+        mode: Mode::Soft,
+        rate: (2, 5),
+        limits: (1, 4),
+        rows: &[
+            Row::Free(4),
+            Row::Send(&[5], 0),
+            Row::End(Ok(())),
+            Row::Free(2),
+            Row::Poll(0, Poll::Took(0)),
+            Row::Free(3),
+        ],
+    },
+    Case {
+        name: "a poll beside the client takes what it sent",
+        mode: Mode::Soft,
+        rate: (2, 5),
+        limits: (1, 4),
+        rows: &[
+            Row::Send(&[5], 0),
+            Row::Send(&[7], 1),
+            Row::End(Ok(())),
+            Row::PollBeside(Poll::Took(0)),
+            Row::PollBeside(Poll::Full),
+            Row::Drain(Ok(())),
+            Row::PollBeside(Poll::Took(1)),
+            Row::Drain(Ok(())),
+            Row::PollBeside(Poll::Closed),
+            Row::PollBeside(Poll::Nothing),
+            Row::Results(0, Ok(&[5, 7])),
+        ],
+    },
+    Case {
+        name: "a full ring and a full backlog lose nothing",
+        mode: Mode::Soft,
+        rate: (2, 5),
+        limits: (1, 1),
+        rows: &[
+            Row::Send(&[1], 0),
+            Row::Refused(2, SendError::RingFull),
+            Row::End(Err(SendError::RingFull)),
+            Row::Settle(1),
+            Row::Poll(0, Poll::Took(0)),
+            Row::Settle(0),
+            Row::Send(&[2], 1),
+            Row::Poll(0, Poll::Full),
+            Row::Settle(1),
+            Row::Done(0, 1),
+            Row::Poll(0, Poll::Took(1)),
+            Row::Poll(3, Poll::NoSuchServer),
+            Row::View(3, Err(HouseError::NoSuchServer)),
+            Row::Results(3, Err(HouseError::NoSuchServer)),
+        ],
+    },
+    Case {
+        name: "an end waits behind a full backlog",
+        mode: Mode::Soft,
+        rate: (2, 5),
+        limits: (1, 2),
+        rows: &[
+            Row::Send(&[1], 0),
+            Row::End(Ok(())),
+            Row::Settle(2),
+            Row::Poll(0, Poll::Took(0)),
+            Row::Poll(0, Poll::Full),
+            Row::Settle(1),
+            Row::Done(0, 1),
+            Row::Poll(0, Poll::Closed),
+            Row::Poll(0, Poll::Nothing),
+            Row::Refused(2, SendError::Ended),
+        ],
+    },
+];
 
 #[test]
-fn a_poll_beside_the_client_takes_what_it_sent(rt: HostRuntime) {
-    let alloc = rt.alloc();
-    let (mut house, mut client) = one_client(&rt, alloc, Mode::Soft, (2, 5), (1, 4));
-    sends(&rt, &mut client, sum_of(&rt, alloc, &[5]), 0);
-    sends(&rt, &mut client, sum_of(&rt, alloc, &[7]), 1);
-    ends(&rt, &mut client, Ok(()));
-    polls_beside(&rt, &mut house, &mut client, Poll::Took(0));
-    polls_beside(&rt, &mut house, &mut client, Poll::Full);
-    drains(&rt, &mut house, Ok(()));
-    polls_beside(&rt, &mut house, &mut client, Poll::Took(1));
-    drains(&rt, &mut house, Ok(()));
-    polls_beside(&rt, &mut house, &mut client, Poll::Closed);
-    polls_beside(&rt, &mut house, &mut client, Poll::Nothing);
-    gave(&rt, &house, 0, &[5, 7]);
-}
-
-#[test]
-fn a_full_ring_and_a_full_backlog_lose_nothing(rt: HostRuntime) {
-    let alloc = rt.alloc();
-    let (mut house, mut client) = one_client(&rt, alloc, Mode::Soft, (2, 5), (1, 1));
-    sends(&rt, &mut client, sum_of(&rt, alloc, &[1]), 0);
-    refuses(
-        &rt,
-        &mut client,
-        sum_of(&rt, alloc, &[2]),
-        SendError::RingFull,
-    );
-    ends(&rt, &mut client, Err(SendError::RingFull));
-    settles(&rt, &mut house, &mut client, 1);
-    polls(&rt, &mut house, 0, Poll::Took(0));
-    settles(&rt, &mut house, &mut client, 0);
-    sends(&rt, &mut client, sum_of(&rt, alloc, &[2]), 1);
-    polls(&rt, &mut house, 0, Poll::Full);
-    settles(&rt, &mut house, &mut client, 1);
-    let done = Completion {
-        server: 0,
-        seq: 0,
-        result: 1,
-    };
-    runs(&rt, &mut house, Ran::Done(done));
-    polls(&rt, &mut house, 0, Poll::Took(1));
-    polls(&rt, &mut house, 3, Poll::NoSuchServer);
-    shows(&rt, &house, 3, Err(HouseError::NoSuchServer));
-    assert!(rt; house.results(3) == Err(HouseError::NoSuchServer));
-}
-
-#[test]
-fn an_end_waits_behind_a_full_backlog(rt: HostRuntime) {
-    let alloc = rt.alloc();
-    let (mut house, mut client) = one_client(&rt, alloc, Mode::Soft, (2, 5), (1, 2));
-    sends(&rt, &mut client, sum_of(&rt, alloc, &[1]), 0);
-    ends(&rt, &mut client, Ok(()));
-    settles(&rt, &mut house, &mut client, 2);
-    polls(&rt, &mut house, 0, Poll::Took(0));
-    polls(&rt, &mut house, 0, Poll::Full);
-    settles(&rt, &mut house, &mut client, 1);
-    let done = Completion {
-        server: 0,
-        seq: 0,
-        result: 1,
-    };
-    runs(&rt, &mut house, Ran::Done(done));
-    polls(&rt, &mut house, 0, Poll::Closed);
-    polls(&rt, &mut house, 0, Poll::Nothing);
-    refuses(&rt, &mut client, sum_of(&rt, alloc, &[2]), SendError::Ended);
+fn each_message_is_taken_or_waits(rt: HostRuntime) {
+    plays_all(&rt, rt.alloc(), &CASES);
 }
 
 #[test]
@@ -189,38 +205,54 @@ fn with_ones(rt: &impl Abort, alloc: Global, ones: &[u32]) -> House<SumJob> {
     house
 }
 
+/// What the server shows when its job of three units is finished.
+const WAITED: ServerView = ServerView {
+    budget: 0,
+    deadline: 3_000_000_000,
+    throttled: true,
+    closed: false,
+    accepted: 1,
+    finished: 1,
+};
+
+/// A job of three units is finished.
+const REPLENISHED: [Row; 5] = [
+    Row::Drain(Ok(())),
+    Row::Now(2_000_000_001),
+    Row::Results(0, Ok(&[3])),
+    Row::View(0, Ok(WAITED)),
+    Row::Advance(1, Ok(())),
+];
+
 #[test]
 fn a_drain_waits_for_replenishments(rt: HostRuntime) {
     let mut house = with_ones(&rt, rt.alloc(), &[1, 1, 1]);
-    drains(&rt, &mut house, Ok(()));
-    stands_at(&rt, &house, 2_000_000_001);
-    gave(&rt, &house, 0, &[3]);
-    let view = ServerView {
-        budget: 0,
-        deadline: 3_000_000_000,
-        throttled: true,
-        closed: false,
-        accepted: 1,
-        finished: 1,
-    };
-    shows(&rt, &house, 0, Ok(view));
-    advances(&rt, &mut house, 1, Ok(()));
+    let name = "a drain waits for replenishments";
+    does_all(&rt, name, &mut house, &REPLENISHED);
 }
+
+/// What the server shows when the clock has ended.
+const UNFINISHED: ServerView = ServerView {
+    budget: 1,
+    deadline: 1_001_000_000_000,
+    throttled: false,
+    closed: false,
+    accepted: 1,
+    finished: 0,
+};
+
+/// A job of 1001 units is not finished.
+const ENDED: [Row; 5] = [
+    Row::Drain(Err(HouseError::ClockEnd)),
+    Row::Now(1_000_000_000_000),
+    Row::Results(0, Ok(&[])),
+    Row::View(0, Ok(UNFINISHED)),
+    Row::Advance(1, Err(HouseError::ClockEnd)),
+];
 
 #[test]
 fn the_clock_ends_with_a_job_unfinished(rt: HostRuntime) {
     let mut house = with_ones(&rt, rt.alloc(), &[1; 1001]);
-    drains(&rt, &mut house, Err(HouseError::ClockEnd));
-    stands_at(&rt, &house, 1_000_000_000_000);
-    gave(&rt, &house, 0, &[]);
-    let view = ServerView {
-        budget: 1,
-        deadline: 1_001_000_000_000,
-        throttled: false,
-        closed: false,
-        accepted: 1,
-        finished: 0,
-    };
-    shows(&rt, &house, 0, Ok(view));
-    advances(&rt, &mut house, 1, Err(HouseError::ClockEnd));
+    let name = "the clock ends with a job unfinished";
+    does_all(&rt, name, &mut house, &ENDED);
 }

@@ -1,0 +1,156 @@
+//! Calls of a core in rows, each with what it answers.
+
+use super::{done, same, sum_of, whole};
+use cbs_core::{Core, CoreError, Ran, ServerView};
+use cbs_job::{SumJob, Work};
+use cbs_rate::{Bound, Plan, Reservation};
+use cbs_rules::{Mode, Modes};
+use std::alloc::{Allocator, Global};
+use std::process::Abort;
+
+/// A call of a core, with the answer that a test looks for.
+#[derive(Clone, Copy)]
+pub enum Row {
+    /// A sum of these numbers is submitted to a server, and gets this number.
+    Submit(u16, &'static [u32], u64),
+    /// A sum of this number alone is refused, and comes back.
+    Refused(u16, u32, CoreError),
+    MakeRoom(u16, Result<(), CoreError>),
+    Close(u16, Result<(), CoreError>),
+    Advance(u64, Result<(), CoreError>),
+    Run(Ran),
+    /// A run of a unit that is not the last of a server's first job.
+    Unit(u16),
+    /// A run that finishes a job: its server, number and output.
+    Done(u16, u64, u64),
+    /// The clock.
+    Now(u64),
+    /// The server that would run.
+    Ready(Option<u16>),
+    IdleSpan(Option<u64>),
+    Promised(u16, Option<u128>),
+    /// A server's budget, deadline and mark.
+    State(u16, u64, u128, bool),
+    View(u16, Result<ServerView, CoreError>),
+}
+
+/// Calls of a new core, in rows.
+#[derive(Clone, Copy)]
+pub struct Case {
+    pub name: &'static str,
+    /// The mode, the budget and the period of each server.
+    pub servers: &'static [(Mode, u64, u64)],
+    pub backlog: u64,
+    pub rows: &'static [Row],
+}
+
+/// The core of a case, as it is at first.
+pub fn new_core(rt: &impl Abort, alloc: Global, case: &Case) -> Core<SumJob> {
+    let mut plan = Plan::new(Bound::new(1, 1).expect(rt, "a bound"));
+    let mut modes = Modes::new();
+    for &(mode, budget, period) in case.servers {
+        let reservation = Reservation::new(budget, period).expect(rt, "a reservation");
+        plan.admit(reservation).expect(rt, "a server");
+        assert!(rt; modes.len() < 64);
+        modes.push(mode);
+    }
+    assert!(rt; modes.len() == plan.len());
+    Core::new(alloc, plan, modes, case.backlog).expect(rt, "a core")
+}
+
+/// Makes the calls of each case, and looks at each answer.
+pub fn plays_all(rt: &impl Abort, alloc: Global, cases: &[Case]) {
+    for case in cases {
+        let mut core = new_core(rt, alloc, case);
+        plays(rt, alloc, case.name, &mut core, case.rows);
+    }
+}
+
+/// Makes the calls of these rows in turn, and looks at each answer.
+pub fn plays<A: Allocator>(
+    rt: &impl Abort,
+    alloc: Global,
+    name: &str,
+    core: &mut Core<SumJob, A>,
+    rows: &[Row],
+) {
+    for (place, &row) in rows.iter().enumerate() {
+        play(rt, alloc, (name, place), core, row);
+    }
+}
+
+/// Makes the call of a row, which stands at this place of the rows of this name.
+pub fn play<A: Allocator>(
+    rt: &impl Abort,
+    alloc: Global,
+    at: (&str, usize),
+    core: &mut Core<SumJob, A>,
+    row: Row,
+) {
+    match row {
+        Row::Submit(server, numbers, number) => {
+            let answer = core.submit(server, sum_of(rt, alloc, numbers)).ok();
+            same(rt, "submit", (at, answer), (at, Some(number)));
+        }
+        Row::Refused(server, number, error) => {
+            let task = sum_of(rt, alloc, &[number]);
+            let refused = core.submit(server, task).err().expect(rt, "a refusal");
+            let back = (at, refused.error, whole(refused.task));
+            same(rt, "submit", back, (at, error, u64::from(number)));
+        }
+        _ => does(rt, at, core, row),
+    }
+}
+
+/// Makes the call of a row that submits nothing.
+pub fn does<W: Work, A: Allocator>(
+    rt: &impl Abort,
+    at: (&str, usize),
+    core: &mut Core<W, A>,
+    row: Row,
+) {
+    match row {
+        Row::MakeRoom(server, wanted) => {
+            same(rt, "make_room", (at, core.make_room(server)), (at, wanted));
+        }
+        Row::Close(server, wanted) => {
+            same(rt, "close", (at, core.close(server)), (at, wanted));
+        }
+        Row::Advance(ticks, wanted) => {
+            same(rt, "advance", (at, core.advance(ticks)), (at, wanted));
+        }
+        Row::Run(wanted) => same(rt, "run", (at, core.run()), (at, wanted)),
+        Row::Unit(server) => {
+            let unit = Ran::Unit { server, seq: 0 };
+            same(rt, "run", (at, core.run()), (at, unit));
+        }
+        Row::Done(server, seq, output) => {
+            same(rt, "run", (at, core.run()), (at, done(server, seq, output)));
+        }
+        _ => looks(rt, at, core, row),
+    }
+}
+
+/// Looks at what a row tells of.
+fn looks<W: Work, A: Allocator>(rt: &impl Abort, at: (&str, usize), core: &Core<W, A>, row: Row) {
+    match row {
+        Row::Now(wanted) => same(rt, "now", (at, core.now()), (at, wanted)),
+        Row::Ready(wanted) => same(rt, "ready", (at, core.ready()), (at, wanted)),
+        Row::IdleSpan(wanted) => same(rt, "idle_span", (at, core.idle_span()), (at, wanted)),
+        Row::Promised(server, wanted) => {
+            same(rt, "promised", (at, core.promised(server)), (at, wanted));
+        }
+        Row::State(server, budget, deadline, throttled) => {
+            let view = core.view(server).expect(rt, "a server");
+            let state = (view.budget, view.deadline, view.throttled);
+            same(
+                rt,
+                "state",
+                (at, state),
+                (at, (budget, deadline, throttled)),
+            );
+        }
+        Row::View(server, wanted) => same(rt, "view", (at, core.view(server)), (at, wanted)),
+        _ => panic!(rt; "{at:?}: a submit of a sum, and the jobs of the core are others"),
+    }
+}

@@ -1,0 +1,241 @@
+//! Calls of a house and of its only client in rows, each with what it answers.
+
+ghost use Rattle.std.specs.Prelude.{◌≡◌};
+ghost use Rattle.cbs_house.specs.Houses.{rings_of};
+ghost use Rattle.cbs_house.specs.RingEnds.{IsOpened};
+
+use super::polling::one_client;
+use super::{same, sum_of};
+use cbs_core::{Ran, ServerView};
+use cbs_house::{Client, House, HouseError, Poll, SendError, Turn};
+use cbs_job::{Completion, SumJob};
+use cbs_rules::Mode;
+use std::alloc::{Allocator, Global};
+use std::process::Abort;
+
+/// A call of a house of one server or of its client, with the answer that a test looks for.
+#[derive(Clone, Copy)]
+pub enum Row {
+    /// A sum of these numbers is sent, and gets this number.
+    Send(&'static [u32], u64),
+    /// A sum of this number alone is refused, and comes back.
+    Refused(u32, SendError),
+    End(Result<(), SendError>),
+    /// How many slots of the ring are free.
+    Free(u64),
+    /// The client's server, how many jobs it sent, and whether it has ended.
+    Client(u16, u64, bool),
+    /// How many messages stand in the ring.
+    Settle(u64),
+    Poll(u16, Poll),
+    /// A poll with the client at hand.
+    PollBeside(Poll),
+    Run(Ran),
+    /// A run that finishes a job of server 0: its number and output.
+    Done(u64, u64),
+    Advance(u64, Result<(), HouseError>),
+    Drain(Result<(), HouseError>),
+    /// A turn that takes so many messages, runs nothing, and advances by so many ticks.
+    Turn(u64, u64),
+    /// A turn that takes so many messages and finishes a job of server 0: its number and output.
+    DoneTurn(u64, u64, u64),
+    /// A hundred turns with nothing to take or to run: the clock stays.
+    IdleTurns,
+    /// The clock.
+    Now(u64),
+    IdleSpan(Option<u64>),
+    View(u16, Result<ServerView, HouseError>),
+    /// The results of a server.
+    Results(u16, Result<&'static [u64], HouseError>),
+    /// The results of a server, to have them.
+    TakeResults(u16, Result<&'static [u64], HouseError>),
+}
+
+/// Calls of a new house, in rows.
+#[derive(Clone, Copy)]
+pub struct Case {
+    pub name: &'static str,
+    pub mode: Mode,
+    /// The budget and the period of its server.
+    pub rate: (u64, u64),
+    /// The backlog, and how many places the ring has.
+    pub limits: (u64, u64),
+    pub rows: &'static [Row],
+}
+
+/// A house of one server, with its client.
+#[derive(Drop)]
+pub struct Opened<A: Allocator = Global> {
+    pub house: House<SumJob, A>,
+    client: Client<SumJob, A>,
+    ghost opened: { IsOpened (rings_of house) client },
+}
+
+/// Makes the calls of each case, and looks at each answer.
+pub fn plays_all(rt: &impl Abort, alloc: Global, cases: &[Case]) {
+    for case in cases {
+        let mut opened = Opened::new(rt, alloc, case.mode, case.rate, case.limits);
+        opened.plays(rt, alloc, case.name, case.rows);
+    }
+}
+
+impl<A: Allocator + Copy> Opened<A> {
+    /// A house of one server with this reservation, and its client.
+    pub fn new(
+        rt: &impl Abort,
+        alloc: A,
+        mode: Mode,
+        rate: (u64, u64),
+        limits: (u64, u64),
+    ) -> Opened<A> {
+        let (house, client) = one_client(rt, alloc, mode, rate, limits);
+        Opened { house, client }
+    }
+}
+
+impl<A: Allocator + Clone> Opened<A> {
+    /// Makes the calls of these rows in turn, and looks at each answer.
+    pub fn plays(&mut self, rt: &impl Abort, alloc: Global, name: &str, rows: &[Row]) {
+        for (place, &row) in rows.iter().enumerate() {
+            self.play(rt, alloc, (name, place), row);
+        }
+    }
+
+    /// Makes the call of a row, which stands at this place of the rows of this name.
+    fn play(&mut self, rt: &impl Abort, alloc: Global, at: (&str, usize), row: Row) {
+        match row {
+            Row::Send(numbers, number) => {
+                let answer = self.client.send(sum_of(rt, alloc, numbers)).ok();
+                same(rt, "send", (at, answer), (at, Some(number)));
+            }
+            Row::Refused(number, error) => {
+                let task = sum_of(rt, alloc, &[number]);
+                let refused = self.client.send(task).err().expect(rt, "a refusal");
+                let back = (at, refused.error, refused.task.left());
+                same(rt, "send", back, (at, error, 1));
+            }
+            Row::End(wanted) => same(rt, "end", (at, self.client.end()), (at, wanted)),
+            Row::Free(wanted) => same(rt, "free", (at, self.client.free()), (at, wanted)),
+            Row::Settle(wanted) => {
+                let standing = self.house.settle(&mut self.client);
+                same(rt, "settle", (at, standing), (at, wanted));
+            }
+            Row::PollBeside(wanted) => {
+                let answer = self.house.poll_beside(&mut self.client);
+                same(rt, "poll_beside", (at, answer), (at, wanted));
+            }
+            Row::Client(server, sent, ended) => {
+                let client = &self.client;
+                let shown = (client.server(), client.sent(), client.ended());
+                same(rt, "client", (at, shown), (at, (server, sent, ended)));
+            }
+            Row::IdleTurns => self.idles(rt, at),
+            _ => does(rt, at, &mut self.house, row),
+        }
+    }
+
+    /// Takes turns in which nothing is done.
+    fn idles(&mut self, rt: &impl Abort, at: (&str, usize)) {
+        for _turn in 0..100 {
+            turns(rt, at, &mut self.house, (0, Ran::Idle, 0));
+        }
+    }
+}
+
+/// Makes the calls of these rows in turn, each of the house alone, and looks at each answer.
+pub fn does_all<A: Allocator + Clone>(
+    rt: &impl Abort,
+    name: &str,
+    house: &mut House<SumJob, A>,
+    rows: &[Row],
+) {
+    for (place, &row) in rows.iter().enumerate() {
+        does(rt, (name, place), house, row);
+    }
+}
+
+/// Makes the call of a row that is of the house alone.
+fn does<A: Allocator + Clone>(
+    rt: &impl Abort,
+    at: (&str, usize),
+    house: &mut House<SumJob, A>,
+    row: Row,
+)
+    ensures { rings_of house.new ≡ rings_of house.old }
+{
+    match row {
+        Row::Poll(server, wanted) => same(rt, "poll", (at, house.poll(server)), (at, wanted)),
+        Row::Run(wanted) => same(rt, "run", (at, house.run()), (at, wanted)),
+        Row::Done(seq, output) => same(rt, "run", (at, house.run()), (at, done(seq, output))),
+        Row::Advance(ticks, wanted) => {
+            same(rt, "advance", (at, house.advance(ticks)), (at, wanted));
+        }
+        Row::Drain(wanted) => same(rt, "drain", (at, house.drain()), (at, wanted)),
+        Row::Turn(took, advanced) => turns(rt, at, house, (took, Ran::Idle, advanced)),
+        Row::DoneTurn(took, seq, output) => turns(rt, at, house, (took, done(seq, output), 0)),
+        Row::TakeResults(server, wanted) => hands_out(rt, at, house, server, wanted),
+        _ => looks(rt, at, house, row),
+    }
+}
+
+/// A run of the last unit of this job of server 0.
+fn done(seq: u64, output: u64) -> Ran {
+    Ran::Done(Completion {
+        server: 0,
+        seq,
+        result: output,
+    })
+}
+
+/// Takes a turn that takes so many messages, runs this, and advances by so many ticks.
+fn turns<A: Allocator>(
+    rt: &impl Abort,
+    at: (&str, usize),
+    house: &mut House<SumJob, A>,
+    turn: (u64, Ran, u64),
+)
+    ensures { rings_of house.new ≡ rings_of house.old }
+{
+    let (took, ran, advanced) = turn;
+    let wanted = Turn {
+        took,
+        out_of_memory: false,
+        ran,
+        advanced,
+    };
+    same(rt, "turn", (at, house.turn()), (at, wanted));
+}
+
+/// Asks for the results of a server, to have them.
+pub fn hands_out<A: Allocator + Clone>(
+    rt: &impl Abort,
+    at: (&str, usize),
+    house: &mut House<SumJob, A>,
+    server: u16,
+    wanted: Result<&[u64], HouseError>,
+)
+    ensures { rings_of house.new ≡ rings_of house.old }
+{
+    match house.take_results(server) {
+        Ok(results) => same(
+            rt,
+            "take_results",
+            (at, Ok(results.as_slice())),
+            (at, wanted),
+        ),
+        Err(error) => same(rt, "take_results", (at, Err(error)), (at, wanted)),
+    }
+}
+
+/// Looks at what a row tells of.
+fn looks<A: Allocator>(rt: &impl Abort, at: (&str, usize), house: &House<SumJob, A>, row: Row) {
+    match row {
+        Row::Now(wanted) => same(rt, "now", (at, house.now()), (at, wanted)),
+        Row::IdleSpan(wanted) => same(rt, "idle_span", (at, house.idle_span()), (at, wanted)),
+        Row::View(server, wanted) => same(rt, "view", (at, house.view(server)), (at, wanted)),
+        Row::Results(server, wanted) => {
+            same(rt, "results", (at, house.results(server)), (at, wanted));
+        }
+        _ => panic!(rt; "{at:?}: a row of the client, and no client is at hand"),
+    }
+}
