@@ -1,12 +1,14 @@
 //! Serves a load to clients that are delayed at random, and prints the results of
 //! each server. Whatever the delays, they are those of its jobs, in order.
 
+ghost use Rattle.cbs_house.specs.Rounds.{Ready};
+
 mod gate;
 mod load;
 
 use crate::setup::fed;
 use anyhow::{Result, ensure};
-use cbs_house::{House, serve};
+use cbs_house::{Feed, House, serve};
 use cbs_job::FileJob;
 use gate::RandomDelays;
 use load::read_load;
@@ -14,9 +16,9 @@ use std::alloc::Global;
 use std::thread::Threads;
 use std::time::Clock;
 
-/// Prints a line for each of so many servers.
-fn print_results(rt: &impl Print, house: &House<FileJob>, servers: u16) -> Result<()> {
-    for server in 0..servers {
+/// Prints a line for each server.
+fn print_results(rt: &impl Print, house: &House<FileJob>) -> Result<()> {
+    for server in 0..house.servers() {
         print!(rt; "server {server}:")?;
         for result in house.results(server)? {
             print!(rt; " {result}")?;
@@ -37,7 +39,6 @@ pub fn serve_load<R: Print + Threads + Clock + Sync>(
         load.modes.len() == load.plan.len(),
         "not a mode for each server"
     );
-    let servers = load.plan.len() as u16;
     let gate = RandomDelays::new(load.seed);
     let (mut house, mut feeds) = fed(
         alloc,
@@ -47,6 +48,18 @@ pub fn serve_load<R: Print + Threads + Clock + Sync>(
         load.ring,
         load.jobs,
     )?;
-    serve(rt, &mut house, &mut feeds, &gate)?;
-    print_results(rt, &house, servers)
+    serve_and_print(rt, &mut house, &mut feeds, &gate)
+}
+
+/// Serves the feeds to their end, and prints the results.
+fn serve_and_print<R: Print + Threads + Clock + Sync>(
+    rt: &R,
+    house: &mut House<FileJob>,
+    feeds: &mut [Feed<FileJob>],
+    gate: &RandomDelays,
+) -> Result<()>
+    requires { Ready house.old feeds.old }
+{
+    serve(rt, house, feeds, gate)?;
+    print_results(rt, house)
 }

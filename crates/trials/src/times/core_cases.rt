@@ -19,14 +19,15 @@ pub fn run_steps(
     steps: u64,
 ) -> Result<Timing> {
     let mut core = core_of(alloc, servers, least, mode)?;
-    fill(&mut core, servers, 4, LONG)?;
+    time_run_steps(rt, &mut core, steps)
+}
+
+/// The same on a core with nothing to do.
+fn time_run_steps(rt: &impl Clock, core: &mut Core<CountJob>, steps: u64) -> Result<Timing> {
+    fill(core, 4, LONG)?;
     let start = Instant::now(rt)?;
-    run_or_wait(&mut core, steps)?;
-    let spent = start.elapsed(rt)?;
-    Ok(Timing {
-        spent,
-        made: core.now(),
-    })
+    run_or_wait(core, steps)?;
+    Timing::since(rt, start, core.now())
 }
 
 /// So many run steps, with an advance by a tick after each that finds all servers throttled.
@@ -42,20 +43,21 @@ fn run_or_wait(core: &mut Core<CountJob>, steps: u64) -> Result<()> {
 /// Jobs of one unit, 64 of each server at a time: their submits and their units.
 pub fn submits(rt: &impl Clock, alloc: Global, servers: u16, jobs: u64) -> Result<Timing> {
     let mut core = core_of(alloc, servers, 1, Mode::Soft)?;
+    time_submits(rt, &mut core, jobs)
+}
+
+/// The same on a core with nothing to do.
+fn time_submits(rt: &impl Clock, core: &mut Core<CountJob>, jobs: u64) -> Result<Timing> {
     let start = Instant::now(rt)?;
-    run_batches(&mut core, servers, jobs)?;
-    let spent = start.elapsed(rt)?;
-    Ok(Timing {
-        spent,
-        made: core.now(),
-    })
+    run_batches(core, jobs)?;
+    Timing::since(rt, start, core.now())
 }
 
 /// So many jobs of one unit, 64 of each server at a time, all of which are run before the next.
-fn run_batches(core: &mut Core<CountJob>, servers: u16, jobs: u64) -> Result<()> {
-    let batch = 64 * u64::from(servers);
+fn run_batches(core: &mut Core<CountJob>, jobs: u64) -> Result<()> {
+    let batch = 64 * u64::from(core.servers());
     for _round in 0..jobs / batch.max(1) {
-        fill(core, servers, 64, 1)?;
+        fill(core, 64, 1)?;
         run_batch(core, batch);
     }
     Ok(())
@@ -71,14 +73,15 @@ fn run_batch(core: &mut Core<CountJob>, steps: u64) {
 /// Advances by one tick while all servers are ready.
 pub fn advances(rt: &impl Clock, alloc: Global, servers: u16, ticks: u64) -> Result<Timing> {
     let mut core = core_of(alloc, servers, 1, Mode::Soft)?;
-    fill(&mut core, servers, 1, LONG)?;
+    time_advances(rt, &mut core, ticks)
+}
+
+/// The same on a core with nothing to do.
+fn time_advances(rt: &impl Clock, core: &mut Core<CountJob>, ticks: u64) -> Result<Timing> {
+    fill(core, 1, LONG)?;
     let start = Instant::now(rt)?;
-    advance_by_ticks(&mut core, ticks)?;
-    let spent = start.elapsed(rt)?;
-    Ok(Timing {
-        spent,
-        made: core.now(),
-    })
+    advance_by_ticks(core, ticks)?;
+    Timing::since(rt, start, core.now())
 }
 
 /// So many advances by one tick.

@@ -18,12 +18,15 @@ use std::time::{Clock, Instant};
 /// Polls of empty rings, of all servers in turn.
 pub fn polls(rt: &impl Clock, alloc: Global, servers: u16, polls: u64) -> Result<Timing> {
     let mut house = idle_house(alloc, servers)?;
-    let turns = polls / u64::from(servers.max(1));
+    time_polls(rt, &mut house, polls / u64::from(servers.max(1)))
+}
+
+/// So many turns of them.
+fn time_polls(rt: &impl Clock, house: &mut House<CountJob>, turns: u64) -> Result<Timing> {
     let start = Instant::now(rt)?;
-    poll_turns(&mut house, turns)?;
-    let spent = start.elapsed(rt)?;
-    let made = turns.saturating_mul(u64::from(servers));
-    Ok(Timing { spent, made })
+    poll_turns(house, turns)?;
+    let made = turns.saturating_mul(u64::from(house.servers()));
+    Timing::since(rt, start, made)
 }
 
 /// A house whose clients are gone.
@@ -61,15 +64,24 @@ pub fn messages<R: Threads + Clock + Sync>(
 ) -> Result<Timing> {
     let each = jobs / u64::from(servers.max(1));
     let (mut house, mut feeds) = opened(alloc, servers, each)?;
+    let sent = each.saturating_mul(u64::from(servers));
+    time_serving(rt, &mut house, &mut feeds, sent)
+}
+
+/// Serves feeds that have so many jobs in all.
+fn time_serving<R: Threads + Clock + Sync>(
+    rt: &R,
+    house: &mut House<CountJob>,
+    feeds: &mut [Feed<CountJob>],
+    jobs: u64,
+) -> Result<Timing>
+    requires { Ready house.old feeds.old }
+{
     let start = Instant::now(rt)?;
-    serve(rt, &mut house, &mut feeds, &OpenGate)?;
-    let spent = start.elapsed(rt)?;
-    let made = count_results(&house)?;
-    ensure!(
-        made == each.saturating_mul(u64::from(servers)),
-        "{made} results"
-    );
-    Ok(Timing { spent, made })
+    serve(rt, house, feeds, &OpenGate)?;
+    let timing = Timing::since(rt, start, count_results(house)?)?;
+    ensure!(timing.made == jobs, "{} results", timing.made);
+    Ok(timing)
 }
 
 /// How many results all servers have.

@@ -32,9 +32,9 @@ pub fn core_of(alloc: Global, servers: u16, least: u64, mode: Mode) -> Result<Co
 }
 
 /// Gives each server so many jobs of so many units.
-pub fn fill(core: &mut Core<CountJob>, servers: u16, jobs: u64, units: u32) -> Result<()> {
+pub fn fill(core: &mut Core<CountJob>, jobs: u64, units: u32) -> Result<()> {
     for _job in 0..jobs {
-        for server in 0..servers {
+        for server in 0..core.servers() {
             let task = counting(units).context("no such job")?;
             core.submit(server, task).map_err(|refused| refused.error)?;
         }
