@@ -13,10 +13,9 @@ mod rules;
 mod scheduling;
 
 use super::{filled, plan_of, same, says, sum_of};
-use cbs_core::{Core, CoreError, Ran};
-use cbs_job::{Completion, MAX_UNITS, SumJob, Task, Work};
+use cbs_core::{Core, Ran};
+use cbs_job::{Completion, MAX_UNITS, Task, Work};
 use cbs_rules::{Mode, Modes};
-use linked_list_allocator::LocalHeap;
 use std::alloc::Allocator;
 use std::process::Abort;
 
