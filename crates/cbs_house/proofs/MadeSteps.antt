@@ -22,6 +22,8 @@ use Rattle.cbs_house.specs.declared.message.Message.{Message}
 use Rattle.cbs_house.specs.declared.message.Message.TheVariants.{Job, End}
 use Rattle.cbs_house.specs.declared.poll.Poll.{Poll}
 use Rattle.cbs_house.specs.declared.poll.Poll.TheVariants.{Nothing, Took, Closed, Full, OutOfMemory, NoSuchServer}
+use Rattle.cbs_house.specs.Collected.{AllShelvesSame}
+use Rattle.cbs_house.specs.RingEnds.{Looked}
 use Rattle.cbs_house.specs.Houses.{core_of, rings_of, received, known, results_of, handed_of, Made, LooksOnly, Collects, Polled}
 use Rattle.cbs_house.specs.Messages.{jobs_among}
 use Rattle.cbs_house.specs.Steps.{message_of, messages_of}
@@ -79,6 +81,16 @@ module _ {W A : Type 0} {g : Ghosts W} (work : Meaning W) where
     received = λ s. l.received s ∙ sym (append-nil (received a s));
     known = l.known;
     handed = l.handed;
+  }
+
+  -- looks at the rings, and more room, are no step
+  pub made_room : (a b : House W A g) → Looked a.rings b.rings → Follows work (core_of a) (core_of b) [] → AllShelvesSame a.collector b.collector → Made work a b []
+  made_room a b l steps shelves = record {
+    steps = steps;
+    rings = l.rings;
+    received = λ s. l.received s ∙ sym (append-nil (received a s));
+    known = l.known;
+    handed = λ s. (shelves s).handed;
   }
 
   -- a step that takes no message

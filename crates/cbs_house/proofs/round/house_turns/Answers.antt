@@ -17,3 +17,6 @@ loop-preserved g c =
       few = omega (arith, l.invariant.few, t.ensures.few, same);
       most = omega (arith, l.invariant.most, t.ensures.most);
     }
+
+pub returns-then-all_closed-clause-turns : goal.returns-then-all_closed-clause-turns
+returns-then-all_closed-clause-turns g c = grind arith

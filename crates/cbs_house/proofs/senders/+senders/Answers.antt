@@ -1,4 +1,5 @@
 use Rattle.std.proofs.Common.{◌≡◌, ℕ, ◌+◌, ◌*◌, ◌≤◌, length, rules, arith}
+use Rattle.std.proofs.lemmas.Grind.{common_steps}
 use Rattle.std.proofs.Math.Nat.{mul-add}
 use Rattle.cbs_house.proofs.Feeds.{sends_none, sends_set, sends_both}
 use Rattle.cbs_house.proofs.senders.+senders.Goals as goal
@@ -37,3 +38,12 @@ pub send_all-returns-in-Some-clause-most : goal.send_all-returns-in-Some-clause-
 send_all-returns-in-Some-clause-most g t c =
     let one : length c.args.feeds.now ≡ 1 = omega (arith, c.if-feeds-lt2.true, c.in-Some.ensures.item.3.0) in
     rw one (omega (arith, c.send_turns.ensures.most))
+
+pub send_all-returns-in-Some-clause-count : goal.send_all-returns-in-Some-clause-count
+send_all-returns-in-Some-clause-count g t c = grind (arith, common_steps)
+
+pub send_all-overflow_add-result : goal.send_all-overflow_add-result
+send_all-overflow_add-result g t c = grind arith
+
+pub send_all-returns-clause-count : goal.send_all-returns-clause-count
+send_all-returns-clause-count g t c = grind (arith, common_steps)

@@ -6,6 +6,8 @@ use cbs_core::{Core, CoreError, MAX_BACKLOG, Ran, ServerView};
 use cbs_job::SumJob;
 use cbs_rules::{Mode, Modes};
 use linked_list_allocator::LocalHeap;
+use std::alloc::Global;
+use std::process::Abort;
 
 const CASES: [Case; 2] = [
     Case {
@@ -84,15 +86,25 @@ fn each_call_on_a_core_with_one_server(rt: HostRuntime) {
     drop(ballast);
 }
 
+/// Backlogs, and why a core with such a backlog is refused, if it is.
+const BACKLOGS: [(u64, Option<CoreError>); 4] = [
+    (0, Some(CoreError::BadBacklog)),
+    (1, None),
+    (4096, None),
+    (4097, Some(CoreError::BadBacklog)),
+];
+
+/// Why a core with this backlog is refused, if it is.
+fn refusal(rt: &impl Abort, alloc: Global, backlog: u64) -> Option<CoreError> {
+    let plan = plan_of(rt, &[(2, 5)]);
+    let modes = Modes::uniform(Mode::Soft, plan.len() as u16);
+    Core::<SumJob>::new(alloc, plan, modes, backlog).err()
+}
+
 #[test]
 fn a_backlog_is_1_to_4096(rt: HostRuntime) {
-    let alloc = rt.alloc();
-    let bad = Some(CoreError::BadBacklog);
-    for &(backlog, error) in &[(0, bad), (1, None), (4096, None), (4097, bad)] {
-        let plan = plan_of(&rt, &[(2, 5)]);
-        let modes = Modes::uniform(Mode::Soft, plan.len() as u16);
-        let core = Core::<SumJob>::new(alloc, plan, modes, backlog);
-        same(&rt, "core.err()", core.err(), error);
+    for &(backlog, error) in &BACKLOGS {
+        same(&rt, "refusal", refusal(&rt, rt.alloc(), backlog), error);
     }
     same(&rt, "MAX_BACKLOG", MAX_BACKLOG, 4096);
 }

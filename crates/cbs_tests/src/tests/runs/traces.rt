@@ -365,6 +365,27 @@ const NO_SERVER: Row = Row {
     lines: "@0 run idle\n@0 advance 0\n",
 };
 
+const ROWS: [Row; 18] = [
+    NO_STEP,
+    LONG_PERIOD,
+    TWO_SERVERS,
+    SOFT_RENEWED,
+    THROTTLED_NOT_RENEWED,
+    THROTTLED_WAITS,
+    ONE_REPLENISHMENT,
+    REFUSED,
+    CLOCK_END,
+    LONGEST_ADVANCE,
+    TWO_MODES,
+    ARRIVAL_WHILE_THROTTLED,
+    REPLENISHED_WHILE_IDLE,
+    RENEWED_LATER,
+    EARLIEST_DEADLINE,
+    PEAK,
+    THREE_THROTTLED,
+    NO_SERVER,
+];
+
 /// A task file of these parts.
 fn file_of(rt: &impl Abort, alloc: Global, head: &str, server: &str, step: &str) -> String {
     format!(in alloc; "{head}server = [{server}]\nstep = [{step}]\n").expect(rt, "memory")
@@ -379,26 +400,7 @@ fn gives<R: Abort + Threads + Clock + Sync>(rt: &R, alloc: Global, row: &Row) {
 #[test]
 fn files_give_their_lines(rt: HostRuntime) {
     let alloc = rt.alloc();
-    for row in &[
-        NO_STEP,
-        LONG_PERIOD,
-        TWO_SERVERS,
-        SOFT_RENEWED,
-        THROTTLED_NOT_RENEWED,
-        THROTTLED_WAITS,
-        ONE_REPLENISHMENT,
-        REFUSED,
-        CLOCK_END,
-        LONGEST_ADVANCE,
-        TWO_MODES,
-        ARRIVAL_WHILE_THROTTLED,
-        REPLENISHED_WHILE_IDLE,
-        RENEWED_LATER,
-        EARLIEST_DEADLINE,
-        PEAK,
-        THREE_THROTTLED,
-        NO_SERVER,
-    ] {
+    for row in &ROWS {
         gives(&rt, alloc, row);
     }
 }

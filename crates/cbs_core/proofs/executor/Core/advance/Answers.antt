@@ -1,4 +1,5 @@
 use Rattle.std.proofs.Common.{◌+◌, refl, arith}
+use Rattle.std.proofs.lemmas.Grind.{common_steps}
 use Rattle.cbs_core.proofs.Agreements.{advance_agrees, advance_none}
 use Rattle.cbs_core.proofs.Cores.{core_jumped, budgets_kept}
 use Rattle.cbs_core.proofs.Effects.{jumped_same, all_same}
@@ -36,3 +37,12 @@ returns-then-n-gt0-clause-on_time g c = λ M agrees. keeps_time g.W.Work.meaning
 
 pub returns-else-n-gt0-clause-on_time : goal.returns-else-n-gt0-clause-on_time
 returns-else-n-gt0-clause-on_time g c = λ M agrees. keeps_time g.W.Work.meaning c.self.view_is c.self.invariant agrees (step.Advance c.args.n)
+
+pub returns-then-n-self-clause-budgets : goal.returns-then-n-self-clause-budgets
+returns-then-n-self-clause-budgets g c = grind (arith, common_steps)
+
+pub returns-then-n-gt0-clause-count : goal.returns-then-n-gt0-clause-count
+returns-then-n-gt0-clause-count g c = grind (arith, common_steps)
+
+pub returns-else-n-gt0-clause-budgets : goal.returns-else-n-gt0-clause-budgets
+returns-else-n-gt0-clause-budgets g c = grind (arith, common_steps)

@@ -1,4 +1,5 @@
-use Rattle.std.proofs.Common.{◌≡◌, ◌+◌, map, is_some, sym}
+use Rattle.std.proofs.Common.{◌≡◌, ◌+◌, map, is_some, sym, arith}
+use Rattle.std.proofs.lemmas.Grind.{common_steps}
 use Rattle.cbs_core.specs.Lists.{changed_at}
 use Rattle.cbs_core.specs.Faces.{face_at, with_unit, with_replenishment}
 use Rattle.cbs_core.specs.Queues.{list_at, result_run, ran_of}
@@ -82,3 +83,9 @@ returns-then-self-ge-LIMIT-clause-on_time g c = λ M agrees. keeps_time g.W.Work
 
 pub returns-clause-on_time : goal.returns-clause-on_time
 returns-clause-on_time g c = λ M agrees. keeps_time g.W.Work.meaning c.self.view_is c.self.invariant agrees step.Run
+
+pub returns-in_default-clause-budgets : goal.returns-in_default-clause-budgets
+returns-in_default-clause-budgets g c = grind (arith, common_steps)
+
+pub returns-then-self-ge-LIMIT-clause-budgets : goal.returns-then-self-ge-LIMIT-clause-budgets
+returns-then-self-ge-LIMIT-clause-budgets g c = grind (arith, common_steps)

@@ -1,4 +1,5 @@
-use Rattle.std.proofs.Common.{refl, rules}
+use Rattle.std.proofs.Common.{refl, rules, arith}
+use Rattle.std.proofs.lemmas.Grind.{common_steps}
 use Rattle.cbs_core.proofs.Agreements.{submit_replied, submit_left, submit_accepted}
 use Rattle.cbs_core.proofs.Cores.{queue_there}
 use Rattle.cbs_core.proofs.Refusals.{free_accepts, accepts_free}
@@ -36,3 +37,9 @@ returns-in-Some-clause-on_time g c = λ M agrees. keeps_time g.W.Work.meaning c.
 
 pub returns-then-is_err-clause-on_time : goal.returns-then-is_err-clause-on_time
 returns-then-is_err-clause-on_time g c = λ M agrees. keeps_time g.W.Work.meaning c.self.view_is c.self.invariant agrees (step.Submit c.args.server c.args.task)
+
+pub returns-in-Some-clause-budgets : goal.returns-in-Some-clause-budgets
+returns-in-Some-clause-budgets g c = grind (arith, common_steps)
+
+pub returns-then-is_err-clause-budgets : goal.returns-then-is_err-clause-budgets
+returns-then-is_err-clause-budgets g c = grind (arith, common_steps)

@@ -1,4 +1,5 @@
 use Rattle.std.proofs.Common.{refl, drop, map, ap, ◌∙◌, arith}
+use Rattle.std.proofs.lemmas.Grind.{common_steps}
 use Rattle.cbs_core.specs.Lists.{changed_at}
 use Rattle.cbs_core.specs.Queues.{jobs_of}
 use Rattle.cbs_core.proofs.QueuedJobs.{job_first, jobs_stepped, jobs_popped}
@@ -31,3 +32,15 @@ returns-clause-lists g c =
     (jobs_popped _ c.args.server
     ∙ ap (λ lists. changed_at (drop 1) lists c.args.server) (jobs_stepped queues c.args.server _)
     ∙ job_leaves g.W.Work.meaning (map jobs_of queues) c.args.server _ _ _ (job_first queues c.args.server _ c.first_mut.ensures.value) c.step.ensures.after (omega arith))
+
+pub first_mut-requires : goal.first_mut-requires
+first_mut-requires g c = grind (arith, common_steps)
+
+pub step-requires : goal.step-requires
+step-requires g c = grind (arith, common_steps)
+
+pub returns-then-left-gt0-clause-result : goal.returns-then-left-gt0-clause-result
+returns-then-left-gt0-clause-result g c = grind (arith, common_steps)
+
+pub returns-clause-result : goal.returns-clause-result
+returns-clause-result g c = grind (arith, common_steps)

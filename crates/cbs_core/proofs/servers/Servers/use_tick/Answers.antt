@@ -1,4 +1,5 @@
 use Rattle.std.proofs.Common.{◌∙◌, inr, rules, arith}
+use Rattle.std.proofs.lemmas.Grind.{common_steps}
 use Rattle.cbs_core.specs.Faces.{with_unit}
 use Rattle.cbs_core.proofs.Lists.{written}
 use Rattle.cbs_core.proofs.ReadyServers.{chosen_first, lists_first, lists_set, due_ready, due_set, due_earlier}
@@ -63,3 +64,15 @@ returns g c =
     let fs = c.self.inside.servers.items in
     let first = chosen_first fs c.self.inside.ready c.args.server it.result.now c.self.invariant.1 (rw (← c.self.view_is) at c.requires.chosen) (rw c.from.ensures at it.ensures.value) in
     rw (← c.self.view_is) (written (with_unit c.args.done) fs c.from.result c.args.server it.result.now c.use_tick.new.self c.from.ensures first.within it.ensures.value c.use_tick.ensures.face)
+
+pub index_mut-it-requires : goal.index_mut-it-requires
+index_mut-it-requires g c = grind (arith, common_steps)
+
+pub use_tick-requires-clause-some : goal.use_tick-requires-clause-some
+use_tick-requires-clause-some g c = grind (arith, common_steps)
+
+pub use_tick-requires-clause-room : goal.use_tick-requires-clause-room
+use_tick-requires-clause-room g c = grind (arith, common_steps)
+
+pub follow-requires-clause-known : goal.follow-requires-clause-known
+follow-requires-clause-known g c = grind (arith, common_steps)

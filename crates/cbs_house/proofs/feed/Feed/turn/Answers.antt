@@ -1,4 +1,5 @@
 use Rattle.std.proofs.Common.{sym, arith}
+use Rattle.std.proofs.lemmas.Grind.{common_steps}
 use Rattle.cbs_house.proofs.Feeds.{keeps_feed, keeps_sent}
 use Rattle.cbs_house.proofs.Messages.{pushed}
 use Rattle.cbs_house.proofs.feed.Feed.turn.Goals as goal
@@ -13,3 +14,9 @@ returns-in-Some-clause-kept g c =
 
 pub returns-in-None-clause-kept : goal.returns-in-None-clause-kept
 returns-in-None-clause-kept g c = grind (arith, pushed)
+
+pub returns-in-Some-clause-count : goal.returns-in-Some-clause-count
+returns-in-Some-clause-count g c = grind (arith, common_steps)
+
+pub returns-in-None-clause-count : goal.returns-in-None-clause-count
+returns-in-None-clause-count g c = grind (arith, common_steps)

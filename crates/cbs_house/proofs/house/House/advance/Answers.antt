@@ -1,4 +1,5 @@
-use Rattle.std.proofs.Common.{◌∷◌, [], refl}
+use Rattle.std.proofs.Common.{◌∷◌, [], refl, arith}
+use Rattle.std.proofs.lemmas.Grind.{common_steps}
 use Rattle.cbs_core.specs.declared.step.Step.TheVariants.{Advance}
 use Rattle.cbs_house.proofs.HouseInvariant.{housed_all, same_shelf}
 use Rattle.cbs_house.proofs.house.House.advance.Goals as goal
@@ -25,3 +26,6 @@ returns-in-Err-clause-refused g c = (
     handed = λ s. refl;
   },
 )
+
+pub returns-in-Err-clause-end : goal.returns-in-Err-clause-end
+returns-in-Err-clause-end g c = grind (arith, common_steps)

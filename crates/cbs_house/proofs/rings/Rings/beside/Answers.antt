@@ -1,4 +1,5 @@
 use Rattle.std.proofs.Common.{arith}
+use Rattle.std.proofs.lemmas.Grind.{common_steps}
 use Rattle.std.proofs.lemmas.List.{length-map}
 use Rattle.cbs_house.specs.Rings.{consumer_ring}
 use Rattle.cbs_house.proofs.RingLooks.{looked_at}
@@ -9,3 +10,6 @@ returns-clause-looked g c =
     let ends = c.args.self.now.ends.items in
     let p = looked_at ends c.args.server c.slots_beside.new.self c.index_mut-end.result.now (omega (arith, length-map ends consumer_ring, c.requires.within)) c.index_mut-end.ensures.value c.slots_beside.ensures.looked in
     record { rings = p.rings; received = p.received; known = p.known }
+
+pub index_mut-end-requires : goal.index_mut-end-requires
+index_mut-end-requires g c = grind (arith, common_steps)
