@@ -60,10 +60,15 @@ fn print_results(rt: &impl Print, name: &str, results: &[u64]) -> Result<()> {
     Ok(())
 }
 
-fn main(rt: HostRuntime) -> Result<()> {
-    let house = serve_all(&rt, rt.alloc())?;
+/// Prints the results of all servers.
+fn print_all(rt: &impl Print, house: &House<SumJob>) -> Result<()> {
     for (server, (name, _budget)) in SERVERS.iter().enumerate() {
-        print_results(&rt, name, house.results(server as u16)?)?;
+        print_results(rt, name, house.results(server as u16)?)?;
     }
     Ok(())
+}
+
+fn main(rt: HostRuntime) -> Result<()> {
+    let house = serve_all(&rt, rt.alloc())?;
+    print_all(&rt, &house)
 }

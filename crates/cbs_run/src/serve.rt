@@ -100,6 +100,23 @@ fn results_in(alloc: Global, house: &House<FileJob>) -> Result<Vec<Vec<u64>>, Al
     Ok(all)
 }
 
+/// The results of each server of a task file, after the clients have sent all its jobs and all are finished.
+fn served_results<R: Threads + Clock + Sync>(
+    rt: &R,
+    alloc: Global,
+    file: TaskFile,
+) -> Result<Vec<Vec<u64>>, HouseError>
+    ensures results { IfOk result (λ results. map (λ v. v.items) results.items ≡ results_by_server file) }
+    ensures few { IfOk result (λ results. length results.items ≤ 64) }
+    ensures stops { IfErr result (HouseStops file) }
+{
+    let house = served_house(rt, alloc, file)?;
+    match results_in(alloc, &house) {
+        Ok(results) => Ok(results),
+        Err(_) => Err(HouseError::OutOfMemory),
+    }
+}
+
 /// Serves the submits of a task file, and writes the results of each server.
 ///
 /// The house has the plan, the modes, the backlog and the ring of the file. Refuses with
@@ -117,11 +134,10 @@ pub fn serve_file<R: Threads + Clock + Sync, O: ByteOutput>(
     ensures { Leaves (result_lines file) (ServeStops file) result
         (record { written = O.written out.old; failed = O.failed out.old }) (record { written = O.written out.new; failed = O.failed out.new }) }
 {
-    let house = match served_house(rt, alloc, file) {
-        Ok(house) => house,
+    let results = match served_results(rt, alloc, file) {
+        Ok(results) => results,
         Err(error) => return Err(fault_of(error).unwrap()),
     };
-    let results = results_in(alloc, &house)?;
     let text = result_text(alloc, &results)?;
     write_text(out, text.as_bytes())?;
     Ok(())

@@ -53,15 +53,20 @@ fn run(rt: &impl Print, house: &mut House<SumJob>) -> Result<()> {
     Ok(())
 }
 
+/// Takes the client's messages, and runs its jobs.
+fn serve(rt: &impl Print, house: &mut House<SumJob>) -> Result<()> {
+    for _message in 0..3 {
+        poll(rt, house)?;
+    }
+    for _unit in 0..4 {
+        run(rt, house)?;
+    }
+    Ok(())
+}
+
 fn main(rt: HostRuntime) -> Result<()> {
     let alloc = rt.alloc();
     let (mut house, mut client) = open(alloc)?;
     send_all(alloc, &mut client)?;
-    for _message in 0..3 {
-        poll(&rt, &mut house)?;
-    }
-    for _unit in 0..4 {
-        run(&rt, &mut house)?;
-    }
-    Ok(())
+    serve(&rt, &mut house)
 }

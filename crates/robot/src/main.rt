@@ -93,14 +93,24 @@ fn drive(
     Ok(())
 }
 
+/// Drives all turns, and prints what each sensor sent.
+fn drive_all(
+    rt: &impl Print,
+    alloc: Global,
+    house: &mut House<TrackJob>,
+    sensors: &mut [Sensor],
+) -> Result<()> {
+    for turn in 0..TURNS {
+        drive(rt, alloc, turn, house, sensors)?;
+    }
+    for sensor in sensors.iter() {
+        sensor.print(rt)?;
+    }
+    Ok(())
+}
+
 fn main(rt: HostRuntime) -> Result<()> {
     let alloc = rt.alloc();
     let (mut house, mut sensors) = open(alloc)?;
-    for turn in 0..TURNS {
-        drive(&rt, alloc, turn, &mut house, &mut sensors)?;
-    }
-    for sensor in &sensors {
-        sensor.print(&rt)?;
-    }
-    Ok(())
+    drive_all(&rt, alloc, &mut house, &mut sensors)
 }

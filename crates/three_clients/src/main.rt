@@ -24,21 +24,24 @@ const CLIENTS: [(&str, u64); 3] = [("camera", 3), ("encoder", 5), ("telemetry", 
 /// How many turns in a row without anything to do the house waits for the clients: about 15 seconds.
 const IDLE_TURNS: u64 = 1_000_000;
 
-/// The clients and the house at once. Whether all clients could send all, and how the house's run ended.
+/// The clients and the house at once, until all clients have sent all and ended.
 fn run_together<R: Threads + Clock + Sync>(
     rt: &R,
     alloc: Global,
     clients: &mut [Client<SumJob>],
     house: &mut House<SumJob>,
     finished: &mut Finished,
-) -> (bool, Result<(), HouseError>) {
-    join_mut(
+) -> Result<()> {
+    let (sent, run) = join_mut(
         rt,
         &mut || -> bool
             requires { IsSync R.row }
         { send_all(rt, alloc, clients) },
         &mut || -> Result<(), HouseError> { house.run_until_closed(rt, finished, IDLE_TURNS) },
-    )
+    );
+    run?;
+    ensure!(sent, "a client could not send all its jobs");
+    Ok(())
 }
 
 /// The house and the clients, with a server for each. Telemetry gets its budget and no more; the other two may have
@@ -77,18 +80,21 @@ fn run_all<R: Threads + Clock + Sync>(
     finished: &mut Finished,
 ) -> Result<House<SumJob>> {
     let (mut house, mut clients) = open(alloc)?;
-    let (sent, run) = run_together(rt, alloc, &mut clients, &mut house, finished);
-    run?;
-    ensure!(sent, "a client could not send all its jobs");
+    run_together(rt, alloc, &mut clients, &mut house, finished)?;
     Ok(house)
+}
+
+/// Prints what came of the jobs of all clients.
+fn print_all(rt: &impl Print, finished: &Finished, house: &House<SumJob>) -> Result<()> {
+    for (server, (name, _budget)) in CLIENTS.iter().enumerate() {
+        let server = server as u16;
+        print_results(rt, name, finished.count(server), house.results(server)?)?;
+    }
+    Ok(())
 }
 
 fn main(rt: HostRuntime) -> Result<()> {
     let mut finished = Finished::none();
     let house = run_all(&rt, rt.alloc(), &mut finished)?;
-    for (server, (name, _budget)) in CLIENTS.iter().enumerate() {
-        let server = server as u16;
-        print_results(&rt, name, finished.count(server), house.results(server)?)?;
-    }
-    Ok(())
+    print_all(&rt, &finished, &house)
 }

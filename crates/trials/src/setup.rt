@@ -5,7 +5,7 @@ ghost use Rattle.cbs_house.specs.Rounds.{Ready};
 
 use anyhow::{Result, ensure};
 use cbs_house::{Feed, House, open_feeds};
-use cbs_job::{SumJob, Task, Work};
+use cbs_job::{MAX_UNITS, SumJob, Task, Work};
 use cbs_rate::{Bound, Plan, Reservation};
 use cbs_rules::Modes;
 use std::alloc::Global;
@@ -20,15 +20,28 @@ pub fn plan_of(rates: &[(u64, u64)]) -> Result<Plan> {
 }
 
 /// The task that adds these numbers up.
-pub fn sum_of(alloc: Global, numbers: [u32; 3]) -> Result<Task<SumJob>> {
-    let work = SumJob::new(Vec::from_array(alloc, numbers)?);
+pub fn sum_of(alloc: Global, numbers: &[u32]) -> Result<Task<SumJob>> {
+    ensure!(numbers.len() <= MAX_UNITS as usize, "too many numbers");
+    let work = SumJob::new(Vec::from_slice(alloc, numbers)?);
     Ok(Task::new(work).map_err(|refused| refused.error)?)
 }
 
-/// The task of one unit that comes to this number.
-pub fn unit_of(alloc: Global, number: u32) -> Result<Task<SumJob>> {
-    let work = SumJob::new(Vec::from_array(alloc, [number])?);
-    Ok(Task::new(work).map_err(|refused| refused.error)?)
+/// The tasks that add these numbers up.
+fn list_of(alloc: Global, sums: &[&[u32]]) -> Result<Vec<Task<SumJob>>> {
+    let mut list = Vec::with_capacity(alloc, sums.len())?;
+    for numbers in sums {
+        list.push(sum_of(alloc, numbers)?)?;
+    }
+    Ok(list)
+}
+
+/// The list of each server.
+pub fn lists_of(alloc: Global, lists: &[&[&[u32]]]) -> Result<Vec<Vec<Task<SumJob>>>> {
+    let mut all = Vec::with_capacity(alloc, lists.len())?;
+    for sums in lists {
+        all.push(list_of(alloc, sums)?)?;
+    }
+    Ok(all)
 }
 
 /// A house of these servers, with this backlog and these rings, and for each a feed of the list at its place.

@@ -60,8 +60,8 @@ fn makes_room(rt: &impl Print, what: &str, core: &mut Core<SumJob>) {
 
 /// A job.
 pub fn submit(rt: &impl Print, alloc: Global) -> Result<()> {
+    let task = sum_of(alloc, &[1, 2, 3])?;
     let mut core = core_of_one(alloc)?;
-    let task = sum_of(alloc, [1, 2, 3])?;
     begin(rt);
     if let Some(task) = submitted(rt, &mut core, task) {
         shows(rt, &core);
@@ -99,8 +99,8 @@ fn six_steps(alloc: Global) -> Result<Vec<Step<WideJob>>> {
 
 /// A list of steps.
 pub fn run_steps(rt: &impl Print, alloc: Global) -> Result<()> {
-    let mut core = core_of_one(alloc)?;
     let steps = six_steps(alloc)?;
+    let mut core = core_of_one(alloc)?;
     begin(rt);
     if let Some(steps) = made(rt, &mut core, steps) {
         shows(rt, &core);

@@ -6,7 +6,7 @@ ghost use Rattle.cbs_house.specs.Houses.{rings_of};
 ghost use Rattle.cbs_house.specs.RingEnds.{IsOpened};
 
 use super::telling::{begin, tell};
-use crate::setup::{plan_of, unit_of};
+use crate::setup::{lists_of, plan_of, sum_of};
 use anyhow::{Result, bail, ensure};
 use cbs_house::{
     Client, CollectError, Collector, FeedsRefused, House, HouseError, feeds_of, open_house,
@@ -40,17 +40,10 @@ fn two_clients(alloc: Global) -> Result<Vec<Client<SumJob>>> {
     Ok(clients)
 }
 
-/// A list of one job, and one of none.
-fn two_lists(alloc: Global) -> Result<Vec<Vec<Task<SumJob>>>> {
-    let mut lists = Vec::with_capacity(alloc, 2)?;
-    lists.push(Vec::from_array(alloc, [unit_of(alloc, 5)?])?)?;
-    lists.push(Vec::new(alloc))?;
-    Ok(lists)
-}
-
-/// Feeds of two clients.
+/// Feeds of two clients, with a list of one job, and one of none.
 pub fn feeds(rt: &impl Print, alloc: Global) -> Result<()> {
-    let (clients, lists) = (two_clients(alloc)?, two_lists(alloc)?);
+    let lists = lists_of(alloc, &[&[&[5]], &[]])?;
+    let clients = two_clients(alloc)?;
     ensure!(clients.len() == lists.len(), "not a list for each client");
     begin(rt);
     if let Some(back) = fed(rt, alloc, clients, lists) {
@@ -197,9 +190,10 @@ fn drains(rt: &impl Print, house: &mut House<SumJob>) {
 fn two_sent(rt: &impl Print, alloc: Global) -> Result<(House<SumJob>, Client<SumJob>)>
     ensures { IfOk result (λ r. IsOpened (rings_of r.0) r.1) }
 {
+    let (five, seven) = (sum_of(alloc, &[5])?, sum_of(alloc, &[7])?);
     let (house, mut client) = house_of_one(alloc)?;
-    sends(rt, &mut client, unit_of(alloc, 5)?);
-    sends(rt, &mut client, unit_of(alloc, 7)?);
+    sends(rt, &mut client, five);
+    sends(rt, &mut client, seven);
     Ok((house, client))
 }
 

@@ -4,10 +4,10 @@ ghost use Rattle.std.specs.Prelude.{◌<◌, ◌≡◌, length, IfOk};
 ghost use Rattle.cbs_house.specs.Rounds.{Ready};
 
 use super::telling::{begin, tell};
-use crate::setup::{fed, plan_of, sum_of, unit_of};
+use crate::setup::{fed, lists_of, plan_of};
 use anyhow::Result;
 use cbs_house::{Feed, House, OpenGate, serve, serve_round};
-use cbs_job::{SumJob, Task};
+use cbs_job::SumJob;
 use cbs_rules::{Mode, Modes};
 use std::alloc::Global;
 use std::thread::Threads;
@@ -16,19 +16,8 @@ use std::time::Clock;
 /// So many turns that a round ends because all is taken.
 const TURNS: u64 = 100_000;
 
-/// Jobs of three servers, of which the second has none.
-fn job_lists(alloc: Global) -> Result<Vec<Vec<Task<SumJob>>>> {
-    let mut lists = Vec::with_capacity(alloc, 3)?;
-    lists.push(list_of(alloc, sum_of(alloc, [1, 2, 3])?, unit_of(alloc, 9)?)?)?;
-    lists.push(Vec::new(alloc))?;
-    lists.push(list_of(alloc, unit_of(alloc, 10)?, sum_of(alloc, [20, 30, 0])?)?)?;
-    Ok(lists)
-}
-
-/// A list of two jobs.
-fn list_of(alloc: Global, first: Task<SumJob>, second: Task<SumJob>) -> Result<Vec<Task<SumJob>>> {
-    Ok(Vec::from_array(alloc, [first, second])?)
-}
+/// The jobs of three servers, of which the second has none: the numbers that each adds up.
+const JOBS: [&[&[u32]]; 3] = [&[&[1, 2, 3], &[9]], &[], &[&[10], &[20, 30, 0]]];
 
 /// A house of three servers, and a feed of the jobs of each.
 fn three_fed(alloc: Global) -> Result<(House<SumJob>, Vec<Feed<SumJob>>)>
@@ -36,7 +25,7 @@ fn three_fed(alloc: Global) -> Result<(House<SumJob>, Vec<Feed<SumJob>>)>
 {
     let plan = plan_of(&[(2, 5), (1, 10), (1, 4)])?;
     let modes = Modes::uniform(Mode::Soft, plan.len() as u16);
-    fed(alloc, plan, modes, 4, 4, job_lists(alloc)?)
+    fed(alloc, plan, modes, 4, 4, lists_of(alloc, &JOBS)?)
 }
 
 /// How many messages stand in the ring of the feed at this index.

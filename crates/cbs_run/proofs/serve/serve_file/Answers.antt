@@ -1,22 +1,16 @@
-use Rattle.std.proofs.Common.{◌≡◌, ◌∙◌, ap, map}
+use Rattle.std.proofs.Common.{◌≡◌, ◌∙◌}
 use Rattle.std.proofs.lemmas.Result.{err_from_is_err_and}
-use Rattle.std.specs.List.{range_with_len}
-use Rattle.cbs_house.specs.Houses.{results_of}
-use Rattle.cbs_run.specs.ResultLines.{result_lines, results_by_server}
+use Rattle.cbs_run.specs.ResultLines.{result_lines}
 use Rattle.cbs_run.proofs.ResultLines.{result_lines_are}
 use Rattle.cbs_run.proofs.serve.serve_file.Goals as goal
 
 pub returns-in_err-write_text : goal.returns-in_err-write_text
 returns-in_err-write_text g c =
     let p = err_from_is_err_and c.from_residual-in_err-write_text.result c.from_residual-in_err-write_text.ensures.1 in
-    let results : map (λ v. v.items) c.in_ok-results.results.items ≡ results_by_server c.args.file =
-    c.in_ok-results.ensures.results ∙ (ap (λ n. map (results_of c.in-Ok.house) (range_with_len 0 n)) c.in-Ok.ensures.servers ∙ c.in-Ok.ensures.results) in
-    let text : c.as_bytes.result.now ≡ result_lines c.args.file = c.as_bytes.ensures.value ∙ ((rw c.deref.ensures.value at c.in_ok-text.ensures) ∙ result_lines_are c.args.file _ results) in
+    let text : c.as_bytes.result.now ≡ result_lines c.args.file = c.as_bytes.ensures.value ∙ ((rw c.deref.ensures.value at c.in_ok-text.ensures) ∙ result_lines_are c.args.file _ c.in-Ok.ensures.results) in
     rw (p.1, p.2) (rw text at c.in_err-write_text.ensures.err)
 
 pub returns : goal.returns
 returns g c =
-    let results : map (λ v. v.items) c.in_ok-results.results.items ≡ results_by_server c.args.file =
-    c.in_ok-results.ensures.results ∙ (ap (λ n. map (results_of c.in-Ok.house) (range_with_len 0 n)) c.in-Ok.ensures.servers ∙ c.in-Ok.ensures.results) in
-    let text : c.as_bytes.result.now ≡ result_lines c.args.file = c.as_bytes.ensures.value ∙ ((rw c.deref.ensures.value at c.in_ok-text.ensures) ∙ result_lines_are c.args.file _ results) in
+    let text : c.as_bytes.result.now ≡ result_lines c.args.file = c.as_bytes.ensures.value ∙ ((rw c.deref.ensures.value at c.in_ok-text.ensures) ∙ result_lines_are c.args.file _ c.in-Ok.ensures.results) in
     rw text at c.in_ok-write_text.ensures.ok
