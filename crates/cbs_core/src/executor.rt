@@ -39,7 +39,6 @@ pub const MAX_BACKLOG: u64 = 4096;
 ///
 /// It runs one unit of one job a tick, of the ready server with the earliest deadline, and of equal
 /// deadlines the lower number; the jobs of a server first in, first out.
-#[derive(Drop)]
 pub struct Core<W: Work, A: Allocator = Global> {
     alloc: A,
     backlog: u64,
@@ -47,6 +46,19 @@ pub struct Core<W: Work, A: Allocator = Global> {
     // In front of the servers, whose list of the ready ones is long.
     queues: Queues<W, A>,
     servers: Servers<A>,
+}
+
+// What owns a core calls this on each way out, in the place of the drops of all that a core holds.
+impl<W: Work, A: Allocator> Drop for Core<W, A> {
+    fn drop(self) {
+        let Core {
+            alloc: _,
+            backlog: _,
+            clock: _,
+            queues: _,
+            servers: _,
+        } = self;
+    }
 }
 
 impl<W: Work, A: Allocator> Model for Core<W, A> {

@@ -11,7 +11,6 @@ use rtrb::Producer;
 use std::alloc::{Allocator, Global};
 
 /// The client of one server. It sends jobs over a ring of its own, from any thread, and never waits.
-#[derive(Drop)]
 pub struct Client<W: Work, A: Allocator = Global> {
     pub(crate) server: u16,
     // how many jobs were sent
@@ -21,6 +20,18 @@ pub struct Client<W: Work, A: Allocator = Global> {
     ghost counted: { count ≡ length (jobs_among (sent ring)) },
     ghost marked: { ended ≡ has_end (sent ring) },
     ghost last: { end_is_last (sent ring) ≡ true },
+}
+
+// One call on each way out of what owns a client.
+impl<W: Work, A: Allocator> Drop for Client<W, A> {
+    fn drop(self) {
+        let Client {
+            server: _,
+            count: _,
+            ended: _,
+            ring: _,
+        } = self;
+    }
 }
 
 /// A job that was not sent, handed back.

@@ -10,10 +10,16 @@ use std::alloc::{Allocator, Global};
 use std::collections::VecDeque;
 
 /// A client, and the jobs that it has still to send, in order. Behind them it ends.
-#[derive(Drop)]
 pub struct Feed<W: Work, A: Allocator = Global> {
     pub(crate) client: Client<W, A>,
     pub(crate) jobs: VecDeque<Task<W>, A>,
+}
+
+// One call on each way out of what owns a feed.
+impl<W: Work, A: Allocator> Drop for Feed<W, A> {
+    fn drop(self) {
+        let Feed { client: _, jobs: _ } = self;
+    }
 }
 
 impl<W: Work, A: Allocator> Feed<W, A> {

@@ -7,12 +7,20 @@ use crate::sum::SumJob;
 use crate::work::Work;
 
 /// A job of a task file. It does what the job inside does.
-#[derive(Drop)]
 pub enum FileJob {
     /// Adds numbers up.
     Sum(SumJob),
     /// Seeks the greatest number.
     Peak(PeakJob),
+}
+
+// One call on each way out of what owns a job.
+impl Drop for FileJob {
+    fn drop(self) {
+        match self {
+            FileJob::Sum(_) | FileJob::Peak(_) => {}
+        }
+    }
 }
 
 impl Work for FileJob {

@@ -8,11 +8,21 @@ use crate::work::Work;
 use std::marker::Model;
 
 /// Seeks the greatest number, one number in each unit. Its output is the greatest so far, 0 at first.
-#[derive(Drop)]
 pub struct PeakJob {
     numbers: Vec<u32>,
     next: usize,
     greatest: u32,
+}
+
+// One call on each way out of what owns a job.
+impl Drop for PeakJob {
+    fn drop(self) {
+        let PeakJob {
+            numbers: _,
+            next: _,
+            greatest: _,
+        } = self;
+    }
 }
 
 impl Model for PeakJob {

@@ -8,11 +8,21 @@ use crate::work::Work;
 use std::marker::Model;
 
 /// Adds numbers up, one in each unit. Its output is the total so far, 0 at first.
-#[derive(Drop)]
 pub struct SumJob {
     numbers: Vec<u32>,
     next: usize,
     total: u64,
+}
+
+// One call on each way out of what owns a job.
+impl Drop for SumJob {
+    fn drop(self) {
+        let SumJob {
+            numbers: _,
+            next: _,
+            total: _,
+        } = self;
+    }
 }
 
 impl Model for SumJob {

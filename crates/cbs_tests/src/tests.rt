@@ -16,6 +16,20 @@ fn same<T: Debug + Drop + PartialEq>(rt: &impl Abort, label: &str, answer: T, wa
     assert!(rt; answer == wanted, "{label}: {answer:?}, not {wanted:?}");
 }
 
+/// The same at this place of the rows of this name.
+fn same_at<T: Debug + Drop + PartialEq>(
+    rt: &impl Abort,
+    at: (&str, usize),
+    label: &str,
+    answer: T,
+    wanted: T,
+) {
+    assert!(rt;
+        answer == wanted,
+        "{at:?}: {label}: {answer:?}, not {wanted:?}"
+    );
+}
+
 /// Ends the test where a value is not written so.
 fn says(rt: &impl Abort, alloc: Global, value: &impl Display, text: &str) {
     let said = format!(in alloc; "{value}").expect(rt, "memory");

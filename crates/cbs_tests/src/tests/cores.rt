@@ -12,7 +12,7 @@ mod rows;
 mod rules;
 mod scheduling;
 
-use super::{filled, plan_of, same, says, sum_of};
+use super::{filled, plan_of, same, same_at, says, sum_of};
 use cbs_core::{Core, Ran};
 use cbs_job::{Completion, MAX_UNITS, Task, Work};
 use cbs_rules::{Mode, Modes};

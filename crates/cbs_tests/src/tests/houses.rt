@@ -14,7 +14,7 @@ mod rows;
 mod serving;
 mod turning;
 
-use super::{filled, plan_of, same, says, sum_of};
+use super::{filled, plan_of, same, same_at, says, sum_of};
 use cbs_job::{SumJob, Task};
 use std::alloc::Global;
 use std::process::Abort;

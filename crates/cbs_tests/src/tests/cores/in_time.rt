@@ -1,7 +1,7 @@
 //! No server is late: seen by every view after every step.
 
 use super::rows::{Case, Row, new_core, play, plays};
-use super::{core_of, same};
+use super::{core_of, same, same_at};
 use cbs_core::Core;
 use cbs_job::SumJob;
 use cbs_rules::Mode;
@@ -27,7 +27,7 @@ fn plays_in_time(rt: &impl Abort, alloc: Global, case: &Case) {
     for (place, &row) in case.rows.iter().enumerate() {
         let at = (case.name, place);
         play(rt, alloc, at, &mut core, row);
-        same(rt, "late servers", (at, late(&core)), (at, 0));
+        same_at(rt, at, "late servers", late(&core), 0);
     }
 }
 

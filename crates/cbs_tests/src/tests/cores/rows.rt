@@ -1,6 +1,6 @@
 //! Calls of a core in rows, each with what it answers.
 
-use super::{done, same, sum_of, whole};
+use super::{done, same_at, sum_of, whole};
 use cbs_core::{Core, CoreError, Ran, ServerView};
 use cbs_job::{SumJob, Work};
 use cbs_rate::{Bound, Plan, Reservation};
@@ -90,13 +90,13 @@ pub fn play<A: Allocator>(
     match row {
         Row::Submit(server, numbers, number) => {
             let answer = core.submit(server, sum_of(rt, alloc, numbers)).ok();
-            same(rt, "submit", (at, answer), (at, Some(number)));
+            same_at(rt, at, "submit", answer, Some(number));
         }
         Row::Refused(server, number, error) => {
             let task = sum_of(rt, alloc, &[number]);
             let refused = core.submit(server, task).err().expect(rt, "a refusal");
-            let back = (at, refused.error, whole(refused.task));
-            same(rt, "submit", back, (at, error, u64::from(number)));
+            let back = (refused.error, whole(refused.task));
+            same_at(rt, at, "submit", back, (error, u64::from(number)));
         }
         _ => does(rt, at, core, row),
     }
@@ -111,21 +111,21 @@ pub fn does<W: Work, A: Allocator>(
 ) {
     match row {
         Row::MakeRoom(server, wanted) => {
-            same(rt, "make_room", (at, core.make_room(server)), (at, wanted));
+            same_at(rt, at, "make_room", core.make_room(server), wanted);
         }
         Row::Close(server, wanted) => {
-            same(rt, "close", (at, core.close(server)), (at, wanted));
+            same_at(rt, at, "close", core.close(server), wanted);
         }
         Row::Advance(ticks, wanted) => {
-            same(rt, "advance", (at, core.advance(ticks)), (at, wanted));
+            same_at(rt, at, "advance", core.advance(ticks), wanted);
         }
-        Row::Run(wanted) => same(rt, "run", (at, core.run()), (at, wanted)),
+        Row::Run(wanted) => same_at(rt, at, "run", core.run(), wanted),
         Row::Unit(server) => {
             let unit = Ran::Unit { server, seq: 0 };
-            same(rt, "run", (at, core.run()), (at, unit));
+            same_at(rt, at, "run", core.run(), unit);
         }
         Row::Done(server, seq, output) => {
-            same(rt, "run", (at, core.run()), (at, done(server, seq, output)));
+            same_at(rt, at, "run", core.run(), done(server, seq, output));
         }
         _ => looks(rt, at, core, row),
     }
@@ -134,23 +134,18 @@ pub fn does<W: Work, A: Allocator>(
 /// Looks at what a row tells of.
 fn looks<W: Work, A: Allocator>(rt: &impl Abort, at: (&str, usize), core: &Core<W, A>, row: Row) {
     match row {
-        Row::Now(wanted) => same(rt, "now", (at, core.now()), (at, wanted)),
-        Row::Ready(wanted) => same(rt, "ready", (at, core.ready()), (at, wanted)),
-        Row::IdleSpan(wanted) => same(rt, "idle_span", (at, core.idle_span()), (at, wanted)),
+        Row::Now(wanted) => same_at(rt, at, "now", core.now(), wanted),
+        Row::Ready(wanted) => same_at(rt, at, "ready", core.ready(), wanted),
+        Row::IdleSpan(wanted) => same_at(rt, at, "idle_span", core.idle_span(), wanted),
         Row::Promised(server, wanted) => {
-            same(rt, "promised", (at, core.promised(server)), (at, wanted));
+            same_at(rt, at, "promised", core.promised(server), wanted);
         }
         Row::State(server, budget, deadline, throttled) => {
             let view = core.view(server).expect(rt, "a server");
             let state = (view.budget, view.deadline, view.throttled);
-            same(
-                rt,
-                "state",
-                (at, state),
-                (at, (budget, deadline, throttled)),
-            );
+            same_at(rt, at, "state", state, (budget, deadline, throttled));
         }
-        Row::View(server, wanted) => same(rt, "view", (at, core.view(server)), (at, wanted)),
+        Row::View(server, wanted) => same_at(rt, at, "view", core.view(server), wanted),
         _ => panic!(rt; "{at:?}: a submit of a sum, and the jobs of the core are others"),
     }
 }

@@ -6,7 +6,7 @@ ghost use Rattle.cbs_house.specs.Houses.{rings_of};
 
 use super::calls::{ends, gave, sends, stands_at};
 use super::rows::{Opened, Row};
-use super::{plan_of, same, sum_of};
+use super::{plan_of, same, same_at, sum_of};
 use cbs_house::{Client, House, HouseError, SendError, Sink, open_house};
 use cbs_job::{Completion, SumJob, Task};
 use cbs_rules::{Mode, Modes};
@@ -54,20 +54,20 @@ fn closes<R: Clock + Abort>(
 {
     let (idle_turns, wanted) = run;
     let answer = house.run_until_closed(rt, seen, idle_turns);
-    same(rt, "run_until_closed", (at, answer), (at, wanted));
+    same_at(rt, at, "run_until_closed", answer, wanted);
 }
 
 /// Looks at what a sink was told: server, number and result of each job, in order.
 fn was_told(rt: &impl Abort, at: (&str, usize), seen: &Seen, wanted: &[(u16, u64, u64)]) {
     assert!(rt; !seen.lost);
-    same(rt, "told", (at, seen.told.len()), (at, wanted.len()));
+    same_at(rt, at, "told", seen.told.len(), wanted.len());
     for (done, &(server, seq, output)) in seen.told.iter().zip(wanted) {
         let wanted = Completion {
             server,
             seq,
             result: output,
         };
-        same(rt, "told", (at, *done), (at, wanted));
+        same_at(rt, at, "told", *done, wanted);
     }
 }
 

@@ -1,6 +1,6 @@
 //! Completions, as a collector takes them.
 
-use super::{filled, same};
+use super::{filled, same_at};
 use cbs_house::{CollectError, Collector};
 use cbs_job::Completion;
 use linked_list_allocator::LocalHeap;
@@ -43,15 +43,10 @@ fn play<A: Allocator + Clone>(
 ) {
     match row {
         Row::MakeRoom(server, wanted) => {
-            same(
-                rt,
-                "make_room",
-                (at, collector.make_room(server)),
-                (at, wanted),
-            );
+            same_at(rt, at, "make_room", collector.make_room(server), wanted);
         }
         Row::Expect(server, wanted) => {
-            same(rt, "expect", (at, collector.expect(server)), (at, wanted));
+            same_at(rt, at, "expect", collector.expect(server), wanted);
         }
         Row::Take(server, seq, result, wanted) => {
             let done = Completion {
@@ -59,19 +54,14 @@ fn play<A: Allocator + Clone>(
                 seq,
                 result,
             };
-            same(rt, "take", (at, collector.take(done)), (at, wanted));
+            same_at(rt, at, "take", collector.take(done), wanted);
         }
         Row::Results(server, wanted) => {
-            same(rt, "results", (at, collector.results(server)), (at, wanted));
+            same_at(rt, at, "results", collector.results(server), wanted);
         }
         Row::TakeResults(server, wanted) => match collector.take_results(server) {
-            Ok(results) => same(
-                rt,
-                "take_results",
-                (at, Ok(results.as_slice())),
-                (at, wanted),
-            ),
-            Err(error) => same(rt, "take_results", (at, Err(error)), (at, wanted)),
+            Ok(results) => same_at(rt, at, "take_results", Ok(results.as_slice()), wanted),
+            Err(error) => same_at(rt, at, "take_results", Err(error), wanted),
         },
     }
 }

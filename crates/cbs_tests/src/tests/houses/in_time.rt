@@ -1,6 +1,6 @@
 //! Nobody is late in a house, and each job is done when it was promised: seen after every step.
 
-use super::{plan_of, same, sum_of};
+use super::{plan_of, same_at, sum_of};
 use cbs_core::Ran;
 use cbs_house::{Client, House, Poll, open_house};
 use cbs_job::{Completion, SumJob};
@@ -67,23 +67,18 @@ fn takes(
     (numbers, number, tick): (&[u32], u64, u128),
 ) {
     let sent = client.send(sum_of(rt, alloc, numbers)).ok();
-    same(rt, "send", (at, sent), (at, Some(number)));
+    same_at(rt, at, "send", sent, Some(number));
     let polled = house.poll(client.server());
-    same(rt, "poll", (at, polled), (at, Poll::Took(number)));
+    same_at(rt, at, "poll", polled, Poll::Took(number));
     let promised = house.promised(client.server());
-    same(rt, "promised", (at, promised), (at, Some(tick)));
+    same_at(rt, at, "promised", promised, Some(tick));
 }
 
 /// Makes the call of a row that sends nothing.
 fn does(rt: &impl Abort, at: (&str, usize), house: &mut House<SumJob>, row: Row) {
     match row {
         Row::Unit(server, seq) => {
-            same(
-                rt,
-                "run",
-                (at, house.run()),
-                (at, Ran::Unit { server, seq }),
-            );
+            same_at(rt, at, "run", house.run(), Ran::Unit { server, seq });
         }
         Row::Done(server, seq, result, tick) => {
             let done = Completion {
@@ -91,18 +86,18 @@ fn does(rt: &impl Abort, at: (&str, usize), house: &mut House<SumJob>, row: Row)
                 seq,
                 result,
             };
-            same(rt, "run", (at, house.run()), (at, Ran::Done(done)));
-            same(rt, "now", (at, house.now()), (at, tick));
+            same_at(rt, at, "run", house.run(), Ran::Done(done));
+            same_at(rt, at, "now", house.now(), tick);
         }
         Row::Wait => {
-            same(rt, "idle_span", (at, house.idle_span()), (at, Some(1)));
-            same(rt, "advance", (at, house.advance(1)), (at, Ok(())));
+            same_at(rt, at, "idle_span", house.idle_span(), Some(1));
+            same_at(rt, at, "advance", house.advance(1), Ok(()));
         }
         Row::Results(server, wanted) => {
-            same(rt, "results", (at, house.results(server)), (at, Ok(wanted)));
+            same_at(rt, at, "results", house.results(server), Ok(wanted));
         }
         Row::Promised(server, wanted) => {
-            same(rt, "promised", (at, house.promised(server)), (at, wanted));
+            same_at(rt, at, "promised", house.promised(server), wanted);
         }
         Row::Take(..) => {}
     }

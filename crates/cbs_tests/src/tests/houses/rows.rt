@@ -5,7 +5,7 @@ ghost use Rattle.cbs_house.specs.Houses.{rings_of};
 ghost use Rattle.cbs_house.specs.RingEnds.{IsOpened};
 
 use super::polling::one_client;
-use super::{same, sum_of};
+use super::{same_at, sum_of};
 use cbs_core::{Ran, ServerView};
 use cbs_house::{Client, House, HouseError, Poll, SendError, Turn};
 use cbs_job::{Completion, SumJob};
@@ -106,28 +106,28 @@ impl<A: Allocator + Clone> Opened<A> {
         match row {
             Row::Send(numbers, number) => {
                 let answer = self.client.send(sum_of(rt, alloc, numbers)).ok();
-                same(rt, "send", (at, answer), (at, Some(number)));
+                same_at(rt, at, "send", answer, Some(number));
             }
             Row::Refused(number, error) => {
                 let task = sum_of(rt, alloc, &[number]);
                 let refused = self.client.send(task).err().expect(rt, "a refusal");
-                let back = (at, refused.error, refused.task.left());
-                same(rt, "send", back, (at, error, 1));
+                let back = (refused.error, refused.task.left());
+                same_at(rt, at, "send", back, (error, 1));
             }
-            Row::End(wanted) => same(rt, "end", (at, self.client.end()), (at, wanted)),
-            Row::Free(wanted) => same(rt, "free", (at, self.client.free()), (at, wanted)),
+            Row::End(wanted) => same_at(rt, at, "end", self.client.end(), wanted),
+            Row::Free(wanted) => same_at(rt, at, "free", self.client.free(), wanted),
             Row::Settle(wanted) => {
                 let standing = self.house.settle(&mut self.client);
-                same(rt, "settle", (at, standing), (at, wanted));
+                same_at(rt, at, "settle", standing, wanted);
             }
             Row::PollBeside(wanted) => {
                 let answer = self.house.poll_beside(&mut self.client);
-                same(rt, "poll_beside", (at, answer), (at, wanted));
+                same_at(rt, at, "poll_beside", answer, wanted);
             }
             Row::Client(server, sent, ended) => {
                 let client = &self.client;
                 let shown = (client.server(), client.sent(), client.ended());
-                same(rt, "client", (at, shown), (at, (server, sent, ended)));
+                same_at(rt, at, "client", shown, (server, sent, ended));
             }
             Row::IdleTurns => self.idles(rt, at),
             _ => does(rt, at, &mut self.house, row),
@@ -164,13 +164,13 @@ fn does<A: Allocator + Clone>(
     ensures { rings_of house.new ≡ rings_of house.old }
 {
     match row {
-        Row::Poll(server, wanted) => same(rt, "poll", (at, house.poll(server)), (at, wanted)),
-        Row::Run(wanted) => same(rt, "run", (at, house.run()), (at, wanted)),
-        Row::Done(seq, output) => same(rt, "run", (at, house.run()), (at, done(seq, output))),
+        Row::Poll(server, wanted) => same_at(rt, at, "poll", house.poll(server), wanted),
+        Row::Run(wanted) => same_at(rt, at, "run", house.run(), wanted),
+        Row::Done(seq, output) => same_at(rt, at, "run", house.run(), done(seq, output)),
         Row::Advance(ticks, wanted) => {
-            same(rt, "advance", (at, house.advance(ticks)), (at, wanted));
+            same_at(rt, at, "advance", house.advance(ticks), wanted);
         }
-        Row::Drain(wanted) => same(rt, "drain", (at, house.drain()), (at, wanted)),
+        Row::Drain(wanted) => same_at(rt, at, "drain", house.drain(), wanted),
         Row::Turn(took, advanced) => turns(rt, at, house, (took, Ran::Idle, advanced)),
         Row::DoneTurn(took, seq, output) => turns(rt, at, house, (took, done(seq, output), 0)),
         Row::TakeResults(server, wanted) => hands_out(rt, at, house, server, wanted),
@@ -203,7 +203,7 @@ fn turns<A: Allocator>(
         ran,
         advanced,
     };
-    same(rt, "turn", (at, house.turn()), (at, wanted));
+    same_at(rt, at, "turn", house.turn(), wanted);
 }
 
 /// Asks for the results of a server, to have them.
@@ -217,24 +217,19 @@ pub fn hands_out<A: Allocator + Clone>(
     ensures { rings_of house.new ≡ rings_of house.old }
 {
     match house.take_results(server) {
-        Ok(results) => same(
-            rt,
-            "take_results",
-            (at, Ok(results.as_slice())),
-            (at, wanted),
-        ),
-        Err(error) => same(rt, "take_results", (at, Err(error)), (at, wanted)),
+        Ok(results) => same_at(rt, at, "take_results", Ok(results.as_slice()), wanted),
+        Err(error) => same_at(rt, at, "take_results", Err(error), wanted),
     }
 }
 
 /// Looks at what a row tells of.
 fn looks<A: Allocator>(rt: &impl Abort, at: (&str, usize), house: &House<SumJob, A>, row: Row) {
     match row {
-        Row::Now(wanted) => same(rt, "now", (at, house.now()), (at, wanted)),
-        Row::IdleSpan(wanted) => same(rt, "idle_span", (at, house.idle_span()), (at, wanted)),
-        Row::View(server, wanted) => same(rt, "view", (at, house.view(server)), (at, wanted)),
+        Row::Now(wanted) => same_at(rt, at, "now", house.now(), wanted),
+        Row::IdleSpan(wanted) => same_at(rt, at, "idle_span", house.idle_span(), wanted),
+        Row::View(server, wanted) => same_at(rt, at, "view", house.view(server), wanted),
         Row::Results(server, wanted) => {
-            same(rt, "results", (at, house.results(server)), (at, wanted));
+            same_at(rt, at, "results", house.results(server), wanted);
         }
         _ => panic!(rt; "{at:?}: a row of the client, and no client is at hand"),
     }
