@@ -1,58 +1,18 @@
-//! Three clients on threads of their own: a camera, an encoder and telemetry make their jobs as they go, many more than the
-//! rings hold, while the house polls and runs until all have ended. The output is the same on every schedule.
+//! Three clients on threads of their own: a camera, an encoder and telemetry. First their jobs are known beforehand, and a
+//! call serves them all (`batch`); then each client makes its jobs as it goes (`as_they_go`). The output is the same on every
+//! schedule.
 #![tactic(auto)]
 
+mod as_they_go;
+mod batch;
 mod clients;
 mod finished;
 
-ghost use Rattle.std.specs.Thread.{IsSync};
-
-use anyhow::{Result, ensure};
-use cbs_house::{Client, House, HouseError, open_house};
-use cbs_job::SumJob;
+use anyhow::Result;
 use cbs_rate::{Bound, Plan, Reservation};
-use cbs_rules::{Mode, Modes};
-use clients::send_all;
-use finished::Finished;
-use std::alloc::Global;
-use std::thread::{Threads, join_mut};
-use std::time::Clock;
 
 /// The clients, each with the budget of its server in every ten ticks.
 const CLIENTS: [(&str, u64); 3] = [("camera", 3), ("encoder", 5), ("telemetry", 1)];
-
-/// How many turns in a row without anything to do the house waits for the clients: about 15 seconds.
-const IDLE_TURNS: u64 = 1_000_000;
-
-/// The clients and the house at once, until all clients have sent all and ended.
-fn run_together<R: Threads + Clock + Sync>(
-    rt: &R,
-    alloc: Global,
-    clients: &mut [Client<SumJob>],
-    house: &mut House<SumJob>,
-    finished: &mut Finished,
-) -> Result<()> {
-    let (sent, run) = join_mut(
-        rt,
-        &mut || -> bool
-            requires { IsSync R.row }
-        { send_all(rt, alloc, clients) },
-        &mut || -> Result<(), HouseError> { house.run_until_closed(rt, finished, IDLE_TURNS) },
-    );
-    run?;
-    ensure!(sent, "a client could not send all its jobs");
-    Ok(())
-}
-
-/// The house and the clients, with a server for each. Telemetry gets its budget and no more; the other two may have
-/// what is left.
-fn open(alloc: Global) -> Result<(House<SumJob>, Vec<Client<SumJob>>)> {
-    let plan = plan()?;
-    let mut modes = Modes::uniform(Mode::Soft, 2);
-    modes.push(Mode::Throttled);
-    ensure!(modes.len() == plan.len(), "not a mode for each server");
-    Ok(open_house(alloc, plan, modes, 4, 4)?)
-}
 
 /// A reservation for each client.
 fn plan() -> Result<Plan> {
@@ -63,38 +23,10 @@ fn plan() -> Result<Plan> {
     Ok(plan)
 }
 
-/// Prints how many jobs of a client are finished, the first results, and the last.
-fn print_results(rt: &impl Print, name: &str, finished: u64, results: &[u64]) -> Result<()> {
-    print!(rt; "{name}: {finished} jobs finished:")?;
-    for result in results.iter().take(5) {
-        print!(rt; " {result}")?;
-    }
-    let last = results.last().copied().unwrap_or(0);
-    Ok(println!(rt; " .. {last}")?)
-}
-
-/// Runs until all clients have ended. The house, which has their results.
-fn run_all<R: Threads + Clock + Sync>(
-    rt: &R,
-    alloc: Global,
-    finished: &mut Finished,
-) -> Result<House<SumJob>> {
-    let (mut house, mut clients) = open(alloc)?;
-    run_together(rt, alloc, &mut clients, &mut house, finished)?;
-    Ok(house)
-}
-
-/// Prints what came of the jobs of all clients.
-fn print_all(rt: &impl Print, finished: &Finished, house: &House<SumJob>) -> Result<()> {
-    for (server, (name, _budget)) in CLIENTS.iter().enumerate() {
-        let server = server as u16;
-        print_results(rt, name, finished.count(server), house.results(server)?)?;
-    }
-    Ok(())
-}
-
 fn main(rt: HostRuntime) -> Result<()> {
-    let mut finished = Finished::none();
-    let house = run_all(&rt, rt.alloc(), &mut finished)?;
-    print_all(&rt, &finished, &house)
+    let alloc = rt.alloc();
+    println!(rt; "jobs known beforehand:")?;
+    batch::run(&rt, alloc)?;
+    println!(rt; "jobs made as they go:")?;
+    as_they_go::run(&rt, alloc)
 }

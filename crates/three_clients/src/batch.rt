@@ -1,17 +1,13 @@
-//! A batch: the jobs of three servers are known beforehand, and a call serves them all. Each list has a thread that sends it.
-#![tactic(auto)]
+//! A batch: the jobs of each client are known beforehand, and a call serves them all. Each list has a thread that sends it.
 
+use super::{CLIENTS, plan};
 use anyhow::{Result, ensure};
 use cbs_house::{House, OpenGate, open_feeds, serve};
 use cbs_job::{SumJob, Task};
-use cbs_rate::{Bound, Plan, Reservation};
 use cbs_rules::{Mode, Modes};
 use std::alloc::Global;
 use std::thread::Threads;
 use std::time::Clock;
-
-/// The servers, each with the budget that it has in every ten ticks.
-const SERVERS: [(&str, u64); 3] = [("camera", 3), ("encoder", 5), ("telemetry", 1)];
 
 /// The jobs that add these numbers up, one a tick.
 fn list_of(alloc: Global, sums: &[[u32; 3]]) -> Result<Vec<Task<SumJob>>> {
@@ -23,16 +19,7 @@ fn list_of(alloc: Global, sums: &[[u32; 3]]) -> Result<Vec<Task<SumJob>>> {
     Ok(list)
 }
 
-/// A reservation for each server.
-fn plan() -> Result<Plan> {
-    let mut plan = Plan::new(Bound::new(1, 1)?);
-    for (_name, budget) in SERVERS {
-        plan.admit(Reservation::new(budget, 10)?)?;
-    }
-    Ok(plan)
-}
-
-/// The jobs of each server.
+/// The jobs of each client.
 fn lists(alloc: Global) -> Result<Vec<Vec<Task<SumJob>>>> {
     let mut lists = Vec::new(alloc);
     lists.push(list_of(alloc, &[[1, 2, 3], [4, 5, 6]])?)?;
@@ -52,7 +39,7 @@ fn serve_all<R: Threads + Clock + Sync>(rt: &R, alloc: Global) -> Result<House<S
     Ok(house)
 }
 
-/// Prints the results of a server.
+/// Prints the results of a client's jobs.
 fn print_results(rt: &impl Print, name: &str, results: &[u64]) -> Result<()> {
     for result in results {
         println!(rt; "{name}: {result}")?;
@@ -60,15 +47,16 @@ fn print_results(rt: &impl Print, name: &str, results: &[u64]) -> Result<()> {
     Ok(())
 }
 
-/// Prints the results of all servers.
+/// Prints the results of all jobs.
 fn print_all(rt: &impl Print, house: &House<SumJob>) -> Result<()> {
-    for (server, (name, _budget)) in SERVERS.iter().enumerate() {
+    for (server, (name, _budget)) in CLIENTS.iter().enumerate() {
         print_results(rt, name, house.results(server as u16)?)?;
     }
     Ok(())
 }
 
-fn main(rt: HostRuntime) -> Result<()> {
-    let house = serve_all(&rt, rt.alloc())?;
-    print_all(&rt, &house)
+/// Serves all jobs, and prints their results.
+pub fn run<R: Print + Threads + Clock + Sync>(rt: &R, alloc: Global) -> Result<()> {
+    let house = serve_all(rt, alloc)?;
+    print_all(rt, &house)
 }
