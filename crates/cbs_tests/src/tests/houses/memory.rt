@@ -7,8 +7,11 @@ use cbs_house::Poll;
 use cbs_rules::Mode;
 use linked_list_allocator::LocalHeap;
 
-/// A job of three units is taken.
-const TAKEN: [Row; 2] = [Row::Send(&[1, 2, 3], 0), Row::Poll(0, Poll::Took(0))];
+/// A job of three units stays in the ring, since no memory is found for it.
+const REFUSED: [Row; 2] = [Row::Send(&[1, 2, 3], 0), Row::Poll(0, Poll::OutOfMemory)];
+
+/// The job is taken.
+const TAKEN: [Row; 1] = [Row::Poll(0, Poll::Took(0))];
 
 /// What a house does while no memory is found: its server has a job of three units, taken before.
 const WITHOUT_MEMORY: [Row; 11] = [
@@ -39,6 +42,9 @@ fn what_is_taken_is_done_without_memory(rt: HostRuntime) {
     let alloc = rt.alloc();
     let heap = LocalHeap::new(alloc, 1 << 13).expect(&rt, "a heap");
     let mut opened = Opened::new(&rt, &heap, Mode::Throttled, (2, 5), (4, 4));
+    let ballast = filled(&rt, alloc, &heap);
+    opened.plays(&rt, alloc, "no memory is found for a job", &REFUSED);
+    drop(ballast);
     opened.plays(&rt, alloc, "a job is taken", &TAKEN);
     let ballast = filled(&rt, alloc, &heap);
     opened.plays(&rt, alloc, "no memory is found", &WITHOUT_MEMORY);

@@ -132,6 +132,7 @@ fn served_feeds_may_be_served_again(rt: HostRuntime) {
     gave(&rt, &house, 0, &[1, 2]);
     serves(&rt, &mut house, &mut feeds, &OpenGate, Ok(()));
     gave(&rt, &house, 0, &[1, 2]);
+    same(&rt, "now", house.now(), 2);
     one_feed(&rt, &feeds, (0, true));
 }
 
@@ -162,6 +163,7 @@ fn a_turn_polls_and_then_runs(rt: HostRuntime) {
     let mut feed = Feed::new(client, Vec::new(alloc));
     let round = serve_round(&rt, &mut house, from_mut(&mut feed), 2, &Shut);
     same(&rt, "two turns", round, Round { sent: 0, took: 2 });
+    same(&rt, "now", house.now(), 2);
     gave(&rt, &house, 0, &[1, 2]);
 }
 
