@@ -9,6 +9,7 @@ use crate::status::cbs_status_text;
 use crate::{Event, TurnEvent, View};
 use cbs_embed::{Kept, Server};
 use std::alloc::Global;
+use std::fmt::Debug;
 use std::process::Abort;
 
 const NOT_OPEN: u32 = 0x601;
@@ -36,8 +37,13 @@ const NO_EVENT: Event = Event {
     token: 9,
 };
 
+/// Ends the test with the label and both values, unless they are the same.
+fn same<T: Debug + Drop + PartialEq>(rt: &impl Abort, label: &str, answer: T, wanted: T) {
+    assert!(rt; answer == wanted, "{label}: {answer:?}, not {wanted:?}");
+}
+
 fn is(rt: &impl Abort, status: u32, wanted: u32) {
-    assert_eq!(rt; status, wanted);
+    same(rt, "status", status, wanted);
 }
 
 fn event(kind: u32, server: u32, seq: u64, token: u64) -> Event {
@@ -53,7 +59,7 @@ fn event(kind: u32, server: u32, seq: u64, token: u64) -> Event {
 fn runs(rt: &impl Abort, alloc: Global, house: &mut Kept, wanted: Event) {
     let mut out = NO_EVENT;
     is(rt, cbs_run(alloc, house, &mut out), 0);
-    assert_eq!(rt; out, wanted);
+    same(rt, "ran", out, wanted);
 }
 
 /// Takes a turn, and is told this.
@@ -78,28 +84,28 @@ fn turns(
         ran: wanted,
         out_of_memory: false,
     };
-    assert_eq!(rt; out, turn);
+    same(rt, "turn", out, turn);
 }
 
 /// Sends a job, whose number is then this.
 fn sends(rt: &impl Abort, alloc: Global, client: &mut Kept, token: u64, units: u32, number: u64) {
     let mut seq = 9;
     is(rt, cbs_send(alloc, client, token, units, &mut seq), 0);
-    assert_eq!(rt; seq, number);
+    same(rt, "number", seq, number);
 }
 
 /// For so many ticks nobody will be ready.
 fn rests_for(rt: &impl Abort, alloc: Global, house: &mut Kept, ticks: u64) {
     let mut span = 9;
     is(rt, cbs_idle_span(alloc, house, &mut span), 0);
-    assert_eq!(rt; span, ticks);
+    same(rt, "idle span", span, ticks);
 }
 
 /// The clock stands there.
 fn stands_at(rt: &impl Abort, alloc: Global, house: &mut Kept, tick: u64) {
     let mut now = 9;
     is(rt, cbs_now(alloc, house, &mut now), 0);
-    assert_eq!(rt; now, tick);
+    same(rt, "now", now, tick);
 }
 
 /// Server 0 promises to be done by this tick.
@@ -107,7 +113,7 @@ fn promises(rt: &impl Abort, alloc: Global, house: &mut Kept, low: u64, high: u6
     let mut lower = 9;
     let mut upper = 9;
     is(rt, cbs_promised(alloc, house, 0, &mut lower, &mut upper), 0);
-    assert_eq!(rt; (lower, upper), (low, high));
+    same(rt, "promised", (lower, upper), (low, high));
 }
 
 #[test]
@@ -127,11 +133,11 @@ fn serves_two_clients(rt: HostRuntime) {
     is(&rt, cbs_end(alloc, &mut throttled), 0);
     let mut waiting = 9;
     is(&rt, cbs_waiting(alloc, &mut throttled, &mut waiting), 0);
-    assert_eq!(rt; waiting, 2);
+    same(&rt, "waiting", waiting, 2);
 
     let mut kind = 9;
     is(&rt, cbs_poll(alloc, &mut house, 0, &mut kind), 0);
-    assert_eq!(rt; kind, 1);
+    same(&rt, "poll", kind, 1);
     // Three units by 2 in 5: the third waits for the second budget.
     promises(&rt, alloc, &mut house, 10, 0);
     rests_for(&rt, alloc, &mut house, u64::MAX);
@@ -156,7 +162,7 @@ fn serves_two_clients(rt: HostRuntime) {
         throttled: false,
         closed: false,
     };
-    assert_eq!(rt; view, postponed);
+    same(&rt, "view", view, postponed);
     runs(&rt, alloc, &mut house, event(3, 0, 0, 7));
     turns(&rt, alloc, &mut house, 1, 0, event(2, 1, 0, 9));
     // Server 1 has used its budget up at 4, and waits until 10.
@@ -178,7 +184,7 @@ fn refuses_handles_by_name(rt: HostRuntime) {
     let mut clients = [Kept::shut(alloc), Kept::shut(alloc)];
     let mut out = NO_EVENT;
     is(&rt, cbs_run(alloc, &mut house, &mut out), NOT_OPEN);
-    assert_eq!(rt; out, NO_EVENT);
+    same(&rt, "ran", out, NO_EVENT);
     is(
         &rt,
         cbs_open(alloc, &SERVERS, 4, 4, &mut house, &mut clients),
@@ -196,7 +202,7 @@ fn refuses_handles_by_name(rt: HostRuntime) {
     );
     is(&rt, cbs_end(alloc, &mut client), 0);
     is(&rt, cbs_send(alloc, &mut client, 1, 1, &mut seq), 0x501);
-    assert_eq!(rt; (seq, out), (9, NO_EVENT));
+    same(&rt, "number, ran", (seq, out), (9, NO_EVENT));
     cbs_free(alloc, &mut house);
     is(&rt, cbs_run(alloc, &mut house, &mut out), NOT_OPEN);
     cbs_free(alloc, &mut house);
@@ -250,26 +256,26 @@ fn refuses_to_open_by_name(rt: HostRuntime) {
     // 2 in 5 and 1 in 10 leave 5 in 10, and 2 in 4.
     let mut budget = 9;
     is(&rt, cbs_greatest_budget(&SERVERS, 10, &mut budget), 0);
-    assert_eq!(rt; budget, 5);
+    same(&rt, "budget", budget, 5);
     is(&rt, cbs_greatest_budget(&SERVERS, 4, &mut budget), 0);
-    assert_eq!(rt; budget, 2);
+    same(&rt, "budget", budget, 2);
     is(
         &rt,
         cbs_greatest_budget(&[Server { mode: 2, ..soft }], 4, &mut budget),
         0x604,
     );
-    assert_eq!(rt; budget, 2);
+    same(&rt, "budget", budget, 2);
 }
 
 #[test]
 fn tells_a_text(rt: HostRuntime) {
     let mut text = [b'-'; 16];
-    assert_eq!(rt; cbs_status_text(0x502, &mut text), 16);
-    assert_eq!(rt; text, *b"the ring is full");
+    same(&rt, "length", cbs_status_text(0x502, &mut text), 16);
+    same(&rt, "text", text, *b"the ring is full");
     let mut front = [b'-'; 4];
-    assert_eq!(rt; cbs_status_text(0x502, &mut front), 16);
-    assert_eq!(rt; front, *b"the ");
+    same(&rt, "length", cbs_status_text(0x502, &mut front), 16);
+    same(&rt, "front", front, *b"the ");
     let mut more = [b'-'; 10];
-    assert_eq!(rt; cbs_status_text(0, &mut more), 8);
-    assert_eq!(rt; more, *b"no error--");
+    same(&rt, "length", cbs_status_text(0, &mut more), 8);
+    same(&rt, "text", more, *b"no error--");
 }
