@@ -9,7 +9,7 @@ use linked_list_allocator::LocalHeap;
 use std::alloc::Global;
 use std::process::Abort;
 
-const CASES: [Case; 2] = [
+const CASES: [Case; 3] = [
     Case {
         name: "a refused job comes back",
         servers: &[(Mode::Soft, 2, 5)],
@@ -23,6 +23,18 @@ const CASES: [Case; 2] = [
             Row::State(0, 1, 5, false),
             Row::Close(0, Err(CoreError::Closed)),
             Row::Now(1),
+        ],
+    },
+    Case {
+        name: "a closed server takes no job while one is unfinished",
+        servers: &[(Mode::Soft, 2, 5)],
+        backlog: 2,
+        rows: &[
+            Row::Submit(0, &[4], 0),
+            Row::Close(0, Ok(())),
+            Row::Refused(0, 5, CoreError::Closed),
+            Row::Done(0, 0, 4),
+            Row::Refused(0, 6, CoreError::Closed),
         ],
     },
     Case {
