@@ -2,7 +2,7 @@
  * first, for programs that own their threads, their clock and their work.
  *
  * The library decides, the program does. A client sends jobs: a token, which is any number of the program's, and how
- * many units the job has. cbs_run and cbs_turn answer which unit of which job is next, and the program does it.
+ * many units the job has. cbs_run and cbs_turn tell which unit of which job is next, and the program does it.
  * A unit takes one tick of the house's clock, however long it takes; nothing is measured, nothing is interrupted.
  *
  *     struct cbs_server servers[2] = {{2, 5, CBS_SOFT}, {1, 10, CBS_THROTTLED}};
@@ -15,7 +15,7 @@
  * - A handle is given to one call at a time. It may go to another thread, if that is ordered by the start or the join of
  *   a thread, by a lock, or by a seq_cst atomic. Different handles may be in calls at the same time, those of a house and
  *   of its clients too.
- * - Pointers are aligned, not null, and point to what their type says, also where n is 0. What a call writes to
+ * - Pointers are aligned, not null, and point to what their type says, also if n is 0. What a call writes to
  *   overlaps nothing else that it is given.
  * - The heap: heap.c beside the library, over malloc, realloc and free, or three functions of the program's own with the
  *   same contract (there).
@@ -23,8 +23,8 @@
  *
  * WHAT HOLDS OF EVERY CALL. It returns; it never blocks, never aborts, and calls nothing but the heap. Each status is 0
  * or names why it refused; a call that refuses changes nothing, and writes nothing to its out parameters. A handle that
- * is not open is refused by CBS_CALL_NOT_OPEN, a client's where a house's is wanted, or the other way round, by
- * CBS_CALL_OTHER_KIND. Memory is taken by cbs_open, and by cbs_poll and cbs_turn where they take a job; by no other.
+ * is not open is refused by CBS_CALL_NOT_OPEN, and a client's in the place of a house's, or the other way round, by
+ * CBS_CALL_OTHER_KIND. Memory is taken by cbs_open, and by cbs_poll and cbs_turn when they take a job; by no other.
  */
 #ifndef CBS_H
 #define CBS_H
@@ -35,6 +35,33 @@
 
 #ifdef __cplusplus
 extern "C" {
+#endif
+
+/* The version of this header. cbs_version returns that of the library. */
+#define CBS_VERSION_MAJOR 0
+#define CBS_VERSION_MINOR 1
+#define CBS_VERSION_PATCH 0
+#define CBS_VERSION (CBS_VERSION_MAJOR * 10000 + CBS_VERSION_MINOR * 100 + CBS_VERSION_PATCH)
+
+/* The thread sanitizer does not see into the library, so it does not know that a send comes before the unit that has its
+ * token. A program whose tokens are pointers tells it: CBS_TSAN_RELEASE(p) before the token p is sent, and
+ * CBS_TSAN_ACQUIRE(p) before the unit uses p. If the program is not compiled with -fsanitize=thread both do nothing. */
+#if defined(__has_feature)
+#if __has_feature(thread_sanitizer)
+#define CBS_TSAN
+#endif
+#endif
+#if defined(__SANITIZE_THREAD__) && !defined(CBS_TSAN)
+#define CBS_TSAN
+#endif
+#ifdef CBS_TSAN
+void __tsan_release(void *address);
+void __tsan_acquire(void *address);
+#define CBS_TSAN_RELEASE(p) __tsan_release((void *)(p))
+#define CBS_TSAN_ACQUIRE(p) __tsan_acquire((void *)(p))
+#else
+#define CBS_TSAN_RELEASE(p) ((void)(p))
+#define CBS_TSAN_ACQUIRE(p) ((void)(p))
 #endif
 
 /* Of a house or of a client. The fields are the library's. */
@@ -48,9 +75,9 @@ struct cbs_handle {
 
 /* The mode of a server. */
 enum {
-    /* Where its budget is used up it goes on at once, at a deadline one period later. It may use idle time. */
+    /* After its budget is used up it goes on at once, at a deadline one period later. It may use idle time. */
     CBS_SOFT = 0,
-    /* Where its budget is used up it waits until its deadline. */
+    /* After its budget is used up it waits until its deadline. */
     CBS_THROTTLED = 1
 };
 
@@ -72,13 +99,13 @@ enum {
 /* The unit that is to be done, or why there is none. Of the last two kinds alone: */
 struct cbs_unit {
     uint32_t kind;
-    uint32_t server; /* the server of the job, from 0 */
-    uint64_t seq;    /* the job's number among those of its server, from 0, as cbs_send answered it */
+    uint16_t server; /* the server of the job, from 0 */
+    uint64_t seq;    /* the job's number among those of its server, from 0, as cbs_send wrote it */
     uint64_t token;  /* what was sent with it */
 };
 
 /* What a turn did. */
-struct cbs_turn {
+struct cbs_turned {
     uint64_t took;        /* how many messages it took, ends included: at most one of each server */
     uint64_t advanced;    /* by how many ticks it advanced, with nobody ready; the tick of a unit is not counted */
     struct cbs_unit ran;  /* the unit that is to be done now */
@@ -87,16 +114,15 @@ struct cbs_turn {
 
 /* What a poll did. */
 enum {
-    CBS_POLL_NOTHING = 0,       /* no message was there, or the server is closed */
-    CBS_POLL_TOOK = 1,          /* the next job was taken */
-    CBS_POLL_CLOSED = 2,        /* the end was taken: the server is closed */
-    CBS_POLL_FULL = 3,          /* a message waits, and the backlog is full: run first */
-    CBS_POLL_NO_MEMORY = 4,     /* a message waits, and there was no memory for it */
-    CBS_POLL_NO_SUCH_SERVER = 5 /* the house has no server of that number */
+    CBS_POLL_NOTHING = 0,  /* no message was there, or the server is closed */
+    CBS_POLL_TOOK = 1,     /* the next job was taken */
+    CBS_POLL_CLOSED = 2,   /* the end was taken: the server is closed */
+    CBS_POLL_FULL = 3,     /* a message waits, and the backlog is full: run first */
+    CBS_POLL_NO_MEMORY = 4 /* a message waits, and there was no memory for it */
 };
 
 /* What a server shows. */
-struct cbs_view {
+struct cbs_shown {
     uint64_t budget;        /* the ticks that it may still use by its deadline */
     uint64_t deadline_low;  /* the deadline has 128 bits: the lower 64 */
     uint64_t deadline_high; /* and the upper, 0 for most programs' whole life */
@@ -121,7 +147,7 @@ enum {
     CBS_RATE_ZERO_BUDGET = CBS_RATE | 1,
     CBS_RATE_PERIOD_TOO_LONG = CBS_RATE | 2,      /* longer than 1000000000 ticks */
     CBS_RATE_BUDGET_OVER_PERIOD = CBS_RATE | 3,
-    CBS_RATE_BAD_BOUND = CBS_RATE | 4,            /* no call answers it: the bound is always 1 */
+    CBS_RATE_BAD_BOUND = CBS_RATE | 4,            /* no call returns it: the bound is always 1 */
 
     CBS_ADMIT_TOO_MANY_SERVERS = CBS_ADMIT | 1,   /* more than 64 */
     CBS_ADMIT_PERIODS_TOO_FINE = CBS_ADMIT | 2,   /* the least common multiple of the periods is over 10^18 */
@@ -132,7 +158,7 @@ enum {
     CBS_HOUSE_OUT_OF_MEMORY = CBS_HOUSE | 3,
     CBS_HOUSE_NO_SUCH_SERVER = CBS_HOUSE | 4,
     CBS_HOUSE_CLOCK_END = CBS_HOUSE | 5,          /* the clock would pass its end, 10^12 */
-    CBS_HOUSE_STALLED = CBS_HOUSE | 6,            /* no call answers it */
+    CBS_HOUSE_STALLED = CBS_HOUSE | 6,            /* no call returns it */
 
     CBS_TASK_EMPTY_JOB = CBS_TASK | 1,            /* 0 units */
     CBS_TASK_TOO_LONG = CBS_TASK | 2,             /* more than 1000000 units */
@@ -141,86 +167,96 @@ enum {
     CBS_SEND_RING_FULL = CBS_SEND | 2,            /* try again after the house has polled */
 
     CBS_CALL_NOT_OPEN = CBS_CALL | 1,             /* the handle is not open: never, or not any more */
-    CBS_CALL_OTHER_KIND = CBS_CALL | 2,           /* a house's handle where a client's is wanted, or the other way round */
+    CBS_CALL_OTHER_KIND = CBS_CALL | 2,           /* a house's handle in the place of a client's, or the other way round */
     CBS_CALL_WRONG_COUNT = CBS_CALL | 3,          /* not as many clients as servers */
-    CBS_CALL_BAD_MODE = CBS_CALL | 4              /* neither CBS_SOFT nor CBS_THROTTLED */
+    CBS_CALL_BAD_MODE = CBS_CALL | 4,             /* neither CBS_SOFT nor CBS_THROTTLED */
+    CBS_CALL_HOUSE_GONE = CBS_CALL | 5            /* the client's house was freed */
 };
 
 /* ---- From any thread ---- */
 
 /* Opens a house with n servers, and a client for each: clients[i] is of servers[i]. A server takes at most backlog jobs
  * that are not finished, and a client's ring has places for ring messages. The servers are admitted one after another,
- * exactly where the sum of budget / period stays within 1.
+ * exactly if the sum of budget / period stays within 1.
  *
- * clients_n has to be n. What the handles held is freed, at success alone.
+ * clients_n has to be n. What the handles held is freed, if the call succeeds.
  * Refuses by the first server that does not fit, with the statuses of CBS_RATE and CBS_ADMIT and CBS_CALL_BAD_MODE; by
  * CBS_CALL_WRONG_COUNT, CBS_HOUSE_BAD_BACKLOG, CBS_HOUSE_BAD_RING, and CBS_HOUSE_OUT_OF_MEMORY. The handles are then as
  * they were. */
 uint32_t cbs_open(const struct cbs_server *servers, size_t n, uint64_t backlog, uint64_t ring,
                   struct cbs_handle *house, struct cbs_handle *clients, size_t clients_n);
 
-/* Frees what the handle holds, a house or a client, and leaves it not open. Nothing where it is not open, so a second
- * free is none. House and clients may be freed in any order: a client of a freed house fills its ring, and a house
- * whose client was freed without an end still takes what stands in the ring. */
+/* Frees what the handle holds, a house or a client, and leaves it not open. It does nothing if the handle is not open, so
+ * a second free is none. House and clients may be freed in any order.
+ * A client that is freed ends, unless it has ended: its server closes once all that the client sent is taken. That end
+ * is sent at a full ring, too. With a freed house everything is lost that it has not told as done: the jobs that it had
+ * taken, and those that stand in the rings of its clients. */
 void cbs_free(struct cbs_handle *handle);
 
-/* The greatest budget with which a server of this period would still be admitted behind these n servers; 0 where none
+/* Writes the greatest budget with which a server of this period would still be admitted after these n servers; 0 if none
  * would, whatever the reason: a period of 0 or of more than 1000000000 ticks, 64 servers, too fine periods, no bandwidth.
- * Refuses exactly where these servers are refused themselves, as cbs_open does. */
+ * Refuses exactly if these servers are refused themselves, as cbs_open does. */
 uint32_t cbs_greatest_budget(const struct cbs_server *servers, size_t n, uint64_t period, uint64_t *out);
 
-/* Writes the text of a status, in English, ASCII, with no zero byte behind it: at most n bytes. Answers the length of the
+/* Returns the version of the library, as CBS_VERSION is that of this header: 10000 * major + 100 * minor + patch. A header
+ * and a library fit if they agree in the first two of these. */
+uint32_t cbs_version(void);
+
+/* Writes the text of a status, in English, ASCII, with no zero byte after it: at most n bytes. Returns the length of the
  * whole text. A number that is no status has a text, too. */
 size_t cbs_status_text(uint32_t status, char *out, size_t n);
 
 /* ---- Of the house: by the serving thread, one call at a time ---- */
 
-/* Takes a turn: polls each server once, in their order, and then runs one unit. Where nobody is ready and a job is not
- * finished (all who have one wait for their deadline), it advances the clock by the idle span instead; where no job is
+/* Takes a turn: polls each server once, in their order, and then runs one unit. If nobody is ready and a job is not
+ * finished (all who have one wait for their deadline), it advances the clock by the idle span instead; if no job is
  * there, or the clock stands at its end, it leaves the clock alone. No turn takes anybody's time. */
-uint32_t cbs_turn(struct cbs_handle *house, struct cbs_turn *out);
+uint32_t cbs_turn(struct cbs_handle *house, struct cbs_turned *out);
 
-/* Takes the next message of one server, where there is one and room for it, and tells what it did in *kind (CBS_POLL_..).
- * A message that is not taken stays in its ring. */
+/* Takes the next message of one server, if there is one and room for it, and writes what it did to *kind (CBS_POLL_..).
+ * A message that is not taken stays in its ring. Refuses by CBS_HOUSE_NO_SUCH_SERVER. */
 uint32_t cbs_poll(struct cbs_handle *house, uint16_t server, uint32_t *kind);
 
-/* Runs: of the servers that are ready, that with the earliest deadline gets a tick, the one with the lowest number of
- * several. The unit is the next of its first job; the program does it after the call. */
+/* Runs: of the servers that are ready, that with the earliest deadline gets a tick; of several, the one with the
+ * lowest number. The unit is the next of its first job; the program does it after the call. */
 uint32_t cbs_run(struct cbs_handle *house, struct cbs_unit *out);
 
 /* Lets ticks pass in which nothing runs. While somebody is ready that takes the time from the one who is: no promise
- * holds then. Refuses by CBS_HOUSE_CLOCK_END where the clock would pass 10^12. */
+ * holds then. Refuses by CBS_HOUSE_CLOCK_END if the clock would pass 10^12. */
 uint32_t cbs_advance(struct cbs_handle *house, uint64_t ticks);
 
-/* The clock: 0 to 10^12 ticks. */
+/* Writes the clock: 0 to 10^12 ticks. */
 uint32_t cbs_now(struct cbs_handle *house, uint64_t *out);
 
-/* The greatest number of ticks before whose last nobody is ready, and UINT64_MAX where somebody is ready now. Where no job
- * is there it reaches to the clock's end, so do not advance by it then. */
+/* Writes the greatest number of ticks before whose last nobody is ready, and UINT64_MAX if somebody is ready now. If no
+ * job is there it reaches to the clock's end, so do not advance by it then. */
 uint32_t cbs_idle_span(struct cbs_handle *house, uint64_t *out);
 
-/* What a server shows. Refuses by CBS_HOUSE_NO_SUCH_SERVER. */
-uint32_t cbs_view(struct cbs_handle *house, uint16_t server, struct cbs_view *out);
+/* Writes what a server shows. Refuses by CBS_HOUSE_NO_SUCH_SERVER. */
+uint32_t cbs_view(struct cbs_handle *house, uint16_t server, struct cbs_shown *out);
 
-/* The tick by which all that a server has taken is finished, whatever the others ask for, as long as no advance takes
- * anybody's time: 128 bits. Both halves are UINT64_MAX where nothing is unfinished, or there is no such server. */
+/* Writes the tick by which all that a server has taken is finished, whatever the others ask for: 128 bits. It is kept if
+ * no advance took anybody's time, before the call or after it. An advance while somebody is ready takes time: the tick may
+ * then have passed already. Both halves are UINT64_MAX if nothing is unfinished. Refuses by CBS_HOUSE_NO_SUCH_SERVER. */
 uint32_t cbs_promised(struct cbs_handle *house, uint16_t server, uint64_t *low, uint64_t *high);
 
 /* ---- Of a client: by one thread at a time, beside calls on the house and on other clients ---- */
 
 /* Sends a job of 1 to 1000000 units, and writes its number among the jobs of this client, from 0. Jobs of a client are
  * taken, run and finished in the order of their sends. What the thread wrote before the send is seen by the thread that
- * is told the token, so a token may be a pointer.
- * Refuses by CBS_TASK_EMPTY_JOB and CBS_TASK_TOO_LONG, by CBS_SEND_ENDED after an end, and by CBS_SEND_RING_FULL: nothing
- * was sent then, and the number is not used. */
+ * is told the token, so a token may be a pointer (the thread sanitizer wants CBS_TSAN_RELEASE and CBS_TSAN_ACQUIRE).
+ * Refuses, in this order, by CBS_TASK_EMPTY_JOB and CBS_TASK_TOO_LONG, by CBS_CALL_HOUSE_GONE if its house was freed, by
+ * CBS_SEND_ENDED after an end, and by CBS_SEND_RING_FULL: nothing was sent then, the number is not used, and the token is
+ * still the caller's. A send while the house is being freed may return CBS_OK; that job is lost with the house. */
 uint32_t cbs_send(struct cbs_handle *client, uint64_t token, uint32_t units, uint64_t *seq);
 
-/* Sends the end, behind all jobs: nothing more can be sent, and the server closes when it is taken.
- * Refuses by CBS_SEND_RING_FULL (send it again later), and by CBS_SEND_ENDED where it was sent before. */
+/* Sends the end, after all jobs: nothing more can be sent, and the server closes when the end is taken.
+ * Refuses by CBS_CALL_HOUSE_GONE if its house was freed, by CBS_SEND_RING_FULL (send it again later), and by
+ * CBS_SEND_ENDED if it was sent before. */
 uint32_t cbs_end(struct cbs_handle *client);
 
-/* How many messages of this client stand in its ring, not taken yet. While the house polls there may be fewer when the
- * call is over. */
+/* Writes how many messages of this client stand in its ring, not taken yet. While the house polls there may be fewer when
+ * the call is over. */
 uint32_t cbs_waiting(struct cbs_handle *client, uint64_t *out);
 
 #ifdef __cplusplus

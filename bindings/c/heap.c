@@ -2,7 +2,7 @@
  *
  * A program may have three functions of its own in its place. They have to keep this:
  * - A block is aligned to each power of two up to 16 that divides its size.
- * - ok is false where there is no memory; at is then any address but null, and of a realloc the old block stays as it was.
+ * - ok is false if there is no memory; at is then any address but null, and of a realloc the old block stays as it was.
  * - All three are of one allocator, and may be called by several threads at once. */
 #include <stdbool.h>
 #include <stddef.h>

@@ -5,10 +5,10 @@
  * makes frames as fast as its ring takes them, more than the thread can encode. Its server has 1 tick in 10; it gets that,
  * and what nobody else wants, and the decent ones' frames are done as promised.
  *
- * Checked, with status 1 where it does not hold: each frame is encoded once and in order, each by the tick that was promised
+ * Checked, with status 1 if it does not hold: each frame is encoded once and in order, each by the tick that was promised
  * when it was taken, and the greedy server's deadline pays for what it took. Measured and printed only: times.
  *
- *     media [SECONDS]      2 where none is given */
+ *     media [SECONDS]      2 if no number is given */
 #define _POSIX_C_SOURCE 199309L
 #include "cbs.h"
 #include <math.h>
@@ -30,7 +30,7 @@
         }                                                                                \
     } while (0)
 
-/* A frame: the job's token is its address. Its producer makes it, the encoder frees it behind the last slice. */
+/* A frame: the job's token is its address. Its producer makes it, the encoder frees it after the last slice. */
 struct frame {
     uint64_t number;
     double made;        /* when, in seconds */
@@ -129,10 +129,10 @@ static void *produce(void *of) {
     struct producer *me = (struct producer *)of;
     double next = seconds();
     struct frame *frame = make_frame(0);
-    uint32_t status;
     while (seconds() < me->until) {
         uint64_t seq;
-        status = cbs_send(&me->client, (uintptr_t)frame, SLICES, &seq);
+        CBS_TSAN_RELEASE(frame);
+        uint32_t status = cbs_send(&me->client, (uintptr_t)frame, SLICES, &seq);
         MUST(status == CBS_OK ? seq == me->sent : status == CBS_SEND_RING_FULL);
         me->sent += status == CBS_OK;
         if (me->every > 0) {
@@ -147,11 +147,7 @@ static void *produce(void *of) {
         }
     }
     free(frame);
-    while ((status = cbs_end(&me->client)) == CBS_SEND_RING_FULL) {
-        rest(0.0005);
-    }
-    MUST(status == CBS_OK);
-    cbs_free(&me->client);
+    cbs_free(&me->client); /* sends the end */
     return NULL;
 }
 
@@ -160,7 +156,7 @@ static bool take(struct cbs_handle *house, struct tally tallies[PRODUCERS]) {
     bool over = true;
     for (uint16_t server = 0; server < PRODUCERS; server++) {
         uint32_t kind;
-        struct cbs_view view;
+        struct cbs_shown view;
         uint64_t high, low;
         MUST(cbs_poll(house, server, &kind) == CBS_OK && kind != CBS_POLL_NO_MEMORY);
         MUST(cbs_view(house, server, &view) == CBS_OK);
@@ -177,6 +173,7 @@ static bool take(struct cbs_handle *house, struct tally tallies[PRODUCERS]) {
 static void encode(struct cbs_handle *house, const struct cbs_unit *unit, struct tally *tally) {
     struct frame *frame = (struct frame *)(uintptr_t)unit->token;
     uint64_t now;
+    CBS_TSAN_ACQUIRE(frame);
     MUST(frame->number == unit->seq && unit->seq == tally->frames);
     encode_slice(frame);
     tally->units++;
@@ -211,7 +208,7 @@ static void report(struct cbs_handle *house, const struct cbs_server *servers, c
     MUST(cbs_now(house, &now) == CBS_OK);
     for (uint16_t server = 0; server < PRODUCERS; server++) {
         const struct tally *tally = &tallies[server];
-        struct cbs_view view;
+        struct cbs_shown view;
         MUST(cbs_view(house, server, &view) == CBS_OK);
         printf("%-14s %5llu frames, %llu dropped; reserved %4.1f %%, got %4.1f %% of the slices; ready after %5.1f ms, at most %.1f\n",
                producers[server].name, (unsigned long long)tally->frames, (unsigned long long)producers[server].dropped,

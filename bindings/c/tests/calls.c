@@ -1,4 +1,4 @@
-/* Every call of the library, with every status that it can answer but want of memory (memory.c). */
+/* Every call of the library, with every status that it can return but want of memory (memory.c). */
 #include "check.h"
 #include <stddef.h>
 #include <string.h>
@@ -80,13 +80,13 @@ static void open_again(void) {
     tear_down(&setup);
 }
 
-/* Every call of a house answers this for the handle, and writes nothing. */
+/* Every call of a house returns this for the handle, and writes nothing. */
 static void no_house(struct cbs_handle *handle, uint32_t status) {
     uint64_t number = UNTOUCHED, other = UNTOUCHED;
     uint32_t kind = 99;
     struct cbs_unit unit;
-    struct cbs_turn turn;
-    struct cbs_view view;
+    struct cbs_turned turn;
+    struct cbs_shown view;
     memset(&unit, 0x5a, sizeof unit);
     memset(&turn, 0x5a, sizeof turn);
     memset(&view, 0x5a, sizeof view);
@@ -100,7 +100,18 @@ static void no_house(struct cbs_handle *handle, uint32_t status) {
     CHECK(cbs_promised(handle, 0, &number, &other) == status && number == UNTOUCHED && other == UNTOUCHED);
 }
 
-/* Every call of a client answers this for the handle, and writes nothing. */
+/* Every call that names a server refuses one that is not there, and writes nothing. */
+static void no_server(struct cbs_handle *house, uint16_t server) {
+    uint64_t low = UNTOUCHED, high = UNTOUCHED;
+    uint32_t kind = 99;
+    struct cbs_shown shown;
+    memset(&shown, 0x5a, sizeof shown);
+    CHECK(cbs_poll(house, server, &kind) == CBS_HOUSE_NO_SUCH_SERVER && kind == 99);
+    CHECK(cbs_view(house, server, &shown) == CBS_HOUSE_NO_SUCH_SERVER && shown.budget == UNTOUCHED && shown.finished == UNTOUCHED);
+    CHECK(cbs_promised(house, server, &low, &high) == CBS_HOUSE_NO_SUCH_SERVER && low == UNTOUCHED && high == UNTOUCHED);
+}
+
+/* Every call of a client returns this for the handle, and writes nothing. */
 static void no_client(struct cbs_handle *handle, uint32_t status) {
     uint64_t number = UNTOUCHED;
     CHECK(cbs_send(handle, 1, 1, &number) == status && number == UNTOUCHED);
@@ -125,25 +136,6 @@ static void handles(void) {
     no_house(&setup.house, CBS_CALL_NOT_OPEN);
     no_client(&setup.clients[0], CBS_CALL_NOT_OPEN);
     tear_down(&setup); /* a second free is none */
-}
-
-static void free_in_any_order(void) {
-    struct cbs_server server = {2, 5, CBS_SOFT};
-    struct setup setup;
-    uint64_t seq;
-    set_up(&setup, &server, 1, 4, 2);
-    cbs_free(&setup.house);
-    CHECK(cbs_send(&setup.clients[0], 1, 1, &seq) == CBS_OK);
-    CHECK(cbs_send(&setup.clients[0], 2, 1, &seq) == CBS_OK);
-    CHECK(cbs_send(&setup.clients[0], 3, 1, &seq) == CBS_SEND_RING_FULL);
-    tear_down(&setup);
-    set_up(&setup, &server, 1, 4, 2);
-    CHECK(cbs_send(&setup.clients[0], 9, 1, &seq) == CBS_OK);
-    cbs_free(&setup.clients[0]);
-    uint32_t kind;
-    CHECK(cbs_poll(&setup.house, 0, &kind) == CBS_OK && kind == CBS_POLL_TOOK);
-    runs(&setup, CBS_RUN_DONE, 0, 0, 9);
-    tear_down(&setup);
 }
 
 static void sending(void) {
@@ -176,14 +168,55 @@ static void polls(struct setup *setup, uint16_t server, uint32_t wanted) {
     CHECK(kind == wanted);
 }
 
+/* A client of a freed house is told so, after its units were looked at, whether its ring is full and whether it has ended. */
+static void house_is_gone(void) {
+    struct cbs_server servers[3] = {{1, 5, CBS_SOFT}, {1, 5, CBS_SOFT}, {1, 5, CBS_SOFT}};
+    struct setup setup;
+    uint64_t seq;
+    set_up(&setup, servers, 3, 4, 1);
+    CHECK(cbs_send(&setup.clients[1], 1, 1, &seq) == CBS_OK);
+    CHECK(cbs_end(&setup.clients[2]) == CBS_OK);
+    cbs_free(&setup.house);
+    for (size_t i = 0; i < 3; i++) {
+        seq = UNTOUCHED;
+        CHECK(cbs_send(&setup.clients[i], 2, 0, &seq) == CBS_TASK_EMPTY_JOB && seq == UNTOUCHED);
+        CHECK(cbs_send(&setup.clients[i], 2, 1, &seq) == CBS_CALL_HOUSE_GONE && seq == UNTOUCHED);
+        CHECK(cbs_end(&setup.clients[i]) == CBS_CALL_HOUSE_GONE);
+    }
+    tear_down(&setup);
+}
+
+/* The server of a client that was freed closes after the jobs in its ring, with and without a free place, once. */
+static void client_is_gone(void) {
+    struct cbs_server servers[3] = {{1, 5, CBS_SOFT}, {1, 5, CBS_SOFT}, {1, 5, CBS_SOFT}};
+    struct setup setup;
+    uint64_t seq;
+    set_up(&setup, servers, 3, 4, 1);
+    CHECK(cbs_send(&setup.clients[1], 9, 1, &seq) == CBS_OK);
+    CHECK(cbs_end(&setup.clients[2]) == CBS_OK);
+    for (size_t i = 0; i < 3; i++) {
+        cbs_free(&setup.clients[i]);
+    }
+    polls(&setup, 0, CBS_POLL_CLOSED);
+    polls(&setup, 1, CBS_POLL_TOOK);
+    polls(&setup, 1, CBS_POLL_CLOSED);
+    polls(&setup, 2, CBS_POLL_CLOSED);
+    for (uint16_t i = 0; i < 3; i++) {
+        polls(&setup, i, CBS_POLL_NOTHING);
+    }
+    runs(&setup, CBS_RUN_DONE, 1, 0, 9);
+    runs(&setup, CBS_RUN_IDLE, 0, 0, 0);
+    tear_down(&setup);
+}
+
 static void polling(void) {
     struct cbs_server server = {2, 5, CBS_SOFT};
     struct setup setup;
     uint64_t seq;
     set_up(&setup, &server, 1, 1, 4);
     polls(&setup, 0, CBS_POLL_NOTHING);
-    polls(&setup, 1, CBS_POLL_NO_SUCH_SERVER);
-    polls(&setup, 65535, CBS_POLL_NO_SUCH_SERVER);
+    no_server(&setup.house, 1);
+    no_server(&setup.house, 65535);
     CHECK(cbs_send(&setup.clients[0], 11, 1, &seq) == CBS_OK);
     CHECK(cbs_send(&setup.clients[0], 12, 1, &seq) == CBS_OK);
     CHECK(cbs_end(&setup.clients[0]) == CBS_OK);
@@ -195,10 +228,9 @@ static void polling(void) {
     runs(&setup, CBS_RUN_DONE, 0, 1, 12);
     polls(&setup, 0, CBS_POLL_CLOSED);
     polls(&setup, 0, CBS_POLL_NOTHING);
-    struct cbs_view view;
+    struct cbs_shown view;
     CHECK(cbs_view(&setup.house, 0, &view) == CBS_OK);
     CHECK(view.accepted == 2 && view.finished == 2 && view.closed && !view.throttled);
-    CHECK(cbs_view(&setup.house, 1, &view) == CBS_HOUSE_NO_SUCH_SERVER && view.accepted == 2);
     tear_down(&setup);
 }
 
@@ -214,7 +246,6 @@ static void running(void) {
     submit(&setup, 0, UINT64_MAX, 3, 0);
     shows(&setup, 0, 2, 5, false);
     CHECK(cbs_promised(&setup.house, 0, &low, &high) == CBS_OK && low == 10 && high == 0);
-    CHECK(cbs_promised(&setup.house, 1, &low, &high) == CBS_OK && low == UINT64_MAX && high == UINT64_MAX);
     runs(&setup, CBS_RUN_UNIT, 0, 0, UINT64_MAX);
     shows(&setup, 0, 1, 5, false);
     runs(&setup, CBS_RUN_UNIT, 0, 0, UINT64_MAX);
@@ -251,7 +282,7 @@ static void throttling(void) {
 }
 
 static void turns(struct setup *setup, uint64_t took, uint64_t advanced, uint32_t kind, uint64_t token) {
-    struct cbs_turn turn;
+    struct cbs_turned turn;
     CHECK(cbs_turn(&setup->house, &turn) == CBS_OK);
     CHECK(turn.took == took && turn.advanced == advanced && !turn.out_of_memory);
     CHECK(turn.ran.kind == kind && (kind < CBS_RUN_UNIT || turn.ran.token == token));
@@ -279,7 +310,7 @@ static void turning(void) {
 static void clock_ends(void) {
     struct cbs_server server = {2, 5, CBS_SOFT};
     struct setup setup;
-    struct cbs_turn turn;
+    struct cbs_turned turn;
     uint64_t now = 0, span = UNTOUCHED;
     set_up(&setup, &server, 1, 4, 4);
     CHECK(cbs_idle_span(&setup.house, &span) == CBS_OK && span == 1000000000000);
@@ -300,9 +331,12 @@ static void clock_ends(void) {
 /* What the declarations of other languages count on. */
 static void layouts(void) {
     CHECK(sizeof(struct cbs_handle) == 16 && sizeof(struct cbs_server) == 24 && sizeof(struct cbs_unit) == 24);
-    CHECK(sizeof(struct cbs_turn) == 48 && sizeof(struct cbs_view) == 48);
-    CHECK(offsetof(struct cbs_turn, ran) == 16 && offsetof(struct cbs_turn, out_of_memory) == 40);
-    CHECK(offsetof(struct cbs_view, throttled) == 40 && offsetof(struct cbs_view, closed) == 41);
+    CHECK(sizeof(struct cbs_turned) == 48 && sizeof(struct cbs_shown) == 48);
+    CHECK(offsetof(struct cbs_turned, ran) == 16 && offsetof(struct cbs_turned, out_of_memory) == 40);
+    CHECK(offsetof(struct cbs_server, period) == 8 && offsetof(struct cbs_server, mode) == 16);
+    CHECK(offsetof(struct cbs_unit, server) == 4 && sizeof((struct cbs_unit *)0)->server == 2);
+    CHECK(offsetof(struct cbs_unit, seq) == 8 && offsetof(struct cbs_unit, token) == 16);
+    CHECK(offsetof(struct cbs_shown, throttled) == 40 && offsetof(struct cbs_shown, closed) == 41);
 }
 
 static void greatest_budgets_of_none(void) {
@@ -351,7 +385,7 @@ static void texts(void) {
         CBS_ADMIT_TOO_MANY_SERVERS, CBS_ADMIT_PERIODS_TOO_FINE, CBS_ADMIT_OVER_BOUND, CBS_HOUSE_BAD_BACKLOG,
         CBS_HOUSE_BAD_RING, CBS_HOUSE_OUT_OF_MEMORY, CBS_HOUSE_NO_SUCH_SERVER, CBS_HOUSE_CLOCK_END, CBS_HOUSE_STALLED,
         CBS_TASK_EMPTY_JOB, CBS_TASK_TOO_LONG, CBS_SEND_ENDED, CBS_SEND_RING_FULL, CBS_CALL_NOT_OPEN,
-        CBS_CALL_OTHER_KIND, CBS_CALL_WRONG_COUNT, CBS_CALL_BAD_MODE};
+        CBS_CALL_OTHER_KIND, CBS_CALL_WRONG_COUNT, CBS_CALL_BAD_MODE, CBS_CALL_HOUSE_GONE};
     char text[256];
     for (size_t i = 0; i < sizeof statuses / sizeof statuses[0]; i++) {
         size_t length = cbs_status_text(statuses[i], text, sizeof text);
@@ -361,6 +395,13 @@ static void texts(void) {
     is_text(CBS_RATE_ZERO_BUDGET, "the budget is 0: a reservation needs a budget of at least 1 tick");
     is_text(CBS_HOUSE_BAD_RING, "the ring is not within 1 to 1024 messages");
     is_text(CBS_SEND_RING_FULL, "the ring is full");
+    is_text(CBS_CALL_HOUSE_GONE, "the client's house was freed");
+}
+
+/* The header and the library are of one version. */
+static void versions(void) {
+    CHECK(cbs_version() == CBS_VERSION);
+    CHECK(CBS_VERSION == CBS_VERSION_MAJOR * 10000 + CBS_VERSION_MINOR * 100 + CBS_VERSION_PATCH);
 }
 
 int main(void) {
@@ -369,8 +410,9 @@ int main(void) {
     open_refuses_its_sizes();
     open_again();
     handles();
-    free_in_any_order();
     sending();
+    house_is_gone();
+    client_is_gone();
     polling();
     running();
     throttling();
@@ -380,6 +422,7 @@ int main(void) {
     greatest_budgets_of_none();
     layouts();
     texts();
+    versions();
     puts("every call and every status: as it should be");
     return 0;
 }

@@ -52,8 +52,8 @@ static inline void submit(struct setup *setup, uint16_t server, uint64_t token, 
     CHECK(kind == CBS_POLL_TOOK);
 }
 
-/* Runs, and checks the unit that is answered. */
-static inline void runs(struct setup *setup, uint32_t kind, uint32_t server, uint64_t seq, uint64_t token) {
+/* Runs, and checks the unit that is told. */
+static inline void runs(struct setup *setup, uint32_t kind, uint16_t server, uint64_t seq, uint64_t token) {
     struct cbs_unit unit;
     CHECK(cbs_run(&setup->house, &unit) == CBS_OK);
     CHECK(unit.kind == kind);
@@ -62,7 +62,7 @@ static inline void runs(struct setup *setup, uint32_t kind, uint32_t server, uin
 
 /* Checks what a server shows of its budget. */
 static inline void shows(struct setup *setup, uint16_t server, uint64_t budget, uint64_t deadline, bool throttled) {
-    struct cbs_view view;
+    struct cbs_shown view;
     CHECK(cbs_view(&setup->house, server, &view) == CBS_OK);
     CHECK(view.budget == budget && view.deadline_low == deadline && view.deadline_high == 0);
     CHECK(view.throttled == throttled);

@@ -61,7 +61,7 @@ static void read_job(char *words) {
     counts[server]++;
 }
 
-/* Sends the next message of a server, where its ring has a place. Whether all is sent. */
+/* Sends the next message of a server, if its ring has a place. Returns whether all is sent. */
 static bool sends_one(size_t server, bool *ended) {
     struct job *job = unsent[server];
     if (*ended) {
@@ -114,7 +114,7 @@ static void does(const struct cbs_unit *unit) {
 
 static bool all_done(struct cbs_handle *house) {
     for (size_t server = 0; server < n; server++) {
-        struct cbs_view view;
+        struct cbs_shown view;
         CHECK(cbs_view(house, (uint16_t)server, &view) == CBS_OK);
         if (!view.closed || view.finished < counts[server]) {
             return false;
@@ -125,7 +125,7 @@ static bool all_done(struct cbs_handle *house) {
 
 static void serve(struct cbs_handle *house) {
     while (!all_done(house)) {
-        struct cbs_turn turn;
+        struct cbs_turned turn;
         CHECK(cbs_turn(house, &turn) == CBS_OK && turn.ran.kind != CBS_RUN_CLOCK_END);
         if (turn.ran.kind >= CBS_RUN_UNIT) {
             does(&turn.ran);

@@ -24,13 +24,13 @@ void rattle_dealloc(void *block);
 static char nowhere;
 static long asked;       /* how often memory was asked for */
 static long refused_at;  /* the first that is refused, from 0; -1 for none */
-static bool all_behind;  /* whether all behind it are refused, too */
+static bool all_after;  /* whether all after it are refused, too */
 static long live;        /* how many blocks are out */
 static size_t held;      /* and how many bytes these have */
 
 static bool grants(void) {
     long number = asked++;
-    return refused_at < 0 || (all_behind ? number < refused_at : number != refused_at);
+    return refused_at < 0 || (all_after ? number < refused_at : number != refused_at);
 }
 
 static struct rattle_block block_at(void *at) {
@@ -66,13 +66,13 @@ void rattle_dealloc(void *block) {
 static void refuse(long at, bool all) {
     asked = 0;
     refused_at = at;
-    all_behind = all;
+    all_after = all;
 }
 
 #define SERVERS 3
 static const struct cbs_server servers[SERVERS] = {{1, 5, CBS_SOFT}, {1, 5, CBS_THROTTLED}, {1, 5, CBS_SOFT}};
 
-/* Opens with this allocation refused; where that is met, again with memory. Whether it was met. */
+/* Opens with this allocation refused; if that is met, again with memory. Returns whether it was met. */
 static bool opens(struct setup *setup, long at, bool all) {
     setup->n = SERVERS;
     setup->house = SHUT;
@@ -95,7 +95,7 @@ static bool opens(struct setup *setup, long at, bool all) {
 /* Sends a job of one unit with memory, and has the house take it with this allocation refused, by a poll or by a turn.
  * Whether it was met; then the job stayed in its ring, and is taken with memory. */
 static bool takes(struct setup *setup, uint64_t token, bool by_turn, long at, bool all) {
-    struct cbs_turn turn;
+    struct cbs_turned turn;
     uint64_t seq, waiting = 9;
     uint32_t kind = 99;
     refuse(0, true); /* a send asks for no memory */
@@ -125,7 +125,7 @@ static bool takes(struct setup *setup, uint64_t token, bool by_turn, long at, bo
 
 /* The other calls, with no memory at all. */
 static void need_none(struct setup *setup) {
-    struct cbs_view view;
+    struct cbs_shown view;
     uint64_t number, other;
     refuse(0, true);
     CHECK(cbs_now(&setup->house, &number) == CBS_OK);
@@ -148,7 +148,7 @@ static void serves(struct setup *setup, long jobs) {
             CHECK(cbs_send(&setup->clients[server], 7, 1, &seq) == CBS_OK);
         }
         for (size_t done = 0; done < SERVERS;) {
-            struct cbs_turn turn;
+            struct cbs_turned turn;
             CHECK(cbs_turn(&setup->house, &turn) == CBS_OK && turn.ran.kind != CBS_RUN_CLOCK_END && !turn.out_of_memory);
             done += turn.ran.kind == CBS_RUN_DONE;
         }

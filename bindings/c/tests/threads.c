@@ -1,34 +1,8 @@
 /* Four clients on threads of their own, through full rings; the house polls and runs meanwhile. Each job is done once, in the
- * order of its sends, and what a sender wrote before a send is seen where the unit is done. */
+ * order of its sends, and what a sender wrote before a send is seen when the unit is done. */
 #include "check.h"
 #include <pthread.h>
 #include <sched.h>
-
-/* The thread sanitizer does not see into the library, so it has to be told that a send comes before the unit that has its
- * token. */
-#if defined(__has_feature)
-#if __has_feature(thread_sanitizer)
-#define TOLD 1
-#endif
-#endif
-#if defined(__SANITIZE_THREAD__)
-#define TOLD 1
-#endif
-#ifdef TOLD
-#ifdef __cplusplus
-extern "C" {
-#endif
-void __tsan_acquire(void *at);
-void __tsan_release(void *at);
-#ifdef __cplusplus
-}
-#endif
-#define SENT(at) __tsan_release(at)
-#define GOT(at) __tsan_acquire(at)
-#else
-#define SENT(at) (void)(at)
-#define GOT(at) (void)(at)
-#endif
 
 #define CLIENTS 4
 #define JOBS 5000
@@ -52,7 +26,7 @@ static void *sends(void *of) {
         uint64_t seq = UNTOUCHED;
         uint32_t status;
         work->units = 1 + (i + sender->number) % 4;
-        SENT(work);
+        CBS_TSAN_RELEASE(work);
         while ((status = cbs_send(&sender->client, (uintptr_t)work, work->units, &seq)) == CBS_SEND_RING_FULL) {
             sched_yield();
         }
@@ -72,7 +46,7 @@ static void does(const struct cbs_unit *unit, uint64_t finished[CLIENTS]) {
     CHECK(unit->server < CLIENTS && unit->seq == finished[unit->server]);
     struct work *work = (struct work *)(uintptr_t)unit->token;
     CHECK(work == &works[unit->server][unit->seq]);
-    GOT(work);
+    CBS_TSAN_ACQUIRE(work);
     work->done++;
     CHECK((unit->kind == CBS_RUN_DONE) == (work->done == work->units));
     finished[unit->server] += unit->kind == CBS_RUN_DONE;
@@ -81,7 +55,7 @@ static void does(const struct cbs_unit *unit, uint64_t finished[CLIENTS]) {
 static bool all_closed(struct cbs_handle *house) {
     bool all = true;
     for (uint16_t server = 0; server < CLIENTS; server++) {
-        struct cbs_view view;
+        struct cbs_shown view;
         CHECK(cbs_view(house, server, &view) == CBS_OK);
         all = all && view.closed && view.finished == view.accepted;
     }
@@ -102,7 +76,7 @@ int main(void) {
         CHECK(pthread_create(&threads[i], NULL, sends, &senders[i]) == 0);
     }
     while (!all_closed(&setup.house)) {
-        struct cbs_turn turn;
+        struct cbs_turned turn;
         CHECK(cbs_turn(&setup.house, &turn) == CBS_OK);
         CHECK(turn.ran.kind != CBS_RUN_CLOCK_END);
         if (turn.ran.kind >= CBS_RUN_UNIT) {

@@ -1,6 +1,6 @@
 //! What a call costs from Rust, in nanoseconds: the least of so many rounds, for 1, 8 and 64 servers.
 //!
-//! `cargo run --release --example bench [ROUNDS]`, 200 where none is given.
+//! `cargo run --release --example bench [ROUNDS]`: 200 if no number is given.
 
 use cbs::{Client, House, Mode, Plan, Poll, Ran};
 use std::time::Instant;
@@ -17,20 +17,25 @@ const NAMES: [&str; 7] = [
     "turn, a unit",
 ];
 
-fn timed(mut call: impl FnMut(u64)) -> f64 {
+/// Calls with the servers in turn. Nothing is divided here: that would be measured.
+fn timed(servers: u16, mut call: impl FnMut(u16, u64)) -> f64 {
     let start = Instant::now();
+    let mut server = 0;
     for number in 0..CALLS {
-        call(number);
+        call(server, number);
+        server += 1;
+        if server == servers {
+            server = 0;
+        }
     }
     start.elapsed().as_nanos() as f64 / CALLS as f64
 }
 
-fn job(house: &mut House, clients: &mut [Client], number: u64) {
-    let server = number as usize % clients.len();
-    clients[server]
+fn job(house: &mut House, clients: &mut [Client], server: u16, number: u64) {
+    clients[usize::from(server)]
         .send(number, 1)
         .expect("a place in the ring");
-    assert_eq!(house.poll(server as u16), Poll::Took);
+    assert_eq!(house.poll(server), Ok(Poll::Took));
     assert!(matches!(house.run(), Ran::Unit(unit) if unit.last && unit.token == number));
 }
 
@@ -38,20 +43,29 @@ fn job(house: &mut House, clients: &mut [Client], number: u64) {
 fn load(house: &mut House, clients: &mut [Client]) {
     for (server, client) in (0..).zip(clients) {
         client.send(7, 1_000_000).expect("a place in the ring");
-        assert_eq!(house.poll(server), Poll::Took);
+        assert_eq!(house.poll(server), Ok(Poll::Took));
     }
 }
 
 fn round(plan: &Plan) -> [f64; 7] {
     let (mut house, mut clients) = plan.open(4096, 1024).expect("memory");
-    let now = timed(|_| assert_eq!(house.now(), 0));
-    let idle = timed(|_| assert_eq!(house.run(), Ran::Idle));
-    let nothing = timed(|_| assert_eq!(house.poll(0), Poll::Nothing));
-    let span = timed(|_| assert!(house.idle_span().is_some()));
-    let jobs = timed(|number| job(&mut house, &mut clients, number));
+    let n = house.servers();
+    let now = timed(n, |_, _| assert_eq!(house.now(), 0));
+    let idle = timed(n, |_, _| assert_eq!(house.run(), Ran::Idle));
+    let nothing = timed(n, |server, _| {
+        assert_eq!(house.poll(server), Ok(Poll::Nothing))
+    });
+    let span = timed(n, |_, _| assert!(house.idle_span().is_some()));
+    let jobs = timed(n, |server, number| {
+        job(&mut house, &mut clients, server, number)
+    });
     load(&mut house, &mut clients);
-    let unit = timed(|_| assert!(matches!(house.run(), Ran::Unit(unit) if !unit.last)));
-    let turn = timed(|_| assert!(matches!(house.turn().ran, Ran::Unit(unit) if !unit.last)));
+    let unit = timed(n, |_, _| {
+        assert!(matches!(house.run(), Ran::Unit(unit) if !unit.last))
+    });
+    let turn = timed(n, |_, _| {
+        assert!(matches!(house.turn().ran, Ran::Unit(unit) if !unit.last))
+    });
     [now, idle, nothing, span, jobs, unit, turn]
 }
 

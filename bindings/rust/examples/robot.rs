@@ -5,11 +5,11 @@
 //! unit has to take less than that: the controller has one in each millisecond, a picture is looked at in bands, and the log
 //! is packed in blocks. The logger is greedy: it sends all that its ring takes. It gets its share, and what nobody else wants.
 //!
-//! Checked, with status 1 where it does not hold: each job is done once and in order, each control job by the tick of its
+//! Checked, with status 1 if it does not hold: each job is done once and in order, each control job by the tick of its
 //! deadline, and each other job by the tick that was promised when it was taken.
 //! Counted only: how often the host's own clock was past a deadline, since the host may take its processor away.
 //!
-//! `cargo run --release --example robot [SECONDS]`, 2 where none is given.
+//! `cargo run --release --example robot [SECONDS]`: 2 if no number is given.
 
 use cbs::{Client, House, Mode, Plan, Poll, Ran, SendError, Unit};
 use std::collections::VecDeque;
@@ -100,7 +100,7 @@ impl Robot {
         (self.start.elapsed().as_nanos() / TICK.as_nanos()) as u64
     }
 
-    /// One tick: the controller's job is sent where a millisecond begins, messages are taken, and one unit is done.
+    /// One tick: the controller's job is sent if a millisecond begins, messages are taken, and one unit is done.
     fn tick(&mut self) -> Result<(), Box<dyn Error>> {
         let now = self.house.now();
         if now % CONTROL_PERIOD == 0 {
@@ -108,8 +108,8 @@ impl Robot {
             self.released += 1;
         }
         for server in [CONTROL, VISION, LOGGER] {
-            if self.house.poll(server) == Poll::Took {
-                let promised = self.house.promised(server).expect("a job was taken");
+            if self.house.poll(server)? == Poll::Took {
+                let promised = self.house.promised(server)?.expect("a job was taken");
                 self.tallies[usize::from(server)].due.push_back(promised);
             }
         }
@@ -166,7 +166,7 @@ impl Robot {
         }
     }
 
-    /// Drives for so long. The clock is never ahead of real time; where it is behind, ticks follow each other at once.
+    /// Drives for so long. The clock is never ahead of real time; if it has fallen back, ticks follow each other at once.
     fn drive(&mut self, time: Duration) -> Result<(), Box<dyn Error>> {
         self.start = Instant::now();
         while self.start.elapsed() < time {
@@ -181,7 +181,7 @@ impl Robot {
     }
 }
 
-/// The camera: a picture of 60 bands every 33 ms, by a thread of its own. Answers how many it sent.
+/// The camera: a picture of 60 bands every 33 ms, by a thread of its own. Returns how many it sent.
 fn camera(mut client: Client, stop: Arc<AtomicBool>) -> JoinHandle<u64> {
     thread::spawn(move || {
         let mut sent = 0;
@@ -194,7 +194,7 @@ fn camera(mut client: Client, stop: Arc<AtomicBool>) -> JoinHandle<u64> {
     })
 }
 
-/// The logger: as many blocks as the ring takes, by a thread of its own. Answers how many jobs it sent.
+/// The logger: as many blocks as the ring takes, by a thread of its own. Returns how many jobs it sent.
 fn logger(mut client: Client, stop: Arc<AtomicBool>) -> JoinHandle<u64> {
     thread::spawn(move || {
         let mut sent = 0;
@@ -209,7 +209,7 @@ fn logger(mut client: Client, stop: Arc<AtomicBool>) -> JoinHandle<u64> {
     })
 }
 
-/// Prints what was done, and answers whether the laws hold.
+/// Prints what was done, and returns whether the laws hold.
 fn report(robot: &mut Robot, pictures: u64, logs: u64) -> bool {
     let now = robot.house.now();
     let sent = [robot.released, pictures, logs];

@@ -4,11 +4,11 @@ use crate::ffi::{status_text, Status};
 use std::error::Error;
 use std::fmt;
 
-/// Ends a program where the library answers what its contract rules out.
+/// Ends a program to which the library returned what its contract rules out.
 #[cold]
 pub(crate) fn not_answered(status: Status) -> ! {
     panic!(
-        "cbs: this call does not answer {:#x}: {}",
+        "cbs: this call does not return {:#x}: {}",
         status.0,
         status_text(status.0)
     )
@@ -101,5 +101,7 @@ errors! {
         Ended = 0x501,
         /// The ring is full: try again after the house has polled.
         RingFull = 0x502,
+        /// The house was dropped: nothing that is sent would be taken.
+        HouseGone = 0x605,
     }
 }

@@ -46,12 +46,12 @@ pub(crate) struct Server {
 #[derive(Clone, Copy, Default)]
 pub(crate) struct Unit {
     pub(crate) kind: u32,
-    pub(crate) server: u32,
+    pub(crate) server: u16,
     pub(crate) seq: u64,
     pub(crate) token: u64,
 }
 
-/// `struct cbs_turn`.
+/// `struct cbs_turned`.
 #[repr(C)]
 #[derive(Clone, Copy, Default)]
 pub(crate) struct Turn {
@@ -61,7 +61,7 @@ pub(crate) struct Turn {
     pub(crate) out_of_memory: bool,
 }
 
-/// `struct cbs_view`.
+/// `struct cbs_shown`.
 #[repr(C)]
 #[derive(Clone, Copy, Default)]
 pub(crate) struct View {
@@ -74,7 +74,11 @@ pub(crate) struct View {
     pub(crate) closed: bool,
 }
 
+/// The first two numbers of the version of the library that these declarations fit: `cbs_version() / 100`.
+const FITS: u32 = 1;
+
 extern "C" {
+    fn cbs_version() -> u32;
     fn cbs_open(
         servers: *const Server,
         n: usize,
@@ -114,11 +118,22 @@ fn answered<T>(status: u32, value: T) -> Result<T, Status> {
 // SAFETY of the calls below: each handle is not open or owned by the `Handle` that is borrowed, which is in no other call;
 // slices give a pointer that is not null, and their length; each out parameter is a local of its own.
 
+/// Ends the program if the library that was linked is not of the version that this crate was written for.
+fn must_fit() {
+    let version = unsafe { cbs_version() };
+    assert_eq!(
+        version / 100,
+        FITS,
+        "cbs: libcbs.a is of another version than this crate"
+    );
+}
+
 pub(crate) fn open(
     servers: &[Server],
     backlog: u64,
     ring: u64,
 ) -> Result<(Handle, Vec<Handle>), Status> {
+    must_fit();
     let mut house = Handle::SHUT;
     let mut clients: Vec<Handle> = servers.iter().map(|_| Handle::SHUT).collect();
     let status = unsafe {
@@ -136,6 +151,7 @@ pub(crate) fn open(
 }
 
 pub(crate) fn greatest_budget(servers: &[Server], period: u64) -> Result<u64, Status> {
+    must_fit();
     let mut budget = 0;
     let status =
         unsafe { cbs_greatest_budget(servers.as_ptr(), servers.len(), period, &mut budget) };
@@ -214,6 +230,18 @@ pub(crate) fn waiting(client: &mut Handle) -> Result<u64, Status> {
 mod tests {
     use super::*;
     use std::mem::size_of;
+
+    #[test]
+    fn the_library_has_the_version_of_the_crate() {
+        let [major, minor, patch] = [
+            env!("CARGO_PKG_VERSION_MAJOR"),
+            env!("CARGO_PKG_VERSION_MINOR"),
+            env!("CARGO_PKG_VERSION_PATCH"),
+        ]
+        .map(|number| number.parse::<u32>().unwrap());
+        assert_eq!(FITS, major * 100 + minor);
+        assert_eq!(unsafe { cbs_version() }, FITS * 100 + patch);
+    }
 
     // As in the header: bindings/c/tests/calls.c has the same numbers.
     #[test]

@@ -4,7 +4,8 @@ use std::fmt;
 
 /// The serving thread's side: it owns the executor, takes jobs from the rings, and tells which unit is next.
 ///
-/// It may go to another thread. Every call takes `&mut`, since a handle is in one call at a time.
+/// It may go to another thread. Every call takes `&mut`, since a handle is in one call at a time. When it is dropped, each
+/// later send of its clients returns [`SendError::HouseGone`](crate::SendError::HouseGone), so that senders end, too.
 pub struct House {
     handle: Handle,
     servers: u16,
@@ -15,7 +16,7 @@ pub struct House {
 pub struct Unit {
     /// The server of the job.
     pub server: u16,
-    /// The number of the job among those of its server, from 0, as [`Client::send`](crate::Client::send) answered it.
+    /// The number of the job among those of its server, from 0, as [`Client::send`](crate::Client::send) returned it.
     pub seq: u64,
     /// What was sent with the job.
     pub token: u64,
@@ -47,8 +48,6 @@ pub enum Poll {
     Full,
     /// A message waits, and there was no memory for it.
     NoMemory,
-    /// There is no server of that number.
-    NoSuchServer,
 }
 
 /// What a turn did.
@@ -94,7 +93,7 @@ fn ran_of(unit: ffi::Unit) -> Ran {
         0 => Ran::Idle,
         1 => Ran::ClockEnd,
         kind => Ran::Unit(Unit {
-            server: unit.server as u16, // at most 63
+            server: unit.server,
             seq: unit.seq,
             token: unit.token,
             last: kind == 3,
@@ -107,13 +106,13 @@ impl House {
         House { handle, servers }
     }
 
-    /// How many servers it has.
+    /// Returns how many servers it has. They are numbered from 0.
     pub fn servers(&self) -> u16 {
         self.servers
     }
 
-    /// Takes a turn: polls each server once, and then runs one unit. Where nobody is ready and a job is not finished, it
-    /// advances the clock by the idle span instead; where no job is there it leaves the clock alone. No turn takes anybody's
+    /// Takes a turn: polls each server once, and then runs one unit. If nobody is ready and a job is not finished, it
+    /// advances the clock by the idle span instead; if no job is there, it leaves the clock alone. No turn takes anybody's
     /// time.
     ///
     /// ```
@@ -138,20 +137,24 @@ impl House {
         }
     }
 
-    /// Takes the next message of one server, where there is one and room for it. What is not taken stays in its ring.
-    pub fn poll(&mut self, server: u16) -> Poll {
-        match certain(ffi::poll(&mut self.handle, server)) {
+    /// Takes the next message of one server, if there is one and room for it. What is not taken stays in its ring.
+    ///
+    /// # Errors
+    ///
+    /// [`HouseError::NoSuchServer`].
+    pub fn poll(&mut self, server: u16) -> Result<Poll, HouseError> {
+        let kind = ffi::poll(&mut self.handle, server).map_err(HouseError::of)?;
+        Ok(match kind {
             0 => Poll::Nothing,
             1 => Poll::Took,
             2 => Poll::Closed,
             3 => Poll::Full,
-            4 => Poll::NoMemory,
-            _ => Poll::NoSuchServer,
-        }
+            _ => Poll::NoMemory,
+        })
     }
 
-    /// Runs: of the servers that are ready that with the earliest deadline gets a tick, of several the one with the lowest
-    /// number. The program does the unit behind the call.
+    /// Runs: of the servers that are ready, that with the earliest deadline gets a tick; of several, the one with the lowest
+    /// number. The program does the unit after the call.
     pub fn run(&mut self) -> Ran {
         ran_of(certain(ffi::run(&mut self.handle)))
     }
@@ -161,23 +164,23 @@ impl House {
     ///
     /// # Errors
     ///
-    /// [`HouseError::ClockEnd`] where the clock would pass its end; it stays then.
+    /// [`HouseError::ClockEnd`] if the clock would pass its end; it stays then.
     pub fn advance(&mut self, ticks: u64) -> Result<(), HouseError> {
         ffi::advance(&mut self.handle, ticks).map_err(HouseError::of)
     }
 
-    /// The clock, in ticks.
+    /// Returns the clock, in ticks.
     pub fn now(&mut self) -> u64 {
         certain(ffi::now(&mut self.handle))
     }
 
-    /// The greatest number of ticks before whose last nobody is ready, or `None` where somebody is ready now. Where no job is
-    /// there it reaches to the clock's end: do not advance by it then.
+    /// Returns the greatest number of ticks before whose last nobody is ready, or `None` if somebody is ready now. If no job
+    /// is there it reaches to the clock's end: do not advance by it then.
     pub fn idle_span(&mut self) -> Option<u64> {
         Some(certain(ffi::idle_span(&mut self.handle))).filter(|&span| span != u64::MAX)
     }
 
-    /// What a server shows.
+    /// Returns what a server shows.
     ///
     /// # Errors
     ///
@@ -194,11 +197,15 @@ impl House {
         })
     }
 
-    /// The tick by which all that a server has taken is finished, whatever the others ask for, as long as no advance takes
-    /// anybody's time. `None` where nothing is unfinished, or there is no such server.
-    pub fn promised(&mut self, server: u16) -> Option<u128> {
-        let (low, high) = certain(ffi::promised(&mut self.handle, server));
-        Some(wide(low, high)).filter(|&tick| tick != u128::MAX)
+    /// Returns the tick by which all that a server has taken is finished, whatever the others ask for, as long as no advance
+    /// takes anybody's time; `None` if nothing is unfinished.
+    ///
+    /// # Errors
+    ///
+    /// [`HouseError::NoSuchServer`].
+    pub fn promised(&mut self, server: u16) -> Result<Option<u128>, HouseError> {
+        let (low, high) = ffi::promised(&mut self.handle, server).map_err(HouseError::of)?;
+        Ok(Some(wide(low, high)).filter(|&tick| tick != u128::MAX))
     }
 }
 

@@ -2,7 +2,7 @@
 //! for too much cannot take another's share. The scheduling is proved; this crate is a safe door to it.
 //!
 //! The library decides, the program does. A [`Client`] sends jobs: a token, which is any number of the program's, and how many
-//! units the job has. [`House::turn`] and [`House::run`] answer which unit of which job is next, and the program does it. A
+//! units the job has. [`House::turn`] and [`House::run`] return which unit of which job is next, and the program does it. A
 //! unit takes one tick of the house's clock, however long it takes; nothing is measured, and nothing is interrupted.
 //!
 //! ```
@@ -42,8 +42,10 @@
 //! # Ok::<(), Box<dyn std::error::Error>>(())
 //! ```
 //!
-//! No call blocks, and memory is taken by [`Plan::open`] and where the house takes a job. The library is found at build time:
-//! see `build.rs`, or set `CBS_LIB_DIR` to the folder of `libcbs.a`.
+//! A client that is dropped has ended, and a house that was dropped is an error of its clients' sends, so no side waits for one
+//! that is gone. No call blocks. Memory is taken by [`Plan::open`], and when the house takes a job.
+//!
+//! The library is found at build time: set `CBS_LIB_DIR` to the folder of `libcbs.a` if it is not where `build.rs` looks.
 
 #![deny(missing_docs)]
 

@@ -3,10 +3,10 @@ use crate::error::{not_answered, OpenError, PlanError};
 use crate::ffi::{self, Server};
 use crate::house::House;
 
-/// What a server does where its budget is used up.
+/// What a server does after its budget is used up.
 #[derive(Clone, Copy, Debug, PartialEq, Eq, Hash)]
 pub enum Mode {
-    /// It goes on at once, at a deadline one period later, behind everybody whose deadline is earlier. It may use idle time.
+    /// It goes on at once, at a deadline one period later, after everybody whose deadline is earlier. It may use idle time.
     Soft,
     /// It waits until its deadline, though the thread idles.
     Throttled,
@@ -24,7 +24,7 @@ impl Plan {
         Plan::default()
     }
 
-    /// Admits a server with a budget of `budget` ticks in every `period` ticks, and answers its number, from 0.
+    /// Admits a server with a budget of `budget` ticks in every `period` ticks, and returns its number, from 0.
     ///
     /// # Errors
     ///
@@ -50,7 +50,7 @@ impl Plan {
             period,
             mode,
         });
-        // The library answers for the servers before it says anything of the period, which may be any.
+        // The library looks at the servers before the period, which may be any.
         match ffi::greatest_budget(&self.servers, 1) {
             Ok(_) => Ok(number),
             Err(status) => {
@@ -60,17 +60,17 @@ impl Plan {
         }
     }
 
-    /// The greatest budget with which a server of this period would be admitted now; 0 where none would.
+    /// Returns the greatest budget with which a server of this period would be admitted now; 0 if none would.
     pub fn greatest_budget(&self, period: u64) -> u64 {
         ffi::greatest_budget(&self.servers, period).unwrap_or_else(|status| not_answered(status))
     }
 
-    /// How many servers it has, at most 64.
+    /// Returns how many servers it has, at most 64.
     pub fn len(&self) -> usize {
         self.servers.len()
     }
 
-    /// Whether it has none.
+    /// Returns whether it has none.
     pub fn is_empty(&self) -> bool {
         self.servers.is_empty()
     }

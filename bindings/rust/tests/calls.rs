@@ -1,4 +1,4 @@
-//! Every call of the crate, with every answer that needs no refused memory (`bindings/c/tests/memory.c` has that).
+//! Every call of the crate, with everything that it can return but for want of memory (`bindings/c/tests/memory.c` has that).
 
 use cbs::{
     Client, House, HouseError, Mode, OpenError, Plan, PlanError, Poll, Ran, SendError, Unit,
@@ -78,9 +78,9 @@ fn a_soft_server_goes_on_at_a_later_deadline() {
     assert_eq!(house.run(), Ran::Idle);
     assert_eq!(clients[0].send(7, 3), Ok(0));
     assert_eq!(clients[0].waiting(), 1);
-    assert_eq!(house.poll(0), Poll::Took);
+    assert_eq!(house.poll(0), Ok(Poll::Took));
     assert_eq!(clients[0].waiting(), 0);
-    assert_eq!(house.promised(0), Some(10));
+    assert_eq!(house.promised(0), Ok(Some(10)));
     assert_eq!(house.idle_span(), None);
     assert_eq!(house.run(), unit(0, 0, 7, false));
     assert_eq!(house.run(), unit(0, 0, 7, false));
@@ -90,7 +90,7 @@ fn a_soft_server_goes_on_at_a_later_deadline() {
         (2, 10, 1, 0)
     );
     assert_eq!(house.run(), unit(0, 0, 7, true));
-    assert_eq!(house.promised(0), None);
+    assert_eq!(house.promised(0), Ok(None));
     assert_eq!(house.now(), 3);
     assert!(!house.view(0).unwrap().throttled);
 }
@@ -121,14 +121,15 @@ fn a_client_ends_once_behind_its_jobs() {
     assert_eq!(client.send(2, 1), Ok(1));
     assert_eq!(client.send(3, 1), Err(SendError::RingFull));
     assert_eq!(client.end(), Err(SendError::RingFull));
-    assert_eq!(house.poll(0), Poll::Took);
+    assert_eq!(house.poll(0), Ok(Poll::Took));
     assert_eq!(client.end(), Ok(()));
     assert_eq!(client.end(), Err(SendError::Ended));
     assert_eq!(client.send(3, 1), Err(SendError::Ended));
-    assert_eq!(house.poll(0), Poll::Took);
-    assert_eq!(house.poll(0), Poll::Closed);
-    assert_eq!(house.poll(0), Poll::Nothing);
-    assert_eq!(house.poll(1), Poll::NoSuchServer);
+    assert_eq!(house.poll(0), Ok(Poll::Took));
+    assert_eq!(house.poll(0), Ok(Poll::Closed));
+    assert_eq!(house.poll(0), Ok(Poll::Nothing));
+    assert_eq!(house.poll(1), Err(HouseError::NoSuchServer));
+    assert_eq!(house.promised(1), Err(HouseError::NoSuchServer));
     assert!(house.view(0).unwrap().closed);
     assert_eq!(house.view(1), Err(HouseError::NoSuchServer));
 }
@@ -138,11 +139,11 @@ fn a_full_backlog_leaves_messages_in_the_ring() {
     let (mut house, mut clients) = plan(&[(2, 5, Mode::Soft)]).open(1, 2).unwrap();
     clients[0].send(1, 1).unwrap();
     clients[0].send(2, 1).unwrap();
-    assert_eq!(house.poll(0), Poll::Took);
-    assert_eq!(house.poll(0), Poll::Full);
+    assert_eq!(house.poll(0), Ok(Poll::Took));
+    assert_eq!(house.poll(0), Ok(Poll::Full));
     assert_eq!(clients[0].waiting(), 1);
     assert_eq!(house.run(), unit(0, 0, 1, true));
-    assert_eq!(house.poll(0), Poll::Took);
+    assert_eq!(house.poll(0), Ok(Poll::Took));
     assert_eq!(house.run(), unit(0, 1, 2, true));
 }
 

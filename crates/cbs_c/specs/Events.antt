@@ -39,14 +39,14 @@ view_shown v = record {
   closed = v.closed;
 }
 
--- the number of a poll's answer
+-- the number of a poll's answer; where there is no such server, the call is refused instead
 abbrev pub poll_kind : Poll → ℕ
 poll_kind poll.Nothing = 0
 poll_kind (poll.Took q) = 1
 poll_kind poll.Closed = 2
 poll_kind poll.Full = 3
 poll_kind poll.OutOfMemory = 4
-poll_kind poll.NoSuchServer = 5
+poll_kind poll.NoSuchServer = 0
 
 -- the number of a span: the greatest of 64 bits where there is none
 abbrev pub span_shown : Option ℕ → ℕ

@@ -1,5 +1,5 @@
 -- What C is told of a call on a handle.
-use Rattle.std.specs.Prelude.{ℕ, ◌≡◌, Option, Result, Ok, Err}
+use Rattle.std.specs.Prelude.{ℕ, ◌≡◌, ◌++◌, Option, Result, Ok, Err, List, take, drop, length}
 use Rattle.cbs_embed.specs.Statuses.{refusal_status}
 use Rattle.cbs_embed.specs.declared.inside.Inside.{Inside}
 use Rattle.cbs_embed.specs.declared.refusal.Refusal.{Refusal}
@@ -29,3 +29,10 @@ pub record Answers {T : Type 0} (Does : Option Inside → Result T Refusal → O
   pub answer : Result T Refusal
   pub does : Does held answer holds
   pub told : status ≡ status_after answer
+
+-- As much of a text as fits is written, what stands after it stays, and the length of the whole is answered. Which text a status has
+-- is not said.
+pub record WritesSomeText (before after : List ℕ) (answer : ℕ) : Type 0 where
+  pub text : List ℕ
+  pub written : after ≡ take (length before) text ++ drop (length text) before
+  pub whole : answer ≡ length text

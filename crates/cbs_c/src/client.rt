@@ -8,7 +8,7 @@ use crate::status::{status_of, tell};
 use cbs_embed::{Kept, calls};
 use std::alloc::Global;
 
-/// Sends a job.
+/// Sends a job. Refuses by its units, by a house that was freed, after an end, and at a full ring, in this order.
 #[unsafe(no_mangle)]
 pub extern "C" fn cbs_send(
     alloc: Global,
@@ -22,7 +22,7 @@ pub extern "C" fn cbs_send(
     tell(seq, calls::send(alloc, client, token, units))
 }
 
-/// Sends the end.
+/// Sends the end. Refuses by a house that was freed, after an end, and at a full ring, in this order.
 #[unsafe(no_mangle)]
 pub extern "C" fn cbs_end(alloc: Global, client: &mut Kept) -> u32
     ensures { Answers (OnHeld (InClient Ends)) (held_by client.old) result (held_by client.new) }

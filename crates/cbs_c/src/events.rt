@@ -14,14 +14,14 @@ pub struct Event {
     /// 0 idle, 1 the clock's end, 2 a unit, 3 the last unit of its job.
     pub kind: u32,
     /// The server of the job that got a unit.
-    pub server: u32,
+    pub server: u16,
     /// The job's number.
     pub seq: u64,
     /// The job's token.
     pub token: u64,
 }
 
-/// What a turn did: `struct cbs_turn`.
+/// What a turn did: `struct cbs_turned`.
 #[repr(C)]
 #[derive(Clone, Copy, Debug, PartialEq, Eq)]
 pub struct TurnEvent {
@@ -35,7 +35,7 @@ pub struct TurnEvent {
     pub out_of_memory: bool,
 }
 
-/// What a server shows: `struct cbs_view`.
+/// What a server shows: `struct cbs_shown`.
 #[repr(C)]
 #[derive(Clone, Copy, Debug, PartialEq, Eq)]
 pub struct View {
@@ -67,7 +67,7 @@ pub(crate) fn event_of(ticked: Ticked) -> Event
     };
     Event {
         kind,
-        server: u32::from(server),
+        server,
         seq,
         token: ticked.token,
     }
@@ -118,16 +118,15 @@ pub(crate) fn view_of(view: ServerView) -> View
     }
 }
 
-/// The number of a poll's answer.
+/// The number of a poll's answer. A server that the house has not is refused by its status instead.
 pub(crate) fn kind_of(answer: Poll) -> u32
     ensures { result ≡ poll_kind answer }
 {
     match answer {
-        Poll::Nothing => 0,
+        Poll::Nothing | Poll::NoSuchServer => 0,
         Poll::Took(_) => 1,
         Poll::Closed => 2,
         Poll::Full => 3,
         Poll::OutOfMemory => 4,
-        Poll::NoSuchServer => 5,
     }
 }

@@ -23,7 +23,7 @@ pub extern "C" fn cbs_open(
     status_of(open(alloc, servers, backlog, ring, house, clients))
 }
 
-/// Frees what the handle holds, if it holds anything.
+/// Frees what the handle holds, if it holds anything. A client that is freed ends, unless it has ended.
 #[unsafe(no_mangle)]
 pub extern "C" fn cbs_free(alloc: Global, handle: &mut Kept)
     ensures { held_by handle.new ≡ None }

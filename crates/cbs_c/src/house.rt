@@ -38,7 +38,7 @@ pub extern "C" fn cbs_turn(alloc: Global, house: &mut Kept, out: &mut TurnEvent)
     }
 }
 
-/// Looks for the next message of a server, and takes it.
+/// Looks for the next message of a server, and takes it. Refuses the number of no server.
 #[unsafe(no_mangle)]
 pub extern "C" fn cbs_poll(alloc: Global, house: &mut Kept, server: u16, kind: &mut u32) -> u32
     ensures { Tells (OnHeld (InHouse (Polls server))) poll_kind (held_by house.old) kind.old result (held_by house.new) kind.new }
@@ -82,7 +82,7 @@ pub extern "C" fn cbs_idle_span(alloc: Global, house: &mut Kept, out: &mut u64) 
     }
 }
 
-/// What a server shows.
+/// What a server shows. Refuses the number of no server.
 #[unsafe(no_mangle)]
 pub extern "C" fn cbs_view(alloc: Global, house: &mut Kept, server: u16, out: &mut View) -> u32
     ensures { Tells (OnHeld (InHouse (Shows server))) view_shown (held_by house.old) out.old result (held_by house.new) out.new }
@@ -96,7 +96,8 @@ pub extern "C" fn cbs_view(alloc: Global, house: &mut Kept, server: u16, out: &m
     }
 }
 
-/// By which tick all that a server took is finished, in two halves; both are `u64::MAX` where all is finished.
+/// By which tick all that a server took is finished, in two halves; both are `u64::MAX` if all is finished.
+/// Refuses the number of no server.
 #[unsafe(no_mangle)]
 pub extern "C" fn cbs_promised(
     alloc: Global,

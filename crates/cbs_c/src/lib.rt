@@ -8,8 +8,10 @@ mod events;
 mod handles;
 mod house;
 mod status;
+mod version;
 
 pub use events::{Event, TurnEvent, View};
+pub use version::{MAJOR, MINOR, PATCH};
 
 #[cfg(test)]
 mod tests;

@@ -1,7 +1,7 @@
 //! Statuses, and their texts.
 
-ghost use Rattle.std.specs.Prelude.{◌≡◌};
-ghost use Rattle.cbs_c.specs.Statuses.{status_after, shown_or};
+ghost use Rattle.std.specs.Prelude.{◌≡◌, ◌++◌, take, drop, length};
+ghost use Rattle.cbs_c.specs.Statuses.{status_after, shown_or, WritesSomeText};
 
 use cbs_embed::{Refusal, text_of};
 
@@ -31,10 +31,18 @@ pub(crate) fn tell(out: &mut u64, answer: Result<u64, Refusal>) -> u32
 
 /// Writes the text of a status, as much as fits, and answers the length of the whole.
 #[unsafe(no_mangle)]
-pub extern "C" fn cbs_status_text(status: u32, out: &mut [u8]) -> usize {
-    let text = text_of(status).as_bytes();
-    for (place, byte) in out.iter_mut().zip(text.iter()) {
-        *place = *byte;
-    }
+pub extern "C" fn cbs_status_text(status: u32, out: &mut [u8]) -> usize
+    ensures { WritesSomeText out.old out.new result }
+{
+    write_text(text_of(status).as_bytes(), out)
+}
+
+/// Writes a text, as much as fits, and answers the length of the whole.
+fn write_text(text: &[u8], out: &mut [u8]) -> usize
+    ensures out { out.new ≡ take (length out.old) text.now ++ drop (length text.now) out.old }
+    ensures length { result ≡ length text.now }
+{
+    let shown = text.len().min(out.len());
+    out[..shown].copy_from_slice(&text[..shown]);
     text.len()
 }

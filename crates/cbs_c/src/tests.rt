@@ -1,11 +1,15 @@
 //! Each export once, with rows by hand; and each refusal of a handle.
 
+mod layouts;
+mod leaving;
+mod texts;
+mod widest;
+
 use crate::client::{cbs_end, cbs_send, cbs_waiting};
 use crate::handles::{cbs_free, cbs_greatest_budget, cbs_open};
 use crate::house::{
     cbs_advance, cbs_idle_span, cbs_now, cbs_poll, cbs_promised, cbs_run, cbs_turn, cbs_view,
 };
-use crate::status::cbs_status_text;
 use crate::{Event, TurnEvent, View};
 use cbs_embed::{Kept, Server};
 use std::alloc::Global;
@@ -30,6 +34,16 @@ const SERVERS: [Server; 2] = [
     },
 ];
 
+const NO_VIEW: View = View {
+    budget: 9,
+    deadline_low: 9,
+    deadline_high: 9,
+    accepted: 9,
+    finished: 9,
+    throttled: true,
+    closed: true,
+};
+
 const NO_EVENT: Event = Event {
     kind: 9,
     server: 9,
@@ -46,7 +60,7 @@ fn is(rt: &impl Abort, status: u32, wanted: u32) {
     same(rt, "status", status, wanted);
 }
 
-fn event(kind: u32, server: u32, seq: u64, token: u64) -> Event {
+fn event(kind: u32, server: u16, seq: u64, token: u64) -> Event {
     Event {
         kind,
         server,
@@ -116,42 +130,46 @@ fn promises(rt: &impl Abort, alloc: Global, house: &mut Kept, low: u64, high: u6
     same(rt, "promised", (lower, upper), (low, high));
 }
 
+/// A poll of a server does this.
+fn polls(rt: &impl Abort, alloc: Global, house: &mut Kept, server: u16, wanted: u32) {
+    let mut kind = 9;
+    is(rt, cbs_poll(alloc, house, server, &mut kind), 0);
+    same(rt, "poll", kind, wanted);
+}
+
+/// So many messages of a client stand in its ring.
+fn waits(rt: &impl Abort, alloc: Global, client: &mut Kept, wanted: u64) {
+    let mut waiting = 9;
+    is(rt, cbs_waiting(alloc, client, &mut waiting), 0);
+    same(rt, "waiting", waiting, wanted);
+}
+
+/// A house of both servers, with a backlog of 4 and rings of so many places, and its clients.
+fn opened(rt: &impl Abort, alloc: Global, ring: u64) -> (Kept, Kept, Kept) {
+    let mut house = Kept::shut(alloc);
+    let mut clients = [Kept::shut(alloc), Kept::shut(alloc)];
+    let status = cbs_open(alloc, &SERVERS, 4, ring, &mut house, &mut clients);
+    is(rt, status, 0);
+    let [soft, throttled] = clients;
+    (house, soft, throttled)
+}
+
 #[test]
 fn serves_two_clients(rt: HostRuntime) {
     let alloc = rt.alloc();
-    let mut house = Kept::shut(alloc);
-    let mut clients = [Kept::shut(alloc), Kept::shut(alloc)];
-    is(
-        &rt,
-        cbs_open(alloc, &SERVERS, 4, 4, &mut house, &mut clients),
-        0,
-    );
-    let [mut soft, mut throttled] = clients;
+    let (mut house, mut soft, mut throttled) = opened(&rt, alloc, 4);
     promises(&rt, alloc, &mut house, u64::MAX, u64::MAX);
     sends(&rt, alloc, &mut soft, 7, 3, 0);
     sends(&rt, alloc, &mut throttled, 9, 2, 0);
     is(&rt, cbs_end(alloc, &mut throttled), 0);
-    let mut waiting = 9;
-    is(&rt, cbs_waiting(alloc, &mut throttled, &mut waiting), 0);
-    same(&rt, "waiting", waiting, 2);
-
-    let mut kind = 9;
-    is(&rt, cbs_poll(alloc, &mut house, 0, &mut kind), 0);
-    same(&rt, "poll", kind, 1);
+    waits(&rt, alloc, &mut throttled, 2);
+    polls(&rt, alloc, &mut house, 0, 1);
     // Three units by 2 in 5: the third waits for the second budget.
     promises(&rt, alloc, &mut house, 10, 0);
     rests_for(&rt, alloc, &mut house, u64::MAX);
     turns(&rt, alloc, &mut house, 1, 0, event(2, 0, 0, 7));
     runs(&rt, alloc, &mut house, event(2, 0, 0, 7));
-    let mut view = View {
-        budget: 9,
-        deadline_low: 9,
-        deadline_high: 9,
-        accepted: 9,
-        finished: 9,
-        throttled: true,
-        closed: true,
-    };
+    let mut view = NO_VIEW;
     is(&rt, cbs_view(alloc, &mut house, 0, &mut view), 0);
     let postponed = View {
         budget: 2,
@@ -265,17 +283,4 @@ fn refuses_to_open_by_name(rt: HostRuntime) {
         0x604,
     );
     same(&rt, "budget", budget, 2);
-}
-
-#[test]
-fn tells_a_text(rt: HostRuntime) {
-    let mut text = [b'-'; 16];
-    same(&rt, "length", cbs_status_text(0x502, &mut text), 16);
-    same(&rt, "text", text, *b"the ring is full");
-    let mut front = [b'-'; 4];
-    same(&rt, "length", cbs_status_text(0x502, &mut front), 16);
-    same(&rt, "front", front, *b"the ");
-    let mut more = [b'-'; 10];
-    same(&rt, "length", cbs_status_text(0, &mut more), 8);
-    same(&rt, "text", more, *b"no error--");
 }

@@ -25,9 +25,9 @@ use Rattle.cbs_core.specs.History.{World, Setup, History, account, faces, tick, 
 use Rattle.cbs_core.specs.Held.{CoreHeld}
 use Rattle.cbs_core.specs.Invariant.{IsServer, IsCore}
 use Rattle.cbs_core.specs.Agreement.{Agrees}
-use Rattle.cbs_core.specs.OnTime.{demand, IsAhead, IsOnTimeIn, IsOnTime, is_late, IsNobodyLate, IsWorldOnTime, NeverLate, KeepsDeadlines, KeepsTime, KeepsTimeAll}
+use Rattle.cbs_core.specs.OnTime.{demand, IsAhead, IsOnTimeIn, IsCoreOnTime, is_late, IsNobodyLate, IsWorldOnTime, NeverLate, KeepsTime, KeepsTimeAll}
 use Rattle.cbs_core.specs.Quiet.{IsQuietStep, AreQuiet}
-use Rattle.cbs_core.specs.Replies.{is_lack, grown, grown_by}
+use Rattle.cbs_core.specs.Replies.{is_lack, grown}
 use Rattle.cbs_core.specs.declared.error.CoreError.{CoreError}
 use Rattle.cbs_core.specs.declared.reply.Reply.{Reply}
 use Rattle.cbs_core.specs.declared.step.Step.{Step}
@@ -170,6 +170,10 @@ module _ {W : Type 0} (work : Meaning W) where
       } in
       rw same here
 
+  -- so all are on time after each list of steps that takes nobody's time
+  pub on_time_after : (setup : Setup) (M : List (Step W)) → IsAdmitted (given setup) → AreQuiet work setup M → IsWorldOnTime work (after work setup M)
+  on_time_after setup M ok quiet = shown_on_time setup M (timely_after setup M ok quiet)
+
   -- and the other way round
   pub known_on_time : (setup : Setup) (M : List (Step W)) → IsWorldOnTime work (after work setup M) → IsTimely work (all_periods (given setup)) (after work setup M)
   known_on_time setup M on =
@@ -232,23 +236,6 @@ module _ {W : Type 0} (work : Meaning W) where
   never_late setup [] ok quiet = none_late setup [] ok (timely_start setup ok)
   never_late setup (x ∷ M) ok quiet = (never_late setup M ok quiet.0, none_late setup (x ∷ M) ok (timely_after setup (x ∷ M) ok quiet))
 
-  -- what an executor was given stays
-  setup_grown : (M : History W) (xs : List (Step W)) (rs : List (Reply W)) → (grown_by M xs rs).setup ≡ M.setup
-  setup_grown M [] rs = refl
-  setup_grown M (x ∷ xs) [] = refl
-  setup_grown M (x ∷ xs) (r ∷ rs) = setup_grown (grown M x r) xs rs ∙ one
-    where
-      one : (grown M x r).setup ≡ M.setup
-      one = elim (cases_Bool (is_lack r)) [ inl t ↦ rw t refl | inr f ↦ rw f refl ]
-
-  -- so do its reservations
-  pub admitted_grown : (M : History W) (xs : List (Step W)) (rs : List (Reply W)) → IsAdmitted (given M.setup) → IsAdmitted (given (grown_by M xs rs).setup)
-  admitted_grown M xs rs ok = rw (setup_grown M xs rs) ok
-
-  -- so is it of a history and the steps behind it
-  pub deadlines_kept : (M : History W) (xs : List (Step W)) (rs : List (Reply W)) → IsAdmitted (given M.setup) → KeepsDeadlines work (grown_by M xs rs)
-  deadlines_kept M xs rs ok = never_late (grown_by M xs rs).setup (grown_by M xs rs).steps (admitted_grown M xs rs ok)
-
   module _ {core held : CoreHeld W} {M : History W} (view : core ≡ held) (ok : IsCore work core) (agrees : Agrees work held M) where
     -- each step from a core keeps what is on time so
     pub keeps_time : (x : Step W) → KeepsTime work M x
@@ -275,5 +262,5 @@ module _ {W : Type 0} (work : Meaning W) where
         ]
 
   -- a new core is on time
-  pub new_on_time : {core : CoreHeld W} {setup : Setup} → IsCore work core → Agrees work core (record { setup = setup; steps = [] }) → IsOnTime core.clock core.faces
+  pub new_on_time : {core : CoreHeld W} {setup : Setup} → IsCore work core → Agrees work core (record { setup = setup; steps = [] }) → IsCoreOnTime core
   new_on_time {core} {setup} ok agrees = rw (agrees.world.clock, agrees.world.shown) (on_time_start setup (admitted_by {core = core} refl ok agrees))

@@ -17,12 +17,13 @@ use Rattle.cbs_core.specs.Held.{CoreHeld}
 use Rattle.cbs_core.specs.History.{History, ◌⊕◌, account, world_after}
 use Rattle.cbs_core.specs.Invariant.{IsCore}
 use Rattle.cbs_core.specs.Laws.{account_in}
-use Rattle.cbs_core.specs.OnTime.{IsWorldOnTime}
+use Rattle.cbs_core.specs.OnTime.{IsCoreOnTime, IsWorldOnTime}
 use Rattle.cbs_core.specs.Promised.{promised_tick, owed, promised, AllQuiet, AllFinishedBy}
 use Rattle.cbs_core.specs.declared.step.Step.{Step}
 use Rattle.cbs_core.proofs.Histories.{holds_on}
 use Rattle.cbs_core.proofs.Lists.{AllByRecursion-get}
 use Rattle.cbs_core.proofs.OnTime.{IsAdmitted, given, sound_after, known_on_time, on_time_next, admitted_by}
+use Rattle.cbs_core.proofs.OnTimeCores.{agreed_on_time}
 use Rattle.cbs_core.proofs.OnTimeSteps.{IsSound}
 use Rattle.cbs_core.proofs.Promises.{IsAwaited, awaited_job, awaited_unit, awaited_replenishment, awaited_close, awaited_finished, count_after}
 
@@ -62,7 +63,7 @@ module _ {W : Type 0} (work : Meaning W) where
   ]
 
   -- what is owed is paid by the tick that is promised for it
-  module _ (M : History W) (s : ℕ) (ok : IsAdmitted (given work M.setup)) (some : 0 < owed work (account_in work M s)) where
+  module _ (M : History W) (s : ℕ) (ok : IsAdmitted (given work M.setup)) (on : IsWorldOnTime work (world_after work M)) (some : 0 < owed work (account_in work M s)) where
     abbrev a : Account W
     a = account_in work M s
 
@@ -70,7 +71,7 @@ module _ {W : Type 0} (work : Meaning W) where
     tick = promised_tick a.terms.reservation a.state (owed work a)
 
     all_finished_by : AllFinishedBy work M s tick
-    all_finished_by = λ on xs quiet late.
+    all_finished_by = λ xs quiet late.
         let lt = owed_there (world_after work M).accounts s some in
         let law = (AllByRecursion-get (IsSound work (all_periods (given work M.setup))) (world_after work M).accounts s no_account (sound_after work M.setup M.steps ok).each lt).lawful in
         let e = last_of work.left a.accepted (omega arith) in
@@ -92,20 +93,20 @@ module _ {W : Type 0} (work : Meaning W) where
         omega arith
 
   -- so is what is told, if something is owed
-  tick_kept : (M : History W) (s : ℕ) (o : Option ℕ) → IsAdmitted (given work M.setup) → o ≡ promised work (account_in work M s) → IfSome o (λ tick. AllFinishedBy work M s tick)
-  tick_kept M s None ok e = tt
-  tick_kept M s (Some tick) ok e = elim (cases_Bool (eqb (owed work (account_in work M s)) 0)) [
+  tick_kept : (M : History W) (s : ℕ) (o : Option ℕ) → IsAdmitted (given work M.setup) → IsWorldOnTime work (world_after work M) → o ≡ promised work (account_in work M s) → IfSome o (λ tick. AllFinishedBy work M s tick)
+  tick_kept M s None ok on e = tt
+  tick_kept M s (Some tick) ok on e = elim (cases_Bool (eqb (owed work (account_in work M s)) 0)) [
     | inl t ↦ let none : Some tick ≡ None = rw t at e in cc
     | inr f ↦
         let a = account_in work M s in
         let is : Some tick ≡ Some (promised_tick a.terms.reservation a.state (owed work a)) = rw f at e in
         let same : tick ≡ promised_tick a.terms.reservation a.state (owed work a) = cc in
         let some : 0 < owed work a = grind (arith, nat_tests) in
-        rw same (all_finished_by M s ok some)
+        rw same (all_finished_by M s ok on some)
   ]
 
-  -- and so whatever history the core agrees with
+  -- and so whatever history the core agrees with, if it is on time
   pub promised_kept : {core held : CoreHeld W} → core ≡ held → IsCore work core → (s : ℕ) (o : Option ℕ) → ((M : History W) → Agrees work held M → o ≡ promised work (account_in work M s))
-      → IfSome o (λ tick. (M : History W) → Agrees work held M → AllFinishedBy work M s tick)
-  promised_kept view ok s None value = tt
-  promised_kept view ok s (Some tick) value = λ M agrees. tick_kept M s (Some tick) (admitted_by work view ok agrees) (value M agrees)
+      → IsCoreOnTime held → IfSome o (λ tick. (M : History W) → Agrees work held M → AllFinishedBy work M s tick)
+  promised_kept view ok s None value on = tt
+  promised_kept view ok s (Some tick) value on = λ M agrees. tick_kept M s (Some tick) (admitted_by work view ok agrees) (agreed_on_time work M agrees on) (value M agrees)

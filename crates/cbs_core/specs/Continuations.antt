@@ -7,6 +7,7 @@ use Rattle.cbs_core.specs.History.{World, History, ◌⊕◌, faces, world_after
 use Rattle.cbs_core.specs.Agreement.{Agrees}
 use Rattle.cbs_core.specs.Quiet.{IsAtRest, IsIdleSpan}
 use Rattle.cbs_core.specs.Held.{CoreHeld}
+use Rattle.cbs_core.specs.OnTime.{IsCoreOnTime, IsWorldOnTime}
 use Rattle.cbs_core.specs.declared.step.Step.{Step}
 use Rattle.cbs_core.specs.declared.step.Step.TheVariants.{Submit, Run, Advance, Close}
 
@@ -33,6 +34,10 @@ module _ {W : Type 0} where
   -- the steps, made from this core on, may each stand where they stand
   abbrev pub AllAllowed : Meaning W → (History W → Step W → Type 0) → CoreHeld W → List (Step W) → Type 0
   AllAllowed work allowed old xs = (M : History W) → Agrees work old M → EachAllowed allowed M xs
+
+  -- from this core on, if it is on time, each of the steps leaves all on time
+  abbrev pub AllOnTime : Meaning W → CoreHeld W → List (Step W) → Type 0
+  AllOnTime work old xs = IsCoreOnTime old → AllAllowed work (λ N x. IsWorldOnTime work (world_after work (N ⊕ x))) old xs
 
   -- some server has an unfinished job
   abbrev pub IsBusy : Meaning W → World W → Type 0

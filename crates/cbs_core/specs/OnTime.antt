@@ -7,6 +7,7 @@ use Rattle.cbs_rate.specs.Rate.{Rate}
 use Rattle.cbs_rate.specs.Plan.{share, all_periods}
 use Rattle.cbs_rules.specs.Rules.{State}
 use Rattle.cbs_core.specs.Faces.{Face, is_active, is_ready, reservations}
+use Rattle.cbs_core.specs.Held.{CoreHeld}
 use Rattle.cbs_core.specs.History.{World, Setup, History, ◌⊕◌, faces, after, world_after}
 use Rattle.cbs_core.specs.Quiet.{IsQuietStep, AreQuiet, EachQuiet}
 use Rattle.cbs_core.specs.Replies.{grown_by}
@@ -58,6 +59,10 @@ abbrev pub IsNobodyLate : ℕ → List Face → Type 0
 IsNobodyLate now fs = AllByRecursion (λ f. is_late now f ≡ false) fs
 
 module _ {W : Type 0} where
+  -- a core that is on time
+  abbrev pub IsCoreOnTime : CoreHeld W → Type 0
+  IsCoreOnTime core = IsOnTime core.clock core.faces
+
   -- a world that is on time
   abbrev pub IsWorldOnTime : Meaning W → World W → Type 0
   IsWorldOnTime work w = IsOnTime w.now (faces work w)
@@ -67,7 +72,11 @@ module _ {W : Type 0} where
   NeverLate work setup [] = IsNobodyLate 0 (faces work (after work setup []))
   NeverLate work setup (x ∷ M) = NeverLate work setup M × IsNobodyLate (after work setup (x ∷ M)).now (faces work (after work setup (x ∷ M)))
 
-  -- where each advance took nobody's time, no server was ever late
+  -- where each advance took nobody's time, all are on time
+  abbrev pub KeepsOnTime : Meaning W → History W → Type 0
+  KeepsOnTime work M = AreQuiet work M.setup M.steps → IsWorldOnTime work (world_after work M)
+
+  -- nor was any server ever late
   abbrev pub KeepsDeadlines : Meaning W → History W → Type 0
   KeepsDeadlines work M = AreQuiet work M.setup M.steps → NeverLate work M.setup M.steps
 

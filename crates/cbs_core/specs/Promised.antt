@@ -9,7 +9,6 @@ use Rattle.cbs_core.specs.Accounts.{Account, finished}
 use Rattle.cbs_core.specs.Continuations.{◌⊕⊕◌, EachAllowed}
 use Rattle.cbs_core.specs.History.{History, world_after}
 use Rattle.cbs_core.specs.Laws.{account_in}
-use Rattle.cbs_core.specs.OnTime.{IsWorldOnTime}
 use Rattle.cbs_core.specs.Quiet.{IsQuietAfter}
 use Rattle.cbs_core.specs.declared.step.Step.{Step}
 
@@ -35,8 +34,8 @@ module _ {W : Type 0} where
   abbrev pub AllQuiet : Meaning W → History W → List (Step W) → Type 0
   AllQuiet work M xs = EachAllowed (IsQuietAfter work) M xs
 
-  -- Each job that server s accepted in M is finished by the tick: where M leaves all on time, whatever steps follow that take
-  -- nobody's time, once they have brought the clock there.
+  -- Each job that server s accepted in M is finished by the tick: whatever steps follow that take nobody's time, once they have
+  -- brought the clock there. It is so where M leaves all on time.
   abbrev pub AllFinishedBy : Meaning W → History W → ℕ → ℕ → Type 0
-  AllFinishedBy work M s tick = IsWorldOnTime work (world_after work M) → (xs : List (Step W)) → AllQuiet work M xs
+  AllFinishedBy work M s tick = (xs : List (Step W)) → AllQuiet work M xs
       → tick ≤ (world_after work (M ⊕⊕ xs)).now → length (account_in work M s).accepted ≤ finished work (account_in work (M ⊕⊕ xs) s)

@@ -1,7 +1,7 @@
 -- The laws of a history: on time, and on what a server takes.
 use Rattle.cbs_job.specs.Work.{Meaning}
 use Rattle.cbs_core.specs.History.{History}
-use Rattle.cbs_core.specs.OnTime.{KeepsDeadlines}
+use Rattle.cbs_core.specs.OnTime.{KeepsOnTime, KeepsDeadlines}
 use Rattle.cbs_core.specs.Promises.{KeepsPromise, KeepsBound, KeepsDue}
 use Rattle.cbs_core.specs.HardTasks.{KeepsHard}
 use Rattle.cbs_core.specs.Supplies.{KeepsSupply}
@@ -9,6 +9,7 @@ use Rattle.cbs_core.specs.Windows.{KeepsShare, KeepsCap}
 
 -- punctual: the laws on time hold of the history, and no server took more than its share
 pub record IsPunctual {W : Type 0} (work : Meaning W) (N : History W) : Type 0 where
+  pub on_time : KeepsOnTime work N
   pub never_late : KeepsDeadlines work N
   pub promise : KeepsPromise work N
   pub bound : KeepsBound work N

@@ -11,13 +11,10 @@ ghost use Rattle.cbs_core.specs.Replies.{submitted, advanced, closed, lacks_memo
 ghost use Rattle.cbs_core.specs.Laws.{account_in, completion_in, completion_of, completions_of, Completes, NoneAfterClose, IsWithinShare, IsWithinCap, IsWithinBudget, KeepsBudgets};
 ghost use Rattle.cbs_core.specs.Fronts.{front_output};
 ghost use Rattle.cbs_core.specs.Held.{room_of, KeepsRoom, IsOpen, HasRoom, IsRefusedBy, held_at, TakesJob, ClosesServer, OthersSame, AllSame, DoesRun, CountsOn};
-ghost use Rattle.cbs_core.specs.OnTime.{IsOnTime, IsWorldOnTime, KeepsDeadlines, KeepsTime, KeepsTimeAll};
-ghost use Rattle.cbs_core.specs.HardTasks.{KeepsHard};
-ghost use Rattle.cbs_core.specs.Promises.{KeepsPromise, KeepsBound, KeepsDue};
+ghost use Rattle.cbs_core.specs.OnTime.{IsCoreOnTime, IsWorldOnTime, KeepsTime, KeepsTimeAll};
 ghost use Rattle.cbs_core.specs.Promised.{promised, AllFinishedBy};
 ghost use Rattle.cbs_core.specs.Punctual.{IsPunctual};
 ghost use Rattle.cbs_core.specs.Queues.{ran_of};
-ghost use Rattle.cbs_core.specs.Supplies.{KeepsSupply};
 ghost use Rattle.cbs_core.specs.Setups.{terms_of, new_refusal};
 
 use crate::error::CoreError;
@@ -83,7 +80,7 @@ impl<W: Work, A: Allocator + Clone> Core<W, A> {
     pub fn new(alloc: A, plan: Plan, modes: Modes, backlog: u64) -> Result<Self, CoreError>
         requires { length modes ≡ length plan.rates }
         ensures start { IfOk result (λ core. Agrees W.meaning core (record { setup = record { servers = terms_of modes plan.rates; backlog = backlog }; steps = [] })) }
-        ensures on_time { IfOk result (λ core. IsOnTime core.clock core.faces) }
+        ensures on_time { IfOk result (λ core. IsCoreOnTime core) }
         ensures punctual { OnOk result ((steps : List (Step W)) → IsPunctual W.meaning (record { setup = record { servers = terms_of modes plan.rates; backlog = backlog }; steps = steps })) }
         ensures refusal { RefusesByOrMemory CoreError.OutOfMemory result (new_refusal backlog) }
     {
@@ -342,16 +339,19 @@ impl<W: Work, A: Allocator> Core<W, A> {
         self.servers.view(server)
     }
 
-    /// By which tick every job that a server accepted so far is finished, if the advances to come take
-    /// no time from anybody, as those by [`idle_span`](Core::idle_span) do; `None` where all are
-    /// finished, and where there is no such server.
+    /// Returns the tick by which every job that a server accepted so far is finished, or `None` if all
+    /// are finished or there is no such server.
+    ///
+    /// It is kept if all are on time now and no advance to come takes anybody's time. Both hold of a
+    /// core whose advances are all by [`idle_span`](Core::idle_span). After an advance that took
+    /// somebody's time, a server may be late already, and the tick may have passed.
     ///
     /// With c and d the budget and the deadline of the server, Q ticks in every T, and its jobs `owed`
-    /// units, it is `d + ceil((owed - c) / Q) * T`, or d where c suffices. No later step makes it wrong:
+    /// units, it is `d + ceil((owed - c) / Q) * T`, or d if c suffices. No later step makes it wrong:
     /// it may be told to whoever waits for the job that was submitted last.
     pub fn promised(&self, server: u16) -> Option<u128>
         ensures value { (M : History W) → Agrees W.meaning self.now M → result ≡ promised W.meaning (account_in W.meaning M server) }
-        ensures kept { IfSome result (λ tick. (M : History W) → Agrees W.meaning self.now M → AllFinishedBy W.meaning M server tick) }
+        ensures kept { IsCoreOnTime self.now → IfSome result (λ tick. (M : History W) → Agrees W.meaning self.now M → AllFinishedBy W.meaning M server tick) }
     {
         if server >= self.servers.len() {
             return None;
@@ -400,19 +400,8 @@ impl<W: Work, A: Allocator> Core<W, A> {
         ensures cap { IfOk result (λ replies. (M : History W) → Agrees W.meaning self.old M → (s : ℕ) → s < length self.old.faces
             → IsWithinCap W.meaning M (grown_by M steps.items replies.items) s) }
 
-        // By when it gets it, whatever the others are asked for, where each advance takes nobody's time.
-        ensures never_late { IfOk result (λ replies. (M : History W) → Agrees W.meaning self.old M
-            → KeepsDeadlines W.meaning (grown_by M steps.items replies.items)) }
-        ensures promise { IfOk result (λ replies. (M : History W) → Agrees W.meaning self.old M
-            → KeepsPromise W.meaning (grown_by M steps.items replies.items)) }
-        ensures bound { IfOk result (λ replies. (M : History W) → Agrees W.meaning self.old M
-            → KeepsBound W.meaning (grown_by M steps.items replies.items)) }
-        ensures due { IfOk result (λ replies. (M : History W) → Agrees W.meaning self.old M
-            → KeepsDue W.meaning (grown_by M steps.items replies.items)) }
-        ensures hard { IfOk result (λ replies. (M : History W) → Agrees W.meaning self.old M
-            → KeepsHard W.meaning (grown_by M steps.items replies.items)) }
-        ensures supply { IfOk result (λ replies. (M : History W) → Agrees W.meaning self.old M
-            → KeepsSupply W.meaning (grown_by M steps.items replies.items)) }
+        // The laws on time, and on what a server takes, of every list with which the core then agrees.
+        ensures punctual { OnOk result ((N : History W) → Agrees W.meaning self.new N → IsPunctual W.meaning N) }
         ensures on_time { IfOk result (λ replies. (M : History W) → Agrees W.meaning self.old M
             → KeepsTimeAll W.meaning M steps.items replies.items) }
 
@@ -430,6 +419,8 @@ impl<W: Work, A: Allocator> Core<W, A> {
             let reply = self.make(step);
             replies.push_reserved(reply);
         }
+        // A look at a field shows the proof what every core keeps.
+        let _ = &self.alloc;
         Ok(replies)
     }
 

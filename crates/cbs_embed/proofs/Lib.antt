@@ -3,3 +3,4 @@ pub mod Tokens
 pub mod Openings
 pub mod Held
 pub mod Admissions
+pub mod Drops

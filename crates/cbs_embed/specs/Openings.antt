@@ -8,7 +8,7 @@ use Rattle.cbs_core.specs.Punctual.{IsPunctual}
 use Rattle.cbs_core.specs.Setups.{terms_of}
 use Rattle.cbs_core.specs.declared.step.Step.{Step}
 use Rattle.cbs_house.specs.Clients.{server_of}
-use Rattle.cbs_house.specs.Houses.{core_of, rings_of, received, known, results_of, handed_of}
+use Rattle.cbs_house.specs.Houses.{core_of, IsHouseOnTime, rings_of, received, known, results_of, handed_of}
 use Rattle.cbs_house.specs.Opened.{open_refusal, IsUnused}
 use Rattle.cbs_house.specs.RingEnds.{IsOpened}
 use Rattle.cbs_house.specs.declared.error.HouseError.{HouseError}
@@ -36,6 +36,7 @@ pub record Opens (modes : List Mode) (rates : List Rate) (backlog ring : ℕ) (h
   pub servers : map server_of clients ≡ range_with_len 0 (length rates)
   pub unused : All (IsUnused ring) clients
   pub opened : All (IsOpened (rings_of house)) clients
+  pub on_time : IsHouseOnTime house
   pub punctual : (steps : List (Step UnitJob)) → IsPunctual counting (record { setup = record { servers = terms_of modes rates; backlog = backlog }; steps = steps })
 
 -- the same of a house of these servers

@@ -1,20 +1,21 @@
 //! The calls on a house or a client that is kept.
 
-ghost use Rattle.std.specs.Prelude.{◌≡◌};
+ghost use Rattle.std.specs.Prelude.{◌≡◌, ◌≤◌, length, IfErr, MatchResult};
 ghost use Rattle.cbs_embed.specs.declared.refusal.KeptError.TheVariants as KeptError;
 ghost use Rattle.cbs_embed.specs.declared.refusal.Refusal.{Refusal};
 ghost use Rattle.cbs_embed.specs.declared.refusal.Refusal.TheVariants as refused;
-ghost use Rattle.cbs_embed.specs.Calls.{OnHeld, InHouse, InClient, Drops, Runs, Turns, Polls, Advances, TellsClock, Spans, Shows, Promises, Sends, Ends, Waits, NamesToken};
+ghost use Rattle.cbs_embed.specs.Calls.{OnHeld, InHouse, InClient, Drops, Runs, Turns, HasServer, Polls, Advances, TellsClock, Spans, Shows, Promises, LooksAtRing, Sends, Ends, Waits, NamesToken};
 ghost use Rattle.cbs_embed.specs.Jobs.{counting};
 ghost use Rattle.cbs_embed.specs.Kepts.{held_by};
-ghost use Rattle.cbs_house.specs.Houses.{NamesJob};
+ghost use Rattle.cbs_house.specs.Houses.{core_of, NamesJob};
+ghost use Rattle.cbs_house.specs.declared.error.HouseError.TheVariants.{NoSuchServer};
 
 use crate::inside::Inside;
 use crate::job::UnitJob;
 use crate::kept::Kept;
 use crate::refusal::{KeptError, Refusal};
 use cbs_core::{Ran, ServerView};
-use cbs_house::{Client, House, Poll, Turn};
+use cbs_house::{Client, House, HouseError, Poll, Turn};
 use cbs_job::Task;
 use std::alloc::Global;
 
@@ -117,16 +118,35 @@ pub fn turn(alloc: Global, kept: &mut Kept) -> Result<Turned, Refusal>
     answer
 }
 
+/// Refuses the number of a server that the house has not.
+fn require_server(house: &House<UnitJob>, server: u16) -> Result<(), Refusal>
+    ensures { MatchResult result
+        (λ _. HasServer server house.now)
+        (λ e. (e ≡ refused.House NoSuchServer) × (length (core_of house.now).faces ≤ server)) }
+{
+    if server >= house.servers() {
+        return Err(Refusal::House(HouseError::NoSuchServer));
+    }
+    Ok(())
+}
+
+fn poll_house(house: &mut House<UnitJob>, server: u16) -> Result<Poll, Refusal>
+    ensures { Polls server house.old result house.new }
+{
+    require_server(house, server)?;
+    Ok(house.poll(server))
+}
+
 fn poll_inside(inside: &mut Inside, server: u16) -> Result<Poll, Refusal>
     ensures { InHouse (Polls server) inside.old result inside.new }
 {
     match inside {
-        Inside::House(house) => Ok(house.poll(server)),
+        Inside::House(house) => poll_house(house, server),
         Inside::Client(_) => Err(Refusal::Kept(KeptError::OtherKind)),
     }
 }
 
-/// Looks for the next message of a server, as [`House::poll`].
+/// Looks for the next message of a server, as [`House::poll`]. Refuses by [`HouseError::NoSuchServer`].
 pub fn poll(alloc: Global, kept: &mut Kept, server: u16) -> Result<Poll, Refusal>
     ensures { OnHeld (InHouse (Polls server)) (held_by kept.old) result (held_by kept.new) }
 {
@@ -249,6 +269,7 @@ pub fn view(alloc: Global, kept: &mut Kept, server: u16) -> Result<ServerView, R
 fn promised_house(house: &mut House<UnitJob>, server: u16) -> Result<Option<u128>, Refusal>
     ensures { Promises server house.old result house.new }
 {
+    require_server(house, server)?;
     Ok(house.promised(server))
 }
 
@@ -261,7 +282,8 @@ fn promised_inside(inside: &mut Inside, server: u16) -> Result<Option<u128>, Ref
     }
 }
 
-/// By which tick all that a server took is finished, as [`House::promised`].
+/// By which tick all that a server took is finished, as [`House::promised`]. Refuses by
+/// [`HouseError::NoSuchServer`].
 pub fn promised(alloc: Global, kept: &mut Kept, server: u16) -> Result<Option<u128>, Refusal>
     ensures { OnHeld (InHouse (Promises server)) (held_by kept.old) result (held_by kept.new) }
 {
@@ -273,11 +295,22 @@ pub fn promised(alloc: Global, kept: &mut Kept, server: u16) -> Result<Option<u1
     answer
 }
 
-/// Sends a job, as [`Client::send`].
+/// Refuses a client whose house was freed.
+fn require_house(client: &mut Client<UnitJob>) -> Result<(), Refusal>
+    ensures looked { LooksAtRing client.old client.new }
+    ensures gone { IfErr result (λ e. e ≡ refused.Kept KeptError.HouseGone) }
+{
+    if client.house_is_gone() {
+        return Err(Refusal::Kept(KeptError::HouseGone));
+    }
+    Ok(())
+}
+
 fn send_to(client: &mut Client<UnitJob>, token: u64, units: u32) -> Result<u64, Refusal>
     ensures { Sends token units client.old result client.new }
 {
     let task = Task::new(UnitJob { token, units }).map_err(|refused| Refusal::Task(refused.error))?;
+    require_house(client)?;
     client
         .send(task)
         .map_err(|refused| Refusal::Send(refused.error))
@@ -292,7 +325,10 @@ fn send_inside(inside: &mut Inside, token: u64, units: u32) -> Result<u64, Refus
     }
 }
 
-/// Sends a job, as [`Client::send`].
+/// Sends a job, as [`Client::send`]. Refuses, in this order: by its units; by [`KeptError::HouseGone`], if the
+/// client's house was freed; and as [`Client::send`]. Nothing was sent then.
+///
+/// What a client sent before its house was freed is lost with the house.
 pub fn send(alloc: Global, kept: &mut Kept, token: u64, units: u32) -> Result<u64, Refusal>
     ensures { OnHeld (InClient (Sends token units)) (held_by kept.old) result (held_by kept.new) }
 {
@@ -307,6 +343,7 @@ pub fn send(alloc: Global, kept: &mut Kept, token: u64, units: u32) -> Result<u6
 fn end_of(client: &mut Client<UnitJob>) -> Result<(), Refusal>
     ensures { Ends client.old result client.new }
 {
+    require_house(client)?;
     client.end().map_err(|error| Refusal::Send(error))
 }
 
@@ -319,7 +356,8 @@ fn end_inside(inside: &mut Inside) -> Result<(), Refusal>
     }
 }
 
-/// Sends the end, as [`Client::end`].
+/// Sends the end, as [`Client::end`]. Refuses by [`KeptError::HouseGone`], if the client's house was freed, and then
+/// as [`Client::end`]. Nothing was sent then.
 pub fn end(alloc: Global, kept: &mut Kept) -> Result<(), Refusal>
     ensures { OnHeld (InClient Ends) (held_by kept.old) result (held_by kept.new) }
 {

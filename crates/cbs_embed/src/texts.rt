@@ -10,6 +10,7 @@ pub fn text_of(status: u32) -> &'static str {
         0x602 => "the handle is of the other kind",
         0x603 => "there are not as many clients as servers",
         0x604 => "the mode is neither soft nor throttled",
+        0x605 => "the client's house was freed",
         _ => "no such status",
     }
 }

@@ -12,6 +12,7 @@ use Rattle.cbs_rules.specs.Rules.{clock_end}
 use Rattle.cbs_core.specs.Agreement.{Agrees}
 use Rattle.cbs_core.specs.Held.{CoreHeld, Accepts}
 use Rattle.cbs_core.specs.History.{History, world_after}
+use Rattle.cbs_core.specs.OnTime.{KeepsTime}
 use Rattle.cbs_core.specs.Quiet.{IsIdleSpan}
 use Rattle.cbs_core.specs.declared.reply.Ran.{Ran}
 use Rattle.cbs_core.specs.declared.reply.Ran.TheVariants as ran
@@ -29,7 +30,7 @@ use Rattle.cbs_house.specs.Messages.{jobs_among}
 use Rattle.cbs_house.specs.Steps.{message_of, messages_of}
 use Rattle.cbs_core.specs.Continuations.{Follows, HasHistory}
 use Rattle.cbs_house.proofs.StepMessages.{messages_of-append}
-use Rattle.cbs_core.proofs.Laws.{follows_both}
+use Rattle.cbs_core.proofs.Laws.{follows_both, allowed_both}
 
 prefix_through : {X : Type 0} (a e b r : List X) → IsPrefix a (e ++ b) → IsPrefix b r → (z : List X) → z ≡ e ++ r → IsPrefix a z
 prefix_through a e b r p q z k =
@@ -63,6 +64,7 @@ module _ {W A : Type 0} {g : Ghosts W} (work : Meaning W) where
   pub made_both : (a b c : House W A g) (xs ys : List (Step W)) → Made work a b xs → Made work b c ys → Made work a c (xs ++ ys)
   made_both a b c xs ys p q = record {
     steps = follows_both work (core_of a) (core_of b) (core_of c) xs ys p.steps q.steps;
+    keeps_time = allowed_both work (KeepsTime work) (core_of a) (core_of b) xs ys p.steps p.keeps_time q.keeps_time;
     rings = q.rings ∙ p.rings;
     received = λ s. q.received s ∙ (ap (λ ms. ms ++ messages_of s ys) (p.received s) ∙ (append_assoc (received a s) (messages_of s xs) (messages_of s ys) ∙ ap (λ ms. received a s ++ ms) (sym (messages_of-append s xs ys))));
     known = λ s. prefix_through (known a s) (messages_of s xs) (known b s) (messages_of s ys ++ known c s) (p.known s) (q.known s) (messages_of s (xs ++ ys) ++ known c s)
@@ -71,12 +73,13 @@ module _ {W A : Type 0} {g : Ghosts W} (work : Meaning W) where
   }
 
   pub made_nothing : (a : House W A g) → Made work a a []
-  made_nothing a = record { steps = λ M agrees. agrees; rings = refl; received = λ s. sym (append-nil (received a s)); known = λ s. ([], append-nil (known a s)); handed = λ s. refl }
+  made_nothing a = record { steps = λ M agrees. agrees; keeps_time = λ M agrees. tt; rings = refl; received = λ s. sym (append-nil (received a s)); known = λ s. ([], append-nil (known a s)); handed = λ s. refl }
 
   -- a look is no step
   pub made_look : (a b : House W A g) → LooksOnly a b → Made work a b []
   made_look a b l = record {
     steps = λ M agrees. rw l.core agrees;
+    keeps_time = λ M agrees. tt;
     rings = l.rings;
     received = λ s. l.received s ∙ sym (append-nil (received a s));
     known = l.known;
@@ -87,6 +90,7 @@ module _ {W A : Type 0} {g : Ghosts W} (work : Meaning W) where
   pub made_room : (a b : House W A g) → Looked a.rings b.rings → Follows work (core_of a) (core_of b) [] → AllShelvesSame a.collector b.collector → Made work a b []
   made_room a b l steps shelves = record {
     steps = steps;
+    keeps_time = λ M agrees. tt;
     rings = l.rings;
     received = λ s. l.received s ∙ sym (append-nil (received a s));
     known = l.known;
@@ -94,9 +98,11 @@ module _ {W A : Type 0} {g : Ghosts W} (work : Meaning W) where
   }
 
   -- a step that takes no message
-  pub made_time : (a b : House W A g) (x : Step W) → ((s : ℕ) → message_of s x ≡ []) → Follows work (core_of a) (core_of b) (x ∷ []) → b.rings ≡ a.rings → ((s : ℕ) → handed_of b s ≡ handed_of a s) → Made work a b (x ∷ [])
-  made_time a b x none f e handed = record {
+  pub made_time : (a b : House W A g) (x : Step W) → ((s : ℕ) → message_of s x ≡ []) → Follows work (core_of a) (core_of b) (x ∷ []) → ((M : History W) → Agrees work (core_of a) M → KeepsTime work M x)
+      → b.rings ≡ a.rings → ((s : ℕ) → handed_of b s ≡ handed_of a s) → Made work a b (x ∷ [])
+  made_time a b x none f keep e handed = record {
     steps = f;
+    keeps_time = λ M agrees. (keep M agrees, tt);
     rings = rw e refl;
     received = λ s. rw (e, none s) (sym (append-nil (received a s)));
     known = λ s. rw (e, none s) ([], append-nil (known a s));
@@ -108,9 +114,10 @@ module _ {W A : Type 0} {g : Ghosts W} (work : Meaning W) where
       (a b : House W A g) (t : ℕ) (m : Message W) (x : Step W) → message_of t x ≡ m ∷ [] → ((s : ℕ) → s ≢ t → message_of s x ≡ [])
       → rings_of b ≡ rings_of a → received b t ≡ received a t ++ m ∷ [] → known a t ≡ m ∷ known b t
       → ((s : ℕ) → s ≢ t → (received b s ≡ received a s) × (known b s ≡ known a s))
-      → ((s : ℕ) → handed_of b s ≡ handed_of a s) → Follows work (core_of a) (core_of b) (x ∷ []) → Made work a b (x ∷ [])
-  made_one a b t m x here elsewhere same taken first others handed f = record {
+      → ((s : ℕ) → handed_of b s ≡ handed_of a s) → Follows work (core_of a) (core_of b) (x ∷ []) → ((M : History W) → Agrees work (core_of a) M → KeepsTime work M x) → Made work a b (x ∷ [])
+  made_one a b t m x here elsewhere same taken first others handed f keep = record {
     steps = f;
+    keeps_time = λ M agrees. (keep M agrees, tt);
     rings = same;
     received = λ s. elim (cases_eq s t) [
       | inl e ↦ rw (e, here, append-nil (m ∷ [])) taken
@@ -127,14 +134,16 @@ module _ {W A : Type 0} {g : Ghosts W} (work : Meaning W) where
       (a b : House W A g) (t : ℕ) (job : W)
       → rings_of b ≡ rings_of a → received b t ≡ received a t ++ Job job ∷ [] → known a t ≡ Job job ∷ known b t
       → ((s : ℕ) → s ≢ t → (received b s ≡ received a s) × (known b s ≡ known a s))
-      → ((s : ℕ) → handed_of b s ≡ handed_of a s) → Follows work (core_of a) (core_of b) (step.Submit t job ∷ []) → Made work a b (step.Submit t job ∷ [])
+      → ((s : ℕ) → handed_of b s ≡ handed_of a s) → Follows work (core_of a) (core_of b) (step.Submit t job ∷ [])
+      → ((M : History W) → Agrees work (core_of a) M → KeepsTime work M (step.Submit t job)) → Made work a b (step.Submit t job ∷ [])
   made_job a b t job = made_one a b t (Job job) (step.Submit t job) (rw (eqb_same t) refl) (λ s n. rw (eqb_other t s n) refl)
 
   pub made_end :
       (a b : House W A g) (t : ℕ)
       → rings_of b ≡ rings_of a → received b t ≡ received a t ++ End ∷ [] → known a t ≡ End ∷ known b t
       → ((s : ℕ) → s ≢ t → (received b s ≡ received a s) × (known b s ≡ known a s))
-      → ((s : ℕ) → handed_of b s ≡ handed_of a s) → Follows work (core_of a) (core_of b) (step.Close t ∷ []) → Made work a b (step.Close t ∷ [])
+      → ((s : ℕ) → handed_of b s ≡ handed_of a s) → Follows work (core_of a) (core_of b) (step.Close t ∷ [])
+      → ((M : History W) → Agrees work (core_of a) M → KeepsTime work M (step.Close t)) → Made work a b (step.Close t ∷ [])
   made_end a b t = made_one a b t End (step.Close t) (rw (eqb_same t) refl) (λ s n. rw (eqb_other t s n) refl)
 
   -- a run that finished no job leaves the results

@@ -2,17 +2,17 @@
 use Rattle.std.proofs.Common.{◌≡◌, ◌≢◌, ◌⊎◌, ◌≤◌, ◌<◌, ℕ, ◌+◌, Bool, true, false, if◌then◌else◌, leb, List, Option, Some, None, Result, Ok, Err, ◌∷◌, [], ◌++◌, length, refl, ap, sym, ◌∙◌, arith, inl, inr, subst}
 use Rattle.std.specs.List.{list_any}
 use Rattle.std.specs.Prelude.{IfErr}
-use Rattle.std.proofs.lemmas.Bool.{cases_eq, cases_lt, false≢true}
+use Rattle.std.proofs.lemmas.Bool.{cases_eq, cases_lt, cases_Bool, false≢true}
 use Rattle.std.proofs.lemmas.Bool.Decides.{nat_tests}
 use Rattle.std.proofs.lemmas.List.{get_or_past}
 use Rattle.cbs_job.specs.Work.{Meaning}
 use Rattle.cbs_job.specs.declared.completion.Completion.{Completion}
 use Rattle.cbs_job.specs.declared.work.Work.{Ghosts}
-use Rattle.cbs_core.specs.Accounts.{Account, face_of, finished}
+use Rattle.cbs_core.specs.Accounts.{face_of, finished}
 use Rattle.cbs_core.specs.Agreement.{Agrees}
-use Rattle.cbs_core.specs.Continuations.{Follows, HasHistory, ◌⊕⊕◌, IsNeeded}
+use Rattle.cbs_core.specs.Continuations.{◌⊕⊕◌}
 use Rattle.cbs_core.specs.Faces.{face_at, no_face, submit_refusal, close_refusal}
-use Rattle.cbs_core.specs.Held.{CoreHeld, held_at, HoldsJob, HoldsNoJob}
+use Rattle.cbs_core.specs.Held.{HoldsJob, HoldsNoJob}
 use Rattle.cbs_core.specs.History.{World, History, ◌⊕◌, account, faces, chosen, after_submit, after_closing, run_reply, world_after, reply_in}
 use Rattle.cbs_core.specs.declared.error.CoreError.{CoreError}
 use Rattle.cbs_core.specs.declared.reply.Ran.{Ran}
@@ -31,14 +31,14 @@ use Rattle.cbs_house.specs.declared.poll.Poll.TheVariants.{Nothing, Took, Closed
 use Rattle.cbs_house.specs.declared.turn.Turn.{Turn}
 use Rattle.cbs_house.specs.Collected.{shelf_at, no_shelf}
 use Rattle.cbs_house.specs.HouseInvariant.{Housed}
-use Rattle.cbs_house.specs.Houses.{core_of, results_of, handed_of, result_count, Made, Collects, MovesQuietly}
+use Rattle.cbs_house.specs.Houses.{core_of, results_of, handed_of, result_count, Collects}
 use Rattle.cbs_house.specs.OwnTurns.{GoesOn, StaysBy, IsNumbered, TakesOwnTurn}
 use Rattle.cbs_house.specs.Polls.{lacks_memory, Answered, PollsEach}
 use Rattle.cbs_house.specs.Rounds.{ServesOn}
-use Rattle.cbs_house.specs.Running.{LackedMemory, RunStops}
+use Rattle.cbs_house.specs.Running.{meets_end, turn_stop, LackedMemory, RunStops}
 use Rattle.cbs_house.specs.Steps.{MayServe}
 use Rattle.cbs_house.specs.Turns.{ArePolls}
-use Rattle.cbs_house.proofs.Moves.{moves_step, serves_none, serves_then, serves_poll, quiet_serving}
+use Rattle.cbs_house.proofs.Moves.{moves_step, serve_quiet, serves_none, serves_then, serves_poll}
 
 module _ {W A : Type 0} {g : Ghosts W} where
   -- what a run did to the results, behind what left them
@@ -137,13 +137,13 @@ module _ {W A : Type 0} {g : Ghosts W} (work : Meaning W) where
 
   -- what a turn does behind its polls are steps of serving
   serves_on : (a b : House W A g) (r : Ran) (n : ℕ) → GoesOn work a b r n → ServesOn work a b
-  serves_on a b r n (inl k) = record { moves = (0, moves_step work (MayServe work) a b Run k.0.made (λ M agrees. tt)) }
-  serves_on a b r n (inr (inl k)) = record { moves = (0, moves_step work (MayServe work) a b (Advance n) k.0.made k.0.needed) }
+  serves_on a b r n (inl k) = record { moves = (0, moves_step work (MayServe work) a b Run (serve_quiet work) k.0.made (λ M agrees. tt)) }
+  serves_on a b r n (inr (inl k)) = record { moves = (0, moves_step work (MayServe work) a b (Advance n) (serve_quiet work) k.0.made k.0.needed) }
   serves_on a b r n (inr (inr k)) = rw k.0 (serves_none work a)
 
-  -- polls, and what a turn does behind them, take nobody's time
-  pub polls_quiet : (a b c : House W A g) (n k j : ℕ) (m : Bool) (r : Ran) → PollsEach work n a b k m → GoesOn work b c r j → MovesQuietly work a c
-  polls_quiet a b c n k j m r h on = quiet_serving work a c (serves_then work a b c (serves_answered 0 a b h.answers h.answered) (serves_on b c r j on))
+  -- polls, and what a turn does after them, are steps of serving
+  pub polls_serve : (a b c : House W A g) (n k j : ℕ) (m : Bool) (r : Ran) → PollsEach work n a b k m → GoesOn work b c r j → ServesOn work a c
+  polls_serve a b c n k j m r h on = serves_then work a b c (serves_answered 0 a b h.answers h.answered) (serves_on b c r j on)
 
   -- a turn makes steps of serving
   pub turn_serves : (a b : House W A g) (t : Turn) → TakesOwnTurn work a b t → ServesOn work a b
@@ -195,6 +195,31 @@ module _ {W A : Type 0} {g : Ghosts W} (work : Meaning W) where
   at_end a b n housed (inr (inl k)) = absurd (cc (k.1))
   at_end a b n housed (inr (inr k)) = rw k.0 k.1
 
+-- where what ran met the clock's end, it is that
+met_end : (r : Ran) → meets_end r ≡ true → r ≡ ran.ClockEnd
+met_end ran.Idle e = absurd (false≢true e)
+met_end ran.ClockEnd e = refl
+met_end (ran.Unit s q) e = absurd (false≢true e)
+met_end (ran.Done c) e = absurd (false≢true e)
+
+-- a turn that does not stop a run did not meet the clock's end
+early_turn : (t : Turn) → turn_stop t ≡ None → t.ran ≡ ran.ClockEnd → ⊥
+early_turn t none end = elim (cases_Bool t.out_of_memory) [
+  | inl lacks ↦ let e : Some house_error.OutOfMemory ≡ None = rw lacks at none in cc
+  | inr found ↦ let e : Some house_error.ClockEnd ≡ None = rw (found, end) at none in cc
+]
+
+-- why a turn stops a run: one of two
+pub stopped_by : (t : Turn) (error : HouseError) → turn_stop t ≡ Some error
+    → ((error ≡ house_error.OutOfMemory) × (t.out_of_memory ≡ true)) ⊎ ((error ≡ house_error.ClockEnd) × (t.ran ≡ ran.ClockEnd))
+stopped_by t error why = elim (cases_Bool t.out_of_memory) [
+  | inl lacks ↦ let e : Some house_error.OutOfMemory ≡ Some error = rw lacks at why in inl (cc, lacks)
+  | inr found ↦ elim (cases_Bool (meets_end t.ran)) [
+    | inl end ↦ let e : Some house_error.ClockEnd ≡ Some error = rw (found, end) at why in inr (cc, met_end t.ran end)
+    | inr early ↦ let e : None ≡ Some error = rw (found, early) at why in cc
+  ]
+]
+
 module _ {W A : Type 0} {g : Ghosts W} (a b : House W A g) (t : Turn) (h : TakesOwnTurn g.meaning a b t) where
   -- the polls of a turn leave the clock
   polls_stand : (core_of h.between).clock ≡ (core_of a).clock
@@ -209,19 +234,22 @@ module _ {W A : Type 0} {g : Ghosts W} (a b : House W A g) (t : Turn) (h : Takes
         | inr stays ↦ let f : (core_of b).clock ≡ (core_of h.between).clock = ap (λ (x : House W A g). (core_of x).clock) stays.0 in omega (arith, e, f)
       ]
 
-  -- a turn that does not stop at the clock's end moves the clock, or leaves no job
-  pub turn_idle : t.ran ≢ ran.ClockEnd → ((core_of a).clock < (core_of b).clock) ⊎ HoldsNoJob (core_of b)
-  turn_idle n =
+  -- a turn that does not stop a run moves the clock, or leaves no job
+  pub turn_idle : turn_stop t ≡ None → ((core_of a).clock < (core_of b).clock) ⊎ HoldsNoJob (core_of b)
+  turn_idle none =
       let e = polls_stand in
       elim (later_on g.meaning h.between b t.ran t.advanced h.between.housed h.goes_on) [
         | inl lt ↦ inl (omega (arith, e, lt))
-        | inr stays ↦ inr (rw stays.0 (stays_idle g.meaning t.ran h.between n stays.1))
+        | inr stays ↦ inr (rw stays.0 (stays_idle g.meaning t.ran h.between (λ end. early_turn t none end) stays.1))
       ]
 
   -- why a turn stops a run
-  pub turn_stops : (r : Result (Unit {0}) HouseError)
-      → IfErr r (λ error. ((error ≡ house_error.OutOfMemory) × (t.out_of_memory ≡ true)) ⊎ ((error ≡ house_error.ClockEnd) × (t.ran ≡ ran.ClockEnd)))
-      → IfErr r (λ error. RunStops g.meaning error a b)
-  turn_stops (Ok x) why = tt
-  turn_stops (Err e) (inl memory) = rw memory.0 (turn_lacked g.meaning a b t h memory.1)
-  turn_stops (Err e) (inr end) = rw end.0 (at_end g.meaning h.between b t.advanced h.between.housed (subst (λ r. GoesOn g.meaning h.between b r t.advanced) end.1 h.goes_on))
+  turn_stops : (error : HouseError) → turn_stop t ≡ Some error → RunStops g.meaning error a b
+  turn_stops error why = elim (stopped_by t error why) [
+    | inl memory ↦ rw memory.0 (turn_lacked g.meaning a b t h memory.1)
+    | inr end ↦ rw end.0 (at_end g.meaning h.between b t.advanced h.between.housed (subst (λ r. GoesOn g.meaning h.between b r t.advanced) end.1 h.goes_on))
+  ]
+
+  pub told_stops : {T : Type 0} (r : Result T HouseError) → IfErr r (λ error. turn_stop t ≡ Some error) → IfErr r (λ error. RunStops g.meaning error a b)
+  told_stops (Ok x) why = tt
+  told_stops (Err e) why = turn_stops e why

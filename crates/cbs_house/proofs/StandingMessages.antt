@@ -78,7 +78,7 @@ module _ {W A : Type 0} {g : Ghosts W} where
   standing_looked work a b c n m h = standing_made work a b c n [] m refl h
 
   pub standing_moved : (work : Meaning W) (P : History W → Step W → Type 0) (a b : House W A g) (c : Client W A g) (n : ℕ) → Moves work P a b 0 → Standing a c n → Standing b c n
-  standing_moved work P a b c n m h = let x = m.some in standing_made work a b c n x.0 x.1 (none_taken (server_of c) x.0 x.3) h
+  standing_moved work P a b c n m h = standing_made work a b c n m.steps m.made (none_taken (server_of c) m.steps m.count) h
 
   -- the first of them is taken
   taken_first : (a b : House W A g) (c : Client W A g) (n : ℕ) (m : Message W) (rest : List (Message W))
@@ -136,7 +136,7 @@ module _ {W A : Type 0} {g : Ghosts W} where
 
   -- steps receive more
   pub received_more : (work : Meaning W) (a b : House W A g) → ServesOn work a b → (s : ℕ) → IsPrefix (received a s) (received b s)
-  received_more work a b m s = let x = m.moves.1.some in (messages_of s x.0, sym (x.1.received s))
+  received_more work a b m s = let x = m.moves.1 in (messages_of s x.steps, sym (x.made.received s))
 
   pub taken_set : (a : House W A g) (fs : List (Feed W A g)) (i : ℕ) (f : Feed W A g) → All (IsTaken a) fs → IsTaken a f → All (IsTaken a) (set fs i f)
   taken_set a fs i f h k = All-set (IsTaken a) fs i f k h

@@ -1,7 +1,7 @@
 -- The turns of a house, one after another.
-use Rattle.std.proofs.Common.{◌≡◌, ℕ, ◌+◌, ◌≤◌, Bool, true, false, ◌||◌, List, [], ◌∷◌, ◌++◌, length, refl, ap, sym, ◌∙◌, arith, length-append}
+use Rattle.std.proofs.Common.{◌≡◌, ℕ, ◌+◌, ◌≤◌, ◌<◌, Bool, true, false, ◌||◌, List, [], ◌∷◌, ◌++◌, length, refl, ap, sym, ◌∙◌, arith, length-append}
 use Rattle.std.proofs.lemmas.List.{append-nil, append_assoc}
-use Rattle.std.specs.List.{AllByRecursion, list_any}
+use Rattle.std.specs.List.{All, AllByRecursion, list_any}
 use Rattle.cbs_job.specs.Work.{Meaning}
 use Rattle.cbs_job.specs.declared.work.Work.{Ghosts}
 use Rattle.cbs_core.specs.History.{History, ◌⊕◌}
@@ -15,10 +15,14 @@ use Rattle.cbs_house.specs.Houses.{core_of, rings_of, Made, Polled}
 use Rattle.cbs_house.specs.Polls.{lacks_memory, Answered, PollsEach}
 use Rattle.cbs_house.specs.Rounds.{popped_by, ServesOn}
 use Rattle.cbs_house.specs.Steps.{pops, MayServe}
-use Rattle.cbs_core.specs.Continuations.{EachAllowed}
+use Rattle.cbs_core.specs.Continuations.{EachAllowed, AllAllowed}
+use Rattle.cbs_core.specs.Held.{IsClosed}
+use Rattle.cbs_core.specs.Quiet.{IsQuietAfter}
 use Rattle.cbs_house.specs.Turns.{ArePolls, steps_in, TakesTurn, TakesExactly, TakesTurns}
 use Rattle.cbs_house.proofs.MadeSteps.{made_nothing, made_both}
-use Rattle.cbs_house.proofs.Moves.{serves_then}
+use Rattle.cbs_house.proofs.Moves.{serves_then, serve_quiet}
+use Rattle.cbs_core.proofs.Laws.{allowed_weaker}
+use Rattle.cbs_core.proofs.OnTimeCores.{all_on_time}
 use Rattle.cbs_house.proofs.StepMessages.{pops-append}
 
 or_assoc : (a b c : Bool) → (a || (b || c)) ≡ ((a || b) || c)
@@ -124,9 +128,6 @@ module _ {W A : Type 0} {g : Ghosts W} (work : Meaning W) where
   pub turn_taken : (a b c : House W A g) (k : ℕ) (m : Bool) → PollsEach work (length (core_of a).faces) a b k m → Made work b c (Run ∷ []) → TakesTurn work a c k
   turn_taken a b c k m h made = record { polls = h.polls; each = h.each; made = made_both work a b c h.polls (Run ∷ []) h.made made; count = h.count }
 
-  pub turn_few : (a b : House W A g) (n : ℕ) → TakesTurn work a b n → n ≤ length (core_of a).faces
-  turn_few a b n t = let h = polls_few 0 (length (core_of a).faces) t.polls (omega arith) t.each in let e = t.count in omega (arith, h, e)
-
   -- the number of servers is that of the rings
   pub same_servers : (a b : House W A g) → Housed work a.core a.rings a.collector → Housed work b.core b.rings b.collector → rings_of b ≡ rings_of a → length (core_of b).faces ≡ length (core_of a).faces
   same_servers a b p q e = sym q.ring_count ∙ (ap length e ∙ p.ring_count)
@@ -147,6 +148,14 @@ module _ {W A : Type 0} {g : Ghosts W} (work : Meaning W) where
         rw (steps_in-append h.polls t.polls) (omega (arith, pops-append (steps_in h.polls) (t.polls ++ Run ∷ []), pops-append t.polls (Run ∷ []), i, j));
   }
 
+  -- turns that are at most so many, and fewer only where these servers are closed
+  pub turns_within : (most turns : ℕ) (servers : List ℕ) (a b : House W A g) (n : ℕ) → turns ≤ most → (turns < most → All (IsClosed (core_of b)) servers) → TakesExactly work turns a b n → TakesTurns work most servers a b n
+  turns_within most turns servers a b n within fewer k =
+      let xs = steps_in k.polls in
+      let quiet : AllAllowed work (IsQuietAfter work) (core_of a) xs =
+      allowed_weaker work (MayServe work) (IsQuietAfter work) (core_of a) xs (serve_quiet work) (λ M agrees. allowed_turns work (length (core_of a).faces) k.polls M k.each) in
+      record { turns = turns; within = within; fewer = fewer; taken = k; quiet = quiet; on_time = all_on_time work (core_of a) xs k.made.keeps_time quiet }
+
   pub turns_rings : (most : ℕ) (servers : List ℕ) (a b : House W A g) (n : ℕ) → TakesTurns work most servers a b n → rings_of b ≡ rings_of a
   turns_rings most servers a b n t = t.taken.made.rings
 
@@ -154,7 +163,7 @@ module _ {W A : Type 0} {g : Ghosts W} (work : Meaning W) where
   pub serves_turns : (most : ℕ) (servers : List ℕ) (a b : House W A g) (n : ℕ) → TakesTurns work most servers a b n → ServesOn work a b
   serves_turns most servers a b n t =
       let k = t.taken in
-      record { moves = (n, record { some = (steps_in k.polls, k.made, λ M agrees. allowed_turns work (length (core_of a).faces) k.polls M k.each, k.count) }) }
+      record { moves = (n, record { steps = steps_in k.polls; made = k.made; each = λ M agrees. allowed_turns work (length (core_of a).faces) k.polls M k.each; quiet = t.quiet; on_time = t.on_time; count = k.count }) }
 
   -- a round, and what is done behind it
   pub serves_round : (most : ℕ) (servers : List ℕ) (a b c d : House W A g) (n : ℕ) → ServesOn work a b → TakesTurns work most servers b c n → ServesOn work c d → ServesOn work a d

@@ -1,5 +1,5 @@
 -- What a contract sees of a client.
-use Rattle.std.specs.Prelude.{ℕ, ◌≡◌, ◌<◌, ◌⊎◌, List, length}
+use Rattle.std.specs.Prelude.{ℕ, ◌≡◌, ◌-◌, ◌<◌, ◌⊎◌, List, length}
 use Rattle.rtrb.specs.Ring.{sent, known_free, producer_capacity}
 use Rattle.cbs_job.specs.declared.work.Work.{Ghosts}
 use Rattle.cbs_house.specs.declared.message.Message.{Message}
@@ -20,13 +20,14 @@ module _ {W A : Type 0} {g : Ghosts W} where
   abbrev pub sent_by : Client W A g → List (Message W)
   sent_by c = sent c.ring
 
-  -- how many free slots of its ring the client knows of
+  -- How many free slots of its ring the client knows of, for what it sends. One more is kept free: a client that is dropped
+  -- sends its end there, however full the ring is.
   abbrev pub free : Client W A g → ℕ
-  free c = known_free c.ring
+  free c = known_free c.ring - 1
 
-  -- how many slots its ring has
+  -- how many slots its ring has for what the client sends: all but the kept one
   abbrev pub slots_of : Client W A g → ℕ
-  slots_of c = producer_capacity c.ring
+  slots_of c = producer_capacity c.ring - 1
 
   -- the client knows of a free slot in its ring, and has sent fewer jobs than it can count
   abbrev pub HasSlot : Client W A g → Type 0

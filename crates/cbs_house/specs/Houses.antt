@@ -6,6 +6,7 @@ use Rattle.cbs_job.specs.declared.work.Work.{Ghosts}
 use Rattle.cbs_core.specs.Faces.{face_at, backlog_of}
 use Rattle.cbs_core.specs.Held.{CoreHeld, held_at, IsOpen, Accepts, HasRoom}
 use Rattle.cbs_core.specs.History.{History}
+use Rattle.cbs_core.specs.OnTime.{IsCoreOnTime, KeepsTime}
 use Rattle.cbs_core.specs.Quiet.{IsQuietAfter}
 use Rattle.cbs_core.specs.declared.error.CoreError.{CoreError}
 use Rattle.cbs_core.specs.declared.reply.Ran.{Ran}
@@ -24,12 +25,16 @@ use Rattle.cbs_house.specs.Messages.{jobs_among}
 use Rattle.cbs_house.specs.RingEnds.{rings_in, received_in, known_in}
 use Rattle.cbs_house.specs.Rings.{Ring}
 use Rattle.cbs_house.specs.Steps.{messages_of, pops}
-use Rattle.cbs_core.specs.Continuations.{Follows, AllAllowed}
+use Rattle.cbs_core.specs.Continuations.{Follows, AllAllowed, AllOnTime}
 
 module _ {W A : Type 0} {g : Ghosts W} where
   -- what the house's core holds
   abbrev pub core_of : House W A g → CoreHeld W
   core_of h = h.core
+
+  -- a house that is on time: its core is
+  abbrev pub IsHouseOnTime : House W A g → Type 0
+  IsHouseOnTime h = IsCoreOnTime (core_of h)
 
   -- the ring that was opened for each server
   abbrev pub rings_of : House W A g → List (Ring A)
@@ -57,9 +62,11 @@ module _ {W A : Type 0} {g : Ghosts W} where
 
   -- The house made these steps: whatever history its core agreed with, it now agrees with that and then the steps; the rings
   -- are the same; what was received for each server is what the steps took, in order; what is known to stand in a ring gets
-  -- shorter by a pop alone, from its front; and no result was handed out.
+  -- shorter by a pop alone, from its front; and no result was handed out. Each step keeps what is on time so, if it takes nobody's
+  -- time.
   pub record Made (work : Meaning W) (old new : House W A g) (xs : List (Step W)) : Type 0 where
     pub steps : Follows work (core_of old) (core_of new) xs
+    pub keeps_time : AllAllowed work (KeepsTime work) (core_of old) xs
     pub rings : rings_of new ≡ rings_of old
     pub received : (s : ℕ) → received new s ≡ received old s ++ messages_of s xs
     pub known : (s : ℕ) → IsPrefix (known old s) (messages_of s xs ++ known new s)
@@ -105,13 +112,15 @@ module _ {W A : Type 0} {g : Ghosts W} where
   AllFinished work h = (s : ℕ) → s < length (core_of h).faces → results_of h s ≡ drop (handed_of h s) (map (whole work) (jobs_among (received h s)))
 
 module _ {W A : Type 0} {g : Ghosts W} where
-  -- the house made some steps that each may stand where they stand, and they took n messages
+  -- The house made some steps, each of which may stand where it stands, and they took n messages. No advance among them took
+  -- anybody's time, so from a house that is on time each step leaves all on time.
   pub record Moves (work : Meaning W) (allowed : History W → Step W → Type 0) (old new : House W A g) (n : ℕ) : Type 0 where
-    pub some : (xs : List (Step W)) × Made work old new xs × AllAllowed work allowed (core_of old) xs × (pops xs ≡ n)
-
-  -- the house made some steps, each advance of which took nobody's time: so the laws on time hold of them with no premise
-  pub record MovesQuietly (work : Meaning W) (old new : House W A g) : Type 0 where
-    pub moves : (n : ℕ) × Moves work (IsQuietAfter work) old new n
+    pub steps : List (Step W)
+    pub made : Made work old new steps
+    pub each : AllAllowed work allowed (core_of old) steps
+    pub quiet : AllAllowed work (IsQuietAfter work) (core_of old) steps
+    pub on_time : AllOnTime work (core_of old) steps
+    pub count : pops steps ≡ n
 
   -- What a poll of server s did, by its answer. The first four pop nothing: nothing is seen or the server is closed; a message
   -- is seen, and the backlog is full; a message is seen, and the backlog is not full, but there is no memory; there is no such

@@ -14,4 +14,5 @@ pub mod OwnTurns
 pub mod Sinks
 pub mod Running
 pub mod Rounds
+pub mod Pauses
 pub mod Opened

@@ -7,7 +7,7 @@ use Rattle.cbs_core.specs.declared.step.Step.{Step}
 use Rattle.cbs_house.specs.declared.house.House.{House}
 use Rattle.cbs_house.specs.declared.poll.Poll.{Poll}
 use Rattle.cbs_house.specs.declared.poll.Poll.TheVariants as poll
-use Rattle.cbs_house.specs.Houses.{core_of, Made, Polled}
+use Rattle.cbs_house.specs.Houses.{Made, Polled}
 use Rattle.cbs_house.specs.Steps.{pops}
 use Rattle.cbs_house.specs.Turns.{ArePolls}
 

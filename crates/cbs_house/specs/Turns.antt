@@ -3,6 +3,8 @@ use Rattle.std.specs.Prelude.{ℕ, ◌≡◌, ◌+◌, ◌≤◌, ◌<◌, List,
 use Rattle.std.specs.List.{All, AllByRecursion}
 use Rattle.cbs_job.specs.Work.{Meaning}
 use Rattle.cbs_job.specs.declared.work.Work.{Ghosts}
+use Rattle.cbs_core.specs.Continuations.{AllAllowed, AllOnTime}
+use Rattle.cbs_core.specs.Quiet.{IsQuietAfter}
 use Rattle.cbs_core.specs.declared.step.Step.{Step}
 use Rattle.cbs_core.specs.declared.step.Step.TheVariants.{Submit, Run, Advance, Close}
 use Rattle.cbs_house.specs.declared.house.House.{House}
@@ -41,9 +43,12 @@ module _ {W A : Type 0} {g : Ghosts W} where
     pub turns : length polls ≡ exactly
     pub count : pops (steps_in polls) ≡ n
 
-  -- the house took turns, which took n messages: at most so many turns, and fewer only where all these servers are closed
+  -- The house took turns, which took n messages: at most so many turns, and fewer only where all these servers are closed. They
+  -- make no advance, so from a house that is on time each step of theirs leaves all on time.
   pub record TakesTurns (work : Meaning W) (most : ℕ) (servers : List ℕ) (old new : House W A g) (n : ℕ) : Type 0 where
     pub turns : ℕ
     pub within : turns ≤ most
     pub fewer : turns < most → All (IsClosed (core_of new)) servers
     pub taken : TakesExactly work turns old new n
+    pub quiet : AllAllowed work (IsQuietAfter work) (core_of old) (steps_in taken.polls)
+    pub on_time : AllOnTime work (core_of old) (steps_in taken.polls)

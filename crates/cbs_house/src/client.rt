@@ -1,8 +1,9 @@
 //! A client: its end of a ring.
 
-ghost use Rattle.std.specs.Prelude.{◌≡◌, true, length};
-ghost use Rattle.rtrb.specs.Ring.{sent};
+ghost use Rattle.std.specs.Prelude.{◌≡◌, ◌<◌, true, false, [], ◌∷◌, ◌++◌, length};
+ghost use Rattle.rtrb.specs.Ring.{sent, known_free};
 ghost use Rattle.cbs_house.specs.Messages.{jobs_among, has_end, end_is_last};
+ghost use Rattle.cbs_house.specs.declared.message.Message.TheVariants.{End};
 
 use crate::error::SendError;
 use crate::message::Message;
@@ -11,6 +12,9 @@ use rtrb::Producer;
 use std::alloc::{Allocator, Global};
 
 /// The client of one server. It sends jobs over a ring of its own, from any thread, and never waits.
+///
+/// A client that is dropped ends, so its server closes once all that the client sent is taken. A slot of the
+/// ring is kept for that end. A client that has ended before sends nothing more when it is dropped.
 pub struct Client<W: Work, A: Allocator = Global> {
     pub(crate) server: u16,
     // how many jobs were sent
@@ -20,17 +24,34 @@ pub struct Client<W: Work, A: Allocator = Global> {
     ghost counted: { count ≡ length (jobs_among (sent ring)) },
     ghost marked: { ended ≡ has_end (sent ring) },
     ghost last: { end_is_last (sent ring) ≡ true },
+    ghost kept: { 0 < known_free ring },
 }
 
-// One call on each way out of what owns a client.
 impl<W: Work, A: Allocator> Drop for Client<W, A> {
     fn drop(self) {
         let Client {
             server: _,
             count: _,
-            ended: _,
-            ring: _,
+            ended,
+            mut ring,
         } = self;
+        end_at_last(ended, &mut ring);
+    }
+}
+
+/// Sends the end of a client that goes away, unless the client has ended. The kept slot takes it.
+#[tactic(auto, using(crate::proofs::Messages::pushed))]
+fn end_at_last<W: Work, A: Allocator>(ended: bool, ring: &mut Producer<Message<W>, A>)
+    requires marked { ended ≡ has_end (sent ring.old) }
+    requires last { end_is_last (sent ring.old) ≡ true }
+    requires kept { 0 < known_free ring.old }
+    ensures ended { has_end (sent ring.new) ≡ true }
+    ensures last { end_is_last (sent ring.new) ≡ true }
+    ensures before { ended ≡ true → sent ring.new ≡ sent ring.old }
+    ensures now { ended ≡ false → sent ring.new ≡ sent ring.old ++ End ∷ [] }
+{
+    if !ended {
+        ring.push_reserved(Message::End);
     }
 }
 
@@ -53,11 +74,11 @@ impl<W: Work, A: Allocator> Client<W, A> {
 
     /// The client of a server, at its end of a new ring.
     pub(crate) fn new(server: u16, ring: Producer<Message<W>, A>) -> Client<W, A>
-        requires { sent ring ≡ [] }
+        requires { (sent ring ≡ []) × (0 < known_free ring) }
         ensures server { server_of result ≡ server }
         ensures ring { ring_of result ≡ producer_ring ring }
         ensures sent { sent_by result ≡ [] }
-        ensures free { free result ≡ known_free ring }
+        ensures free { free result ≡ known_free ring - 1 }
     {
         Client {
             server,
@@ -91,6 +112,15 @@ impl<W: Work, A: Allocator> Client<W, A> {
         (self.ring.capacity() - self.ring.slots()) as u64
     }
 
+    /// Returns whether the client's house was dropped. What the client sent before is then lost with the house,
+    /// but for what the house had taken. No contract speaks of the answer.
+    pub fn house_is_gone(&mut self) -> bool
+        ensures same { SameClient self.old self.new × (sent_by self.new ≡ sent_by self.old) }
+        ensures looked { free self.old ≤ free self.new }
+    {
+        self.ring.is_abandoned()
+    }
+
     /// Whether the client has ended: it sends no further job.
     pub fn ended(&self) -> bool
         ensures ended { result ≡ has_end (sent_by self.now) }
@@ -106,7 +136,16 @@ impl<W: Work, A: Allocator> Client<W, A> {
         ensures looked { free self.old ≤ free self.new }
         ensures value { result ≡ free self.new }
     {
-        self.ring.slots() as u64
+        (self.ring.slots() - 1) as u64
+    }
+
+    /// Returns whether a slot is free for the next message, with the kept slot left over.
+    fn ring_has_slot(&mut self) -> bool
+        ensures same { SameClient self.old self.new × (sent_by self.new ≡ sent_by self.old) }
+        ensures looked { free self.old ≤ free self.new }
+        ensures slot { IsTrue result ↔ (0 < free self.new) }
+    {
+        self.ring.cached_slots() > 1 || self.ring.slots() > 1
     }
 
     /// Whether a slot is free for the next message, and one more job can be counted.
@@ -116,7 +155,7 @@ impl<W: Work, A: Allocator> Client<W, A> {
         ensures slot { result ≡ true → HasSlot self.new }
         ensures none { result ≡ false → HasNoSlot self.new }
     {
-        self.count < u64::MAX && !self.ring.is_full()
+        self.count < u64::MAX && self.ring_has_slot()
     }
 
     /// Sends a job, and answers the job's number among the sent jobs of the client.
@@ -187,7 +226,7 @@ impl<W: Work, A: Allocator> Client<W, A> {
         if self.ended {
             return Err(SendError::Ended);
         }
-        if self.ring.is_full() {
+        if !self.ring_has_slot() {
             return Err(SendError::RingFull);
         }
         self.end_reserved();

@@ -8,7 +8,7 @@ use std::alloc::Allocator;
 
 impl<W: Work, A: Allocator> House<W, A> {
     ghost use Rattle.std.specs.Prelude.{ℕ, ◌≡◌, ◌<◌, true, false, IsOk, OnOk, IfErr};
-    ghost use Rattle.cbs_house.specs.Houses.{core_of, rings_of, received, AllFinished, Moves, MovesQuietly};
+    ghost use Rattle.cbs_house.specs.Houses.{core_of, rings_of, received, IsHouseOnTime, AllFinished, Moves};
     ghost use Rattle.cbs_core.specs.Held.{HoldsJob, HoldsNoJob};
     ghost use Rattle.cbs_core.specs.Continuations.{MayDrain};
 
@@ -20,7 +20,7 @@ impl<W: Work, A: Allocator> House<W, A> {
     /// The steps made stay made.
     pub fn drain(&mut self) -> Result<(), HouseError>
         ensures moves { Moves W.meaning (MayDrain W.meaning) self.old self.new 0 }
-        ensures quiet { MovesQuietly W.meaning self.old self.new }
+        ensures on_time { IsHouseOnTime self.old → IsHouseOnTime self.new }
         ensures received { (s : ℕ) → received self.new s ≡ received self.old s }
         ensures rings { rings_of self.new ≡ rings_of self.old }
         ensures ok { OnOk result (HoldsNoJob (core_of self.new)) }

@@ -9,7 +9,10 @@ use cbs_job::{Task, Work};
 use std::alloc::{Allocator, Global};
 use std::collections::VecDeque;
 
-/// A client, and the jobs that it has still to send, in order. Behind them it ends.
+/// A client, and the jobs that it has still to send, in order. After them it ends.
+///
+/// A feed that is dropped drops its client, which then ends: the jobs that were not sent are lost, and the server
+/// closes once all that was sent is taken.
 pub struct Feed<W: Work, A: Allocator = Global> {
     pub(crate) client: Client<W, A>,
     pub(crate) jobs: VecDeque<Task<W>, A>,

@@ -34,10 +34,11 @@ impl<W: Work, A: Allocator> Drop for House<W, A> {
 }
 
 impl<W: Work, A: Allocator> House<W, A> {
-    ghost use Rattle.std.specs.Prelude.{ℕ, ◌≡◌, ◌≢◌, ◌↔◌, ◌⊎◌, IsTrue, ◌<◌, ◌≤◌, ◌+◌, ◌*◌, [], ◌∷◌, ◌++◌, length, slice_get, Ok, Err, Some, None, IfSome, IfNone, IfOk, IfErr, OnOk, MatchResult, MatchOption};
+    ghost use Rattle.std.specs.Prelude.{ℕ, ◌≡◌, ◌≢◌, ◌↔◌, ◌⊎◌, false, IsTrue, ◌<◌, ◌≤◌, ◌+◌, ◌*◌, [], ◌∷◌, ◌++◌, length, slice_get, Ok, Err, Some, None, IfSome, IfNone, IfOk, IfErr, OnOk, MatchResult, MatchOption};
     ghost use Rattle.cbs_core.specs.Agreement.{Agrees};
     ghost use Rattle.cbs_core.specs.History.{History, faces, world_after, reply_in};
-    ghost use Rattle.cbs_core.specs.Quiet.{IsAtRest, IsIdleSpan};
+    ghost use Rattle.cbs_core.specs.OnTime.{IsWorldOnTime};
+    ghost use Rattle.cbs_core.specs.Quiet.{IsAtRest, IsIdleSpan, IsQuietAfter};
     ghost use Rattle.cbs_core.specs.Fronts.{front_output};
     ghost use Rattle.cbs_core.specs.Held.{held_at, IsClosed};
     ghost use Rattle.cbs_core.specs.Faces.{face_at, view_reply};
@@ -47,7 +48,7 @@ impl<W: Work, A: Allocator> House<W, A> {
     ghost use Rattle.cbs_core.specs.declared.step.Step.TheVariants as step;
     ghost use Rattle.cbs_house.specs.Clients.{server_of, sent_by, free, SameClient};
     ghost use Rattle.cbs_house.specs.HouseInvariant.{KeepsServer};
-    ghost use Rattle.cbs_house.specs.Houses.{core_of, rings_of, received, known, results_of, handed_of, view_answer, Made, LooksOnly, SameHouse, Polled, CanTake, Collects, NamesJob};
+    ghost use Rattle.cbs_house.specs.Houses.{core_of, rings_of, IsHouseOnTime, received, known, results_of, handed_of, view_answer, Made, LooksOnly, SameHouse, Polled, CanTake, Collects, NamesJob};
     ghost use Rattle.cbs_house.specs.RingEnds.{IsOpened};
 
     /// How many servers there are, at most 64. Their numbers are those below it.
@@ -92,6 +93,7 @@ impl<W: Work, A: Allocator> House<W, A> {
     /// [`Poll::Closed`].
     pub fn poll(&mut self, server: u16) -> Poll
         ensures polled { Polled W.meaning self.old server result self.new }
+        ensures on_time { IsHouseOnTime self.old → IsHouseOnTime self.new }
         ensures rings { rings_of self.new ≡ rings_of self.old }
         ensures results { (s : ℕ) → results_of self.new s ≡ results_of self.old s }
     {
@@ -110,6 +112,7 @@ impl<W: Work, A: Allocator> House<W, A> {
         requires { IsOpened (rings_of self.old) client.old }
         ensures nothing { (result ≡ Poll.Nothing) ↔ (IsClosed (core_of self.old) (server_of client.old) ⊎ (sent_by client.old ≡ received self.old (server_of client.old))) }
         ensures polled { Polled W.meaning self.old (server_of client.old) result self.new }
+        ensures on_time { IsHouseOnTime self.old → IsHouseOnTime self.new }
         ensures rings { rings_of self.new ≡ rings_of self.old }
         ensures results { (s : ℕ) → results_of self.new s ≡ results_of self.old s }
         ensures client { SameClient client.old client.new × (sent_by client.new ≡ sent_by client.old) × (free client.old ≤ free client.new) }
@@ -174,6 +177,7 @@ impl<W: Work, A: Allocator> House<W, A> {
     pub fn run(&mut self) -> Ran
         ensures reply { (M : History W) → Agrees W.meaning (core_of self.old) M → reply.Ran result ≡ reply_in W.meaning M step.Run }
         ensures made { Made W.meaning self.old self.new (step.Run ∷ []) }
+        ensures on_time { IsHouseOnTime self.old → IsHouseOnTime self.new }
         ensures rings { rings_of self.new ≡ rings_of self.old }
         ensures collects { Collects result self.old self.new }
         ensures job { NamesJob W.meaning result self.new }
@@ -191,6 +195,8 @@ impl<W: Work, A: Allocator> House<W, A> {
     /// nothing.
     pub fn advance(&mut self, n: u64) -> Result<(), HouseError>
         ensures made { OnOk result (Made W.meaning self.old self.new (step.Advance n ∷ [])) }
+        ensures on_time { ((M : History W) → Agrees W.meaning (core_of self.old) M → IsQuietAfter W.meaning M (step.Advance n))
+            → IsHouseOnTime self.old → IsHouseOnTime self.new }
         ensures rings { rings_of self.new ≡ rings_of self.old }
         ensures results { (s : ℕ) → results_of self.new s ≡ results_of self.old s }
         ensures refused { IfErr result (λ error. (error ≡ HouseError.ClockEnd) × SameHouse self.old self.new) }
@@ -224,12 +230,14 @@ impl<W: Work, A: Allocator> House<W, A> {
         self.core.idle_span()
     }
 
-    /// By which tick every job that a server accepted so far is finished, as [`Core::promised`], if the
-    /// advances to come take no time from anybody, as those that [`drain`](House::drain) makes; `None`
-    /// where all are finished, and where there is no such server.
+    /// Returns the tick by which every job that a server accepted so far is finished, as
+    /// [`Core::promised`], or `None` if all are finished or there is no such server.
+    ///
+    /// It is kept if all are on time now and no advance to come takes anybody's time. A house is on time
+    /// when it is opened. Each call keeps it so, but an [`advance`](House::advance) while somebody is ready.
     pub fn promised(&self, server: u16) -> Option<u128>
         ensures value { (M : History W) → Agrees W.meaning (core_of self.now) M → result ≡ promised W.meaning (account_in W.meaning M server) }
-        ensures kept { IfSome result (λ tick. (M : History W) → Agrees W.meaning (core_of self.now) M → AllFinishedBy W.meaning M server tick) }
+        ensures kept { IsHouseOnTime self.now → IfSome result (λ tick. (M : History W) → Agrees W.meaning (core_of self.now) M → AllFinishedBy W.meaning M server tick) }
     {
         self.core.promised(server)
     }
@@ -250,6 +258,8 @@ impl<W: Work, A: Allocator> House<W, A> {
             → IfOk result (λ view. let now = (world_after W.meaning M).now in view.deadline ≤ now + (now + 1) * 1000000000) }
         ensures budget { (M : History W) → Agrees W.meaning (core_of self.now) M
             → OnOk result (IsWithinBudget (face_at (faces W.meaning (world_after W.meaning M)) server)) }
+        ensures in_time { (M : History W) → Agrees W.meaning (core_of self.now) M → IsWorldOnTime W.meaning (world_after W.meaning M)
+            → IfOk result (λ view. view.finished < view.accepted → view.throttled ≡ false → (world_after W.meaning M).now < view.deadline) }
     {
         match self.core.view(server) {
             Ok(view) => Ok(view),

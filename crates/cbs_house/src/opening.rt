@@ -8,7 +8,7 @@ ghost use Rattle.cbs_core.specs.Setups.{terms_of};
 ghost use Rattle.cbs_core.specs.declared.step.Step.{Step};
 ghost use Rattle.cbs_rate.specs.Refusals.{RefusesByOrMemory};
 ghost use Rattle.cbs_house.specs.Clients.{server_of, ring_of};
-ghost use Rattle.cbs_house.specs.Houses.{core_of, rings_of, received, known, results_of, handed_of};
+ghost use Rattle.cbs_house.specs.Houses.{core_of, rings_of, IsHouseOnTime, received, known, results_of, handed_of};
 ghost use Rattle.cbs_house.specs.Opened.{open_refusal, IsNewEnd, IsUnused};
 ghost use Rattle.cbs_house.specs.RingEnds.{rings_in, IsOpened, AreOpened, EachOpened};
 
@@ -30,6 +30,9 @@ pub const MAX_RING: u64 = 1024;
 /// Opens a house whose servers have the reservations of the plan and, by number, these modes, each
 /// with at most `backlog` unfinished jobs; and one client for each server, in order of their numbers,
 /// each with a ring of `ring` slots.
+///
+/// A client that is dropped ends, so its server closes once all that it sent is taken. Its ring has one slot
+/// more than `ring` for that end, so it is sent at a full ring too.
 ///
 /// There must be a mode for each server of the plan.
 ///
@@ -53,6 +56,7 @@ pub fn open_house<W: Work, A: Allocator + Copy>(
     ensures opened { IfOk result (λ r. All (IsOpened (rings_of r.0)) r.1.items) }
     ensures together { IfOk result (λ r. AreOpened (rings_of r.0) r.1.items) }
     ensures each { IfOk result (λ r. EachOpened (rings_of r.0) r.1.items) }
+    ensures on_time { IfOk result (λ r. IsHouseOnTime r.0) }
     ensures punctual { OnOk result ((steps : List (Step W)) → IsPunctual W.meaning (record { setup = record { servers = terms_of modes plan.rates; backlog = backlog }; steps = steps })) }
     ensures refusal { RefusesByOrMemory HouseError.OutOfMemory result (open_refusal backlog ring) }
 {
@@ -80,12 +84,14 @@ pub fn open_house<W: Work, A: Allocator + Copy>(
     Ok((house, clients))
 }
 
-/// A ring for each of so many servers: the house's ends, and the clients with theirs.
+/// A ring for each of so many servers: the house's ends, and the clients with theirs. Each ring has so many slots
+/// for what its client sends, and one that is kept for the end of a dropped client.
 fn open_rings<W: Work, A: Allocator + Copy>(
     alloc: A,
     servers: u16,
     slots: usize,
 ) -> Result<(Rings<W, A>, Vec<Client<W, A>, A>), AllocError>
+    requires { slots ≤ 1024 }
     ensures new { IfOk result (λ r. All IsNewEnd r.0.ends.items) }
     ensures rings { IfOk result (λ r. rings_in r.0 ≡ map ring_of r.1.items) }
     ensures clients { IfOk result (λ r. map server_of r.1.items ≡ range_with_len 0 servers) }
@@ -94,7 +100,7 @@ fn open_rings<W: Work, A: Allocator + Copy>(
     let mut ends = Vec::with_capacity(alloc, usize::from(servers))?;
     let mut clients = Vec::with_capacity(alloc, usize::from(servers))?;
     for server in 0..servers {
-        let (producer, consumer) = RingBuffer::new(alloc, slots)?;
+        let (producer, consumer) = RingBuffer::new(alloc, slots + 1)?;
         ends.push_reserved(consumer);
         clients.push_reserved(Client::new(server, producer));
     }

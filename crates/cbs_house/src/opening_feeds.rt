@@ -7,7 +7,7 @@ ghost use Rattle.cbs_core.specs.Punctual.{IsPunctual};
 ghost use Rattle.cbs_core.specs.Setups.{terms_of};
 ghost use Rattle.cbs_core.specs.declared.step.Step.{Step};
 ghost use Rattle.cbs_house.specs.Feeds.{client_of, unsent_jobs, servers_of};
-ghost use Rattle.cbs_house.specs.Houses.{core_of, received, known, results_of, handed_of};
+ghost use Rattle.cbs_house.specs.Houses.{core_of, IsHouseOnTime, received, known, results_of, handed_of};
 ghost use Rattle.cbs_house.specs.Opened.{open_refusal, IsUnused};
 ghost use Rattle.cbs_house.specs.Rounds.{Ready};
 
@@ -32,9 +32,11 @@ pub struct OpenRefused<W: Work, A: Allocator = Global> {
 /// Opens a house as [`open_house`] does, and for each server, in order of their numbers, a feed of the
 /// list of jobs at its place. They are ready to be served.
 ///
-/// There must be a mode and a list for each server of the plan.
+/// There must be a mode and a list for each server of the plan. Both are conditions: a caller that reads
+/// its lists from elsewhere compares their number with `plan.len()` first, and has all of them still if
+/// one lacks.
 ///
-/// Refuses by the errors of [`open_house`], in the same order; [`HouseError::OutOfMemory`] also where no
+/// Refuses by the errors of [`open_house`], in the same order; by [`HouseError::OutOfMemory`] also if no
 /// memory is found for the list of feeds. The lists come back then.
 pub fn open_feeds<W: Work, A: Allocator + Copy>(
     alloc: A,
@@ -52,6 +54,7 @@ pub fn open_feeds<W: Work, A: Allocator + Copy>(
     ensures unused { IfOk result (λ r. All (λ f. IsUnused ring (client_of f)) r.1.items) }
     ensures jobs { MatchResult result (λ r. map unsent_jobs r.1.items ≡ map (λ jobs. jobs.items) lists.items) (λ refused. refused.lists ≡ lists) }
     ensures ready { IfOk result (λ r. Ready r.0 r.1.items) }
+    ensures on_time { IfOk result (λ r. IsHouseOnTime r.0) }
     ensures punctual { OnOk result ((steps : List (Step W)) → IsPunctual W.meaning (record { setup = record { servers = terms_of modes plan.rates; backlog = backlog }; steps = steps })) }
     ensures refusal { MatchResult result (λ _. open_refusal backlog ring ≡ None) (λ refused. (open_refusal backlog ring ≡ Some refused.error) ⊎ ((open_refusal backlog ring ≡ None) × (refused.error ≡ HouseError.OutOfMemory))) }
 {

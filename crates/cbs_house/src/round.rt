@@ -4,7 +4,7 @@ ghost use Rattle.std.specs.Prelude.{◌≡◌, ◌+◌, ◌*◌, ◌≤◌, ◌�
 ghost use Rattle.std.specs.List.{All};
 ghost use Rattle.std.specs.Thread.{IsSync, IsSend};
 ghost use Rattle.cbs_house.specs.Feeds.{KeepsFeeds, EachSendsAtMost, SendsFeeds, servers_of, all_sent};
-ghost use Rattle.cbs_house.specs.Houses.{core_of, MovesQuietly};
+ghost use Rattle.cbs_house.specs.Houses.{core_of, IsHouseOnTime};
 ghost use Rattle.cbs_core.specs.Held.{IsClosed};
 ghost use Rattle.cbs_house.specs.Rounds.{Ready};
 ghost use Rattle.cbs_house.specs.Turns.{TakesTurn, TakesTurns};
@@ -57,7 +57,7 @@ pub fn serve_round<R: Threads + Clock + Sync, G: Gate + Sync, W: Work + Send>(
     ensures sent { all_sent feeds.new ≡ all_sent feeds.old + result.sent }
     ensures most { result.sent ≤ turns * length feeds.old }
     ensures took { TakesTurns W.meaning turns (servers_of feeds.old) house.old house.new result.took }
-    ensures quiet { MovesQuietly W.meaning house.old house.new }
+    ensures on_time { IsHouseOnTime house.old → IsHouseOnTime house.new }
     ensures few { result.took ≤ turns * length (core_of house.old).faces }
 {
     let mut servers = [0u16; 64];

@@ -3,7 +3,7 @@
 ghost use Rattle.std.specs.Prelude.{ℕ, suc, ◌≡◌, ◌≢◌, ◌+◌, ◌≤◌, ◌↔◌, true, length, IsTrue, IfOk, OnOk, IfErr, MatchResult};
 ghost use Rattle.std.specs.List.{All};
 ghost use Rattle.cbs_house.specs.Feeds.{IsDone, KeepsFeed, KeepsFeeds, all_unsent};
-ghost use Rattle.cbs_house.specs.Houses.{core_of, rings_of, LooksOnly, MovesQuietly};
+ghost use Rattle.cbs_house.specs.Houses.{core_of, rings_of, IsHouseOnTime, LooksOnly};
 ghost use Rattle.cbs_core.specs.Held.{HoldsNoJob};
 ghost use Rattle.cbs_house.specs.RingEnds.{IsOpened};
 ghost use Rattle.cbs_house.specs.Rounds.{Ready, ServesOn, Standing, IsTaken, IsSettled, IsServed, Halts, Stops};
@@ -47,7 +47,7 @@ pub fn serve<R: Threads + Clock + Sync, G: Gate + Sync, W: Work + Send>(
     ensures ready { Ready house.new feeds.new }
     ensures feeds { KeepsFeeds feeds.old feeds.new }
     ensures steps { ServesOn W.meaning house.old house.new }
-    ensures quiet { MovesQuietly W.meaning house.old house.new }
+    ensures on_time { IsHouseOnTime house.old → IsHouseOnTime house.new }
     ensures served { OnOk result (All (IsServed W.meaning house.new) feeds.new) }
     ensures drained { OnOk result (HoldsNoJob (core_of house.new)) }
     ensures stops { IfErr result (λ error. Stops error house.new feeds.new) }

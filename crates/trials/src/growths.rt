@@ -14,7 +14,7 @@ use std::thread::Threads;
 use std::time::Clock;
 
 /// The words of all calls.
-const CASES: [&str; 13] = [
+const CASES: [&str; 15] = [
     "core",
     "make_room",
     "submit",
@@ -26,6 +26,8 @@ const CASES: [&str; 13] = [
     "expect",
     "poll",
     "take_results",
+    "turn",
+    "run_until_closed",
     "serve_round",
     "serve",
 ];
@@ -44,6 +46,8 @@ pub fn make<R: Print + Threads + Clock + Sync>(rt: &R, alloc: Global, case: &str
         "expect" => house_cases::announce(rt, alloc),
         "poll" => house_cases::poll(rt, alloc),
         "take_results" => house_cases::take_results(rt, alloc),
+        "turn" => house_cases::turn(rt, alloc),
+        "run_until_closed" => house_cases::run_until_closed(rt, alloc),
         "serve_round" => serving_cases::round(rt, alloc),
         "serve" => serving_cases::whole(rt, alloc),
         _ => bail!("no such call: {case}"),

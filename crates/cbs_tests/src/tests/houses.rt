@@ -7,12 +7,15 @@ mod errors;
 mod handing;
 mod handles;
 mod in_time;
+mod leaving;
 mod meeting;
 mod memory;
+mod patience;
 mod polling;
 mod rows;
 mod serving;
 mod turning;
+mod widest;
 
 use super::{filled, plan_of, same, same_at, says, sum_of};
 use cbs_job::{SumJob, Task};

@@ -5,6 +5,7 @@ mod fakes;
 mod files;
 mod memory;
 mod serving;
+mod shapes;
 mod streams;
 mod traces;
 mod words;

@@ -9,12 +9,13 @@ use super::telling::{begin, tell};
 use crate::setup::{lists_of, plan_of, sum_of};
 use anyhow::{Result, bail, ensure};
 use cbs_house::{
-    Client, CollectError, Collector, FeedsRefused, House, HouseError, feeds_of, open_house,
+    Client, CollectError, Collector, FeedsRefused, House, HouseError, NoSink, feeds_of, open_house,
 };
 use cbs_job::{Completion, SumJob, Task};
 use cbs_rate::Plan;
 use cbs_rules::{Mode, Modes};
 use std::alloc::Global;
+use std::time::Clock;
 
 /// Why a house of this plan is refused.
 fn refusal(alloc: Global, plan: Plan) -> Option<HouseError> {
@@ -229,5 +230,33 @@ pub fn take_results(rt: &impl Print, alloc: Global) -> Result<()> {
     tell(rt, "results", house.results(0));
     hands_out(rt, "again", &mut house);
     drains(rt, &mut house);
+    Ok(())
+}
+
+/// A turn of a house with two messages in its ring, and two turns more.
+pub fn turn(rt: &impl Print, alloc: Global) -> Result<()> {
+    let (mut house, _client) = two_sent(rt, alloc)?;
+    begin(rt);
+    tell(rt, "first", house.turn());
+    tell(rt, "view", house.view(0));
+    tell(rt, "again", house.turn());
+    tell(rt, "next", house.turn());
+    tell(rt, "results", house.results(0));
+    Ok(())
+}
+
+/// Runs until the client's end is taken and its jobs are finished.
+fn runs_until_closed<R: Print + Clock>(rt: &R, what: &str, house: &mut House<SumJob>) {
+    tell(rt, what, house.run_until_closed(rt, &mut NoSink, 1));
+    tell(rt, "results", house.results(0));
+}
+
+/// A run of a house whose client has sent two jobs and its end.
+pub fn run_until_closed<R: Print + Clock>(rt: &R, alloc: Global) -> Result<()> {
+    let (mut house, mut client) = two_sent(rt, alloc)?;
+    tell(rt, "end", client.end());
+    begin(rt);
+    runs_until_closed(rt, "first", &mut house);
+    runs_until_closed(rt, "again", &mut house);
     Ok(())
 }

@@ -1,4 +1,4 @@
-use Rattle.std.proofs.Common.{sym, ap, arith, ◌≡◌, ◌≤◌, ◌∙◌, length}
+use Rattle.std.proofs.Common.{sym, ap, arith, ◌≡◌, ◌∙◌, length}
 use Rattle.std.proofs.lemmas.List.{length-map}
 use Rattle.std.proofs.lemmas.List.FromFn.{length-range_with_len}
 use Rattle.cbs_core.specs.History.{Setup}

@@ -2,7 +2,7 @@ use Rattle.std.proofs.Common.{sym, ◌∙◌, arith, rules}
 use Rattle.std.proofs.lemmas.Bool.{false≢true}
 use Rattle.cbs_house.specs.Feeds.{servers_of}
 use Rattle.cbs_house.proofs.Feeds.{feeds_same, feeds_on}
-use Rattle.cbs_house.proofs.Moves.{serves_none, quiet_serving}
+use Rattle.cbs_house.proofs.Moves.{serves_none, serves_on_time}
 use Rattle.cbs_house.proofs.ServedFeeds.{all_served}
 use Rattle.cbs_house.proofs.Turns.{serves_round}
 use Rattle.cbs_house.proofs.serving.serve.Goals as goal
@@ -52,11 +52,17 @@ loop-preserved g c =
 pub returns-then-branch-clause-stops : goal.returns-then-branch-clause-stops
 returns-then-branch-clause-stops g c = search rules
 
-pub returns-in_err-finish_round-clause-quiet : goal.returns-in_err-finish_round-clause-quiet
-returns-in_err-finish_round-clause-quiet g c = quiet_serving g.W.Work.meaning c.args.house.now c.finish_round.new.house (returns-in_err-finish_round-clause-steps g c)
+pub returns-in_err-finish_round-clause-on_time : goal.returns-in_err-finish_round-clause-on_time
+returns-in_err-finish_round-clause-on_time g c =
+    let a = c.args.house.now in
+    serves_on_time g.W.Work.meaning a c.finish_round.new.house a.housed.history (returns-in_err-finish_round-clause-steps g c)
 
-pub returns-then-branch-clause-quiet : goal.returns-then-branch-clause-quiet
-returns-then-branch-clause-quiet g c = quiet_serving g.W.Work.meaning c.args.house.now c.finish_round.new.house (returns-then-branch-clause-steps g c)
+pub returns-then-branch-clause-on_time : goal.returns-then-branch-clause-on_time
+returns-then-branch-clause-on_time g c =
+    let a = c.args.house.now in
+    serves_on_time g.W.Work.meaning a c.finish_round.new.house a.housed.history (returns-then-branch-clause-steps g c)
 
-pub returns-clause-quiet : goal.returns-clause-quiet
-returns-clause-quiet g c = quiet_serving g.W.Work.meaning c.args.house.now c.loop.house c.loop.invariant.steps
+pub returns-clause-on_time : goal.returns-clause-on_time
+returns-clause-on_time g c =
+    let a = c.args.house.now in
+    serves_on_time g.W.Work.meaning a c.loop.house a.housed.history c.loop.invariant.steps

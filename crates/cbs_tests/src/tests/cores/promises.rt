@@ -3,7 +3,7 @@
 use super::rows::{Case, Row, plays_all};
 use cbs_rules::Mode;
 
-const CASES: [Case; 4] = [
+const CASES: [Case; 5] = [
     Case {
         name: "nothing is promised where nothing is owed",
         servers: &[(Mode::Soft, 2, 5)],
@@ -88,6 +88,25 @@ const CASES: [Case; 4] = [
             Row::Promised(0, Some(20)),
             Row::Done(0, 0, 3),
             Row::Promised(0, Some(20)),
+        ],
+    },
+    Case {
+        // The advance takes the server's time from tick 0 on: it is ready, and late from tick 10 on. Replenished once
+        // for each deadline that has come, it runs at 20 and at 21.
+        name: "a promise is not kept after an advance that took the server's time",
+        servers: &[(Mode::Throttled, 1, 10)],
+        backlog: 4,
+        rows: &[
+            Row::Submit(0, &[1, 1], 0),
+            Row::Promised(0, Some(20)),
+            Row::Advance(20, Ok(())),
+            Row::Now(20),
+            Row::Promised(0, Some(20)),
+            Row::Unit(0),
+            Row::Now(21),
+            Row::Promised(0, Some(20)),
+            Row::Done(0, 0, 2),
+            Row::Now(22),
         ],
     },
 ];

@@ -229,7 +229,11 @@ fn each_house_stalls_or_closes(rt: HostRuntime) {
 }
 
 /// A house of two servers with 2 ticks in every 5 each, with a backlog and rings of two places, and its clients.
-fn two_clients(rt: &impl Abort, alloc: Global, mode: Mode) -> (House<SumJob>, Vec<Client<SumJob>>) {
+pub fn two_clients(
+    rt: &impl Abort,
+    alloc: Global,
+    mode: Mode,
+) -> (House<SumJob>, Vec<Client<SumJob>>) {
     let plan = plan_of(rt, &[(2, 5), (2, 5)]);
     let modes = Modes::uniform(mode, plan.len() as u16);
     let Ok(opened) = open_house(alloc, plan, modes, 2, 2) else {
@@ -239,7 +243,7 @@ fn two_clients(rt: &impl Abort, alloc: Global, mode: Mode) -> (House<SumJob>, Ve
 }
 
 /// The task of one unit of this number.
-fn unit_of(alloc: Global, number: u32) -> Option<Task<SumJob>> {
+pub fn unit_of(alloc: Global, number: u32) -> Option<Task<SumJob>> {
     let numbers = Vec::from_slice(alloc, &[number]).ok()?;
     Task::new(SumJob::new(numbers)).ok()
 }

@@ -94,6 +94,7 @@ fn handles_are_refused_by_texts_of_their_own(rt: HostRuntime) {
             0x604,
             "the mode is neither soft nor throttled",
         ),
+        (KeptError::HouseGone, 0x605, "the client's house was freed"),
     ] {
         refused(&rt, error, status, text);
     }
@@ -103,5 +104,5 @@ fn handles_are_refused_by_texts_of_their_own(rt: HostRuntime) {
 fn no_other_status_has_a_text(rt: HostRuntime) {
     same(&rt, "text", text_of(0), "no error");
     same(&rt, "text", text_of(0x100), "no such status");
-    same(&rt, "text", text_of(0x605), "no such status");
+    same(&rt, "text", text_of(0x606), "no such status");
 }

@@ -23,6 +23,10 @@ pub enum Row {
     End(Result<(), SendError>),
     /// How many slots of the ring are free.
     Free(u64),
+    /// How many messages of the client stand in its ring.
+    Waiting(u64),
+    /// Whether the client's house is gone.
+    HouseIsGone(bool),
     /// The client's server, how many jobs it sent, and whether it has ended.
     Client(u16, u64, bool),
     /// How many messages stand in the ring.
@@ -91,6 +95,13 @@ impl<A: Allocator + Copy> Opened<A> {
         let (house, client) = one_client(rt, alloc, mode, rate, limits);
         Opened { house, client }
     }
+
+    /// The house, with its client dropped.
+    pub fn without_client(self) -> House<SumJob, A> {
+        let Opened { house, client } = self;
+        drop(client);
+        house
+    }
 }
 
 impl<A: Allocator + Clone> Opened<A> {
@@ -116,6 +127,10 @@ impl<A: Allocator + Clone> Opened<A> {
             }
             Row::End(wanted) => same_at(rt, at, "end", self.client.end(), wanted),
             Row::Free(wanted) => same_at(rt, at, "free", self.client.free(), wanted),
+            Row::Waiting(wanted) => same_at(rt, at, "waiting", self.client.waiting(), wanted),
+            Row::HouseIsGone(wanted) => {
+                same_at(rt, at, "house_is_gone", self.client.house_is_gone(), wanted);
+            }
             Row::Settle(wanted) => {
                 let standing = self.house.settle(&mut self.client);
                 same_at(rt, at, "settle", standing, wanted);

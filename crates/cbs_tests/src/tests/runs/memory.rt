@@ -1,9 +1,11 @@
 //! The bound on what a file may want of memory.
 
-use super::fakes::Memory;
+use super::fakes::{Memory, replays};
 use super::{FIRST, FIRST_LINES, same};
-use cbs_file::{FileFault, FileKind, Place, read_file_within, wants_within};
+use cbs_file::{FileFault, FileKind, Place, read_file, read_file_within, wants_within};
 use cbs_run::{Verb, memory_bound, run_bytes_within};
+use std::alloc::Global;
+use std::process::Abort;
 
 /// Bytes, and what they want: 1400 for each dot, 750 for a `[`, 700 for a `=`, 500 for a `{`, 100 for a comma, 4 for another.
 const WANTED: [(&str, u64); 6] = [
@@ -53,6 +55,40 @@ fn a_file_that_wants_more_than_the_bound_is_not_read(rt: HostRuntime) {
             "the error output at status {left}"
         );
     }
+}
+
+/// How many dots a comment after the first example has, so that the file wants just less than the bound.
+///
+/// The bound is 2147483648. The first example wants 18572 of it, and the `#` 4. So 2147465072 are left: 1533903
+/// times 1400, and 872.
+const DOTS: usize = 1_533_903;
+
+/// How many letters take the rest: 872 is 218 times 4.
+const LETTERS: usize = 218;
+
+/// Returns the first example with a comment after it that takes the rest of the bound.
+fn longest(rt: &impl Abort, alloc: Global) -> Vec<u8> {
+    let mut file = Vec::from_slice(alloc, FIRST.as_bytes()).expect(rt, "memory");
+    for (byte, count) in [(b'#', 1), (b'.', DOTS), (b'x', LETTERS)] {
+        for _ in 0..count {
+            file.push(byte).ok().expect(rt, "memory");
+        }
+    }
+    file
+}
+
+#[test]
+fn a_file_may_want_2_gib(rt: HostRuntime) {
+    let alloc = rt.alloc();
+    let mut file = longest(&rt, alloc);
+    same(&rt, "at 2 GiB", read_file(alloc, &file).is_ok(), true);
+    replays(&rt, alloc, "at 2 GiB", &file, 0, FIRST_LINES, "");
+    // A letter more wants 4 bytes more.
+    file.push(b'x').ok().expect(&rt, "memory");
+    let kind = read_file(alloc, &file).err().map(|fault| fault.kind);
+    same(&rt, "past 2 GiB", kind, Some(FileKind::OutOfMemory));
+    let line = "cbsrun: file fault 7 OutOfMemory at top\n";
+    replays(&rt, alloc, "past 2 GiB", &file, 3, "", line);
 }
 
 #[test]

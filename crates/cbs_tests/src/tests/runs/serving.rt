@@ -73,3 +73,48 @@ fn a_file_with_no_server_has_no_results(rt: HostRuntime) {
     ).expect(&rt, "memory");
     serves(&rt, alloc, "no server", file.as_bytes(), 0, "", "");
 }
+
+/// Returns a file of as many servers as there may be, each with a job that adds up its server's number and 1000.
+fn of_64_servers(rt: &impl Abort, alloc: Global) -> String {
+    let mut servers = String::new(alloc);
+    let mut steps = String::new(alloc);
+    for server in 0..64 {
+        servers
+            .push_str("{ budget = 1, period = 64 }, ")
+            .expect(rt, "memory");
+        let step = format!(in alloc;
+            "{{ op = \"submit\", server = {server}, job = \"sum\", units = [{server}, 1000] }}, "
+        ).expect(rt, "memory");
+        steps.push_str(step.as_str()).expect(rt, "memory");
+    }
+    format!(in alloc; "{HEAD}ring = 4\nserver = [{servers}]\nstep = [{steps}]\n").expect(
+        rt, "memory",
+    )
+}
+
+/// Returns what is written of that file: server 0 has 1000, server 1 has 1001, and so on.
+fn results_of_64(rt: &impl Abort, alloc: Global) -> String {
+    let mut lines = String::new(alloc);
+    for server in 0..64u64 {
+        let result = 1000 + server;
+        let line = format!(in alloc; "server {server}: {result}\n").expect(rt, "memory");
+        lines.push_str(line.as_str()).expect(rt, "memory");
+    }
+    lines
+}
+
+#[test]
+fn a_file_of_64_servers_is_served(rt: HostRuntime) {
+    let alloc = rt.alloc();
+    let file = of_64_servers(&rt, alloc);
+    let results = results_of_64(&rt, alloc);
+    serves(
+        &rt,
+        alloc,
+        "64 servers",
+        file.as_bytes(),
+        0,
+        results.as_str(),
+        "",
+    );
+}

@@ -76,10 +76,10 @@ fn a_failing_output_has_its_status(rt: HostRuntime) {
 }
 
 /// Reads all of a text, and looks for it.
-fn reads_text(rt: &impl Abort, alloc: Global, text: &str) {
+fn reads_text(rt: &impl Abort, alloc: Global, label: &str, text: &str) {
     let mut reader = FromRead::new(text.as_bytes());
-    let bytes = read_all(alloc, &mut reader).ok().expect(rt, text);
-    assert!(rt; bytes.as_slice() == text.as_bytes(), "not {text:?}");
+    let bytes = read_all(alloc, &mut reader).ok().expect(rt, label);
+    assert!(rt; bytes.as_slice() == text.as_bytes(), "{label}: other bytes");
 }
 
 /// Reads so many letters, where a call fails, and looks for how many came.
@@ -100,8 +100,8 @@ fn reads(
 #[test]
 fn a_reader_gives_all_its_bytes(rt: HostRuntime) {
     let alloc = rt.alloc();
-    reads_text(&rt, alloc, "abc");
-    reads_text(&rt, alloc, "");
+    reads_text(&rt, alloc, "three letters", "abc");
+    reads_text(&rt, alloc, "nothing", "");
     reads(&rt, alloc, MAX_BYTES, 0, Ok(MAX_BYTES));
     reads(&rt, alloc, MAX_BYTES + 1, 0, Err(ReadError::TooLarge));
     // Four pieces of up to 65536 bytes, and the read that finds the end.
@@ -109,6 +109,18 @@ fn a_reader_gives_all_its_bytes(rt: HostRuntime) {
         reads(&rt, alloc, 200_000, bad, Err(ReadError::ReadFault));
     }
     reads(&rt, alloc, 200_000, 6, Ok(200_000));
+}
+
+#[test]
+fn a_reader_gives_more_than_a_mebibyte(rt: HostRuntime) {
+    let alloc = rt.alloc();
+    let mut text = String::new(alloc);
+    // 16 bytes each: 1.5 MiB in all.
+    for _ in 0..98_304 {
+        add(&rt, &mut text, "0123456789abcde\n");
+    }
+    reads_text(&rt, alloc, "1.5 MiB", text.as_str());
+    reads(&rt, alloc, 1_572_864, 0, Ok(1_572_864));
 }
 
 /// Puts a text at the end of another.

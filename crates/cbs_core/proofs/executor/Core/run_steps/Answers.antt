@@ -8,13 +8,10 @@ use Rattle.cbs_core.proofs.StepLists.{AnswersAll-push, agrees_more, all_yielded}
 use Rattle.cbs_core.proofs.Completions.{Completes-none, step_completes, completes_more}
 use Rattle.cbs_core.proofs.Cores.{budgets_kept}
 use Rattle.cbs_core.proofs.ClosedServers.{NoneAfterClose-all}
-use Rattle.cbs_core.proofs.Dues.{due_kept}
-use Rattle.cbs_core.proofs.HardTasks.{hard_kept}
 use Rattle.cbs_core.proofs.LawfulServers.{lawful_at}
-use Rattle.cbs_core.proofs.OnTime.{admitted_by, admitted_grown, deadlines_kept, on_time_grown}
-use Rattle.cbs_core.proofs.Promises.{promise_kept, bound_kept}
+use Rattle.cbs_core.proofs.OnTime.{admitted_by, on_time_grown}
+use Rattle.cbs_core.proofs.Punctual.{core_punctual}
 use Rattle.cbs_core.proofs.Shares.{share_grown, cap_grown}
-use Rattle.cbs_core.proofs.Supplies.{supply_kept}
 use Rattle.cbs_core.proofs.executor.Core.run_steps.Goals as goal
 
 pub loop-step-init : goal.loop-step-init
@@ -91,35 +88,9 @@ pub returns-clause-cap : goal.returns-clause-cap
 returns-clause-cap g c = λ M agrees s lt.
     cap_grown g.W.Work.meaning M c.args.steps.items c.loop-step.replies.items s (lawful_at c.self.view_is c.self.invariant agrees s lt)
 
-pub returns-clause-never_late : goal.returns-clause-never_late
-returns-clause-never_late g c = λ M agrees.
-    deadlines_kept g.W.Work.meaning M c.args.steps.items c.loop-step.replies.items (admitted_by g.W.Work.meaning c.self.view_is c.self.invariant agrees)
-
 pub returns-clause-on_time : goal.returns-clause-on_time
 returns-clause-on_time g c = λ M agrees.
     on_time_grown g.W.Work.meaning M c.args.steps.items c.loop-step.replies.items (admitted_by g.W.Work.meaning c.self.view_is c.self.invariant agrees)
 
-pub returns-clause-promise : goal.returns-clause-promise
-returns-clause-promise g c = λ M agrees.
-    promise_kept g.W.Work.meaning (grown_by M c.args.steps.items c.loop-step.replies.items)
-    (admitted_grown g.W.Work.meaning M c.args.steps.items c.loop-step.replies.items (admitted_by g.W.Work.meaning c.self.view_is c.self.invariant agrees))
-
-pub returns-clause-bound : goal.returns-clause-bound
-returns-clause-bound g c = λ M agrees.
-    bound_kept g.W.Work.meaning (grown_by M c.args.steps.items c.loop-step.replies.items)
-    (admitted_grown g.W.Work.meaning M c.args.steps.items c.loop-step.replies.items (admitted_by g.W.Work.meaning c.self.view_is c.self.invariant agrees))
-
-pub returns-clause-due : goal.returns-clause-due
-returns-clause-due g c = λ M agrees.
-    due_kept g.W.Work.meaning (grown_by M c.args.steps.items c.loop-step.replies.items)
-    (admitted_grown g.W.Work.meaning M c.args.steps.items c.loop-step.replies.items (admitted_by g.W.Work.meaning c.self.view_is c.self.invariant agrees))
-
-pub returns-clause-hard : goal.returns-clause-hard
-returns-clause-hard g c = λ M agrees.
-    hard_kept g.W.Work.meaning (grown_by M c.args.steps.items c.loop-step.replies.items)
-    (admitted_grown g.W.Work.meaning M c.args.steps.items c.loop-step.replies.items (admitted_by g.W.Work.meaning c.self.view_is c.self.invariant agrees))
-
-pub returns-clause-supply : goal.returns-clause-supply
-returns-clause-supply g c = λ M agrees.
-    supply_kept g.W.Work.meaning (grown_by M c.args.steps.items c.loop-step.replies.items)
-    (admitted_grown g.W.Work.meaning M c.args.steps.items c.loop-step.replies.items (admitted_by g.W.Work.meaning c.self.view_is c.self.invariant agrees))
+pub returns-clause-punctual : goal.returns-clause-punctual
+returns-clause-punctual g c = core_punctual g.W.Work.meaning c.self-2.view_is c.self-2.invariant

@@ -2,6 +2,8 @@ use Rattle.std.proofs.Common.{◌∷◌, [], refl, arith}
 use Rattle.std.proofs.lemmas.Grind.{common_steps}
 use Rattle.cbs_core.specs.declared.step.Step.TheVariants.{Advance}
 use Rattle.cbs_house.proofs.HouseInvariant.{housed_all, same_shelf}
+use Rattle.cbs_house.proofs.MadeSteps.{made_time}
+use Rattle.cbs_house.proofs.Moves.{step_on_time}
 use Rattle.cbs_house.proofs.house.House.advance.Goals as goal
 
 pub invariant_of-self : goal.invariant_of-self
@@ -29,3 +31,14 @@ returns-in-Err-clause-refused g c = (
 
 pub returns-in-Err-clause-end : goal.returns-in-Err-clause-end
 returns-in-Err-clause-end g c = grind (arith, common_steps)
+
+pub returns-in-Ok-clause-made : goal.returns-in-Ok-clause-made
+returns-in-Ok-clause-made g c =
+    let a = c.advance.ensures in
+    made_time g.W.Work.meaning c.args.self.now _ (Advance c.args.n) (λ s. refl) a.state a.on_time refl (λ s. refl)
+
+pub returns-in-Ok-clause-on_time : goal.returns-in-Ok-clause-on_time
+returns-in-Ok-clause-on_time g c =
+    let old = c.args.self.now in
+    let a = c.advance.ensures in
+    step_on_time g.W.Work.meaning old.core c.advance.new.self (Advance c.args.n) old.housed.history a.state a.on_time

@@ -1,6 +1,6 @@
 use Rattle.std.proofs.Common.{rules}
 use Rattle.cbs_core.specs.Continuations.{MayDrain}
-use Rattle.cbs_house.proofs.Moves.{moves_nothing, moves_both, moves_none, moves_rings, quiet_drain}
+use Rattle.cbs_house.proofs.Moves.{moves_nothing, moves_both, moves_none, moves_rings, moves_on_time}
 use Rattle.cbs_house.proofs.ServedFeeds.{none_held}
 use Rattle.cbs_house.proofs.house.House.drain.Goals as goal
 
@@ -26,8 +26,12 @@ returns-clause-rings g c = moves_rings g.W.Work.meaning (MayDrain g.W.Work.meani
 pub returns-clause-finished : goal.returns-clause-finished
 returns-clause-finished g c = none_held g.W.Work.meaning c.loop-self.self c.loop-self.self.housed (c.is_busy.ensures.none (search rules))
 
-pub returns-then-now-eq-LIMIT-clause-quiet : goal.returns-then-now-eq-LIMIT-clause-quiet
-returns-then-now-eq-LIMIT-clause-quiet g c = quiet_drain g.W.Work.meaning c.args.self.now c.loop-self.self 0 c.loop-self.invariant
+pub returns-then-now-eq-LIMIT-clause-on_time : goal.returns-then-now-eq-LIMIT-clause-on_time
+returns-then-now-eq-LIMIT-clause-on_time g c =
+    let a = c.args.self.now in
+    moves_on_time g.W.Work.meaning (MayDrain g.W.Work.meaning) a c.loop-self.self 0 a.housed.history c.loop-self.invariant
 
-pub returns-clause-quiet : goal.returns-clause-quiet
-returns-clause-quiet g c = quiet_drain g.W.Work.meaning c.args.self.now c.loop-self.self 0 c.loop-self.invariant
+pub returns-clause-on_time : goal.returns-clause-on_time
+returns-clause-on_time g c =
+    let a = c.args.self.now in
+    moves_on_time g.W.Work.meaning (MayDrain g.W.Work.meaning) a c.loop-self.self 0 a.housed.history c.loop-self.invariant

@@ -3,14 +3,14 @@ use Rattle.cbs_core.specs.declared.step.Step.TheVariants.{Run, Advance}
 use Rattle.cbs_core.specs.Continuations.{MayDrain}
 use Rattle.cbs_core.proofs.Laws.{run_later, advance_later, busy_by, later_by}
 use Rattle.cbs_house.proofs.MadeSteps.{on_ok, span_granted}
-use Rattle.cbs_house.proofs.Moves.{moves_step}
+use Rattle.cbs_house.proofs.Moves.{moves_step, drain_quiet}
 use Rattle.cbs_house.proofs.house.House.go_on.Goals as goal
 
 pub returns-in-None-clause-moves : goal.returns-in-None-clause-moves
 returns-in-None-clause-moves g c =
     let work = g.W.Work.meaning in
     let old = c.args.self.now in
-    moves_step work (MayDrain work) old c.run.new.self Run c.run.ensures.made
+    moves_step work (MayDrain work) old c.run.new.self Run (drain_quiet work) c.run.ensures.made
     (λ M agrees. record {
       busy = busy_by work old.core M agrees c.requires.busy;
       early = rw agrees.world.clock at c.requires.early;
@@ -34,7 +34,7 @@ returns-in-Some-clause-moves g c =
     let work = g.W.Work.meaning in
     let old = c.args.self.now in
     let made = on_ok c.advance.result _ (returns-in-Some-clause-succeeds g c) c.advance.ensures.made in
-    moves_step work (MayDrain work) old c.advance.new.self (Advance c.in-Some.span) made
+    moves_step work (MayDrain work) old c.advance.new.self (Advance c.in-Some.span) (drain_quiet work) made
     (λ M agrees. record {
       busy = busy_by work old.core M agrees c.requires.busy;
       early = rw agrees.world.clock at c.requires.early;

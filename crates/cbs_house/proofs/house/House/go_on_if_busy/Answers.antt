@@ -2,7 +2,6 @@ use Rattle.std.proofs.Common.{◌<◌, refl, inl, inr, arith, rules}
 use Rattle.cbs_rules.specs.Rules.{clock_end}
 use Rattle.cbs_core.specs.Held.{HoldsJob}
 use Rattle.cbs_core.proofs.Laws.{busy_by}
-use Rattle.cbs_house.specs.Houses.{core_of}
 use Rattle.cbs_house.proofs.MadeSteps.{on_ok, span_granted}
 use Rattle.cbs_house.proofs.OwnTurns.{numbered}
 use Rattle.cbs_house.proofs.house.House.go_on_if_busy.Goals as goal

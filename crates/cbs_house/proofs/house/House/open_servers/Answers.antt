@@ -1,4 +1,4 @@
-use Rattle.std.proofs.Common.{◌≡◌, ◌<◌, length, sym, ◌∙◌, arith, rules}
+use Rattle.std.proofs.Common.{◌<◌, length, arith, rules}
 use Rattle.cbs_house.proofs.OpenServers.{counted_open, counted_closed}
 use Rattle.cbs_house.proofs.house.House.open_servers.Goals as goal
 use Rattle.cbs_house.proofs.house.House.open_servers.Goals.{then-not-is_closed, else-not-is_closed}

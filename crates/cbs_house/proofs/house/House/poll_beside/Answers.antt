@@ -1,6 +1,7 @@
 use Rattle.std.proofs.Common.{◌<◌, length, refl, subst, sym, ◌∙◌, arith, inl, inr}
 use Rattle.cbs_core.specs.Held.{IsClosed}
 use Rattle.cbs_house.proofs.Beside.{Shown, shown, all_taken, nothing_polled, none_shown, polled_behind, nothing_seen, closed_polled}
+use Rattle.cbs_house.proofs.Moves.{polled_on_time}
 use Rattle.cbs_house.proofs.RingLooks.{opened_within}
 use Rattle.cbs_house.specs.Clients.{server_of, sent_by}
 use Rattle.cbs_house.specs.Houses.{core_of, rings_of, known, Polled}
@@ -52,3 +53,8 @@ returns-clause-polled g c =
     let p = c.poll in
     let polled = subst (λ x. Polled g.W.Work.meaning s.new.self x p.result p.new.self) (c.server.ensures ∙ s.ensures.client.0.0) p.ensures.polled in
     polled_behind g.W.Work.meaning c.args.self.now s.new.self p.new.self (server_of c.args.client.now) p.result s.ensures.looked polled
+
+pub returns-clause-on_time : goal.returns-clause-on_time
+returns-clause-on_time g c =
+    let a = c.args.self.now in
+    polled_on_time g.W.Work.meaning a c.poll.new.self (server_of c.args.client.now) c.poll.result a.housed.history (returns-clause-polled g c)

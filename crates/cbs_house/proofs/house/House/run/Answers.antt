@@ -3,6 +3,7 @@ use Rattle.cbs_core.specs.declared.step.Step.TheVariants.{Run}
 use Rattle.cbs_core.specs.declared.reply.Ran.TheVariants as ran
 use Rattle.cbs_house.proofs.HouseInvariant.{housed_one, housed_ran, keeps_done, finished_next}
 use Rattle.cbs_house.proofs.MadeSteps.{made_time, collects_none}
+use Rattle.cbs_house.proofs.Moves.{step_on_time}
 use Rattle.cbs_house.proofs.NamedJobs.{names}
 use Rattle.cbs_house.proofs.house.House.run.Goals as goal
 
@@ -22,10 +23,12 @@ returns-in_default g c =
     let old = c.args.self.now in
     let r = c.run-ran.ensures in
     let kept = collects_none work c.run-ran.result old _ c.in_default.not-Done (λ s. refl) in
+    let made = made_time work old _ Run (λ s. refl) r.state r.on_time refl (λ s. refl) in
     record {
       reply = r.reply;
       rings = refl;
-      made = made_time work old _ Run (λ s. refl) r.state refl (λ s. refl);
+      made = made;
+      on_time = step_on_time work old.core c.run-ran.new.self Run old.housed.history r.state r.on_time (λ M agrees. tt);
       collects = kept;
       job = names old _ c.run-ran.result r.job kept;
     }
@@ -53,3 +56,9 @@ take_expected-requires g c =
 
 pub returns-in-Done-clause-job : goal.returns-in-Done-clause-job
 returns-in-Done-clause-job g c = names c.args.self.now _ (ran.Done c.in-Done.done) c.in-Done.ensures.job (c.take_expected.ensures.taken.results, λ s ne. (c.take_expected.ensures.others.0 s ne).results)
+
+pub returns-in-Done-clause-on_time : goal.returns-in-Done-clause-on_time
+returns-in-Done-clause-on_time g c =
+    let old = c.args.self.now in
+    let r = c.in-Done.ensures in
+    step_on_time g.W.Work.meaning old.core c.run-ran.new.self Run old.housed.history r.state r.on_time (λ M agrees. tt)

@@ -1,11 +1,18 @@
-use Rattle.std.proofs.Common.{◌≡◌, ◌+◌, ◌-◌, ◌*◌}
-use Rattle.cbs_rules.specs.Rules.{clock_end}
+use Rattle.std.proofs.Common.{◌+◌, ◌-◌, ◌*◌, ◌≤◌, ◌<◌}
+use Rattle.cbs_core.specs.Held.{HoldsNoJob}
 use Rattle.cbs_house.specs.Houses.{core_of}
-use Rattle.cbs_house.specs.Running.{open_servers, RunsTelling}
+use Rattle.cbs_house.specs.Running.{RunsOn, RunsTelling}
+use Rattle.cbs_house.proofs.Runs.{left_of}
 use Rattle.cbs_house.proofs.house.House.run_until_closed.Given as goal
 
-abbrev pub invariant-loop-self : goal.invariant-loop-self
-invariant-loop-self g l = RunsTelling g.W.Work.meaning g.S.Sink.hears l.initial.self l.self l.initial.sink l.sink
+abbrev pub invariant-turns : goal.invariant-turns
+invariant-turns g l =
+    record {
+      run : RunsTelling g.W.Work.meaning g.S.Sink.hears l.initial.self l.self l.initial.sink l.sink;
+      on : RunsOn g.W.Work.meaning l.most l.initial.self l.self l.idle;
+      within : l.idle ≤ l.most;
+      idle : 0 < l.idle → HoldsNoJob (core_of l.self);
+    }
 
-abbrev pub decreases-loop-self : goal.decreases-loop-self
-decreases-loop-self g l = (clock_end - (core_of l.self).clock) * 65 + open_servers (core_of l.self)
+abbrev pub decreases-turns : goal.decreases-turns
+decreases-turns g l = left_of (core_of l.self) * (l.most + 1) + (l.most - l.idle)

@@ -1,4 +1,5 @@
-use Rattle.cbs_house.proofs.OwnTurns.{collects_behind, numbered_behind, polls_quiet}
+use Rattle.cbs_house.proofs.Moves.{serves_on_time}
+use Rattle.cbs_house.proofs.OwnTurns.{collects_behind, numbered_behind, polls_serve}
 use Rattle.cbs_house.proofs.house.House.turn.Goals as goal
 
 pub returns-clause-collects : goal.returns-clause-collects
@@ -13,8 +14,13 @@ returns-clause-numbered g c =
     let o = c.go_on_if_busy-ran in
     numbered_behind o.result.0 c.args.self.now p.new.house p.ensures.results p.ensures.polled.made.handed o.ensures.numbered
 
-pub returns-clause-quiet : goal.returns-clause-quiet
-returns-clause-quiet g c =
+pub returns-clause-steps : goal.returns-clause-steps
+returns-clause-steps g c =
     let p = c.poll_each-polls in
     let o = c.go_on_if_busy-ran in
-    polls_quiet g.W.Work.meaning c.args.self.now p.new.house o.new.self _ p.result.took o.result.1 p.result.out_of_memory o.result.0 p.ensures.polled o.ensures.goes_on
+    polls_serve g.W.Work.meaning c.args.self.now p.new.house o.new.self _ p.result.took o.result.1 p.result.out_of_memory o.result.0 p.ensures.polled o.ensures.goes_on
+
+pub returns-clause-on_time : goal.returns-clause-on_time
+returns-clause-on_time g c =
+    let a = c.args.self.now in
+    serves_on_time g.W.Work.meaning a c.go_on_if_busy-ran.new.self a.housed.history (returns-clause-steps g c)

@@ -1,0 +1,109 @@
+//! Clients and houses that are freed, and servers that are not there.
+
+use super::{NO_VIEW, is, opened, polls, same, sends, waits};
+use crate::View;
+use crate::client::{cbs_end, cbs_send};
+use crate::handles::cbs_free;
+use crate::house::{cbs_poll, cbs_promised, cbs_view};
+use cbs_embed::Kept;
+use std::alloc::Global;
+use std::process::Abort;
+
+const HOUSE_GONE: u32 = 0x605;
+
+const NO_SUCH_SERVER: u32 = 0x304;
+
+/// A send is refused by this status, and writes no number.
+fn refuses_send(rt: &impl Abort, alloc: Global, client: &mut Kept, units: u32, status: u32) {
+    let mut seq = 9;
+    is(rt, cbs_send(alloc, client, 1, units, &mut seq), status);
+    same(rt, "number", seq, 9);
+}
+
+#[test]
+fn a_freed_client_closes_its_server(rt: HostRuntime) {
+    let alloc = rt.alloc();
+    let (mut house, mut soft, mut throttled) = opened(&rt, alloc, 1);
+    sends(&rt, alloc, &mut soft, 7, 1, 0);
+    refuses_send(&rt, alloc, &mut soft, 1, 0x502);
+    cbs_free(alloc, &mut soft);
+    polls(&rt, alloc, &mut house, 0, 1);
+    polls(&rt, alloc, &mut house, 0, 2);
+    polls(&rt, alloc, &mut house, 0, 0);
+    let mut view = NO_VIEW;
+    is(&rt, cbs_view(alloc, &mut house, 0, &mut view), 0);
+    same(&rt, "view", (view.accepted, view.closed), (1, true));
+    // The other one has ended before.
+    is(&rt, cbs_end(alloc, &mut throttled), 0);
+    cbs_free(alloc, &mut throttled);
+    polls(&rt, alloc, &mut house, 1, 2);
+    polls(&rt, alloc, &mut house, 1, 0);
+    cbs_free(alloc, &mut house);
+}
+
+#[test]
+fn a_client_of_a_freed_house_is_refused(rt: HostRuntime) {
+    let alloc = rt.alloc();
+    let (mut house, mut soft, mut throttled) = opened(&rt, alloc, 1);
+    sends(&rt, alloc, &mut soft, 7, 1, 0);
+    is(&rt, cbs_end(alloc, &mut throttled), 0);
+    cbs_free(alloc, &mut house);
+    refuses_send(&rt, alloc, &mut soft, 0, 0x401);
+    // At a full ring, and after an end.
+    refuses_send(&rt, alloc, &mut soft, 1, HOUSE_GONE);
+    is(&rt, cbs_end(alloc, &mut soft), HOUSE_GONE);
+    waits(&rt, alloc, &mut soft, 1);
+    refuses_send(&rt, alloc, &mut throttled, 1, HOUSE_GONE);
+    is(&rt, cbs_end(alloc, &mut throttled), HOUSE_GONE);
+    cbs_free(alloc, &mut soft);
+    cbs_free(alloc, &mut throttled);
+}
+
+#[test]
+fn a_client_sees_what_was_taken(rt: HostRuntime) {
+    let alloc = rt.alloc();
+    let (mut house, mut soft, mut throttled) = opened(&rt, alloc, 4);
+    sends(&rt, alloc, &mut soft, 7, 1, 0);
+    sends(&rt, alloc, &mut soft, 8, 1, 1);
+    waits(&rt, alloc, &mut soft, 2);
+    polls(&rt, alloc, &mut house, 0, 1);
+    waits(&rt, alloc, &mut soft, 1);
+    polls(&rt, alloc, &mut house, 0, 1);
+    waits(&rt, alloc, &mut soft, 0);
+    waits(&rt, alloc, &mut throttled, 0);
+}
+
+/// The house has no server of this number, and each call says so and writes nothing.
+fn knows_no_server(rt: &impl Abort, alloc: Global, house: &mut Kept, server: u16) {
+    let mut kind = 9;
+    is(
+        rt,
+        cbs_poll(alloc, house, server, &mut kind),
+        NO_SUCH_SERVER,
+    );
+    same(rt, "kind", kind, 9);
+    let mut view = NO_VIEW;
+    is(
+        rt,
+        cbs_view(alloc, house, server, &mut view),
+        NO_SUCH_SERVER,
+    );
+    same(rt, "view", view, NO_VIEW);
+    let (mut lower, mut upper) = (8, 9);
+    let status = cbs_promised(alloc, house, server, &mut lower, &mut upper);
+    is(rt, status, NO_SUCH_SERVER);
+    same(rt, "promised", (lower, upper), (8, 9));
+}
+
+#[test]
+fn a_server_that_is_not_there_is_refused(rt: HostRuntime) {
+    let alloc = rt.alloc();
+    let (mut house, mut soft, mut throttled) = opened(&rt, alloc, 1);
+    sends(&rt, alloc, &mut soft, 7, 1, 0);
+    for server in [2, 63, 64, 65535] {
+        knows_no_server(&rt, alloc, &mut house, server);
+    }
+    polls(&rt, alloc, &mut house, 0, 1);
+    polls(&rt, alloc, &mut house, 1, 0);
+    cbs_free(alloc, &mut throttled);
+}

@@ -1,0 +1,69 @@
+//! A house of as many servers as there may be.
+
+use super::{event, is, sends, turns};
+use crate::handles::{cbs_greatest_budget, cbs_open};
+use cbs_embed::{Kept, Server};
+use std::alloc::Global;
+use std::process::Abort;
+
+/// One tick in every 64: 64 of these take the whole processor.
+const NARROW: Server = Server {
+    budget: 1,
+    period: 64,
+    mode: 0,
+};
+
+/// So many handles that are not open.
+fn handles(rt: &impl Abort, alloc: Global, count: usize) -> Vec<Kept> {
+    let mut all = Vec::new(alloc);
+    for _handle in 0..count {
+        all.push(Kept::shut(alloc)).ok().expect(rt, "memory");
+    }
+    all
+}
+
+/// Each client sends a job of one unit, whose token is the place of the client.
+fn sends_each(rt: &impl Abort, alloc: Global, clients: &mut [Kept]) {
+    for (place, client) in clients.iter_mut().enumerate() {
+        sends(rt, alloc, client, place as u64, 1, 0);
+    }
+}
+
+#[test]
+fn a_house_of_64_servers_serves_each(rt: HostRuntime) {
+    let alloc = rt.alloc();
+    let mut house = Kept::shut(alloc);
+    let mut clients = handles(&rt, alloc, 64);
+    let status = cbs_open(alloc, &[NARROW; 64], 1, 1, &mut house, &mut clients);
+    is(&rt, status, 0);
+    sends_each(&rt, alloc, &mut clients);
+    // The first turn takes all jobs. All deadlines are 64, so the lowest number is first.
+    turns(&rt, alloc, &mut house, 64, 0, event(3, 0, 0, 0));
+    for server in 1..64 {
+        turns(
+            &rt,
+            alloc,
+            &mut house,
+            0,
+            0,
+            event(3, server, 0, u64::from(server)),
+        );
+    }
+    turns(&rt, alloc, &mut house, 0, 0, event(0, 0, 0, 0));
+}
+
+#[test]
+fn no_house_has_65_servers(rt: HostRuntime) {
+    let alloc = rt.alloc();
+    let mut house = Kept::shut(alloc);
+    let mut clients = handles(&rt, alloc, 65);
+    let narrow = Server {
+        period: 65,
+        ..NARROW
+    };
+    let status = cbs_open(alloc, &[narrow; 65], 1, 1, &mut house, &mut clients);
+    is(&rt, status, 0x201);
+    let mut budget = 9;
+    is(&rt, cbs_greatest_budget(&[narrow; 64], 65, &mut budget), 0);
+    is(&rt, budget as u32, 0);
+}

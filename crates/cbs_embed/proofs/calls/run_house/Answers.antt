@@ -1,0 +1,15 @@
+use Rattle.cbs_embed.proofs.Drops.{drops_on_time}
+use Rattle.cbs_embed.proofs.calls.run_house.Goals as goal
+
+pub returns : goal.returns
+returns c =
+    let r = c.run-ran in
+    record {
+      between = r.new.self;
+      reply = r.ensures.reply;
+      made = r.ensures.made;
+      collects = r.ensures.collects;
+      named = c.token_of-token.ensures;
+      drops = c.forget.ensures;
+      on_time = λ on. drops_on_time r.result r.new.self c.forget.new.house c.forget.ensures (r.ensures.on_time on);
+    }

@@ -1,0 +1,17 @@
+use Rattle.cbs_embed.proofs.Drops.{drops_on_time}
+use Rattle.cbs_embed.proofs.calls.turn_house.Goals as goal
+
+pub returns : goal.returns
+returns c =
+    let t = c.turn-turn in
+    record {
+      between = t.new.self;
+      turn = t.ensures.turn;
+      steps = t.ensures.steps;
+      few = t.ensures.few;
+      collects = t.ensures.collects;
+      numbered = t.ensures.numbered;
+      named = c.token_of-token.ensures;
+      drops = c.forget.ensures;
+      on_time = λ on. drops_on_time t.result.ran t.new.self c.forget.new.house c.forget.ensures (t.ensures.on_time on);
+    }

@@ -1,0 +1,57 @@
+//! Callers that use a promise of a house that took turns. What the contracts say is enough.
+
+ghost use Rattle.std.specs.Prelude.{◌≡◌, Some, IfOk, IfSome, length};
+ghost use Rattle.cbs_core.specs.Agreement.{Agrees};
+ghost use Rattle.cbs_core.specs.History.{History};
+ghost use Rattle.cbs_core.specs.Promised.{AllFinishedBy};
+ghost use Rattle.cbs_house.specs.Houses.{core_of};
+ghost use Rattle.cbs_embed.specs.Calls.{TheHouse};
+ghost use Rattle.cbs_embed.specs.Jobs.{counting};
+ghost use Rattle.cbs_embed.specs.Kepts.{held_by};
+ghost use Rattle.cbs_embed.specs.declared.inside.Inside.TheVariants as inside;
+ghost use Rattle.cbs_embed.specs.declared.job.UnitJob as job;
+
+use cbs_embed::{Kept, Refusal, Server, calls, open};
+use cbs_house::{House, HouseError, open_house};
+use cbs_job::Work;
+use cbs_rate::Plan;
+use cbs_rules::Modes;
+use std::alloc::Global;
+
+/// Opens a house, which takes so many turns. Returns it with the tick by which all that server 0 then has is
+/// finished, if it has a job.
+pub fn promised_after_turns<W: Work>(
+    alloc: Global,
+    plan: Plan,
+    modes: Modes,
+    turns: u64,
+) -> Result<(House<W>, Option<u128>), HouseError>
+    requires { length modes ≡ length plan.rates }
+    ensures { IfOk result (λ r. IfSome r.1 (λ tick. (M : History W) → Agrees W.meaning (core_of r.0) M → AllFinishedBy W.meaning M 0 tick)) }
+{
+    let (mut house, _clients) = open_house(alloc, plan, modes, 4, 4)?;
+    for _ in 0..turns {
+        house.turn();
+    }
+    let tick = house.promised(0);
+    Ok((house, tick))
+}
+
+/// Opens a house behind a handle, which takes so many turns. Returns the tick by which all that server 0 then
+/// has is finished, if it has a job.
+pub fn told_after_turns(
+    alloc: Global,
+    servers: &[Server],
+    house: &mut Kept,
+    clients: &mut [Kept],
+    turns: u64,
+) -> Result<Option<u128>, Refusal>
+    ensures { IfOk result (λ told. (h : TheHouse) → held_by house.new ≡ Some (inside.House h)
+        → IfSome told (λ tick. (M : History job.UnitJob) → Agrees counting (core_of h) M → AllFinishedBy counting M 0 tick)) }
+{
+    open(alloc, servers, 4, 4, house, clients)?;
+    for _ in 0..turns {
+        calls::turn(alloc, house)?;
+    }
+    calls::promised(alloc, house, 0)
+}

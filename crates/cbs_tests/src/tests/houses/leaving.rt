@@ -1,0 +1,235 @@
+//! Clients and houses that go away.
+
+ghost use Rattle.std.specs.Thread.{IsSync};
+
+use super::calls::gave;
+use super::closing::{two_clients, unit_of};
+use super::polling::one_client;
+use super::rows::{Opened, Row, does_all};
+use super::{same, sum_of, sums_of};
+use cbs_core::ServerView;
+use cbs_house::{Client, Feed, House, HouseError, NoSink, Poll, SendError};
+use cbs_job::SumJob;
+use cbs_rules::Mode;
+use std::alloc::Global;
+use std::process::Abort;
+use std::thread::{Threads, join_mut, sleep};
+use std::time::{Clock, Duration};
+
+/// A client that is dropped: what it and its house did before, and what the house does after.
+#[derive(Clone, Copy)]
+struct Leaving {
+    name: &'static str,
+    mode: Mode,
+    /// How many places the ring has.
+    ring: u64,
+    before: &'static [Row],
+    after: &'static [Row],
+}
+
+/// What a server shows that was closed with no job.
+const UNUSED: ServerView = ServerView {
+    budget: 0,
+    deadline: 0,
+    throttled: false,
+    closed: true,
+    accepted: 0,
+    finished: 0,
+};
+
+/// The only end is taken, and the results are kept.
+const CLOSED_WITH_5_AND_7: [Row; 6] = [
+    Row::Poll(0, Poll::Took(0)),
+    Row::Poll(0, Poll::Took(1)),
+    Row::Poll(0, Poll::Closed),
+    Row::Poll(0, Poll::Nothing),
+    Row::Drain(Ok(())),
+    Row::Results(0, Ok(&[5, 7])),
+];
+
+const CASES: [Leaving; 6] = [
+    Leaving {
+        name: "the server of a dropped client closes after all that the client sent",
+        mode: Mode::Soft,
+        ring: 4,
+        before: &[Row::Send(&[5], 0), Row::Send(&[7], 1)],
+        after: &CLOSED_WITH_5_AND_7,
+    },
+    Leaving {
+        name: "a client that is dropped at a full ring ends",
+        mode: Mode::Throttled,
+        ring: 2,
+        before: &[
+            Row::Free(2),
+            Row::Send(&[5], 0),
+            Row::Send(&[7], 1),
+            Row::Free(0),
+            Row::Waiting(2),
+            Row::Refused(9, SendError::RingFull),
+            Row::End(Err(SendError::RingFull)),
+            Row::Settle(2),
+        ],
+        after: &CLOSED_WITH_5_AND_7,
+    },
+    Leaving {
+        name: "a client that ended in the last slot is dropped",
+        mode: Mode::Soft,
+        ring: 3,
+        before: &[
+            Row::Send(&[5], 0),
+            Row::Send(&[7], 1),
+            Row::End(Ok(())),
+            Row::Free(0),
+            Row::Waiting(3),
+            Row::Settle(3),
+        ],
+        after: &CLOSED_WITH_5_AND_7,
+    },
+    Leaving {
+        name: "a client that sent nothing is dropped",
+        mode: Mode::Soft,
+        ring: 1,
+        before: &[Row::Waiting(0), Row::HouseIsGone(false)],
+        after: &[
+            Row::Turn(1, 0),
+            Row::View(0, Ok(UNUSED)),
+            Row::Poll(0, Poll::Nothing),
+            Row::Turn(0, 0),
+            Row::Now(0),
+        ],
+    },
+    Leaving {
+        name: "a client that has filled its ring twice is dropped",
+        mode: Mode::Soft,
+        ring: 1,
+        before: &[
+            Row::Send(&[5], 0),
+            Row::Refused(7, SendError::RingFull),
+            Row::Poll(0, Poll::Took(0)),
+            Row::HouseIsGone(false),
+            Row::Waiting(0),
+            Row::Free(1),
+            Row::Send(&[7], 1),
+            Row::Waiting(1),
+            Row::Free(0),
+        ],
+        after: &[
+            Row::Poll(0, Poll::Took(1)),
+            Row::Poll(0, Poll::Closed),
+            Row::Drain(Ok(())),
+            Row::Results(0, Ok(&[5, 7])),
+        ],
+    },
+    Leaving {
+        name: "a client whose server is closed already is dropped",
+        mode: Mode::Soft,
+        ring: 1,
+        before: &[Row::End(Ok(())), Row::Poll(0, Poll::Closed), Row::Free(1)],
+        after: &[
+            Row::Poll(0, Poll::Nothing),
+            Row::Turn(0, 0),
+            Row::View(0, Ok(UNUSED)),
+        ],
+    },
+];
+
+#[test]
+fn each_dropped_client_ends_once(rt: HostRuntime) {
+    let alloc = rt.alloc();
+    for case in &CASES {
+        let mut opened = Opened::new(&rt, alloc, case.mode, (2, 5), (4, case.ring));
+        opened.plays(&rt, alloc, case.name, case.before);
+        let mut house = opened.without_client();
+        does_all(&rt, case.name, &mut house, case.after);
+    }
+}
+
+#[test]
+fn a_dropped_feed_ends_with_jobs_unsent(rt: HostRuntime) {
+    let alloc = rt.alloc();
+    let (mut house, mut client) = one_client(&rt, alloc, Mode::Soft, (2, 5), (4, 4));
+    sends_5(&rt, alloc, &mut client);
+    drop(Feed::new(client, sums_of(&rt, alloc, &[&[7], &[9]])));
+    let rows = [
+        Row::Poll(0, Poll::Took(0)),
+        Row::Poll(0, Poll::Closed),
+        Row::Drain(Ok(())),
+        Row::Results(0, Ok(&[5])),
+    ];
+    does_all(&rt, "a dropped feed", &mut house, &rows);
+}
+
+/// Sends a job of one unit, as the client's first.
+fn sends_5(rt: &impl Abort, alloc: Global, client: &mut Client<SumJob>) {
+    let number = client.send(sum_of(rt, alloc, &[5])).ok();
+    same(rt, "send", number, Some(0));
+}
+
+/// Looks whether the client's house is gone, how many jobs the client sent, and how many slots are free.
+fn sees(rt: &impl Abort, client: &mut Client<SumJob>, gone: bool, sent: u64, free: u64) {
+    let seen = (client.house_is_gone(), client.sent(), client.free());
+    same(rt, "gone, sent, free", seen, (gone, sent, free));
+}
+
+#[test]
+fn a_client_sees_that_its_house_is_gone(rt: HostRuntime) {
+    let alloc = rt.alloc();
+    let (house, mut client) = one_client(&rt, alloc, Mode::Soft, (2, 5), (4, 2));
+    sees(&rt, &mut client, false, 0, 2);
+    sends_5(&rt, alloc, &mut client);
+    sees(&rt, &mut client, false, 1, 1);
+    drop(house);
+    sees(&rt, &mut client, true, 1, 1);
+    same(&rt, "end", client.end(), Ok(()));
+    sees(&rt, &mut client, true, 1, 0);
+    same(&rt, "end", client.end(), Err(SendError::Ended));
+}
+
+/// The house and its clients at once: the clients go away, one after the other, when the house has long been running.
+fn runs_until_all_left<R: Threads + Clock + Sync + Abort>(
+    rt: &R,
+    alloc: Global,
+    house: &mut House<SumJob>,
+    clients: &mut Vec<Client<SumJob>>,
+) {
+    let (sent, run) = join_mut(
+        rt,
+        &mut || -> bool
+            requires { IsSync R.row }
+        {
+            sleep(rt, Duration::from_micros(20_000));
+            sends_and_leaves(alloc, clients)
+        },
+        &mut || -> Result<(), HouseError> { house.run_until_closed(rt, &mut NoSink, 1_000_000) },
+    );
+    assert!(rt; sent);
+    same(rt, "run_until_closed", run, Ok(()));
+}
+
+/// Each client fills its ring and is dropped. Whether all jobs were sent.
+fn sends_and_leaves(alloc: Global, clients: &mut Vec<Client<SumJob>>) -> bool {
+    let mut all_sent = true;
+    while let Some(mut client) = clients.pop() {
+        all_sent &= sends_unit(alloc, &mut client, 5) && sends_unit(alloc, &mut client, 7);
+    }
+    all_sent
+}
+
+/// Sends a job of one unit. Whether it was sent.
+fn sends_unit(alloc: Global, client: &mut Client<SumJob>, number: u32) -> bool {
+    match unit_of(alloc, number) {
+        Some(task) => client.send(task).is_ok(),
+        None => false,
+    }
+}
+
+#[test]
+fn a_house_closes_when_its_clients_leave(rt: HostRuntime) {
+    let alloc = rt.alloc();
+    for mode in [Mode::Soft, Mode::Throttled] {
+        let (mut house, mut clients) = two_clients(&rt, alloc, mode);
+        runs_until_all_left(&rt, alloc, &mut house, &mut clients);
+        gave(&rt, &house, 0, &[5, 7]);
+        gave(&rt, &house, 1, &[5, 7]);
+    }
+}
