@@ -8,7 +8,7 @@ use super::setup::{BACKLOG, plan_of};
 use super::timing::Timing;
 use crate::setup::fed;
 use anyhow::{Context, Result, ensure};
-use cbs_house::{Feed, House, OpenGate, Poll, open_house, serve};
+use cbs_house::{Client, Feed, House, OpenGate, Poll, open_house, serve};
 use cbs_job::Task;
 use cbs_rules::{Mode, Modes};
 use std::alloc::Global;
@@ -17,7 +17,7 @@ use std::time::{Clock, Instant};
 
 /// Polls of empty rings, of all servers in turn.
 pub fn polls(rt: &impl Clock, alloc: Global, servers: u16, polls: u64) -> Result<Timing> {
-    let mut house = idle_house(alloc, servers)?;
+    let (mut house, _clients) = idle_house(alloc, servers)?;
     time_polls(rt, &mut house, polls / u64::from(servers.max(1)))
 }
 
@@ -29,12 +29,11 @@ fn time_polls(rt: &impl Clock, house: &mut House<CountJob>, turns: u64) -> Resul
     Timing::since(rt, start, made)
 }
 
-/// A house whose clients are gone.
-fn idle_house(alloc: Global, servers: u16) -> Result<House<CountJob>> {
+/// A house, and its clients, which send nothing.
+fn idle_house(alloc: Global, servers: u16) -> Result<(House<CountJob>, Vec<Client<CountJob>>)> {
     let plan = plan_of(servers, 1)?;
     let modes = Modes::uniform(Mode::Soft, plan.len() as u16);
-    let (house, _clients) = open_house(alloc, plan, modes, BACKLOG, 64)?;
-    Ok(house)
+    Ok(open_house(alloc, plan, modes, BACKLOG, 64)?)
 }
 
 /// So many turns of polls.
