@@ -1,9 +1,9 @@
 -- What C sees of the answers of a house.
 use Rattle.std.specs.Prelude.{ℕ, ◌-◌, ◌%◌, ◌/◌, ◌^◌, Option}
 use Rattle.std.specs.Option.{unwrap_or}
-use Rattle.cbs_core.specs.declared.reply.Ran.{Ran}
-use Rattle.cbs_core.specs.declared.reply.Ran.TheVariants.{Idle, ClockEnd, Unit, Done}
-use Rattle.cbs_core.specs.declared.view.ServerView.{ServerView}
+use Rattle.cbs_steps.specs.declared.reply.Ran.{Ran}
+use Rattle.cbs_steps.specs.declared.reply.Ran.TheVariants.{Idle, ClockEnd, Unit, Done}
+use Rattle.cbs_steps.specs.declared.view.ServerView.{ServerView}
 use Rattle.cbs_house.specs.declared.poll.Poll.{Poll}
 use Rattle.cbs_house.specs.declared.poll.Poll.TheVariants as poll
 use Rattle.cbs_embed.specs.declared.calls.Ticked.{Ticked}

@@ -1,32 +1,37 @@
 -- What agreement with a history becomes, through each step.
-use Rattle.std.proofs.Common.{◌≡◌, ℕ, zero, suc, ◌+◌, ◌-◌, ◌≤◌, ◌<◌, List, [], ◌∷◌, ◌++◌, length, map, replicate, refl, ap, sym, ◌∙◌, arith, true, false, Bool, leb, ltb, cond, is_some, Option, Some, None}
+use Rattle.std.proofs.Common.{◌≡◌, ℕ, ◌+◌, ◌-◌, ◌≤◌, ◌<◌, List, [], ◌∷◌, ◌++◌, length, map, replicate, refl, ap, sym, ◌∙◌, arith, true, false, Bool, leb, ltb, cond, is_some, Option, Some, None}
 use Rattle.std.proofs.lemmas.Bool.Decides.{nat_tests}
 use Rattle.std.proofs.lemmas.List.{length-map, get_or_past}
 use Rattle.std.proofs.lemmas.Simd.{map-map}
 use Rattle.std.specs.List.{sum_by}
 use Rattle.cbs_job.specs.Work.{Meaning, Lowers}
 use Rattle.cbs_rules.specs.Rules.{clock_end, Terms}
-use Rattle.cbs_rules.proofs.Replenishments.{replenished_twice}
-use Rattle.cbs_core.specs.Lists.{changed_at}
-use Rattle.cbs_core.specs.Choice.{chosen_among}
-use Rattle.cbs_core.specs.Faces.{Face, new_face, face_at, ranks, submit_refusal, close_refusal, with_job, with_unit, with_replenishment, with_close}
-use Rattle.cbs_core.specs.Accounts.{Account, face_of, new_account, no_account, account_with_job, account_with_unit, account_with_replenishment, account_with_close}
-use Rattle.cbs_core.specs.History.{World, History, ◌⊕◌, account, faces, chosen, tick, ticks, start, after_submit, after_run, after_closing, world_after, run_reply, submit_reply, close_reply, reply_in}
+use Rattle.cbs_lists.specs.Lists.{changed_at}
+use Rattle.cbs_steps.specs.Choice.{chosen_among}
+use Rattle.cbs_steps.specs.Faces.{Face, new_face, face_at, ranks, submit_refusal, close_refusal, with_job, with_unit, with_replenishment, with_close}
+use Rattle.cbs_steps.specs.Accounts.{face_of, new_account, no_account, account_with_job, account_with_unit, account_with_replenishment, account_with_close}
+use Rattle.cbs_steps.specs.History.{World, History, ◌⊕◌, account, faces, chosen, start, after_submit, after_run, after_closing, world_after, run_reply, submit_reply, close_reply, reply_in}
 use Rattle.cbs_core.specs.Agreement.{AgreesJobs, AgreesWorld, Agrees}
-use Rattle.cbs_core.specs.Promised.{promised_by, promised}
-use Rattle.cbs_core.specs.Replies.{IsAccepted}
+use Rattle.cbs_steps.specs.Promises.{promised_by, promised}
+use Rattle.cbs_steps.specs.Replies.{IsAccepted}
 use Rattle.cbs_core.specs.Held.{CoreHeld}
-use Rattle.cbs_core.specs.Queues.{list_at, jobs_run, result_run, ran_of}
-use Rattle.cbs_core.specs.declared.error.CoreError.{CoreError}
-use Rattle.cbs_core.specs.declared.reply.Ran.{Ran}
-use Rattle.cbs_core.specs.declared.reply.Ran.TheVariants as ran
-use Rattle.cbs_core.specs.declared.reply.Reply.TheVariants as reply
-use Rattle.cbs_core.specs.declared.step.Step.TheVariants.{Submit, Run, Advance, Close}
+use Rattle.cbs_queues.specs.Queues.{list_at, jobs_run, result_run}
+use Rattle.cbs_core.specs.Held.{ran_of}
+use Rattle.cbs_steps.specs.declared.error.CoreError.{CoreError}
+use Rattle.cbs_steps.specs.declared.reply.Ran.{Ran}
+use Rattle.cbs_steps.specs.declared.reply.Ran.TheVariants as ran
+use Rattle.cbs_steps.specs.declared.reply.Reply.TheVariants as reply
+use Rattle.cbs_steps.specs.declared.step.Step.TheVariants.{Submit, Run, Advance, Close}
 use Rattle.cbs_core.proofs.Cores.{MayRun}
-use Rattle.cbs_core.proofs.Histories.{account_face}
-use Rattle.cbs_core.proofs.PaidUnits.{paid_after}
-use Rattle.cbs_core.proofs.Lists.{map-changed_at, AllZip-length, AllZip-get, AllZip-map, AllZip-replicate, AllZip-changed_at, AllZip-changed_second}
+use Rattle.cbs_steps.proofs.Histories.{account_face}
+use Rattle.cbs_steps.proofs.PaidUnits.{paid_after}
+use Rattle.cbs_lists.proofs.Lists.{map-changed_at, AllZip-length, AllZip-get, AllZip-map, AllZip-replicate, AllZip-changed_at, AllZip-changed_second}
 use Rattle.cbs_core.proofs.HeldJobs.{owed_jobs, unit_jobs, unit_face, unit_ran, job_jobs, job_face}
+use Rattle.cbs_steps.proofs.StepLists.{grown_by-push}
+use Rattle.cbs_steps.proofs.Ticks.{replenished_faces, ticks_none, ticks_some}
+use Rattle.cbs_steps.specs.Replies.{grown, grown_by, AnswersAll}
+use Rattle.cbs_steps.specs.declared.step.Step.{Step}
+use Rattle.cbs_steps.specs.declared.reply.Reply.{Reply}
 
 -- a choice between two that are the same is that one, whichever way it goes
 cond_same : {X : Type 0} {x : X} (b : Bool) → cond b x x ≡ x
@@ -34,12 +39,6 @@ cond_same true = refl
 cond_same false = refl
 
 module _ {W : Type 0} (work : Meaning W) where
-  -- what is shown of replenished servers
-  pub replenished_faces : (now : ℕ) (accounts : List (Account W)) → map (face_of work) (map (account_with_replenishment now) accounts) ≡ map (with_replenishment now) (map (face_of work) accounts)
-  replenished_faces now accounts =
-      map-map (face_of work) (account_with_replenishment now) accounts
-      ∙ sym (map-map (with_replenishment now) (face_of work) accounts)
-
   -- a new core agrees with the start
   new_faces : (terms : List Terms) → map new_face terms ≡ map (face_of work) (map new_account terms)
   new_faces terms = sym (map-map (face_of work) new_account terms)
@@ -56,34 +55,11 @@ module _ {W : Type 0} (work : Meaning W) where
         rw (empty, size) none;
   }
 
--- n ticks are one jump
-module _ {W : Type 0} where
-  -- a replenishment of all at tick k and then at tick m, no earlier, leaves what the one at m alone leaves
-  all_twice : (k m : ℕ) (accounts : List (Account W)) → k ≤ m → map (account_with_replenishment m) (map (account_with_replenishment k) accounts) ≡ map (account_with_replenishment m) accounts
-  all_twice k m [] h = refl
-  all_twice k m (a ∷ accounts) h = rw (replenished_twice a.terms.reservation k m a.state h, all_twice k m accounts h)
-
-  -- the world after a jump by n ticks
-  abbrev pub jumped : ℕ → World W → World W
-  jumped n w = record { now = w.now + n; accounts = map (account_with_replenishment (w.now + n)) w.accounts }
-
-  -- n + 1 ticks are one jump by n + 1
-  ticks_jump : (n : ℕ) (w : World W) → ticks (suc n) w ≡ jumped (suc n) w
-  unfolding ticks
-  ticks_jump zero w = refl
-  ticks_jump (suc n) w =
-      let e : w.now + 1 + suc n ≡ w.now + suc (suc n) = omega arith in
-      ticks_jump n (tick w) ∙ rw (all_twice (w.now + 1) (w.now + 1 + suc n) w.accounts (omega arith), e)
-
-  -- no ticks leave the world as it is
-  pub ticks_none : (w : World W) → ticks zero w ≡ w
-  unfolding ticks
-  ticks_none w = refl
-
-  -- some ticks are one jump
-  pub ticks_some : (n : ℕ) (w : World W) → 0 < n → ticks n w ≡ jumped n w
-  ticks_some zero w h = absurd (omega arith)
-  ticks_some (suc n) w h = ticks_jump n w
+module _ {W : Type 0} (work : Meaning W) where
+  -- agreement after one more step
+  pub agrees_more : (core : CoreHeld W) (M : History W) (xs : List (Step W)) (rs : List (Reply W)) (x : Step W) (r : Reply W)
+      → AnswersAll work M xs rs → Agrees work core (grown (grown_by M xs rs) x r) → Agrees work core (grown_by M (xs ++ x ∷ []) (rs ++ r ∷ []))
+  agrees_more core M xs rs x r all agrees = rw (grown_by-push work M xs rs x r all) agrees
 
 module _ {W : Type 0} {work : Meaning W} {core held : CoreHeld W} {M : History W} (view : core ≡ held)
     (before : Agrees work held M) where

@@ -12,19 +12,21 @@ use Rattle.cbs_rate.specs.Plan.{total_share, all_periods}
 use Rattle.cbs_rate.proofs.Lists.{AllByRecursion-push}
 use Rattle.cbs_rules.specs.Rules.{clock_end, latest_deadline}
 use Rattle.cbs_rules.specs.declared.mode.Mode.{Mode}
-use Rattle.cbs_core.specs.Lists.{changed_at}
-use Rattle.cbs_core.specs.Choice.{IsChoice}
-use Rattle.cbs_core.specs.Faces.{Face, new_face, no_face, face_at, is_ready, backlog_of, reservations, ranks, with_job, with_unit, with_replenishment, with_close, submit_refusal, view_reply}
-use Rattle.cbs_core.specs.Laws.{IsWithinBudget, KeepsBudgets}
-use Rattle.cbs_core.specs.declared.error.CoreError.{CoreError}
-use Rattle.cbs_core.specs.declared.view.ServerView.{ServerView}
+use Rattle.cbs_lists.specs.Lists.{changed_at}
+use Rattle.cbs_steps.specs.Choice.{IsChoice}
+use Rattle.cbs_steps.specs.Faces.{Face, new_face, no_face, face_at, is_ready, backlog_of, reservations, ranks, with_job, with_unit, with_replenishment, with_close, submit_refusal, view_reply}
+use Rattle.cbs_steps.specs.Laws.{IsWithinBudget}
+use Rattle.cbs_core.specs.Held.{KeepsBudgets}
+use Rattle.cbs_steps.specs.declared.error.CoreError.{CoreError}
+use Rattle.cbs_steps.specs.declared.view.ServerView.{ServerView}
 use Rattle.cbs_core.specs.Held.{CoreHeld, Accepts}
-use Rattle.cbs_core.specs.Queues.{list_at, jobs_run, result_run}
-use Rattle.cbs_core.specs.Setups.{terms_of}
+use Rattle.cbs_queues.specs.Queues.{list_at, jobs_run, result_run}
+use Rattle.cbs_steps.specs.Setups.{terms_of}
 use Rattle.cbs_core.specs.Invariant.{IsServer, HoldsBacklog, IsCore}
-use Rattle.cbs_core.proofs.Faces.{server_new, server_later, server_replenished, server_closed, server_joined, server_run, rank_ready, runnable, budget_some, within_budget}
-use Rattle.cbs_core.proofs.Lists.{length-changed_at, map_kept, changed_kept, AllByRecursion-map, AllByRecursion-get, AllByRecursion-changed_at, AllZip-length, AllZip-get, AllZip-map, AllZip-replicate, AllZip-changed_at, AllZip-changed_second}
-use Rattle.cbs_core.proofs.Plans.{length-faces}
+use Rattle.cbs_steps.proofs.Faces.{rank_ready, runnable}
+use Rattle.cbs_core.proofs.FaceSteps.{server_new, server_later, server_replenished, server_closed, server_joined, server_run, budget_some, within_budget}
+use Rattle.cbs_lists.proofs.Lists.{length-changed_at, map_kept, changed_kept, AllByRecursion-map, AllByRecursion-get, AllByRecursion-changed_at, AllZip-length, AllZip-get, AllZip-map, AllZip-replicate, AllZip-changed_at, AllZip-changed_second}
+use Rattle.cbs_steps.proofs.Plans.{length-faces}
 use Rattle.cbs_core.proofs.Refusals.{free_accepts}
 
 -- the reservation of a server

@@ -8,14 +8,15 @@ use Rattle.std.proofs.lemmas.List.Sums.{sum_by-cons, sum_by-append, sum_by-take-
 use Rattle.std.specs.List.{sum_by, AllByRecursion}
 use Rattle.cbs_job.specs.Work.{Meaning, Lowers, whole}
 use Rattle.cbs_job.proofs.WholeResults.{whole_kept, output_whole}
-use Rattle.cbs_core.specs.Faces.{backlog_of, with_job, with_unit}
-use Rattle.cbs_core.specs.Accounts.{Account, need, finished, unfinished, face_of, account_with_job, account_with_unit}
-use Rattle.cbs_core.specs.History.{unit_reply}
+use Rattle.cbs_steps.specs.Faces.{backlog_of, with_job, with_unit}
+use Rattle.cbs_steps.specs.Accounts.{Account, need, finished, unfinished, face_of, account_with_job, account_with_unit}
+use Rattle.cbs_steps.specs.History.{unit_reply}
 use Rattle.cbs_core.specs.Agreement.{with_first, AgreesJobs}
-use Rattle.cbs_core.specs.Promised.{owed}
-use Rattle.cbs_core.specs.Queues.{jobs_run, result_run, ran_of}
-use Rattle.cbs_core.specs.declared.reply.Ran.TheVariants as ran
-use Rattle.cbs_core.proofs.FinishedJobs.{count_done, count_done-le, count_done_within, count_done_beyond, count_done-is}
+use Rattle.cbs_steps.specs.Promises.{owed}
+use Rattle.cbs_queues.specs.Queues.{jobs_run, result_run}
+use Rattle.cbs_core.specs.Held.{ran_of}
+use Rattle.cbs_steps.specs.declared.reply.Ran.TheVariants as ran
+use Rattle.cbs_steps.proofs.FinishedJobs.{count_done, count_done-le, count_done_within, count_done_beyond, count_done-is}
 
 -- y stands at place k, and ys follow it
 record IsFront {W : Type 0} (xs : List W) (k : ℕ) (y : W) (ys : List W) : Type 0 where

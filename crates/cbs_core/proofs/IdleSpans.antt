@@ -6,11 +6,11 @@ use Rattle.std.proofs.lemmas.Bool.{cases_lt, cases_Bool}
 use Rattle.std.proofs.lemmas.Bool.Decides.{nat_tests}
 use Rattle.cbs_job.specs.Work.{Meaning}
 use Rattle.cbs_rules.specs.Rules.{clock_end}
-use Rattle.cbs_core.specs.Faces.{Face, is_active, is_ready, with_replenishment}
-use Rattle.cbs_core.specs.History.{World, faces, ticks}
-use Rattle.cbs_core.specs.Quiet.{IsAtRest, IsQuiet, IsIdleSpan}
+use Rattle.cbs_steps.specs.Faces.{Face, is_active, is_ready, with_replenishment}
+use Rattle.cbs_steps.specs.History.{World, faces, ticks}
+use Rattle.cbs_steps.specs.Quiet.{IsAtRest, IsQuiet, IsIdleSpan}
 use Rattle.cbs_core.specs.IdleSpans.{wait, span_from}
-use Rattle.cbs_core.proofs.Agreements.{ticks_none, ticks_some, replenished_faces}
+use Rattle.cbs_steps.proofs.Ticks.{ticks_none, ticks_some, replenished_faces}
 
 -- nobody is ready
 abbrev NoneReady : List Face → Type 0

@@ -5,11 +5,11 @@ use Rattle.std.proofs.lemmas.Bool.Decides.{nat_tests}
 use Rattle.std.proofs.lemmas.List.{get_or_read, get_or-set_same, get_or-set_other}
 use Rattle.cbs_rules.specs.Rules.{Terms, is_renewed}
 use Rattle.cbs_core.specs.declared.entries.Entry.{Entry}
-use Rattle.cbs_core.specs.Choice.{rank_at, chosen_among, IsEarliest, IsChoice}
-use Rattle.cbs_core.specs.Faces.{Face, no_face, face_at, new_face, is_active, is_ready, ready_by, ranks, with_job, with_replenishment}
+use Rattle.cbs_steps.specs.Choice.{rank_at, chosen_among, IsEarliest, IsChoice}
+use Rattle.cbs_steps.specs.Faces.{Face, no_face, face_at, new_face, is_active, is_ready, ready_by, ranks, with_job, with_replenishment}
 use Rattle.cbs_core.specs.ReadyList.{listed, first_of, IsOrdered, ListsReady, IsNotDueBefore, NoneDueBefore}
-use Rattle.cbs_core.proofs.Choices.{chosen_best}
-use Rattle.cbs_core.proofs.Faces.{length-ranks, rank_ready}
+use Rattle.cbs_steps.proofs.Choices.{chosen_best}
+use Rattle.cbs_steps.proofs.Faces.{length-ranks, rank_ready}
 use Rattle.cbs_core.proofs.ReadyList.{first_ahead}
 
 -- a server's deadline, as the choice sees it

@@ -3,11 +3,11 @@ use Rattle.std.proofs.Common.{◌≡◌, ℕ, ◌≤◌, true, false, leb, lengt
 use Rattle.std.proofs.lemmas.Bool.{cases_lt, cases_Bool}
 use Rattle.std.proofs.lemmas.Bool.Decides.{nat_tests}
 use Rattle.std.proofs.lemmas.Option.{slice_get-get_or, slice_get_past}
-use Rattle.cbs_core.specs.Errors.{is_out_of_memory}
-use Rattle.cbs_core.specs.Faces.{no_face, face_at, backlog_of, submit_refusal, close_refusal}
+use Rattle.cbs_steps.specs.Errors.{is_out_of_memory}
+use Rattle.cbs_steps.specs.Faces.{no_face, face_at, backlog_of, submit_refusal, close_refusal}
 use Rattle.cbs_core.specs.Held.{CoreHeld, IsOpen, IsClosed, Accepts, IsRefusedBy}
-use Rattle.cbs_core.specs.declared.error.CoreError.{CoreError}
-use Rattle.cbs_core.specs.declared.error.CoreError.TheVariants as error
+use Rattle.cbs_steps.specs.declared.error.CoreError.{CoreError}
+use Rattle.cbs_steps.specs.declared.error.CoreError.TheVariants as error
 
 module _ {W : Type 0} {core held : CoreHeld W} (view : core ≡ held) (s : ℕ) where
   -- why a submit to s is refused, and why a close

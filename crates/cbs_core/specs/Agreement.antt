@@ -2,9 +2,12 @@
 use Rattle.std.specs.Prelude.{◌≡◌, ℕ, ◌+◌, ◌-◌, List, [], ◌∷◌, map}
 use Rattle.std.specs.List.{AllZip}
 use Rattle.cbs_job.specs.Work.{Meaning, whole}
-use Rattle.cbs_core.specs.Accounts.{Account, finished, need, unfinished}
-use Rattle.cbs_core.specs.History.{World, History, faces, world_after}
-use Rattle.cbs_core.specs.Held.{CoreHeld}
+use Rattle.cbs_steps.specs.Accounts.{Account, finished, need, unfinished}
+use Rattle.cbs_steps.specs.History.{World, History, ◌⊕◌, faces, world_after}
+use Rattle.cbs_steps.specs.Continuations.{◌⊕⊕◌, EachAllowed}
+use Rattle.cbs_steps.specs.OnTime.{IsWorldOnTime}
+use Rattle.cbs_steps.specs.declared.step.Step.{Step}
+use Rattle.cbs_core.specs.Held.{CoreHeld, IsCoreOnTime}
 
 -- the list with another first number
 abbrev pub with_first : ℕ → List ℕ → List ℕ
@@ -28,3 +31,19 @@ module _ {W : Type 0} where
   -- the core agrees with the history
   pub record Agrees (work : Meaning W) (core : CoreHeld W) (M : History W) : Type 0 where
     pub world : AgreesWorld work core M.setup.backlog (world_after work M)
+
+  -- the core agrees with some history: it is not so that it agrees with none
+  abbrev pub HasHistory : Meaning W → CoreHeld W → Type 0
+  HasHistory work core = ¬ ((M : History W) → ¬ Agrees work core M)
+
+  -- whatever history the core agreed with, it agrees with it and then the steps
+  abbrev pub Follows : Meaning W → CoreHeld W → CoreHeld W → List (Step W) → Type 0
+  Follows work old new xs = (M : History W) → Agrees work old M → Agrees work new (M ⊕⊕ xs)
+
+  -- the steps, made from this core on, may each stand where they stand
+  abbrev pub AllAllowed : Meaning W → (History W → Step W → Type 0) → CoreHeld W → List (Step W) → Type 0
+  AllAllowed work allowed old xs = (M : History W) → Agrees work old M → EachAllowed allowed M xs
+
+  -- from this core on, if it is on time, each of the steps leaves all on time
+  abbrev pub AllOnTime : Meaning W → CoreHeld W → List (Step W) → Type 0
+  AllOnTime work old xs = IsCoreOnTime old → AllAllowed work (λ N x. IsWorldOnTime work (world_after work (N ⊕ x))) old xs

@@ -2,11 +2,14 @@
 use Rattle.std.specs.Prelude.{◌≡◌, ◌≢◌, ℕ, ◌+◌, ◌<◌, ◌≤◌, true, false, List, [], ◌∷◌, ◌++◌, length, map, get_or, Option, Some, None}
 use Rattle.cbs_job.specs.Work.{Meaning, whole}
 use Rattle.cbs_job.specs.declared.completion.Completion.{Completion}
-use Rattle.cbs_core.specs.Faces.{Face, face_at, backlog_of}
-use Rattle.cbs_core.specs.declared.error.CoreError.{CoreError}
-use Rattle.cbs_core.specs.declared.error.CoreError.TheVariants as error
-use Rattle.cbs_core.specs.declared.reply.Ran.{Ran}
-use Rattle.cbs_core.specs.declared.reply.Ran.TheVariants as ran
+use Rattle.cbs_steps.specs.Faces.{Face, face_at, backlog_of}
+pub use Rattle.cbs_queues.specs.Queues.{room_of, KeepsRoom, front_output}
+use Rattle.cbs_steps.specs.Laws.{IsWithinBudget}
+use Rattle.cbs_steps.specs.OnTime.{IsOnTime}
+use Rattle.cbs_steps.specs.declared.error.CoreError.{CoreError}
+use Rattle.cbs_steps.specs.declared.error.CoreError.TheVariants as error
+use Rattle.cbs_steps.specs.declared.reply.Ran.{Ran}
+use Rattle.cbs_steps.specs.declared.reply.Ran.TheVariants as ran
 
 -- what a core holds: the greatest backlog, the clock, what each server shows, its unfinished jobs, in order, each as far as
 -- it has come, and for each server how many more jobs fit with no allocation
@@ -34,14 +37,6 @@ module _ {W : Type 0} where
   -- the core holds no job: every accepted job is finished
   abbrev pub HoldsNoJob : CoreHeld W → Type 0
   HoldsNoJob core = (s : ℕ) → (held_at core s).jobs ≡ []
-
--- how many more jobs of s fit with no allocation
-abbrev pub room_of : List ℕ → ℕ → ℕ
-room_of rooms s = get_or rooms s 0
-
--- a server that had room for a job has room for one still
-abbrev pub KeepsRoom : List ℕ → List ℕ → Type 0
-KeepsRoom old new = (t : ℕ) → 0 < room_of old t → 0 < room_of new t
 
 -- server s is there and open
 pub record IsOpen {W : Type 0} (core : CoreHeld W) (s : ℕ) : Type 0 where
@@ -110,6 +105,11 @@ pub record ClosesServer {W : Type 0} (old new : Held W) : Type 0 where
   pub finished : new.face.finished ≡ old.face.finished
   pub closed : new.face.closed ≡ true
 
+-- what a Run is answered after a unit of job seq of server s, by what that unit found
+abbrev pub ran_of : ℕ → ℕ → Option ℕ → Ran
+ran_of s seq None = ran.Unit s seq
+ran_of s seq (Some r) = ran.Done (record { server = s; seq = seq; result = r })
+
 module _ {W : Type 0} where
   -- jobs, counts and close of every server but s are as before
   abbrev pub OthersSame : ℕ → CoreHeld W → CoreHeld W → Type 0
@@ -132,3 +132,11 @@ module _ {W : Type 0} where
   CountsOn (Some c) old new =
       (c.seq ≡ (held_at old c.server).face.finished) × ((held_at new c.server).face.finished ≡ (held_at old c.server).face.finished + 1)
       × ((s : ℕ) → s ≢ c.server → (held_at new s).face.finished ≡ (held_at old s).face.finished)
+
+-- the budget of each server is within its reservation's
+abbrev pub KeepsBudgets : {W : Type 0} → CoreHeld W → Type 0
+KeepsBudgets core = (s : ℕ) → s < length core.faces → IsWithinBudget (face_at core.faces s)
+
+-- a core that is on time
+abbrev pub IsCoreOnTime : {W : Type 0} → CoreHeld W → Type 0
+IsCoreOnTime core = IsOnTime core.clock core.faces

@@ -1,7 +1,7 @@
 -- How long nobody will be ready, by what the servers show. Private words of this crate: public clauses speak of quiet advances.
 use Rattle.std.specs.Prelude.{ℕ, ◌-◌, min, max, if◌then◌else◌, List, [], ◌∷◌, Option, Some, None}
 use Rattle.cbs_rules.specs.Rules.{clock_end}
-use Rattle.cbs_core.specs.Faces.{Face, is_active, is_ready}
+use Rattle.cbs_steps.specs.Faces.{Face, is_active, is_ready}
 
 -- after how many ticks a server that is not ready may be
 abbrev pub wait : ℕ → Face → ℕ

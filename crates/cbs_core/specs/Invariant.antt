@@ -5,7 +5,7 @@ use Rattle.cbs_job.specs.Work.{Meaning}
 use Rattle.cbs_rate.specs.Plan.{total_share, all_periods}
 use Rattle.cbs_rate.specs.Rate.{IsRate}
 use Rattle.cbs_rules.specs.Rules.{clock_end, IsState}
-use Rattle.cbs_core.specs.Faces.{Face, is_active, backlog_of, reservations}
+use Rattle.cbs_steps.specs.Faces.{Face, is_active, backlog_of, reservations}
 use Rattle.cbs_core.specs.Held.{CoreHeld}
 
 -- what each server keeps, against the backlog that it may have and the clock

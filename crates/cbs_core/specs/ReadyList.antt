@@ -2,7 +2,7 @@
 use Rattle.std.specs.Prelude.{◌≡◌, ◌≢◌, ◌≤◌, ℕ, Bool, true, ◌&&◌, ◌||◌, eqb, ltb, if◌then◌else◌, List, [], ◌∷◌, length, drop, Option, Some, None}
 use Rattle.std.specs.List.{AllByRecursion, insert}
 use Rattle.cbs_core.specs.declared.entries.Entry.{Entry}
-use Rattle.cbs_core.specs.Faces.{Face, face_at, ready_by}
+use Rattle.cbs_steps.specs.Faces.{Face, face_at, ready_by}
 
 -- whether entry a comes before entry b: by deadline, and of equal deadlines by number
 abbrev pub is_ahead : Entry → Entry → Bool

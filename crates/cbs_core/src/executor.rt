@@ -1,36 +1,31 @@
 //! The core: all servers, and the clock.
 
-ghost use Rattle.std.specs.Prelude.{◌≡◌, ℕ, ◌+◌, ◌*◌, ◌<◌, ◌≤◌, true, false, Ok, Err, IfOk, IfErr, IfSome, OnOk, OnErr, IsOk, length, slice_get, List, [], MatchOption, MatchResult, Some, None, ◌⊎◌};
+ghost use Rattle.std.specs.Prelude.{◌≡◌, ℕ, ◌+◌, ◌*◌, ◌<◌, ◌≤◌, true, false, IfOk, IfErr, IfSome, OnOk, OnErr, IsOk, length, slice_get, List, [], MatchOption};
 ghost use Rattle.cbs_rate.specs.Refusals.{RefusesByOrMemory};
-ghost use Rattle.cbs_core.specs.Quiet.{IsAtRest, IsIdleSpan};
-ghost use Rattle.cbs_core.specs.Choice.{IsChoice};
-ghost use Rattle.cbs_core.specs.Faces.{face_at, ranks, submit_refusal, view_reply};
-ghost use Rattle.cbs_core.specs.History.{History, ◌⊕◌, faces, world_after, reply_in, chosen};
+ghost use Rattle.cbs_steps.specs.Quiet.{IsAtRest, IsIdleSpan};
+ghost use Rattle.cbs_steps.specs.Choice.{IsChoice};
+ghost use Rattle.cbs_steps.specs.Faces.{face_at, ranks, submit_refusal, view_reply};
+ghost use Rattle.cbs_steps.specs.History.{History, ◌⊕◌, faces, world_after, chosen};
+ghost use Rattle.cbs_steps.specs.Replies.{submitted, advanced, closed, is_lack, grown_by};
+ghost use Rattle.cbs_steps.specs.Laws.{account_in, completion_in, completion_of, completions_of, Completes, NoneAfterClose, IsWithinBudget};
+ghost use Rattle.cbs_steps.specs.OnTime.{IsWorldOnTime};
+ghost use Rattle.cbs_steps.specs.Promises.{promised, AllFinishedBy};
+ghost use Rattle.cbs_steps.specs.Punctual.{IsPunctual};
+ghost use Rattle.cbs_steps.specs.Setups.{terms_of, new_refusal};
 ghost use Rattle.cbs_core.specs.Agreement.{Agrees};
-ghost use Rattle.cbs_core.specs.Replies.{submitted, advanced, closed, lacks_memory, IsAccepted, is_lack, Answers, AnswersAll, grown, grown_by};
-ghost use Rattle.cbs_core.specs.Laws.{account_in, completion_in, completion_of, completions_of, Completes, NoneAfterClose, IsWithinShare, IsWithinCap, IsWithinBudget, KeepsBudgets};
-ghost use Rattle.cbs_core.specs.Fronts.{front_output};
-ghost use Rattle.cbs_core.specs.Held.{room_of, KeepsRoom, IsOpen, HasRoom, IsRefusedBy, held_at, TakesJob, ClosesServer, OthersSame, AllSame, DoesRun, CountsOn};
-ghost use Rattle.cbs_core.specs.OnTime.{IsCoreOnTime, IsWorldOnTime, KeepsTime, KeepsTimeAll};
-ghost use Rattle.cbs_core.specs.Promised.{promised, AllFinishedBy};
-ghost use Rattle.cbs_core.specs.Punctual.{IsPunctual};
-ghost use Rattle.cbs_core.specs.Queues.{ran_of};
-ghost use Rattle.cbs_core.specs.Setups.{terms_of, new_refusal};
+ghost use Rattle.cbs_core.specs.Calls.{Makes, Tries, TriesAll};
+ghost use Rattle.cbs_core.specs.Held.{room_of, KeepsRoom, IsOpen, HasRoom, IsRefusedBy, IsCoreOnTime, front_output, held_at, TakesJob, ClosesServer, OthersSame, AllSame, DoesRun, CountsOn, ran_of};
 
-use crate::error::CoreError;
-use crate::queues::Queues;
-use crate::reply::{Ran, Reply, SubmitRefused};
 use crate::servers::Servers;
-use crate::step::{Step, StepsRefused};
-use crate::view::ServerView;
 use cbs_job::{Completion, Task, Work};
+use cbs_queues::Queues;
 use cbs_rate::Plan;
 use cbs_rules::{LIMIT, Modes};
+use cbs_steps::{
+    CoreError, MAX_BACKLOG, Ran, Reply, ServerView, Step, StepsRefused, SubmitRefused,
+};
 use std::alloc::{Allocator, Global};
 use std::marker::Model;
-
-/// The greatest backlog of a server, in jobs.
-pub const MAX_BACKLOG: u64 = 4096;
 
 /// The core of an executor: servers with their jobs, and the clock.
 ///
@@ -134,26 +129,14 @@ impl<W: Work, A: Allocator> Core<W, A> {
     /// was closed; [`CoreError::BacklogFull`] where it has as many unfinished jobs as it may have;
     /// [`CoreError::OutOfMemory`] where an allocation is refused. The job then comes back, and
     /// nothing changed, but that room for it may have been made.
-    #[tactic(auto, using(crate::proofs::Lists::counted, crate::proofs::Cores::budgets_kept))]
+    #[tactic(auto, using(cbs_lists::proofs::Lists::counted, crate::proofs::Cores::budgets_kept))]
     pub fn submit(&mut self, server: u16, task: Task<W>) -> Result<u64, SubmitRefused<W>>
-        ensures reply { lacks_memory result ≡ false → (M : History W) → Agrees W.meaning self.old M
-            → submitted result ≡ reply_in W.meaning M (Step.Submit server task) }
-        ensures state { lacks_memory result ≡ false → (M : History W) → Agrees W.meaning self.old M
-            → Agrees W.meaning self.new (M ⊕ Step.Submit server task) }
-
-        // Want of memory may stand in the place of an acceptance, and there alone.
-        ensures back { lacks_memory result ≡ true → result ≡ Err (record { error = CoreError.OutOfMemory; task = task }) }
-        ensures only_accepted { lacks_memory result ≡ true → (M : History W) → Agrees W.meaning self.old M
-            → IsAccepted (reply_in W.meaning M (Step.Submit server task)) }
-        ensures still { lacks_memory result ≡ true → (M : History W) → Agrees W.meaning self.old M → Agrees W.meaning self.new M }
-        ensures room { 0 < room_of self.old.rooms server → lacks_memory result ≡ false }
+        ensures tries { Tries W.meaning self.old self.new (Step.Submit server task) (submitted result) }
+        ensures room { 0 < room_of self.old.rooms server → is_lack (submitted result) ≡ false }
         ensures succeeds { HasRoom self.old server → IsOk result }
 
         ensures job { IfOk result (λ number. TakesJob task number (held_at self.old server) (held_at self.new server)
             × OthersSame server self.old self.new) }
-        ensures count { length self.new.faces ≡ length self.old.faces }
-        ensures budgets { KeepsBudgets self.new }
-        ensures on_time { (M : History W) → Agrees W.meaning self.old M → KeepsTime W.meaning M (Step.Submit server task) }
         ensures unchanged { OnErr result (self.new ≡ record self.old { rooms = self.new.rooms }) }
         ensures kept { OnErr result (KeepsRoom self.old.rooms self.new.rooms) }
     {
@@ -173,18 +156,12 @@ impl<W: Work, A: Allocator> Core<W, A> {
     /// `Ok`, and answers the job's number among the accepted jobs of the server. It takes no memory.
     ///
     /// The server must be there and open, its backlog not full, and room made.
-    #[tactic(auto, using(crate::proofs::Lists::counted, crate::proofs::Cores::budgets_kept))]
+    #[tactic(auto, using(cbs_lists::proofs::Lists::counted, crate::proofs::Cores::budgets_kept))]
     pub fn submit_reserved(&mut self, server: u16, task: Task<W>) -> u64
         requires { HasRoom self.old server }
-        ensures reply { (M : History W) → Agrees W.meaning self.old M
-            → Reply.Accepted result ≡ reply_in W.meaning M (Step.Submit server task) }
-        ensures state { (M : History W) → Agrees W.meaning self.old M
-            → Agrees W.meaning self.new (M ⊕ Step.Submit server task) }
+        ensures makes { Makes W.meaning self.old self.new (Step.Submit server task) (Reply.Accepted result) }
         ensures job { TakesJob task result (held_at self.old server) (held_at self.new server)
             × OthersSame server self.old self.new }
-        ensures count { length self.new.faces ≡ length self.old.faces }
-        ensures budgets { KeepsBudgets self.new }
-        ensures on_time { (M : History W) → Agrees W.meaning self.old M → KeepsTime W.meaning M (Step.Submit server task) }
     {
         self.queues.push(server, task);
         self.servers.accept(server, self.clock)
@@ -194,15 +171,11 @@ impl<W: Work, A: Allocator> Core<W, A> {
     ///
     /// Answers [`Ran::Idle`] where no server is ready, and then [`Ran::ClockEnd`] where the clock
     /// stands at [`LIMIT`]; both change nothing.
-    #[tactic(auto, using(crate::proofs::Lists::counted, crate::proofs::Cores::budgets_kept))]
+    #[tactic(auto, using(cbs_lists::proofs::Lists::counted, crate::proofs::Cores::budgets_kept))]
     #[inline(always)]
     pub fn run(&mut self) -> Ran
-        ensures reply { (M : History W) → Agrees W.meaning self.old M → Reply.Ran result ≡ reply_in W.meaning M Step.Run }
-        ensures state { (M : History W) → Agrees W.meaning self.old M → Agrees W.meaning self.new (M ⊕ Step.Run) }
+        ensures makes { Makes W.meaning self.old self.new Step.Run (Reply.Ran result) }
         ensures job { DoesRun W.meaning result self.old self.new }
-        ensures count { length self.new.faces ≡ length self.old.faces }
-        ensures budgets { KeepsBudgets self.new }
-        ensures on_time { (M : History W) → Agrees W.meaning self.old M → KeepsTime W.meaning M Step.Run }
         ensures kept { KeepsRoom self.old.rooms self.new.rooms }
     {
         let Some(server) = self.servers.choose() else {
@@ -223,14 +196,10 @@ impl<W: Work, A: Allocator> Core<W, A> {
     ///
     /// Refuses by [`CoreError::ClockEnd`] where the clock would pass [`LIMIT`], and then changes
     /// nothing. An advance by 0 is accepted and changes nothing.
-    #[tactic(auto, using(crate::proofs::Lists::counted, crate::proofs::Cores::budgets_kept))]
+    #[tactic(auto, using(cbs_lists::proofs::Lists::counted, crate::proofs::Cores::budgets_kept))]
     pub fn advance(&mut self, n: u64) -> Result<(), CoreError>
-        ensures reply { (M : History W) → Agrees W.meaning self.old M → advanced result ≡ reply_in W.meaning M (Step.Advance n) }
-        ensures state { (M : History W) → Agrees W.meaning self.old M → Agrees W.meaning self.new (M ⊕ Step.Advance n) }
+        ensures makes { Makes W.meaning self.old self.new (Step.Advance n) (advanced result) }
         ensures jobs { AllSame self.old self.new }
-        ensures count { length self.new.faces ≡ length self.old.faces }
-        ensures budgets { KeepsBudgets self.new }
-        ensures on_time { (M : History W) → Agrees W.meaning self.old M → KeepsTime W.meaning M (Step.Advance n) }
         ensures unchanged { OnErr result (self.new ≡ self.old) }
         ensures kept { KeepsRoom self.old.rooms self.new.rooms }
     {
@@ -248,15 +217,11 @@ impl<W: Work, A: Allocator> Core<W, A> {
     ///
     /// Refuses by [`CoreError::NoSuchServer`], or by [`CoreError::Closed`] where it was closed
     /// before, and then changes nothing.
-    #[tactic(auto, using(crate::proofs::Lists::counted, crate::proofs::Cores::budgets_kept))]
+    #[tactic(auto, using(cbs_lists::proofs::Lists::counted, crate::proofs::Cores::budgets_kept))]
     pub fn close(&mut self, server: u16) -> Result<(), CoreError>
-        ensures reply { (M : History W) → Agrees W.meaning self.old M → closed result ≡ reply_in W.meaning M (Step.Close server) }
-        ensures state { (M : History W) → Agrees W.meaning self.old M → Agrees W.meaning self.new (M ⊕ Step.Close server) }
+        ensures makes { Makes W.meaning self.old self.new (Step.Close server) (closed result) }
         ensures closed { OnOk result (ClosesServer (held_at self.old server) (held_at self.new server)
             × OthersSame server self.old self.new) }
-        ensures count { length self.new.faces ≡ length self.old.faces }
-        ensures budgets { KeepsBudgets self.new }
-        ensures on_time { (M : History W) → Agrees W.meaning self.old M → KeepsTime W.meaning M (Step.Close server) }
         ensures succeeds { IsOpen self.old server → IsOk result }
         ensures unchanged { OnErr result (self.new ≡ self.old) }
         ensures kept { KeepsRoom self.old.rooms self.new.rooms }
@@ -269,16 +234,12 @@ impl<W: Work, A: Allocator> Core<W, A> {
     }
 
     /// Closes a server that is there and open, as [`close`](Core::close) does.
-    #[tactic(auto, using(crate::proofs::Lists::counted, crate::proofs::Cores::budgets_kept))]
+    #[tactic(auto, using(cbs_lists::proofs::Lists::counted, crate::proofs::Cores::budgets_kept))]
     pub fn close_open(&mut self, server: u16)
         requires { IsOpen self.old server }
-        ensures reply { (M : History W) → Agrees W.meaning self.old M → Reply.Closed ≡ reply_in W.meaning M (Step.Close server) }
-        ensures state { (M : History W) → Agrees W.meaning self.old M → Agrees W.meaning self.new (M ⊕ Step.Close server) }
+        ensures makes { Makes W.meaning self.old self.new (Step.Close server) Reply.Closed }
         ensures closed { ClosesServer (held_at self.old server) (held_at self.new server)
             × OthersSame server self.old self.new }
-        ensures count { length self.new.faces ≡ length self.old.faces }
-        ensures budgets { KeepsBudgets self.new }
-        ensures on_time { (M : History W) → Agrees W.meaning self.old M → KeepsTime W.meaning M (Step.Close server) }
         ensures kept { KeepsRoom self.old.rooms self.new.rooms }
     {
         self.servers.close(server);
@@ -381,31 +342,16 @@ impl<W: Work, A: Allocator> Core<W, A> {
     ) -> Result<Vec<Reply<W>, A>, StepsRefused<W, A>>
     where
         A: Clone,
-        ensures replies { IfOk result (λ replies. (M : History W) → Agrees W.meaning self.old M
-            → AnswersAll W.meaning M steps.items replies.items) }
-        ensures state { IfOk result (λ replies. (M : History W) → Agrees W.meaning self.old M
-            → Agrees W.meaning self.new (grown_by M steps.items replies.items)) }
+        ensures tries { IfOk result (λ replies. TriesAll W.meaning self.old self.new steps.items replies.items) }
 
         // What the replies mean for each server, over the whole list.
         ensures completions { IfOk result (λ replies. (M : History W) → Agrees W.meaning self.old M → (s : ℕ)
             → Completes W.meaning (account_in W.meaning M s) (account_in W.meaning (grown_by M steps.items replies.items) s) (completions_of s replies.items)) }
         ensures closes { IfOk result (λ replies. (M : History W) → Agrees W.meaning self.old M → (s : ℕ)
             → NoneAfterClose s (account_in W.meaning M s).closed steps.items replies.items) }
-        ensures budgets { IfOk result (λ replies. (M : History W) → Agrees W.meaning self.old M → (s : ℕ) → s < length self.old.faces
-            → IsWithinBudget (face_at (faces W.meaning (world_after W.meaning (grown_by M steps.items replies.items))) s)) }
-
-        // What a server takes, whatever it is asked for.
-        ensures share { IfOk result (λ replies. (M : History W) → Agrees W.meaning self.old M → (s : ℕ) → s < length self.old.faces
-            → IsWithinShare (account_in W.meaning M s) (account_in W.meaning (grown_by M steps.items replies.items) s)) }
-        ensures cap { IfOk result (λ replies. (M : History W) → Agrees W.meaning self.old M → (s : ℕ) → s < length self.old.faces
-            → IsWithinCap W.meaning M (grown_by M steps.items replies.items) s) }
 
         // The laws on time, and on what a server takes, of every list with which the core then agrees.
         ensures punctual { OnOk result ((N : History W) → Agrees W.meaning self.new N → IsPunctual W.meaning N) }
-        ensures on_time { IfOk result (λ replies. (M : History W) → Agrees W.meaning self.old M
-            → KeepsTimeAll W.meaning M steps.items replies.items) }
-
-        ensures count { length self.new.faces ≡ length self.old.faces }
         ensures back { IfErr result (λ refused. refused.steps ≡ steps) }
         ensures unchanged { OnErr result (self.new ≡ self.old) }
     {
@@ -427,25 +373,17 @@ impl<W: Work, A: Allocator> Core<W, A> {
     /// Does one step, and answers it: as [`submit`](Core::submit), [`run`](Core::run),
     /// [`advance`](Core::advance) and [`close`](Core::close) do.
     pub fn step(&mut self, step: Step<W>) -> Reply<W>
-        ensures reply { (M : History W) → Agrees W.meaning self.old M → Answers W.meaning M step result }
-        ensures state { (M : History W) → Agrees W.meaning self.old M → Agrees W.meaning self.new (grown M step result) }
+        ensures tries { Tries W.meaning self.old self.new step result }
         ensures completes { is_lack result ≡ false → (M : History W) → Agrees W.meaning self.old M → (s : ℕ)
             → Completes W.meaning (account_in W.meaning M s) (account_in W.meaning (M ⊕ step) s) (completion_of s (completion_in result)) }
-        ensures count { length self.new.faces ≡ length self.old.faces }
-        ensures budgets { KeepsBudgets self.new }
-        ensures on_time { (M : History W) → Agrees W.meaning self.old M → KeepsTime W.meaning M step }
     {
         self.make(step)
     }
 
     /// Does one step.
     fn make(&mut self, step: Step<W>) -> Reply<W>
-        ensures reply { (M : History W) → Agrees W.meaning self.old M → Answers W.meaning M step result }
-        ensures state { (M : History W) → Agrees W.meaning self.old M → Agrees W.meaning self.new (grown M step result) }
+        ensures tries { Tries W.meaning self.old self.new step result }
         ensures counts { CountsOn (completion_in result) self.old self.new }
-        ensures count { length self.new.faces ≡ length self.old.faces }
-        ensures budgets { KeepsBudgets self.new }
-        ensures on_time { (M : History W) → Agrees W.meaning self.old M → KeepsTime W.meaning M step }
     {
         match step {
             Step::Submit(server, task) => submit_reply(self.submit(server, task)),

@@ -2,21 +2,14 @@
 //! by earliest deadline, and the clock.
 #![tactic(auto)]
 
-mod chains;
 mod entries;
-mod error;
 mod executor;
-mod queues;
 mod ready_list;
-mod reply;
 mod server;
 mod servers;
-mod step;
-mod view;
 
 pub use cbs_rules::LIMIT;
-pub use error::CoreError;
-pub use executor::{Core, MAX_BACKLOG};
-pub use reply::{Ran, Reply, SubmitRefused};
-pub use step::{Step, StepsRefused};
-pub use view::ServerView;
+pub use cbs_steps::{
+    CoreError, MAX_BACKLOG, Ran, Reply, ServerView, Step, StepsRefused, SubmitRefused,
+};
+pub use executor::Core;

@@ -1,15 +1,14 @@
 //! One server, but for its jobs.
 
 ghost use Rattle.std.specs.Prelude.{◌≡◌, ℕ, ◌+◌, ◌<◌, ◌≤◌, ◌^◌, false, true, Some};
-ghost use Rattle.cbs_core.specs.Faces.{new_face, is_active, is_ready, ready_by, backlog_of, refuses_close, refuses_submit, view_of, with_job, with_unit, with_replenishment, with_close};
+ghost use Rattle.cbs_steps.specs.Faces.{new_face, is_active, is_ready, ready_by, backlog_of, refuses_close, refuses_submit, view_of, with_job, with_unit, with_replenishment, with_close};
 ghost use Rattle.cbs_core.specs.IdleSpans.{wait};
-ghost use Rattle.cbs_core.specs.Promised.{promised_by};
+ghost use Rattle.cbs_steps.specs.Promises.{promised_by};
 ghost use Rattle.cbs_core.specs.ReadyList.{IsNotDueBefore};
 
-use crate::error::CoreError;
-use crate::view::ServerView;
 use cbs_rate::Reservation;
 use cbs_rules::{LIMIT, MAX_DEADLINE, Mode, ServerState};
+use cbs_steps::{CoreError, ServerView};
 use std::marker::Model;
 
 /// One server, but for its jobs.
@@ -24,7 +23,7 @@ pub struct Server {
 
 impl Model for Server {
     ghost use Rattle.std.specs.Prelude.{◌≤◌};
-    ghost use Rattle.cbs_core.specs.Faces.{Face};
+    ghost use Rattle.cbs_steps.specs.Faces.{Face};
 
     ghost Value = { Face };
 

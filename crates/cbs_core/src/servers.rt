@@ -2,20 +2,19 @@
 
 ghost use Rattle.std.specs.Prelude.{◌≡◌, ◌≢◌, ℕ, ◌+◌, ◌-◌, ◌<◌, ◌≤◌, ◌^◌, false, Some, IfOk, OnOk, length, map, slice_get};
 ghost use Rattle.cbs_rate.specs.Plan.{IsPlan};
-ghost use Rattle.cbs_core.specs.Lists.{changed_at};
-ghost use Rattle.cbs_core.specs.Choice.{chosen_among, IsChoice};
-ghost use Rattle.cbs_core.specs.Faces.{new_face, face_at, is_active, ready_by, ranks, close_refusal, submit_refusal, view_reply, with_job, with_unit, with_replenishment, with_close};
+ghost use Rattle.cbs_lists.specs.Lists.{changed_at};
+ghost use Rattle.cbs_steps.specs.Choice.{chosen_among, IsChoice};
+ghost use Rattle.cbs_steps.specs.Faces.{new_face, face_at, is_active, ready_by, ranks, close_refusal, submit_refusal, view_reply, with_job, with_unit, with_replenishment, with_close};
 ghost use Rattle.cbs_core.specs.IdleSpans.{span_from};
-ghost use Rattle.cbs_core.specs.Promised.{promised_by};
+ghost use Rattle.cbs_steps.specs.Promises.{promised_by};
 ghost use Rattle.cbs_core.specs.ReadyList.{listed, IsOrdered, ListsReady, IsNotDueBefore, NoneDueBefore};
-ghost use Rattle.cbs_core.specs.Setups.{terms_of};
+ghost use Rattle.cbs_steps.specs.Setups.{terms_of};
 
-use crate::error::CoreError;
 use crate::ready_list::ReadyList;
 use crate::server::Server;
-use crate::view::ServerView;
 use cbs_rate::Plan;
 use cbs_rules::{LIMIT, MAX_DEADLINE, Modes};
+use cbs_steps::{CoreError, ServerView};
 use std::alloc::{AllocError, Allocator, Global};
 use std::marker::Model;
 
@@ -30,7 +29,7 @@ pub struct Servers<A: Allocator = Global> {
 
 impl<A: Allocator> Model for Servers<A> {
     ghost use Rattle.std.specs.Prelude.{List, ◌≤◌, length};
-    ghost use Rattle.cbs_core.specs.Faces.{Face};
+    ghost use Rattle.cbs_steps.specs.Faces.{Face};
     ghost use Rattle.cbs_core.specs.ReadyList.{ListsReady, NoneDueBefore};
 
     ghost Value = { List Face };
@@ -142,7 +141,7 @@ impl<A: Allocator> Servers<A> {
     }
 
     /// A job comes in for a server, at tick `now`. Answers the job's number.
-    #[tactic(auto, using(crate::proofs::Lists::written))]
+    #[tactic(auto, using(cbs_lists::proofs::Lists::written))]
     pub fn accept(&mut self, server: u16, now: u64) -> u64
         requires within { server < length self.old }
         requires clock { now ≤ LIMIT }
@@ -161,7 +160,7 @@ impl<A: Allocator> Servers<A> {
     /// A job comes in for a server that has none, at tick `now`. Answers the job's number.
     // Out of line, for most jobs of a busy server come in behind others.
     #[inline(never)]
-    #[tactic(auto, using(crate::proofs::Lists::written))]
+    #[tactic(auto, using(cbs_lists::proofs::Lists::written))]
     fn accept_first(&mut self, server: u16, now: u64) -> u64
         requires within { server < length self.old }
         requires clock { now ≤ LIMIT }
@@ -207,7 +206,7 @@ impl<A: Allocator> Servers<A> {
     }
 
     /// Lets a server accept no further job.
-    #[tactic(auto, using(crate::proofs::Lists::written))]
+    #[tactic(auto, using(cbs_lists::proofs::Lists::written))]
     pub fn close(&mut self, server: u16)
         requires { server < length self.old }
         ensures { self.new ≡ changed_at with_close self.old server }

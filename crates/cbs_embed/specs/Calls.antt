@@ -2,17 +2,17 @@
 use Rattle.std.specs.Prelude.{ℕ, slice_get, MatchOption, IfSome, ◌≡◌, ◌⊎◌, ◌+◌, ◌-◌, ◌*◌, ◌^◌, ◌<◌, ◌≤◌, ◌↔◌, true, false, Option, Some, None, Result, Ok, Err, [], ◌∷◌, ◌++◌, length, map}
 use Rattle.std.specs.Global.{Global}
 use Rattle.cbs_core.specs.Agreement.{Agrees}
-use Rattle.cbs_core.specs.History.{History, faces, world_after, reply_in}
-use Rattle.cbs_core.specs.Faces.{face_at, view_reply}
-use Rattle.cbs_core.specs.Laws.{account_in, IsWithinBudget}
-use Rattle.cbs_core.specs.Promised.{promised, AllFinishedBy}
-use Rattle.cbs_core.specs.OnTime.{IsWorldOnTime}
-use Rattle.cbs_core.specs.Quiet.{IsAtRest, IsIdleSpan, IsQuietAfter}
-use Rattle.cbs_core.specs.declared.view.ServerView.{ServerView}
-use Rattle.cbs_core.specs.declared.reply.Ran.{Ran}
-use Rattle.cbs_core.specs.declared.reply.Ran.TheVariants as ran
-use Rattle.cbs_core.specs.declared.reply.Reply.TheVariants as reply
-use Rattle.cbs_core.specs.declared.step.Step.TheVariants as step
+use Rattle.cbs_steps.specs.History.{History, faces, world_after, reply_in}
+use Rattle.cbs_steps.specs.Faces.{face_at, view_reply}
+use Rattle.cbs_steps.specs.Laws.{account_in, IsWithinBudget}
+use Rattle.cbs_steps.specs.Promises.{promised, AllFinishedBy}
+use Rattle.cbs_steps.specs.OnTime.{IsWorldOnTime}
+use Rattle.cbs_steps.specs.Quiet.{IsAtRest, IsIdleSpan, IsQuietAfter}
+use Rattle.cbs_steps.specs.declared.view.ServerView.{ServerView}
+use Rattle.cbs_steps.specs.declared.reply.Ran.{Ran}
+use Rattle.cbs_steps.specs.declared.reply.Ran.TheVariants as ran
+use Rattle.cbs_steps.specs.declared.reply.Reply.TheVariants as reply
+use Rattle.cbs_steps.specs.declared.step.Step.TheVariants as step
 use Rattle.cbs_house.specs.Clients.{sent_by, free, slots_of, SameClient}
 use Rattle.cbs_house.specs.Houses.{core_of, IsHouseOnTime, received, results_of, view_answer, Made, SameHouse, HandsOutResults, Polled, Collects}
 use Rattle.cbs_house.specs.OwnTurns.{TakesOwnTurn, IsNumbered}

@@ -4,9 +4,9 @@ use Rattle.std.specs.List.{All, range_with_len}
 use Rattle.cbs_rate.specs.Rate.{Rate}
 use Rattle.cbs_rules.specs.declared.mode.Mode.{Mode}
 use Rattle.cbs_core.specs.Agreement.{Agrees}
-use Rattle.cbs_core.specs.Punctual.{IsPunctual}
-use Rattle.cbs_core.specs.Setups.{terms_of}
-use Rattle.cbs_core.specs.declared.step.Step.{Step}
+use Rattle.cbs_steps.specs.Punctual.{IsPunctual}
+use Rattle.cbs_steps.specs.Setups.{terms_of}
+use Rattle.cbs_steps.specs.declared.step.Step.{Step}
 use Rattle.cbs_house.specs.Clients.{server_of}
 use Rattle.cbs_house.specs.Houses.{core_of, IsHouseOnTime, rings_of, received, known, results_of, handed_of}
 use Rattle.cbs_house.specs.Opened.{open_refusal, IsUnused}

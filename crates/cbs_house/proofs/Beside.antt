@@ -6,8 +6,8 @@ use mathlib.Core.List.{IsPrefix}
 use Rattle.cbs_job.specs.Work.{Meaning}
 use Rattle.cbs_job.specs.declared.work.Work.{Ghosts}
 use Rattle.cbs_core.specs.Held.{CoreHeld, IsOpen, IsClosed, Accepts}
-use Rattle.cbs_core.specs.Faces.{face_at, backlog_of}
-use Rattle.cbs_core.specs.declared.step.Step.TheVariants.{Submit, Close}
+use Rattle.cbs_steps.specs.Faces.{face_at, backlog_of}
+use Rattle.cbs_steps.specs.declared.step.Step.TheVariants.{Submit, Close}
 use Rattle.cbs_house.specs.declared.house.House.{House}
 use Rattle.cbs_house.specs.declared.message.Message.{Message}
 use Rattle.cbs_house.specs.declared.poll.Poll.{Poll}

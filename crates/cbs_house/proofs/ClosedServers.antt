@@ -3,10 +3,10 @@ use Rattle.std.proofs.Common.{◌≡◌, ◌↔◌, ℕ, Bool, true, false, Resu
 use Rattle.std.specs.Prelude.{slice_get}
 use Rattle.std.proofs.lemmas.Bool.{cases_lt, false≢true}
 use Rattle.std.proofs.lemmas.Option.{slice_get-get_or, slice_get_past}
-use Rattle.cbs_core.specs.Faces.{no_face, view_reply}
+use Rattle.cbs_steps.specs.Faces.{no_face, view_reply}
 use Rattle.cbs_core.specs.Held.{CoreHeld, IsClosed}
-use Rattle.cbs_core.specs.declared.error.CoreError.{CoreError}
-use Rattle.cbs_core.specs.declared.view.ServerView.{ServerView}
+use Rattle.cbs_steps.specs.declared.error.CoreError.{CoreError}
+use Rattle.cbs_steps.specs.declared.view.ServerView.{ServerView}
 
 -- whether a view shows a closed server
 abbrev pub shows_closed : Result ServerView CoreError → Bool

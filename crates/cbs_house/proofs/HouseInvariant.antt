@@ -8,9 +8,9 @@ use Rattle.cbs_job.specs.Work.{Meaning, whole}
 use Rattle.cbs_job.specs.declared.completion.Completion.{Completion}
 use Rattle.cbs_core.proofs.Laws.{holds_within, none_beyond, history_kept, backlog_kept}
 use Rattle.cbs_core.specs.Held.{Held, CoreHeld, held_at, SameJobs, TakesJob, RunsJob, FinishesJob, ClosesServer, DoesRun}
-use Rattle.cbs_core.specs.declared.reply.Ran.{Ran}
-use Rattle.cbs_core.specs.declared.step.Step.{Step}
-use Rattle.cbs_core.specs.declared.reply.Ran.TheVariants as ran
+use Rattle.cbs_steps.specs.declared.reply.Ran.{Ran}
+use Rattle.cbs_steps.specs.declared.step.Step.{Step}
+use Rattle.cbs_steps.specs.declared.reply.Ran.TheVariants as ran
 use Rattle.cbs_house.specs.declared.message.Message.{Message}
 use Rattle.cbs_house.specs.declared.message.Message.TheVariants.{Job, End}
 use Rattle.cbs_house.specs.declared.rings.Rings.{Rings}
@@ -18,7 +18,7 @@ use Rattle.cbs_house.specs.Collected.{Shelved, shelf_at, no_shelf, taken, SameSh
 use Rattle.cbs_house.specs.HouseInvariant.{KeepsServer, Housed}
 use Rattle.cbs_house.specs.Messages.{jobs_among}
 use Rattle.cbs_house.specs.RingEnds.{rings_in, received_in}
-use Rattle.cbs_core.specs.Continuations.{Follows}
+use Rattle.cbs_core.specs.Agreement.{Follows}
 use Rattle.cbs_house.proofs.Messages.{jobs_among-job, jobs_among-end, has_end-job, has_end-end, end_is_last-more}
 
 pub same_shelf : (h : Shelved) → SameShelf h h

@@ -11,13 +11,13 @@ use Rattle.cbs_job.specs.declared.completion.Completion.{Completion}
 use Rattle.cbs_rules.specs.Rules.{clock_end}
 use Rattle.cbs_core.specs.Agreement.{Agrees}
 use Rattle.cbs_core.specs.Held.{CoreHeld, Accepts}
-use Rattle.cbs_core.specs.History.{History, world_after}
-use Rattle.cbs_core.specs.OnTime.{KeepsTime}
-use Rattle.cbs_core.specs.Quiet.{IsIdleSpan}
-use Rattle.cbs_core.specs.declared.reply.Ran.{Ran}
-use Rattle.cbs_core.specs.declared.reply.Ran.TheVariants as ran
-use Rattle.cbs_core.specs.declared.step.Step.{Step}
-use Rattle.cbs_core.specs.declared.step.Step.TheVariants as step
+use Rattle.cbs_steps.specs.History.{History, world_after}
+use Rattle.cbs_steps.specs.OnTime.{KeepsTime}
+use Rattle.cbs_steps.specs.Quiet.{IsIdleSpan}
+use Rattle.cbs_steps.specs.declared.reply.Ran.{Ran}
+use Rattle.cbs_steps.specs.declared.reply.Ran.TheVariants as ran
+use Rattle.cbs_steps.specs.declared.step.Step.{Step}
+use Rattle.cbs_steps.specs.declared.step.Step.TheVariants as step
 use Rattle.cbs_house.specs.declared.house.House.{House}
 use Rattle.cbs_house.specs.declared.message.Message.{Message}
 use Rattle.cbs_house.specs.declared.message.Message.TheVariants.{Job, End}
@@ -28,7 +28,7 @@ use Rattle.cbs_house.specs.RingEnds.{Looked}
 use Rattle.cbs_house.specs.Houses.{core_of, rings_of, received, known, results_of, handed_of, Made, LooksOnly, Collects, Polled}
 use Rattle.cbs_house.specs.Messages.{jobs_among}
 use Rattle.cbs_house.specs.Steps.{message_of, messages_of}
-use Rattle.cbs_core.specs.Continuations.{Follows, HasHistory}
+use Rattle.cbs_core.specs.Agreement.{Follows, HasHistory}
 use Rattle.cbs_house.proofs.StepMessages.{messages_of-append}
 use Rattle.cbs_core.proofs.Laws.{follows_both, allowed_both}
 

@@ -8,11 +8,11 @@ use Rattle.std.proofs.Math.Seq.{get_or-append_seam}
 use Rattle.cbs_job.specs.Work.{whole}
 use Rattle.cbs_job.specs.declared.completion.Completion.{Completion}
 use Rattle.cbs_job.specs.declared.work.Work.{Ghosts}
-use Rattle.cbs_core.specs.Faces.{no_face}
+use Rattle.cbs_steps.specs.Faces.{no_face}
 use Rattle.cbs_core.specs.Held.{held_at, DoesRun}
 use Rattle.cbs_core.proofs.Laws.{holds_within}
-use Rattle.cbs_core.specs.declared.reply.Ran.{Ran}
-use Rattle.cbs_core.specs.declared.reply.Ran.TheVariants as ran
+use Rattle.cbs_steps.specs.declared.reply.Ran.{Ran}
+use Rattle.cbs_steps.specs.declared.reply.Ran.TheVariants as ran
 use Rattle.cbs_house.specs.declared.house.House.{House}
 use Rattle.cbs_house.specs.Houses.{core_of, received, handed_of, results_of, Collects, ComesTo, NamesJob}
 use Rattle.cbs_house.specs.Messages.{jobs_among}

@@ -11,7 +11,7 @@ use Rattle.cbs_job.specs.Work.{Meaning}
 use Rattle.cbs_job.specs.declared.work.Work.{Ghosts}
 use Rattle.cbs_core.specs.Agreement.{Agrees}
 use Rattle.cbs_core.specs.Held.{CoreHeld, held_at}
-use Rattle.cbs_core.specs.History.{Setup}
+use Rattle.cbs_steps.specs.History.{Setup}
 use Rattle.cbs_core.proofs.Laws.{new_server}
 use Rattle.cbs_house.specs.declared.client.Client.{Client}
 use Rattle.cbs_house.specs.declared.rings.Rings.{Rings}

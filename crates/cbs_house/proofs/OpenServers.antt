@@ -6,13 +6,14 @@ use Rattle.std.proofs.lemmas.Bool.{cases_eq, cases_Bool, false≢true, not-true,
 use Rattle.std.proofs.lemmas.List.Sums.{sum_by-cons, get_or-le-sum_by, count_by_more_yes, count_by_more_no}
 use Rattle.cbs_job.specs.Work.{Meaning}
 use Rattle.cbs_core.specs.Agreement.{Agrees}
-use Rattle.cbs_core.specs.Continuations.{◌⊕⊕◌, HasHistory, Follows}
-use Rattle.cbs_core.specs.Faces.{Face, face_at, no_face}
+use Rattle.cbs_steps.specs.Continuations.{◌⊕⊕◌}
+use Rattle.cbs_core.specs.Agreement.{HasHistory, Follows}
+use Rattle.cbs_steps.specs.Faces.{Face, face_at, no_face}
 use Rattle.cbs_core.specs.Held.{CoreHeld, IsOpen, IsClosed}
-use Rattle.cbs_core.specs.History.{History, world_after}
-use Rattle.cbs_core.specs.Laws.{account_in}
-use Rattle.cbs_core.specs.declared.step.Step.{Step}
-use Rattle.cbs_core.proofs.Histories.{account_face, holds_on}
+use Rattle.cbs_steps.specs.History.{History, world_after}
+use Rattle.cbs_steps.specs.Laws.{account_in}
+use Rattle.cbs_steps.specs.declared.step.Step.{Step}
+use Rattle.cbs_steps.proofs.Histories.{account_face, holds_on}
 use Rattle.cbs_house.specs.Running.{AllClosed, open_servers}
 
 one_or_none : (b : Bool) → cond b 1 0 ≤ 0 → b ≡ false

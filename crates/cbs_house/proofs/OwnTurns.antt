@@ -8,19 +8,19 @@ use Rattle.std.proofs.lemmas.List.{get_or_past}
 use Rattle.cbs_job.specs.Work.{Meaning}
 use Rattle.cbs_job.specs.declared.completion.Completion.{Completion}
 use Rattle.cbs_job.specs.declared.work.Work.{Ghosts}
-use Rattle.cbs_core.specs.Accounts.{face_of, finished}
+use Rattle.cbs_steps.specs.Accounts.{face_of, finished}
 use Rattle.cbs_core.specs.Agreement.{Agrees}
-use Rattle.cbs_core.specs.Continuations.{◌⊕⊕◌}
-use Rattle.cbs_core.specs.Faces.{face_at, no_face, submit_refusal, close_refusal}
+use Rattle.cbs_steps.specs.Continuations.{◌⊕⊕◌}
+use Rattle.cbs_steps.specs.Faces.{face_at, no_face, submit_refusal, close_refusal}
 use Rattle.cbs_core.specs.Held.{HoldsJob, HoldsNoJob}
-use Rattle.cbs_core.specs.History.{World, History, ◌⊕◌, account, faces, chosen, after_submit, after_closing, run_reply, world_after, reply_in}
-use Rattle.cbs_core.specs.declared.error.CoreError.{CoreError}
-use Rattle.cbs_core.specs.declared.reply.Ran.{Ran}
-use Rattle.cbs_core.specs.declared.reply.Ran.TheVariants as ran
-use Rattle.cbs_core.specs.declared.reply.Reply.TheVariants as reply
-use Rattle.cbs_core.specs.declared.step.Step.{Step}
-use Rattle.cbs_core.specs.declared.step.Step.TheVariants.{Submit, Run, Advance, Close}
-use Rattle.cbs_core.proofs.Histories.{account_face}
+use Rattle.cbs_steps.specs.History.{World, History, ◌⊕◌, account, faces, chosen, after_submit, after_closing, run_reply, world_after, reply_in}
+use Rattle.cbs_steps.specs.declared.error.CoreError.{CoreError}
+use Rattle.cbs_steps.specs.declared.reply.Ran.{Ran}
+use Rattle.cbs_steps.specs.declared.reply.Ran.TheVariants as ran
+use Rattle.cbs_steps.specs.declared.reply.Reply.TheVariants as reply
+use Rattle.cbs_steps.specs.declared.step.Step.{Step}
+use Rattle.cbs_steps.specs.declared.step.Step.TheVariants.{Submit, Run, Advance, Close}
+use Rattle.cbs_steps.proofs.Histories.{account_face}
 use Rattle.cbs_core.proofs.Laws.{run_later, advance_later, later_by}
 use Rattle.cbs_rules.specs.Rules.{clock_end}
 use Rattle.cbs_house.specs.declared.error.HouseError.{HouseError}

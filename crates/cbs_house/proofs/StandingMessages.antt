@@ -9,8 +9,8 @@ use Rattle.std.proofs.lemmas.List.{append-nil, append_assoc}
 use mathlib.Core.List.{IsPrefix}
 use Rattle.cbs_job.specs.Work.{Meaning}
 use Rattle.cbs_job.specs.declared.work.Work.{Ghosts}
-use Rattle.cbs_core.specs.History.{History}
-use Rattle.cbs_core.specs.declared.step.Step.{Step}
+use Rattle.cbs_steps.specs.History.{History}
+use Rattle.cbs_steps.specs.declared.step.Step.{Step}
 use Rattle.cbs_house.specs.declared.client.Client.{Client}
 use Rattle.cbs_house.specs.declared.feed.Feed.{Feed}
 use Rattle.cbs_house.specs.declared.house.House.{House}

@@ -4,9 +4,9 @@ use Rattle.std.proofs.lemmas.List.{append-nil, append_assoc}
 use Rattle.std.specs.List.{All, AllByRecursion, list_any}
 use Rattle.cbs_job.specs.Work.{Meaning}
 use Rattle.cbs_job.specs.declared.work.Work.{Ghosts}
-use Rattle.cbs_core.specs.History.{History, ◌⊕◌}
-use Rattle.cbs_core.specs.declared.step.Step.{Step}
-use Rattle.cbs_core.specs.declared.step.Step.TheVariants.{Submit, Run, Advance, Close}
+use Rattle.cbs_steps.specs.History.{History, ◌⊕◌}
+use Rattle.cbs_steps.specs.declared.step.Step.{Step}
+use Rattle.cbs_steps.specs.declared.step.Step.TheVariants.{Submit, Run, Advance, Close}
 use Rattle.cbs_house.specs.declared.house.House.{House}
 use Rattle.cbs_house.specs.declared.poll.Poll.{Poll}
 use Rattle.cbs_house.specs.declared.poll.Poll.TheVariants.{Nothing, Took, Closed, Full, OutOfMemory, NoSuchServer}
@@ -15,9 +15,10 @@ use Rattle.cbs_house.specs.Houses.{core_of, rings_of, Made, Polled}
 use Rattle.cbs_house.specs.Polls.{lacks_memory, Answered, PollsEach}
 use Rattle.cbs_house.specs.Rounds.{popped_by, ServesOn}
 use Rattle.cbs_house.specs.Steps.{pops, MayServe}
-use Rattle.cbs_core.specs.Continuations.{EachAllowed, AllAllowed}
+use Rattle.cbs_steps.specs.Continuations.{EachAllowed}
+use Rattle.cbs_core.specs.Agreement.{AllAllowed}
 use Rattle.cbs_core.specs.Held.{IsClosed}
-use Rattle.cbs_core.specs.Quiet.{IsQuietAfter}
+use Rattle.cbs_steps.specs.Quiet.{IsQuietAfter}
 use Rattle.cbs_house.specs.Turns.{ArePolls, steps_in, TakesTurn, TakesExactly, TakesTurns}
 use Rattle.cbs_house.proofs.MadeSteps.{made_nothing, made_both}
 use Rattle.cbs_house.proofs.Moves.{serves_then, serve_quiet}

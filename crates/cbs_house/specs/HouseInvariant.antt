@@ -7,7 +7,7 @@ use Rattle.cbs_house.specs.declared.rings.Rings.{Rings}
 use Rattle.cbs_house.specs.Collected.{Shelved, shelf_at}
 use Rattle.cbs_house.specs.Messages.{jobs_among, has_end, end_is_last}
 use Rattle.cbs_house.specs.RingEnds.{rings_in, received_in}
-use Rattle.cbs_core.specs.Continuations.{HasHistory}
+use Rattle.cbs_core.specs.Agreement.{HasHistory}
 
 -- What a house keeps of one server, of which so many results were handed out: its results, and then what the jobs held come to,
 -- are what the jobs received come to, in order, behind the results that were handed out; it accepted each job received, and

@@ -3,17 +3,18 @@ use Rattle.std.specs.Prelude.{ℕ, ◌≡◌, ◌≢◌, ◌⊎◌, ◌+◌, ◌
 use mathlib.Core.List.{IsPrefix}
 use Rattle.cbs_job.specs.Work.{Meaning, whole}
 use Rattle.cbs_job.specs.declared.work.Work.{Ghosts}
-use Rattle.cbs_core.specs.Faces.{face_at, backlog_of}
+use Rattle.cbs_steps.specs.Faces.{face_at, backlog_of}
 use Rattle.cbs_core.specs.Held.{CoreHeld, held_at, IsOpen, Accepts, HasRoom}
-use Rattle.cbs_core.specs.History.{History}
-use Rattle.cbs_core.specs.OnTime.{IsCoreOnTime, KeepsTime}
-use Rattle.cbs_core.specs.Quiet.{IsQuietAfter}
-use Rattle.cbs_core.specs.declared.error.CoreError.{CoreError}
-use Rattle.cbs_core.specs.declared.reply.Ran.{Ran}
-use Rattle.cbs_core.specs.declared.reply.Ran.TheVariants as ran
-use Rattle.cbs_core.specs.declared.step.Step.{Step}
-use Rattle.cbs_core.specs.declared.step.Step.TheVariants as step
-use Rattle.cbs_core.specs.declared.view.ServerView.{ServerView}
+use Rattle.cbs_steps.specs.History.{History}
+use Rattle.cbs_steps.specs.OnTime.{KeepsTime}
+use Rattle.cbs_core.specs.Held.{IsCoreOnTime}
+use Rattle.cbs_steps.specs.Quiet.{IsQuietAfter}
+use Rattle.cbs_steps.specs.declared.error.CoreError.{CoreError}
+use Rattle.cbs_steps.specs.declared.reply.Ran.{Ran}
+use Rattle.cbs_steps.specs.declared.reply.Ran.TheVariants as ran
+use Rattle.cbs_steps.specs.declared.step.Step.{Step}
+use Rattle.cbs_steps.specs.declared.step.Step.TheVariants as step
+use Rattle.cbs_steps.specs.declared.view.ServerView.{ServerView}
 use Rattle.cbs_house.specs.declared.error.HouseError.{HouseError}
 use Rattle.cbs_house.specs.declared.error.HouseError.TheVariants as house_error
 use Rattle.cbs_house.specs.declared.house.House.{House}
@@ -25,7 +26,7 @@ use Rattle.cbs_house.specs.Messages.{jobs_among}
 use Rattle.cbs_house.specs.RingEnds.{rings_in, received_in, known_in}
 use Rattle.cbs_house.specs.Rings.{Ring}
 use Rattle.cbs_house.specs.Steps.{messages_of, pops}
-use Rattle.cbs_core.specs.Continuations.{Follows, AllAllowed, AllOnTime}
+use Rattle.cbs_core.specs.Agreement.{Follows, AllAllowed, AllOnTime}
 
 module _ {W A : Type 0} {g : Ghosts W} where
   -- what the house's core holds

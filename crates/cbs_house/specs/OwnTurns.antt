@@ -4,13 +4,13 @@ use Rattle.cbs_job.specs.Work.{Meaning}
 use Rattle.cbs_job.specs.declared.work.Work.{Ghosts}
 use Rattle.cbs_rules.specs.Rules.{clock_end}
 use Rattle.cbs_core.specs.Agreement.{Agrees}
-use Rattle.cbs_core.specs.Continuations.{IsNeeded, IsUseful}
+use Rattle.cbs_steps.specs.Continuations.{IsNeeded, IsUseful}
 use Rattle.cbs_core.specs.Held.{HoldsJob, HoldsNoJob}
-use Rattle.cbs_core.specs.History.{History, world_after, reply_in}
-use Rattle.cbs_core.specs.declared.reply.Ran.{Ran}
-use Rattle.cbs_core.specs.declared.reply.Ran.TheVariants as ran
-use Rattle.cbs_core.specs.declared.reply.Reply.TheVariants as reply
-use Rattle.cbs_core.specs.declared.step.Step.TheVariants.{Run, Advance}
+use Rattle.cbs_steps.specs.History.{History, world_after, reply_in}
+use Rattle.cbs_steps.specs.declared.reply.Ran.{Ran}
+use Rattle.cbs_steps.specs.declared.reply.Ran.TheVariants as ran
+use Rattle.cbs_steps.specs.declared.reply.Reply.TheVariants as reply
+use Rattle.cbs_steps.specs.declared.step.Step.TheVariants.{Run, Advance}
 use Rattle.cbs_house.specs.declared.house.House.{House}
 use Rattle.cbs_house.specs.declared.turn.Turn.{Turn}
 use Rattle.cbs_house.specs.Houses.{core_of, result_count, Made}

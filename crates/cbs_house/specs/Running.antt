@@ -6,8 +6,8 @@ use Rattle.cbs_job.specs.declared.completion.Completion.{Completion}
 use Rattle.cbs_job.specs.declared.work.Work.{Ghosts}
 use Rattle.cbs_rules.specs.Rules.{clock_end}
 use Rattle.cbs_core.specs.Held.{CoreHeld, IsOpen, IsClosed, HoldsJob, HoldsNoJob}
-use Rattle.cbs_core.specs.declared.reply.Ran.{Ran}
-use Rattle.cbs_core.specs.declared.reply.Ran.TheVariants as ran
+use Rattle.cbs_steps.specs.declared.reply.Ran.{Ran}
+use Rattle.cbs_steps.specs.declared.reply.Ran.TheVariants as ran
 use Rattle.cbs_house.specs.declared.error.HouseError.{HouseError}
 use Rattle.cbs_house.specs.declared.error.HouseError.TheVariants.{BadBacklog, BadRing, OutOfMemory, NoSuchServer, ClockEnd, Stalled}
 use Rattle.cbs_house.specs.declared.house.House.{House}

@@ -1,10 +1,10 @@
 -- The steps that a house makes: the messages that they take, and where each may stand.
 use Rattle.std.specs.Prelude.{ℕ, ◌+◌, eqb, if◌then◌else◌, List, [], ◌∷◌, ◌++◌}
 use Rattle.cbs_job.specs.Work.{Meaning}
-use Rattle.cbs_core.specs.Continuations.{IsNeeded}
-use Rattle.cbs_core.specs.History.{History, world_after}
-use Rattle.cbs_core.specs.declared.step.Step.{Step}
-use Rattle.cbs_core.specs.declared.step.Step.TheVariants.{Submit, Run, Advance, Close}
+use Rattle.cbs_steps.specs.Continuations.{IsNeeded}
+use Rattle.cbs_steps.specs.History.{History, world_after}
+use Rattle.cbs_steps.specs.declared.step.Step.{Step}
+use Rattle.cbs_steps.specs.declared.step.Step.TheVariants.{Submit, Run, Advance, Close}
 use Rattle.cbs_house.specs.declared.message.Message.{Message}
 use Rattle.cbs_house.specs.declared.message.Message.TheVariants.{Job, End}
 

@@ -3,10 +3,10 @@ use Rattle.std.specs.Prelude.{ℕ, ◌≡◌, ◌+◌, ◌≤◌, ◌<◌, List,
 use Rattle.std.specs.List.{All, AllByRecursion}
 use Rattle.cbs_job.specs.Work.{Meaning}
 use Rattle.cbs_job.specs.declared.work.Work.{Ghosts}
-use Rattle.cbs_core.specs.Continuations.{AllAllowed, AllOnTime}
-use Rattle.cbs_core.specs.Quiet.{IsQuietAfter}
-use Rattle.cbs_core.specs.declared.step.Step.{Step}
-use Rattle.cbs_core.specs.declared.step.Step.TheVariants.{Submit, Run, Advance, Close}
+use Rattle.cbs_core.specs.Agreement.{AllAllowed, AllOnTime}
+use Rattle.cbs_steps.specs.Quiet.{IsQuietAfter}
+use Rattle.cbs_steps.specs.declared.step.Step.{Step}
+use Rattle.cbs_steps.specs.declared.step.Step.TheVariants.{Submit, Run, Advance, Close}
 use Rattle.cbs_house.specs.declared.house.House.{House}
 use Rattle.cbs_house.specs.Houses.{core_of, Made}
 use Rattle.cbs_core.specs.Held.{IsClosed}

@@ -10,7 +10,7 @@ impl<W: Work, A: Allocator> House<W, A> {
     ghost use Rattle.std.specs.Prelude.{ℕ, ◌≡◌, ◌<◌, true, false, IsOk, OnOk, IfErr};
     ghost use Rattle.cbs_house.specs.Houses.{core_of, rings_of, received, IsHouseOnTime, AllFinished, Moves};
     ghost use Rattle.cbs_core.specs.Held.{HoldsJob, HoldsNoJob};
-    ghost use Rattle.cbs_core.specs.Continuations.{MayDrain};
+    ghost use Rattle.cbs_steps.specs.Continuations.{MayDrain};
 
     /// Runs until no accepted job is unfinished. Where nobody is ready it advances the clock by the
     /// idle span, so that no time is lost; it takes no message. At `Ok` the results of each server, behind

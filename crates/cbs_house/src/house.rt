@@ -36,16 +36,16 @@ impl<W: Work, A: Allocator> Drop for House<W, A> {
 impl<W: Work, A: Allocator> House<W, A> {
     ghost use Rattle.std.specs.Prelude.{ℕ, ◌≡◌, ◌≢◌, ◌↔◌, ◌⊎◌, false, IsTrue, ◌<◌, ◌≤◌, ◌+◌, ◌*◌, [], ◌∷◌, ◌++◌, length, slice_get, Ok, Err, Some, None, IfSome, IfNone, IfOk, IfErr, OnOk, MatchResult, MatchOption};
     ghost use Rattle.cbs_core.specs.Agreement.{Agrees};
-    ghost use Rattle.cbs_core.specs.History.{History, faces, world_after, reply_in};
-    ghost use Rattle.cbs_core.specs.OnTime.{IsWorldOnTime};
-    ghost use Rattle.cbs_core.specs.Quiet.{IsAtRest, IsIdleSpan, IsQuietAfter};
-    ghost use Rattle.cbs_core.specs.Fronts.{front_output};
+    ghost use Rattle.cbs_steps.specs.History.{History, faces, world_after, reply_in};
+    ghost use Rattle.cbs_steps.specs.OnTime.{IsWorldOnTime};
+    ghost use Rattle.cbs_steps.specs.Quiet.{IsAtRest, IsIdleSpan, IsQuietAfter};
+    ghost use Rattle.cbs_core.specs.Held.{front_output};
     ghost use Rattle.cbs_core.specs.Held.{held_at, IsClosed};
-    ghost use Rattle.cbs_core.specs.Faces.{face_at, view_reply};
-    ghost use Rattle.cbs_core.specs.Laws.{account_in, IsWithinBudget};
-    ghost use Rattle.cbs_core.specs.Promised.{promised, AllFinishedBy};
-    ghost use Rattle.cbs_core.specs.declared.reply.Reply.TheVariants as reply;
-    ghost use Rattle.cbs_core.specs.declared.step.Step.TheVariants as step;
+    ghost use Rattle.cbs_steps.specs.Faces.{face_at, view_reply};
+    ghost use Rattle.cbs_steps.specs.Laws.{account_in, IsWithinBudget};
+    ghost use Rattle.cbs_steps.specs.Promises.{promised, AllFinishedBy};
+    ghost use Rattle.cbs_steps.specs.declared.reply.Reply.TheVariants as reply;
+    ghost use Rattle.cbs_steps.specs.declared.step.Step.TheVariants as step;
     ghost use Rattle.cbs_house.specs.Clients.{server_of, sent_by, free, SameClient};
     ghost use Rattle.cbs_house.specs.HouseInvariant.{KeepsServer};
     ghost use Rattle.cbs_house.specs.Houses.{core_of, rings_of, IsHouseOnTime, received, known, results_of, handed_of, view_answer, Made, LooksOnly, SameHouse, Polled, CanTake, Collects, NamesJob};

@@ -3,9 +3,9 @@
 ghost use Rattle.std.specs.Prelude.{ℕ, ◌≡◌, ◌≤◌, List, [], length, map, IfOk, OnOk};
 ghost use Rattle.std.specs.List.{All, range_with_len};
 ghost use Rattle.cbs_core.specs.Agreement.{Agrees};
-ghost use Rattle.cbs_core.specs.Punctual.{IsPunctual};
-ghost use Rattle.cbs_core.specs.Setups.{terms_of};
-ghost use Rattle.cbs_core.specs.declared.step.Step.{Step};
+ghost use Rattle.cbs_steps.specs.Punctual.{IsPunctual};
+ghost use Rattle.cbs_steps.specs.Setups.{terms_of};
+ghost use Rattle.cbs_steps.specs.declared.step.Step.{Step};
 ghost use Rattle.cbs_rate.specs.Refusals.{RefusesByOrMemory};
 ghost use Rattle.cbs_house.specs.Clients.{server_of, ring_of};
 ghost use Rattle.cbs_house.specs.Houses.{core_of, rings_of, IsHouseOnTime, received, known, results_of, handed_of};

@@ -3,9 +3,9 @@
 ghost use Rattle.std.specs.Prelude.{ℕ, ◌≡◌, ◌⊎◌, Some, None, List, [], length, map, IfOk, OnOk, MatchResult};
 ghost use Rattle.std.specs.List.{All, range_with_len};
 ghost use Rattle.cbs_core.specs.Agreement.{Agrees};
-ghost use Rattle.cbs_core.specs.Punctual.{IsPunctual};
-ghost use Rattle.cbs_core.specs.Setups.{terms_of};
-ghost use Rattle.cbs_core.specs.declared.step.Step.{Step};
+ghost use Rattle.cbs_steps.specs.Punctual.{IsPunctual};
+ghost use Rattle.cbs_steps.specs.Setups.{terms_of};
+ghost use Rattle.cbs_steps.specs.declared.step.Step.{Step};
 ghost use Rattle.cbs_house.specs.Feeds.{client_of, unsent_jobs, servers_of};
 ghost use Rattle.cbs_house.specs.Houses.{core_of, IsHouseOnTime, received, known, results_of, handed_of};
 ghost use Rattle.cbs_house.specs.Opened.{open_refusal, IsUnused};

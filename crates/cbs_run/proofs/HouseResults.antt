@@ -10,7 +10,7 @@ use Rattle.cbs_job.specs.declared.work.Work.{Ghosts}
 use Rattle.cbs_job.specs.FileJobs.{of_files}
 use Rattle.cbs_job.specs.declared.file.FileJob.{FileJob}
 use Rattle.cbs_core.specs.Agreement.{Agrees}
-use Rattle.cbs_core.specs.declared.step.Step.{Step}
+use Rattle.cbs_steps.specs.declared.step.Step.{Step}
 use Rattle.cbs_house.specs.Clients.{server_of}
 use Rattle.cbs_house.specs.Feeds.{client_of, unsent_jobs, all_jobs, KeepsFeeds}
 use Rattle.cbs_house.specs.Houses.{core_of, results_of, handed_of}

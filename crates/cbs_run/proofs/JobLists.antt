@@ -5,8 +5,8 @@ use Rattle.std.proofs.lemmas.Bool.Decides.{eqb_tells}
 use Rattle.std.proofs.lemmas.List.{append-nil, get_or-map, get_or-replicate, get_or-set_same, get_or-set_other, get_or_past, length-map, length-replicate, map-set}
 use Rattle.std.proofs.lemmas.List.Elements.{filter_map-append}
 use Rattle.cbs_job.specs.declared.file.FileJob.{FileJob}
-use Rattle.cbs_core.specs.declared.step.Step.{Step}
-use Rattle.cbs_core.specs.declared.step.Step.TheVariants.{Submit}
+use Rattle.cbs_steps.specs.declared.step.Step.{Step}
+use Rattle.cbs_steps.specs.declared.step.Step.TheVariants.{Submit}
 use Rattle.cbs_run.specs.ResultLines.{job_for, jobs_for}
 
 -- so many lists, of which none has a job yet

@@ -7,10 +7,10 @@ use Rattle.cbs_job.specs.FileJobs.{of_files}
 use Rattle.cbs_job.specs.declared.file.FileJob.{FileJob}
 use Rattle.cbs_core.specs.Agreement.{Agrees}
 use Rattle.cbs_core.specs.Held.{CoreHeld}
-use Rattle.cbs_core.specs.History.{History, ◌⊕◌, world_after, reply_in}
-use Rattle.cbs_core.specs.declared.reply.Reply.{Reply}
-use Rattle.cbs_core.specs.declared.step.Step.{Step}
-use Rattle.cbs_core.specs.Continuations.{◌⊕⊕◌}
+use Rattle.cbs_steps.specs.History.{History, ◌⊕◌, world_after, reply_in}
+use Rattle.cbs_steps.specs.declared.reply.Reply.{Reply}
+use Rattle.cbs_steps.specs.declared.step.Step.{Step}
+use Rattle.cbs_steps.specs.Continuations.{◌⊕⊕◌}
 use Rattle.cbs_run.specs.StepTexts.{StepText, call_of, text_after, texts_after, WritesSteps, HasMade, StopsAtStep}
 use Rattle.cbs_run.specs.Writers.{Writer, Leaves, StopsWriting}
 use Rattle.cbs_run.specs.Writes.{AppendsFront, AppendsAllBut}

@@ -2,11 +2,11 @@
 use Rattle.std.specs.Prelude.{ℕ, List}
 use Rattle.cbs_job.specs.FileJobs.{of_files}
 use Rattle.cbs_job.specs.declared.file.FileJob.{FileJob}
-use Rattle.cbs_core.specs.Continuations.{◌⊕⊕◌}
-use Rattle.cbs_core.specs.History.{History}
-use Rattle.cbs_core.specs.Laws.{account_in, completions_of, replies_after, Completes, NoneAfterClose}
-use Rattle.cbs_core.specs.Punctual.{IsPunctual}
-use Rattle.cbs_core.specs.declared.step.Step.{Step}
+use Rattle.cbs_steps.specs.Continuations.{◌⊕⊕◌}
+use Rattle.cbs_steps.specs.History.{History}
+use Rattle.cbs_steps.specs.Laws.{account_in, completions_of, replies_after, Completes, NoneAfterClose}
+use Rattle.cbs_steps.specs.Punctual.{IsPunctual}
+use Rattle.cbs_steps.specs.declared.step.Step.{Step}
 use Rattle.cbs_file.specs.TaskFiles.{File}
 use Rattle.cbs_run.specs.StepTexts.{start_of}
 

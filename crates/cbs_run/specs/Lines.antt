@@ -1,9 +1,9 @@
 -- The text of one line of a trace: the clock, the call that the step makes, what it is answered, and the state of the server that
 -- accepted a job or ran.
 use Rattle.std.specs.Prelude.{ℕ, List, [], ◌++◌, codes, decimal, Option, Some, None, if◌then◌else◌}
-use Rattle.cbs_core.specs.Errors.{core_error_name}
-use Rattle.cbs_core.specs.declared.reply.Ran.TheVariants as ran
-use Rattle.cbs_core.specs.declared.view.ServerView.{ServerView}
+use Rattle.cbs_steps.specs.Errors.{core_error_name}
+use Rattle.cbs_steps.specs.declared.reply.Ran.TheVariants as ran
+use Rattle.cbs_steps.specs.declared.view.ServerView.{ServerView}
 use Rattle.cbs_run.specs.declared.call.Call.{Call}
 use Rattle.cbs_run.specs.declared.call.Call.TheVariants.{Submit, Run, Advance, Close}
 use Rattle.cbs_run.specs.declared.line.Answer.{Answer}

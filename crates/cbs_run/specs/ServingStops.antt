@@ -5,10 +5,10 @@ use Rattle.cbs_job.specs.declared.file.FileJob.{FileJob}
 use Rattle.cbs_rules.specs.Rules.{clock_end}
 use Rattle.cbs_core.specs.Agreement.{Agrees}
 use Rattle.cbs_core.specs.Held.{CoreHeld}
-use Rattle.cbs_core.specs.declared.step.Step.{Step}
+use Rattle.cbs_steps.specs.declared.step.Step.{Step}
 use Rattle.cbs_core.specs.Held.{HoldsJob, HoldsNoJob}
 use Rattle.cbs_house.specs.Steps.{MayServe}
-use Rattle.cbs_core.specs.Continuations.{◌⊕⊕◌, EachAllowed}
+use Rattle.cbs_steps.specs.Continuations.{◌⊕⊕◌, EachAllowed}
 use Rattle.cbs_house.specs.declared.error.HouseError.{HouseError}
 use Rattle.cbs_house.specs.declared.error.HouseError.TheVariants as house
 use Rattle.cbs_file.specs.TaskFiles.{File}

@@ -4,12 +4,12 @@ use Rattle.cbs_job.specs.FileJobs.{of_files}
 use Rattle.cbs_job.specs.declared.file.FileJob.{FileJob}
 use Rattle.cbs_core.specs.Agreement.{Agrees}
 use Rattle.cbs_core.specs.Held.{CoreHeld}
-use Rattle.cbs_core.specs.History.{World, History, ◌⊕◌, world_after, reply_in}
-use Rattle.cbs_core.specs.Setups.{terms_of}
-use Rattle.cbs_core.specs.declared.reply.Reply.{Reply}
-use Rattle.cbs_core.specs.declared.step.Step.{Step}
-use Rattle.cbs_core.specs.declared.step.Step.TheVariants as step
-use Rattle.cbs_core.specs.Continuations.{◌⊕⊕◌}
+use Rattle.cbs_steps.specs.History.{World, History, ◌⊕◌, world_after, reply_in}
+use Rattle.cbs_steps.specs.Setups.{terms_of}
+use Rattle.cbs_steps.specs.declared.reply.Reply.{Reply}
+use Rattle.cbs_steps.specs.declared.step.Step.{Step}
+use Rattle.cbs_steps.specs.declared.step.Step.TheVariants as step
+use Rattle.cbs_steps.specs.Continuations.{◌⊕⊕◌}
 use Rattle.cbs_file.specs.TaskFiles.{File}
 use Rattle.cbs_run.specs.Writers.{Writer, Writes}
 use Rattle.cbs_run.specs.Writes.{AppendsFront}

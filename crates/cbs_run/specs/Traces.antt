@@ -2,12 +2,12 @@
 use Rattle.std.specs.Prelude.{ℕ, List, slice_get, Option, Some, None, Result, Ok, Err}
 use Rattle.cbs_job.specs.FileJobs.{of_files}
 use Rattle.cbs_job.specs.declared.file.FileJob.{FileJob}
-use Rattle.cbs_core.specs.History.{World, faces}
-use Rattle.cbs_core.specs.Faces.{view_reply}
-use Rattle.cbs_core.specs.declared.error.CoreError.{CoreError}
-use Rattle.cbs_core.specs.declared.reply.Reply.{Reply}
-use Rattle.cbs_core.specs.declared.reply.Reply.TheVariants as reply
-use Rattle.cbs_core.specs.declared.view.ServerView.{ServerView}
+use Rattle.cbs_steps.specs.History.{World, faces}
+use Rattle.cbs_steps.specs.Faces.{view_reply}
+use Rattle.cbs_steps.specs.declared.error.CoreError.{CoreError}
+use Rattle.cbs_steps.specs.declared.reply.Reply.{Reply}
+use Rattle.cbs_steps.specs.declared.reply.Reply.TheVariants as reply
+use Rattle.cbs_steps.specs.declared.view.ServerView.{ServerView}
 use Rattle.cbs_file.specs.TaskFiles.{File}
 use Rattle.cbs_run.specs.Lines.{line_text, shown_server}
 use Rattle.cbs_run.specs.StepTexts.{StepText, start_of, texts_of, WritesSteps}

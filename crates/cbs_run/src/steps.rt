@@ -3,9 +3,9 @@
 ghost use Rattle.std.specs.Prelude.{ℕ, ◌≡◌, ◌⊎◌, ◌-◌, ◌<◌, ◌^◌, OnOk, OnErr, string_bytes};
 ghost use Rattle.cbs_job.specs.FileJobs.{of_files};
 ghost use Rattle.cbs_core.specs.Agreement.{Agrees};
-ghost use Rattle.cbs_core.specs.History.{History, ◌⊕◌, world_after, reply_in};
-ghost use Rattle.cbs_core.specs.Laws.{account_in, completion_in, completion_of, Completes};
-ghost use Rattle.cbs_core.specs.Replies.{is_lack};
+ghost use Rattle.cbs_steps.specs.History.{History, ◌⊕◌, world_after, reply_in};
+ghost use Rattle.cbs_steps.specs.Laws.{account_in, completion_in, completion_of, Completes};
+ghost use Rattle.cbs_steps.specs.Replies.{is_lack};
 ghost use Rattle.cbs_run.specs.Writers.{Leaves, StopsWriting};
 ghost use Rattle.cbs_run.specs.FileLaws.{CompletesAll, KeepsLaws};
 ghost use Rattle.cbs_run.specs.StepTexts.{StepText, text_after, texts_after, start_of, texts_of, WritesSteps, StopsAtStep};

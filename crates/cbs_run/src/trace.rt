@@ -3,7 +3,7 @@
 ghost use Rattle.std.specs.Prelude.{◌≡◌, ◌-◌, ◌<◌, ◌^◌, OnOk};
 ghost use Rattle.cbs_job.specs.FileJobs.{of_files};
 ghost use Rattle.cbs_core.specs.Agreement.{Agrees};
-ghost use Rattle.cbs_core.specs.History.{History, world_after};
+ghost use Rattle.cbs_steps.specs.History.{History, world_after};
 ghost use Rattle.cbs_run.specs.FileLaws.{KeepsLaws};
 ghost use Rattle.cbs_run.specs.Writers.{Leaves};
 ghost use Rattle.cbs_run.specs.Traces.{answer_of, line_in, line_of, trace, TraceStops};

@@ -6,14 +6,14 @@ use Rattle.cbs_job.specs.declared.file.FileJob.TheVariants.{Sum, Peak}
 use Rattle.cbs_rules.specs.Rules.{State, Terms}
 use Rattle.cbs_rules.specs.declared.mode.Mode.{Mode}
 use Rattle.cbs_rules.specs.declared.mode.Mode.TheVariants.{Soft, Throttled}
-use Rattle.cbs_core.specs.History.{ticks, Setup, after, reply_to, account}
-use Rattle.cbs_core.specs.declared.error.CoreError.TheVariants as error
-use Rattle.cbs_core.specs.declared.step.Step.{Step}
-use Rattle.cbs_core.specs.declared.step.Step.TheVariants.{Submit, Run, Advance, Close}
-use Rattle.cbs_core.specs.declared.reply.Ran.TheVariants as ran
-use Rattle.cbs_core.specs.declared.reply.Reply.{Reply}
-use Rattle.cbs_core.specs.declared.reply.Reply.TheVariants as reply
-use Rattle.cbs_core.proofs.Agreements.{ticks_some}
+use Rattle.cbs_steps.specs.History.{ticks, Setup, after, reply_to, account}
+use Rattle.cbs_steps.specs.declared.error.CoreError.TheVariants as error
+use Rattle.cbs_steps.specs.declared.step.Step.{Step}
+use Rattle.cbs_steps.specs.declared.step.Step.TheVariants.{Submit, Run, Advance, Close}
+use Rattle.cbs_steps.specs.declared.reply.Ran.TheVariants as ran
+use Rattle.cbs_steps.specs.declared.reply.Reply.{Reply}
+use Rattle.cbs_steps.specs.declared.reply.Reply.TheVariants as reply
+use Rattle.cbs_steps.proofs.Ticks.{ticks_some}
 
 abbrev terms : Mode → ℕ → ℕ → Terms
 terms m q t = record { mode = m; reservation = record { budget = q; period = t } }

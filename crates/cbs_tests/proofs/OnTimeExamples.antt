@@ -7,14 +7,14 @@ use Rattle.cbs_rate.specs.Rate.{Rate}
 use Rattle.cbs_rules.specs.Rules.{Terms}
 use Rattle.cbs_rules.specs.declared.mode.Mode.{Mode}
 use Rattle.cbs_rules.specs.declared.mode.Mode.TheVariants.{Soft, Throttled}
-use Rattle.cbs_core.specs.Accounts.{Account, face_of}
-use Rattle.cbs_core.specs.History.{Setup, ticks, account, faces, after}
-use Rattle.cbs_core.specs.OnTime.{demand, is_late}
-use Rattle.cbs_core.specs.Promised.{promised}
-use Rattle.cbs_core.specs.Promises.{due}
-use Rattle.cbs_core.specs.Quiet.{AreQuiet}
-use Rattle.cbs_core.specs.declared.step.Step.{Step}
-use Rattle.cbs_core.specs.declared.step.Step.TheVariants.{Submit, Run, Advance}
+use Rattle.cbs_steps.specs.Accounts.{Account, face_of}
+use Rattle.cbs_steps.specs.History.{Setup, ticks, account, faces, after}
+use Rattle.cbs_steps.specs.OnTime.{demand, is_late}
+use Rattle.cbs_steps.specs.Promises.{promised}
+use Rattle.cbs_steps.specs.Promises.{due}
+use Rattle.cbs_steps.specs.Quiet.{AreQuiet}
+use Rattle.cbs_steps.specs.declared.step.Step.{Step}
+use Rattle.cbs_steps.specs.declared.step.Step.TheVariants.{Submit, Run, Advance}
 
 -- work that is nothing but its units
 abbrev units : Meaning ℕ

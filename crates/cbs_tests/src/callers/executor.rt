@@ -1,6 +1,6 @@
 //! A caller of cbs_core.
 
-ghost use Rattle.cbs_core.specs.Laws.{KeepsBudgets};
+ghost use Rattle.cbs_core.specs.Held.{KeepsBudgets};
 
 use cbs_core::{Core, Ran};
 use cbs_job::{Task, Work};

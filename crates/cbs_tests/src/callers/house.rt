@@ -1,9 +1,9 @@
 //! A caller of cbs_house.
 
 ghost use Rattle.std.specs.Prelude.{◌≡◌, List, length, OnOk};
-ghost use Rattle.cbs_core.specs.Punctual.{IsPunctual};
-ghost use Rattle.cbs_core.specs.Setups.{terms_of};
-ghost use Rattle.cbs_core.specs.declared.step.Step.{Step};
+ghost use Rattle.cbs_steps.specs.Punctual.{IsPunctual};
+ghost use Rattle.cbs_steps.specs.Setups.{terms_of};
+ghost use Rattle.cbs_steps.specs.declared.step.Step.{Step};
 
 use cbs_house::{House, HouseError, open_house};
 use cbs_job::Work;

@@ -2,8 +2,8 @@
 
 ghost use Rattle.std.specs.Prelude.{◌≡◌, Some, IfOk, IfSome, length};
 ghost use Rattle.cbs_core.specs.Agreement.{Agrees};
-ghost use Rattle.cbs_core.specs.History.{History};
-ghost use Rattle.cbs_core.specs.Promised.{AllFinishedBy};
+ghost use Rattle.cbs_steps.specs.History.{History};
+ghost use Rattle.cbs_steps.specs.Promises.{AllFinishedBy};
 ghost use Rattle.cbs_house.specs.Houses.{core_of};
 ghost use Rattle.cbs_embed.specs.Calls.{TheHouse};
 ghost use Rattle.cbs_embed.specs.Jobs.{counting};

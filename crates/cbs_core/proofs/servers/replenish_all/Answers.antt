@@ -1,5 +1,5 @@
 use Rattle.std.proofs.Common.{◌≡◌, ◌<◌, length, get_or, set, take, add-one, ap, sym, ◌∙◌, arith}
-use Rattle.cbs_core.specs.Faces.{with_replenishment}
+use Rattle.cbs_steps.specs.Faces.{with_replenishment}
 use Rattle.cbs_core.proofs.ReadyServers.{swept, swept_at, swept_more, swept_all, lists_set, due_earlier, due_more}
 use Rattle.cbs_core.proofs.servers.replenish_all.Goals as goal
 

@@ -1,5 +1,5 @@
 use Rattle.std.proofs.Common.{◌≡◌, take}
-use Rattle.cbs_core.specs.Faces.{with_replenishment}
+use Rattle.cbs_steps.specs.Faces.{with_replenishment}
 use Rattle.cbs_core.specs.ReadyList.{ListsReady, NoneDueBefore}
 use Rattle.cbs_core.proofs.ReadyServers.{swept}
 use Rattle.cbs_core.proofs.servers.replenish_all.Given as goal

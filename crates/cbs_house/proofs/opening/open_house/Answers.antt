@@ -1,8 +1,8 @@
 use Rattle.std.proofs.Common.{sym, ap, arith, ◌≡◌, ◌∙◌, length}
 use Rattle.std.proofs.lemmas.List.{length-map}
 use Rattle.std.proofs.lemmas.List.FromFn.{length-range_with_len}
-use Rattle.cbs_core.specs.History.{Setup}
-use Rattle.cbs_core.specs.Setups.{terms_of}
+use Rattle.cbs_steps.specs.History.{Setup}
+use Rattle.cbs_steps.specs.Setups.{terms_of}
 use Rattle.cbs_core.proofs.Laws.{new_count, terms_count}
 use Rattle.cbs_house.specs.Clients.{server_of, ring_of}
 use Rattle.cbs_house.specs.RingEnds.{rings_in}

@@ -1,6 +1,6 @@
 use Rattle.std.proofs.Common.{suc, ◌∙◌, subst}
 use Rattle.cbs_house.specs.Houses.{Polled}
-use Rattle.cbs_core.specs.Continuations.{MayDrain}
+use Rattle.cbs_steps.specs.Continuations.{MayDrain}
 use Rattle.cbs_house.proofs.Feeds.{opened_moved}
 use Rattle.cbs_house.proofs.Moves.{serves_then, serves_poll, serves_drain}
 use Rattle.cbs_house.proofs.StandingMessages.{answered_ok, poll_takes, not_full, standing_looked, standing_moved}

@@ -2,8 +2,8 @@ use Rattle.std.proofs.Common.{◌≡◌, false, sym, ◌∙◌}
 use Rattle.std.proofs.lemmas.Result.{on_ok_weaker}
 use Rattle.cbs_job.specs.FileJobs.{of_files}
 use Rattle.cbs_core.specs.Agreement.{Agrees}
-use Rattle.cbs_core.specs.History.{◌⊕◌, reply_in}
-use Rattle.cbs_core.specs.Replies.{is_lack}
+use Rattle.cbs_steps.specs.History.{◌⊕◌, reply_in}
+use Rattle.cbs_steps.specs.Replies.{is_lack}
 use Rattle.cbs_run.proofs.StepTexts.{text_is, on_ok_always}
 use Rattle.cbs_run.proofs.steps.take_step.Goals as goal
 

@@ -3,8 +3,8 @@ use Rattle.std.proofs.lemmas.List.{nil_from_length}
 use Rattle.std.proofs.lemmas.Result.{err_from_is_err_and}
 use Rattle.std.specs.Vec.Iter.{into_iter_items}
 use Rattle.cbs_job.specs.FileJobs.{of_files}
-use Rattle.cbs_core.specs.Continuations.{◌⊕⊕◌}
-use Rattle.cbs_core.specs.Laws.{account_in}
+use Rattle.cbs_steps.specs.Continuations.{◌⊕⊕◌}
+use Rattle.cbs_steps.specs.Laws.{account_in}
 use Rattle.cbs_core.proofs.Laws.{Completes-none, after-push, steps_complete, all_yielded}
 use Rattle.cbs_run.proofs.StepTexts.{no_step_made, begins, flushed_front, stops, all_done, goes_on, pushed_front}
 use Rattle.cbs_run.proofs.steps.write_steps.Goals as goal

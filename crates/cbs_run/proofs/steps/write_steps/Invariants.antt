@@ -1,11 +1,11 @@
 use Rattle.std.proofs.Common.{◌≡◌, ◌++◌, ℕ, length}
-use Rattle.cbs_core.specs.Continuations.{◌⊕⊕◌}
+use Rattle.cbs_steps.specs.Continuations.{◌⊕⊕◌}
 use Rattle.cbs_run.specs.FileLaws.{CompletesAll}
 use Rattle.std.specs.Vec.Iter.{into_iter_items, into_iter_len}
 use Rattle.cbs_job.specs.FileJobs.{of_files}
 use Rattle.cbs_job.specs.declared.file.FileJob.{FileJob}
 use Rattle.cbs_core.specs.Agreement.{Agrees}
-use Rattle.cbs_core.specs.History.{History}
+use Rattle.cbs_steps.specs.History.{History}
 use Rattle.cbs_run.proofs.StepTexts.{SoFar}
 use Rattle.cbs_run.proofs.steps.write_steps.Given as goal
 

@@ -1,4 +1,4 @@
-use Rattle.cbs_core.specs.History.{world_after}
+use Rattle.cbs_steps.specs.History.{world_after}
 use Rattle.cbs_core.proofs.IdleSpans.{span_is}
 use Rattle.cbs_core.proofs.executor.Core.idle_span.Goals as goal
 

@@ -1,7 +1,7 @@
 use Rattle.std.proofs.Common.{arith}
 use Rattle.cbs_core.proofs.Agreements.{promised_held, promised_beyond}
 use Rattle.cbs_core.proofs.Cores.{server_at, queue_count}
-use Rattle.cbs_core.proofs.Promised.{promised_kept}
+use Rattle.cbs_core.proofs.LawfulCores.{promised_kept}
 use Rattle.cbs_core.proofs.executor.Core.promised.Goals as goal
 
 pub owed-requires : goal.owed-requires

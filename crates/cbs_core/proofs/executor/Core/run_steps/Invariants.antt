@@ -1,9 +1,10 @@
 use Rattle.std.proofs.Common.{◌≡◌, ℕ, ◌+◌, ◌++◌, ◌≤◌, length, vec_len, vec_capacity}
 use Rattle.std.specs.Vec.Iter.{into_iter_items, into_iter_len}
-use Rattle.cbs_core.specs.History.{History}
+use Rattle.cbs_steps.specs.History.{History}
 use Rattle.cbs_core.specs.Agreement.{Agrees}
-use Rattle.cbs_core.specs.Replies.{AnswersAll, grown_by}
-use Rattle.cbs_core.specs.Laws.{account_in, completions_of, Completes, KeepsBudgets}
+use Rattle.cbs_steps.specs.Replies.{AnswersAll, grown_by}
+use Rattle.cbs_steps.specs.Laws.{account_in, completions_of, Completes}
+use Rattle.cbs_core.specs.Held.{KeepsBudgets}
 use Rattle.cbs_core.proofs.executor.Core.run_steps.Given as goal
 
 abbrev pub invariant-loop-step : goal.invariant-loop-step

@@ -1,9 +1,10 @@
+use Rattle.cbs_lists.proofs.Lists.{counted}
 use Rattle.cbs_core.proofs.Agreements.{submit_answered, submit_agrees}
 use Rattle.cbs_core.proofs.Cores.{core_joined, few_held, few_jobs, queue_there, budgets_kept}
 use Rattle.cbs_core.proofs.Effects.{took_job}
 use Rattle.cbs_core.proofs.Refusals.{accepts_free}
-use Rattle.cbs_core.specs.declared.step.Step.TheVariants as step
-use Rattle.cbs_core.proofs.OnTime.{keeps_time}
+use Rattle.cbs_steps.specs.declared.step.Step.TheVariants as step
+use Rattle.cbs_core.proofs.LawfulCores.{keeps_time}
 use Rattle.cbs_core.proofs.executor.Core.submit_reserved.Goals as goal
 
 pub push-requires : goal.push-requires
@@ -23,18 +24,6 @@ invariant_of-self g c =
     core_joined c.self.invariant c.args.server c.args.task {queues = c.push.new.self.lists} is.accepts c.push.ensures.some
     c.accept.ensures.servers c.push.ensures.lists
 
-pub returns-clause-reply : goal.returns-clause-reply
-returns-clause-reply g c = λ M agrees.
-    let free = accepts_free c.self.view_is c.args.server c.requires.accepts in
-    submit_answered c.self.view_is agrees c.args.server c.args.task free c.accept.result c.accept.ensures.number
-
-pub returns-clause-state : goal.returns-clause-state
-returns-clause-state g c = λ M agrees.
-    let free = accepts_free c.self.view_is c.args.server c.requires.accepts in
-    let is = rw (← c.self.view_is) at c.requires in
-    submit_agrees c.self.view_is agrees c.args.server c.args.task free {queues = c.push.new.self.lists} is.accepts.is_open.within
-    c.accept.ensures.servers c.push.ensures.lists c.push.ensures.some
-
 pub returns-clause-job : goal.returns-clause-job
 returns-clause-job g c =
     let is = rw (← c.self.view_is) at c.requires in
@@ -43,8 +32,15 @@ returns-clause-job g c =
     took_job c.self.view_is c.self.inside.clock c.accept.new.self c.push.new.self.lists c.push.new.self.rooms
     c.args.server c.accept.result c.args.task is.accepts.is_open.within queue c.accept.ensures.number c.accept.ensures.servers c.push.ensures.lists
 
-pub returns-clause-budgets : goal.returns-clause-budgets
-returns-clause-budgets g c = budgets_kept (invariant_of-self g c)
-
-pub returns-clause-on_time : goal.returns-clause-on_time
-returns-clause-on_time g c = λ M agrees. keeps_time g.W.Work.meaning c.self.view_is c.self.invariant agrees (step.Submit c.args.server c.args.task)
+pub returns-clause-makes : goal.returns-clause-makes
+returns-clause-makes g c =
+    let is = rw (← c.self.view_is) at c.requires in
+    let free = accepts_free c.self.view_is c.args.server c.requires.accepts in
+    record {
+      reply = λ M agrees. submit_answered c.self.view_is agrees c.args.server c.args.task free c.accept.result c.accept.ensures.number;
+      state = λ M agrees. submit_agrees c.self.view_is agrees c.args.server c.args.task free {queues = c.push.new.self.lists} is.accepts.is_open.within
+          c.accept.ensures.servers c.push.ensures.lists c.push.ensures.some;
+      on_time = λ M agrees. keeps_time g.W.Work.meaning c.self.view_is c.self.invariant agrees (step.Submit c.args.server c.args.task);
+      count = rw (← c.self.view_is, c.accept.ensures.servers) (simp counted);
+      budgets = budgets_kept (invariant_of-self g c);
+    }

@@ -1,8 +1,8 @@
 use Rattle.std.proofs.Common.{◌∙◌, ap}
 use Rattle.std.specs.Prelude.{slice_get}
-use Rattle.cbs_core.specs.Faces.{view_reply}
+use Rattle.cbs_steps.specs.Faces.{view_reply}
 use Rattle.cbs_core.proofs.Cores.{view_early, view_budget}
-use Rattle.cbs_core.proofs.OnTime.{shown_in_time}
+use Rattle.cbs_core.proofs.LawfulCores.{shown_in_time}
 use Rattle.cbs_core.proofs.executor.Core.view.Goals as goal
 
 pub returns-clause-view : goal.returns-clause-view

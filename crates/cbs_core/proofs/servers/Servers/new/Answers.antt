@@ -2,8 +2,8 @@ use Rattle.std.proofs.Common.{◌≡◌, ◌≤◌, ◌++◌, ◌∷◌, [], len
 use Rattle.std.proofs.lemmas.Grind.{common_steps}
 use Rattle.std.proofs.lemmas.Option.{slice_get-get_or}
 use Rattle.cbs_rules.specs.declared.mode.Mode.TheVariants.{Soft}
-use Rattle.cbs_core.specs.Setups.{terms_of}
-use Rattle.cbs_core.proofs.Plans.{faces_more, faces_all, length-faces, length-terms}
+use Rattle.cbs_steps.specs.Setups.{terms_of}
+use Rattle.cbs_steps.proofs.Plans.{faces_more, faces_all, length-faces, length-terms}
 use Rattle.cbs_core.proofs.ReadyServers.{lists_new, due_new}
 use Rattle.cbs_core.proofs.servers.Servers.new.Goals as goal
 

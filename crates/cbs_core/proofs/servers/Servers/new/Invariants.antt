@@ -1,6 +1,6 @@
 use Rattle.std.proofs.Common.{◌≡◌, map, take}
-use Rattle.cbs_core.specs.Faces.{new_face}
-use Rattle.cbs_core.specs.Setups.{terms_of}
+use Rattle.cbs_steps.specs.Faces.{new_face}
+use Rattle.cbs_steps.specs.Setups.{terms_of}
 use Rattle.cbs_core.proofs.servers.Servers.new.Given as goal
 
 abbrev pub invariant-loop-server : goal.invariant-loop-server

@@ -1,7 +1,7 @@
 use Rattle.std.proofs.Common.{◌∙◌, inr, rules, arith}
 use Rattle.std.proofs.lemmas.Grind.{common_steps}
-use Rattle.cbs_core.specs.Faces.{with_unit}
-use Rattle.cbs_core.proofs.Lists.{written}
+use Rattle.cbs_steps.specs.Faces.{with_unit}
+use Rattle.cbs_lists.proofs.Lists.{written}
 use Rattle.cbs_core.proofs.ReadyServers.{chosen_first, lists_first, lists_set, due_ready, due_set, due_earlier}
 use Rattle.cbs_core.proofs.servers.Servers.use_tick.Goals as goal
 

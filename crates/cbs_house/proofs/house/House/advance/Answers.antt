@@ -1,6 +1,6 @@
 use Rattle.std.proofs.Common.{◌∷◌, [], refl, arith}
 use Rattle.std.proofs.lemmas.Grind.{common_steps}
-use Rattle.cbs_core.specs.declared.step.Step.TheVariants.{Advance}
+use Rattle.cbs_steps.specs.declared.step.Step.TheVariants.{Advance}
 use Rattle.cbs_house.proofs.HouseInvariant.{housed_all, same_shelf}
 use Rattle.cbs_house.proofs.MadeSteps.{made_time}
 use Rattle.cbs_house.proofs.Moves.{step_on_time}

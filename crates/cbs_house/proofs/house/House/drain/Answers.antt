@@ -1,5 +1,5 @@
 use Rattle.std.proofs.Common.{rules}
-use Rattle.cbs_core.specs.Continuations.{MayDrain}
+use Rattle.cbs_steps.specs.Continuations.{MayDrain}
 use Rattle.cbs_house.proofs.Moves.{moves_nothing, moves_both, moves_none, moves_rings, moves_on_time}
 use Rattle.cbs_house.proofs.ServedFeeds.{none_held}
 use Rattle.cbs_house.proofs.house.House.drain.Goals as goal

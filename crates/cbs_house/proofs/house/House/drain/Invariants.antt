@@ -1,7 +1,7 @@
 use Rattle.std.proofs.Common.{◌-◌}
 use Rattle.cbs_rules.specs.declared.server_state.TheConstants.{LIMIT}
 use Rattle.cbs_house.specs.Houses.{Moves}
-use Rattle.cbs_core.specs.Continuations.{MayDrain}
+use Rattle.cbs_steps.specs.Continuations.{MayDrain}
 use Rattle.cbs_house.proofs.house.House.drain.Given as goal
 
 abbrev pub invariant-loop-self : goal.invariant-loop-self

@@ -1,6 +1,6 @@
-use Rattle.cbs_core.specs.History.{world_after}
-use Rattle.cbs_core.specs.declared.step.Step.TheVariants.{Run, Advance}
-use Rattle.cbs_core.specs.Continuations.{MayDrain}
+use Rattle.cbs_steps.specs.History.{world_after}
+use Rattle.cbs_steps.specs.declared.step.Step.TheVariants.{Run, Advance}
+use Rattle.cbs_steps.specs.Continuations.{MayDrain}
 use Rattle.cbs_core.proofs.Laws.{run_later, advance_later, busy_by, later_by}
 use Rattle.cbs_house.proofs.MadeSteps.{on_ok, span_granted}
 use Rattle.cbs_house.proofs.Moves.{moves_step, drain_quiet}

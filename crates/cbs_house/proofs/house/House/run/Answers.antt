@@ -1,6 +1,6 @@
 use Rattle.std.proofs.Common.{◌∷◌, ◌∙◌, [], refl, sym}
-use Rattle.cbs_core.specs.declared.step.Step.TheVariants.{Run}
-use Rattle.cbs_core.specs.declared.reply.Ran.TheVariants as ran
+use Rattle.cbs_steps.specs.declared.step.Step.TheVariants.{Run}
+use Rattle.cbs_steps.specs.declared.reply.Ran.TheVariants as ran
 use Rattle.cbs_house.proofs.HouseInvariant.{housed_one, housed_ran, keeps_done, finished_next}
 use Rattle.cbs_house.proofs.MadeSteps.{made_time, collects_none}
 use Rattle.cbs_house.proofs.Moves.{step_on_time}

@@ -1,5 +1,5 @@
 use Rattle.std.proofs.Common.{◌∙◌, ◌∷◌, [], refl, sym, arith}
-use Rattle.cbs_core.specs.declared.step.Step.TheVariants.{Submit, Close}
+use Rattle.cbs_steps.specs.declared.step.Step.TheVariants.{Submit, Close}
 use Rattle.cbs_house.proofs.HouseInvariant.{housed_one, keeps_job, keeps_end, same_shelf, none_handed}
 use Rattle.cbs_house.proofs.MadeSteps.{made_job, made_end}
 use Rattle.cbs_house.proofs.house.House.take_next.Goals as goal

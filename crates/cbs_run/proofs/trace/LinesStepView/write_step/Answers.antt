@@ -1,7 +1,7 @@
 use Rattle.std.proofs.Common.{ap, ◌∙◌}
 use Rattle.std.proofs.lemmas.Result.{on_ok_weaker}
 use Rattle.cbs_job.specs.FileJobs.{of_files}
-use Rattle.cbs_core.specs.History.{world_after}
+use Rattle.cbs_steps.specs.History.{world_after}
 use Rattle.cbs_run.specs.Lines.{line_text}
 use Rattle.cbs_run.specs.Traces.{line_in, line_of}
 use Rattle.cbs_run.proofs.trace.LinesStepView.write_step.Goals as goal

@@ -1,4 +1,4 @@
-use Rattle.cbs_core.specs.Laws.{KeepsBudgets}
+use Rattle.cbs_core.specs.Held.{KeepsBudgets}
 use Rattle.cbs_tests.proofs.callers.executor.first_result.Given as goal
 
 abbrev pub invariant-loop-unit : goal.invariant-loop-unit

@@ -1,0 +1,8 @@
+-- A list of which one element is changed.
+use Rattle.std.specs.Prelude.{ℕ, zero, suc, List, [], ◌∷◌}
+
+-- the list with f of the element at i in its place
+abbrev pub changed_at : {X : Type 0} → (X → X) → List X → ℕ → List X
+changed_at f [] i = []
+changed_at f (x ∷ xs) zero = f x ∷ xs
+changed_at f (x ∷ xs) (suc i) = x ∷ changed_at f xs i

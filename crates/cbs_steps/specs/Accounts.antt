@@ -1,0 +1,57 @@
+-- What is known of one server after some steps. No job is kept as partly run here: there are only counts against sums.
+use Rattle.std.specs.Prelude.{ℕ, ◌+◌, Bool, true, false, leb, List, [], ◌∷◌, ◌++◌, length, take, drop}
+use Rattle.std.specs.List.{sum_by}
+use Rattle.cbs_job.specs.Work.{Meaning}
+use Rattle.cbs_rules.specs.Rules.{State, Terms, fresh_state, after_unit, after_replenishment}
+use Rattle.cbs_steps.specs.Searches.{greatest}
+use Rattle.cbs_steps.specs.Faces.{Face, no_face, arrived}
+
+-- the mode and reservation that the server was given, the jobs accepted for it, in order, the units that it got,
+-- its budget, deadline and mark, and whether it was closed
+pub record Account (W : Type 0) : Type 0 where
+  pub terms : Terms
+  pub accepted : List W
+  pub got : ℕ
+  pub state : State
+  pub closed : Bool
+
+module _ {W : Type 0} where
+  -- the units that the first k accepted jobs need
+  abbrev pub need : Meaning W → Account W → ℕ → ℕ
+  need work a k = sum_by work.left (take k a.accepted)
+
+  -- how many jobs are finished: as many as the units got suffice for
+  abbrev pub finished : Meaning W → Account W → ℕ
+  finished work a = greatest (λ k. leb (need work a k) a.got) (length a.accepted)
+
+  -- the accepted jobs after the finished ones
+  abbrev pub unfinished : Meaning W → Account W → List W
+  unfinished work a = drop (finished work a) a.accepted
+
+  -- what the server shows beside its jobs
+  abbrev pub face_of : Meaning W → Account W → Face
+  face_of work a = record { terms = a.terms; state = a.state; closed = a.closed; accepted = length a.accepted; finished = finished work a }
+
+  -- a server at the start
+  abbrev pub new_account : Terms → Account W
+  new_account terms = record { terms = terms; accepted = []; got = 0; state = fresh_state; closed = false }
+
+  -- what is known where there is no such server
+  abbrev pub no_account : Account W
+  no_account = record { terms = no_face.terms; accepted = []; got = 0; state = fresh_state; closed = true }
+
+  -- one more job is accepted
+  abbrev pub account_with_job : Meaning W → ℕ → W → Account W → Account W
+  account_with_job work now job a = record a { accepted = a.accepted ++ job ∷ []; state = arrived now (face_of work a) }
+
+  -- one more unit is got, by the unit rule
+  abbrev pub account_with_unit : Account W → Account W
+  account_with_unit a = record a { got = a.got + 1; state = after_unit a.terms.mode a.terms.reservation a.state }
+
+  -- replenished, if a replenishment is due
+  abbrev pub account_with_replenishment : ℕ → Account W → Account W
+  account_with_replenishment now a = record a { state = after_replenishment a.terms.reservation now a.state }
+
+  -- closed: no job is accepted from here on
+  abbrev pub account_with_close : Account W → Account W
+  account_with_close a = record a { closed = true }

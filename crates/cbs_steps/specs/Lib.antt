@@ -1,0 +1,17 @@
+pub mod Accounts
+pub mod Choice
+pub mod Continuations
+pub mod Errors
+pub mod Faces
+pub mod HardTasks
+pub mod History
+pub mod Laws
+pub mod OnTime
+pub mod Promises
+pub mod Punctual
+pub mod Quiet
+pub mod Replies
+pub mod Searches
+pub mod Setups
+pub mod Supplies
+pub mod Windows

@@ -1,0 +1,20 @@
+-- The laws of a history: on time, and on what a server takes.
+use Rattle.cbs_job.specs.Work.{Meaning}
+use Rattle.cbs_steps.specs.History.{History}
+use Rattle.cbs_steps.specs.OnTime.{KeepsOnTime, KeepsDeadlines}
+use Rattle.cbs_steps.specs.Promises.{KeepsPromise, KeepsBound, KeepsDue}
+use Rattle.cbs_steps.specs.HardTasks.{KeepsHard}
+use Rattle.cbs_steps.specs.Supplies.{KeepsSupply}
+use Rattle.cbs_steps.specs.Windows.{KeepsShare, KeepsCap}
+
+-- punctual: the laws on time hold of the history, and no server took more than its share
+pub record IsPunctual {W : Type 0} (work : Meaning W) (N : History W) : Type 0 where
+  pub on_time : KeepsOnTime work N
+  pub never_late : KeepsDeadlines work N
+  pub promise : KeepsPromise work N
+  pub bound : KeepsBound work N
+  pub due : KeepsDue work N
+  pub hard : KeepsHard work N
+  pub supply : KeepsSupply work N
+  pub share : KeepsShare work N
+  pub cap : KeepsCap work N

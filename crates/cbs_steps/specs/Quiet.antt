@@ -1,0 +1,47 @@
+-- When an advance of the clock takes nobody's time.
+use Rattle.std.specs.Prelude.{◌≡◌, ℕ, ◌+◌, ◌-◌, ◌≤◌, ◌<◌, false, List, [], ◌∷◌}
+use Rattle.std.specs.List.{AllByRecursion}
+use Rattle.cbs_job.specs.Work.{Meaning}
+use Rattle.cbs_rules.specs.Rules.{clock_end}
+use Rattle.cbs_steps.specs.Faces.{is_ready}
+use Rattle.cbs_steps.specs.History.{World, Setup, History, faces, ticks, after, world_after}
+use Rattle.cbs_steps.specs.Replies.{grown}
+use Rattle.cbs_steps.specs.declared.reply.Reply.{Reply}
+use Rattle.cbs_steps.specs.declared.step.Step.{Step}
+use Rattle.cbs_steps.specs.declared.step.Step.TheVariants.{Advance}
+
+module _ {W : Type 0} where
+  -- nobody is ready
+  abbrev pub IsAtRest : Meaning W → World W → Type 0
+  IsAtRest work w = AllByRecursion (λ f. is_ready f ≡ false) (faces work w)
+
+  -- an advance by n is quiet: nobody is ready before its last tick
+  abbrev pub IsQuiet : Meaning W → World W → ℕ → Type 0
+  IsQuiet work w n = (m : ℕ) → m < n → IsAtRest work (ticks m w)
+
+  -- nobody is ready, and n is the greatest number of ticks up to the clock's end by which an advance is quiet
+  pub record IsIdleSpan (work : Meaning W) (w : World W) (n : ℕ) : Type 0 where
+    pub at_rest : IsAtRest work w
+    pub within : n ≤ clock_end - w.now
+    pub quiet : IsQuiet work w n
+    pub greatest : (k : ℕ) → k ≤ clock_end - w.now → IsQuiet work w k → k ≤ n
+
+  -- a step that takes nobody's time: it is no advance, or one that is refused, or a quiet one
+  abbrev pub IsQuietStep : Meaning W → World W → Step W → Type 0
+  IsQuietStep work w (Advance n) = w.now + n ≤ clock_end → IsQuiet work w n
+  IsQuietStep work w _ = Unit {0}
+
+  -- a step that takes nobody's time where it comes next after M
+  abbrev pub IsQuietAfter : Meaning W → History W → Step W → Type 0
+  IsQuietAfter work M x = IsQuietStep work (world_after work M) x
+
+  -- each step of a list, the newest first, took nobody's time where it stands
+  abbrev pub AreQuiet : Meaning W → Setup → List (Step W) → Type 0
+  AreQuiet work setup [] = Unit {0}
+  AreQuiet work setup (x ∷ M) = AreQuiet work setup M × IsQuietStep work (after work setup M) x
+
+  -- each of the steps, made after M and those before it and answered so, takes nobody's time where it stands
+  abbrev pub EachQuiet : Meaning W → History W → List (Step W) → List (Reply W) → Type 0
+  EachQuiet work M [] rs = Unit {0}
+  EachQuiet work M (x ∷ xs) [] = Unit {0}
+  EachQuiet work M (x ∷ xs) (r ∷ rs) = IsQuietStep work (world_after work M) x × EachQuiet work (grown M x r) xs rs

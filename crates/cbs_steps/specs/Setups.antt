@@ -1,0 +1,17 @@
+-- What a core is given.
+use Rattle.std.specs.Prelude.{ℕ, ◌||◌, eqb, ltb, if◌then◌else◌, List, [], ◌∷◌, Option, Some, None}
+use Rattle.cbs_rate.specs.Rate.{Rate}
+use Rattle.cbs_rules.specs.Rules.{Terms}
+use Rattle.cbs_rules.specs.declared.mode.Mode.{Mode}
+use Rattle.cbs_steps.specs.declared.error.CoreError.{CoreError}
+use Rattle.cbs_steps.specs.declared.error.CoreError.TheVariants as error
+
+-- the terms of servers: each has its mode and its reservation
+abbrev pub terms_of : List Mode → List Rate → List Terms
+terms_of [] rates = []
+terms_of (m ∷ modes) [] = []
+terms_of (m ∷ modes) (r ∷ rates) = record { mode = m; reservation = r } ∷ terms_of modes rates
+
+-- why a backlog is refused, if it is: it is 1 to 4096 jobs
+abbrev pub new_refusal : ℕ → Option CoreError
+new_refusal backlog = if eqb backlog 0 || ltb 4096 backlog then Some error.BadBacklog else None

@@ -1,0 +1,15 @@
+//! What each step of an executor of Constant Bandwidth Servers does, and what whole lists of steps keep: who runs,
+//! what is answered, and that nobody is late or takes more than a share. No executor is in it.
+#![tactic(auto)]
+
+mod error;
+mod reply;
+mod step;
+mod theorem;
+mod view;
+
+pub use error::CoreError;
+pub use reply::{Ran, Reply, SubmitRefused};
+pub use step::{Step, StepsRefused};
+pub use theorem::{MAX_BACKLOG, all_punctual};
+pub use view::ServerView;
