@@ -28,11 +28,6 @@ module _ {W : Type 0} where
   closed (Ok _) = reply.Closed
   closed (Err e) = reply.Refused e
 
-  -- whether memory refused a submit
-  abbrev pub lacks_memory : Result ℕ (SubmitRefused W) → Bool
-  lacks_memory (Ok q) = false
-  lacks_memory (Err e) = is_out_of_memory e.error
-
   -- the reply accepts a submit
   abbrev pub IsAccepted : Reply W → Type 0
   IsAccepted r = (q : ℕ) × (r ≡ reply.Accepted q)

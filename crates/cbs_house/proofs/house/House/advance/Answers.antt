@@ -12,8 +12,8 @@ invariant_of-self g c =
     let old = c.args.self.now in
     let a = c.advance.ensures in
     record {
-      housed = housed_all work old.core c.advance.new.self old.rings old.rings old.collector old.collector old.housed refl refl a.count
-          (Advance c.args.n ∷ []) a.state a.jobs (λ s. refl) (λ s. same_shelf _);
+      housed = housed_all work old.core c.advance.new.self old.rings old.rings old.collector old.collector old.housed refl refl a.makes.count
+          (Advance c.args.n ∷ []) a.makes.state a.jobs (λ s. refl) (λ s. same_shelf _);
     }
 
 pub returns-in-Err-clause-refused : goal.returns-in-Err-clause-refused
@@ -35,10 +35,10 @@ returns-in-Err-clause-end g c = grind (arith, common_steps)
 pub returns-in-Ok-clause-made : goal.returns-in-Ok-clause-made
 returns-in-Ok-clause-made g c =
     let a = c.advance.ensures in
-    made_time g.W.Work.meaning c.args.self.now _ (Advance c.args.n) (λ s. refl) a.state a.on_time refl (λ s. refl)
+    made_time g.W.Work.meaning c.args.self.now _ (Advance c.args.n) (λ s. refl) a.makes.state a.makes.on_time refl (λ s. refl)
 
 pub returns-in-Ok-clause-on_time : goal.returns-in-Ok-clause-on_time
 returns-in-Ok-clause-on_time g c =
     let old = c.args.self.now in
     let a = c.advance.ensures in
-    step_on_time g.W.Work.meaning old.core c.advance.new.self (Advance c.args.n) old.housed.history a.state a.on_time
+    step_on_time g.W.Work.meaning old.core c.advance.new.self (Advance c.args.n) old.housed.history a.makes.state a.makes.on_time

@@ -13,8 +13,8 @@ invariant_of-self-in_default g c =
     let old = c.args.self.now in
     let r = c.run-ran.ensures in
     record {
-      housed = housed_ran work old.core c.run-ran.new.self old.rings old.rings old.collector old.collector old.housed c.run-ran.result c.in_default.not-Done r.job r.count
-          (Run ∷ []) r.state refl (λ s. refl) refl;
+      housed = housed_ran work old.core c.run-ran.new.self old.rings old.rings old.collector old.collector old.housed c.run-ran.result c.in_default.not-Done r.job r.makes.count
+          (Run ∷ []) r.makes.state refl (λ s. refl) refl;
     }
 
 pub returns-in_default : goal.returns-in_default
@@ -23,12 +23,12 @@ returns-in_default g c =
     let old = c.args.self.now in
     let r = c.run-ran.ensures in
     let kept = collects_none work c.run-ran.result old _ c.in_default.not-Done (λ s. refl) in
-    let made = made_time work old _ Run (λ s. refl) r.state r.on_time refl (λ s. refl) in
+    let made = made_time work old _ Run (λ s. refl) r.makes.state r.makes.on_time refl (λ s. refl) in
     record {
-      reply = r.reply;
+      reply = r.makes.reply;
       rings = refl;
       made = made;
-      on_time = step_on_time work old.core c.run-ran.new.self Run old.housed.history r.state r.on_time (λ M agrees. tt);
+      on_time = step_on_time work old.core c.run-ran.new.self Run old.housed.history r.makes.state r.makes.on_time (λ M agrees. tt);
       collects = kept;
       job = names old _ c.run-ran.result r.job kept;
     }
@@ -42,8 +42,8 @@ invariant_of-self g c =
     let done = c.in-Done.done in
     let taken = c.take_expected.ensures.taken in
     record {
-      housed = housed_one work old.core c.run-ran.new.self old.rings old.rings old.collector c.take_expected.new.self h done.server refl c.take_expected.ensures.others.1 r.count
-          (Run ∷ []) r.state
+      housed = housed_one work old.core c.run-ran.new.self old.rings old.rings old.collector c.take_expected.new.self h done.server refl c.take_expected.ensures.others.1 r.makes.count
+          (Run ∷ []) r.makes.state
           (λ l. keeps_done work _ _ _ _ _ _ _ _ (h.servers done.server l) done r.job.0 refl taken.handed taken.results)
           (λ l. taken.announced ∙ (h.announced done.server l ∙ sym r.job.0.accepted))
           r.job.1 (λ s ne. refl) c.take_expected.ensures.others.0;
@@ -61,4 +61,4 @@ pub returns-in-Done-clause-on_time : goal.returns-in-Done-clause-on_time
 returns-in-Done-clause-on_time g c =
     let old = c.args.self.now in
     let r = c.in-Done.ensures in
-    step_on_time g.W.Work.meaning old.core c.run-ran.new.self Run old.housed.history r.state r.on_time (λ M agrees. tt)
+    step_on_time g.W.Work.meaning old.core c.run-ran.new.self Run old.housed.history r.makes.state r.makes.on_time (λ M agrees. tt)
