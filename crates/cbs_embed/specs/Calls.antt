@@ -1,30 +1,16 @@
--- What a call on a handle does to what the handle holds.
-use Rattle.std.specs.Prelude.{ℕ, slice_get, MatchOption, IfSome, ◌≡◌, ◌⊎◌, ◌+◌, ◌-◌, ◌*◌, ◌^◌, ◌<◌, ◌≤◌, ◌↔◌, true, false, Option, Some, None, Result, Ok, Err, [], ◌∷◌, ◌++◌, length, map}
+-- What a call on a handle does to what the handle holds: what the call of the house or of the client does, or a refusal.
+use Rattle.std.specs.Prelude.{ℕ, slice_get, ◌≡◌, ◌+◌, ◌<◌, ◌≤◌, Option, Some, None, Result, Ok, Err, length, map}
 use Rattle.std.specs.Global.{Global}
-use Rattle.cbs_core.specs.Agreement.{Agrees}
-use Rattle.cbs_steps.specs.History.{History, faces, world_after, reply_in}
-use Rattle.cbs_steps.specs.Faces.{face_at, view_reply}
-use Rattle.cbs_steps.specs.Laws.{account_in, IsWithinBudget}
-use Rattle.cbs_steps.specs.Promises.{promised, AllFinishedBy}
-use Rattle.cbs_steps.specs.OnTime.{IsWorldOnTime}
-use Rattle.cbs_steps.specs.Quiet.{IsAtRest, IsIdleSpan, IsQuietAfter}
 use Rattle.cbs_steps.specs.declared.view.ServerView.{ServerView}
 use Rattle.cbs_steps.specs.declared.reply.Ran.{Ran}
 use Rattle.cbs_steps.specs.declared.reply.Ran.TheVariants as ran
-use Rattle.cbs_steps.specs.declared.reply.Reply.TheVariants as reply
-use Rattle.cbs_steps.specs.declared.step.Step.TheVariants as step
-use Rattle.cbs_house.specs.Clients.{sent_by, free, slots_of, SameClient}
-use Rattle.cbs_house.specs.Houses.{core_of, IsHouseOnTime, received, results_of, view_answer, Made, SameHouse, HandsOutResults, Polled, Collects}
-use Rattle.cbs_house.specs.OwnTurns.{TakesOwnTurn, IsNumbered}
-use Rattle.cbs_house.specs.Messages.{jobs_among, has_end}
-use Rattle.cbs_house.specs.Rounds.{ServesOn}
+use Rattle.cbs_house.specs.Calls.{PollOf, RunOf, TurnOf, AdvanceOf, ClockOf, SpanOf, ViewOf, PromiseOf, LooksAtRing, SendOf, EndOf}
+use Rattle.cbs_house.specs.Clients.{free, slots_of}
+use Rattle.cbs_house.specs.Houses.{core_of, IsHouseOnTime, received, HandsOutResults}
+use Rattle.cbs_house.specs.Messages.{jobs_among}
 use Rattle.cbs_house.specs.declared.client.Client as client
-use Rattle.cbs_house.specs.declared.error.SendError.TheVariants.{Ended, RingFull}
-use Rattle.cbs_house.specs.declared.error.HouseError.TheVariants.{ClockEnd, NoSuchServer}
+use Rattle.cbs_house.specs.declared.error.HouseError.TheVariants.{NoSuchServer}
 use Rattle.cbs_house.specs.declared.house.House as house
-use Rattle.cbs_house.specs.declared.message.Message.{Message}
-use Rattle.cbs_house.specs.declared.message.Message.TheVariants.{Job, End}
-use Rattle.cbs_rules.specs.Rules.{clock_end}
 use Rattle.cbs_house.specs.declared.poll.Poll.{Poll}
 use Rattle.cbs_house.specs.declared.turn.Turn.{Turn}
 use Rattle.cbs_job.specs.Tasks.{task_refusal}
@@ -78,17 +64,14 @@ Drops ran.ClockEnd old new = new ≡ old
 Drops (ran.Unit s q) old new = new ≡ old
 Drops (ran.Done c) old new = HandsOutResults c.server old new
 
--- the house ran, which was answered so, with this token, and the result of a finished job was dropped once it was told
+-- the house ran, which told this, with this token, and the result of a finished job was dropped once it was told
 pub record RunsAndDrops (old : TheHouse) (told : Ran) (token : ℕ) (new : TheHouse) : Type 0 where
   pub between : TheHouse
-  pub reply : (M : History UnitJob) → Agrees counting (core_of old) M → reply.Ran told ≡ reply_in counting M step.Run
-  pub made : Made counting old between (step.Run ∷ [])
-  pub collects : Collects told old between
+  pub run : RunOf counting old told between
   pub named : NamesToken told token between
   pub drops : Drops told between new
   pub on_time : IsHouseOnTime old → IsHouseOnTime new
 
--- a run answers what the rules give, and makes that one step
 abbrev pub Runs : TheHouse → Result Ticked Refusal → TheHouse → Type 0
 Runs old (Ok ticked) new = RunsAndDrops old ticked.ran ticked.token new
 Runs old (Err e) new = ⊥
@@ -96,16 +79,11 @@ Runs old (Err e) new = ⊥
 -- the house took a turn, which told this, with this token, and the result of a finished job was dropped once it was told
 pub record TurnsAndDrops (old : TheHouse) (told : Turn) (token : ℕ) (new : TheHouse) : Type 0 where
   pub between : TheHouse
-  pub turn : TakesOwnTurn counting old between told
-  pub steps : ServesOn counting old between
-  pub few : told.took ≤ length (core_of old).faces
-  pub collects : Collects told.ran old between
-  pub numbered : IsNumbered told.ran old
+  pub turn : TurnOf counting old told between
   pub named : NamesToken told.ran token between
   pub drops : Drops told.ran between new
   pub on_time : IsHouseOnTime old → IsHouseOnTime new
 
--- a turn is that of the house
 abbrev pub Turns : TheHouse → Result Turned Refusal → TheHouse → Type 0
 Turns old (Ok turned) new = TurnsAndDrops old turned.turn turned.token new
 Turns old (Err e) new = ⊥
@@ -118,100 +96,58 @@ HasServer s h = s < length (core_of h).faces
 abbrev pub RefusesServer : ℕ → TheHouse → Refusal → TheHouse → Type 0
 RefusesServer s old e new = (e ≡ refused.House NoSuchServer) × (length (core_of old).faces ≤ s) × (new ≡ old)
 
--- a poll of a server that is there makes one step or none, by its answer, leaves the results, and keeps a house on time so
+-- a poll of a server that is there
 abbrev pub Polls : ℕ → TheHouse → Result Poll Refusal → TheHouse → Type 0
-Polls s old (Ok answer) new = HasServer s old × Polled counting old s answer new × ((t : ℕ) → results_of new t ≡ results_of old t) × (IsHouseOnTime old → IsHouseOnTime new)
+Polls s old (Ok answer) new = HasServer s old × PollOf counting s old answer new
 Polls s old (Err e) new = RefusesServer s old e new
 
--- An advance makes that one step and leaves the results, and keeps a house on time so if it takes nobody's time; it is refused where
--- the clock would pass its end, and then nothing changed.
 abbrev pub Advances : ℕ → TheHouse → Result (Unit {0}) Refusal → TheHouse → Type 0
-Advances n old (Ok x) new = Made counting old new (step.Advance n ∷ []) × ((s : ℕ) → results_of new s ≡ results_of old s)
-    × ((M : History UnitJob) → Agrees counting (core_of old) M → (world_after counting M).now + n ≤ clock_end)
-    × (((M : History UnitJob) → Agrees counting (core_of old) M → IsQuietAfter counting M (step.Advance n)) → IsHouseOnTime old → IsHouseOnTime new)
-Advances n old (Err (refused.House e)) new = (e ≡ ClockEnd) × SameHouse old new
-    × ((M : History UnitJob) → Agrees counting (core_of old) M → clock_end < (world_after counting M).now + n)
+Advances n old (Ok x) new = AdvanceOf counting n old (Ok x) new
+Advances n old (Err (refused.House e)) new = AdvanceOf counting n old (Err e) new
 Advances n old (Err _) new = ⊥
 
 -- the clock is told, and the house is the same
 abbrev pub TellsClock : TheHouse → Result ℕ Refusal → TheHouse → Type 0
-TellsClock old (Ok now) new = (new ≡ old) × (now ≡ (core_of old).clock) × (now ≤ clock_end)
-    × ((M : History UnitJob) → Agrees counting (core_of old) M → now ≡ (world_after counting M).now)
+TellsClock old (Ok now) new = (new ≡ old) × ClockOf counting old now
 TellsClock old (Err e) new = ⊥
 
 -- the idle span is told, and the house is the same
 abbrev pub Spans : TheHouse → Result (Option ℕ) Refusal → TheHouse → Type 0
-Spans old (Ok span) new = (new ≡ old) × ((M : History UnitJob) → Agrees counting (core_of old) M
-    → MatchOption span (¬ IsAtRest counting (world_after counting M)) (IsIdleSpan counting (world_after counting M)))
+Spans old (Ok span) new = (new ≡ old) × SpanOf counting old span
 Spans old (Err e) new = ⊥
 
--- What server s shows is told, or the house has no such server; the house is the same. A ready server's deadline is still to come, if
--- all are on time.
+-- what server s shows is told, or that the house has none; the house is the same
 abbrev pub Shows : ℕ → TheHouse → Result ServerView Refusal → TheHouse → Type 0
-Shows s old (Ok view) new = (new ≡ old) × ((M : History UnitJob) → Agrees counting (core_of old) M
-    → let w = world_after counting M in
-    (Ok view ≡ view_answer (view_reply (slice_get (faces counting w) s))) × (view.deadline ≤ w.now + (w.now + 1) * 1000000000) × IsWithinBudget (face_at (faces counting w) s)
-    × (IsWorldOnTime counting w → view.finished < view.accepted → view.throttled ≡ false → w.now < view.deadline))
-Shows s old (Err (refused.House e)) new = (new ≡ old) × ((M : History UnitJob) → Agrees counting (core_of old) M
-    → Err e ≡ view_answer (view_reply (slice_get (faces counting (world_after counting M)) s)))
+Shows s old (Ok view) new = (new ≡ old) × ViewOf counting s old (Ok view)
+Shows s old (Err (refused.House e)) new = (new ≡ old) × ViewOf counting s old (Err e)
 Shows s old (Err _) new = ⊥
 
--- The promise of a server that is there is told, and the house is the same. It is kept, whatever is asked for later, if the house is on
--- time and no step to come takes anybody's time.
+-- the promise of a server that is there is told, and the house is the same
 abbrev pub Promises : ℕ → TheHouse → Result (Option ℕ) Refusal → TheHouse → Type 0
-Promises s old (Ok tick) new = HasServer s old × (new ≡ old)
-    × ((M : History UnitJob) → Agrees counting (core_of old) M → tick ≡ promised counting (account_in counting M s))
-    × (IsHouseOnTime old → IfSome tick (λ t. (M : History UnitJob) → Agrees counting (core_of old) M → AllFinishedBy counting M s t))
+Promises s old (Ok tick) new = HasServer s old × (new ≡ old) × PromiseOf counting s old tick
 Promises s old (Err e) new = RefusesServer s old e new
-
--- the client looked at its ring anew, and sent nothing
-abbrev pub LooksAtRing : TheClient → TheClient → Type 0
-LooksAtRing old new = SameClient old new × (sent_by new ≡ sent_by old) × (free old ≤ free new)
 
 -- how many slots of its ring the client does not know to be free is told
 abbrev pub Waits : TheClient → Result ℕ Refusal → TheClient → Type 0
 Waits old (Ok n) new = LooksAtRing old new × (n + free new ≡ slots_of new)
 Waits old (Err e) new = ⊥
 
--- what the client sent is as before, and the client knows of all slots that it knew of
-abbrev pub SendsNothing : TheClient → TheClient → Type 0
-SendsNothing old new = SameClient old new × (sent_by new ≡ sent_by old) × (free old ≤ free new + 1)
-
--- this message stands behind all that the client sent, in one slot
-abbrev pub SendsOne : Message UnitJob → TheClient → TheClient → Type 0
-SendsOne message old new = SameClient old new × (sent_by new ≡ sent_by old ++ message ∷ []) × (free old ≤ free new + 1)
-
--- the message was sent, or was refused since the house is gone
-abbrev pub IsSentOrGone : {T : Type 0} → Result T Refusal → Type 0
-IsSentOrGone (Ok x) = Unit {0}
-IsSentOrGone (Err e) = e ≡ refused.Kept HouseGone
-
--- An end is sent; or it is refused: because there was one, at a ring that is not known to have a free slot, or, at any time, because
--- the house is gone.
-abbrev pub EndsOr : TheClient → Result (Unit {0}) Refusal → TheClient → Type 0
-EndsOr old (Ok x) new = SendsOne End old new × (has_end (sent_by old) ≡ false)
-EndsOr old (Err (refused.Send e)) new = SendsNothing old new × ((e ≡ Ended) ↔ (has_end (sent_by old) ≡ true)) × (e ≡ RingFull → free new ≡ 0)
-EndsOr old (Err (refused.Kept e)) new = (e ≡ HouseGone) × LooksAtRing old new
-EndsOr old (Err _) new = ⊥
-
--- and where a slot was known to be free it is sent, or refused as gone
+-- an end is sent or refused as by the client; or, at any time, it is refused since the house is gone
 abbrev pub Ends : TheClient → Result (Unit {0}) Refusal → TheClient → Type 0
-Ends old answer new = EndsOr old answer new × ((has_end (sent_by old) ≡ false) × (0 < free old) → IsSentOrGone answer)
+Ends old (Ok x) new = EndOf old (Ok x) new
+Ends old (Err (refused.Send e)) new = EndOf old (Err e) new
+Ends old (Err (refused.Kept e)) new = (e ≡ HouseGone) × LooksAtRing old new
+Ends old (Err _) new = ⊥
 
--- A job is sent, and its number is told; or it is refused: by its units, behind an end, at a ring that is not known to have a free
--- slot (or where 2^64 - 1 jobs were sent), or, at any time, because the house is gone.
-abbrev pub SendsOr : ℕ → ℕ → TheClient → Result ℕ Refusal → TheClient → Type 0
-SendsOr token units old (Ok number) new =
-    SendsOne (Job (record { token = token; units = units })) old new × (task_refusal units ≡ None) × (has_end (sent_by old) ≡ false)
-    × (number ≡ length (jobs_among (sent_by old)))
-SendsOr token units old (Err (refused.Task e)) new = (task_refusal units ≡ Some e) × (new ≡ old)
-SendsOr token units old (Err (refused.Kept e)) new = (e ≡ HouseGone) × (task_refusal units ≡ None) × LooksAtRing old new
-SendsOr token units old (Err (refused.Send e)) new =
-    SendsNothing old new × (task_refusal units ≡ None) × ((e ≡ Ended) ↔ (has_end (sent_by old) ≡ true))
-    × (e ≡ RingFull → (free new ≡ 0) ⊎ (length (jobs_among (sent_by old)) ≡ 2 ^ 64 - 1))
-SendsOr token units old (Err _) new = ⊥
+-- a job of so many units
+abbrev pub job_of : ℕ → ℕ → UnitJob
+job_of token units = record { token = token; units = units }
 
--- and where a slot was known to be free it is sent, or refused as gone
+-- A job is refused by its units, and the client is as before; it is sent or refused as by the client; or, at any time, it is
+-- refused since the house is gone.
 abbrev pub Sends : ℕ → ℕ → TheClient → Result ℕ Refusal → TheClient → Type 0
-Sends token units old answer new = SendsOr token units old answer new
-    × ((task_refusal units ≡ None) × (has_end (sent_by old) ≡ false) × (0 < free old) × (length (jobs_among (sent_by old)) < 2 ^ 64 - 1) → IsSentOrGone answer)
+Sends token units old (Ok number) new = (task_refusal units ≡ None) × SendOf (job_of token units) old (Ok number) new
+Sends token units old (Err (refused.Task e)) new = (task_refusal units ≡ Some e) × (new ≡ old)
+Sends token units old (Err (refused.Send e)) new = (task_refusal units ≡ None) × SendOf (job_of token units) old (Err (record { error = e; task = job_of token units })) new
+Sends token units old (Err (refused.Kept e)) new = (task_refusal units ≡ None) × (e ≡ HouseGone) × LooksAtRing old new
+Sends token units old (Err _) new = ⊥

@@ -4,7 +4,8 @@ ghost use Rattle.std.specs.Prelude.{◌≡◌, ◌≤◌, length, IfErr, MatchRe
 ghost use Rattle.cbs_embed.specs.declared.refusal.KeptError.TheVariants as KeptError;
 ghost use Rattle.cbs_embed.specs.declared.refusal.Refusal.{Refusal};
 ghost use Rattle.cbs_embed.specs.declared.refusal.Refusal.TheVariants as refused;
-ghost use Rattle.cbs_embed.specs.Calls.{OnHeld, InHouse, InClient, Drops, Runs, Turns, HasServer, Polls, Advances, TellsClock, Spans, Shows, Promises, LooksAtRing, Sends, Ends, Waits, NamesToken};
+ghost use Rattle.cbs_embed.specs.Calls.{OnHeld, InHouse, InClient, Drops, Runs, Turns, HasServer, Polls, Advances, TellsClock, Spans, Shows, Promises, Sends, Ends, Waits, NamesToken};
+ghost use Rattle.cbs_house.specs.Calls.{LooksAtRing};
 ghost use Rattle.cbs_embed.specs.Jobs.{counting};
 ghost use Rattle.cbs_embed.specs.Kepts.{held_by};
 ghost use Rattle.cbs_house.specs.Houses.{core_of, NamesJob};

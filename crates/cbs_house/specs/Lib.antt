@@ -1,3 +1,4 @@
+pub mod Calls
 pub mod Errors
 pub mod Messages
 pub mod Rings

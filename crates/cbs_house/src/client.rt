@@ -69,6 +69,7 @@ impl<W: Work, A: Allocator> Client<W, A> {
     ghost use Rattle.rtrb.specs.Ring.{sent, known_free};
     ghost use Rattle.cbs_house.specs.Messages.{jobs_among, has_end, end_is_last};
     ghost use Rattle.cbs_house.specs.Rings.{producer_ring};
+    ghost use Rattle.cbs_house.specs.Calls.{LooksAtRing, SendOf, EndOf};
     ghost use Rattle.cbs_house.specs.Clients.{server_of, ring_of, sent_by, free, slots_of, HasSlot, HasNoSlot, SameClient};
     ghost use Rattle.cbs_house.specs.declared.message.Message.TheVariants.{Job, End};
 
@@ -105,8 +106,7 @@ impl<W: Work, A: Allocator> Client<W, A> {
     /// How many messages of the client stand in its ring, not taken yet: the slots that are not known to be
     /// free. The client looks anew; while the house polls there may be fewer when the call is over.
     pub fn waiting(&mut self) -> u64
-        ensures same { SameClient self.old self.new × (sent_by self.new ≡ sent_by self.old) }
-        ensures looked { free self.old ≤ free self.new }
+        ensures looked { LooksAtRing self.old self.new }
         ensures value { result + free self.new ≡ slots_of self.new }
     {
         (self.ring.capacity() - self.ring.slots()) as u64
@@ -115,8 +115,7 @@ impl<W: Work, A: Allocator> Client<W, A> {
     /// Returns whether the client's house was dropped. What the client sent before is then lost with the house,
     /// but for what the house had taken. No contract speaks of the answer.
     pub fn house_is_gone(&mut self) -> bool
-        ensures same { SameClient self.old self.new × (sent_by self.new ≡ sent_by self.old) }
-        ensures looked { free self.old ≤ free self.new }
+        ensures looked { LooksAtRing self.old self.new }
     {
         self.ring.is_abandoned()
     }
@@ -132,8 +131,7 @@ impl<W: Work, A: Allocator> Client<W, A> {
     /// How many slots of the ring are free, as it is looked at now: so many messages will be taken, the end
     /// among them. The house may free more at any time.
     pub fn free(&mut self) -> u64
-        ensures same { SameClient self.old self.new × (sent_by self.new ≡ sent_by self.old) }
-        ensures looked { free self.old ≤ free self.new }
+        ensures looked { LooksAtRing self.old self.new }
         ensures value { result ≡ free self.new }
     {
         (self.ring.slots() - 1) as u64
@@ -141,8 +139,7 @@ impl<W: Work, A: Allocator> Client<W, A> {
 
     /// Returns whether a slot is free for the next message, with the kept slot left over.
     fn ring_has_slot(&mut self) -> bool
-        ensures same { SameClient self.old self.new × (sent_by self.new ≡ sent_by self.old) }
-        ensures looked { free self.old ≤ free self.new }
+        ensures looked { LooksAtRing self.old self.new }
         ensures slot { IsTrue result ↔ (0 < free self.new) }
     {
         self.ring.cached_slots() > 1 || self.ring.slots() > 1
@@ -150,8 +147,7 @@ impl<W: Work, A: Allocator> Client<W, A> {
 
     /// Whether a slot is free for the next message, and one more job can be counted.
     pub(crate) fn has_slot(&mut self) -> bool
-        ensures same { SameClient self.old self.new × (sent_by self.new ≡ sent_by self.old) }
-        ensures looked { free self.old ≤ free self.new }
+        ensures looked { LooksAtRing self.old self.new }
         ensures slot { result ≡ true → HasSlot self.new }
         ensures none { result ≡ false → HasNoSlot self.new }
     {
@@ -165,16 +161,7 @@ impl<W: Work, A: Allocator> Client<W, A> {
     /// jobs. The job then comes back, and nothing was sent.
     #[tactic(auto, using(crate::proofs::Messages::pushed))]
     pub fn send(&mut self, task: Task<W>) -> Result<u64, SendRefused<W>>
-        ensures same { SameClient self.old self.new }
-        ensures ok { IfOk result (λ number. (number ≡ length (jobs_among (sent_by self.old))) × (sent_by self.new ≡ sent_by self.old ++ Job task ∷ [])) }
-        ensures back { IfErr result (λ refused. (refused.task ≡ task) × (sent_by self.new ≡ sent_by self.old)) }
-        ensures ended { MatchResult result (λ _. has_end (sent_by self.old) ≡ false)
-            (λ refused. (refused.error ≡ SendError.Ended) ↔ (has_end (sent_by self.old) ≡ true)) }
-        // A slot that is known to be free is one that the next message takes.
-        ensures free { (has_end (sent_by self.old) ≡ false) × (0 < free self.old) × (length (jobs_among (sent_by self.old)) < 2 ^ 64 - 1) → IsOk result }
-        ensures left { free self.old ≤ free self.new + 1 }
-        ensures full { IfErr result (λ refused. (refused.error ≡ SendError.RingFull)
-            → (free self.new ≡ 0) ⊎ (length (jobs_among (sent_by self.old)) ≡ 2 ^ 64 - 1)) }
+        ensures { SendOf task self.old result self.new }
     {
         if self.ended {
             return Err(SendRefused {
@@ -214,14 +201,7 @@ impl<W: Work, A: Allocator> Client<W, A> {
     /// [`SendError::RingFull`] where the ring has no free slot. Then nothing was sent.
     #[tactic(auto, using(crate::proofs::Messages::pushed))]
     pub fn end(&mut self) -> Result<(), SendError>
-        ensures same { SameClient self.old self.new }
-        ensures ok { OnOk result (sent_by self.new ≡ sent_by self.old ++ End ∷ []) }
-        ensures back { OnErr result (sent_by self.new ≡ sent_by self.old) }
-        ensures ended { MatchResult result (λ _. has_end (sent_by self.old) ≡ false)
-            (λ error. (error ≡ SendError.Ended) ↔ (has_end (sent_by self.old) ≡ true)) }
-        ensures free { (has_end (sent_by self.old) ≡ false) × (0 < free self.old) → IsOk result }
-        ensures left { free self.old ≤ free self.new + 1 }
-        ensures full { IfErr result (λ error. (error ≡ SendError.RingFull) → free self.new ≡ 0) }
+        ensures { EndOf self.old result self.new }
     {
         if self.ended {
             return Err(SendError::Ended);

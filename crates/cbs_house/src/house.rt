@@ -34,21 +34,12 @@ impl<W: Work, A: Allocator> Drop for House<W, A> {
 }
 
 impl<W: Work, A: Allocator> House<W, A> {
-    ghost use Rattle.std.specs.Prelude.{ℕ, ◌≡◌, ◌≢◌, ◌↔◌, ◌⊎◌, false, IsTrue, ◌<◌, ◌≤◌, ◌+◌, ◌*◌, [], ◌∷◌, ◌++◌, length, slice_get, Ok, Err, Some, None, IfSome, IfNone, IfOk, IfErr, OnOk, MatchResult, MatchOption};
-    ghost use Rattle.cbs_core.specs.Agreement.{Agrees};
-    ghost use Rattle.cbs_steps.specs.History.{History, faces, world_after, reply_in};
-    ghost use Rattle.cbs_steps.specs.OnTime.{IsWorldOnTime};
-    ghost use Rattle.cbs_steps.specs.Quiet.{IsAtRest, IsIdleSpan, IsQuietAfter};
-    ghost use Rattle.cbs_core.specs.Held.{front_output};
-    ghost use Rattle.cbs_core.specs.Held.{held_at, IsClosed};
-    ghost use Rattle.cbs_steps.specs.Faces.{face_at, view_reply};
-    ghost use Rattle.cbs_steps.specs.Laws.{account_in, IsWithinBudget};
-    ghost use Rattle.cbs_steps.specs.Promises.{promised, AllFinishedBy};
-    ghost use Rattle.cbs_steps.specs.declared.reply.Reply.TheVariants as reply;
-    ghost use Rattle.cbs_steps.specs.declared.step.Step.TheVariants as step;
-    ghost use Rattle.cbs_house.specs.Clients.{server_of, sent_by, free, SameClient};
+    ghost use Rattle.std.specs.Prelude.{ℕ, ◌≡◌, ◌↔◌, ◌⊎◌, IsTrue, ◌<◌, ◌≤◌, [], ◌++◌, length, IfSome, IfNone, IfOk, IfErr};
+    ghost use Rattle.cbs_core.specs.Held.{front_output, held_at, IsClosed};
+    ghost use Rattle.cbs_house.specs.Calls.{PollOf, RunOf, AdvanceOf, ClockOf, SpanOf, ViewOf, PromiseOf, LooksAtRing};
+    ghost use Rattle.cbs_house.specs.Clients.{server_of, sent_by};
     ghost use Rattle.cbs_house.specs.HouseInvariant.{KeepsServer};
-    ghost use Rattle.cbs_house.specs.Houses.{core_of, rings_of, IsHouseOnTime, received, known, results_of, handed_of, view_answer, Made, LooksOnly, SameHouse, Polled, CanTake, Collects, NamesJob};
+    ghost use Rattle.cbs_house.specs.Houses.{core_of, rings_of, received, known, results_of, handed_of, Made, LooksOnly, Polled, CanTake};
     ghost use Rattle.cbs_house.specs.RingEnds.{IsOpened};
 
     /// How many servers there are, at most 64. Their numbers are those below it.
@@ -76,7 +67,7 @@ impl<W: Work, A: Allocator> House<W, A> {
     pub fn settle(&mut self, client: &mut Client<W, A>) -> u64
         requires { IsOpened (rings_of self.old) client.old }
         ensures looked { LooksOnly self.old self.new }
-        ensures client { SameClient client.old client.new × (sent_by client.new ≡ sent_by client.old) × (free client.old ≤ free client.new) }
+        ensures client { LooksAtRing client.old client.new }
         ensures value { result ≡ length (known self.new (server_of client.new)) }
         ensures lawful { sent_by client.new ≡ received self.new (server_of client.new) ++ known self.new (server_of client.new) }
     {
@@ -92,10 +83,7 @@ impl<W: Work, A: Allocator> House<W, A> {
     /// [`Poll::Took`] with the job's number, which is the one that the client was told; or
     /// [`Poll::Closed`].
     pub fn poll(&mut self, server: u16) -> Poll
-        ensures polled { Polled W.meaning self.old server result self.new }
-        ensures on_time { IsHouseOnTime self.old → IsHouseOnTime self.new }
-        ensures rings { rings_of self.new ≡ rings_of self.old }
-        ensures results { (s : ℕ) → results_of self.new s ≡ results_of self.old s }
+        ensures { PollOf W.meaning server self.old result self.new }
     {
         if let Some(answer) = self.prepare(server) {
             return answer;
@@ -111,11 +99,8 @@ impl<W: Work, A: Allocator> House<W, A> {
     pub fn poll_beside(&mut self, client: &mut Client<W, A>) -> Poll
         requires { IsOpened (rings_of self.old) client.old }
         ensures nothing { (result ≡ Poll.Nothing) ↔ (IsClosed (core_of self.old) (server_of client.old) ⊎ (sent_by client.old ≡ received self.old (server_of client.old))) }
-        ensures polled { Polled W.meaning self.old (server_of client.old) result self.new }
-        ensures on_time { IsHouseOnTime self.old → IsHouseOnTime self.new }
-        ensures rings { rings_of self.new ≡ rings_of self.old }
-        ensures results { (s : ℕ) → results_of self.new s ≡ results_of self.old s }
-        ensures client { SameClient client.old client.new × (sent_by client.new ≡ sent_by client.old) × (free client.old ≤ free client.new) }
+        ensures poll { PollOf W.meaning (server_of client.old) self.old result self.new }
+        ensures client { LooksAtRing client.old client.new }
     {
         // A look at both ends shows all that was sent. Without it a poll may miss the newest messages.
         if self.settle(client) == 0 {
@@ -175,12 +160,7 @@ impl<W: Work, A: Allocator> House<W, A> {
     /// Runs one unit of the job at the front of the chosen server, as [`Core::run`]; a completion is
     /// put in the results.
     pub fn run(&mut self) -> Ran
-        ensures reply { (M : History W) → Agrees W.meaning (core_of self.old) M → reply.Ran result ≡ reply_in W.meaning M step.Run }
-        ensures made { Made W.meaning self.old self.new (step.Run ∷ []) }
-        ensures on_time { IsHouseOnTime self.old → IsHouseOnTime self.new }
-        ensures rings { rings_of self.new ≡ rings_of self.old }
-        ensures collects { Collects result self.old self.new }
-        ensures job { NamesJob W.meaning result self.new }
+        ensures { RunOf W.meaning self.old result self.new }
     {
         let ran = self.core.run();
         if let Ran::Done(done) = ran {
@@ -194,14 +174,7 @@ impl<W: Work, A: Allocator> House<W, A> {
     /// Refuses by [`HouseError::ClockEnd`] where the clock would pass [`LIMIT`], and then changes
     /// nothing.
     pub fn advance(&mut self, n: u64) -> Result<(), HouseError>
-        ensures made { OnOk result (Made W.meaning self.old self.new (step.Advance n ∷ [])) }
-        ensures on_time { ((M : History W) → Agrees W.meaning (core_of self.old) M → IsQuietAfter W.meaning M (step.Advance n))
-            → IsHouseOnTime self.old → IsHouseOnTime self.new }
-        ensures rings { rings_of self.new ≡ rings_of self.old }
-        ensures results { (s : ℕ) → results_of self.new s ≡ results_of self.old s }
-        ensures refused { IfErr result (λ error. (error ≡ HouseError.ClockEnd) × SameHouse self.old self.new) }
-        ensures end { (M : History W) → Agrees W.meaning (core_of self.old) M → MatchResult result
-            (λ _. (world_after W.meaning M).now + n ≤ LIMIT) (λ _. LIMIT < (world_after W.meaning M).now + n) }
+        ensures { AdvanceOf W.meaning n self.old result self.new }
     {
         match self.core.advance(n) {
             Ok(()) => Ok(()),
@@ -211,9 +184,7 @@ impl<W: Work, A: Allocator> House<W, A> {
 
     /// The clock, in ticks: 0 to [`LIMIT`].
     pub fn now(&self) -> u64
-        ensures now { (M : History W) → Agrees W.meaning (core_of self.now) M → result ≡ (world_after W.meaning M).now }
-        ensures clock { result ≡ (core_of self.now).clock }
-        ensures most { result ≤ LIMIT }
+        ensures { ClockOf W.meaning self.now result }
     {
         self.core.now()
     }
@@ -224,8 +195,7 @@ impl<W: Work, A: Allocator> House<W, A> {
     /// taken. Whoever polls must not advance by it then, since nothing can run once the clock stands at its
     /// end. [`turn`](House::turn) advances by it only while a job is held.
     pub fn idle_span(&self) -> Option<u64>
-        ensures { (M : History W) → Agrees W.meaning (core_of self.now) M
-            → MatchOption result (¬ IsAtRest W.meaning (world_after W.meaning M)) (IsIdleSpan W.meaning (world_after W.meaning M)) }
+        ensures { SpanOf W.meaning self.now result }
     {
         self.core.idle_span()
     }
@@ -236,8 +206,7 @@ impl<W: Work, A: Allocator> House<W, A> {
     /// It is kept if all are on time now and no advance to come takes anybody's time. A house is on time
     /// when it is opened. Each call keeps it so, but an [`advance`](House::advance) while somebody is ready.
     pub fn promised(&self, server: u16) -> Option<u128>
-        ensures value { (M : History W) → Agrees W.meaning (core_of self.now) M → result ≡ promised W.meaning (account_in W.meaning M server) }
-        ensures kept { IsHouseOnTime self.now → IfSome result (λ tick. (M : History W) → Agrees W.meaning (core_of self.now) M → AllFinishedBy W.meaning M server tick) }
+        ensures { PromiseOf W.meaning server self.now result }
     {
         self.core.promised(server)
     }
@@ -252,14 +221,7 @@ impl<W: Work, A: Allocator> House<W, A> {
 
     /// What a server shows, or [`HouseError::NoSuchServer`].
     pub fn view(&self, server: u16) -> Result<ServerView, HouseError>
-        ensures view { (M : History W) → Agrees W.meaning (core_of self.now) M
-            → result ≡ view_answer (view_reply (slice_get (faces W.meaning (world_after W.meaning M)) server)) }
-        ensures early { (M : History W) → Agrees W.meaning (core_of self.now) M
-            → IfOk result (λ view. let now = (world_after W.meaning M).now in view.deadline ≤ now + (now + 1) * 1000000000) }
-        ensures budget { (M : History W) → Agrees W.meaning (core_of self.now) M
-            → OnOk result (IsWithinBudget (face_at (faces W.meaning (world_after W.meaning M)) server)) }
-        ensures in_time { (M : History W) → Agrees W.meaning (core_of self.now) M → IsWorldOnTime W.meaning (world_after W.meaning M)
-            → IfOk result (λ view. view.finished < view.accepted → view.throttled ≡ false → (world_after W.meaning M).now < view.deadline) }
+        ensures { ViewOf W.meaning server self.now result }
     {
         match self.core.view(server) {
             Ok(view) => Ok(view),

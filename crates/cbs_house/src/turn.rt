@@ -23,9 +23,9 @@ pub struct Turn {
 
 impl<W: Work, A: Allocator> House<W, A> {
     ghost use Rattle.std.specs.Prelude.{ℕ, ◌≡◌, ◌<◌, ◌≤◌, length};
-    ghost use Rattle.cbs_house.specs.Houses.{core_of, rings_of, results_of, IsHouseOnTime, Collects, NamesJob};
-    ghost use Rattle.cbs_house.specs.OwnTurns.{GoesOn, IsNumbered, TakesOwnTurn};
-    ghost use Rattle.cbs_house.specs.Rounds.{ServesOn};
+    ghost use Rattle.cbs_house.specs.Houses.{core_of, rings_of, Collects, NamesJob};
+    ghost use Rattle.cbs_house.specs.OwnTurns.{GoesOn, IsNumbered};
+    ghost use Rattle.cbs_house.specs.Calls.{TurnOf};
     ghost use Rattle.cbs_core.specs.Held.{HoldsJob};
 
     /// Takes one turn: polls each server once, in the order of their numbers, and then runs one unit, as
@@ -35,14 +35,7 @@ impl<W: Work, A: Allocator> House<W, A> {
     /// No advance takes anybody's time. Nothing is lost where a poll finds no memory: the message stays
     /// in its ring, and the next turn polls again.
     pub fn turn(&mut self) -> Turn
-        ensures turn { TakesOwnTurn W.meaning self.old self.new result }
-        ensures steps { ServesOn W.meaning self.old self.new }
-        ensures on_time { IsHouseOnTime self.old → IsHouseOnTime self.new }
-        ensures few { result.took ≤ length (core_of self.old).faces }
-        ensures rings { rings_of self.new ≡ rings_of self.old }
-        ensures collects { Collects result.ran self.old self.new }
-        ensures numbered { IsNumbered result.ran self.old }
-        ensures job { NamesJob W.meaning result.ran self.new }
+        ensures { TurnOf W.meaning self.old result self.new }
     {
         let polls = poll_each(&OpenGate, self);
         let (ran, advanced) = self.go_on_if_busy();

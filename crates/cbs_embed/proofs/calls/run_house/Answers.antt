@@ -6,9 +6,7 @@ returns c =
     let r = c.run-ran in
     record {
       between = r.new.self;
-      reply = r.ensures.reply;
-      made = r.ensures.made;
-      collects = r.ensures.collects;
+      run = r.ensures;
       named = c.token_of-token.ensures;
       drops = c.forget.ensures;
       on_time = λ on. drops_on_time r.result r.new.self c.forget.new.house c.forget.ensures (r.ensures.on_time on);

@@ -6,11 +6,7 @@ returns c =
     let t = c.turn-turn in
     record {
       between = t.new.self;
-      turn = t.ensures.turn;
-      steps = t.ensures.steps;
-      few = t.ensures.few;
-      collects = t.ensures.collects;
-      numbered = t.ensures.numbered;
+      turn = t.ensures;
       named = c.token_of-token.ensures;
       drops = c.forget.ensures;
       on_time = λ on. drops_on_time t.result.ran t.new.self c.forget.new.house c.forget.ensures (t.ensures.on_time on);

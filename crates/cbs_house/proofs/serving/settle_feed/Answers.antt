@@ -7,7 +7,7 @@ use Rattle.cbs_house.proofs.StandingMessages.{settled_taken}
 use Rattle.cbs_house.proofs.serving.settle_feed.Goals as goal
 
 pub returns-clause-feed : goal.returns-clause-feed
-returns-clause-feed g c = keeps_looked c.args.feed.now _ c.settle.ensures.client.0 c.settle.ensures.client.1 refl
+returns-clause-feed g c = keeps_looked c.args.feed.now _ c.settle.ensures.client.same c.settle.ensures.client.sent refl
 
 pub returns-clause-standing : goal.returns-clause-standing
 returns-clause-standing g c =
@@ -16,4 +16,4 @@ returns-clause-standing g c =
 pub returns-clause-settled : goal.returns-clause-settled
 returns-clause-settled g c = λ taken.
     let s = c.settle in
-    settled_taken c.args.house.now s.new.self c.args.feed.now (record c.args.feed.now { client = s.new.client }) (known s.new.self (server_of s.new.client)) s.ensures.client.0.0 s.ensures.client.1 s.ensures.looked.received s.ensures.lawful taken
+    settled_taken c.args.house.now s.new.self c.args.feed.now (record c.args.feed.now { client = s.new.client }) (known s.new.self (server_of s.new.client)) s.ensures.client.same.0 s.ensures.client.sent s.ensures.looked.received s.ensures.lawful taken

@@ -16,29 +16,35 @@ invariant_of-self g c =
           (Advance c.args.n ∷ []) a.makes.state a.jobs (λ s. refl) (λ s. same_shelf _);
     }
 
-pub returns-in-Err-clause-refused : goal.returns-in-Err-clause-refused
-returns-in-Err-clause-refused g c = (
-  refl,
-  record {
-    core = c.in-Err.ensures.unchanged;
-    rings = refl;
-    received = λ s. refl;
-    known = λ s. refl;
-    results = λ s. refl;
-    handed = λ s. refl;
-  },
-)
+pub returns-in-Err : goal.returns-in-Err
+returns-in-Err g c = record {
+  made = tt;
+  on_time = λ quiet on. rw c.in-Err.ensures.unchanged on;
+  rings = refl;
+  results = λ s. refl;
+  refused = (
+    refl,
+    record {
+      core = c.in-Err.ensures.unchanged;
+      rings = refl;
+      received = λ s. refl;
+      known = λ s. refl;
+      results = λ s. refl;
+      handed = λ s. refl;
+    },
+  );
+  end = grind (arith, common_steps);
+}
 
-pub returns-in-Err-clause-end : goal.returns-in-Err-clause-end
-returns-in-Err-clause-end g c = grind (arith, common_steps)
-
-pub returns-in-Ok-clause-made : goal.returns-in-Ok-clause-made
-returns-in-Ok-clause-made g c =
-    let a = c.advance.ensures in
-    made_time g.W.Work.meaning c.args.self.now _ (Advance c.args.n) (λ s. refl) a.makes.state a.makes.on_time refl (λ s. refl)
-
-pub returns-in-Ok-clause-on_time : goal.returns-in-Ok-clause-on_time
-returns-in-Ok-clause-on_time g c =
+pub returns-in-Ok : goal.returns-in-Ok
+returns-in-Ok g c =
     let old = c.args.self.now in
     let a = c.advance.ensures in
-    step_on_time g.W.Work.meaning old.core c.advance.new.self (Advance c.args.n) old.housed.history a.makes.state a.makes.on_time
+    record {
+      made = made_time g.W.Work.meaning old _ (Advance c.args.n) (λ s. refl) a.makes.state a.makes.on_time refl (λ s. refl);
+      on_time = step_on_time g.W.Work.meaning old.core c.advance.new.self (Advance c.args.n) old.housed.history a.makes.state a.makes.on_time;
+      rings = refl;
+      results = λ s. refl;
+      refused = tt;
+      end = grind (arith, common_steps);
+    }

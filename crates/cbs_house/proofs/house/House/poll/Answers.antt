@@ -1,12 +1,28 @@
+use Rattle.std.proofs.Common.{◌∙◌}
 use Rattle.cbs_house.proofs.MadeSteps.{polled_after}
 use Rattle.cbs_house.proofs.Moves.{polled_on_time}
 use Rattle.cbs_house.proofs.house.House.poll.Goals as goal
 
-pub returns-clause-polled : goal.returns-clause-polled
-returns-clause-polled g c =
-    polled_after g.W.Work.meaning c.args.self.now c.prepare.new.self c.take_next.new.self c.args.server c.take_next.result c.prepare.ensures.made c.prepare.ensures.core c.take_next.ensures.polled
-
-pub returns-clause-on_time : goal.returns-clause-on_time
-returns-clause-on_time g c =
+pub returns : goal.returns
+returns g c =
     let a = c.args.self.now in
-    polled_on_time g.W.Work.meaning a c.take_next.new.self c.args.server c.take_next.result a.housed.history (returns-clause-polled g c)
+    let p = c.prepare in
+    let t = c.take_next in
+    let polled = polled_after g.W.Work.meaning a p.new.self t.new.self c.args.server t.result p.ensures.made p.ensures.core t.ensures.polled in
+    record {
+      polled = polled;
+      on_time = polled_on_time g.W.Work.meaning a t.new.self c.args.server t.result a.housed.history polled;
+      rings = t.ensures.rings ∙ p.ensures.made.rings;
+      results = λ s. t.ensures.results s ∙ p.ensures.results s;
+    }
+
+pub returns-in-Some : goal.returns-in-Some
+returns-in-Some g c =
+    let a = c.args.self.now in
+    let p = c.prepare in
+    record {
+      polled = c.in-Some.ensures.some;
+      on_time = polled_on_time g.W.Work.meaning a p.new.self c.args.server c.in-Some.answer a.housed.history c.in-Some.ensures.some;
+      rings = p.ensures.made.rings;
+      results = p.ensures.results;
+    }

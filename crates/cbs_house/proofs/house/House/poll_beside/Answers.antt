@@ -1,3 +1,4 @@
+use Rattle.cbs_house.specs.declared.poll.Poll.TheVariants.{Nothing}
 use Rattle.std.proofs.Common.{◌<◌, length, refl, subst, sym, ◌∙◌, arith, inl, inr}
 use Rattle.cbs_core.specs.Held.{IsClosed}
 use Rattle.cbs_house.proofs.Beside.{Shown, shown, all_taken, nothing_polled, none_shown, polled_behind, nothing_seen, closed_polled}
@@ -12,20 +13,26 @@ returns-then-settle-eq0-clause-nothing g c =
     let a = c.args.self.now in
     let client = c.args.client.now in
     let s = c.settle in
-    let k = shown a s.new.self client s.new.client s.result s.ensures.looked s.ensures.client.0 s.ensures.client.1 s.ensures.value s.ensures.lawful in
+    let k = shown a s.new.self client s.new.client s.result s.ensures.looked s.ensures.client.same s.ensures.client.sent s.ensures.value s.ensures.lawful in
     let none : Shown a s.new.self (server_of client) (sent_by client) 0 = rw c.if-settle-eq0.true at k in
     ((λ e. inr (all_taken a s.new.self (server_of client) (sent_by client) none)), (λ e. refl))
 
-pub returns-then-settle-eq0-clause-polled : goal.returns-then-settle-eq0-clause-polled
-returns-then-settle-eq0-clause-polled g c =
+pub returns-then-settle-eq0-clause-poll : goal.returns-then-settle-eq0-clause-poll
+returns-then-settle-eq0-clause-poll g c =
     let a = c.args.self.now in
     let client = c.args.client.now in
     let s = c.settle in
-    let k = shown a s.new.self client s.new.client s.result s.ensures.looked s.ensures.client.0 s.ensures.client.1 s.ensures.value s.ensures.lawful in
+    let k = shown a s.new.self client s.new.client s.result s.ensures.looked s.ensures.client.same s.ensures.client.sent s.ensures.value s.ensures.lawful in
     let opened : server_of client < length (rings_of a) = opened_within (rings_of a) client c.requires in
     let count = a.housed.ring_count in
     let within : server_of client < length (core_of a).faces = omega (arith, opened, count) in
-    nothing_polled g.W.Work.meaning a s.new.self (server_of client) (sent_by client) within (rw c.if-settle-eq0.true at k)
+    let polled = nothing_polled g.W.Work.meaning a s.new.self (server_of client) (sent_by client) within (rw c.if-settle-eq0.true at k) in
+    record {
+      polled = polled;
+      on_time = polled_on_time g.W.Work.meaning a s.new.self (server_of client) Nothing a.housed.history polled;
+      rings = s.ensures.looked.rings;
+      results = s.ensures.looked.results;
+    }
 
 pub returns-clause-nothing : goal.returns-clause-nothing
 returns-clause-nothing g c =
@@ -35,8 +42,8 @@ returns-clause-nothing g c =
     let s = c.settle in
     let p = c.poll in
     let t = server_of client in
-    let k = shown a s.new.self client s.new.client s.result s.ensures.looked s.ensures.client.0 s.ensures.client.1 s.ensures.value s.ensures.lawful in
-    let polled = subst (λ x. Polled work s.new.self x p.result p.new.self) (c.server.ensures ∙ s.ensures.client.0.0) p.ensures.polled in
+    let k = shown a s.new.self client s.new.client s.result s.ensures.looked s.ensures.client.same s.ensures.client.sent s.ensures.value s.ensures.lawful in
+    let polled = subst (λ x. Polled work s.new.self x p.result p.new.self) (c.server.ensures ∙ s.ensures.client.same.0) p.ensures.polled in
     let count = k.count in
     let nonzero = c.if-settle-eq0.false in
     let some : 0 < length (known s.new.self t) = grind (arith, count, nonzero) in (
@@ -47,14 +54,17 @@ returns-clause-nothing g c =
       ]),
     )
 
-pub returns-clause-polled : goal.returns-clause-polled
-returns-clause-polled g c =
+pub returns-clause-poll : goal.returns-clause-poll
+returns-clause-poll g c =
+    let a = c.args.self.now in
     let s = c.settle in
     let p = c.poll in
-    let polled = subst (λ x. Polled g.W.Work.meaning s.new.self x p.result p.new.self) (c.server.ensures ∙ s.ensures.client.0.0) p.ensures.polled in
-    polled_behind g.W.Work.meaning c.args.self.now s.new.self p.new.self (server_of c.args.client.now) p.result s.ensures.looked polled
-
-pub returns-clause-on_time : goal.returns-clause-on_time
-returns-clause-on_time g c =
-    let a = c.args.self.now in
-    polled_on_time g.W.Work.meaning a c.poll.new.self (server_of c.args.client.now) c.poll.result a.housed.history (returns-clause-polled g c)
+    let t = server_of c.args.client.now in
+    let polled = subst (λ x. Polled g.W.Work.meaning s.new.self x p.result p.new.self) (c.server.ensures ∙ s.ensures.client.same.0) p.ensures.polled in
+    let behind = polled_behind g.W.Work.meaning a s.new.self p.new.self t p.result s.ensures.looked polled in
+    record {
+      polled = behind;
+      on_time = polled_on_time g.W.Work.meaning a p.new.self t p.result a.housed.history behind;
+      rings = p.ensures.rings ∙ s.ensures.looked.rings;
+      results = λ r. p.ensures.results r ∙ s.ensures.looked.results r;
+    }

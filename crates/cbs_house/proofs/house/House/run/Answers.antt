@@ -1,7 +1,7 @@
 use Rattle.std.proofs.Common.{◌∷◌, ◌∙◌, [], refl, sym}
 use Rattle.cbs_steps.specs.declared.step.Step.TheVariants.{Run}
 use Rattle.cbs_steps.specs.declared.reply.Ran.TheVariants as ran
-use Rattle.cbs_house.proofs.HouseInvariant.{housed_one, housed_ran, keeps_done, finished_next}
+use Rattle.cbs_house.proofs.HouseInvariant.{housed_one, housed_ran, keeps_done, finished_next, none_handed}
 use Rattle.cbs_house.proofs.MadeSteps.{made_time, collects_none}
 use Rattle.cbs_house.proofs.Moves.{step_on_time}
 use Rattle.cbs_house.proofs.NamedJobs.{names}
@@ -26,7 +26,6 @@ returns-in_default g c =
     let made = made_time work old _ Run (λ s. refl) r.makes.state r.makes.on_time refl (λ s. refl) in
     record {
       reply = r.makes.reply;
-      rings = refl;
       made = made;
       on_time = step_on_time work old.core c.run-ran.new.self Run old.housed.history r.makes.state r.makes.on_time (λ M agrees. tt);
       collects = kept;
@@ -54,11 +53,16 @@ take_expected-requires g c =
     let old = c.args.self.now in
     finished_next g.W.Work.meaning old.core c.run-ran.new.self old.rings old.rings old.collector old.collector old.housed c.in-Done.done c.in-Done.ensures.job.0
 
-pub returns-in-Done-clause-job : goal.returns-in-Done-clause-job
-returns-in-Done-clause-job g c = names c.args.self.now _ (ran.Done c.in-Done.done) c.in-Done.ensures.job (c.take_expected.ensures.taken.results, λ s ne. (c.take_expected.ensures.others.0 s ne).results)
-
-pub returns-in-Done-clause-on_time : goal.returns-in-Done-clause-on_time
-returns-in-Done-clause-on_time g c =
+pub returns-in-Done : goal.returns-in-Done
+returns-in-Done g c =
+    let work = g.W.Work.meaning in
     let old = c.args.self.now in
     let r = c.in-Done.ensures in
-    step_on_time g.W.Work.meaning old.core c.run-ran.new.self Run old.housed.history r.makes.state r.makes.on_time (λ M agrees. tt)
+    let t = c.take_expected.ensures in
+    record {
+      reply = r.makes.reply;
+      made = made_time work old _ Run (λ s. refl) r.makes.state r.makes.on_time refl (none_handed old.collector c.take_expected.new.self c.in-Done.done.server t.taken.handed t.others.0);
+      on_time = step_on_time work old.core c.run-ran.new.self Run old.housed.history r.makes.state r.makes.on_time (λ M agrees. tt);
+      collects = (t.taken.results, λ s ne. (t.others.0 s ne).results);
+      job = names old _ (ran.Done c.in-Done.done) r.job (t.taken.results, λ s ne. (t.others.0 s ne).results);
+    }
