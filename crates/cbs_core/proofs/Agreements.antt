@@ -13,10 +13,9 @@ use Rattle.cbs_steps.specs.Accounts.{face_of, new_account, no_account, account_w
 use Rattle.cbs_steps.specs.History.{World, History, ◌⊕◌, account, faces, chosen, start, after_submit, after_run, after_closing, world_after, run_reply, submit_reply, close_reply, reply_in}
 use Rattle.cbs_core.specs.Agreement.{AgreesJobs, AgreesWorld, Agrees}
 use Rattle.cbs_steps.specs.Promises.{promised_by, promised}
-use Rattle.cbs_steps.specs.Replies.{IsAccepted}
-use Rattle.cbs_core.specs.Held.{CoreHeld}
+use Rattle.cbs_steps.specs.Replies.{IsAccepted, grown, grown_by, AnswersAll}
+use Rattle.cbs_core.specs.Held.{CoreHeld, ran_of}
 use Rattle.cbs_queues.specs.Queues.{list_at, jobs_run, result_run}
-use Rattle.cbs_core.specs.Held.{ran_of}
 use Rattle.cbs_steps.specs.declared.error.CoreError.{CoreError}
 use Rattle.cbs_steps.specs.declared.reply.Ran.{Ran}
 use Rattle.cbs_steps.specs.declared.reply.Ran.TheVariants as ran
@@ -29,7 +28,6 @@ use Rattle.cbs_lists.proofs.Lists.{map-changed_at, AllZip-length, AllZip-get, Al
 use Rattle.cbs_core.proofs.HeldJobs.{owed_jobs, unit_jobs, unit_face, unit_ran, job_jobs, job_face}
 use Rattle.cbs_steps.proofs.StepLists.{grown_by-push}
 use Rattle.cbs_steps.proofs.Ticks.{replenished_faces, ticks_none, ticks_some}
-use Rattle.cbs_steps.specs.Replies.{grown, grown_by, AnswersAll}
 use Rattle.cbs_steps.specs.declared.step.Step.{Step}
 use Rattle.cbs_steps.specs.declared.reply.Reply.{Reply}
 

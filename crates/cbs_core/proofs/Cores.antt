@@ -16,10 +16,9 @@ use Rattle.cbs_lists.specs.Lists.{changed_at}
 use Rattle.cbs_steps.specs.Choice.{IsChoice}
 use Rattle.cbs_steps.specs.Faces.{Face, new_face, no_face, face_at, is_ready, backlog_of, reservations, ranks, with_job, with_unit, with_replenishment, with_close, submit_refusal, view_reply}
 use Rattle.cbs_steps.specs.Laws.{IsWithinBudget}
-use Rattle.cbs_core.specs.Held.{KeepsBudgets}
+use Rattle.cbs_core.specs.Held.{KeepsBudgets, CoreHeld, Accepts}
 use Rattle.cbs_steps.specs.declared.error.CoreError.{CoreError}
 use Rattle.cbs_steps.specs.declared.view.ServerView.{ServerView}
-use Rattle.cbs_core.specs.Held.{CoreHeld, Accepts}
 use Rattle.cbs_queues.specs.Queues.{list_at, jobs_run, result_run}
 use Rattle.cbs_steps.specs.Setups.{terms_of}
 use Rattle.cbs_core.specs.Invariant.{IsServer, HoldsBacklog, IsCore}

@@ -7,9 +7,8 @@ use Rattle.cbs_job.specs.Work.{Meaning, Lowers, whole}
 use Rattle.cbs_job.proofs.WholeResults.{whole_kept, output_whole}
 use Rattle.cbs_lists.specs.Lists.{changed_at}
 use Rattle.cbs_steps.specs.Faces.{Face, no_face, face_at, with_job, with_unit, with_replenishment, with_close}
-use Rattle.cbs_core.specs.Held.{CoreHeld, held_at, SameJobs, TakesJob, RunsJob, FinishesJob, ClosesServer, OthersSame, AllSame, DoesRun}
+use Rattle.cbs_core.specs.Held.{CoreHeld, held_at, SameJobs, TakesJob, RunsJob, FinishesJob, ClosesServer, OthersSame, AllSame, DoesRun, ran_of}
 use Rattle.cbs_queues.specs.Queues.{list_at, jobs_run, result_run}
-use Rattle.cbs_core.specs.Held.{ran_of}
 use Rattle.cbs_steps.specs.declared.reply.Ran.{Ran}
 use Rattle.cbs_steps.specs.declared.reply.Ran.TheVariants as ran
 use Rattle.cbs_core.proofs.Cores.{MayRun}

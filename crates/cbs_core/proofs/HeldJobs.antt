@@ -11,7 +11,7 @@ use Rattle.cbs_job.proofs.WholeResults.{whole_kept, output_whole}
 use Rattle.cbs_steps.specs.Faces.{backlog_of, with_job, with_unit}
 use Rattle.cbs_steps.specs.Accounts.{Account, need, finished, unfinished, face_of, account_with_job, account_with_unit}
 use Rattle.cbs_steps.specs.History.{unit_reply}
-use Rattle.cbs_core.specs.Agreement.{with_first, AgreesJobs}
+use Rattle.cbs_core.specs.Agreement.{with_first_number, AgreesJobs}
 use Rattle.cbs_steps.specs.Promises.{owed}
 use Rattle.cbs_queues.specs.Queues.{jobs_run, result_run}
 use Rattle.cbs_core.specs.Held.{ran_of}
@@ -51,12 +51,12 @@ output_last work law w some none = output_whole work (work.after w) none ∙ who
 pub record Parts {W : Type 0} (work : Meaning W) (jobs xs : List W) (g k : ℕ) : Type 0 where
   pub count : count_done work.left xs g ≡ k
   pub results : map (whole work) jobs ≡ map (whole work) (drop k xs)
-  pub lefts : map work.left jobs ≡ with_first (sum_by work.left (take (k + 1) xs) - g) (map work.left (drop k xs))
+  pub lefts : map work.left jobs ≡ with_first_number (sum_by work.left (take (k + 1) xs) - g) (map work.left (drop k xs))
 
 module _ {W : Type 0} (work : Meaning W) (law : Lowers work) where
   -- where no unit of the next job was run, what is left is what each job came with
   rest_lefts : (xs js ys : List W) (g k : ℕ) → map work.left js ≡ map work.left ys → drop k xs ≡ ys → sum_by work.left (take k xs) ≡ g
-      → map work.left js ≡ with_first (sum_by work.left (take (k + 1) xs) - g) (map work.left ys)
+      → map work.left js ≡ with_first_number (sum_by work.left (take (k + 1) xs) - g) (map work.left ys)
   rest_lefts xs js [] g k e f s = e
   rest_lefts xs js (z ∷ zs) g k e f s =
       let n = need_more work.left xs k z zs f in
@@ -129,7 +129,7 @@ same_sum f (x ∷ xs) (y ∷ ys) e =
 
 -- what is left of the jobs held is what the jobs xs need and g units have not paid
 owed_of : {W : Type 0} (f : W → ℕ) (jobs xs ys : List W) (g k : ℕ) → drop k xs ≡ ys → sum_by f (take k xs) ≤ g → (k < length xs → g < sum_by f (take (k + 1) xs))
-    → map f jobs ≡ with_first (sum_by f (take (k + 1) xs) - g) (map f ys) → sum_by f jobs ≡ sum_by f xs - g
+    → map f jobs ≡ with_first_number (sum_by f (take (k + 1) xs) - g) (map f ys) → sum_by f jobs ≡ sum_by f xs - g
 owed_of f [] xs [] g k d within beyond l = let n = sum_by-take-drop f xs k in let e = ap (sum_by f) d in omega arith
 owed_of f (j ∷ js) xs [] g k d within beyond l = cc
 owed_of f [] xs (y ∷ ys) g k d within beyond l = cc
@@ -152,7 +152,7 @@ pub record Served {W : Type 0} (work : Meaning W) (jobs xs : List W) (g k : ℕ)
 served_cases : {W : Type 0} (work : Meaning W) → Lowers work → (jobs xs : List W) (g k : ℕ) (rest : List W)
     → drop k xs ≡ rest → k ≤ length xs → count_done work.left xs g ≡ k
     → map (whole work) jobs ≡ map (whole work) rest
-    → map work.left jobs ≡ with_first (sum_by work.left (take (k + 1) xs) - g) (map work.left rest)
+    → map work.left jobs ≡ with_first_number (sum_by work.left (take (k + 1) xs) - g) (map work.left rest)
     → AllByRecursion (λ w. 0 < work.left w) jobs → 0 < length jobs → Served work jobs xs g k
 served_cases work law [] xs g k rest d le c v l all some = absurd (omega arith)
 served_cases work law (job ∷ js) xs g k [] d le c v l all some = cc
@@ -228,8 +228,8 @@ module _ {W : Type 0} (work : Meaning W) (xs : List W) (g k : ℕ) (job : W)
   joined_drop = drop-append-le k xs (job ∷ []) joined_le
 
   -- units left that agree with those of the unfinished jobs do so with the new job behind both
-  joined_lefts : (jobs rest : List W) → drop k xs ≡ rest → map work.left jobs ≡ with_first (sum_by work.left (take (k + 1) xs) - g) (map work.left rest)
-      → map work.left (jobs ++ job ∷ []) ≡ with_first (sum_by work.left (take (k + 1) more) - g) (map work.left (rest ++ job ∷ []))
+  joined_lefts : (jobs rest : List W) → drop k xs ≡ rest → map work.left jobs ≡ with_first_number (sum_by work.left (take (k + 1) xs) - g) (map work.left rest)
+      → map work.left (jobs ++ job ∷ []) ≡ with_first_number (sum_by work.left (take (k + 1) more) - g) (map work.left (rest ++ job ∷ []))
   joined_lefts [] [] d l =
       let ge : length xs ≤ k = let e = ap length d in let f = length-drop k xs in omega arith in
       let n : sum_by work.left (take (k + 1) more) - g ≡ work.left job = omega (arith, joined_last ge, joined_full ge) in
@@ -243,7 +243,7 @@ module _ {W : Type 0} (work : Meaning W) (xs : List W) (g k : ℕ) (job : W)
 
   -- the jobs held, and then the new one, are those left of xs and the new one, with as many finished
   joined_parts : (jobs : List W) → map (whole work) jobs ≡ map (whole work) (drop k xs)
-      → map work.left jobs ≡ with_first (sum_by work.left (take (k + 1) xs) - g) (map work.left (drop k xs))
+      → map work.left jobs ≡ with_first_number (sum_by work.left (take (k + 1) xs) - g) (map work.left (drop k xs))
       → Parts work (jobs ++ job ∷ []) more g k
   joined_parts jobs v l = record {
     count = joined_count;

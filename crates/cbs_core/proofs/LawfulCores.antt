@@ -8,7 +8,7 @@ use Rattle.cbs_steps.specs.Faces.{is_ready, Face, face_at, no_face, view_reply, 
 use Rattle.cbs_steps.specs.Accounts.{face_of}
 use Rattle.cbs_core.specs.Invariant.{IsServer, IsCore}
 use Rattle.cbs_steps.specs.History.{History, Setup, account, faces, tick, world_after}
-use Rattle.cbs_core.specs.Held.{CoreHeld}
+use Rattle.cbs_core.specs.Held.{CoreHeld, IsCoreOnTime}
 use Rattle.cbs_core.specs.Agreement.{Agrees}
 use Rattle.cbs_steps.specs.Laws.{account_in}
 use Rattle.cbs_core.proofs.Agreements.{face_is}
@@ -18,17 +18,15 @@ use Rattle.std.proofs.lemmas.List.{length-map}
 use Rattle.std.specs.Prelude.{slice_get, Result, IfOk, IfSome}
 use Rattle.cbs_steps.specs.declared.view.ServerView.{ServerView}
 use Rattle.cbs_steps.specs.OnTime.{IsWorldOnTime, KeepsTime}
-use Rattle.cbs_core.specs.Held.{IsCoreOnTime}
 use Rattle.cbs_steps.specs.declared.error.CoreError.{CoreError}
 use Rattle.cbs_steps.specs.declared.step.Step.{Step}
 use Rattle.cbs_steps.proofs.Histories.{account_face}
 use Rattle.cbs_lists.proofs.Lists.{AllByRecursion-map}
 use Rattle.cbs_steps.specs.Punctual.{IsPunctual}
-use Rattle.cbs_steps.proofs.OnTime.{IsAdmitted, given, known_on_time, on_time_next}
+use Rattle.cbs_steps.proofs.OnTime.{IsAdmitted, given, known_on_time, on_time_next, rates_are, rates_after, on_time_start, ready_early}
 use Rattle.cbs_steps.specs.Promises.{promised, AllFinishedBy}
 use Rattle.cbs_core.proofs.OnTimeCores.{agreed_on_time}
 use Rattle.cbs_steps.proofs.LawfulServers.{IsLawful}
-use Rattle.cbs_steps.proofs.OnTime.{rates_are, rates_after, on_time_start, ready_early}
 use Rattle.cbs_steps.proofs.Promised.{tick_kept}
 use Rattle.cbs_steps.proofs.Punctual.{punctual}
 

@@ -7,11 +7,10 @@ use Rattle.cbs_job.specs.Work.{Meaning}
 use Rattle.cbs_steps.specs.Faces.{face_at, new_face, no_face, is_active}
 use Rattle.cbs_steps.specs.Accounts.{Account, face_of, new_account, no_account}
 use Rattle.cbs_steps.specs.History.{Setup, History, ◌⊕◌, account, world_after}
-use Rattle.cbs_core.specs.Agreement.{AgreesJobs, Agrees}
+use Rattle.cbs_core.specs.Agreement.{AgreesJobs, Agrees, HasHistory, Follows, AllAllowed}
 use Rattle.cbs_core.specs.Held.{CoreHeld, held_at, HoldsJob}
 use Rattle.cbs_queues.specs.Queues.{list_at}
 use Rattle.cbs_steps.specs.Continuations.{IsBusy, ◌⊕⊕◌}
-use Rattle.cbs_core.specs.Agreement.{HasHistory, Follows, AllAllowed}
 use Rattle.cbs_steps.specs.declared.step.Step.{Step}
 use Rattle.cbs_steps.proofs.Histories.{account_face}
 use Rattle.cbs_core.proofs.HeldJobs.{length_jobs}

@@ -1,13 +1,11 @@
 -- A core that is on time, and the steps that follow it.
 use Rattle.std.proofs.Common.{List}
 use Rattle.cbs_job.specs.Work.{Meaning}
-use Rattle.cbs_core.specs.Agreement.{Agrees}
+use Rattle.cbs_core.specs.Agreement.{Agrees, HasHistory, Follows, AllAllowed, AllOnTime}
 use Rattle.cbs_steps.specs.Continuations.{◌⊕⊕◌}
-use Rattle.cbs_core.specs.Agreement.{HasHistory, Follows, AllAllowed, AllOnTime}
-use Rattle.cbs_core.specs.Held.{CoreHeld}
+use Rattle.cbs_core.specs.Held.{CoreHeld, IsCoreOnTime}
 use Rattle.cbs_steps.specs.History.{History, world_after}
 use Rattle.cbs_steps.specs.OnTime.{IsWorldOnTime, KeepsTime}
-use Rattle.cbs_core.specs.Held.{IsCoreOnTime}
 use Rattle.cbs_steps.specs.Quiet.{IsQuietAfter}
 use Rattle.cbs_steps.specs.declared.step.Step.{Step}
 use Rattle.cbs_steps.proofs.OnTimeLists.{on_time_stable, each_on_time, last_on_time}

@@ -10,16 +10,16 @@ use Rattle.cbs_steps.specs.declared.step.Step.{Step}
 use Rattle.cbs_core.specs.Held.{CoreHeld, IsCoreOnTime}
 
 -- the list with another first number
-abbrev pub with_first : ℕ → List ℕ → List ℕ
-with_first n [] = []
-with_first n (x ∷ xs) = n ∷ xs
+abbrev pub with_first_number : ℕ → List ℕ → List ℕ
+with_first_number n [] = []
+with_first_number n (x ∷ xs) = n ∷ xs
 
 module _ {W : Type 0} where
   -- the jobs that are held of a server are its unfinished ones: each comes to its own whole result and has all its units
   -- left, but the first, which has left what the jobs up to it need beyond the units got
   pub record AgreesJobs (work : Meaning W) (jobs : List W) (a : Account W) : Type 0 where
     pub results : map (whole work) jobs ≡ map (whole work) (unfinished work a)
-    pub lefts : map work.left jobs ≡ with_first (need work a (finished work a + 1) - a.got) (map work.left (unfinished work a))
+    pub lefts : map work.left jobs ≡ with_first_number (need work a (finished work a + 1) - a.got) (map work.left (unfinished work a))
 
   -- what a core holds agrees with what a list of steps left
   pub record AgreesWorld (work : Meaning W) (core : CoreHeld W) (backlog : ℕ) (w : World W) : Type 0 where

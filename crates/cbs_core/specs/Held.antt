@@ -2,6 +2,7 @@
 use Rattle.std.specs.Prelude.{◌≡◌, ◌≢◌, ℕ, ◌+◌, ◌<◌, ◌≤◌, true, false, List, [], ◌∷◌, ◌++◌, length, map, get_or, Option, Some, None}
 use Rattle.cbs_job.specs.Work.{Meaning, whole}
 use Rattle.cbs_job.specs.declared.completion.Completion.{Completion}
+use Rattle.cbs_rules.specs.Rules.{clock_end}
 use Rattle.cbs_steps.specs.Faces.{Face, face_at, backlog_of}
 pub use Rattle.cbs_queues.specs.Queues.{room_of, KeepsRoom, front_output}
 use Rattle.cbs_steps.specs.Laws.{IsWithinBudget}
@@ -33,6 +34,10 @@ module _ {W : Type 0} where
   -- the core holds a job: an accepted job is not finished
   abbrev pub HoldsJob : CoreHeld W → Type 0
   HoldsJob core = (s : ℕ) × (0 < length (held_at core s).jobs)
+
+  -- the clock stands at its end, with a job unfinished
+  abbrev pub IsAtEnd : CoreHeld W → Type 0
+  IsAtEnd core = (core.clock ≡ clock_end) × HoldsJob core
 
   -- the core holds no job: every accepted job is finished
   abbrev pub HoldsNoJob : CoreHeld W → Type 0

@@ -21,11 +21,12 @@ use cbs_job::{Completion, Task, Work};
 use cbs_queues::Queues;
 use cbs_rate::Plan;
 use cbs_rules::{LIMIT, Modes};
-use cbs_steps::{
-    CoreError, MAX_BACKLOG, Ran, Reply, ServerView, Step, StepsRefused, SubmitRefused,
-};
+use cbs_steps::{CoreError, Ran, Reply, ServerView, Step, StepsRefused, SubmitRefused};
 use std::alloc::{Allocator, Global};
 use std::marker::Model;
+
+/// The greatest backlog of a server, in jobs.
+pub const MAX_BACKLOG: u64 = 4096;
 
 /// The core of an executor: servers with their jobs, and the clock.
 ///
@@ -386,15 +387,15 @@ impl<W: Work, A: Allocator> Core<W, A> {
         ensures counts { CountsOn (completion_in result) self.old self.new }
     {
         match step {
-            Step::Submit(server, task) => submit_reply(self.submit(server, task)),
+            Step::Submit(server, task) => submitted(self.submit(server, task)),
             Step::Run => Reply::Ran(self.run()),
-            Step::Advance(n) => advance_reply(self.advance(n)),
-            Step::Close(server) => close_reply(self.close(server)),
+            Step::Advance(n) => advanced(self.advance(n)),
+            Step::Close(server) => closed(self.close(server)),
         }
     }
 }
 
-fn submit_reply<W: Work>(answer: Result<u64, SubmitRefused<W>>) -> Reply<W>
+fn submitted<W: Work>(answer: Result<u64, SubmitRefused<W>>) -> Reply<W>
     ensures { result ≡ submitted answer }
 {
     match answer {
@@ -403,7 +404,7 @@ fn submit_reply<W: Work>(answer: Result<u64, SubmitRefused<W>>) -> Reply<W>
     }
 }
 
-fn advance_reply<W: Work>(answer: Result<(), CoreError>) -> Reply<W>
+fn advanced<W: Work>(answer: Result<(), CoreError>) -> Reply<W>
     ensures { result ≡ advanced answer }
 {
     match answer {
@@ -412,7 +413,7 @@ fn advance_reply<W: Work>(answer: Result<(), CoreError>) -> Reply<W>
     }
 }
 
-fn close_reply<W: Work>(answer: Result<(), CoreError>) -> Reply<W>
+fn closed<W: Work>(answer: Result<(), CoreError>) -> Reply<W>
     ensures { result ≡ closed answer }
 {
     match answer {

@@ -9,7 +9,5 @@ mod server;
 mod servers;
 
 pub use cbs_rules::LIMIT;
-pub use cbs_steps::{
-    CoreError, MAX_BACKLOG, Ran, Reply, ServerView, Step, StepsRefused, SubmitRefused,
-};
-pub use executor::Core;
+pub use cbs_steps::{CoreError, Ran, Reply, ServerView, Step, StepsRefused, SubmitRefused};
+pub use executor::{Core, MAX_BACKLOG};

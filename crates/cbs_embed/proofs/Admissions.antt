@@ -6,13 +6,13 @@ use Rattle.std.proofs.lemmas.List.{at_drop_more, length-append}
 use Rattle.cbs_rate.specs.Plan.{Planned}
 use Rattle.cbs_rate.specs.declared.error.RateError.{RateError}
 use Rattle.cbs_rate.specs.declared.error.AdmitError.{AdmitError}
-use Rattle.cbs_embed.specs.Plans.{first_of, server_refusal, with_server, with_mode, mode_from, setup_refusal, plan_with, modes_with}
+use Rattle.cbs_embed.specs.Plans.{first_refusal, server_refusal, with_server, with_mode, mode_from, setup_refusal, plan_with, modes_with}
 use Rattle.cbs_embed.specs.declared.setup.Server.{Server}
 use Rattle.cbs_embed.specs.declared.refusal.Refusal.{Refusal}
 use Rattle.cbs_rules.specs.declared.mode.Mode.{Mode}
 use Rattle.cbs_rules.specs.declared.mode.Mode.TheVariants.{Soft}
 
-passes : (a : Option RateError) (b : Option AdmitError) (m : Option Mode) (rest : Option Refusal) → first_of a b m None ≡ None → first_of a b m rest ≡ rest
+passes : (a : Option RateError) (b : Option AdmitError) (m : Option Mode) (rest : Option Refusal) → first_refusal a b m None ≡ None → first_refusal a b m rest ≡ rest
 passes None None (Some m) rest e = refl
 passes None None None rest e = absurd (true≢false (ap is_some e))
 passes None (Some x) m rest e = absurd (true≢false (ap is_some e))

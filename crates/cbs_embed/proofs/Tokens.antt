@@ -3,8 +3,7 @@ use Rattle.std.proofs.Common.{◌≡◌, ℕ, zero, suc, List, [], ◌∷◌, ma
 use Rattle.std.specs.Option.{unwrap_or}
 use Rattle.cbs_job.specs.Work.{whole, output_after}
 use Rattle.cbs_job.specs.declared.completion.Completion.{Completion}
-use Rattle.cbs_core.specs.Held.{front_output}
-use Rattle.cbs_core.specs.Held.{held_at}
+use Rattle.cbs_core.specs.Held.{front_output, held_at}
 use Rattle.cbs_steps.specs.declared.reply.Ran.TheVariants as ran
 use Rattle.cbs_house.specs.Houses.{core_of, received, ComesTo, NamesJob}
 use Rattle.cbs_house.specs.Messages.{jobs_among}

@@ -3,12 +3,10 @@ use Rattle.std.specs.Prelude.{ℕ, ◌≡◌, ◌≢◌, ◌⊎◌, Option, Some
 use Rattle.std.specs.List.{All, range_with_len}
 use Rattle.cbs_rate.specs.Rate.{Rate}
 use Rattle.cbs_rules.specs.declared.mode.Mode.{Mode}
-use Rattle.cbs_core.specs.Agreement.{Agrees}
-use Rattle.cbs_steps.specs.Punctual.{IsPunctual}
 use Rattle.cbs_steps.specs.Setups.{terms_of}
-use Rattle.cbs_steps.specs.declared.step.Step.{Step}
+use Rattle.cbs_house.specs.Calls.{IsNewHouse}
 use Rattle.cbs_house.specs.Clients.{server_of}
-use Rattle.cbs_house.specs.Houses.{core_of, IsHouseOnTime, rings_of, received, known, results_of, handed_of}
+use Rattle.cbs_house.specs.Houses.{rings_of}
 use Rattle.cbs_house.specs.Opened.{open_refusal, IsUnused}
 use Rattle.cbs_house.specs.RingEnds.{IsOpened}
 use Rattle.cbs_house.specs.declared.error.HouseError.{HouseError}
@@ -31,13 +29,10 @@ pub record Opens (modes : List Mode) (rates : List Rate) (backlog ring : ℕ) (h
   pub clients : List TheClient
   pub holds : held ≡ Some (House house)
   pub hold : others ≡ map (λ c. Some (Client c)) clients
-  pub agrees : Agrees counting (core_of house) (record { setup = record { servers = terms_of modes rates; backlog = backlog }; steps = [] })
-  pub empty : (s : ℕ) → (received house s ≡ []) × (known house s ≡ []) × (results_of house s ≡ []) × (handed_of house s ≡ 0)
+  pub new : IsNewHouse counting (record { servers = terms_of modes rates; backlog = backlog }) house
   pub servers : map server_of clients ≡ range_with_len 0 (length rates)
   pub unused : All (IsUnused ring) clients
   pub opened : All (IsOpened (rings_of house)) clients
-  pub on_time : IsHouseOnTime house
-  pub punctual : (steps : List (Step UnitJob)) → IsPunctual counting (record { setup = record { servers = terms_of modes rates; backlog = backlog }; steps = steps })
 
 -- the same of a house of these servers
 abbrev pub OpensServers : List Server → ℕ → ℕ → Option Inside → List (Option Inside) → Type 0

@@ -25,14 +25,14 @@ mode_refusal (Some m) rest = rest
 mode_refusal None rest = Some (refused.Kept BadMode)
 
 -- the first refusal of the three, or else the rest
-abbrev pub first_of : Option RateError → Option AdmitError → Option Mode → Option Refusal → Option Refusal
-first_of (Some e) b m rest = Some (refused.Rate e)
-first_of None (Some e) m rest = Some (refused.Admit e)
-first_of None None m rest = mode_refusal m rest
+abbrev pub first_refusal : Option RateError → Option AdmitError → Option Mode → Option Refusal → Option Refusal
+first_refusal (Some e) b m rest = Some (refused.Rate e)
+first_refusal None (Some e) m rest = Some (refused.Admit e)
+first_refusal None None m rest = mode_refusal m rest
 
 -- why one server is refused, or else the rest
 abbrev pub server_refusal : Planned → Server → Option Refusal → Option Refusal
-server_refusal p r rest = first_of (rate_refusal r.budget r.period) (admit_refusal p (record { budget = r.budget; period = r.period })) (mode_from r.mode) rest
+server_refusal p r rest = first_refusal (rate_refusal r.budget r.period) (admit_refusal p (record { budget = r.budget; period = r.period })) (mode_from r.mode) rest
 
 -- the plan with one more server
 abbrev pub with_server : Planned → Server → Planned

@@ -9,7 +9,7 @@ use Rattle.cbs_job.specs.Work.{Meaning}
 use Rattle.cbs_job.specs.declared.work.Work.{Ghosts}
 use Rattle.cbs_job.specs.declared.completion.Completion.{Completion}
 use Rattle.cbs_rules.specs.Rules.{clock_end}
-use Rattle.cbs_core.specs.Agreement.{Agrees}
+use Rattle.cbs_core.specs.Agreement.{Agrees, Follows, HasHistory}
 use Rattle.cbs_core.specs.Held.{CoreHeld, Accepts}
 use Rattle.cbs_steps.specs.History.{History, world_after}
 use Rattle.cbs_steps.specs.OnTime.{KeepsTime}
@@ -28,7 +28,6 @@ use Rattle.cbs_house.specs.RingEnds.{Looked}
 use Rattle.cbs_house.specs.Houses.{core_of, rings_of, received, known, results_of, handed_of, Made, LooksOnly, Collects, Polled}
 use Rattle.cbs_house.specs.Messages.{jobs_among}
 use Rattle.cbs_house.specs.Steps.{message_of, messages_of}
-use Rattle.cbs_core.specs.Agreement.{Follows, HasHistory}
 use Rattle.cbs_house.proofs.StepMessages.{messages_of-append}
 use Rattle.cbs_core.proofs.Laws.{follows_both, allowed_both}
 

@@ -6,11 +6,10 @@ use Rattle.std.proofs.lemmas.List.Elements.{AllWithin-more_set}
 use Rattle.std.proofs.lemmas.List.{append-nil}
 use Rattle.cbs_job.specs.Work.{Meaning}
 use Rattle.cbs_job.specs.declared.work.Work.{Ghosts}
-use Rattle.cbs_core.specs.Agreement.{Agrees}
-use Rattle.cbs_core.specs.Held.{CoreHeld}
+use Rattle.cbs_core.specs.Agreement.{Agrees, HasHistory, Follows, AllAllowed}
+use Rattle.cbs_core.specs.Held.{CoreHeld, IsCoreOnTime}
 use Rattle.cbs_steps.specs.History.{History}
 use Rattle.cbs_steps.specs.OnTime.{KeepsTime}
-use Rattle.cbs_core.specs.Held.{IsCoreOnTime}
 use Rattle.cbs_steps.specs.Quiet.{IsQuietAfter}
 use Rattle.cbs_steps.specs.declared.step.Step.{Step}
 use Rattle.cbs_steps.specs.declared.step.Step.TheVariants.{Submit, Run, Advance, Close}
@@ -23,7 +22,6 @@ use Rattle.cbs_house.specs.Houses.{core_of, rings_of, received, known, handed_of
 use Rattle.cbs_house.specs.Rounds.{ServesOn, IsSettled}
 use Rattle.cbs_house.specs.Steps.{messages_of, pops_of, pops, MayServe}
 use Rattle.cbs_steps.specs.Continuations.{MayDrain}
-use Rattle.cbs_core.specs.Agreement.{HasHistory, Follows, AllAllowed}
 use Rattle.cbs_house.proofs.MadeSteps.{made_both, made_nothing, made_look}
 use Rattle.cbs_house.proofs.RingLooks.{prefix_along}
 use Rattle.cbs_house.proofs.StepMessages.{pops-append}

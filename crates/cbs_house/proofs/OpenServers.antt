@@ -5,9 +5,8 @@ use Rattle.std.specs.List.{count_by}
 use Rattle.std.proofs.lemmas.Bool.{cases_eq, cases_Bool, false≢true, not-true, not-false}
 use Rattle.std.proofs.lemmas.List.Sums.{sum_by-cons, get_or-le-sum_by, count_by_more_yes, count_by_more_no}
 use Rattle.cbs_job.specs.Work.{Meaning}
-use Rattle.cbs_core.specs.Agreement.{Agrees}
+use Rattle.cbs_core.specs.Agreement.{Agrees, HasHistory, Follows}
 use Rattle.cbs_steps.specs.Continuations.{◌⊕⊕◌}
-use Rattle.cbs_core.specs.Agreement.{HasHistory, Follows}
 use Rattle.cbs_steps.specs.Faces.{Face, face_at, no_face}
 use Rattle.cbs_core.specs.Held.{CoreHeld, IsOpen, IsClosed}
 use Rattle.cbs_steps.specs.History.{History, world_after}
@@ -45,10 +44,6 @@ open_by true r P f h e = absurd (false≢true (sym e ∙ h (f refl)))
 open_by false r P f h e = refl
 
 module _ {W : Type 0} (core : CoreHeld W) where
-  -- where no server is open, every server is closed
-  pub none_open : open_servers core ≡ 0 → AllClosed core
-  none_open e s lt = record { within = lt; closed = not-false (face_at core.faces s).closed (none_pass (λ f. not f.closed) core.faces s lt e) }
-
   -- where the count is more than 0, some server is open
   pub some_open : 0 < open_servers core → (s : ℕ) × IsOpen core s
   some_open lt = let k = some_pass (λ f. not f.closed) core.faces lt in (k.0, record { within = k.1; unclosed = not-true (face_at core.faces k.0).closed k.2 })

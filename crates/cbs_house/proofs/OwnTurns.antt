@@ -12,7 +12,7 @@ use Rattle.cbs_steps.specs.Accounts.{face_of, finished}
 use Rattle.cbs_core.specs.Agreement.{Agrees}
 use Rattle.cbs_steps.specs.Continuations.{◌⊕⊕◌}
 use Rattle.cbs_steps.specs.Faces.{face_at, no_face, submit_refusal, close_refusal}
-use Rattle.cbs_core.specs.Held.{HoldsJob, HoldsNoJob}
+use Rattle.cbs_core.specs.Held.{HoldsJob, HoldsNoJob, IsAtEnd}
 use Rattle.cbs_steps.specs.History.{World, History, ◌⊕◌, account, faces, chosen, after_submit, after_closing, run_reply, world_after, reply_in}
 use Rattle.cbs_steps.specs.declared.error.CoreError.{CoreError}
 use Rattle.cbs_steps.specs.declared.reply.Ran.{Ran}
@@ -185,7 +185,7 @@ module _ {W A : Type 0} {g : Ghosts W} (work : Meaning W) where
   stays_idle (ran.Done c) h n k = absurd k
 
   -- a turn that tells of the clock's end stands there, with a job unfinished
-  at_end : (a b : House W A g) (n : ℕ) → Housed work a.core a.rings a.collector → GoesOn work a b ran.ClockEnd n → ((core_of b).clock ≡ clock_end) × HoldsJob (core_of b)
+  at_end : (a b : House W A g) (n : ℕ) → Housed work a.core a.rings a.collector → GoesOn work a b ran.ClockEnd n → IsAtEnd (core_of b)
   at_end a b n housed (inl k) =
       absurd (housed.history (λ M agrees.
       let told : ran.ClockEnd ≡ run_reply work (world_after work M) (chosen work (world_after work M)) = let e = k.0.answer M agrees in cc in

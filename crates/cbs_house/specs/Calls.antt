@@ -4,18 +4,20 @@ use Rattle.cbs_job.specs.Work.{Meaning}
 use Rattle.cbs_job.specs.declared.work.Work.{Ghosts}
 use Rattle.cbs_rules.specs.Rules.{clock_end}
 use Rattle.cbs_steps.specs.Faces.{face_at, view_reply}
-use Rattle.cbs_steps.specs.History.{History, faces, world_after, reply_in}
+use Rattle.cbs_steps.specs.History.{Setup, History, faces, world_after, reply_in}
 use Rattle.cbs_steps.specs.Laws.{account_in, IsWithinBudget}
 use Rattle.cbs_steps.specs.OnTime.{IsWorldOnTime}
 use Rattle.cbs_steps.specs.Promises.{promised, AllFinishedBy}
+use Rattle.cbs_steps.specs.Punctual.{IsPunctual}
 use Rattle.cbs_steps.specs.Quiet.{IsAtRest, IsIdleSpan, IsQuietAfter}
 use Rattle.cbs_steps.specs.declared.reply.Ran.{Ran}
 use Rattle.cbs_steps.specs.declared.reply.Reply.TheVariants as reply
+use Rattle.cbs_steps.specs.declared.step.Step.{Step}
 use Rattle.cbs_steps.specs.declared.step.Step.TheVariants as step
 use Rattle.cbs_steps.specs.declared.view.ServerView.{ServerView}
 use Rattle.cbs_core.specs.Agreement.{Agrees}
 use Rattle.cbs_house.specs.Clients.{sent_by, free, slots_of, SameClient}
-use Rattle.cbs_house.specs.Houses.{core_of, rings_of, results_of, IsHouseOnTime, view_answer, Made, SameHouse, Polled, Collects, NamesJob}
+use Rattle.cbs_house.specs.Houses.{core_of, rings_of, received, known, handed_of, results_of, IsHouseOnTime, view_answer, Made, SameHouse, Polled, Collects, NamesJob}
 use Rattle.cbs_house.specs.Messages.{jobs_among, has_end}
 use Rattle.cbs_house.specs.OwnTurns.{IsNumbered, TakesOwnTurn}
 use Rattle.cbs_house.specs.Rounds.{ServesOn}
@@ -32,6 +34,14 @@ use Rattle.cbs_house.specs.declared.poll.Poll.{Poll}
 use Rattle.cbs_house.specs.declared.turn.Turn.{Turn}
 
 module _ {W A : Type 0} {g : Ghosts W} where
+  -- A house that was opened with these servers: its core agrees with no step, nothing was received, no result is kept or was
+  -- handed out, it is on time, and every list of steps that it may make is punctual.
+  pub record IsNewHouse (work : Meaning W) (setup : Setup) (h : House W A g) : Type 0 where
+    pub agrees : Agrees work (core_of h) (record { setup = setup; steps = [] })
+    pub empty : (s : ℕ) → (received h s ≡ []) × (known h s ≡ []) × (results_of h s ≡ []) × (handed_of h s ≡ 0)
+    pub on_time : IsHouseOnTime h
+    pub punctual : (steps : List (Step W)) → IsPunctual work (record { setup = setup; steps = steps })
+
   -- a poll of server s: it makes one step or none, by its answer, and leaves the results
   pub record PollOf (work : Meaning W) (s : ℕ) (old : House W A g) (answer : Poll) (new : House W A g) : Type 0 where
     pub polled : Polled work old s answer new

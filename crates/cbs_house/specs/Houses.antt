@@ -4,10 +4,9 @@ use mathlib.Core.List.{IsPrefix}
 use Rattle.cbs_job.specs.Work.{Meaning, whole}
 use Rattle.cbs_job.specs.declared.work.Work.{Ghosts}
 use Rattle.cbs_steps.specs.Faces.{face_at, backlog_of}
-use Rattle.cbs_core.specs.Held.{CoreHeld, held_at, IsOpen, Accepts, HasRoom}
+use Rattle.cbs_core.specs.Held.{CoreHeld, held_at, IsOpen, Accepts, HasRoom, IsCoreOnTime}
 use Rattle.cbs_steps.specs.History.{History}
 use Rattle.cbs_steps.specs.OnTime.{KeepsTime}
-use Rattle.cbs_core.specs.Held.{IsCoreOnTime}
 use Rattle.cbs_steps.specs.Quiet.{IsQuietAfter}
 use Rattle.cbs_steps.specs.declared.error.CoreError.{CoreError}
 use Rattle.cbs_steps.specs.declared.reply.Ran.{Ran}

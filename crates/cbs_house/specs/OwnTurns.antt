@@ -5,7 +5,7 @@ use Rattle.cbs_job.specs.declared.work.Work.{Ghosts}
 use Rattle.cbs_rules.specs.Rules.{clock_end}
 use Rattle.cbs_core.specs.Agreement.{Agrees}
 use Rattle.cbs_steps.specs.Continuations.{IsNeeded, IsUseful}
-use Rattle.cbs_core.specs.Held.{HoldsJob, HoldsNoJob}
+use Rattle.cbs_core.specs.Held.{HoldsJob, HoldsNoJob, IsAtEnd}
 use Rattle.cbs_steps.specs.History.{History, world_after, reply_in}
 use Rattle.cbs_steps.specs.declared.reply.Ran.{Ran}
 use Rattle.cbs_steps.specs.declared.reply.Ran.TheVariants as ran
@@ -31,7 +31,7 @@ module _ {W A : Type 0} {g : Ghosts W} where
   -- why the clock stays, by what is told: no job is held, or the clock stands at its end with a job unfinished
   abbrev pub StaysBy : Ran → House W A g → Type 0
   StaysBy ran.Idle h = HoldsNoJob (core_of h)
-  StaysBy ran.ClockEnd h = ((core_of h).clock ≡ clock_end) × HoldsJob (core_of h)
+  StaysBy ran.ClockEnd h = IsAtEnd (core_of h)
   StaysBy (ran.Unit s q) h = ⊥
   StaysBy (ran.Done c) h = ⊥
 

@@ -16,7 +16,7 @@ use Rattle.cbs_house.specs.declared.poll.Poll.TheVariants as poll
 use Rattle.cbs_house.specs.Clients.{server_of, sent_by}
 use Rattle.cbs_house.specs.Feeds.{client_of, IsDone, all_jobs}
 use Rattle.cbs_house.specs.Houses.{core_of, rings_of, received, known, results_of, handed_of, Moves}
-use Rattle.cbs_core.specs.Held.{HoldsJob, HoldsNoJob}
+use Rattle.cbs_core.specs.Held.{HoldsJob, HoldsNoJob, IsAtEnd}
 use Rattle.cbs_house.specs.RingEnds.{AreOpened}
 use Rattle.cbs_house.specs.Steps.{MayServe}
 
@@ -64,7 +64,7 @@ module _ {W A : Type 0} {g : Ghosts W} where
   -- memory nothing is said
   abbrev pub Halts : HouseError → House W A g → Type 0
   Halts OutOfMemory h = Unit {0}
-  Halts ClockEnd h = ((core_of h).clock ≡ clock_end) × HoldsJob (core_of h)
+  Halts ClockEnd h = IsAtEnd (core_of h)
   Halts Stalled h = ⊥
   Halts BadBacklog h = ⊥
   Halts BadRing h = ⊥
@@ -80,7 +80,7 @@ module _ {W A : Type 0} {g : Ghosts W} where
   -- how serving leaves house and feeds where it stops early
   abbrev pub Stops : HouseError → House W A g → List (Feed W A g) → Type 0
   Stops OutOfMemory h fs = Unit {0}
-  Stops ClockEnd h fs = ((core_of h).clock ≡ clock_end) × HoldsJob (core_of h)
+  Stops ClockEnd h fs = IsAtEnd (core_of h)
   Stops Stalled h fs = IsStalled h fs
   Stops BadBacklog h fs = ⊥
   Stops BadRing h fs = ⊥

@@ -5,7 +5,7 @@ use Rattle.cbs_job.specs.Work.{Meaning}
 use Rattle.cbs_job.specs.declared.completion.Completion.{Completion}
 use Rattle.cbs_job.specs.declared.work.Work.{Ghosts}
 use Rattle.cbs_rules.specs.Rules.{clock_end}
-use Rattle.cbs_core.specs.Held.{CoreHeld, IsOpen, IsClosed, HoldsJob, HoldsNoJob}
+use Rattle.cbs_core.specs.Held.{CoreHeld, IsOpen, IsClosed, HoldsJob, HoldsNoJob, IsAtEnd}
 use Rattle.cbs_steps.specs.declared.reply.Ran.{Ran}
 use Rattle.cbs_steps.specs.declared.reply.Ran.TheVariants as ran
 use Rattle.cbs_house.specs.declared.error.HouseError.{HouseError}
@@ -112,7 +112,7 @@ module _ {W A : Type 0} {g : Ghosts W} where
   -- yet some server is open
   abbrev pub RunStops : Meaning W → HouseError → House W A g → House W A g → Type 0
   RunStops work OutOfMemory old new = LackedMemory work old new
-  RunStops work ClockEnd old new = ((core_of new).clock ≡ clock_end) × HoldsJob (core_of new)
+  RunStops work ClockEnd old new = IsAtEnd (core_of new)
   RunStops work Stalled old new = IsWaiting new
   RunStops work BadBacklog old new = ⊥
   RunStops work BadRing old new = ⊥

@@ -9,8 +9,8 @@ use Rattle.cbs_house.specs.declared.house.House.{House}
 use Rattle.cbs_house.specs.Houses.{results_of, result_count}
 
 -- the completions of server s, in order
-abbrev pub completions_of : ℕ → List Completion → List Completion
-completions_of s cs = filter (λ c. eqb c.server s) cs
+abbrev pub completions_for : ℕ → List Completion → List Completion
+completions_for s cs = filter (λ c. eqb c.server s) cs
 
 -- a sink was told of these completions, one after another; `hears` says what telling does to it
 abbrev pub HearsEach : {S : Type 0} → (S → Completion → S → Type 0) → S → List Completion → S → Type 0
@@ -30,5 +30,5 @@ module _ {W A S : Type 0} {g : Ghosts W} where
   pub record Tells (hears : S → Completion → S → Type 0) (old_house new_house : House W A g) (old new : S) : Type 0 where
     pub completions : List Completion
     pub heard : HearsEach hears old completions new
-    pub results : (s : ℕ) → results_of new_house s ≡ results_of old_house s ++ map (λ c. c.result) (completions_of s completions)
-    pub numbers : (s : ℕ) → map (λ c. c.seq) (completions_of s completions) ≡ range_with_len (result_count old_house s) (length (completions_of s completions))
+    pub results : (s : ℕ) → results_of new_house s ≡ results_of old_house s ++ map (λ c. c.result) (completions_for s completions)
+    pub numbers : (s : ℕ) → map (λ c. c.seq) (completions_for s completions) ≡ range_with_len (result_count old_house s) (length (completions_for s completions))

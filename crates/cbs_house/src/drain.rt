@@ -9,7 +9,7 @@ use std::alloc::Allocator;
 impl<W: Work, A: Allocator> House<W, A> {
     ghost use Rattle.std.specs.Prelude.{ℕ, ◌≡◌, ◌<◌, true, false, IsOk, OnOk, IfErr};
     ghost use Rattle.cbs_house.specs.Houses.{core_of, rings_of, received, IsHouseOnTime, AllFinished, Moves};
-    ghost use Rattle.cbs_core.specs.Held.{HoldsJob, HoldsNoJob};
+    ghost use Rattle.cbs_core.specs.Held.{HoldsJob, HoldsNoJob, IsAtEnd};
     ghost use Rattle.cbs_steps.specs.Continuations.{MayDrain};
 
     /// Runs until no accepted job is unfinished. Where nobody is ready it advances the clock by the
@@ -25,7 +25,7 @@ impl<W: Work, A: Allocator> House<W, A> {
         ensures rings { rings_of self.new ≡ rings_of self.old }
         ensures ok { OnOk result (HoldsNoJob (core_of self.new)) }
         ensures finished { OnOk result (AllFinished W.meaning self.new) }
-        ensures end { IfErr result (λ error. (error ≡ HouseError.ClockEnd) × ((core_of self.new).clock ≡ LIMIT) × HoldsJob (core_of self.new)) }
+        ensures end { IfErr result (λ error. (error ≡ HouseError.ClockEnd) × IsAtEnd (core_of self.new)) }
     {
         while self.is_busy() {
             if self.now() == LIMIT {

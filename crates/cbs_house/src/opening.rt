@@ -1,14 +1,12 @@
 //! Opening a house with its clients.
 
-ghost use Rattle.std.specs.Prelude.{ℕ, ◌≡◌, ◌≤◌, List, [], length, map, IfOk, OnOk};
+ghost use Rattle.std.specs.Prelude.{◌≡◌, ◌≤◌, length, map, IfOk};
 ghost use Rattle.std.specs.List.{All, range_with_len};
-ghost use Rattle.cbs_core.specs.Agreement.{Agrees};
-ghost use Rattle.cbs_steps.specs.Punctual.{IsPunctual};
 ghost use Rattle.cbs_steps.specs.Setups.{terms_of};
-ghost use Rattle.cbs_steps.specs.declared.step.Step.{Step};
 ghost use Rattle.cbs_rate.specs.Refusals.{RefusesByOrMemory};
+ghost use Rattle.cbs_house.specs.Calls.{IsNewHouse};
 ghost use Rattle.cbs_house.specs.Clients.{server_of, ring_of};
-ghost use Rattle.cbs_house.specs.Houses.{core_of, rings_of, IsHouseOnTime, received, known, results_of, handed_of};
+ghost use Rattle.cbs_house.specs.Houses.{rings_of};
 ghost use Rattle.cbs_house.specs.Opened.{open_refusal, IsNewEnd, IsUnused};
 ghost use Rattle.cbs_house.specs.RingEnds.{rings_in, IsOpened, AreOpened, EachOpened};
 
@@ -47,8 +45,7 @@ pub fn open_house<W: Work, A: Allocator + Copy>(
     ring: u64,
 ) -> Result<(House<W, A>, Vec<Client<W, A>, A>), HouseError>
     requires { length modes ≡ length plan.rates }
-    ensures agrees { IfOk result (λ r. Agrees W.meaning (core_of r.0) (record { setup = record { servers = terms_of modes plan.rates; backlog = backlog }; steps = [] })) }
-    ensures empty { IfOk result (λ r. (s : ℕ) → (received r.0 s ≡ []) × (known r.0 s ≡ []) × (results_of r.0 s ≡ []) × (handed_of r.0 s ≡ 0)) }
+    ensures new { IfOk result (λ r. IsNewHouse W.meaning (record { servers = terms_of modes plan.rates; backlog = backlog }) r.0) }
     ensures clients { IfOk result (λ r. map server_of r.1.items ≡ range_with_len 0 (length plan.rates)) }
     ensures count { IfOk result (λ r. length r.1.items ≡ length plan.rates) }
     ensures few { IfOk result (λ r. length r.1.items ≤ 64) }
@@ -56,8 +53,6 @@ pub fn open_house<W: Work, A: Allocator + Copy>(
     ensures opened { IfOk result (λ r. All (IsOpened (rings_of r.0)) r.1.items) }
     ensures together { IfOk result (λ r. AreOpened (rings_of r.0) r.1.items) }
     ensures each { IfOk result (λ r. EachOpened (rings_of r.0) r.1.items) }
-    ensures on_time { IfOk result (λ r. IsHouseOnTime r.0) }
-    ensures punctual { OnOk result ((steps : List (Step W)) → IsPunctual W.meaning (record { setup = record { servers = terms_of modes plan.rates; backlog = backlog }; steps = steps })) }
     ensures refusal { RefusesByOrMemory HouseError.OutOfMemory result (open_refusal backlog ring) }
 {
     if backlog == 0 || backlog > MAX_BACKLOG {

@@ -1,13 +1,10 @@
 //! Opening a house with its feeds.
 
-ghost use Rattle.std.specs.Prelude.{ℕ, ◌≡◌, ◌⊎◌, Some, None, List, [], length, map, IfOk, OnOk, MatchResult};
+ghost use Rattle.std.specs.Prelude.{◌≡◌, ◌⊎◌, Some, None, length, map, IfOk, MatchResult};
 ghost use Rattle.std.specs.List.{All, range_with_len};
-ghost use Rattle.cbs_core.specs.Agreement.{Agrees};
-ghost use Rattle.cbs_steps.specs.Punctual.{IsPunctual};
 ghost use Rattle.cbs_steps.specs.Setups.{terms_of};
-ghost use Rattle.cbs_steps.specs.declared.step.Step.{Step};
+ghost use Rattle.cbs_house.specs.Calls.{IsNewHouse};
 ghost use Rattle.cbs_house.specs.Feeds.{client_of, unsent_jobs, servers_of};
-ghost use Rattle.cbs_house.specs.Houses.{core_of, IsHouseOnTime, received, known, results_of, handed_of};
 ghost use Rattle.cbs_house.specs.Opened.{open_refusal, IsUnused};
 ghost use Rattle.cbs_house.specs.Rounds.{Ready};
 
@@ -48,14 +45,11 @@ pub fn open_feeds<W: Work, A: Allocator + Copy>(
 ) -> Result<(House<W, A>, Vec<Feed<W, A>, A>), OpenRefused<W, A>>
     requires modes { length modes ≡ length plan.rates }
     requires lists { length lists.items ≡ length plan.rates }
-    ensures agrees { IfOk result (λ r. Agrees W.meaning (core_of r.0) (record { setup = record { servers = terms_of modes plan.rates; backlog = backlog }; steps = [] })) }
-    ensures empty { IfOk result (λ r. (s : ℕ) → (received r.0 s ≡ []) × (known r.0 s ≡ []) × (results_of r.0 s ≡ []) × (handed_of r.0 s ≡ 0)) }
+    ensures new { IfOk result (λ r. IsNewHouse W.meaning (record { servers = terms_of modes plan.rates; backlog = backlog }) r.0) }
     ensures servers { IfOk result (λ r. servers_of r.1.items ≡ range_with_len 0 (length plan.rates)) }
     ensures unused { IfOk result (λ r. All (λ f. IsUnused ring (client_of f)) r.1.items) }
     ensures jobs { MatchResult result (λ r. map unsent_jobs r.1.items ≡ map (λ jobs. jobs.items) lists.items) (λ refused. refused.lists ≡ lists) }
     ensures ready { IfOk result (λ r. Ready r.0 r.1.items) }
-    ensures on_time { IfOk result (λ r. IsHouseOnTime r.0) }
-    ensures punctual { OnOk result ((steps : List (Step W)) → IsPunctual W.meaning (record { setup = record { servers = terms_of modes plan.rates; backlog = backlog }; steps = steps })) }
     ensures refusal { MatchResult result (λ _. open_refusal backlog ring ≡ None) (λ refused. (open_refusal backlog ring ≡ Some refused.error) ⊎ ((open_refusal backlog ring ≡ None) × (refused.error ≡ HouseError.OutOfMemory))) }
 {
     match open_house(alloc, plan, modes, backlog, ring) {

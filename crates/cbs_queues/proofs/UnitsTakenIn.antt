@@ -44,11 +44,6 @@ module _ {W : Type 0} (work : Meaning W) where
   owed_first (q ∷ queue) first found =
       let same : q ≡ first = cc in rw (← same) (omega (arith, sum_by-cons work.left q.job (jobs_of queue)))
 
-  -- without a job nothing is owed
-  pub owed_none : (queue : List (QueuedJob W)) → slice_get queue 0 ≡ None → 0 ≡ sum_by work.left (jobs_of queue)
-  owed_none [] none = refl
-  owed_none (first ∷ queue) none = cc
-
   -- what is left of the jobs, where one comes in
   left_joined : (queue : List (QueuedJob W)) (come : QueuedJob W)
       → sum_by work.left (jobs_of (queue ++ come ∷ [])) ≡ sum_by work.left (jobs_of queue) + work.left come.job

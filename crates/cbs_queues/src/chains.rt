@@ -4,9 +4,8 @@ ghost use Rattle.std.specs.Prelude.{◌≡◌, ◌+◌, ◌<◌, ◌^◌, [], �
 ghost use Rattle.std.specs.Borrow.{Lends, sem};
 ghost use Rattle.slab.specs.Slab.{ContainsKey, slab_len};
 ghost use Rattle.cbs_queues.specs.Chains.{ends_pushed, linked};
-ghost use Rattle.cbs_queues.specs.Queues.{room_of, KeepsRoom};
+ghost use Rattle.cbs_queues.specs.Queues.{room_of, KeepsRoom, list_at};
 ghost use Rattle.cbs_lists.specs.Lists.{changed_at};
-ghost use Rattle.cbs_queues.specs.Queues.{list_at};
 
 use slab::Slab;
 use std::alloc::{AllocError, Allocator, Global};

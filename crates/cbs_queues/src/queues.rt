@@ -2,10 +2,8 @@
 
 ghost use Rattle.std.specs.Prelude.{◌≡◌, ◌+◌, ◌%◌, ◌^◌, ◌<◌, [], ◌∷◌, ◌++◌, length, replicate, drop, IfOk, OnOk, IsOk};
 ghost use Rattle.std.specs.List.{sum_by, AllByRecursion};
-ghost use Rattle.cbs_queues.specs.Queues.{front_output};
-ghost use Rattle.cbs_queues.specs.Queues.{room_of, KeepsRoom};
+ghost use Rattle.cbs_queues.specs.Queues.{front_output, room_of, KeepsRoom, list_at, jobs_run, result_run};
 ghost use Rattle.cbs_lists.specs.Lists.{changed_at};
-ghost use Rattle.cbs_queues.specs.Queues.{list_at, jobs_run, result_run};
 
 use crate::chains::Chains;
 use cbs_job::{Running, Task, Work};

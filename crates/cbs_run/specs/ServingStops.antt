@@ -1,12 +1,10 @@
 -- Why serving a task file stops.
-use Rattle.std.specs.Prelude.{◌≡◌, List, Option, Some, None}
+use Rattle.std.specs.Prelude.{List, Option, Some, None}
 use Rattle.cbs_job.specs.FileJobs.{of_files}
 use Rattle.cbs_job.specs.declared.file.FileJob.{FileJob}
-use Rattle.cbs_rules.specs.Rules.{clock_end}
 use Rattle.cbs_core.specs.Agreement.{Agrees}
-use Rattle.cbs_core.specs.Held.{CoreHeld}
+use Rattle.cbs_core.specs.Held.{CoreHeld, HoldsNoJob, IsAtEnd}
 use Rattle.cbs_steps.specs.declared.step.Step.{Step}
-use Rattle.cbs_core.specs.Held.{HoldsJob, HoldsNoJob}
 use Rattle.cbs_house.specs.Steps.{MayServe}
 use Rattle.cbs_steps.specs.Continuations.{◌⊕⊕◌, EachAllowed}
 use Rattle.cbs_house.specs.declared.error.HouseError.{HouseError}
@@ -25,11 +23,6 @@ pub record ComesTo (f : File) (state : CoreHeld FileJob → Type 0) : Type 0 whe
   pub allowed : EachAllowed (MayServe of_files) (start_of f) steps
   pub agrees : Agrees of_files core (start_of f ⊕⊕ steps)
   pub comes : state core
-
--- the clock stands at its end with a job unfinished
-pub record IsAtEnd (core : CoreHeld FileJob) : Type 0 where
-  pub clock : core.clock ≡ clock_end
-  pub holds : HoldsJob core
 
 -- why a house that serves the file stops; of want of memory nothing is said
 abbrev pub HouseStops : File → HouseError → Type 0

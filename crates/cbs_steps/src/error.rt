@@ -7,7 +7,7 @@ use thiserror::Error;
 /// Why the core refuses a call.
 #[derive(Clone, Copy, Debug, PartialEq, Eq, Error)]
 pub enum CoreError {
-    /// The backlog is not within 1 to [`MAX_BACKLOG`](crate::MAX_BACKLOG).
+    /// The backlog is not within 1 to 4096.
     #[error("the backlog is not within 1 to 4096 jobs")]
     BadBacklog = 1,
     /// An allocation was refused.

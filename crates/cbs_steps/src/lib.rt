@@ -11,5 +11,5 @@ mod view;
 pub use error::CoreError;
 pub use reply::{Ran, Reply, SubmitRefused};
 pub use step::{Step, StepsRefused};
-pub use theorem::{MAX_BACKLOG, all_punctual};
+pub use theorem::all_punctual;
 pub use view::ServerView;

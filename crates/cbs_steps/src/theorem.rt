@@ -9,9 +9,6 @@ use cbs_job::Work;
 use cbs_rate::Plan;
 use cbs_rules::Modes;
 
-/// The greatest backlog of a server, in jobs.
-pub const MAX_BACKLOG: u64 = 4096;
-
 /// Says that every list of steps is punctual, if the servers were admitted to a plan and each has a mode. It does
 /// nothing: its contract is the theorem, whatever executor makes the steps.
 ///

@@ -10,8 +10,7 @@ use Rattle.cbs_rules.specs.declared.mode.Mode.TheVariants.{Soft, Throttled}
 use Rattle.cbs_steps.specs.Accounts.{Account, face_of}
 use Rattle.cbs_steps.specs.History.{Setup, ticks, account, faces, after}
 use Rattle.cbs_steps.specs.OnTime.{demand, is_late}
-use Rattle.cbs_steps.specs.Promises.{promised}
-use Rattle.cbs_steps.specs.Promises.{due}
+use Rattle.cbs_steps.specs.Promises.{promised, due}
 use Rattle.cbs_steps.specs.Quiet.{AreQuiet}
 use Rattle.cbs_steps.specs.declared.step.Step.{Step}
 use Rattle.cbs_steps.specs.declared.step.Step.TheVariants.{Submit, Run, Advance}

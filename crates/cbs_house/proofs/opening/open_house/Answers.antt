@@ -23,8 +23,13 @@ invariant_of-house g c =
           (c.in-Ok-new.ensures.count ∙ sym count) made.ensures.new c.in-Ok-new.ensures.empty (omega (arith, c.if-backlog-eq0.false));
     }
 
-pub returns-clause-empty : goal.returns-clause-empty
-returns-clause-empty g c = λ s. let r = new_rings c.in-Ok-open_rings.rings c.in-Ok-open_rings.ensures.new s in (r.0, r.1, (c.in-Ok-new.ensures.empty s).results, (c.in-Ok-new.ensures.empty s).handed)
+pub returns-clause-new : goal.returns-clause-new
+returns-clause-new g c = record {
+  agrees = c.in-Ok.ensures.start;
+  empty = λ s. let r = new_rings c.in-Ok-open_rings.rings c.in-Ok-open_rings.ensures.new s in (r.0, r.1, (c.in-Ok-new.ensures.empty s).results, (c.in-Ok-new.ensures.empty s).handed);
+  on_time = c.in-Ok.ensures.on_time;
+  punctual = c.in-Ok.ensures.punctual;
+}
 
 pub returns-clause-opened : goal.returns-clause-opened
 returns-clause-opened g c =

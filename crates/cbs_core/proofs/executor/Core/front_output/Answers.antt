@@ -1,7 +1,6 @@
 use Rattle.std.proofs.Common.{◌≡◌, [], ap, sym, arith}
 use Rattle.std.proofs.lemmas.List.{get_or_past}
-use Rattle.cbs_queues.specs.Queues.{front_output}
-use Rattle.cbs_queues.specs.Queues.{list_at}
+use Rattle.cbs_queues.specs.Queues.{front_output, list_at}
 use Rattle.cbs_core.proofs.Cores.{queue_count}
 use Rattle.cbs_core.proofs.executor.Core.front_output.Goals as goal
 

@@ -2,8 +2,7 @@ use Rattle.std.proofs.Common.{arith}
 use Rattle.cbs_steps.specs.Setups.{terms_of}
 use Rattle.cbs_core.proofs.Agreements.{start_agrees}
 use Rattle.cbs_core.proofs.Cores.{core_new}
-use Rattle.cbs_core.proofs.LawfulCores.{new_on_time}
-use Rattle.cbs_core.proofs.LawfulCores.{new_punctual}
+use Rattle.cbs_core.proofs.LawfulCores.{new_on_time, new_punctual}
 use Rattle.cbs_core.proofs.executor.Core.new.Goals as goal
 
 pub invariant_of-result : goal.invariant_of-result

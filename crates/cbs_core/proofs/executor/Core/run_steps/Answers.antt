@@ -12,8 +12,7 @@ use Rattle.cbs_core.proofs.Calls.{tries_answers, tries_state, tries_count, tries
 use Rattle.cbs_core.proofs.Cores.{budgets_kept}
 use Rattle.cbs_steps.proofs.ClosedServers.{NoneAfterClose-all}
 use Rattle.cbs_steps.proofs.OnTime.{on_time_grown}
-use Rattle.cbs_core.proofs.LawfulCores.{admitted_by}
-use Rattle.cbs_core.proofs.LawfulCores.{core_punctual}
+use Rattle.cbs_core.proofs.LawfulCores.{admitted_by, core_punctual}
 use Rattle.cbs_core.proofs.executor.Core.run_steps.Goals as goal
 
 pub loop-step-init : goal.loop-step-init

@@ -14,6 +14,6 @@ returns-clause-ready c =
     let d = c.index-feeds-index.result in
     let old = get_or fs c.args.index d in
     let s = c.settle in
-    let same = rw c.client.ensures.value at s.ensures.client in
+    let looked = rw c.client.ensures.value at s.ensures.client in
     ready_set c.args.house.now s.new.self fs c.args.index (record { client = s.new.client; jobs = old.jobs }) d s.ensures.looked.rings c.requires.within
-    (keeps_looked old (record { client = s.new.client; jobs = old.jobs }) same.0 same.1 refl) c.requires.ready
+    (keeps_looked old (record { client = s.new.client; jobs = old.jobs }) looked.same looked.sent refl) c.requires.ready
