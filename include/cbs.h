@@ -193,6 +193,10 @@ uint32_t cbs_open(const struct cbs_server *servers, size_t n, uint64_t backlog, 
  * taken, and those that stand in the rings of its clients. */
 void cbs_free(struct cbs_handle *handle);
 
+/* Looks whether these n servers would be opened together, and opens nothing.
+ * Refuses exactly as cbs_open does by its servers: by the first that does not fit. */
+uint32_t cbs_admit(const struct cbs_server *servers, size_t n);
+
 /* Writes the greatest budget with which a server of this period would still be admitted after these n servers; 0 if none
  * would, whatever the reason: a period of 0 or of more than 1000000000 ticks, 64 servers, too fine periods, no bandwidth.
  * Refuses exactly if these servers are refused themselves, as cbs_open does. */

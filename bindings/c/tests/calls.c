@@ -359,6 +359,7 @@ static void greatest_budgets_of_none(void) {
 static void greatest_budgets(void) {
     struct cbs_server servers[2] = {{2, 5, CBS_SOFT}, {1, 4, CBS_THROTTLED}};
     uint64_t budget = UNTOUCHED;
+    CHECK(cbs_admit(servers, 0) == CBS_OK && cbs_admit(servers, 2) == CBS_OK);
     CHECK(cbs_greatest_budget(servers, 0, 7, &budget) == CBS_OK && budget == 7);
     CHECK(cbs_greatest_budget(servers, 1, 10, &budget) == CBS_OK && budget == 6);
     CHECK(cbs_greatest_budget(servers, 2, 10, &budget) == CBS_OK && budget == 3); /* 7 of 20 are left: 3.5 of 10 */
@@ -368,6 +369,7 @@ static void greatest_budgets(void) {
     CHECK(cbs_greatest_budget(servers, 2, 10, &budget) == CBS_RATE_BUDGET_OVER_PERIOD && budget == UNTOUCHED);
     servers[1].budget = 3;
     CHECK(cbs_greatest_budget(servers, 2, 10, &budget) == CBS_ADMIT_OVER_BOUND && budget == UNTOUCHED);
+    CHECK(cbs_admit(servers, 2) == CBS_ADMIT_OVER_BOUND && cbs_admit(servers, 1) == CBS_OK);
 }
 
 static void is_text(uint32_t status, const char *wanted) {

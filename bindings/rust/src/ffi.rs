@@ -89,6 +89,7 @@ extern "C" {
         clients_n: usize,
     ) -> u32;
     fn cbs_free(handle: *mut Handle);
+    fn cbs_admit(servers: *const Server, n: usize) -> u32;
     fn cbs_greatest_budget(servers: *const Server, n: usize, period: u64, out: *mut u64) -> u32;
     fn cbs_status_text(status: u32, out: *mut u8, n: usize) -> usize;
     fn cbs_turn(house: *mut Handle, out: *mut Turn) -> u32;
@@ -148,6 +149,12 @@ pub(crate) fn open(
         )
     };
     answered(status, (house, clients))
+}
+
+pub(crate) fn admit(servers: &[Server]) -> Result<(), Status> {
+    must_fit();
+    let status = unsafe { cbs_admit(servers.as_ptr(), servers.len()) };
+    answered(status, ())
 }
 
 pub(crate) fn greatest_budget(servers: &[Server], period: u64) -> Result<u64, Status> {

@@ -50,9 +50,8 @@ impl Plan {
             period,
             mode,
         });
-        // The library looks at the servers before the period, which may be any.
-        match ffi::greatest_budget(&self.servers, 1) {
-            Ok(_) => Ok(number),
+        match ffi::admit(&self.servers) {
+            Ok(()) => Ok(number),
             Err(status) => {
                 self.servers.pop();
                 Err(PlanError::of(status))

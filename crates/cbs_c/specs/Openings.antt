@@ -16,6 +16,12 @@ pub record OpensForC (servers : List Server) (backlog ring : ℕ) (house house' 
   pub refusal : OpensOrRefuses servers (length clients) backlog ring answer
   pub told : status ≡ status_after answer
 
+-- it is told whether these servers make a plan, or why they are refused
+pub record TellsAdmission (servers : List Server) (status : ℕ) : Type 0 where
+  pub answer : Result (Unit {0}) Refusal
+  pub admitted : MatchResult answer (λ _. setup_refusal whole_processor servers ≡ None) (λ error. setup_refusal whole_processor servers ≡ Some error)
+  pub told : status ≡ status_after answer
+
 -- the greatest budget that is still admitted behind these servers is told, or why they are refused themselves
 pub record TellsBudget (servers : List Server) (period before status after : ℕ) : Type 0 where
   pub answer : Result ℕ Refusal

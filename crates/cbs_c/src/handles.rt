@@ -2,10 +2,10 @@
 
 ghost use Rattle.std.specs.Prelude.{◌≡◌, None};
 ghost use Rattle.cbs_embed.specs.Kepts.{held_by};
-ghost use Rattle.cbs_c.specs.Openings.{OpensForC, TellsBudget};
+ghost use Rattle.cbs_c.specs.Openings.{OpensForC, TellsAdmission, TellsBudget};
 
 use crate::status::{status_of, tell};
-use cbs_embed::{Kept, Server, greatest_budget, open};
+use cbs_embed::{Kept, Server, admit, greatest_budget, open};
 use std::alloc::Global;
 
 /// Opens a house with a client for each server.
@@ -29,6 +29,14 @@ pub extern "C" fn cbs_free(alloc: Global, handle: &mut Kept)
     ensures { held_by handle.new ≡ None }
 {
     drop(handle.take(alloc));
+}
+
+/// Returns whether these servers make a plan, and opens nothing.
+#[unsafe(no_mangle)]
+pub extern "C" fn cbs_admit(servers: &[Server]) -> u32
+    ensures { TellsAdmission servers.now result }
+{
+    status_of(admit(servers))
 }
 
 /// The greatest budget with which a server of this period would be admitted behind these.

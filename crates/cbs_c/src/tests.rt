@@ -6,7 +6,7 @@ mod texts;
 mod widest;
 
 use crate::client::{cbs_end, cbs_send, cbs_waiting};
-use crate::handles::{cbs_free, cbs_greatest_budget, cbs_open};
+use crate::handles::{cbs_admit, cbs_free, cbs_greatest_budget, cbs_open};
 use crate::house::{
     cbs_advance, cbs_idle_span, cbs_now, cbs_poll, cbs_promised, cbs_run, cbs_turn, cbs_view,
 };
@@ -271,6 +271,10 @@ fn refuses_to_open_by_name(rt: HostRuntime) {
     refuses(&rt, alloc, &[soft], 4, 4, 0x603);
     refuses(&rt, alloc, &[soft, throttled], 0, 4, 0x301);
     refuses(&rt, alloc, &[soft, throttled], 4, 1025, 0x302);
+    is(&rt, cbs_admit(&[]), 0);
+    is(&rt, cbs_admit(&SERVERS), 0);
+    is(&rt, cbs_admit(&[soft, Server { budget: 4, ..soft }]), 0x203);
+    is(&rt, cbs_admit(&[Server { mode: 2, ..soft }]), 0x604);
     // 2 in 5 and 1 in 10 leave 5 in 10, and 2 in 4.
     let mut budget = 9;
     is(&rt, cbs_greatest_budget(&SERVERS, 10, &mut budget), 0);

@@ -19,7 +19,7 @@ pub use inside::Inside;
 pub use job::UnitJob;
 pub use kept::Kept;
 pub use opening::open;
-pub use planning::{greatest_budget, mode_of, setup_of};
+pub use planning::{admit, greatest_budget, mode_of, setup_of};
 pub use refusal::{KeptError, Refusal};
 pub use setup::{Server, Setup};
 pub use texts::text_of;

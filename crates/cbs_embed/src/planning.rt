@@ -28,6 +28,14 @@ pub fn setup_of(servers: &[Server]) -> Result<Setup, Refusal>
     Ok(Setup { plan, modes })
 }
 
+/// Returns whether these servers make a plan: refuses as [`setup_of`].
+pub fn admit(servers: &[Server]) -> Result<(), Refusal>
+    ensures { MatchResult result (λ _. setup_refusal whole_processor servers.now ≡ None) (λ error. setup_refusal whole_processor servers.now ≡ Some error) }
+{
+    setup_of(servers)?;
+    Ok(())
+}
+
 /// Takes one more server in. Where it refuses, the plan and the modes are of no use any more.
 fn take_in(plan: &mut Plan, modes: &mut Modes, server: Server) -> Result<(), Refusal>
     requires { length modes.old ≡ length plan.old.rates }
@@ -68,7 +76,7 @@ pub fn greatest_budget(servers: &[Server], period: u64) -> Result<u64, Refusal>
         (λ budget. (setup_refusal whole_processor servers.now ≡ None) × IsGreatestBudget (plan_with whole_processor servers.now) period budget)
         (λ error. setup_refusal whole_processor servers.now ≡ Some error) }
 {
-    setup_of(servers)?;
+    admit(servers)?;
     let mut admitted = 0;
     let mut refused = if period > MAX_PERIOD { 1 } else { period + 1 };
     while refused - admitted > 1 {

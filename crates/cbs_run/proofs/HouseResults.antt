@@ -57,7 +57,7 @@ module _ {A : Type 0} {g : Ghosts FileJob} (f : File) where
   pub stops_short : (a b : House FileJob A g) (fs : List (Feed FileJob A g)) (e : HouseError) → Agrees of_files (core_of a) (start_of f) → ServesOn of_files a b → Stops e b fs → HouseStops f e
   stops_short a b fs house.OutOfMemory agrees on s = tt
   stops_short a b fs house.ClockEnd agrees on s =
-      let m = on.moves.1 in record { steps = m.steps; core = core_of b; allowed = m.each (start_of f) agrees; agrees = m.made.steps (start_of f) agrees; comes = record { clock = s.0; holds = s.1 } }
+      let m = on.moves.1 in record { steps = m.steps; core = core_of b; allowed = m.each (start_of f) agrees; agrees = m.made.steps (start_of f) agrees; comes = s }
   stops_short a b fs house.Stalled agrees on s =
       let m = on.moves.1 in record { steps = m.steps; core = core_of b; allowed = m.each (start_of f) agrees; agrees = m.made.steps (start_of f) agrees; comes = s.drained }
   stops_short a b fs house.BadBacklog agrees on s = s
