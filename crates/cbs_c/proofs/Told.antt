@@ -6,8 +6,11 @@ use Rattle.cbs_embed.specs.declared.refusal.Refusal.{Refusal}
 use Rattle.cbs_c.specs.Statuses.{Tells}
 
 module _ {T U : Type 0} (Does : Option Inside → Result T Refusal → Option Inside → Type 0) (shown : T → U) {held holds : Option Inside} {before after : U} where
+  -- a call that succeeds is told
   pub told_ok : (x : T) → Does held (Ok x) holds → after ≡ shown x → Tells Does shown held before 0 holds after
   told_ok x does out = record { answer = Ok x; does = does; told = refl; out = out }
 
-  pub told_err : (e : Refusal) {status : ℕ} → Does held (Err e) holds → status ≡ refusal_status e → after ≡ before → Tells Does shown held before status holds after
+  -- so is one that is refused
+  pub told_err : (e : Refusal) {status : ℕ} → Does held (Err e) holds → status ≡ refusal_status e → after ≡ before
+      → Tells Does shown held before status holds after
   told_err e does told out = record { answer = Err e; does = does; told = told; out = out }

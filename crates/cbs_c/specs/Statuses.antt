@@ -25,7 +25,8 @@ pub record Tells {T U : Type 0} (Does : Option Inside → Result T Refusal → O
   pub out : after ≡ shown_or shown answer before
 
 -- the same of a call with no value
-pub record Answers {T : Type 0} (Does : Option Inside → Result T Refusal → Option Inside → Type 0) (held : Option Inside) (status : ℕ) (holds : Option Inside) : Type 0 where
+pub record Answers {T : Type 0} (Does : Option Inside → Result T Refusal → Option Inside → Type 0) (held : Option Inside) (status : ℕ)
+    (holds : Option Inside) : Type 0 where
   pub answer : Result T Refusal
   pub does : Does held answer holds
   pub told : status ≡ status_after answer

@@ -1,5 +1,6 @@
 -- What agreement with a history becomes, through each step.
-use Rattle.std.proofs.Common.{◌≡◌, ℕ, ◌+◌, ◌-◌, ◌≤◌, ◌<◌, List, [], ◌∷◌, ◌++◌, length, map, replicate, refl, ap, sym, ◌∙◌, arith, true, false, Bool, leb, ltb, cond, is_some, Option, Some, None}
+use Rattle.std.proofs.Common.{◌≡◌, ℕ, ◌+◌, ◌-◌, ◌≤◌, ◌<◌, List, [], ◌∷◌, ◌++◌, length, map, replicate, refl, ap, sym, ◌∙◌, arith, true, false, Bool}
+use Rattle.std.proofs.Common.{leb, ltb, cond, is_some, Option, Some, None}
 use Rattle.std.proofs.lemmas.Bool.Decides.{nat_tests}
 use Rattle.std.proofs.lemmas.List.{length-map, get_or_past}
 use Rattle.std.proofs.lemmas.Simd.{map-map}
@@ -10,7 +11,8 @@ use Rattle.cbs_lists.specs.Lists.{changed_at}
 use Rattle.cbs_steps.specs.Choice.{chosen_among}
 use Rattle.cbs_steps.specs.Faces.{Face, new_face, face_at, ranks, submit_refusal, close_refusal, with_job, with_unit, with_replenishment, with_close}
 use Rattle.cbs_steps.specs.Accounts.{face_of, new_account, no_account, account_with_job, account_with_unit, account_with_replenishment, account_with_close}
-use Rattle.cbs_steps.specs.History.{World, History, ◌⊕◌, account, faces, chosen, start, after_submit, after_run, after_closing, world_after, run_reply, submit_reply, close_reply, reply_in}
+use Rattle.cbs_steps.specs.History.{World, History, ◌⊕◌, account, faces, chosen, start, after_submit, after_run, after_closing, world_after}
+use Rattle.cbs_steps.specs.History.{run_reply, submit_reply, close_reply, reply_in}
 use Rattle.cbs_core.specs.Agreement.{AgreesJobs, AgreesWorld, Agrees}
 use Rattle.cbs_steps.specs.Promises.{promised_by, promised}
 use Rattle.cbs_steps.specs.Replies.{IsAccepted, grown, grown_by, AnswersAll}
@@ -42,8 +44,10 @@ module _ {W : Type 0} (work : Meaning W) where
   new_faces terms = sym (map-map (face_of work) new_account terms)
 
   -- a new core, with the faces and empty queues of new servers, agrees with the start
-  pub start_agrees : (terms : List Terms) (backlog n : ℕ) (shown : List Face) (queues : List (List W)) (rooms : List ℕ) → shown ≡ map new_face terms → n ≡ length shown → queues ≡ replicate n []
-      → AgreesWorld work (record { backlog = backlog; clock = 0; faces = shown; queues = queues; rooms = rooms }) backlog (start (record { servers = terms; backlog = backlog }))
+  pub start_agrees : (terms : List Terms) (backlog n : ℕ) (shown : List Face) (queues : List (List W)) (rooms : List ℕ) → shown ≡ map new_face terms
+      → n ≡ length shown → queues ≡ replicate n []
+      → AgreesWorld work (record { backlog = backlog; clock = 0; faces = shown; queues = queues; rooms = rooms }) backlog
+      (start (record { servers = terms; backlog = backlog }))
   start_agrees terms backlog n shown queues rooms e count empty = record {
     same_backlog = refl;
     clock = refl;
@@ -78,7 +82,8 @@ module _ {W : Type 0} {work : Meaning W} {core held : CoreHeld W} {M : History W
 
   -- each server that the core shows has a queue
   within_queues : (s : ℕ) → s < length core.faces → s < length core.queues
-  within_queues s lt = let e = ap length agrees.shown in omega (arith, length-map w.accounts (face_of work), AllZip-length (AgreesJobs work) core.queues w.accounts agrees.jobs)
+  within_queues s lt = let e = ap length agrees.shown in omega
+      (arith, length-map w.accounts (face_of work), AllZip-length (AgreesJobs work) core.queues w.accounts agrees.jobs)
 
   -- the jobs held of each server agree with its account
   jobs_are : (s : ℕ) → s < length core.faces → AgreesJobs work (list_at core.queues s) (account w.accounts s)
@@ -148,8 +153,10 @@ module _ {W : Type 0} {work : Meaning W} {core held : CoreHeld W} {M : History W
         clock = ap (λ n. n + 1) agrees.clock;
         shown = is ∙ rw (agrees.shown, agrees.clock)
             (sym (replenished_faces work (w.now + 1) (changed_at account_with_unit w.accounts s)
-            ∙ ap (map (with_replenishment (w.now + 1))) (map-changed_at (face_of work) account_with_unit (with_unit done) w.accounts s no_account (unit_face work (list_at core.queues s) (account w.accounts s) (jobs_are s may.within) law may.active may.unfinished))));
-        jobs = rw run (AllZip-map (AgreesJobs work) (account_with_replenishment (w.now + 1)) (changed_at (jobs_run work) core.queues s) (changed_at account_with_unit w.accounts s)
+            ∙ ap (map (with_replenishment (w.now + 1))) (map-changed_at (face_of work) account_with_unit (with_unit done) w.accounts s
+                no_account (unit_face work (list_at core.queues s) (account w.accounts s) (jobs_are s may.within) law may.active may.unfinished))));
+        jobs = rw run (AllZip-map (AgreesJobs work) (account_with_replenishment (w.now + 1)) (changed_at (jobs_run work) core.queues s)
+            (changed_at account_with_unit w.accounts s)
             (AllZip-changed_at (AgreesJobs work) core.queues w.accounts s [] no_account (jobs_run work) account_with_unit agrees.jobs may.queue
             (λ here. unit_jobs work (list_at core.queues s) (account w.accounts s) here law may.active may.unfinished))
             (λ jobs a here. record { results = here.results; lefts = here.lefts }));
@@ -171,7 +178,8 @@ module _ {W : Type 0} {work : Meaning W} {core held : CoreHeld W} {M : History W
           same_backlog = agrees.same_backlog;
           clock = ap (λ m. m + n) agrees.clock;
           shown = is ∙ rw (agrees.shown, agrees.clock) (sym (replenished_faces work (w.now + n) w.accounts));
-          jobs = AllZip-map (AgreesJobs work) (account_with_replenishment (w.now + n)) core.queues w.accounts agrees.jobs (λ jobs a here. record { results = here.results; lefts = here.lefts });
+          jobs = AllZip-map (AgreesJobs work) (account_with_replenishment (w.now + n)) core.queues w.accounts agrees.jobs
+              (λ jobs a here. record { results = here.results; lefts = here.lefts });
         };
       }
 
@@ -211,8 +219,10 @@ module _ {W : Type 0} {work : Meaning W} {core held : CoreHeld W} {M : History W
             same_backlog = agrees.same_backlog;
             clock = agrees.clock;
             shown = is ∙ rw (agrees.shown, agrees.clock)
-                (sym (map-changed_at (face_of work) (account_with_job work w.now job) (with_job w.now) w.accounts s no_account (job_face work (list_at core.queues s) (account w.accounts s) (jobs_are s lt) w.now job paid some)));
-            jobs = rw joined (AllZip-changed_at (AgreesJobs work) core.queues w.accounts s [] no_account (λ jobs. jobs ++ job ∷ []) (account_with_job work w.now job) agrees.jobs (within_queues s lt)
+                (sym (map-changed_at (face_of work) (account_with_job work w.now job) (with_job w.now) w.accounts s no_account
+                    (job_face work (list_at core.queues s) (account w.accounts s) (jobs_are s lt) w.now job paid some)));
+            jobs = rw joined (AllZip-changed_at (AgreesJobs work) core.queues w.accounts s [] no_account (λ jobs. jobs ++ job ∷ [])
+                (account_with_job work w.now job) agrees.jobs (within_queues s lt)
                 (λ here. job_jobs work (list_at core.queues s) (account w.accounts s) here w.now job paid some));
           };
         }
@@ -240,6 +250,7 @@ module _ {W : Type 0} {work : Meaning W} {core held : CoreHeld W} {M : History W
       same_backlog = agrees.same_backlog;
       clock = agrees.clock;
       shown = is ∙ rw agrees.shown (sym (map-changed_at (face_of work) account_with_close with_close w.accounts s no_account refl));
-      jobs = AllZip-changed_second (AgreesJobs work) account_with_close core.queues w.accounts s agrees.jobs (λ jobs a here. record { results = here.results; lefts = here.lefts });
+      jobs = AllZip-changed_second (AgreesJobs work) account_with_close core.queues w.accounts s agrees.jobs
+          (λ jobs a here. record { results = here.results; lefts = here.lefts });
     };
   }

@@ -18,7 +18,8 @@ module _ {W : Type 0} (work : Meaning W) where
   }
 
   -- what is made of such a core was made of the one before
-  pub makes_same : (old mid new : CoreHeld W) (x : Step W) (r : Reply W) → mid ≡ record old { rooms = mid.rooms } → Makes work mid new x r → Makes work old new x r
+  pub makes_same : (old mid new : CoreHeld W) (x : Step W) (r : Reply W) → mid ≡ record old { rooms = mid.rooms } → Makes work mid new x r
+      → Makes work old new x r
   makes_same old mid new x r e made = record {
     reply = λ M agrees. made.reply M (agrees_same old mid e M agrees);
     state = λ M agrees. made.state M (agrees_same old mid e M agrees);

@@ -1,5 +1,6 @@
 -- What a core counts as finished goes on by the completions that it tells.
-use Rattle.std.proofs.Common.{◌≡◌, ◌≢◌, ℕ, ◌+◌, ◌<◌, true, false, [], ◌∷◌, ◌++◌, length, map, take, drop, eqb, refl, sym, ◌∙◌, ap, subst, arith, Option, Some, None, inl, inr}
+use Rattle.std.proofs.Common.{◌≡◌, ◌≢◌, ℕ, ◌+◌, ◌<◌, true, false, [], ◌∷◌, ◌++◌, length, map, take, drop, eqb, refl, sym, ◌∙◌, ap, subst, arith}
+use Rattle.std.proofs.Common.{Option, Some, None, inl, inr}
 use Rattle.std.proofs.lemmas.Bool.{cases_Bool}
 use Rattle.std.proofs.lemmas.Bool.Decides.{nat_tests}
 use Rattle.std.proofs.lemmas.List.{map-append, length-map}
@@ -23,7 +24,8 @@ module _ {W : Type 0} (work : Meaning W) where
   finished_agrees core M agrees s = sym (ap (λ (f : Face). f.finished) (face_is {core = core} refl agrees s))
 
   -- one step
-  pub step_completes : (M : History W) (x : Step W) (r : Reply W) (s : ℕ) (o : Option Completion) (old new : CoreHeld W) → o ≡ completion_in r → Answers work M x r → CountsOn o old new
+  pub step_completes : (M : History W) (x : Step W) (r : Reply W) (s : ℕ) (o : Option Completion) (old new : CoreHeld W) → o ≡ completion_in r
+      → Answers work M x r → CountsOn o old new
       → Agrees work old M → Agrees work new (grown M x r) → Completes work (account_in work M s) (account_in work (grown M x r) s) (completion_of s o)
   step_completes M x r s None old new is answers counts agrees later =
       let f = finished_agrees old M agrees s in
@@ -39,11 +41,13 @@ module _ {W : Type 0} (work : Meaning W) where
         | inl t ↦
             let here : c.server ≡ s = grind (arith, nat_tests) in
             let seq : c.seq ≡ finished work (account_in work M s) = (rw here at counts.0) ∙ f in
-            let count : finished work after ≡ finished work (account_in work M s) + 1 = let k : (held_at new s).face.finished ≡ (held_at old s).face.finished + 1 = rw here at counts.1 in omega arith in
+            let count : finished work after ≡ finished work (account_in work M s) + 1 =
+                let k : (held_at new s).face.finished ≡ (held_at old s).face.finished + 1 = rw here at counts.1 in omega arith in
             let told : Tells work (account_in work M s) c = subst (λ t. Tells work (account_in work M t) c) here (answer_tells work M x r c answers is) in
             let wholes : map (whole work) after.accepted ≡ map (whole work) (account_in work M s).accepted ++ map (whole work) more.0 =
             ap (map (whole work)) more.1 ∙ map-append (whole work) (account_in work M s).accepted more.0 in
-            let within : c.seq < length (map (whole work) (account_in work M s).accepted) = let w = told.within in omega (arith, length-map (account_in work M s).accepted (whole work)) in
+            let within : c.seq < length (map (whole work) (account_in work M s).accepted) =
+                let w = told.within in omega (arith, length-map (account_in work M s).accepted (whole work)) in
             let found : take 1 (drop c.seq (map (whole work) after.accepted)) ≡ c.result ∷ [] =
             rw wholes (part_of_more c.seq 1 (map (whole work) (account_in work M s).accepted) (map (whole work) more.0) (omega arith))
             ∙ part_of_one c.seq (map (whole work) (account_in work M s).accepted) within ∙ ap (λ k. k ∷ []) (sym told.result) in
@@ -60,7 +64,8 @@ module _ {W : Type 0} (work : Meaning W) where
       ]
 
   -- the same of one step that memory did not refuse
-  pub step_tells : (M : History W) (x : Step W) (r : Reply W) (s : ℕ) (old new : CoreHeld W) → is_lack r ≡ false → Answers work M x r → CountsOn (completion_in r) old new
+  pub step_tells : (M : History W) (x : Step W) (r : Reply W) (s : ℕ) (old new : CoreHeld W) → is_lack r ≡ false → Answers work M x r
+      → CountsOn (completion_in r) old new
       → Agrees work old M → Agrees work new (grown M x r) → Completes work (account_in work M s) (account_in work (M ⊕ x) s) (completion_of s (completion_in r))
   step_tells M x r s old new sure answers counts agrees later =
       rw sure at (step_completes M x r s (completion_in r) old new refl answers counts agrees later)

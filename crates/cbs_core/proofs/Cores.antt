@@ -1,5 +1,6 @@
 -- What each core keeps, through each step.
-use Rattle.std.proofs.Common.{◌≡◌, ℕ, ◌+◌, ◌-◌, ◌*◌, ◌≤◌, ◌<◌, ◌^◌, true, List, [], ◌∷◌, ◌++◌, length, map, replicate, refl, ◌∙◌, ap, arith, eqb, inl, inr, Some, None, sym, is_some, length-append}
+use Rattle.std.proofs.Common.{◌≡◌, ℕ, ◌+◌, ◌-◌, ◌*◌, ◌≤◌, ◌<◌, ◌^◌, true, List, [], ◌∷◌, ◌++◌, length, map, replicate, refl, ◌∙◌, ap, arith, eqb, inl}
+use Rattle.std.proofs.Common.{inr, Some, None, sym, is_some, length-append}
 use Rattle.std.specs.Prelude.{slice_get, Result, IfOk, OnOk}
 use Rattle.std.proofs.lemmas.Bool.{cases_lt, cases_Bool}
 use Rattle.std.proofs.lemmas.Option.{slice_get-get_or, slice_get_past}
@@ -14,7 +15,8 @@ use Rattle.cbs_rules.specs.Rules.{clock_end, latest_deadline}
 use Rattle.cbs_rules.specs.declared.mode.Mode.{Mode}
 use Rattle.cbs_lists.specs.Lists.{changed_at}
 use Rattle.cbs_steps.specs.Choice.{IsChoice}
-use Rattle.cbs_steps.specs.Faces.{Face, new_face, no_face, face_at, is_ready, backlog_of, reservations, ranks, with_job, with_unit, with_replenishment, with_close, submit_refusal, view_reply}
+use Rattle.cbs_steps.specs.Faces.{Face, new_face, no_face, face_at, is_ready, backlog_of, reservations, ranks, with_job, with_unit}
+use Rattle.cbs_steps.specs.Faces.{with_replenishment, with_close, submit_refusal, view_reply}
 use Rattle.cbs_steps.specs.Laws.{IsWithinBudget}
 use Rattle.cbs_core.specs.Held.{KeepsBudgets, CoreHeld, Accepts}
 use Rattle.cbs_steps.specs.declared.error.CoreError.{CoreError}
@@ -24,7 +26,8 @@ use Rattle.cbs_steps.specs.Setups.{terms_of}
 use Rattle.cbs_core.specs.Invariant.{IsServer, HoldsBacklog, IsCore}
 use Rattle.cbs_steps.proofs.Faces.{rank_ready, runnable}
 use Rattle.cbs_core.proofs.FaceSteps.{server_new, server_later, server_replenished, server_closed, server_joined, server_run, budget_some, within_budget}
-use Rattle.cbs_lists.proofs.Lists.{length-changed_at, map_kept, changed_kept, AllByRecursion-map, AllByRecursion-get, AllByRecursion-changed_at, AllZip-length, AllZip-get, AllZip-map, AllZip-replicate, AllZip-changed_at, AllZip-changed_second}
+use Rattle.cbs_lists.proofs.Lists.{length-changed_at, map_kept, changed_kept, AllByRecursion-map, AllByRecursion-get, AllByRecursion-changed_at}
+use Rattle.cbs_lists.proofs.Lists.{AllZip-length, AllZip-get, AllZip-map, AllZip-replicate, AllZip-changed_at, AllZip-changed_second}
 use Rattle.cbs_steps.proofs.Plans.{length-faces}
 use Rattle.cbs_core.proofs.Refusals.{free_accepts}
 
@@ -42,14 +45,17 @@ new_reservations (m ∷ modes) (r ∷ rates) e = ap (λ rs. r ∷ rs) (new_reser
 -- a new core
 module _ {W : Type 0} (work : Meaning W) (backlog : ℕ) where
   -- where each rate is within the limits of a reservation, each new server keeps what a server keeps
-  all_new : (modes : List Mode) (rates : List Rate) → AllByRecursion (λ r. IsRate r.budget r.period) rates → AllByRecursion (IsServer backlog 0) (map new_face (terms_of modes rates))
+  all_new : (modes : List Mode) (rates : List Rate) → AllByRecursion (λ r. IsRate r.budget r.period) rates
+      → AllByRecursion (IsServer backlog 0) (map new_face (terms_of modes rates))
   all_new [] rates ok = tt
   all_new (m ∷ modes) [] ok = tt
   all_new (m ∷ modes) (r ∷ rates) ok = (server_new backlog 0 (record { mode = m; reservation = r }) ok.0, all_new modes rates ok.1)
 
   -- a new core keeps all
-  pub core_new : (modes : List Mode) (rates : List Rate) (n : ℕ) (faces : List Face) (queues : List (List W)) (rooms : List ℕ) → length modes ≡ length rates → length rates ≤ 64 → backlog ≤ 4096
-      → AllByRecursion (λ r. IsRate r.budget r.period) rates → total_share rates ≤ all_periods rates → faces ≡ map new_face (terms_of modes rates) → n ≡ length faces → queues ≡ replicate n [] → IsCore work (record { backlog = backlog; clock = 0; faces = faces; queues = queues; rooms = rooms })
+  pub core_new : (modes : List Mode) (rates : List Rate) (n : ℕ) (faces : List Face) (queues : List (List W)) (rooms : List ℕ)
+      → length modes ≡ length rates → length rates ≤ 64 → backlog ≤ 4096
+      → AllByRecursion (λ r. IsRate r.budget r.period) rates → total_share rates ≤ all_periods rates → faces ≡ map new_face (terms_of modes rates)
+      → n ≡ length faces → queues ≡ replicate n [] → IsCore work (record { backlog = backlog; clock = 0; faces = faces; queues = queues; rooms = rooms })
   core_new modes rates n faces queues rooms same few small ok one shown count empty =
       let size : n ≡ length (terms_of modes rates) = count ∙ ap length shown ∙ length-map (terms_of modes rates) new_face in
       record {
@@ -98,7 +104,8 @@ module _ {W : Type 0} {work : Meaning W} {core : CoreHeld W} (ok : IsCore work c
   few_held s accepts = let held = (backlog_at s accepts.is_open.within).counted in let few = accepts.few in let small = ok.small in omega arith
 
   -- the deadline that a view shows is within its limit
-  pub view_early : (s : ℕ) (r : Result ServerView CoreError) → r ≡ view_reply (slice_get core.faces s) → IfOk r (λ v. v.deadline ≤ core.clock + (core.clock + 1) * 1000000000)
+  pub view_early : (s : ℕ) (r : Result ServerView CoreError) → r ≡ view_reply (slice_get core.faces s)
+      → IfOk r (λ v. v.deadline ≤ core.clock + (core.clock + 1) * 1000000000)
   view_early s r e = elim (cases_lt s (length core.faces)) [
     | inl lt ↦ rw (e, slice_get-get_or core.faces s no_face lt) (server_at s lt).early
     | inr ge ↦ rw (e, slice_get_past core.faces s ge) tt
@@ -141,10 +148,12 @@ module _ {W : Type 0} {work : Meaning W} {core : CoreHeld W} (ok : IsCore work c
   -- after a unit of the first job, each job held has a unit left, as each had before
   unfinished_run : (jobs : List W) → AllByRecursion (λ w. 0 < work.left w) jobs → AllByRecursion (λ w. 0 < work.left w) (jobs_run work jobs)
   unfinished_run [] all = all
-  unfinished_run (job ∷ jobs) all = elim (cases_Bool (eqb (work.left (work.after job)) 0)) [ inl e ↦ rw e all.1 | inr e ↦ rw e (grind (arith, nat_tests), all.1) ]
+  unfinished_run (job ∷ jobs) all = elim (cases_Bool (eqb (work.left (work.after job)) 0))
+      [ inl e ↦ rw e all.1 | inr e ↦ rw e (grind (arith, nat_tests), all.1) ]
 
   -- after a unit of the first job, as many jobs are held as the backlog is, as there were before
-  counted_run : (jobs : List W) (f : Face) → 0 < length jobs → length jobs ≡ backlog_of f → length (jobs_run work jobs) ≡ backlog_of (with_unit (is_some (result_run work jobs)) f)
+  counted_run : (jobs : List W) (f : Face) → 0 < length jobs → length jobs ≡ backlog_of f
+      → length (jobs_run work jobs) ≡ backlog_of (with_unit (is_some (result_run work jobs)) f)
   counted_run [] f some e = absurd (omega arith)
   counted_run (job ∷ jobs) f some e = elim (cases_Bool (eqb (work.left (work.after job)) 0)) [ inl t ↦ rw t (omega arith) | inr n ↦ rw n (omega arith) ]
 
@@ -156,17 +165,23 @@ module _ {W : Type 0} {work : Meaning W} {core : CoreHeld W} (ok : IsCore work c
   core_run {s} may shown run =
       let done = is_some (result_run work (list_at core.queues s)) in
       rw (shown, run) record {
-        few = omega (arith, ok.few, length-map (changed_at (with_unit done) core.faces s) (with_replenishment (core.clock + 1)), length-changed_at (with_unit done) core.faces s);
+        few = omega (arith, ok.few, length-map (changed_at (with_unit done) core.faces s) (with_replenishment (core.clock + 1)),
+            length-changed_at (with_unit done) core.faces s);
         small = ok.small;
         clock = let e = may.early in omega arith;
-        at_most_one = rw (map_kept reservation (with_replenishment (core.clock + 1)) (changed_at (with_unit done) core.faces s) (λ f. refl), changed_kept reservation (with_unit done) core.faces s (λ f. refl)) ok.at_most_one;
-        each = AllByRecursion-map (IsServer core.backlog (core.clock + 1)) (IsServer core.backlog (core.clock + 1)) (with_replenishment (core.clock + 1)) (changed_at (with_unit done) core.faces s)
+        at_most_one = rw (map_kept reservation (with_replenishment (core.clock + 1)) (changed_at (with_unit done) core.faces s)
+            (λ f. refl), changed_kept reservation (with_unit done) core.faces s (λ f. refl)) ok.at_most_one;
+        each = AllByRecursion-map (IsServer core.backlog (core.clock + 1)) (IsServer core.backlog (core.clock + 1))
+            (with_replenishment (core.clock + 1)) (changed_at (with_unit done) core.faces s)
             (AllByRecursion-changed_at (IsServer core.backlog core.clock) (IsServer core.backlog (core.clock + 1)) (with_unit done) core.faces s no_face ok.each
-            (λ f is. server_later core.backlog core.clock f is (core.clock + 1) (omega arith)) (λ is. server_run core.backlog core.clock (face_at core.faces s) is done may.ready))
+            (λ f is. server_later core.backlog core.clock f is (core.clock + 1) (omega arith))
+                (λ is. server_run core.backlog core.clock (face_at core.faces s) is done may.ready))
             (λ f is. server_replenished core.backlog (core.clock + 1) f is);
-        jobs = AllZip-map (HoldsBacklog work) (with_replenishment (core.clock + 1)) (changed_at (jobs_run work) core.queues s) (changed_at (with_unit done) core.faces s)
+        jobs = AllZip-map (HoldsBacklog work) (with_replenishment (core.clock + 1)) (changed_at (jobs_run work) core.queues s)
+            (changed_at (with_unit done) core.faces s)
             (AllZip-changed_at (HoldsBacklog work) core.queues core.faces s [] no_face (jobs_run work) (with_unit done) ok.jobs may.queue
-            (λ h. record { counted = counted_run (list_at core.queues s) (face_at core.faces s) may.active h.counted; unfinished = unfinished_run (list_at core.queues s) h.unfinished }))
+            (λ h. record { counted = counted_run (list_at core.queues s) (face_at core.faces s) may.active h.counted;
+                unfinished = unfinished_run (list_at core.queues s) h.unfinished }))
             (λ jobs f h. record { counted = h.counted; unfinished = h.unfinished });
       }
 
@@ -179,9 +194,11 @@ module _ {W : Type 0} {work : Meaning W} {core : CoreHeld W} (ok : IsCore work c
     small = ok.small;
     clock = let k = ok.clock in omega arith;
     at_most_one = rw (map_kept reservation (with_replenishment (core.clock + n)) core.faces (λ f. refl)) ok.at_most_one;
-    each = AllByRecursion-map (IsServer core.backlog core.clock) (IsServer core.backlog (core.clock + n)) (with_replenishment (core.clock + n)) core.faces ok.each
+    each = AllByRecursion-map (IsServer core.backlog core.clock) (IsServer core.backlog (core.clock + n))
+        (with_replenishment (core.clock + n)) core.faces ok.each
         (λ f is. server_replenished core.backlog (core.clock + n) f (server_later core.backlog core.clock f is (core.clock + n) (omega arith)));
-    jobs = AllZip-map (HoldsBacklog work) (with_replenishment (core.clock + n)) core.queues core.faces ok.jobs (λ jobs f h. record { counted = h.counted; unfinished = h.unfinished });
+    jobs = AllZip-map (HoldsBacklog work) (with_replenishment (core.clock + n)) core.queues core.faces ok.jobs
+        (λ jobs f h. record { counted = h.counted; unfinished = h.unfinished });
   }
 
   -- one more job of server s
@@ -193,11 +210,14 @@ module _ {W : Type 0} {work : Meaning W} {core : CoreHeld W} (ok : IsCore work c
     small = ok.small;
     clock = ok.clock;
     at_most_one = rw (changed_kept reservation (with_job core.clock) core.faces s (λ f. refl)) ok.at_most_one;
-    each = AllByRecursion-changed_at (IsServer core.backlog core.clock) (IsServer core.backlog core.clock) (with_job core.clock) core.faces s no_face ok.each (λ f is. is)
+    each = AllByRecursion-changed_at (IsServer core.backlog core.clock) (IsServer core.backlog core.clock) (with_job core.clock) core.faces
+        s no_face ok.each (λ f is. is)
         (λ is. server_joined core.backlog core.clock (face_at core.faces s) is accepts.few);
-    jobs = AllZip-changed_at (HoldsBacklog work) core.queues core.faces s [] no_face (λ jobs. jobs ++ job ∷ []) (with_job core.clock) ok.jobs (let n = queue_count in let lt = accepts.is_open.within in omega arith)
+    jobs = AllZip-changed_at (HoldsBacklog work) core.queues core.faces s [] no_face (λ jobs. jobs ++ job ∷ []) (with_job core.clock)
+        ok.jobs (let n = queue_count in let lt = accepts.is_open.within in omega arith)
         (λ h. record {
-          counted = let c = h.counted in let k = (server_at s accepts.is_open.within).counted in omega (arith, length-append (list_at core.queues s) (job ∷ []));
+          counted = let c = h.counted in let k = (server_at s accepts.is_open.within).counted in omega
+              (arith, length-append (list_at core.queues s) (job ∷ []));
           unfinished = AllByRecursion-push (λ w. 0 < work.left w) (list_at core.queues s) job h.unfinished some;
         });
   }
@@ -210,6 +230,8 @@ module _ {W : Type 0} {work : Meaning W} {core : CoreHeld W} (ok : IsCore work c
     small = ok.small;
     clock = ok.clock;
     at_most_one = rw (changed_kept reservation with_close core.faces s (λ f. refl)) ok.at_most_one;
-    each = AllByRecursion-changed_at (IsServer core.backlog core.clock) (IsServer core.backlog core.clock) with_close core.faces s no_face ok.each (λ f is. is) (λ is. server_closed core.backlog core.clock (face_at core.faces s) is);
-    jobs = AllZip-changed_second (HoldsBacklog work) with_close core.queues core.faces s ok.jobs (λ jobs f h. record { counted = h.counted; unfinished = h.unfinished });
+    each = AllByRecursion-changed_at (IsServer core.backlog core.clock) (IsServer core.backlog core.clock) with_close core.faces s no_face
+        ok.each (λ f is. is) (λ is. server_closed core.backlog core.clock (face_at core.faces s) is);
+    jobs = AllZip-changed_second (HoldsBacklog work) with_close core.queues core.faces s ok.jobs
+        (λ jobs f h. record { counted = h.counted; unfinished = h.unfinished });
   }

@@ -20,7 +20,8 @@ module _ {W : Type 0} where
   all_same core t = record { jobs = refl; accepted = refl; finished = refl; closed = refl }
 
   -- a replenishment leaves jobs, counts and close
-  replenished_same : (now : ℕ) (faces : List Face) (s : ℕ) (jobs : List W) → SameJobs (record { face = face_at faces s; jobs = jobs }) (record { face = face_at (map (with_replenishment now) faces) s; jobs = jobs })
+  replenished_same : (now : ℕ) (faces : List Face) (s : ℕ) (jobs : List W)
+      → SameJobs (record { face = face_at faces s; jobs = jobs }) (record { face = face_at (map (with_replenishment now) faces) s; jobs = jobs })
   replenished_same now [] s jobs = record { jobs = refl; accepted = refl; finished = refl; closed = refl }
   replenished_same now (f ∷ fs) zero jobs = record { jobs = refl; accepted = refl; finished = refl; closed = refl }
   replenished_same now (f ∷ fs) (suc s) jobs = replenished_same now fs s jobs
@@ -39,7 +40,8 @@ module _ {W : Type 0} where
     module _ (s : ℕ) (f : Face → Face) (g : List W → List W) (shown : faces ≡ changed_at f old.faces s) (jobs : queues ≡ changed_at g old.queues s) where
       -- jobs, counts and close of every other server are as before
       pub others_same : OthersSame s old new
-      others_same t ne = rw (shown, jobs, changed_elsewhere f old.faces s t no_face ne, changed_elsewhere g old.queues s t [] ne) record { jobs = refl; accepted = refl; finished = refl; closed = refl }
+      others_same t ne = rw (shown, jobs, changed_elsewhere f old.faces s t no_face ne, changed_elsewhere g old.queues s t [] ne) record
+          { jobs = refl; accepted = refl; finished = refl; closed = refl }
 
       -- what is held of s is its face and its jobs, each changed
       pub held_here : s < length old.faces → s < length old.queues → held_at new s ≡ record { face = f (face_at old.faces s); jobs = g (list_at old.queues s) }
@@ -47,14 +49,16 @@ module _ {W : Type 0} where
 
     -- a job put behind those of server s, and nothing else
     pub took_job : (s q : ℕ) (job : W) → s < length old.faces → s < length old.queues → q ≡ (face_at old.faces s).accepted
-        → faces ≡ changed_at (with_job clock) old.faces s → queues ≡ changed_at (λ jobs. jobs ++ job ∷ []) old.queues s → TakesJob job q (held_at held s) (held_at new s) × OthersSame s held new
+        → faces ≡ changed_at (with_job clock) old.faces s → queues ≡ changed_at (λ jobs. jobs ++ job ∷ []) old.queues s
+        → TakesJob job q (held_at held s) (held_at new s) × OthersSame s held new
     took_job s q job lt within number shown jobs =
         let others = others_same s (with_job clock) (λ jobs. jobs ++ job ∷ []) shown jobs in
         let here = held_here s (with_job clock) (λ jobs. jobs ++ job ∷ []) shown jobs lt within in
         rw (← view) (rw here record { number = number; jobs = refl; accepted = refl; finished = refl; closed = refl }, others)
 
     -- server s closed, and nothing else
-    pub closed_server : (s : ℕ) → s < length old.faces → faces ≡ changed_at with_close old.faces s → queues ≡ old.queues → ClosesServer (held_at held s) (held_at new s) × OthersSame s held new
+    pub closed_server : (s : ℕ) → s < length old.faces → faces ≡ changed_at with_close old.faces s → queues ≡ old.queues
+        → ClosesServer (held_at held s) (held_at new s) × OthersSame s held new
     closed_server s lt shown same = rw (← view) (
       rw (shown, same, changed_here with_close old.faces s no_face lt) record { jobs = refl; accepted = refl; finished = refl; closed = refl },
       λ t ne. rw (shown, same, changed_elsewhere with_close old.faces s t no_face ne) record { jobs = refl; accepted = refl; finished = refl; closed = refl },
@@ -63,7 +67,8 @@ module _ {W : Type 0} where
   module _ (work : Meaning W) (law : Lowers work) (s : ℕ) (before after : CoreHeld W) (others : OthersSame s before after) where
     -- what a unit of the first job of a list does
     ran_jobs : (jobs : List W) (q : ℕ) (r : Ran) → 0 < length jobs → AllByRecursion (λ w. 0 < work.left w) jobs
-        → (held_at before s).jobs ≡ jobs → (held_at after s).jobs ≡ jobs_run work jobs → SameJobs (record { face = with_unit (is_some (result_run work jobs)) (held_at before s).face; jobs = (held_at after s).jobs }) (held_at after s)
+        → (held_at before s).jobs ≡ jobs → (held_at after s).jobs ≡ jobs_run work jobs
+        → SameJobs (record { face = with_unit (is_some (result_run work jobs)) (held_at before s).face; jobs = (held_at after s).jobs }) (held_at after s)
         → q ≡ (held_at before s).face.finished → r ≡ ran_of s q (result_run work jobs) → DoesRun work r before after
     ran_jobs [] q r some all j j' late n is = absurd (omega arith)
     ran_jobs (job ∷ jobs) q r some all j j' late n is = elim (cases_Bool (eqb (work.left (work.after job)) 0)) [
@@ -81,27 +86,33 @@ module _ {W : Type 0} where
           let count : (held_at after s).face.finished ≡ (held_at before s).face.finished = rw more at late.finished in
           let answer : r ≡ ran.Unit s q = rw more at is in
           let here : RunsJob work q (held_at before s) (held_at after s) =
-          record { number = n; some = rw left (omega arith); results = rw (j, left, whole_kept work law job all.0) refl; accepted = late.accepted; finished = count; closed = late.closed } in
+          record { number = n; some = rw left (omega arith); results = rw (j, left, whole_kept work law job all.0) refl;
+              accepted = late.accepted; finished = count; closed = late.closed } in
           rw answer (here, others)
     ]
 
   -- a run of server s, and a replenishment of all
-  pub did_run : {work : Meaning W} → Lowers work → {old held : CoreHeld W} → old ≡ held → (clock now : ℕ) (faces : List Face) (queues : List (List W)) (rooms : List ℕ) (s : ℕ) (r : Ran)
+  pub did_run : {work : Meaning W} → Lowers work → {old held : CoreHeld W} → old ≡ held
+      → (clock now : ℕ) (faces : List Face) (queues : List (List W)) (rooms : List ℕ) (s : ℕ) (r : Ran)
       → MayRun work old s → r ≡ ran_of s (face_at old.faces s).finished (result_run work (list_at old.queues s))
-      → faces ≡ map (with_replenishment now) (changed_at (with_unit (is_some (result_run work (list_at old.queues s)))) old.faces s) → queues ≡ changed_at (jobs_run work) old.queues s
+      → faces ≡ map (with_replenishment now) (changed_at (with_unit (is_some (result_run work (list_at old.queues s)))) old.faces s)
+      → queues ≡ changed_at (jobs_run work) old.queues s
       → DoesRun work r held (record { backlog = old.backlog; clock = clock; faces = faces; queues = queues; rooms = rooms })
   did_run {work} law {old} {held} view clock now faces queues rooms s r may is shown jobs =
       let new : CoreHeld W = record { backlog = old.backlog; clock = clock; faces = faces; queues = queues; rooms = rooms } in
       let f = with_unit (is_some (result_run work (list_at old.queues s))) in
       let middle = changed_at f old.faces s in
-      let late : (t : ℕ) → SameJobs (record { face = face_at middle t; jobs = list_at queues t }) (held_at new t) = λ t. rw shown (replenished_same now middle t (list_at queues t)) in
+      let late : (t : ℕ) → SameJobs (record { face = face_at middle t; jobs = list_at queues t }) (held_at new t) =
+          λ t. rw shown (replenished_same now middle t (list_at queues t)) in
       let others : OthersSame s old new = λ t ne.
       let k = late t in
       let e = changed_elsewhere f old.faces s t no_face ne in
       let j : list_at queues t ≡ list_at old.queues t = rw jobs (changed_elsewhere (jobs_run work) old.queues s t [] ne) in
-      record { jobs = j; accepted = k.accepted ∙ ap (λ (x : Face). x.accepted) e; finished = k.finished ∙ ap (λ (x : Face). x.finished) e; closed = k.closed ∙ ap (λ (x : Face). x.closed) e } in
+      record { jobs = j; accepted = k.accepted ∙ ap (λ (x : Face). x.accepted) e; finished = k.finished ∙ ap (λ (x : Face). x.finished) e;
+          closed = k.closed ∙ ap (λ (x : Face). x.closed) e } in
       let here : list_at queues s ≡ jobs_run work (list_at old.queues s) = rw jobs (changed_here (jobs_run work) old.queues s [] may.queue) in
-      let there : SameJobs (record { face = f (face_at old.faces s); jobs = list_at queues s }) (held_at new s) = rw (changed_here f old.faces s no_face may.within) at (late s) in
+      let there : SameJobs (record { face = f (face_at old.faces s); jobs = list_at queues s }) (held_at new s) =
+          rw (changed_here f old.faces s no_face may.within) at (late s) in
       let jobs = list_at old.queues s in
       let q = (face_at old.faces s).finished in
       rw (← view) (ran_jobs work law s old new others jobs q r may.active may.unfinished refl here there refl is)

@@ -5,7 +5,8 @@ use Rattle.std.proofs.lemmas.Bool.Decides.{nat_tests}
 use Rattle.cbs_rate.specs.Rate.{IsRate}
 use Rattle.cbs_rules.specs.Rules.{Terms}
 use Rattle.cbs_rules.proofs.States.{IsState-fresh_state, IsState-after_arrival, IsState-after_unit, IsState-after_replenishment}
-use Rattle.cbs_rules.proofs.Deadlines.{begun_after_arrival, begun_after_unit, begun_after_replenishment, deadline-arrived-le, deadline-consumed-le, deadline-replenished-le}
+use Rattle.cbs_rules.proofs.Deadlines.{begun_after_arrival, begun_after_unit, begun_after_replenishment, deadline-arrived-le, deadline-consumed-le}
+use Rattle.cbs_rules.proofs.Deadlines.{deadline-replenished-le}
 use Rattle.cbs_steps.specs.Faces.{Face, new_face, is_active, is_ready, backlog_of, with_job, with_unit, with_replenishment, with_close}
 use Rattle.cbs_core.specs.Invariant.{IsServer}
 use Rattle.cbs_steps.specs.Laws.{IsWithinBudget}
@@ -51,7 +52,8 @@ module _ (backlog now : ℕ) where
 
     -- through a close
     pub server_closed : IsServer backlog now (with_close f)
-    server_closed = record { lawful = ok.lawful; state = ok.state; begun = ok.begun; early = ok.early; counted = ok.counted; few_done = ok.few_done; few_jobs = ok.few_jobs }
+    server_closed = record { lawful = ok.lawful; state = ok.state; begun = ok.begun; early = ok.early; counted = ok.counted;
+        few_done = ok.few_done; few_jobs = ok.few_jobs }
 
     -- through a job that comes in, where the backlog is not full
     pub server_joined : backlog_of f < backlog → IsServer backlog now (with_job now f)
@@ -60,13 +62,15 @@ module _ (backlog now : ℕ) where
         elim (cases_Bool (is_active f || f.state.throttled)) [
           | inl t ↦
               let begun : 0 < f.state.deadline = let b = ok.begun in let m = ok.state.unmarked in grind (arith, nat_tests) in
-              rw t record { lawful = ok.lawful; state = ok.state; begun = λ _. begun; early = ok.early; counted = omega arith; few_done = ok.few_done; few_jobs = omega arith }
+              rw t record { lawful = ok.lawful; state = ok.state; begun = λ _. begun; early = ok.early; counted = omega arith;
+                  few_done = ok.few_done; few_jobs = omega arith }
           | inr n ↦
               rw n record {
                 lawful = ok.lawful;
                 state = IsState-after_arrival f.terms.mode f.terms.reservation now f.state ok.lawful ok.state (grind (arith, nat_tests));
                 begun = λ _. begun_after_arrival f.terms.mode f.terms.reservation now f.state ok.lawful;
-                early = deadline-arrived-le f.terms.mode f.terms.reservation now (now + (now + 1) * 1000000000) f.state ok.early (let p = ok.lawful.short in omega arith);
+                early = deadline-arrived-le f.terms.mode f.terms.reservation now (now + (now + 1) * 1000000000) f.state ok.early
+                    (let p = ok.lawful.short in omega arith);
                 counted = omega arith;
                 few_done = ok.few_done;
                 few_jobs = omega arith;
@@ -83,7 +87,8 @@ module _ (backlog now : ℕ) where
         let some = ok.few_jobs in
         let e = ok.early in
         let p = ok.lawful.short in
-        let rest : (finished : ℕ) → f.finished ≤ finished → finished ≤ f.finished + 1 → IsServer backlog (now + 1) (record (with_unit false f) { finished = finished }) = λ finished least most. record {
+        let rest : (finished : ℕ) → f.finished ≤ finished → finished ≤ f.finished + 1
+            → IsServer backlog (now + 1) (record (with_unit false f) { finished = finished }) = λ finished least most. record {
           lawful = ok.lawful;
           state = IsState-after_unit f.terms.mode f.terms.reservation f.state ok.lawful ok.state run.free begun;
           begun = λ _. begun_after_unit f.terms.mode f.terms.reservation f.state begun;

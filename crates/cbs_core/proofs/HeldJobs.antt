@@ -1,5 +1,6 @@
 -- The jobs that are held of a server, against the jobs accepted and the units got.
-use Rattle.std.proofs.Common.{◌≡◌, ℕ, ◌+◌, ◌-◌, ◌≤◌, ◌<◌, List, [], ◌∷◌, ◌++◌, length, take, drop, map, get_or, refl, ap, ◌∙◌, arith, eqb, length-append, length-drop, inl, inr, is_some}
+use Rattle.std.proofs.Common.{◌≡◌, ℕ, ◌+◌, ◌-◌, ◌≤◌, ◌<◌, List, [], ◌∷◌, ◌++◌, length, take, drop, map, get_or, refl, ap, ◌∙◌, arith, eqb}
+use Rattle.std.proofs.Common.{length-append, length-drop, inl, inr, is_some}
 use Rattle.std.specs.Prelude.{if◌then◌else◌}
 use Rattle.std.proofs.lemmas.Bool.{cases_lt, cases_Bool}
 use Rattle.std.proofs.lemmas.Bool.Decides.{nat_tests}
@@ -44,7 +45,8 @@ positive_along f [] (y ∷ ys) e all = cc
 positive_along f (x ∷ xs) (y ∷ ys) e all = let h : f x ≡ f y = cc in (let p = all.0 in omega arith, positive_along f xs ys (cc) all.1)
 
 -- after the last unit the output is the whole result
-output_last : {W : Type 0} (work : Meaning W) → Lowers work → (w : W) → 0 < work.left w → work.left (work.after w) ≡ 0 → work.output (work.after w) ≡ whole work w
+output_last : {W : Type 0} (work : Meaning W) → Lowers work → (w : W) → 0 < work.left w → work.left (work.after w) ≡ 0
+    → work.output (work.after w) ≡ whole work w
 output_last work law w some none = output_whole work (work.after w) none ∙ whole_kept work law w some
 
 -- the jobs held are those left of the jobs xs by g units, of which k are finished
@@ -64,7 +66,8 @@ module _ {W : Type 0} (work : Meaning W) (law : Lowers work) where
       rw m e
 
   -- fewer units were run than the next job needs to be done
-  last_more : (xs ys : List W) (g k : ℕ) → drop k xs ≡ ys → AllByRecursion (λ w. 0 < work.left w) ys → sum_by work.left (take k xs) ≡ g → k < length xs → g < sum_by work.left (take (k + 1) xs)
+  last_more : (xs ys : List W) (g k : ℕ) → drop k xs ≡ ys → AllByRecursion (λ w. 0 < work.left w) ys → sum_by work.left (take k xs) ≡ g → k < length xs
+      → g < sum_by work.left (take (k + 1) xs)
   last_more xs [] g k d all full short = let e = ap length d in let f = length-drop k xs in absurd (omega arith)
   last_more xs (z ∷ zs) g k d all full short = let n = need_more work.left xs k z zs d in let p = all.0 in omega arith
 
@@ -94,7 +97,8 @@ module _ {W : Type 0} (work : Meaning W) (law : Lowers work) where
         let full : sum_by work.left (take (k + 1) xs) ≡ g + 1 = let some = all.0 in omega arith in
         let next : drop (k + 1) xs ≡ ys = (front xs k y ys d).rest in
         record {
-          count = count_done-is work.left xs (g + 1) (k + 1) (omega arith) (omega arith) (last_more xs ys (g + 1) (k + 1) next (positive_along work.left js ys ls all.1) full);
+          count = count_done-is work.left xs (g + 1) (k + 1) (omega arith) (omega arith)
+              (last_more xs ys (g + 1) (k + 1) next (positive_along work.left js ys ls all.1) full);
           results = rw next w;
           lefts = rw next (rest_lefts xs js ys (g + 1) (k + 1) ls next full);
         }
@@ -128,7 +132,8 @@ same_sum f (x ∷ xs) (y ∷ ys) e =
     omega (arith, sum_by-cons f x xs, sum_by-cons f y ys)
 
 -- what is left of the jobs held is what the jobs xs need and g units have not paid
-owed_of : {W : Type 0} (f : W → ℕ) (jobs xs ys : List W) (g k : ℕ) → drop k xs ≡ ys → sum_by f (take k xs) ≤ g → (k < length xs → g < sum_by f (take (k + 1) xs))
+owed_of : {W : Type 0} (f : W → ℕ) (jobs xs ys : List W) (g k : ℕ) → drop k xs ≡ ys → sum_by f (take k xs) ≤ g
+    → (k < length xs → g < sum_by f (take (k + 1) xs))
     → map f jobs ≡ with_first_number (sum_by f (take (k + 1) xs) - g) (map f ys) → sum_by f jobs ≡ sum_by f xs - g
 owed_of f [] xs [] g k d within beyond l = let n = sum_by-take-drop f xs k in let e = ap (sum_by f) d in omega arith
 owed_of f (j ∷ js) xs [] g k d within beyond l = cc
@@ -146,7 +151,8 @@ owed_of f (j ∷ js) xs (y ∷ ys) g k d within beyond l =
 -- what a unit of the first job does
 pub record Served {W : Type 0} (work : Meaning W) (jobs xs : List W) (g k : ℕ) : Type 0 where
   pub parts : Parts work (jobs_run work jobs) xs (g + 1) (if is_some (result_run work jobs) then k + 1 else k)
-  pub ran : (s : ℕ) → ran_of s k (result_run work jobs) ≡ (if eqb (sum_by work.left (take (k + 1) xs)) (g + 1) then ran.Done (record { server = s; seq = k; result = get_or (map (whole work) xs) k 0 }) else ran.Unit s k)
+  pub ran : (s : ℕ) → ran_of s k (result_run work jobs) ≡ (if eqb (sum_by work.left (take (k + 1) xs)) (g + 1) then ran.Done
+      (record { server = s; seq = k; result = get_or (map (whole work) xs) k 0 }) else ran.Unit s k)
 
 -- the unit of the first job either ends it or leaves some
 served_cases : {W : Type 0} (work : Meaning W) → Lowers work → (jobs xs : List W) (g k : ℕ) (rest : List W)
@@ -258,13 +264,15 @@ module _ {W : Type 0} (work : Meaning W) (jobs : List W) (a : Account W) (agrees
 
   -- what is left of them is owed
   pub owed_jobs : sum_by work.left jobs ≡ owed work a
-  owed_jobs = owed_of work.left jobs a.accepted (unfinished work a) a.got (finished work a) refl (count_done_within work.left a.accepted a.got) (count_done_beyond work.left a.accepted a.got) agrees.lefts
+  owed_jobs = owed_of work.left jobs a.accepted (unfinished work a) a.got (finished work a) refl
+      (count_done_within work.left a.accepted a.got) (count_done_beyond work.left a.accepted a.got) agrees.lefts
 
   -- a unit of the first job
   module _ (law : Lowers work) (some : 0 < length jobs) (left : AllByRecursion (λ w. 0 < work.left w) jobs) where
     -- after the unit the jobs held are those left by one unit more, and the answer is as the accepted jobs say
     served_is : Served work jobs a.accepted a.got (finished work a)
-    served_is = served_cases work law jobs a.accepted a.got (finished work a) (unfinished work a) refl (count_done-le work.left a.accepted a.got) refl agrees.results agrees.lefts left some
+    served_is = served_cases work law jobs a.accepted a.got (finished work a) (unfinished work a) refl
+        (count_done-le work.left a.accepted a.got) refl agrees.results agrees.lefts left some
 
     -- the jobs after the unit are the unfinished ones, with one unit more got
     pub unit_jobs : AgreesJobs work (jobs_run work jobs) (account_with_unit a)

@@ -35,7 +35,8 @@ wakes now m f active rest due =
     rw (active, t, e)
 
 -- a longer rest is one in which a server with a job would be ready again
-wait_most : (now k : ℕ) (f : Face) → k ≤ clock_end - now → is_ready f ≡ false → ((m : ℕ) → 0 < m → m < k → is_ready (with_replenishment (now + m) f) ≡ false) → k ≤ wait now f
+wait_most : (now k : ℕ) (f : Face) → k ≤ clock_end - now → is_ready f ≡ false
+    → ((m : ℕ) → 0 < m → m < k → is_ready (with_replenishment (now + m) f) ≡ false) → k ≤ wait now f
 wait_most now k f end rest quiet = elim (cases_Bool (is_active f)) [
   | inl active ↦
       let m = max 1 (f.state.deadline - now) in
@@ -77,14 +78,17 @@ span_none now best [] e rest = cc
 span_none now best (f ∷ fs) e rest = span_none now (min best (wait now f)) fs (rw rest.0 at e) rest.1
 
 -- before the least wait is over, nobody is ready
-all_sleep : (now m n : ℕ) (fs : List Face) → 0 < m → m < n → NoneReady fs → AllByRecursion (λ f. n ≤ wait now f) fs → NoneReady (map (with_replenishment (now + m)) fs)
+all_sleep : (now m n : ℕ) (fs : List Face) → 0 < m → m < n → NoneReady fs → AllByRecursion (λ f. n ≤ wait now f) fs
+    → NoneReady (map (with_replenishment (now + m)) fs)
 all_sleep now m n [] some lt rest each = tt
 all_sleep now m n (f ∷ fs) some lt rest each = (sleeps now m f rest.0 some (let w = each.0 in omega arith), all_sleep now m n fs some lt rest.1 each.1)
 
 -- where nobody is ready before k ticks have passed, each waits for k at least
-all_waits : (now k : ℕ) (fs : List Face) → k ≤ clock_end - now → NoneReady fs → ((m : ℕ) → 0 < m → m < k → NoneReady (map (with_replenishment (now + m)) fs)) → AllByRecursion (λ f. k ≤ wait now f) fs
+all_waits : (now k : ℕ) (fs : List Face) → k ≤ clock_end - now → NoneReady fs
+    → ((m : ℕ) → 0 < m → m < k → NoneReady (map (with_replenishment (now + m)) fs)) → AllByRecursion (λ f. k ≤ wait now f) fs
 all_waits now k [] end rest quiet = tt
-all_waits now k (f ∷ fs) end rest quiet = (wait_most now k f end rest.0 (λ m some lt. (quiet m some lt).0), all_waits now k fs end rest.1 (λ m some lt. (quiet m some lt).1))
+all_waits now k (f ∷ fs) end rest quiet = (wait_most now k f end rest.0 (λ m some lt. (quiet m some lt).0),
+    all_waits now k fs end rest.1 (λ m some lt. (quiet m some lt).1))
 
 module _ {W : Type 0} (work : Meaning W) (w : World W) where
   -- after m ticks, one at least, each server shows what one replenishment at the last tick makes of its face

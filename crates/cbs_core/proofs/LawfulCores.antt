@@ -31,7 +31,8 @@ use Rattle.cbs_steps.proofs.Promised.{tick_kept}
 use Rattle.cbs_steps.proofs.Punctual.{punctual}
 
 -- each server of a core keeps it, after each history with which the core agrees
-pub lawful_at : {W : Type 0} {work : Meaning W} {core held : CoreHeld W} {M : History W} → core ≡ held → IsCore work core → Agrees work held M → (s : ℕ) → s < length held.faces → IsLawful work (account_in work M s)
+pub lawful_at : {W : Type 0} {work : Meaning W} {core held : CoreHeld W} {M : History W} → core ≡ held → IsCore work core → Agrees work held M → (s : ℕ)
+    → s < length held.faces → IsLawful work (account_in work M s)
 lawful_at {work = work} {core = core} {M = M} view ok agrees s lt =
     let is : IsServer core.backlog core.clock (face_of work (account_in work M s)) = rw (face_is view agrees s) (server_at ok s (rw view lt)) in
     record { rate = is.lawful; state = is.state; begun = is.begun }
@@ -41,9 +42,11 @@ module _ {W : Type 0} (work : Meaning W) where
   pub admitted_by : {core held : CoreHeld W} {M : History W} → core ≡ held → IsCore work core → Agrees work held M → IsAdmitted (given work M.setup)
   admitted_by {core} {held} {M} view ok agrees =
       let shown : core.faces ≡ faces work (world_after work M) = rw view agrees.world.shown in
-      let same : reservations core.faces ≡ given work M.setup = ap reservations shown ∙ rates_are work (world_after work M).accounts ∙ rates_after work M.setup M.steps in
+      let same : reservations core.faces ≡ given work M.setup =
+          ap reservations shown ∙ rates_are work (world_after work M).accounts ∙ rates_after work M.setup M.steps in
       rw (← same) record {
-        lawful = AllByRecursion-map (IsServer core.backlog core.clock) (λ (r : Rate). IsRate r.budget r.period) (λ (f : Face). f.terms.reservation) core.faces ok.each (λ f is. is.lawful);
+        lawful = AllByRecursion-map (IsServer core.backlog core.clock) (λ (r : Rate). IsRate r.budget r.period)
+            (λ (f : Face). f.terms.reservation) core.faces ok.each (λ f is. is.lawful);
         at_most_one = ok.at_most_one;
       }
 
@@ -61,9 +64,12 @@ module _ {W : Type 0} (work : Meaning W) where
         let count = ap length shown in
         elim (cases_lt s (length core.faces)) [
           | inl lt ↦
-              let is : face_of work (account w.accounts s) ≡ face_at core.faces s = sym (account_face work w.accounts s) ∙ ap (λ fs. face_at fs s) (sym shown) in
-              let early = ready_early work M.setup M.steps (admitted_by view ok agrees) (known_on_time work M.setup M.steps on) s (omega (arith, length-map w.accounts (face_of work))) in
-              let goal : (face_at core.faces s).finished < (face_at core.faces s).accepted → (face_at core.faces s).state.throttled ≡ false → w.now < (face_at core.faces s).state.deadline = λ some free.
+              let is : face_of work (account w.accounts s) ≡ face_at core.faces s =
+                  sym (account_face work w.accounts s) ∙ ap (λ fs. face_at fs s) (sym shown) in
+              let early = ready_early work M.setup M.steps (admitted_by view ok agrees) (known_on_time work M.setup M.steps on) s
+                  (omega (arith, length-map w.accounts (face_of work))) in
+              let goal : (face_at core.faces s).finished < (face_at core.faces s).accepted → (face_at core.faces s).state.throttled ≡ false
+                  → w.now < (face_at core.faces s).state.deadline = λ some free.
               let ready : is_ready (face_at core.faces s) ≡ true = grind (arith, nat_tests) in
               let l = early (ap is_ready is ∙ ready) in
               let d = ap (λ (f : Face). f.state.deadline) is in
@@ -86,7 +92,9 @@ module _ {W : Type 0} (work : Meaning W) where
   new_punctual {core} {setup} ok agrees steps = punctual work (record { setup = setup; steps = steps }) (admitted_by {core = core} refl ok agrees)
 
   -- and so whatever history the core agrees with, if it is on time
-  pub promised_kept : {core held : CoreHeld W} → core ≡ held → IsCore work core → (s : ℕ) (o : Option ℕ) → ((M : History W) → Agrees work held M → o ≡ promised work (account_in work M s))
+  pub promised_kept : {core held : CoreHeld W} → core ≡ held → IsCore work core → (s : ℕ) (o : Option ℕ)
+      → ((M : History W) → Agrees work held M → o ≡ promised work (account_in work M s))
       → IsCoreOnTime held → IfSome o (λ tick. (M : History W) → Agrees work held M → AllFinishedBy work M s tick)
   promised_kept view ok s None value on = tt
-  promised_kept view ok s (Some tick) value on = λ M agrees. tick_kept work M s (Some tick) (admitted_by view ok agrees) (agreed_on_time work M agrees on) (value M agrees)
+  promised_kept view ok s (Some tick) value on = λ M agrees. tick_kept work M s (Some tick) (admitted_by view ok agrees)
+      (agreed_on_time work M agrees on) (value M agrees)

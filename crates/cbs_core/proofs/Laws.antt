@@ -16,7 +16,8 @@ use Rattle.cbs_steps.proofs.Histories.{account_face}
 use Rattle.cbs_core.proofs.HeldJobs.{length_jobs}
 use Rattle.cbs_lists.proofs.Lists.{within_lists, AllZip-length, AllZip-get}
 use Rattle.cbs_steps.proofs.Laws.{after-append, allowed-append, allowed-weaker, setup_after}
-pub use Rattle.cbs_steps.proofs.Laws.{run_later, advance_later, punctual_after, terms_count, Completes-none, after-push, steps_complete, steps_close, all_yielded}
+pub use Rattle.cbs_steps.proofs.Laws.{run_later, advance_later, punctual_after, terms_count, Completes-none, after-push, steps_complete, steps_close}
+pub use Rattle.cbs_steps.proofs.Laws.{all_yielded}
 
 module _ {W : Type 0} (work : Meaning W) where
   -- a server that holds a job is there
@@ -63,18 +64,21 @@ module _ {W : Type 0} (work : Meaning W) where
   follows_both a b c xs ys p q = λ M agrees. subst (λ (N : History W). Agrees work c N) (sym (after-append M xs ys)) (q (M ⊕⊕ xs) (p M agrees))
 
   -- steps that are allowed, and behind them more that are
-  pub allowed_both : (P : History W → Step W → Type 0) (a b : CoreHeld W) (xs ys : List (Step W)) → Follows work a b xs → AllAllowed work P a xs → AllAllowed work P b ys → AllAllowed work P a (xs ++ ys)
+  pub allowed_both : (P : History W → Step W → Type 0) (a b : CoreHeld W) (xs ys : List (Step W)) → Follows work a b xs → AllAllowed work P a xs
+      → AllAllowed work P b ys → AllAllowed work P a (xs ++ ys)
   allowed_both P a b xs ys f p q = λ M agrees. allowed-append P M xs ys (p M agrees) (q (M ⊕⊕ xs) (f M agrees))
 
   -- what is allowed by one rule is allowed by a weaker one
-  pub allowed_weaker : (P Q : History W → Step W → Type 0) (a : CoreHeld W) (xs : List (Step W)) → ((N : History W) (x : Step W) → P N x → Q N x) → AllAllowed work P a xs → AllAllowed work Q a xs
+  pub allowed_weaker : (P Q : History W → Step W → Type 0) (a : CoreHeld W) (xs : List (Step W)) → ((N : History W) (x : Step W) → P N x → Q N x)
+      → AllAllowed work P a xs → AllAllowed work Q a xs
   allowed_weaker P Q a xs w p = λ M agrees. allowed-weaker P Q M xs w (p M agrees)
 
   -- steps leave the greatest backlog
   pub backlog_kept : (a b : CoreHeld W) (xs : List (Step W)) → HasHistory work a → Follows work a b xs → b.backlog ≡ a.backlog
   backlog_kept a b xs h f = elim (cases_eq b.backlog a.backlog) [
     | inl e ↦ e
-    | inr ne ↦ absurd (h (λ M agrees. ne ((f M agrees).world.same_backlog ∙ (ap (λ (s : Setup). s.backlog) (setup_after M xs) ∙ sym agrees.world.same_backlog))))
+    | inr ne ↦ absurd (h (λ M agrees. ne ((f M agrees).world.same_backlog
+        ∙ (ap (λ (s : Setup). s.backlog) (setup_after M xs) ∙ sym agrees.world.same_backlog))))
   ]
 
   -- what follows a core with a history has one

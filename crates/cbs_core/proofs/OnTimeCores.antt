@@ -20,11 +20,13 @@ module _ {W : Type 0} (work : Meaning W) where
   held_on_time {core} M agrees on = rw (agrees.world.clock, agrees.world.shown) on
 
   -- so it is from a core on
-  pub all_on_time : (a : CoreHeld W) (xs : List (Step W)) → AllAllowed work (KeepsTime work) a xs → AllAllowed work (IsQuietAfter work) a xs → AllOnTime work a xs
+  pub all_on_time : (a : CoreHeld W) (xs : List (Step W)) → AllAllowed work (KeepsTime work) a xs → AllAllowed work (IsQuietAfter work) a xs
+      → AllOnTime work a xs
   all_on_time a xs keep quiet = λ on M agrees. each_on_time work M xs (keep M agrees) (quiet M agrees) (agreed_on_time M agrees on)
 
   -- and the core that they lead to is on time
-  pub on_time_on : (a b : CoreHeld W) (xs : List (Step W)) → HasHistory work a → Follows work a b xs → AllAllowed work (KeepsTime work) a xs → AllAllowed work (IsQuietAfter work) a xs
+  pub on_time_on : (a b : CoreHeld W) (xs : List (Step W)) → HasHistory work a → Follows work a b xs → AllAllowed work (KeepsTime work) a xs
+      → AllAllowed work (IsQuietAfter work) a xs
       → IsCoreOnTime a → IsCoreOnTime b
   on_time_on a b xs history follows keep quiet on = on_time_stable b.clock b.faces (λ no. history (λ M agrees.
       no (held_on_time (M ⊕⊕ xs) (follows M agrees) (last_on_time work M xs (keep M agrees) (quiet M agrees) (agreed_on_time M agrees on)))))

@@ -1,5 +1,6 @@
 -- Entries come into the list of the ready servers, and leave it.
-use Rattle.std.proofs.Common.{◌≡◌, ◌≢◌, ℕ, zero, suc, ◌+◌, ◌<◌, ◌≤◌, true, false, eqb, List, [], ◌∷◌, length, drop, Some, None, if◌then◌else◌, refl, sym, ap, ◌∙◌, inl, inr, arith}
+use Rattle.std.proofs.Common.{◌≡◌, ◌≢◌, ℕ, zero, suc, ◌+◌, ◌<◌, ◌≤◌, true, false, eqb, List, [], ◌∷◌, length, drop, Some, None, if◌then◌else◌, refl}
+use Rattle.std.proofs.Common.{sym, ap, ◌∙◌, inl, inr, arith}
 use Rattle.std.proofs.lemmas.Bool.{cases_Bool}
 use Rattle.std.proofs.lemmas.Bool.Decides.{nat_tests}
 use Rattle.std.specs.List.{AllByRecursion}
@@ -36,7 +37,8 @@ All-entered P x [] h all = (h, tt)
 All-entered P x (e ∷ es) h all = elim (cases_Bool (is_ahead x e)) [ inl t ↦ rw t (h, all) | inr f ↦ rw f (all.0, All-entered P x es h all.1) ]
 
 -- an entry ahead of the first stands before all
-apart_all : (x e : Entry) (es : List Entry) → is_ahead x e ≡ true → AllByRecursion (IsApart e) es → AllByRecursion (λ r. x.server ≢ r.server) es → AllByRecursion (IsApart x) es
+apart_all : (x e : Entry) (es : List Entry) → is_ahead x e ≡ true → AllByRecursion (IsApart e) es → AllByRecursion (λ r. x.server ≢ r.server) es
+    → AllByRecursion (IsApart x) es
 apart_all x e [] b all ne = tt
 apart_all x e (r ∷ rs) b all ne = (record { ahead = ahead_along x e r b all.0.ahead; other = ne.0 }, apart_all x e rs b all.1 ne.1)
 
@@ -86,7 +88,8 @@ pub rest_here : (s : ℕ) (es : List Entry) → IsOrdered es → first_of es ≡
 rest_here s es sorted h = listed-none s (drop 1 es) (rest_without s es sorted h)
 
 -- the first is ahead of every other that is listed
-pub first_ahead : (e : Entry) (es : List Entry) (t d : ℕ) → AllByRecursion (IsApart e) es → listed es t ≡ Some d → is_ahead e (record { deadline = d; server = t }) ≡ true
+pub first_ahead : (e : Entry) (es : List Entry) (t d : ℕ) → AllByRecursion (IsApart e) es → listed es t ≡ Some d
+    → is_ahead e (record { deadline = d; server = t }) ≡ true
 first_ahead e [] t d all h = cc
 first_ahead e (r ∷ rs) t d all h = elim (cases_Bool (eqb r.server t)) [
   | inl b ↦
@@ -110,7 +113,8 @@ All-without P s (e ∷ es) all = elim (cases_Bool (eqb e.server s)) [ inl t ↦ 
 -- a list in order stays in order where a server is taken out
 ordered-without : (s : ℕ) (es : List Entry) → IsOrdered es → IsOrdered (without s es)
 ordered-without s [] sorted = tt
-ordered-without s (e ∷ es) sorted = elim (cases_Bool (eqb e.server s)) [ inl t ↦ rw t sorted.1 | inr f ↦ rw f (All-without (IsApart e) s es sorted.0, ordered-without s es sorted.1) ]
+ordered-without s (e ∷ es) sorted = elim (cases_Bool (eqb e.server s))
+    [ inl t ↦ rw t sorted.1 | inr f ↦ rw f (All-without (IsApart e) s es sorted.0, ordered-without s es sorted.1) ]
 
 -- once server s is taken out of a list in order, no entry of s is left
 without_none : (s : ℕ) (es : List Entry) → IsOrdered es → AllByRecursion (λ r. s ≢ r.server) (without s es)
@@ -126,7 +130,8 @@ length-without s [] = omega arith
 length-without s (e ∷ es) = elim (cases_Bool (eqb e.server s)) [ inl t ↦ rw t (omega arith) | inr f ↦ let h = length-without s es in rw f (omega arith) ]
 
 -- servers whose numbers are below n + 1, and none of them n, have numbers below n
-below_both : (n : ℕ) (es : List Entry) → AllByRecursion (λ r. r.server < suc n) es → AllByRecursion (λ r. n ≢ r.server) es → AllByRecursion (λ r. r.server < n) es
+below_both : (n : ℕ) (es : List Entry) → AllByRecursion (λ r. r.server < suc n) es → AllByRecursion (λ r. n ≢ r.server) es
+    → AllByRecursion (λ r. r.server < n) es
 below_both n [] a b = tt
 below_both n (e ∷ es) a b = (let x = a.0 in let y = b.0 in omega arith, below_both n es a.1 b.1)
 
@@ -146,12 +151,14 @@ length-entered x [] = refl
 length-entered x (e ∷ es) = elim (cases_Bool (is_ahead x e)) [ inl t ↦ rw t (omega arith) | inr f ↦ let h = length-entered x es in rw f (omega arith) ]
 
 -- there is a place for a server that is not listed
-pub place_for : (n : ℕ) (x : Entry) (es : List Entry) → IsOrdered es → AllByRecursion (λ r. r.server < n) es → listed es x.server ≡ None → x.server < n → length es < n
+pub place_for : (n : ℕ) (x : Entry) (es : List Entry) → IsOrdered es → AllByRecursion (λ r. r.server < n) es → listed es x.server ≡ None → x.server < n
+    → length es < n
 place_for n x es sorted all none lt =
     let h = few n (entered x es) (ordered-entered x es sorted none) (All-entered (λ r. r.server < n) x es lt all) in
     let l = length-entered x es in
     omega arith
 
 -- the servers' numbers stay below a bound
-pub known-entered : (n : ℕ) (x : Entry) (es : List Entry) → x.server < n → AllByRecursion (λ r. r.server < n) es → AllByRecursion (λ r. r.server < n) (entered x es)
+pub known-entered : (n : ℕ) (x : Entry) (es : List Entry) → x.server < n → AllByRecursion (λ r. r.server < n) es
+    → AllByRecursion (λ r. r.server < n) (entered x es)
 known-entered n x es lt all = All-entered (λ r. r.server < n) x es lt all

@@ -1,5 +1,6 @@
 -- The list of the ready servers, and when somebody is due, as servers change.
-use Rattle.std.proofs.Common.{◌≡◌, ◌≢◌, ℕ, zero, suc, ◌<◌, ◌≤◌, true, false, leb, eqb, List, [], ◌∷◌, length, map, get_or, set, take, Some, None, refl, sym, ap, ap₂, ◌∙◌, subst, inl, inr, arith}
+use Rattle.std.proofs.Common.{◌≡◌, ◌≢◌, ℕ, zero, suc, ◌<◌, ◌≤◌, true, false, leb, eqb, List, [], ◌∷◌, length, map, get_or, set, take, Some, None}
+use Rattle.std.proofs.Common.{refl, sym, ap, ap₂, ◌∙◌, subst, inl, inr, arith}
 use Rattle.std.proofs.lemmas.Bool.{cases_Bool}
 use Rattle.std.proofs.lemmas.Bool.Decides.{nat_tests}
 use Rattle.std.proofs.lemmas.List.{get_or_read, get_or-set_same, get_or-set_other}
@@ -82,7 +83,8 @@ pub record IsFirst (fs : List Face) (es : List Entry) (s : ℕ) (f : Face) : Typ
   pub listed : listed es s ≡ Some f.state.deadline
 
 -- it stands first in the list, with its deadline
-pub chosen_first : (fs : List Face) (es : List Entry) (s : ℕ) (f : Face) → ListsReady es fs → chosen_among (ranks fs) ≡ Some s → f ≡ get_or fs s f → IsFirst fs es s f
+pub chosen_first : (fs : List Face) (es : List Entry) (s : ℕ) (f : Face) → ListsReady es fs → chosen_among (ranks fs) ≡ Some s → f ≡ get_or fs s f
+    → IsFirst fs es s f
 chosen_first fs es s f lists h read =
     let earliest = chosen_earliest fs es s lists h in
     let here : face_at fs s ≡ f = sym (get_or_read fs s f earliest.within read no_face) in
@@ -106,7 +108,8 @@ lists_set fs es es' i f lists lt sorted here others = record {
 }
 
 -- one server changes, but stays ready by the same deadline, or stays not ready
-pub lists_same : (fs : List Face) (es : List Entry) (s : ℕ) (f g : Face) → ListsReady es fs → s < length fs → f ≡ get_or fs s f → ready_by g ≡ ready_by f → ListsReady es (set fs s g)
+pub lists_same : (fs : List Face) (es : List Entry) (s : ℕ) (f g : Face) → ListsReady es fs → s < length fs → f ≡ get_or fs s f → ready_by g ≡ ready_by f
+    → ListsReady es (set fs s g)
 lists_same fs es s f g lists lt read same =
     let here : face_at fs s ≡ f = sym (get_or_read fs s f lt read no_face) in
     lists_set fs es es s g lists lt lists.ordered (rw here at (lists.each s) ∙ sym same) (λ t other. refl)
@@ -116,7 +119,8 @@ pub ready_behind : (now : ℕ) (f : Face) → is_active f ≡ true → ready_by 
 ready_behind now f a = let b : is_active (with_job now f) ≡ true = grind (arith, nat_tests) in rw (a, b) refl
 
 -- the first server stays ready by the same deadline
-pub lists_first : (fs : List Face) (es : List Entry) (s : ℕ) (f g : Face) → ListsReady es fs → IsFirst fs es s f → is_ready g ≡ true → g.state.deadline ≡ f.state.deadline → ListsReady es (set fs s g)
+pub lists_first : (fs : List Face) (es : List Entry) (s : ℕ) (f g : Face) → ListsReady es fs → IsFirst fs es s f → is_ready g ≡ true
+    → g.state.deadline ≡ f.state.deadline → ListsReady es (set fs s g)
 lists_first fs es s f g lists first ready same =
     let by : ready_by g ≡ Some f.state.deadline = rw (ready, same) refl in
     lists_set fs es es s g lists first.within lists.ordered (first.listed ∙ sym by) (λ t other. refl)
@@ -158,7 +162,8 @@ due_earlier tick earlier [] le all = tt
 due_earlier tick earlier (f ∷ fs) le all = (λ t. let h = all.0 t in omega arith, due_earlier tick earlier fs le all.1)
 
 -- one more server is seen, which has changed
-pub due_more : (tick : ℕ) (fs : List Face) (i : ℕ) (f : Face) → i < length fs → NoneDueBefore tick (take i fs) → IsNotDueBefore tick f → NoneDueBefore tick (take (suc i) (set fs i f))
+pub due_more : (tick : ℕ) (fs : List Face) (i : ℕ) (f : Face) → i < length fs → NoneDueBefore tick (take i fs) → IsNotDueBefore tick f
+    → NoneDueBefore tick (take (suc i) (set fs i f))
 due_more tick [] i f lt all h = absurd (omega arith)
 due_more tick (g ∷ fs) zero f lt all h = (h, tt)
 due_more tick (g ∷ fs) (suc i) f lt all h = (all.0, due_more tick fs i f (omega arith) all.1 h)
@@ -193,7 +198,8 @@ due_job tick now f h t = elim (cases_Bool (is_active f)) [
 ]
 
 -- a job that comes in for a server makes nobody due
-pub due_taken : (tick now : ℕ) (fs : List Face) (i : ℕ) (f : Face) → i < length fs → f ≡ get_or fs i f → NoneDueBefore tick fs → NoneDueBefore tick (set fs i (with_job now f))
+pub due_taken : (tick now : ℕ) (fs : List Face) (i : ℕ) (f : Face) → i < length fs → f ≡ get_or fs i f → NoneDueBefore tick fs
+    → NoneDueBefore tick (set fs i (with_job now f))
 due_taken tick now fs i f within read all = due_set tick fs i (with_job now f) all (due_job tick now f (rw read (due_at tick fs i f within all)))
 
 -- the first i are changed, and the others not yet

@@ -1,5 +1,6 @@
 -- An entry moves to its place among others.
-use Rattle.std.proofs.Common.{◌≡◌, ℕ, zero, suc, ◌+◌, ◌-◌, ◌<◌, ◌≤◌, true, false, List, [], ◌∷◌, ◌++◌, length, drop, take, get_or, set, refl, sym, ap, subst, inl, inr, ◌∙◌, arith}
+use Rattle.std.proofs.Common.{◌≡◌, ℕ, zero, suc, ◌+◌, ◌-◌, ◌<◌, ◌≤◌, true, false, List, [], ◌∷◌, ◌++◌, length, drop, take, get_or, set, refl, sym, ap}
+use Rattle.std.proofs.Common.{subst, inl, inr, ◌∙◌, arith}
 use Rattle.std.proofs.Math.Seq.{take-append_seam}
 use Rattle.std.proofs.lemmas.Bool.{cases_Bool, false≢true}
 use Rattle.std.specs.List.{AllByRecursion, insert, copy_within}
@@ -50,7 +51,8 @@ module _ (es : List Entry) (place : ℕ) (free d : Entry) (slots : List Entry) w
   pub read_down : slots ≡ insert es place free → 0 < place → place ≤ length es → get_or slots (place - 1) d ≡ get_or es (place - 1) d
   read_down is some within =
       let next : suc (place - 1) ≡ place = omega (arith, some) in
-      rw is (subst (λ n. get_or (insert es n free) (place - 1) d ≡ get_or es (place - 1) d) next (read_before es (place - 1) free d (omega (arith, some, within))))
+      rw is (subst (λ n. get_or (insert es n free) (place - 1) d ≡ get_or es (place - 1) d) next
+          (read_before es (place - 1) free d (omega (arith, some, within))))
 
   pub moved_down : slots ≡ insert es place free → 0 < place → place ≤ length es
       → set slots place (get_or slots (place - 1) d) ≡ insert es (place - 1) (get_or es (place - 1) d)
@@ -78,7 +80,8 @@ ahead_all x e [] t all = tt
 ahead_all x e (r ∷ rs) t all = (ahead_along x e r t all.0.ahead, ahead_all x e rs t all.1)
 
 -- in a list in order, an entry ahead of the one at a place is ahead of all from there on
-pub ahead_from : (x : Entry) (es : List Entry) (n : ℕ) (d : Entry) → IsOrdered es → n < length es → is_ahead x (get_or es n d) ≡ true → AllByRecursion (λ e. is_ahead x e ≡ true) (drop n es)
+pub ahead_from : (x : Entry) (es : List Entry) (n : ℕ) (d : Entry) → IsOrdered es → n < length es → is_ahead x (get_or es n d) ≡ true
+    → AllByRecursion (λ e. is_ahead x e ≡ true) (drop n es)
 ahead_from x [] n d sorted lt t = absurd (omega arith)
 ahead_from x (e ∷ es) zero d sorted lt t = (t, ahead_all x e es t sorted.0)
 ahead_from x (e ∷ es) (suc n) d sorted lt t = ahead_from x es n d sorted.1 (omega arith) t
@@ -110,7 +113,8 @@ module _ (es : List Entry) (place : ℕ) (free d : Entry) (slots : List Entry) w
   pub read_far : slots ≡ insert es place free → 4 ≤ place → place ≤ length es → get_or slots (place - 4) d ≡ get_or es (place - 4) d
   read_far is some within =
       let four : (place - 4) + 4 ≡ place = omega (arith, some) in
-      rw is (subst (λ n. get_or (insert es n free) (place - 4) d ≡ get_or es (place - 4) d) four (read_fourth es (place - 4) free d (omega (arith, some, within))))
+      rw is (subst (λ n. get_or (insert es n free) (place - 4) d ≡ get_or es (place - 4) d) four
+          (read_fourth es (place - 4) free d (omega (arith, some, within))))
 
   pub far_moved : slots ≡ insert es place free → 4 ≤ place → place ≤ length es
       → copy_within slots (place - 4) place (place - 3) ≡ insert es (place - 4) (get_or es (place - 4) d)
@@ -120,7 +124,8 @@ module _ (es : List Entry) (place : ℕ) (free d : Entry) (slots : List Entry) w
       let many : place - (place - 4) ≡ 4 = omega (arith, some) in
       let five : (place - 4) + 1 + 4 ≡ (place - 4) + 5 = omega arith in
       let moved = four_moved es (place - 4) free d (omega (arith, some, within)) in
-      rw (is, one, many, five) (subst (λ n. take ((place - 4) + 1) (insert es n free) ++ take 4 (drop (place - 4) (insert es n free)) ++ drop ((place - 4) + 5) (insert es n free)
+      rw (is, one, many, five) (subst (λ n. take ((place - 4) + 1) (insert es n free) ++ take 4 (drop (place - 4) (insert es n free))
+          ++ drop ((place - 4) + 5) (insert es n free)
       ≡ insert es (place - 4) (get_or es (place - 4) d)) four moved)
 
 -- an entry that stands apart from each of a list stands apart from the one at place i

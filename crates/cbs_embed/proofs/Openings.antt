@@ -9,6 +9,7 @@ use Rattle.cbs_embed.specs.Openings.{Opens}
 use Rattle.cbs_embed.specs.declared.inside.Inside.{Inside}
 
 -- one for each server
-pub opens_each : (modes : List Mode) (rates : List Rate) (backlog ring : ℕ) (held : Option Inside) (others : List (Option Inside)) → Opens modes rates backlog ring held others → length others ≡ length rates
+pub opens_each : (modes : List Mode) (rates : List Rate) (backlog ring : ℕ) (held : Option Inside) (others : List (Option Inside))
+    → Opens modes rates backlog ring held others → length others ≡ length rates
 opens_each modes rates backlog ring held others o =
     ap length o.hold ∙ (length-map o.clients _ ∙ (sym (length-map o.clients server_of) ∙ (ap length o.servers ∙ length-range_with_len 0 (length rates))))

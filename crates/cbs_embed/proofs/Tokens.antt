@@ -16,16 +16,20 @@ token_stays : (n : ℕ) (job : UnitJob) → output_after counting n job ≡ job.
 token_stays zero job = refl
 token_stays (suc n) job = token_stays n (counting.after job)
 
+-- jobs of the host come to their tokens
 whole_tokens : (jobs : List UnitJob) → map (whole counting) jobs ≡ map (λ job. job.token) jobs
 whole_tokens [] = refl
 whole_tokens (job ∷ jobs) = rw (token_stays job.units job, whole_tokens jobs) refl
 
+-- so a job that comes to a number has that token
 comes_to_token : (h : TheHouse) (s q token : ℕ) → ComesTo counting h s q token → HasToken h s q token
 comes_to_token h s q token c = rw (whole_tokens (jobs_among (received h s))) at c.told
 
 -- the token of the first job held is that of the job of this number
-pub names_first : (h : TheHouse) (s q token : ℕ) → NamesJob counting (ran.Unit s q) h → token ≡ unwrap_or (front_output counting (held_at (core_of h) s).jobs) 0 → NamesToken (ran.Unit s q) token h
+pub names_first : (h : TheHouse) (s q token : ℕ) → NamesJob counting (ran.Unit s q) h
+    → token ≡ unwrap_or (front_output counting (held_at (core_of h) s).jobs) 0 → NamesToken (ran.Unit s q) token h
 names_first h s q token (job, rest, first, comes) is = rw (is, first) (comes_to_token h s q job.token (rw (token_stays job.units job) at comes))
 
+-- and a completion tells it
 pub names_done : (h : TheHouse) (c : Completion) → NamesJob counting (ran.Done c) h → NamesToken (ran.Done c) c.result h
 names_done h c comes = comes_to_token h c.server c.seq c.result comes

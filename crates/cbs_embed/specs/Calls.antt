@@ -148,6 +148,7 @@ job_of token units = record { token = token; units = units }
 abbrev pub Sends : ℕ → ℕ → TheClient → Result ℕ Refusal → TheClient → Type 0
 Sends token units old (Ok number) new = (task_refusal units ≡ None) × SendOf (job_of token units) old (Ok number) new
 Sends token units old (Err (refused.Task e)) new = (task_refusal units ≡ Some e) × (new ≡ old)
-Sends token units old (Err (refused.Send e)) new = (task_refusal units ≡ None) × SendOf (job_of token units) old (Err (record { error = e; task = job_of token units })) new
+Sends token units old (Err (refused.Send e)) new = (task_refusal units ≡ None)
+    × SendOf (job_of token units) old (Err (record { error = e; task = job_of token units })) new
 Sends token units old (Err (refused.Kept e)) new = (task_refusal units ≡ None) × (e ≡ HouseGone) × LooksAtRing old new
 Sends token units old (Err _) new = ⊥

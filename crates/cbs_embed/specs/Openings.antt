@@ -47,6 +47,8 @@ RefusesOpening servers handles backlog ring error =
 
 -- it is opened where nothing refuses it; the first server that does not fit refuses it before all else
 abbrev pub OpensOrRefuses : List Server → ℕ → ℕ → ℕ → Result (Unit {0}) Refusal → Type 0
-OpensOrRefuses servers handles backlog ring (Ok x) = (setup_refusal whole_processor servers ≡ None) × (handles ≡ length servers) × (open_refusal backlog ring ≡ None)
+OpensOrRefuses servers handles backlog ring (Ok x) = (setup_refusal whole_processor servers ≡ None) × (handles ≡ length servers)
+    × (open_refusal backlog ring ≡ None)
 OpensOrRefuses servers handles backlog ring (Err error) =
-    (setup_refusal whole_processor servers ≡ Some error) ⊎ ((setup_refusal whole_processor servers ≡ None) × RefusesOpening (length servers) handles backlog ring error)
+    (setup_refusal whole_processor servers ≡ Some error) ⊎ ((setup_refusal whole_processor servers ≡ None)
+        × RefusesOpening (length servers) handles backlog ring error)

@@ -32,7 +32,8 @@ first_refusal None None m rest = mode_refusal m rest
 
 -- why one server is refused, or else the rest
 abbrev pub server_refusal : Planned → Server → Option Refusal → Option Refusal
-server_refusal p r rest = first_refusal (rate_refusal r.budget r.period) (admit_refusal p (record { budget = r.budget; period = r.period })) (mode_from r.mode) rest
+server_refusal p r rest = first_refusal (rate_refusal r.budget r.period)
+    (admit_refusal p (record { budget = r.budget; period = r.period })) (mode_from r.mode) rest
 
 -- the plan with one more server
 abbrev pub with_server : Planned → Server → Planned

@@ -11,15 +11,18 @@ use Rattle.cbs_file.specs.Spelling.{at, admitted_from, admitted_entry}
 
 module _ {V : Type 0} (view : V → Data) (mode : Option Mode) where
   -- the next entry is admitted
-  pub admitted_on : (i : ℕ) (so_far next : Admitted) (vs : List V) (v : V) (total : Result Admitted FileFault) → i < length vs → at (Server i) (admitted_entry mode so_far (view (get_or vs i v))) ≡ Ok next
+  pub admitted_on : (i : ℕ) (so_far next : Admitted) (vs : List V) (v : V) (total : Result Admitted FileFault) → i < length vs
+      → at (Server i) (admitted_entry mode so_far (view (get_or vs i v))) ≡ Ok next
       → admitted_from mode i so_far (map view (drop i vs)) ≡ total → admitted_from mode (i + 1) next (map view (drop (i + 1) vs)) ≡ total
   unfolding admitted_from
   admitted_on i so_far next vs v total lt given before =
-      let one : admitted_from mode i so_far (map view (drop i vs)) ≡ admitted_from mode (i + 1) next (map view (drop (i + 1) vs)) = rw (drop_more vs i v lt, given) refl in
+      let one : admitted_from mode i so_far (map view (drop i vs)) ≡ admitted_from mode (i + 1) next (map view (drop (i + 1) vs)) =
+          rw (drop_more vs i v lt, given) refl in
       sym one ∙ before
 
   -- .. or has a fault
-  pub admitted_ends : (i : ℕ) (so_far : Admitted) (vs : List V) (v : V) (total : Result Admitted FileFault) (e : FileFault) → i < length vs → at (Server i) (admitted_entry mode so_far (view (get_or vs i v))) ≡ Err e
+  pub admitted_ends : (i : ℕ) (so_far : Admitted) (vs : List V) (v : V) (total : Result Admitted FileFault) (e : FileFault) → i < length vs
+      → at (Server i) (admitted_entry mode so_far (view (get_or vs i v))) ≡ Err e
       → admitted_from mode i so_far (map view (drop i vs)) ≡ total → total ≡ Err e
   unfolding admitted_from
   admitted_ends i so_far vs v total e lt given before =
@@ -27,7 +30,8 @@ module _ {V : Type 0} (view : V → Data) (mode : Option Mode) where
       sym before ∙ one
 
   -- no entry is left
-  pub admitted_done : (i : ℕ) (so_far : Admitted) (vs : List V) (total : Result Admitted FileFault) → length vs ≤ i → admitted_from mode i so_far (map view (drop i vs)) ≡ total → total ≡ Ok so_far
+  pub admitted_done : (i : ℕ) (so_far : Admitted) (vs : List V) (total : Result Admitted FileFault) → length vs ≤ i
+      → admitted_from mode i so_far (map view (drop i vs)) ≡ total → total ≡ Ok so_far
   unfolding admitted_from
   admitted_done i so_far vs total le before =
       let one : admitted_from mode i so_far (map view (drop i vs)) ≡ Ok so_far = rw (drop_of_length-le vs le) refl in

@@ -18,10 +18,12 @@ use Rattle.cbs_house.specs.Houses.{core_of, received, known, LooksOnly, Polled}
 use Rattle.cbs_house.specs.Messages.{jobs_among}
 use Rattle.cbs_house.proofs.MadeSteps.{made_both, made_look}
 
+-- a list of no element is empty
 empty_of : {X : Type 0} (xs : List X) → length xs ≡ 0 → xs ≡ []
 empty_of [] e = refl
 empty_of (x ∷ xs) e = absurd (omega (arith, e))
 
+-- only the empty list is a prefix of it
 no_prefix : {X : Type 0} (xs : List X) → IsPrefix xs [] → length xs ≡ 0
 no_prefix xs p = let e = ap length p.1 in omega (arith, e, length-append xs p.0)
 
@@ -88,7 +90,8 @@ module _ {W A : Type 0} {g : Ghosts W} (work : Meaning W) where
       let none : Polled work a s Nothing b = rw e at k in
       elim none.2 [
         | inl closed ↦ record { within = none.1; closed = closed }
-        | inr seen ↦ absurd (let within : IsPrefix (known a s) [] = rw seen at (none.0.known s) in let short = no_prefix (known a s) within in omega (arith, some, short))
+        | inr seen ↦ absurd (let within : IsPrefix (known a s) [] = rw seen at (none.0.known s) in let short = no_prefix (known a s) within
+            in omega (arith, some, short))
       ]
 
   -- a closed server is polled in vain

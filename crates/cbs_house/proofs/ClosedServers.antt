@@ -14,7 +14,8 @@ shows_closed (Ok view) = view.closed
 shows_closed (Err e) = false
 
 -- a view shows a closed server where the server is there and closed, and there alone
-pub closed_shown : {W : Type 0} (core : CoreHeld W) (s : ℕ) (r : Result ServerView CoreError) → r ≡ view_reply (slice_get core.faces s) → (shows_closed r ≡ true) ↔ IsClosed core s
+pub closed_shown : {W : Type 0} (core : CoreHeld W) (s : ℕ) (r : Result ServerView CoreError) → r ≡ view_reply (slice_get core.faces s)
+    → (shows_closed r ≡ true) ↔ IsClosed core s
 closed_shown core s r e = elim (cases_lt s (length core.faces)) [
   | inl lt ↦ rw (e, slice_get-get_or core.faces s no_face lt) (λ c. record { within = lt; closed = c }, λ is. is.closed)
   | inr ge ↦ rw (e, slice_get_past core.faces s ge) (λ c. absurd (false≢true c), λ is. let lt = is.within in absurd (omega arith))

@@ -22,9 +22,11 @@ use Rattle.cbs_house.specs.Feeds.{client_of, unsent_jobs, all_jobs, KeepsFeed, K
 use Rattle.cbs_house.proofs.RingLooks.{prefix_along, prefix_same}
 
 module _ {W A : Type 0} {g : Ghosts W} where
+  -- a feed that nothing was done to is kept
   pub keeps_feed : (f : Feed W A g) → KeepsFeed f f
   keeps_feed f = record { client = (refl, refl); jobs = refl; sent = ([], append-nil (sent_by f.client)); orderly = λ o. o }
 
+  -- what is kept twice is kept
   pub keeps_feed_on : (a b c : Feed W A g) → KeepsFeed a b → KeepsFeed b c → KeepsFeed a c
   keeps_feed_on a b c p q = record {
     client = (q.client.0 ∙ p.client.0, q.client.1 ∙ p.client.1);
@@ -43,21 +45,25 @@ module _ {W A : Type 0} {g : Ghosts W} where
   }
 
   -- the client looks for a slot, and sends the first of the jobs that are left
-  pub keeps_sent : (f h : Feed W A g) (b : Client W A g) (w : W) → SameClient f.client b × (sent_by b ≡ sent_by f.client) → SameClient b h.client → sent_by h.client ≡ sent_by b ++ Job w ∷ [] → unsent_jobs f ≡ w ∷ unsent_jobs h → has_end (sent_by f.client) ≡ false → KeepsFeed f h
+  pub keeps_sent : (f h : Feed W A g) (b : Client W A g) (w : W) → SameClient f.client b × (sent_by b ≡ sent_by f.client) → SameClient b h.client
+      → sent_by h.client ≡ sent_by b ++ Job w ∷ [] → unsent_jobs f ≡ w ∷ unsent_jobs h → has_end (sent_by f.client) ≡ false → KeepsFeed f h
   keeps_sent f h b w c s e l n =
       let sent : sent_by h.client ≡ sent_by f.client ++ Job w ∷ [] = e ∙ ap (λ ms. ms ++ Job w ∷ []) c.1 in
       record {
         client = (s.0 ∙ c.0.0, s.1 ∙ c.0.1);
-        jobs = ap (λ ms. jobs_among ms ++ unsent_jobs h) sent ∙ sent-job (sent_by f.client) w (unsent_jobs h) ∙ ap (λ ws. jobs_among (sent_by f.client) ++ ws) (sym l);
+        jobs = ap (λ ms. jobs_among ms ++ unsent_jobs h) sent ∙ sent-job (sent_by f.client) w (unsent_jobs h)
+            ∙ ap (λ ws. jobs_among (sent_by f.client) ++ ws) (sym l);
         sent = (Job w ∷ [], sym sent);
         orderly = λ o t. absurd (false≢true (sym n ∙ sym (has_end-job (sent_by f.client) w) ∙ ap has_end (sym sent) ∙ t));
       }
 
+  -- so it is of all feeds
   pub feeds_same : (fs : List (Feed W A g)) → KeepsFeeds fs fs
   unfolding KeepsFeeds
   feeds_same [] = tt
   feeds_same (f ∷ fs) = (keeps_feed f, feeds_same fs)
 
+  -- one after another
   pub feeds_on : (a b c : List (Feed W A g)) → KeepsFeeds a b → KeepsFeeds b c → KeepsFeeds a c
   unfolding KeepsFeeds
   feeds_on [] [] c p q = q
@@ -66,10 +72,12 @@ module _ {W A : Type 0} {g : Ghosts W} where
   feeds_on (x ∷ a) (y ∷ b) [] p q = absurd q
   feeds_on (x ∷ a) (y ∷ b) (z ∷ c) p q = (keeps_feed_on x y z p.0 q.0, feeds_on a b c p.1 q.1)
 
+  -- of one
   pub feeds_one : (a b : Feed W A g) → KeepsFeed a b → KeepsFeeds (a ∷ []) (b ∷ [])
   unfolding KeepsFeeds
   feeds_one a b p = (p, tt)
 
+  -- of two parts
   pub feeds_both : (a b c d : List (Feed W A g)) → KeepsFeeds a b → KeepsFeeds c d → KeepsFeeds (a ++ c) (b ++ d)
   unfolding KeepsFeeds
   feeds_both [] [] c d p q = q
@@ -84,6 +92,7 @@ module _ {W A : Type 0} {g : Ghosts W} where
   feeds_set (x ∷ fs) zero f d l p = (p, feeds_same fs)
   feeds_set (x ∷ fs) (suc i) f d l p = (keeps_feed x, feeds_set fs i f d (omega arith) p)
 
+  -- as many feeds as before
   pub feeds_count : (a b : List (Feed W A g)) → KeepsFeeds a b → length b ≡ length a
   unfolding KeepsFeeds
   feeds_count [] [] p = refl
@@ -99,6 +108,7 @@ module _ {W A : Type 0} {g : Ghosts W} where
   feeds_servers (x ∷ a) [] p = absurd p
   feeds_servers (x ∷ a) (y ∷ b) p = ap₂ ◌∷◌ p.0.client.0 (feeds_servers a b p.1)
 
+  -- with the same jobs
   pub feeds_jobs : (a b : List (Feed W A g)) → KeepsFeeds a b → map all_jobs b ≡ map all_jobs a
   unfolding KeepsFeeds
   feeds_jobs [] [] p = refl
@@ -106,39 +116,50 @@ module _ {W A : Type 0} {g : Ghosts W} where
   feeds_jobs (x ∷ a) [] p = absurd p
   feeds_jobs (x ∷ a) (y ∷ b) p = ap₂ ◌∷◌ p.0.jobs (feeds_jobs a b p.1)
 
+  -- a client of a feed that is kept is of the same house
   pub opened_same : (rings rings' : List (Ring A)) (a b : Feed W A g) → rings' ≡ rings → KeepsFeed a b → IsOpened rings a.client → IsOpened rings' b.client
   opened_same rings rings' a b e p o = rw (e, p.client.0, p.client.1) o
 
+  -- so it is where the house made steps
   pub opened_moved : (a b : House W A g) (c : Client W A g) → rings_of b ≡ rings_of a → IsOpened (rings_of a) c → IsOpened (rings_of b) c
   opened_moved a b c e o = rw e o
 
-  pub feeds_opened : (rings rings' : List (Ring A)) (a b : List (Feed W A g)) → rings' ≡ rings → KeepsFeeds a b → All (λ f. IsOpened rings f.client) a → All (λ f. IsOpened rings' f.client) b
+  -- so are all
+  pub feeds_opened : (rings rings' : List (Ring A)) (a b : List (Feed W A g)) → rings' ≡ rings → KeepsFeeds a b → All (λ f. IsOpened rings f.client) a
+      → All (λ f. IsOpened rings' f.client) b
   unfolding KeepsFeeds
   feeds_opened rings rings' [] [] e p o = All-nil (λ f. IsOpened rings' f.client)
   feeds_opened rings rings' [] (y ∷ b) e p o = absurd p
   feeds_opened rings rings' (x ∷ a) [] e p o = absurd p
   feeds_opened rings rings' (x ∷ a) (y ∷ b) e p o =
-      All-cons (λ f. IsOpened rings' f.client) y b (opened_same rings rings' x y e p.0 (All-head (λ f. IsOpened rings f.client) x a o)) (feeds_opened rings rings' a b e p.1 (All-tail (λ f. IsOpened rings f.client) x a o))
+      All-cons (λ f. IsOpened rings' f.client) y b (opened_same rings rings' x y e p.0 (All-head (λ f. IsOpened rings f.client) x a o))
+          (feeds_opened rings rings' a b e p.1 (All-tail (λ f. IsOpened rings f.client) x a o))
 
   -- two ways to say that each client was opened
   one_of_all : (P : Client W A g → Type 0) (front back : List (Client W A g)) (c : Client W A g) → All P (front ++ c ∷ back) → P c
   one_of_all P [] back c h = All-head P c back h
   one_of_all P (x ∷ front) back c h = one_of_all P front back c (All-tail P x (front ++ c ∷ back) h)
 
+  -- clients that were opened with a house, wherever they stand
   pub each_opened : (rings : List (Ring A)) (cs : List (Client W A g)) → All (IsOpened rings) cs → EachOpened rings cs
   each_opened rings cs h = λ front back c e. one_of_all (IsOpened rings) front back c (subst (λ xs. All (IsOpened rings) xs) e h)
 
+  -- of feeds, and of their clients
   all_to_map : (rings : List (Ring A)) (fs : List (Feed W A g)) → All (λ f. IsOpened rings f.client) fs → All (IsOpened rings) (map client_of fs)
   all_to_map rings [] h = All-nil (IsOpened rings)
-  all_to_map rings (f ∷ fs) h = All-cons (IsOpened rings) (client_of f) (map client_of fs) (All-head (λ x. IsOpened rings x.client) f fs h) (all_to_map rings fs (All-tail (λ x. IsOpened rings x.client) f fs h))
+  all_to_map rings (f ∷ fs) h = All-cons (IsOpened rings) (client_of f) (map client_of fs) (All-head (λ x. IsOpened rings x.client) f fs h)
+      (all_to_map rings fs (All-tail (λ x. IsOpened rings x.client) f fs h))
 
+  -- the same of all together
   pub are_opened : (rings : List (Ring A)) (cs : List (Client W A g)) → All (IsOpened rings) cs → AreOpened rings cs
   are_opened rings [] h = refl
   are_opened rings (c ∷ cs) h = ap₂ ◌∷◌ (All-head (IsOpened rings) c cs h) (are_opened rings cs (All-tail (IsOpened rings) c cs h))
 
+  -- of the clients of feeds
   are_of_feeds : (rings : List (Ring A)) (fs : List (Feed W A g)) → All (λ f. IsOpened rings f.client) fs → AreOpened rings (map client_of fs)
   are_of_feeds rings fs h = are_opened rings (map client_of fs) (all_to_map rings fs h)
 
+  -- and the other way round
   pub all_of_feeds : (rings : List (Ring A)) (fs : List (Feed W A g)) → AreOpened rings (map client_of fs) → All (λ f. IsOpened rings f.client) fs
   all_of_feeds rings [] h = All-nil (λ f. IsOpened rings f.client)
   all_of_feeds rings (f ∷ fs) h = All-cons (λ x. IsOpened rings x.client) f fs (cc h) (all_of_feeds rings fs (cc h))
@@ -148,7 +169,8 @@ module _ {W A : Type 0} {g : Ghosts W} where
   ready_at h fs i d l r = all_of_feeds (rings_of h) fs r.opened i d l
 
   -- feeds of clients that were opened with the house may be served
-  pub ready_new : (h : House W A g) (fs : List (Feed W A g)) (cs : List (Client W A g)) → map client_of fs ≡ cs → length cs ≤ 64 → AreOpened (rings_of h) cs → Ready h fs
+  pub ready_new : (h : House W A g) (fs : List (Feed W A g)) (cs : List (Client W A g)) → map client_of fs ≡ cs → length cs ≤ 64
+      → AreOpened (rings_of h) cs → Ready h fs
   ready_new h fs cs clients few opened = record {
     few = omega (arith, few, ap length clients, length-map fs (client_of {W = W}));
     opened = subst (λ xs. AreOpened (rings_of h) xs) (sym clients) opened;
@@ -163,15 +185,18 @@ module _ {W A : Type 0} {g : Ghosts W} where
 
 module _ {W A : Type 0} {g : Ghosts W} where
   -- one feed is changed and kept, and the house keeps its rings
-  pub ready_set : (h h' : House W A g) (fs : List (Feed W A g)) (i : ℕ) (f d : Feed W A g) → rings_of h' ≡ rings_of h → i < length fs → KeepsFeed (get_or fs i d) f → Ready h fs → Ready h' (set fs i f)
+  pub ready_set : (h h' : House W A g) (fs : List (Feed W A g)) (i : ℕ) (f d : Feed W A g) → rings_of h' ≡ rings_of h → i < length fs
+      → KeepsFeed (get_or fs i d) f → Ready h fs → Ready h' (set fs i f)
   ready_set h h' fs i f d e l k r = ready_on h h' fs (set fs i f) e (feeds_set fs i f d l k) r
 
 module _ {X Y : Type 0} where
+  -- what holds of mapped elements
   all_of_map : (P : Y → Type 0) (f : X → Y) (xs : List X) → All P (map f xs) → All (λ x. P (f x)) xs
   all_of_map P f [] h = All-nil (λ x. P (f x))
   all_of_map P f (x ∷ xs) h = All-cons (λ y. P (f y)) x xs (All-head P (f x) (map f xs) h) (all_of_map P f xs (All-tail P (f x) (map f xs) h))
 
 module _ {W A : Type 0} {g : Ghosts W} where
+  -- a feed whose client has sent nothing has all its jobs still
   pub unused_jobs : (ring : ℕ) (f : Feed W A g) → IsUnused ring (client_of f) → all_jobs f ≡ unsent_jobs f
   unused_jobs ring f u = ap (λ ms. jobs_among ms ++ unsent_jobs f) u.sent
 
@@ -186,14 +211,17 @@ module _ {W A : Type 0} {g : Ghosts W} where
       → take i servers ≡ take i (servers_of fs) → take (i + 1) (set servers i s) ≡ take (i + 1) (servers_of fs)
   server_noted servers fs i s d k l e h =
       let f = λ (x : Feed W A g). server_of x.client in
-      take_more_set servers i s k ∙ (ap₂ (λ xs (x : ℕ). xs ++ x ∷ []) h (e ∙ sym (get_or-map f fs i d 0 l)) ∙ sym (take_more (servers_of fs) i 0 (omega (arith, length-map fs f))))
+      take_more_set servers i s k ∙ (ap₂ (λ xs (x : ℕ). xs ++ x ∷ []) h (e ∙ sym (get_or-map f fs i d 0 l))
+          ∙ sym (take_more (servers_of fs) i 0 (omega (arith, length-map fs f))))
 
 module _ {W A : Type 0} {g : Ghosts W} (n : ℕ) where
+  -- a feed that did nothing sends no more than it may
   most_same : (fs : List (Feed W A g)) → EachSendsAtMost n fs fs
   unfolding EachSendsAtMost
   most_same [] = tt
   most_same (f ∷ fs) = (omega arith, most_same fs)
 
+  -- of two parts
   most_both : (a b c d : List (Feed W A g)) → EachSendsAtMost n a b → EachSendsAtMost n c d → EachSendsAtMost n (a ++ c) (b ++ d)
   unfolding EachSendsAtMost
   most_both [] [] c d p q = q
@@ -201,6 +229,7 @@ module _ {W A : Type 0} {g : Ghosts W} (n : ℕ) where
   most_both (x ∷ a) [] c d p q = absurd p
   most_both (x ∷ a) (y ∷ b) c d p q = (p.0, most_both a b c d p.1 q)
 
+  -- of all, where one did something
   most_set : (fs : List (Feed W A g)) (i : ℕ) (f d : Feed W A g) → i < length fs → SendsAtMost n (get_or fs i d) f → EachSendsAtMost n fs (set fs i f)
   unfolding EachSendsAtMost
   most_set [] i f d l p = absurd (omega arith)
@@ -212,7 +241,8 @@ module _ {W A : Type 0} {g : Ghosts W} (n : ℕ) where
   sends_none fs = record { kept = feeds_same fs; most = most_same fs }
 
   -- one of the feeds sends
-  pub sends_set : (fs : List (Feed W A g)) (i : ℕ) (f d : Feed W A g) → i < length fs → KeepsFeed (get_or fs i d) f → SendsAtMost n (get_or fs i d) f → SendsFeeds n fs (set fs i f)
+  pub sends_set : (fs : List (Feed W A g)) (i : ℕ) (f d : Feed W A g) → i < length fs → KeepsFeed (get_or fs i d) f → SendsAtMost n (get_or fs i d) f
+      → SendsFeeds n fs (set fs i f)
   sends_set fs i f d l k m = record { kept = feeds_set fs i f d l k; most = most_set fs i f d l m }
 
   -- two lists of feeds send

@@ -1,6 +1,7 @@
 -- Steps that a house made, one list of them after another.
 use Rattle.std.specs.Prelude.{MatchResult}
-use Rattle.std.proofs.Common.{◌≡◌, ◌≢◌, ℕ, ◌+◌, ◌<◌, ◌≤◌, true, false, eqb, Result, Ok, Err, IsOk, OnOk, List, [], ◌∷◌, ◌++◌, length, refl, ap, sym, ◌∙◌, arith, inl, inr}
+use Rattle.std.proofs.Common.{◌≡◌, ◌≢◌, ℕ, ◌+◌, ◌<◌, ◌≤◌, true, false, eqb, Result, Ok, Err, IsOk, OnOk, List, [], ◌∷◌, ◌++◌, length, refl, ap, sym}
+use Rattle.std.proofs.Common.{◌∙◌, arith, inl, inr}
 use Rattle.std.proofs.lemmas.List.{append-nil, append_assoc}
 use Rattle.std.proofs.lemmas.Bool.{cases_eq, false≢true}
 use Rattle.std.proofs.lemmas.Bool.Decides.{nat_tests}
@@ -57,7 +58,8 @@ pub span_granted : {W E : Type 0} (work : Meaning W) (core : CoreHeld W) (r : Re
     → ((M : History W) → Agrees work core M → IsIdleSpan work (world_after work M) n) → IsOk r
 span_granted work core (Ok x) n history early end span = refl
 span_granted work core (Err e) n history early end span =
-    absurd (history (λ M agrees. let past = end M agrees in let within = (span M agrees).within in let clock = agrees.world.clock in omega (arith, past, within, clock)))
+    absurd (history (λ M agrees. let past = end M agrees in let within = (span M agrees).within in let clock = agrees.world.clock in omega
+        (arith, past, within, clock)))
 
 module _ {W A : Type 0} {g : Ghosts W} (work : Meaning W) where
   pub made_both : (a b c : House W A g) (xs ys : List (Step W)) → Made work a b xs → Made work b c ys → Made work a c (xs ++ ys)
@@ -65,14 +67,17 @@ module _ {W A : Type 0} {g : Ghosts W} (work : Meaning W) where
     steps = follows_both work (core_of a) (core_of b) (core_of c) xs ys p.steps q.steps;
     keeps_time = allowed_both work (KeepsTime work) (core_of a) (core_of b) xs ys p.steps p.keeps_time q.keeps_time;
     rings = q.rings ∙ p.rings;
-    received = λ s. q.received s ∙ (ap (λ ms. ms ++ messages_of s ys) (p.received s) ∙ (append_assoc (received a s) (messages_of s xs) (messages_of s ys) ∙ ap (λ ms. received a s ++ ms) (sym (messages_of-append s xs ys))));
-    known = λ s. prefix_through (known a s) (messages_of s xs) (known b s) (messages_of s ys ++ known c s) (p.known s) (q.known s) (messages_of s (xs ++ ys) ++ known c s)
+    received = λ s. q.received s ∙ (ap (λ ms. ms ++ messages_of s ys) (p.received s)
+        ∙ (append_assoc (received a s) (messages_of s xs) (messages_of s ys) ∙ ap (λ ms. received a s ++ ms) (sym (messages_of-append s xs ys))));
+    known = λ s. prefix_through (known a s) (messages_of s xs) (known b s) (messages_of s ys ++ known c s) (p.known s) (q.known s)
+        (messages_of s (xs ++ ys) ++ known c s)
         (ap (λ ms. ms ++ known c s) (messages_of-append s xs ys) ∙ append_assoc (messages_of s xs) (messages_of s ys) (known c s));
     handed = λ s. q.handed s ∙ p.handed s;
   }
 
   pub made_nothing : (a : House W A g) → Made work a a []
-  made_nothing a = record { steps = λ M agrees. agrees; keeps_time = λ M agrees. tt; rings = refl; received = λ s. sym (append-nil (received a s)); known = λ s. ([], append-nil (known a s)); handed = λ s. refl }
+  made_nothing a = record { steps = λ M agrees. agrees; keeps_time = λ M agrees. tt; rings = refl;
+      received = λ s. sym (append-nil (received a s)); known = λ s. ([], append-nil (known a s)); handed = λ s. refl }
 
   -- a look is no step
   pub made_look : (a b : House W A g) → LooksOnly a b → Made work a b []
@@ -86,7 +91,8 @@ module _ {W A : Type 0} {g : Ghosts W} (work : Meaning W) where
   }
 
   -- looks at the rings, and more room, are no step
-  pub made_room : (a b : House W A g) → Looked a.rings b.rings → Follows work (core_of a) (core_of b) [] → AllShelvesSame a.collector b.collector → Made work a b []
+  pub made_room : (a b : House W A g) → Looked a.rings b.rings → Follows work (core_of a) (core_of b) [] → AllShelvesSame a.collector b.collector
+      → Made work a b []
   made_room a b l steps shelves = record {
     steps = steps;
     keeps_time = λ M agrees. tt;
@@ -97,7 +103,8 @@ module _ {W A : Type 0} {g : Ghosts W} (work : Meaning W) where
   }
 
   -- a step that takes no message
-  pub made_time : (a b : House W A g) (x : Step W) → ((s : ℕ) → message_of s x ≡ []) → Follows work (core_of a) (core_of b) (x ∷ []) → ((M : History W) → Agrees work (core_of a) M → KeepsTime work M x)
+  pub made_time : (a b : House W A g) (x : Step W) → ((s : ℕ) → message_of s x ≡ []) → Follows work (core_of a) (core_of b) (x ∷ [])
+      → ((M : History W) → Agrees work (core_of a) M → KeepsTime work M x)
       → b.rings ≡ a.rings → ((s : ℕ) → handed_of b s ≡ handed_of a s) → Made work a b (x ∷ [])
   made_time a b x none f keep e handed = record {
     steps = f;
@@ -113,7 +120,8 @@ module _ {W A : Type 0} {g : Ghosts W} (work : Meaning W) where
       (a b : House W A g) (t : ℕ) (m : Message W) (x : Step W) → message_of t x ≡ m ∷ [] → ((s : ℕ) → s ≢ t → message_of s x ≡ [])
       → rings_of b ≡ rings_of a → received b t ≡ received a t ++ m ∷ [] → known a t ≡ m ∷ known b t
       → ((s : ℕ) → s ≢ t → (received b s ≡ received a s) × (known b s ≡ known a s))
-      → ((s : ℕ) → handed_of b s ≡ handed_of a s) → Follows work (core_of a) (core_of b) (x ∷ []) → ((M : History W) → Agrees work (core_of a) M → KeepsTime work M x) → Made work a b (x ∷ [])
+      → ((s : ℕ) → handed_of b s ≡ handed_of a s) → Follows work (core_of a) (core_of b) (x ∷ [])
+      → ((M : History W) → Agrees work (core_of a) M → KeepsTime work M x) → Made work a b (x ∷ [])
   made_one a b t m x here elsewhere same taken first others handed f keep = record {
     steps = f;
     keeps_time = λ M agrees. (keep M agrees, tt);

@@ -22,25 +22,30 @@ at_place : (rs : List ℕ) (x : ℕ) (xs : List ℕ) (n : ℕ) (all : List ℕ) 
 at_place rs x xs n all e =
     let counts = ap length e in
     let within : n + length rs < length all = omega (arith, counts, length-append rs (x ∷ xs), length-drop n all) in
-    let here : get_or all (n + length rs) x ≡ x = sym (get_or-drop n all (length rs) x) ∙ (ap (λ l. get_or l (length rs) x) (sym e) ∙ get_or-append_seam rs x xs x) in
+    let here : get_or all (n + length rs) x ≡ x = sym (get_or-drop n all (length rs) x)
+        ∙ (ap (λ l. get_or l (length rs) x) (sym e) ∙ get_or-append_seam rs x xs x) in
     slice_get-get_or all (n + length rs) x within ∙ ap Some here
 
 module _ {W A : Type 0} {g : Ghosts W} (old h : House W A g) where
   -- the first job held is, of those received, that behind the results
-  comes_first : (s q : ℕ) (job : W) (rest : List W) → s < length (core_of h).faces → (held_at (core_of h) s).jobs ≡ job ∷ rest → q ≡ (held_at (core_of h) s).face.finished → ComesTo g.meaning h s q (whole g.meaning job)
+  comes_first : (s q : ℕ) (job : W) (rest : List W) → s < length (core_of h).faces → (held_at (core_of h) s).jobs ≡ job ∷ rest
+      → q ≡ (held_at (core_of h) s).face.finished → ComesTo g.meaning h s q (whole g.meaning job)
   comes_first s q job rest lt first number =
       let k = h.housed.servers s lt in
-      let place = at_place (results_of h s) (whole g.meaning job) (map (whole g.meaning) rest) (handed_of h s) (map (whole g.meaning) (jobs_among (received h s))) (rw first at k.outputs) in
+      let place = at_place (results_of h s) (whole g.meaning job) (map (whole g.meaning) rest) (handed_of h s)
+          (map (whole g.meaning) (jobs_among (received h s))) (rw first at k.outputs) in
       record { told = rw (number, k.finished) place }
 
   -- the result that was put behind the others is that of the job received of its number
-  comes_last : (c : Completion) → c.server < length (core_of h).faces → results_of h c.server ≡ results_of old c.server ++ c.result ∷ [] → (held_at (core_of h) c.server).face.finished ≡ c.seq + 1 → ComesTo g.meaning h c.server c.seq c.result
+  comes_last : (c : Completion) → c.server < length (core_of h).faces → results_of h c.server ≡ results_of old c.server ++ c.result ∷ []
+      → (held_at (core_of h) c.server).face.finished ≡ c.seq + 1 → ComesTo g.meaning h c.server c.seq c.result
   comes_last c lt put count =
       let s = c.server in
       let k = h.housed.servers s lt in
       let rs = results_of old s in
       let jobs = map (whole g.meaning) (held_at (core_of h) s).jobs in
-      let place = at_place rs c.result jobs (handed_of h s) (map (whole g.meaning) (jobs_among (received h s))) (sym (append_assoc rs (c.result ∷ []) jobs) ∙ (ap (λ l. l ++ jobs) (sym put) ∙ k.outputs)) in
+      let place = at_place rs c.result jobs (handed_of h s) (map (whole g.meaning) (jobs_among (received h s)))
+          (sym (append_assoc rs (c.result ∷ []) jobs) ∙ (ap (λ l. l ++ jobs) (sym put) ∙ k.outputs)) in
       let f = k.finished in
       let n = ap length put in
       let number : c.seq ≡ handed_of h s + length rs = omega (arith, f, n, count, length-append rs (c.result ∷ [])) in
@@ -54,7 +59,8 @@ module _ {W A : Type 0} {g : Ghosts W} (old h : House W A g) where
   ]
 
   -- a job held is the first of some
-  names_first : (s q : ℕ) (jobs : List W) → (held_at (core_of h) s).jobs ≡ jobs → 0 < length jobs → s < length (core_of h).faces → q ≡ (held_at (core_of h) s).face.finished → NamesJob g.meaning (ran.Unit s q) h
+  names_first : (s q : ℕ) (jobs : List W) → (held_at (core_of h) s).jobs ≡ jobs → 0 < length jobs → s < length (core_of h).faces
+      → q ≡ (held_at (core_of h) s).face.finished → NamesJob g.meaning (ran.Unit s q) h
   names_first s q [] is some lt number = absurd (omega (arith, some))
   names_first s q (job ∷ rest) is some lt number = (job, rest, is, comes_first s q job rest lt is number)
 
@@ -63,7 +69,8 @@ module _ {W A : Type 0} {g : Ghosts W} (old h : House W A g) where
   names ran.ClockEnd does put = tt
   names (ran.Unit s q) does put =
       let run = does.0 in
-      names_first s q (held_at (core_of h) s).jobs refl run.some (holds_within g.meaning (core_of h) h.housed.history s run.some) (run.number ∙ sym run.finished)
+      names_first s q (held_at (core_of h) s).jobs refl run.some (holds_within g.meaning (core_of h) h.housed.history s run.some)
+          (run.number ∙ sym run.finished)
   names (ran.Done c) does put =
       let count = does.0.finished in
       let number = does.0.number in

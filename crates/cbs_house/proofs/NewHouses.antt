@@ -45,7 +45,8 @@ module _ {W : Type 0} (work : Meaning W) where
     }
 
     pub housed_new : {A : Type 0} (r : Rings W A) (shelves : List Shelved)
-        → length (rings_in r) ≡ length core.faces → length shelves ≡ length core.faces → All IsNewEnd r.ends.items → ((s : ℕ) → SameShelf no_shelf (shelf_at shelves s)) → 0 < setup.backlog
+        → length (rings_in r) ≡ length core.faces → length shelves ≡ length core.faces → All IsNewEnd r.ends.items
+        → ((s : ℕ) → SameShelf no_shelf (shelf_at shelves s)) → 0 < setup.backlog
         → Housed work core r shelves
     housed_new r shelves rings count new empty some = record {
       ring_count = rings;
@@ -57,15 +58,19 @@ module _ {W : Type 0} (work : Meaning W) where
     }
 
 range_next : (n : ℕ) → range_with_len 0 (n + 1) ≡ range_with_len 0 n ++ n ∷ []
-range_next n = sym (map-id (range_with_len 0 (n + 1))) ∙ (map-range_with_len_more (λ (x : ℕ). x) 0 n n (omega arith) ∙ ap (λ xs. xs ++ n ∷ []) (map-id (range_with_len 0 n)))
+range_next n = sym (map-id (range_with_len 0 (n + 1))) ∙ (map-range_with_len_more (λ (x : ℕ). x) 0 n n (omega arith)
+    ∙ ap (λ xs. xs ++ n ∷ []) (map-id (range_with_len 0 n)))
 
 module _ {X Y Z : Type 0} where
   -- one more of each of two lists
-  pub map_pushed : (f : X → Z) (h : Y → Z) (xs xs' : List X) (ys ys' : List Y) (x : X) (y : Y) → xs' ≡ xs ++ x ∷ [] → ys' ≡ ys ++ y ∷ [] → f x ≡ h y → map f xs ≡ map h ys → map f xs' ≡ map h ys'
+  pub map_pushed : (f : X → Z) (h : Y → Z) (xs xs' : List X) (ys ys' : List Y) (x : X) (y : Y) → xs' ≡ xs ++ x ∷ [] → ys' ≡ ys ++ y ∷ [] → f x ≡ h y
+      → map f xs ≡ map h ys → map f xs' ≡ map h ys'
   map_pushed f h xs xs' ys ys' x y a b e k =
-      ap (map f) a ∙ (map-append f xs (x ∷ []) ∙ (ap (λ zs. zs ++ f x ∷ []) k ∙ (ap (λ z. map h ys ++ z ∷ []) e ∙ (sym (map-append h ys (y ∷ [])) ∙ ap (map h) (sym b)))))
+      ap (map f) a ∙ (map-append f xs (x ∷ []) ∙ (ap (λ zs. zs ++ f x ∷ []) k
+          ∙ (ap (λ z. map h ys ++ z ∷ []) e ∙ (sym (map-append h ys (y ∷ [])) ∙ ap (map h) (sym b)))))
 
-pub numbered_pushed : {X : Type 0} (f : X → ℕ) (xs xs' : List X) (x : X) (n : ℕ) → xs' ≡ xs ++ x ∷ [] → f x ≡ n → map f xs ≡ range_with_len 0 n → map f xs' ≡ range_with_len 0 (n + 1)
+pub numbered_pushed : {X : Type 0} (f : X → ℕ) (xs xs' : List X) (x : X) (n : ℕ) → xs' ≡ xs ++ x ∷ [] → f x ≡ n → map f xs ≡ range_with_len 0 n
+    → map f xs' ≡ range_with_len 0 (n + 1)
 numbered_pushed f xs xs' x n a e k =
     ap (map f) a ∙ (map-append f xs (x ∷ []) ∙ (ap (λ zs. zs ++ f x ∷ []) k ∙ (ap (λ z. range_with_len 0 n ++ z ∷ []) e ∙ sym (range_next n))))
 
@@ -76,12 +81,14 @@ pub same_count : {X Y : Type 0} (f : X → Y) (h : X → ℕ) (zs : List Y) (xs 
 same_count f h zs xs n a b = ap length a ∙ (length-map xs f ∙ (sym (length-map xs h) ∙ (ap length b ∙ length-range_with_len 0 n)))
 
 module _ {W A : Type 0} {g : Ghosts W} where
-  pub all_opened : (rings : List (Ring A)) (cs : List (Client W A g)) (n : ℕ) → rings ≡ map ring_of cs → map server_of cs ≡ range_with_len 0 n → All (IsOpened rings) cs
+  pub all_opened : (rings : List (Ring A)) (cs : List (Client W A g)) (n : ℕ) → rings ≡ map ring_of cs → map server_of cs ≡ range_with_len 0 n
+      → All (IsOpened rings) cs
   all_opened rings cs n a b k d l =
       let count : length cs ≡ n = sym (length-map cs (server_of {W = W})) ∙ (ap length b ∙ length-range_with_len 0 n) in
       let c = get_or cs k d in
       let here : server_of c ≡ k =
       sym (at_map server_of cs k d 0 l) ∙ (ap (λ xs. get_or xs k 0) b ∙ (get_or-range_with_len 0 n k 0 (omega (arith, count, l)) ∙ zero-add k)) in
       let ring : slice_get (map ring_of cs) k ≡ Some (ring_of c) =
-      slice_get-get_or (map ring_of cs) k (ring_of c) (omega (arith, length-map cs (ring_of {W = W}), l)) ∙ ap (λ r. Some r) (at_map ring_of cs k d (ring_of c) l) in
+      slice_get-get_or (map ring_of cs) k (ring_of c) (omega (arith, length-map cs (ring_of {W = W}), l))
+          ∙ ap (λ r. Some r) (at_map ring_of cs k d (ring_of c) l) in
       ap (λ (x : ℕ). slice_get rings x) here ∙ (ap (λ rs. slice_get rs k) a ∙ ring)

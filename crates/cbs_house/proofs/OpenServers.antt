@@ -1,5 +1,6 @@
 -- How many servers are open.
-use Rattle.std.proofs.Common.{◌≡◌, ◌↔◌, ℕ, suc, ◌+◌, ◌<◌, ◌≤◌, Bool, true, false, not, cond, List, [], ◌∷◌, length, get_or, take, refl, ap, sym, ◌∙◌, arith, inl, inr}
+use Rattle.std.proofs.Common.{◌≡◌, ◌↔◌, ℕ, suc, ◌+◌, ◌<◌, ◌≤◌, Bool, true, false, not, cond, List, [], ◌∷◌, length, get_or, take, refl, ap, sym, ◌∙◌}
+use Rattle.std.proofs.Common.{arith, inl, inr}
 use Rattle.std.specs.Prelude.{IsTrue}
 use Rattle.std.specs.List.{count_by}
 use Rattle.std.proofs.lemmas.Bool.{cases_eq, cases_Bool, false≢true, not-true, not-false}
@@ -24,7 +25,8 @@ none_pass : (p : Face → Bool) (fs : List Face) (s : ℕ) → s < length fs →
 none_pass p fs s lt e = one_or_none (p (get_or fs s no_face)) (let l = get_or-le-sum_by (λ (f : Face). cond (p f) 1 0) fs s no_face lt in omega (arith, l, e))
 
 -- where something does, some element does: the first, or one of the rest
-first_passes : (p : Face → Bool) (f : Face) (fs : List Face) (b : Bool) → p f ≡ b → (0 < count_by p fs → (s : ℕ) × (s < length fs) × (p (get_or fs s no_face) ≡ true))
+first_passes : (p : Face → Bool) (f : Face) (fs : List Face) (b : Bool) → p f ≡ b
+    → (0 < count_by p fs → (s : ℕ) × (s < length fs) × (p (get_or fs s no_face) ≡ true))
     → 0 < cond b 1 0 + count_by p fs → (s : ℕ) × (s < length (f ∷ fs)) × (p (get_or (f ∷ fs) s no_face) ≡ true)
 first_passes p f fs true e rest lt = (0, omega arith, e)
 first_passes p f fs false e rest lt = let k = rest (omega (arith, lt)) in let l = k.1 in (suc k.0, omega (arith, l), k.2)
@@ -52,13 +54,15 @@ module _ {W : Type 0} (core : CoreHeld W) where
   pub none_counted : AllClosed core → open_servers core ≡ 0
   none_counted all = elim (cases_eq (open_servers core) 0) [
     | inl e ↦ e
-    | inr ne ↦ let k = some_open (omega (arith, ne)) in let closed = (all k.0 k.1.within).closed in let unclosed = k.1.unclosed in absurd (false≢true (sym unclosed ∙ closed))
+    | inr ne ↦ let k = some_open (omega (arith, ne)) in let closed =
+        (all k.0 k.1.within).closed in let unclosed = k.1.unclosed in absurd (false≢true (sym unclosed ∙ closed))
   ]
 
   -- one more server is looked at
   pub counted_open : (s : ℕ) (r : Bool) → (IsTrue r ↔ IsClosed core s) → s < length core.faces → r ≡ false
       → count_by (λ (f : Face). not f.closed) (take (s + 1) core.faces) ≡ count_by (λ (f : Face). not f.closed) (take s core.faces) + 1
-  counted_open s r h lt e = count_by_more_yes (λ (f : Face). not f.closed) core.faces s no_face lt (open_by (face_at core.faces s).closed r (IsClosed core s) (λ k. record { within = lt; closed = k }) h.1 e)
+  counted_open s r h lt e = count_by_more_yes (λ (f : Face). not f.closed) core.faces s no_face lt
+      (open_by (face_at core.faces s).closed r (IsClosed core s) (λ k. record { within = lt; closed = k }) h.1 e)
 
   pub counted_closed : (s : ℕ) (r : Bool) → (IsTrue r ↔ IsClosed core s) → s < length core.faces → r ≡ true
       → count_by (λ (f : Face). not f.closed) (take (s + 1) core.faces) ≡ count_by (λ (f : Face). not f.closed) (take s core.faces)
@@ -81,9 +85,11 @@ module _ {W : Type 0} (work : Meaning W) where
   closed_on M xs s h = holds_on work (λ now a. a.closed ≡ true) (λ now a ready k. k) (λ now a k. k) (λ now a k. refl) (λ now j a k. k) M xs s h
 
   closed_shows : (core : CoreHeld W) (M : History W) (s : ℕ) → Agrees work core M → (face_at core.faces s).closed ≡ (account_in work M s).closed
-  closed_shows core M s agrees = ap (λ fs. (face_at fs s).closed) agrees.world.shown ∙ ap (λ (f : Face). f.closed) (account_face work (world_after work M).accounts s)
+  closed_shows core M s agrees = ap (λ fs. (face_at fs s).closed) agrees.world.shown
+      ∙ ap (λ (f : Face). f.closed) (account_face work (world_after work M).accounts s)
 
-  stays_closed : (a b : CoreHeld W) (xs : List (Step W)) → HasHistory work a → Follows work a b xs → (s : ℕ) → (face_at a.faces s).closed ≡ true → (face_at b.faces s).closed ≡ true
+  stays_closed : (a b : CoreHeld W) (xs : List (Step W)) → HasHistory work a → Follows work a b xs → (s : ℕ) → (face_at a.faces s).closed ≡ true
+      → (face_at b.faces s).closed ≡ true
   stays_closed a b xs history follows s closed = elim (cases_Bool (face_at b.faces s).closed) [
     | inl e ↦ e
     | inr unclosed ↦ absurd (history (λ M agrees. false≢true
@@ -91,5 +97,6 @@ module _ {W : Type 0} (work : Meaning W) where
   ]
 
   -- steps leave no more servers open
-  pub opens_none : (a b : CoreHeld W) (xs : List (Step W)) → HasHistory work a → Follows work a b xs → length b.faces ≡ length a.faces → open_servers b ≤ open_servers a
+  pub opens_none : (a b : CoreHeld W) (xs : List (Step W)) → HasHistory work a → Follows work a b xs → length b.faces ≡ length a.faces
+      → open_servers b ≤ open_servers a
   opens_none a b xs history follows count = fewer_open a.faces b.faces count (λ s lt. stays_closed a b xs history follows s)

@@ -1,5 +1,6 @@
 -- Turns that a house takes by itself.
-use Rattle.std.proofs.Common.{◌≡◌, ◌≢◌, ◌⊎◌, ◌≤◌, ◌<◌, ℕ, ◌+◌, Bool, true, false, if◌then◌else◌, leb, List, Option, Some, None, Result, Ok, Err, ◌∷◌, [], ◌++◌, length, refl, ap, sym, ◌∙◌, arith, inl, inr, subst}
+use Rattle.std.proofs.Common.{◌≡◌, ◌≢◌, ◌⊎◌, ◌≤◌, ◌<◌, ℕ, ◌+◌, Bool, true, false, if◌then◌else◌, leb, List, Option, Some, None, Result, Ok, Err, ◌∷◌}
+use Rattle.std.proofs.Common.{[], ◌++◌, length, refl, ap, sym, ◌∙◌, arith, inl, inr, subst}
 use Rattle.std.specs.List.{list_any}
 use Rattle.std.specs.Prelude.{IfErr}
 use Rattle.std.proofs.lemmas.Bool.{cases_eq, cases_lt, cases_Bool, false≢true}
@@ -49,7 +50,8 @@ module _ {W A : Type 0} {g : Ghosts W} where
   collects_behind (ran.Done x) a b c same k = (k.0 ∙ ap (λ rs. rs ++ x.result ∷ []) (same x.server), λ s ne. k.1 s ne ∙ same s)
 
   -- the number of a completion, behind what left the results
-  pub numbered_behind : (r : Ran) (a b : House W A g) → ((s : ℕ) → results_of b s ≡ results_of a s) → ((s : ℕ) → handed_of b s ≡ handed_of a s) → IsNumbered r b → IsNumbered r a
+  pub numbered_behind : (r : Ran) (a b : House W A g) → ((s : ℕ) → results_of b s ≡ results_of a s) → ((s : ℕ) → handed_of b s ≡ handed_of a s)
+      → IsNumbered r b → IsNumbered r a
   numbered_behind ran.Idle a b same handed k = tt
   numbered_behind ran.ClockEnd a b same handed k = tt
   numbered_behind (ran.Unit t q) a b same handed k = tt
@@ -57,7 +59,8 @@ module _ {W A : Type 0} {g : Ghosts W} where
       k ∙ (ap (λ n. n + length (results_of b x.server)) (handed x.server) ∙ ap (λ rs. handed_of a x.server + length rs) (same x.server))
 
 -- which completion a run that is done tells
-picked : (c d : Completion) (stopped last : Bool) (t q : ℕ) → ran.Done c ≡ (if stopped then ran.ClockEnd else (if last then ran.Done d else ran.Unit t q)) → c ≡ d
+picked : (c d : Completion) (stopped last : Bool) (t q : ℕ) → ran.Done c ≡ (if stopped then ran.ClockEnd else (if last then ran.Done d else ran.Unit t q))
+    → c ≡ d
 picked c d true last t q e = absurd (cc e)
 picked c d false true t q e = cc e
 picked c d false false t q e = absurd (cc e)
@@ -81,7 +84,8 @@ module _ {W A : Type 0} {g : Ghosts W} (work : Meaning W) where
   ]
 
   -- a completion has the number of its place among the results
-  pub numbered : (h : House W A g) → Housed work h.core h.rings h.collector → (r : Ran) → ((M : History W) → Agrees work (core_of h) M → reply.Ran r ≡ reply_in work M Run) → IsNumbered r h
+  pub numbered : (h : House W A g) → Housed work h.core h.rings h.collector → (r : Ran)
+      → ((M : History W) → Agrees work (core_of h) M → reply.Ran r ≡ reply_in work M Run) → IsNumbered r h
   numbered h housed ran.Idle answer = tt
   numbered h housed ran.ClockEnd answer = tt
   numbered h housed (ran.Unit t q) answer = tt
@@ -90,12 +94,14 @@ module _ {W A : Type 0} {g : Ghosts W} (work : Meaning W) where
     | inr ne ↦ absurd (housed.history (λ M agrees.
         let w = world_after work M in
         let told : ran.Done c ≡ run_reply work w (chosen work w) = let e = answer M agrees in cc in
-        let shown : face_at (core_of h).faces c.server ≡ face_of work (account w.accounts c.server) = ap (λ fs. face_at fs c.server) agrees.world.shown ∙ account_face work w.accounts c.server in
+        let shown : face_at (core_of h).faces c.server ≡ face_of work (account w.accounts c.server) =
+            ap (λ fs. face_at fs c.server) agrees.world.shown ∙ account_face work w.accounts c.server in
         ne (done_number work w (chosen work w) c told ∙ (sym (ap (λ f. f.finished) shown) ∙ finished_results h housed c.server))))
   ]
 
 -- a run that is answered so stood at the clock's end
-not_at_end : (stopped last : Bool) (d : Completion) (t q : ℕ) → ran.ClockEnd ≡ (if stopped then ran.ClockEnd else (if last then ran.Done d else ran.Unit t q)) → stopped ≡ true
+not_at_end : (stopped last : Bool) (d : Completion) (t q : ℕ)
+    → ran.ClockEnd ≡ (if stopped then ran.ClockEnd else (if last then ran.Done d else ran.Unit t q)) → stopped ≡ true
 not_at_end true last d t q e = refl
 not_at_end false true d t q e = absurd (cc e)
 not_at_end false false d t q e = absurd (cc e)
@@ -119,12 +125,14 @@ module _ {W : Type 0} (work : Meaning W) where
   polls_now M first n [] p = refl
   polls_now M first n (Submit s job ∷ xs) p =
       polls_now (M ⊕ Submit s job) (s + 1) n xs p.2 ∙ submit_now (world_after work M) s job (submit_refusal M.setup.backlog (faces work (world_after work M)) s)
-  polls_now M first n (Close s ∷ xs) p = polls_now (M ⊕ Close s) (s + 1) n xs p.2 ∙ closing_now (world_after work M) s (close_refusal (faces work (world_after work M)) s)
+  polls_now M first n (Close s ∷ xs) p = polls_now (M ⊕ Close s) (s + 1) n xs p.2
+      ∙ closing_now (world_after work M) s (close_refusal (faces work (world_after work M)) s)
   polls_now M first n (Run ∷ xs) p = absurd p
   polls_now M first n (Advance m ∷ xs) p = absurd p
 
 module _ {W A : Type 0} {g : Ghosts W} (work : Meaning W) where
-  polled_clock : (a b : House W A g) (n k : ℕ) (m : Bool) → Housed work a.core a.rings a.collector → PollsEach work n a b k m → (core_of b).clock ≡ (core_of a).clock
+  polled_clock : (a b : House W A g) (n k : ℕ) (m : Bool) → Housed work a.core a.rings a.collector → PollsEach work n a b k m
+      → (core_of b).clock ≡ (core_of a).clock
   polled_clock a b n k m housed h = elim (cases_eq (core_of b).clock (core_of a).clock) [
     | inl e ↦ e
     | inr ne ↦ absurd (housed.history (λ M agrees. ne ((h.made.steps M agrees).world.clock ∙ (polls_now work M 0 n h.polls h.each ∙ sym agrees.world.clock))))
@@ -147,18 +155,22 @@ module _ {W A : Type 0} {g : Ghosts W} (work : Meaning W) where
 
   -- a turn makes steps of serving
   pub turn_serves : (a b : House W A g) (t : Turn) → TakesOwnTurn work a b t → ServesOn work a b
-  turn_serves a b t h = serves_then work a h.between b (serves_answered 0 a h.between h.polled.answers h.polled.answered) (serves_on h.between b t.ran t.advanced h.goes_on)
+  turn_serves a b t h = serves_then work a h.between b (serves_answered 0 a h.between h.polled.answers h.polled.answered)
+      (serves_on h.between b t.ran t.advanced h.goes_on)
 
   -- what leads to a poll without memory, and on from it
   pub lacked_behind : (a b c : House W A g) → ServesOn work a b → LackedMemory work b c → LackedMemory work a c
-  lacked_behind a b c h k = record { before = k.before; after = k.after; server = k.server; first = serves_then work a b k.before h k.first; polled = k.polled; rest = k.rest }
+  lacked_behind a b c h k = record { before = k.before; after = k.after; server = k.server;
+      first = serves_then work a b k.before h k.first; polled = k.polled; rest = k.rest }
 
   lacked_before : (a b c : House W A g) → LackedMemory work a b → ServesOn work b c → LackedMemory work a c
-  lacked_before a b c k h = record { before = k.before; after = k.after; server = k.server; first = k.first; polled = k.polled; rest = serves_then work k.after b c k.rest h }
+  lacked_before a b c k h = record { before = k.before; after = k.after; server = k.server; first = k.first; polled = k.polled;
+      rest = serves_then work k.after b c k.rest h }
 
   lacked : (s : ℕ) (a b : House W A g) (ps : List Poll) → Answered work s a ps b → list_any lacks_memory ps ≡ true → LackedMemory work a b
   lacked s a b [] h e = absurd (false≢true e)
-  lacked s a b (OutOfMemory ∷ ps) h e = record { before = a; after = h.0; server = s; first = serves_none work a; polled = h.1; rest = serves_answered (s + 1) h.0 b ps h.2 }
+  lacked s a b (OutOfMemory ∷ ps) h e = record { before = a; after = h.0; server = s; first = serves_none work a; polled = h.1;
+      rest = serves_answered (s + 1) h.0 b ps h.2 }
   lacked s a b (Nothing ∷ ps) h e = lacked_behind a h.0 b (serves_poll work a h.0 s Nothing h.1) (lacked (s + 1) h.0 b ps h.2 e)
   lacked s a b (Took q ∷ ps) h e = lacked_behind a h.0 b (serves_poll work a h.0 s (Took q) h.1) (lacked (s + 1) h.0 b ps h.2 e)
   lacked s a b (Closed ∷ ps) h e = lacked_behind a h.0 b (serves_poll work a h.0 s Closed h.1) (lacked (s + 1) h.0 b ps h.2 e)
@@ -168,14 +180,18 @@ module _ {W A : Type 0} {g : Ghosts W} (work : Meaning W) where
   -- where a turn tells of want of memory, one of its polls found none
   turn_lacked : (a b : House W A g) (t : Turn) → TakesOwnTurn work a b t → t.out_of_memory ≡ true → LackedMemory work a b
   turn_lacked a b t h e =
-      lacked_before a h.between b (lacked 0 a h.between h.polled.answers h.polled.answered (sym h.polled.memory ∙ e)) (serves_on h.between b t.ran t.advanced h.goes_on)
+      lacked_before a h.between b (lacked 0 a h.between h.polled.answers h.polled.answered (sym h.polled.memory ∙ e))
+          (serves_on h.between b t.ran t.advanced h.goes_on)
 
   -- a unit, or an advance, moves the clock
-  later_on : (a b : House W A g) (r : Ran) (n : ℕ) → Housed work a.core a.rings a.collector → GoesOn work a b r n → ((core_of a).clock < (core_of b).clock) ⊎ ((b ≡ a) × StaysBy r a)
+  later_on : (a b : House W A g) (r : Ran) (n : ℕ) → Housed work a.core a.rings a.collector → GoesOn work a b r n
+      → ((core_of a).clock < (core_of b).clock) ⊎ ((b ≡ a) × StaysBy r a)
   later_on a b r n housed (inl k) =
-      inl (later_by work a.core b.core Run housed.history k.0.made.steps (λ M agrees. let u = k.0.useful M agrees in run_later work M.setup.backlog (world_after work M) u.ready u.early))
+      inl (later_by work a.core b.core Run housed.history k.0.made.steps
+          (λ M agrees. let u = k.0.useful M agrees in run_later work M.setup.backlog (world_after work M) u.ready u.early))
   later_on a b r n housed (inr (inl k)) =
-      inl (later_by work a.core b.core (Advance n) housed.history k.0.made.steps (λ M agrees. let u = k.0.needed M agrees in advance_later work M.setup.backlog (world_after work M) n u.span u.early))
+      inl (later_by work a.core b.core (Advance n) housed.history k.0.made.steps
+          (λ M agrees. let u = k.0.needed M agrees in advance_later work M.setup.backlog (world_after work M) n u.span u.early))
   later_on a b r n housed (inr (inr k)) = inr (k.0, k.1)
 
   stays_idle : (r : Ran) (h : House W A g) → r ≢ ran.ClockEnd → StaysBy r h → HoldsNoJob (core_of h)

@@ -16,18 +16,22 @@ use Rattle.cbs_house.specs.RingEnds.{IsOpened}
 use Rattle.cbs_house.proofs.Places.{at_read, at_set_same, at_set_other, at_set_kept, shown}
 
 module _ {X : Type 0} where
+  -- a list is a prefix of itself
   pub prefix_refl : (xs : List X) → IsPrefix xs xs
   prefix_refl xs = ([], append-nil xs)
 
+  -- a prefix of a prefix is one
   pub prefix_along : (a b c : List X) → IsPrefix a b → IsPrefix b c → IsPrefix a c
   prefix_along a b c p q = (p.0 ++ q.0, sym (append_assoc a p.0 q.0) ∙ (ap (λ xs. xs ++ q.0) p.1 ∙ q.1))
 
+  -- equal lists
   pub prefix_same : (xs ys : List X) → ys ≡ xs → IsPrefix xs ys
   prefix_same xs ys e = ([], append-nil xs ∙ sym e)
 
 module _ {X Y : Type 0} where
   -- a write that extends what is shown at its place extends it at every place
-  pub at_set_longer : (f : X → List Y) (xs : List X) (i : ℕ) (x y : X) (s : ℕ) → i < length xs → y ≡ get_or xs i y → IsPrefix (f y) (f x) → IsPrefix (get_or (map f xs) s []) (get_or (map f (set xs i x)) s [])
+  pub at_set_longer : (f : X → List Y) (xs : List X) (i : ℕ) (x y : X) (s : ℕ) → i < length xs → y ≡ get_or xs i y → IsPrefix (f y) (f x)
+      → IsPrefix (get_or (map f xs) s []) (get_or (map f (set xs i x)) s [])
   at_set_longer f xs i x y s l r p =
       elim (cases_eq s i) [
         | inl e ↦

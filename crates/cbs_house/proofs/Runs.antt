@@ -29,7 +29,8 @@ module _ {W A S : Type 0} {g : Ghosts W} (work : Meaning W) (hears : S → Compl
   run_none a u = record { steps = serves_none work a; told = tells_none hears a a u (λ s. refl) }
 
   pub run_then : (a b c : House W A g) (u v w : S) → RunsTelling work hears a b u v → RunsTelling work hears b c v w → RunsTelling work hears a c u w
-  run_then a b c u v w h k = record { steps = serves_then work a b c h.steps k.steps; told = tells_both hears a b c u v w (serves_handed work a b h.steps) h.told k.told }
+  run_then a b c u v w h k = record { steps = serves_then work a b c h.steps k.steps;
+      told = tells_both hears a b c u v w (serves_handed work a b h.steps) h.told k.told }
 
 module _ {W A : Type 0} {g : Ghosts W} (work : Meaning W) where
   -- a run that stops behind another run stops the two
@@ -41,13 +42,15 @@ module _ {W A : Type 0} {g : Ghosts W} (work : Meaning W) where
   stops_behind a b c BadRing h k = k
   stops_behind a b c NoSuchServer h k = k
 
-  pub result_behind : {T : Type 0} (a b c : House W A g) (r : Result T HouseError) → ServesOn work a b → IfErr r (λ error. RunStops work error b c) → IfErr r (λ error. RunStops work error a c)
+  pub result_behind : {T : Type 0} (a b c : House W A g) (r : Result T HouseError) → ServesOn work a b → IfErr r (λ error. RunStops work error b c)
+      → IfErr r (λ error. RunStops work error a c)
   result_behind a b c (Ok x) h k = tt
   result_behind a b c (Err e) h k = stops_behind a b c e h k
 
 -- one more turn, where one is due, after others
 module _ {W A : Type 0} {g : Ghosts W} (work : Meaning W) (most : ℕ) where
-  due_more : (k m : ℕ) (a b c : House W A g) (ts : List Turn) (t : Turn) → TakesDueTurns work most k a ts b m → IsDue most m (core_of b) → TakesOwnTurn work b c t → turn_stop t ≡ None
+  due_more : (k m : ℕ) (a b c : House W A g) (ts : List Turn) (t : Turn) → TakesDueTurns work most k a ts b m → IsDue most m (core_of b)
+      → TakesOwnTurn work b c t → turn_stop t ≡ None
       → TakesDueTurns work most k a (ts ++ t ∷ []) c (idle_after m (core_of b) (core_of c))
   due_more k m a b c [] t h due taken well =
       let d : IsDue most k (core_of a) = rw (h.0, h.1) at due in
@@ -62,7 +65,8 @@ module _ {W A : Type 0} {g : Ghosts W} (work : Meaning W) (most : ℕ) where
       → RunsOn work most a c (idle_after m (core_of b) (core_of c))
   run_goes_on a b c m t h due taken well = record { turns = h.turns ++ t ∷ []; taken = due_more 0 m a b c h.turns t h.taken due taken well }
 
-module _ {W A : Type 0} {g : Ghosts W} (work : Meaning W) (most m : ℕ) (a b c : House W A g) (t : Turn) (run : RunsOn work most a b m) (due : IsDue most m (core_of b)) (taken : TakesOwnTurn work b c t) where
+module _ {W A : Type 0} {g : Ghosts W} (work : Meaning W) (most m : ℕ) (a b c : House W A g) (t : Turn) (run : RunsOn work most a b m)
+    (due : IsDue most m (core_of b)) (taken : TakesOwnTurn work b c t) where
   stopped : (error : HouseError) → turn_stop t ≡ Some error → IsStoppedBy work most error a c
   stopped error why = record { before = b; idle = m; run = run; due = due; turn = t; taken = taken; why = why }
 
@@ -99,7 +103,8 @@ abbrev pub left_of : {W : Type 0} → CoreHeld W → ℕ
 left_of core = (clock_end - core.clock) * 65 + open_servers core
 
 -- it is less after a turn that moved on
-pub less_left : {W : Type 0} (old new : CoreHeld W) → moves_on old new ≡ true → old.clock ≤ new.clock → new.clock ≤ clock_end → open_servers new ≤ open_servers old → open_servers new ≤ 64 → left_of new < left_of old
+pub less_left : {W : Type 0} (old new : CoreHeld W) → moves_on old new ≡ true → old.clock ≤ new.clock → new.clock ≤ clock_end
+    → open_servers new ≤ open_servers old → open_servers new ≤ 64 → left_of new < left_of old
 less_left old new e later within fewer few = elim (either old.clock new.clock (open_servers new) (open_servers old) e) [
   | inl lt ↦ omega (arith, lt, within, few)
   | inr lt ↦ omega (arith, lt, later)

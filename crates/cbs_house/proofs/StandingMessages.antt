@@ -1,5 +1,6 @@
 -- The messages that stand in a ring, as they are taken one by one.
-use Rattle.std.proofs.Common.{◌≡◌, ◌≢◌, ℕ, suc, ◌+◌, ◌<◌, get_or, true, Result, Ok, Err, OnOk, List, [], ◌∷◌, ◌++◌, length, refl, ap, sym, ◌∙◌, arith, inl, inr, length-append}
+use Rattle.std.proofs.Common.{◌≡◌, ◌≢◌, ℕ, suc, ◌+◌, ◌<◌, get_or, true, Result, Ok, Err, OnOk, List, [], ◌∷◌, ◌++◌, length, refl, ap, sym, ◌∙◌, arith}
+use Rattle.std.proofs.Common.{inl, inr, length-append}
 use Rattle.std.specs.Prelude.{MatchResult}
 use Rattle.std.proofs.Math.ListN.{set}
 use Rattle.std.specs.List.{All, AllWithin}
@@ -55,7 +56,8 @@ module _ {W : Type 0} where
 
 module _ {W A : Type 0} {g : Ghosts W} where
   -- what takes no message leaves what stands in the ring
-  pub standing_kept : (a b : House W A g) (c : Client W A g) (n : ℕ) → received b (server_of c) ≡ received a (server_of c) → IsPrefix (known a (server_of c)) (known b (server_of c)) → Standing a c n → Standing b c n
+  pub standing_kept : (a b : House W A g) (c : Client W A g) (n : ℕ) → received b (server_of c) ≡ received a (server_of c)
+      → IsPrefix (known a (server_of c)) (known b (server_of c)) → Standing a c n → Standing b c n
   standing_kept a b c n e p h = record {
     rest = h.rest;
     sent = h.sent ∙ ap (λ ms. ms ++ h.rest) (sym e);
@@ -67,7 +69,8 @@ module _ {W A : Type 0} {g : Ghosts W} where
   standing_at a c m n h e = rw e at h
 
   -- steps that take no message
-  standing_made : (work : Meaning W) (a b : House W A g) (c : Client W A g) (n : ℕ) (xs : List (Step W)) → Made work a b xs → messages_of (server_of c) xs ≡ [] → Standing a c n → Standing b c n
+  standing_made : (work : Meaning W) (a b : House W A g) (c : Client W A g) (n : ℕ) (xs : List (Step W)) → Made work a b xs
+      → messages_of (server_of c) xs ≡ [] → Standing a c n → Standing b c n
   standing_made work a b c n xs m e h =
       let s = server_of c in
       let r : received b s ≡ received a s = m.received s ∙ (ap (λ ms. received a s ++ ms) e ∙ append-nil (received a s)) in
@@ -77,7 +80,8 @@ module _ {W A : Type 0} {g : Ghosts W} where
   pub standing_looked : (work : Meaning W) (a b : House W A g) (c : Client W A g) (n : ℕ) → Made work a b [] → Standing a c n → Standing b c n
   standing_looked work a b c n m h = standing_made work a b c n [] m refl h
 
-  pub standing_moved : (work : Meaning W) (P : History W → Step W → Type 0) (a b : House W A g) (c : Client W A g) (n : ℕ) → Moves work P a b 0 → Standing a c n → Standing b c n
+  pub standing_moved : (work : Meaning W) (P : History W → Step W → Type 0) (a b : House W A g) (c : Client W A g) (n : ℕ) → Moves work P a b 0
+      → Standing a c n → Standing b c n
   standing_moved work P a b c n m h = standing_made work a b c n m.steps m.made (none_taken (server_of c) m.steps m.count) h
 
   -- the first of them is taken
@@ -98,22 +102,26 @@ module _ {W A : Type 0} {g : Ghosts W} where
       }
 
   standing_next : (a b : House W A g) (c : Client W A g) (n : ℕ) (m : Message W)
-      → received b (server_of c) ≡ received a (server_of c) ++ m ∷ [] → IsPrefix (known a (server_of c)) (m ∷ known b (server_of c)) → Standing a c (suc n) → Standing b c n
+      → received b (server_of c) ≡ received a (server_of c) ++ m ∷ [] → IsPrefix (known a (server_of c)) (m ∷ known b (server_of c))
+      → Standing a c (suc n) → Standing b c n
   standing_next a b c n m e p h = taken_first a b c n m h.rest e p h.sent h.seen h.count
 
   none_seen : (a : House W A g) (c : Client W A g) (n : ℕ) → known a (server_of c) ≡ [] → Standing a c (suc n) → ⊥
   none_seen a c n e h = let none = nothing_before h.rest (known a (server_of c)) h.seen e in let l = ap length none in let k = h.count in omega (arith, l, k)
 
-  none_behind : (a : House W A g) (c : Client W A g) (n : ℕ) (rest : List (Message W)) → has_end (received a (server_of c)) ≡ true → end_is_last (sent_by c) ≡ true → sent_by c ≡ received a (server_of c) ++ rest → length rest ≡ suc n → ⊥
+  none_behind : (a : House W A g) (c : Client W A g) (n : ℕ) (rest : List (Message W)) → has_end (received a (server_of c)) ≡ true
+      → end_is_last (sent_by c) ≡ true → sent_by c ≡ received a (server_of c) ++ rest → length rest ≡ suc n → ⊥
   none_behind a c n [] e l sent count = omega (arith, count)
   none_behind a c n (k ∷ rest) e l sent count = end_stands_last (received a (server_of c)) k rest e (ap end_is_last (sym sent) ∙ l)
 
   -- where nothing stands in the ring any more, all that was sent was received
   pub standing_none : (a : House W A g) (f : Feed W A g) → Standing a f.client 0 → IsTaken a f
-  standing_none a f h = ([], append-nil (sent_by f.client) ∙ (h.sent ∙ (ap (λ ms. received a (server_of f.client) ++ ms) (no_length h.rest h.count) ∙ append-nil (received a (server_of f.client)))))
+  standing_none a f h = ([], append-nil (sent_by f.client) ∙
+      (h.sent ∙ (ap (λ ms. received a (server_of f.client) ++ ms) (no_length h.rest h.count) ∙ append-nil (received a (server_of f.client)))))
 
   -- what was sent and received at least is what was received
-  pub settled_taken : (a b : House W A g) (e f : Feed W A g) (known : List (Message W)) → server_of f.client ≡ server_of e.client → sent_by f.client ≡ sent_by e.client
+  pub settled_taken : (a b : House W A g) (e f : Feed W A g) (known : List (Message W)) → server_of f.client ≡ server_of e.client
+      → sent_by f.client ≡ sent_by e.client
       → ((s : ℕ) → received b s ≡ received a s) → sent_by f.client ≡ received b (server_of f.client) ++ known → IsTaken a e → IsSettled b f
   settled_taken a b e f known server same looked lawful taken =
       let r = received b (server_of f.client) in
@@ -128,7 +136,8 @@ module _ {W A : Type 0} {g : Ghosts W} where
   taken_after : (a b : House W A g) (f : Feed W A g) → IsPrefix (received a (server_of f.client)) (received b (server_of f.client)) → IsTaken a f → IsTaken b f
   taken_after a b f p h = prefix_along (sent_by f.client) (received a (server_of f.client)) (received b (server_of f.client)) h p
 
-  pub all_taken_after : (a b : House W A g) (fs : List (Feed W A g)) → ((s : ℕ) → IsPrefix (received a s) (received b s)) → All (IsTaken a) fs → All (IsTaken b) fs
+  pub all_taken_after : (a b : House W A g) (fs : List (Feed W A g)) → ((s : ℕ) → IsPrefix (received a s) (received b s)) → All (IsTaken a) fs
+      → All (IsTaken b) fs
   all_taken_after a b fs p h = All-weaker (IsTaken a) (IsTaken b) (λ f k. taken_after a b f (p (server_of f.client)) k) fs h
 
   pub taken_looked : (a b : House W A g) (fs : List (Feed W A g)) → LooksOnly a b → All (IsTaken a) fs → All (IsTaken b) fs
@@ -144,11 +153,13 @@ module _ {W A : Type 0} {g : Ghosts W} where
   -- one more feed's messages are taken
   pub taken_more : (a b : House W A g) (fs : List (Feed W A g)) (i : ℕ) (f : Feed W A g) → i < length fs → ((s : ℕ) → IsPrefix (received a s) (received b s))
       → AllWithin (IsTaken a) fs 0 i → IsTaken b f → AllWithin (IsTaken b) (set fs i f) 0 (i + 1)
-  taken_more a b fs i f l p old new = AllWithin-more_set fs i f l (IsTaken b) (λ k d q r. let e = get_or fs k d in taken_after a b e (p (server_of e.client)) (old k d q r)) new
+  taken_more a b fs i f l p old new = AllWithin-more_set fs i f l (IsTaken b)
+      (λ k d q r. let e = get_or fs k d in taken_after a b e (p (server_of e.client)) (old k d q r)) new
 
   module _ (work : Meaning W) where
     -- a poll that finds memory and no full backlog takes the next message that stands in the ring
-    pub poll_takes : (a b : House W A g) (c : Client W A g) (p : Poll) → Housed work a.core a.rings a.collector → end_is_last (sent_by c) ≡ true → IsOpened (rings_of a) c
+    pub poll_takes : (a b : House W A g) (c : Client W A g) (p : Poll) → Housed work a.core a.rings a.collector → end_is_last (sent_by c) ≡ true
+        → IsOpened (rings_of a) c
         → Polled work a (server_of c) p b → p ≢ OutOfMemory → p ≢ Full → (n : ℕ) → Standing a c (suc n) → Standing b c n
     poll_takes a b c (Took q) housed last opened k memory few n h =
         let s = server_of c in
@@ -164,7 +175,8 @@ module _ {W A : Type 0} {g : Ghosts W} where
           | inl closed ↦ none_behind a c n h.rest (sym (housed.servers s k.1).closed ∙ closed) last h.sent h.count
           | inr none ↦ none_seen a c n (nothing_before (known a s) (known b s) (k.0.known s) none) h
         ])
-    poll_takes a b c NoSuchServer housed last opened k memory few n h = absurd (let l = opened_within (rings_of a) c opened in let r = housed.ring_count in omega (arith, l, r, k.1))
+    poll_takes a b c NoSuchServer housed last opened k memory few n h =
+        absurd (let l = opened_within (rings_of a) c opened in let r = housed.ring_count in omega (arith, l, r, k.1))
     poll_takes a b c Full housed last opened k memory few n h = absurd (few refl)
     poll_takes a b c OutOfMemory housed last opened k memory few n h = absurd (memory refl)
 

@@ -1,5 +1,6 @@
 -- What each call of a house and of a client does, as one relation between before, answer and after.
-use Rattle.std.specs.Prelude.{◌≡◌, ◌≢◌, ◌↔◌, ◌⊎◌, ℕ, ◌+◌, ◌-◌, ◌*◌, ◌^◌, ◌<◌, ◌≤◌, true, false, List, [], ◌∷◌, ◌++◌, length, slice_get, Option, IfSome, Result, IfOk, IfErr, OnOk, OnErr, IsOk, MatchOption, MatchResult}
+use Rattle.std.specs.Prelude.{◌≡◌, ◌≢◌, ◌↔◌, ◌⊎◌, ℕ, ◌+◌, ◌-◌, ◌*◌, ◌^◌, ◌<◌, ◌≤◌, true, false, List, [], ◌∷◌, ◌++◌, length, slice_get, Option}
+use Rattle.std.specs.Prelude.{IfSome, Result, IfOk, IfErr, OnOk, OnErr, IsOk, MatchOption, MatchResult}
 use Rattle.cbs_job.specs.Work.{Meaning}
 use Rattle.cbs_job.specs.declared.work.Work.{Ghosts}
 use Rattle.cbs_rules.specs.Rules.{clock_end}
@@ -17,7 +18,8 @@ use Rattle.cbs_steps.specs.declared.step.Step.TheVariants as step
 use Rattle.cbs_steps.specs.declared.view.ServerView.{ServerView}
 use Rattle.cbs_core.specs.Agreement.{Agrees}
 use Rattle.cbs_house.specs.Clients.{sent_by, free, slots_of, SameClient}
-use Rattle.cbs_house.specs.Houses.{core_of, rings_of, received, known, handed_of, results_of, IsHouseOnTime, view_answer, Made, SameHouse, Polled, Collects, NamesJob}
+use Rattle.cbs_house.specs.Houses.{core_of, rings_of, received, known, handed_of, results_of, IsHouseOnTime, view_answer, Made, SameHouse, Polled}
+use Rattle.cbs_house.specs.Houses.{Collects, NamesJob}
 use Rattle.cbs_house.specs.Messages.{jobs_among, has_end}
 use Rattle.cbs_house.specs.OwnTurns.{IsNumbered, TakesOwnTurn}
 use Rattle.cbs_house.specs.Rounds.{ServesOn}
@@ -87,7 +89,8 @@ module _ {W A : Type 0} {g : Ghosts W} where
 
   -- the idle span is told, or that somebody is ready
   abbrev pub SpanOf : Meaning W → House W A g → Option ℕ → Type 0
-  SpanOf work h span = (M : History W) → Agrees work (core_of h) M → MatchOption span (¬ IsAtRest work (world_after work M)) (IsIdleSpan work (world_after work M))
+  SpanOf work h span = (M : History W) → Agrees work (core_of h) M
+      → MatchOption span (¬ IsAtRest work (world_after work M)) (IsIdleSpan work (world_after work M))
 
   -- What server s shows is told, or that there is none. Where all is on time, a ready server's deadline is still to come.
   pub record ViewOf (work : Meaning W) (s : ℕ) (h : House W A g) (answer : Result ServerView HouseError) : Type 0 where

@@ -26,7 +26,8 @@ pub record KeepsServer {W : Type 0} (work : Meaning W) (h : Held W) (received : 
 pub record Housed {W A : Type 0} (work : Meaning W) (core : CoreHeld W) (rings : Rings W A) (collector : List Shelved) : Type 0 where
   pub ring_count : length (rings_in rings) ≡ length core.faces
   pub shelf_count : length collector ≡ length core.faces
-  pub servers : (s : ℕ) → s < length core.faces → KeepsServer work (held_at core s) (received_in rings s) (shelf_at collector s).handed (shelf_at collector s).results
+  pub servers : (s : ℕ) → s < length core.faces → KeepsServer work (held_at core s) (received_in rings s) (shelf_at collector s).handed
+      (shelf_at collector s).results
   pub announced : (s : ℕ) → s < length core.faces → (shelf_at collector s).announced ≡ (held_at core s).face.accepted
   pub history : HasHistory work core
   pub backlog : 0 < core.backlog

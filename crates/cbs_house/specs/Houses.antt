@@ -127,7 +127,8 @@ module _ {W A : Type 0} {g : Ghosts W} where
   -- server. Else the next message is popped: a job is accepted, as the number that it has among the jobs received; an end
   -- closes the server.
   abbrev pub Polled : Meaning W → House W A g → ℕ → Poll → House W A g → Type 0
-  Polled work old s Nothing new = Made work old new [] × (s < length (core_of old).faces) × (((face_at (core_of old).faces s).closed ≡ true) ⊎ (known new s ≡ []))
+  Polled work old s Nothing new = Made work old new [] × (s < length (core_of old).faces)
+      × (((face_at (core_of old).faces s).closed ≡ true) ⊎ (known new s ≡ []))
   Polled work old s Full new =
       Made work old new [] × IsOpen (core_of old) s × (0 < length (known new s)) × ((core_of old).backlog ≤ backlog_of (face_at (core_of old).faces s))
   Polled work old s OutOfMemory new = Made work old new [] × Accepts (core_of old) s × (0 < length (known new s))
@@ -146,7 +147,8 @@ module _ {W A : Type 0} {g : Ghosts W} where
   Collects ran.Idle old new = (s : ℕ) → results_of new s ≡ results_of old s
   Collects ran.ClockEnd old new = (s : ℕ) → results_of new s ≡ results_of old s
   Collects (ran.Unit t q) old new = (s : ℕ) → results_of new s ≡ results_of old s
-  Collects (ran.Done c) old new = (results_of new c.server ≡ results_of old c.server ++ c.result ∷ []) × ((s : ℕ) → s ≢ c.server → results_of new s ≡ results_of old s)
+  Collects (ran.Done c) old new = (results_of new c.server ≡ results_of old c.server ++ c.result ∷ [])
+      × ((s : ℕ) → s ≢ c.server → results_of new s ≡ results_of old s)
 
   -- of the jobs received for server s, that of number q comes to this result
   pub record ComesTo (work : Meaning W) (h : House W A g) (s q result : ℕ) : Type 0 where

@@ -31,4 +31,5 @@ module _ {W A S : Type 0} {g : Ghosts W} where
     pub completions : List Completion
     pub heard : HearsEach hears old completions new
     pub results : (s : ℕ) → results_of new_house s ≡ results_of old_house s ++ map (λ c. c.result) (completions_for s completions)
-    pub numbers : (s : ℕ) → map (λ c. c.seq) (completions_for s completions) ≡ range_with_len (result_count old_house s) (length (completions_for s completions))
+    pub numbers : (s : ℕ) → map (λ c. c.seq) (completions_for s completions)
+        ≡ range_with_len (result_count old_house s) (length (completions_for s completions))

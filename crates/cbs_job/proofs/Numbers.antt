@@ -7,6 +7,7 @@ use Rattle.std.proofs.lemmas.List.Sums.{sum_by-cons}
 use Rattle.cbs_job.specs.Work.{whole, output_after}
 use Rattle.cbs_job.specs.Numbers.{summing, peaking, IsPeak}
 
+-- a sum comes to what it has and all its numbers
 sum_whole : (ns : List ℕ) (total : ℕ) → whole summing (record { numbers = ns; output = total }) ≡ total + sum ns
 sum_whole [] total = omega arith
 sum_whole (n ∷ ns) total = sum_whole ns (total + n) ∙ omega (arith, sum_by-cons (λ m. m) n ns)
@@ -15,10 +16,12 @@ sum_whole (n ∷ ns) total = sum_whole ns (total + n) ∙ omega (arith, sum_by-c
 pub whole-summing : (ns : List ℕ) → whole summing (record { numbers = ns; output = 0 }) ≡ sum ns
 whole-summing ns = sum_whole ns 0 ∙ omega arith
 
+-- with no number left a sum stays
 sum_none : (k total : ℕ) → output_after summing k (record { numbers = []; output = total }) ≡ total
 sum_none zero total = refl
 sum_none (suc k) total = sum_none k total
 
+-- after k units it has the first k numbers
 sum_from : (k : ℕ) (ns : List ℕ) (total : ℕ) → output_after summing k (record { numbers = ns; output = total }) ≡ total + sum (take k ns)
 sum_from zero ns total = omega arith
 sum_from (suc k) [] total = sum_none k total ∙ omega arith
@@ -34,12 +37,15 @@ record IsPeakFrom (greatest : ℕ) (ns : List ℕ) (peak : ℕ) : Type 0 where
   bound : All (λ n. n ≤ peak) ns
   from : (peak ≡ greatest) ⊎ Contains ns peak
 
+-- the greater of two is one of them
 max_cases : (a b : ℕ) → (max a b ≡ a) ⊎ (max a b ≡ b)
 max_cases a b = elim (cases_lt a b) [ inl lt ↦ inr (omega arith) | inr ge ↦ inl (omega arith) ]
 
+-- what is in a list is in a longer one
 contains_later : (n : ℕ) (ns : List ℕ) (m : ℕ) → Contains ns m → Contains (n ∷ ns) m
 contains_later n ns m c = (suc c.0, omega (arith, c.1), c.2)
 
+-- with no number left a peak stays
 peak_none : (k greatest : ℕ) → output_after peaking k (record { numbers = []; output = greatest }) ≡ greatest
 peak_none zero greatest = refl
 peak_none (suc k) greatest = peak_none k greatest
@@ -57,18 +63,22 @@ peak_cons n ns greatest m r =
       ];
     }
 
+-- of no numbers the peak is the greatest so far
 peak_nil : (greatest m : ℕ) → m ≡ greatest → IsPeakFrom greatest [] m
 peak_nil greatest m e = record { above = omega (arith, e); bound = All-nil _; from = inl e }
 
+-- a peak comes to the greatest of all
 peak_from : (ns : List ℕ) (greatest : ℕ) → IsPeakFrom greatest ns (whole peaking (record { numbers = ns; output = greatest }))
 peak_from [] greatest = peak_nil greatest _ refl
 peak_from (n ∷ ns) greatest = peak_cons n ns greatest _ (peak_from ns (max greatest n))
 
+-- after k units it is the greatest of the first k
 peak_so_far : (k : ℕ) (ns : List ℕ) (greatest : ℕ) → IsPeakFrom greatest (take k ns) (output_after peaking k (record { numbers = ns; output = greatest }))
 peak_so_far zero ns greatest = peak_nil greatest _ refl
 peak_so_far (suc k) [] greatest = peak_nil greatest _ (peak_none k greatest)
 peak_so_far (suc k) (n ∷ ns) greatest = peak_cons n (take k ns) greatest _ (peak_so_far k ns (max greatest n))
 
+-- the peak of some numbers is one of them
 contains_peak : (ns : List ℕ) (m : ℕ) → IsPeakFrom 0 ns m → 0 < length ns → Contains ns m
 contains_peak [] m p some = absurd (omega arith)
 contains_peak (n ∷ ns) m p some = elim p.from [
@@ -76,6 +86,7 @@ contains_peak (n ∷ ns) m p some = elim p.from [
   | inr c ↦ c
 ]
 
+-- that of none is 0
 none_peak : (ns : List ℕ) (m : ℕ) → IsPeakFrom 0 ns m → ns ≡ [] → m ≡ 0
 none_peak [] m p e = elim p.from [ inl none ↦ none | inr c ↦ let lt : c.0 < 0 = c.1 in absurd (omega (arith, lt)) ]
 none_peak (n ∷ ns) m p e = let l : suc (length ns) ≡ 0 = ap length e in absurd (omega (arith, l))

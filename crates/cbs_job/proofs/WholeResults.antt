@@ -2,7 +2,9 @@
 use Rattle.std.proofs.Common.{◌≡◌, ℕ, zero, suc, ◌-◌, ◌<◌, refl, arith}
 use Rattle.cbs_job.specs.Work.{Meaning, Lowers, whole}
 
-whole_kept_at : {W : Type 0} (work : Meaning W) (n : ℕ) (w : W) → work.left w ≡ n → 0 < n → work.left (work.after w) ≡ n - 1 → whole work (work.after w) ≡ whole work w
+-- a unit leaves what a job comes to, by how many units are left
+whole_kept_at : {W : Type 0} (work : Meaning W) (n : ℕ) (w : W) → work.left w ≡ n → 0 < n → work.left (work.after w) ≡ n - 1
+    → whole work (work.after w) ≡ whole work w
 whole_kept_at work zero w e some f = absurd (omega arith)
 whole_kept_at work (suc m) w e some f = let f' : work.left (work.after w) ≡ m = omega arith in rw (e, f')
 

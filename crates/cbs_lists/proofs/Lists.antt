@@ -66,7 +66,8 @@ AllByRecursion-weaker P Q [] all k = tt
 AllByRecursion-weaker P Q (x ∷ xs) all k = (k x all.0, AllByRecursion-weaker P Q xs all.1 k)
 
 -- what holds of each, as each is mapped
-pub AllByRecursion-map : {X Y : Type 0} (P : X → Type 0) (Q : Y → Type 0) (f : X → Y) (xs : List X) → AllByRecursion P xs → ((x : X) → P x → Q (f x)) → AllByRecursion Q (map f xs)
+pub AllByRecursion-map : {X Y : Type 0} (P : X → Type 0) (Q : Y → Type 0) (f : X → Y) (xs : List X) → AllByRecursion P xs → ((x : X) → P x → Q (f x))
+    → AllByRecursion Q (map f xs)
 AllByRecursion-map P Q f [] all h = tt
 AllByRecursion-map P Q f (x ∷ xs) all h = (h x all.0, AllByRecursion-map P Q f xs all.1 h)
 
@@ -87,7 +88,8 @@ AllByRecursion-get P (x ∷ xs) zero d all lt = all.0
 AllByRecursion-get P (x ∷ xs) (suc i) d all lt = AllByRecursion-get P xs i d all.1 (omega arith)
 
 -- what holds of each, as one is changed
-pub AllByRecursion-changed_at : {X : Type 0} (P Q : X → Type 0) (f : X → X) (xs : List X) (i : ℕ) (d : X) → AllByRecursion P xs → ((x : X) → P x → Q x) → (P (get_or xs i d) → Q (f (get_or xs i d))) → AllByRecursion Q (changed_at f xs i)
+pub AllByRecursion-changed_at : {X : Type 0} (P Q : X → Type 0) (f : X → X) (xs : List X) (i : ℕ) (d : X) → AllByRecursion P xs → ((x : X) → P x → Q x)
+    → (P (get_or xs i d) → Q (f (get_or xs i d))) → AllByRecursion Q (changed_at f xs i)
 AllByRecursion-changed_at P Q f [] i d all k h = tt
 AllByRecursion-changed_at P Q f (x ∷ xs) zero d all k h = (h all.0, AllByRecursion-weaker P Q xs all.1 k)
 AllByRecursion-changed_at P Q f (x ∷ xs) (suc i) d all k h = (k x all.0, AllByRecursion-changed_at P Q f xs i d all.1 k h)
@@ -100,7 +102,8 @@ module _ {X Y : Type 0} (R : X → Y → Type 0) where
   AllZip-length _ _ all = absurd all
 
   -- a change at one place of both
-  pub AllZip-changed_at : (xs : List X) (ys : List Y) (i : ℕ) (d : X) (e : Y) (f : X → X) (g : Y → Y) → AllZip R xs ys → i < length xs → (R (get_or xs i d) (get_or ys i e) → R (f (get_or xs i d)) (g (get_or ys i e))) → AllZip R (changed_at f xs i) (changed_at g ys i)
+  pub AllZip-changed_at : (xs : List X) (ys : List Y) (i : ℕ) (d : X) (e : Y) (f : X → X) (g : Y → Y) → AllZip R xs ys → i < length xs
+      → (R (get_or xs i d) (get_or ys i e) → R (f (get_or xs i d)) (g (get_or ys i e))) → AllZip R (changed_at f xs i) (changed_at g ys i)
   AllZip-changed_at [] ys i d e f g all lt h = absurd (omega arith)
   AllZip-changed_at (x ∷ xs) [] i d e f g all lt h = absurd all
   AllZip-changed_at (x ∷ xs) (y ∷ ys) zero d e f g all lt h = (h all.0, all.1)
@@ -125,7 +128,8 @@ module _ {X Y : Type 0} (R : X → Y → Type 0) where
   AllZip-map g _ _ all h = absurd all
 
   -- one of the second list is changed, and its pair stands as it stood
-  pub AllZip-changed_second : (g : Y → Y) (xs : List X) (ys : List Y) (i : ℕ) → AllZip R xs ys → ((x : X) (y : Y) → R x y → R x (g y)) → AllZip R xs (changed_at g ys i)
+  pub AllZip-changed_second : (g : Y → Y) (xs : List X) (ys : List Y) (i : ℕ) → AllZip R xs ys → ((x : X) (y : Y) → R x y → R x (g y))
+      → AllZip R xs (changed_at g ys i)
   AllZip-changed_second g [] [] i all h = tt
   AllZip-changed_second g (x ∷ xs) (y ∷ ys) zero all h = (h x y all.0, all.1)
   AllZip-changed_second g (x ∷ xs) (y ∷ ys) (suc i) all h = (all.0, AllZip-changed_second g xs ys i all.1 h)

@@ -23,7 +23,8 @@ sum-mono f g (x ∷ xs) d h =
     omega (arith, sum_by-cons f x xs, sum_by-cons g x xs)
 
 -- a sum of lesser numbers, where a change of one gains something
-pub sum_changed : {X : Type 0} (f g : X → ℕ) (h : X → X) (xs : List X) (s gain : ℕ) (d : X) → s < length xs → ((i : ℕ) → i < length xs → f (get_or xs i d) ≤ g (get_or xs i d))
+pub sum_changed : {X : Type 0} (f g : X → ℕ) (h : X → X) (xs : List X) (s gain : ℕ) (d : X) → s < length xs
+    → ((i : ℕ) → i < length xs → f (get_or xs i d) ≤ g (get_or xs i d))
     → f (h (get_or xs s d)) + gain ≤ g (get_or xs s d) → sum_by f (changed_at h xs s) + gain ≤ sum_by g xs
 sum_changed f g h [] s gain d lt each here = absurd (omega arith)
 sum_changed f g h (x ∷ xs) zero gain d lt each here =

@@ -1,5 +1,6 @@
 -- What each server has taken in, as jobs come and go.
-use Rattle.std.proofs.Common.{◌≡◌, ℕ, zero, suc, ◌+◌, ◌*◌, ◌%◌, ◌^◌, ◌≤◌, ◌<◌, List, [], ◌∷◌, ◌++◌, length, length-append, get_or, set, drop, replicate, slice_get, Some, None, refl, ap, arith}
+use Rattle.std.proofs.Common.{◌≡◌, ℕ, zero, suc, ◌+◌, ◌*◌, ◌%◌, ◌^◌, ◌≤◌, ◌<◌, List, [], ◌∷◌, ◌++◌, length, length-append, get_or, set, drop}
+use Rattle.std.proofs.Common.{replicate, slice_get, Some, None, refl, ap, arith}
 use Rattle.std.proofs.lemmas.List.{length-map, map-append}
 use Rattle.std.proofs.lemmas.List.Sums.{sum_by-cons, sum_by-append}
 use Rattle.std.specs.List.{sum_by, AllByRecursion, AllZip}
@@ -64,7 +65,8 @@ module _ {W : Type 0} (work : Meaning W) where
   joined come [] total e few room h = record { counted = are_joined [] total come e tt; short = tt; few = omega arith }
   joined come (q ∷ queue) total e few room h = record {
     counted = are_joined (q ∷ queue) total come e h.counted;
-    short = rw (map-append (λ (queued : QueuedJob W). queued.job) queue (come ∷ [])) (AllByRecursion-push (λ job. work.left job ≤ 1000000) (jobs_of queue) come.job h.short few);
+    short = rw (map-append (λ (queued : QueuedJob W). queued.job) queue (come ∷ []))
+        (AllByRecursion-push (λ job. work.left job ≤ 1000000) (jobs_of queue) come.job h.short few);
     few = omega (arith, length-append queue (come ∷ []));
   }
 
@@ -85,8 +87,10 @@ module _ {W : Type 0} (work : Meaning W) where
   popped (q ∷ first ∷ queue) total h = let few = h.few in record { counted = h.counted.1; short = h.short.1; few = omega arith }
 
   -- a queue changes, and its total does not
-  counted_kept : (f : List (QueuedJob W) → List (QueuedJob W)) (queues : List (List (QueuedJob W))) (totals : List ℕ) (s : ℕ) → AllZip (IsCounted work) queues totals
-      → ((total : ℕ) → IsCounted work (list_at queues s) total → IsCounted work (f (list_at queues s)) total) → AllZip (IsCounted work) (changed_at f queues s) totals
+  counted_kept : (f : List (QueuedJob W) → List (QueuedJob W)) (queues : List (List (QueuedJob W))) (totals : List ℕ) (s : ℕ)
+      → AllZip (IsCounted work) queues totals
+      → ((total : ℕ) → IsCounted work (list_at queues s) total → IsCounted work (f (list_at queues s)) total)
+      → AllZip (IsCounted work) (changed_at f queues s) totals
   counted_kept f [] totals s all k = all
   counted_kept f (queue ∷ queues) [] s all k = absurd all
   counted_kept f (queue ∷ queues) (t ∷ totals) zero all k = (k t all.0, all.1)

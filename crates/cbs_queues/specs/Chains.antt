@@ -1,5 +1,6 @@
 -- The list of each server as a chain of keys in one slab.
-use Rattle.std.specs.Prelude.{◌≡◌, ℕ, zero, suc, ◌+◌, ◌-◌, ◌<◌, eqb, if◌then◌else◌, List, [], ◌∷◌, map, get_or, Option, Some, None, is_some, IsSome, count_by, slice_set}
+use Rattle.std.specs.Prelude.{◌≡◌, ℕ, zero, suc, ◌+◌, ◌-◌, ◌<◌, eqb, if◌then◌else◌, List, [], ◌∷◌, map, get_or, Option, Some, None, is_some, IsSome}
+use Rattle.std.specs.Prelude.{count_by, slice_set}
 use Rattle.std.specs.List.{sum_by}
 use Rattle.slab.specs.Slab.{Slab, slab_len}
 use Rattle.cbs_queues.specs.declared.chains.Node.{Node}

@@ -14,6 +14,7 @@ use Rattle.cbs_rate.proofs.Lists.{AllByRecursion-push, AllByRecursion-from_push}
 abbrev pub AllLawful : List Rate → Type 0
 AllLawful rates = AllByRecursion (λ r. IsRate r.budget r.period) rates
 
+-- a period is not 0
 pub period_some : (r : Rate) → IsRate r.budget r.period → 0 < r.period
 period_some r ok = let a = ok.some in let b = ok.within in omega arith
 
@@ -33,6 +34,7 @@ common_of_product m (r ∷ rs) =
     let rest = common_of_product (m * r.period) rs in
     (rw e (mul-mod_right r.period (m * all_periods rs)), rw f at rest)
 
+-- the product of all periods is a common multiple
 pub all_periods-common : (rates : List Rate) → IsCommonMultiple (all_periods rates) rates
 all_periods-common rates =
     let e : 1 * all_periods rates ≡ all_periods rates = omega arith in
@@ -47,6 +49,7 @@ common_from_test m (r ∷ rs) e = elim (eqb_tells (m % r.period) 0) [
   | inr h ↦ let f = rw h.0 at e in cc
 ]
 
+-- a common multiple passes the test
 test_from_common : (m : ℕ) (rates : List Rate) → IsCommonMultiple m rates → list_all (λ r. eqb (m % r.period) 0) rates ≡ true
 test_from_common m [] all = refl
 test_from_common m (r ∷ rs) all = elim (eqb_tells (m % r.period) 0) [
@@ -63,7 +66,8 @@ record IsFirst (rates : List Rate) (from found : ℕ) : Type 0 where
 -- one step of the search, by its test
 first_by_test : (rates : List Rate) (room from : ℕ) (b : Bool) → list_all (λ r. eqb (from % r.period) 0) rates ≡ b
     → (b ≡ false → IsFirst rates (from + 1) (common_multiple_from rates (from + 1) room)) → IsFirst rates from (common_multiple_from rates from (suc room))
-first_by_test rates room from true e rest = rw (e, common_multiple_from) (record { common = common_from_test from rates e; late = omega arith; least = λ k le _. le })
+first_by_test rates room from true e rest = rw (e, common_multiple_from)
+    (record { common = common_from_test from rates e; late = omega arith; least = λ k le _. le })
 first_by_test rates room from false e rest =
     let found = rest refl in
     rw (e, common_multiple_from) (record {
@@ -82,6 +86,7 @@ first_by_test rates room from false e rest =
           absurd cc
     ]
 
+-- a search up to a common multiple finds one
 first_found : (rates : List Rate) (room from some : ℕ) → IsCommonMultiple some rates → from ≤ some → some ≤ from + room
     → IsFirst rates from (common_multiple_from rates from room)
 first_found rates zero from some common low high =
@@ -111,6 +116,7 @@ common_multiple-least rates all =
       least = λ k some common. first.least k some common;
     }
 
+-- what is left of one common multiple by another is one
 common-mod : (m k : ℕ) (rates : List Rate) → IsCommonMultiple m rates → IsCommonMultiple k rates → IsCommonMultiple (k % m) rates
 common-mod m k [] a b = tt
 common-mod m k (r ∷ rs) a b =

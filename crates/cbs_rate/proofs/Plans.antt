@@ -1,5 +1,6 @@
 -- What an empty plan keeps, and a plan that is asked to take one rate more.
-use Rattle.std.proofs.Common.{◌≡◌, ℕ, ◌+◌, ◌*◌, ◌/◌, ◌≤◌, ◌<◌, [], ◌∷◌, ◌++◌, length, Bool, true, false, eqb, Some, None, arith, refl, inl, inr, ◌∙◌, length-append}
+use Rattle.std.proofs.Common.{◌≡◌, ℕ, ◌+◌, ◌*◌, ◌/◌, ◌≤◌, ◌<◌, [], ◌∷◌, ◌++◌, length, Bool, true, false, eqb, Some, None, arith, refl, inl, inr, ◌∙◌}
+use Rattle.std.proofs.Common.{length-append}
 use Rattle.std.specs.Prelude.{◌↔◌, if◌then◌else◌}
 use Rattle.std.specs.List.{sum_by}
 use Rattle.std.specs.Int.{IsGcd}
@@ -15,6 +16,7 @@ use Rattle.cbs_rate.proofs.Lists.{AllByRecursion-push}
 use Rattle.cbs_rate.proofs.Multiples.{AllLawful, common_multiple-nil, common_multiple-least, common_multiple-push}
 use Rattle.cbs_rate.proofs.Shares.{fits_common, at_most_one, sum_next, old_share-le, new_share-le}
 
+-- a plan with no server is one
 pub plan_empty : (bound : Fraction) → IsPlan (record { bound = bound; rates = [] })
 plan_empty bound = record {
   few = omega arith;
@@ -42,17 +44,21 @@ pub record IsAsked (p : Inside) (r : Rate) (budget period next : ℕ) : Type 0 w
   room : length p.rates.items < 64
 
 module _ {p : Inside} (r : Rate) (summed : IsSummed p) (ok : IsRate r.budget r.period) where
+  -- the reservations with one more are lawful
   lawful_next : AllLawful (p.rates.items ++ r ∷ [])
   lawful_next = AllByRecursion-push (λ x. IsRate x.budget x.period) p.rates.items r summed.plan.lawful ok
 
+  -- the common multiple with one more is the least
   pub least_next : IsLeastCommonMultiple (common_multiple (p.rates.items ++ r ∷ [])) (p.rates.items ++ r ∷ [])
   least_next = common_multiple-least (p.rates.items ++ r ∷ []) lawful_next
 
+  -- the common multiple is not 0
   pub common_some : 0 < p.common
   common_some = rw summed.common ((common_multiple-least p.rates.items summed.plan.lawful).some)
 
   -- the least common multiple, by way of the greatest common divisor
-  pub asked_of : {budget period next : ℕ} {full : Bool} → budget ≡ r.budget → period ≡ r.period → ((g : ℕ) × IsGcd p.common period g × (next ≡ p.common / g * period))
+  pub asked_of : {budget period next : ℕ} {full : Bool} → budget ≡ r.budget → period ≡ r.period
+      → ((g : ℕ) × IsGcd p.common period g × (next ≡ p.common / g * period))
       → full ≡ eqb (length p.rates.items) 64 → full ≡ false → IsAsked p r budget period next
   asked_of {full = full} budget_is period_is quotient full_is free = record {
     summed = summed;
@@ -66,9 +72,12 @@ module _ {p : Inside} (r : Rate) (summed : IsSummed p) (ok : IsRate r.budget r.p
   }
 
 module _ {p : Inside} {r : Rate} {budget period next : ℕ} (asked : IsAsked p r budget period next) where
+  -- what is taken stays within the common multiple
   pub taken-le : p.taken * (next / p.common) ≤ next
-  taken-le = rw (asked.summed.taken, asked.summed.common, asked.next_is) (old_share-le p.rates.items r asked.summed.plan.lawful asked.ok asked.summed.plan.at_most_one)
+  taken-le = rw (asked.summed.taken, asked.summed.common, asked.next_is)
+      (old_share-le p.rates.items r asked.summed.plan.lawful asked.ok asked.summed.plan.at_most_one)
 
+  -- so does what is added
   pub added-le : budget * (next / period) ≤ next
   added-le = rw (asked.budget_is, asked.period_is, asked.next_is) (new_share-le p.rates.items r asked.summed.plan.lawful asked.ok)
 
@@ -83,6 +92,7 @@ module _ {p : Inside} {r : Rate} {budget period next : ℕ} (asked : IsAsked p r
   fits_next =
       rw (taken_next, asked.next_is) (fits_common p.bound.num p.bound.den (p.rates.items ++ r ∷ []) (lawful_next r asked.summed asked.ok))
 
+  -- periods are refused where their common multiple is too great
   pub refusal_fine : 1_000_000_000_000_000_000 < next → admit_refusal (planned p) r ≡ Some PeriodsTooFine
   refusal_fine fine =
       let m : 1_000_000_000_000_000_000 < common_multiple (p.rates.items ++ r ∷ []) = rw asked.next_is at fine in
@@ -95,6 +105,7 @@ module _ {p : Inside} {r : Rate} {budget period next : ℕ} (asked : IsAsked p r
       let m : common_multiple (p.rates.items ++ r ∷ []) ≤ 1_000_000_000_000_000_000 = rw asked.next_is at coarse in
       rw (lt-leb 64 (length p.rates.items) asked.room, lt-leb 1_000_000_000_000_000_001 (common_multiple (p.rates.items ++ r ∷ [])) (omega arith), e) refl
 
+  -- a bandwidth over the bound is refused
   pub refusal_over : next ≤ 1_000_000_000_000_000_000 → ¬ (p.bound.den * (p.taken * (next / p.common) + budget * (next / period)) ≤ p.bound.num * next)
       → admit_refusal (planned p) r ≡ Some OverBound
   refusal_over coarse over = by_bound false coarse
@@ -103,12 +114,16 @@ module _ {p : Inside} {r : Rate} {budget period next : ℕ} (asked : IsAsked p r
         | inr ge ↦ absurd (over (fits_next.0 ge))
       ])
 
-  module _ (coarse : next ≤ 1_000_000_000_000_000_000) (within : p.bound.den * (p.taken * (next / p.common) + budget * (next / period)) ≤ p.bound.num * next) where
+  module _ (coarse : next ≤ 1_000_000_000_000_000_000) (within : p.bound.den * (p.taken * (next / p.common) + budget * (next / period))
+      ≤ p.bound.num * next) where
+    -- and else nothing is
     pub refusal_none : admit_refusal (planned p) r ≡ None
     refusal_none = by_bound true coarse (le-leb _ _ (fits_next.1 within))
 
+    -- the sums with one more are those of the plan
     pub summed_next : IsBound p.bound.num p.bound.den
-        → IsSummed (record { bound = p.bound; rates = record { items = p.rates.items ++ r ∷ [] }; common = next; taken = p.taken * (next / p.common) + budget * (next / period) })
+        → IsSummed (record { bound = p.bound; rates = record { items = p.rates.items ++ r ∷ [] }; common = next;
+        taken = p.taken * (next / p.common) + budget * (next / period) })
     summed_next bounded = record {
       plan =
           let fitting = fits_next.1 within in

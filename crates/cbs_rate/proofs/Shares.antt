@@ -20,6 +20,7 @@ quotient_scaled m n t some e =
     let g : t * (n * (m / t)) ≡ n * m = omega arith in
     rw g at q
 
+-- of n times as many parts the share is n times as great
 share_scaled : (m n : ℕ) (r : Rate) → IsRate r.budget r.period → m % r.period ≡ 0 → share (n * m) r ≡ n * share m r
 share_scaled m n r ok e =
     let d = mul-div_cancel' r.period {m = m} (dvd_of_mod-eq-zero r.period e) in
@@ -33,6 +34,7 @@ sum_scaled m n (r ∷ rs) all common =
     let rest = sum_scaled m n rs all.1 common.1 in
     rw (sum_by-cons (share (n * m)) r rs, sum_by-cons (share m) r rs, here, rest) (omega arith)
 
+-- a common factor may be left out
 cancel : (m a b : ℕ) → 0 < m → m * a ≤ m * b → a ≤ b
 cancel m a b some h = elim (cases_lt b a) [
   | inl lt ↦ let k = mul-le m (b + 1) m a (omega arith) (omega arith) in absurd (omega arith)
@@ -46,6 +48,7 @@ product_is rates all =
     (least-dvd (common_multiple rates) (all_periods rates) rates (common_multiple-least rates all) (all_periods-common rates)) in
     omega arith
 
+-- the product of all periods is a multiple of the least common one, not 0
 pub product_some : (rates : List Rate) → AllLawful rates → 0 < all_periods rates / common_multiple rates
 product_some rates all = elim (cases_lt 0 (all_periods rates / common_multiple rates)) [
   | inl lt ↦ lt
@@ -102,7 +105,8 @@ module _ (rates : List Rate) (r : Rate) (all : AllLawful rates) (ok : IsRate r.b
   period_divides : r.period * (common_multiple (rates ++ r ∷ []) / r.period) ≡ common_multiple (rates ++ r ∷ [])
   period_divides = mul-div_cancel' r.period {m = common_multiple (rates ++ r ∷ [])} (dvd_of_mod-eq-zero r.period common_next.1)
 
-  pub sum_next : sum_by (share (common_multiple rates)) rates * (common_multiple (rates ++ r ∷ []) / common_multiple rates) + share (common_multiple (rates ++ r ∷ [])) r
+  pub sum_next : sum_by (share (common_multiple rates)) rates * (common_multiple (rates ++ r ∷ []) / common_multiple rates)
+      + share (common_multiple (rates ++ r ∷ [])) r
       ≡ sum_by (share (common_multiple (rates ++ r ∷ []))) (rates ++ r ∷ [])
   sum_next =
       let n = common_multiple (rates ++ r ∷ []) / common_multiple rates in
@@ -111,7 +115,8 @@ module _ (rates : List Rate) (r : Rate) (all : AllLawful rates) (ok : IsRate r.b
       let g = rw f at e in
       rw (sum_by_push (share (common_multiple (rates ++ r ∷ []))) rates r, g) (omega arith)
 
-  pub old_share-le : total_share rates ≤ all_periods rates → sum_by (share (common_multiple rates)) rates * (common_multiple (rates ++ r ∷ []) / common_multiple rates) ≤ common_multiple (rates ++ r ∷ [])
+  pub old_share-le : total_share rates ≤ all_periods rates → sum_by (share (common_multiple rates)) rates *
+      (common_multiple (rates ++ r ∷ []) / common_multiple rates) ≤ common_multiple (rates ++ r ∷ [])
   old_share-le full =
       let n = common_multiple (rates ++ r ∷ []) / common_multiple rates in
       let fits = (fits_common 1 1 rates all).0 (omega arith) in

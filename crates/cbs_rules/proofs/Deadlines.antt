@@ -20,7 +20,8 @@ pub begun_after_replenishment : (r : Rate) (now : ℕ) (s : State) → 0 < s.dea
 begun_after_replenishment r now s begun = grind (arith, nat_tests)
 
 -- an arrival puts the deadline at most a period from now, where it was not later already
-pub deadline-arrived-le : (mode : Mode) (r : Rate) (now bound : ℕ) (s : State) → s.deadline ≤ bound → now + r.period ≤ bound → (after_arrival mode r now s).deadline ≤ bound
+pub deadline-arrived-le : (mode : Mode) (r : Rate) (now bound : ℕ) (s : State) → s.deadline ≤ bound → now + r.period ≤ bound
+    → (after_arrival mode r now s).deadline ≤ bound
 deadline-arrived-le mode r now bound s h i = grind (arith, nat_tests)
 
 -- a unit postpones the deadline by a period at most
@@ -29,5 +30,6 @@ deadline-consumed-le Soft r s = grind (arith, nat_tests)
 deadline-consumed-le Throttled r s = grind (arith, nat_tests)
 
 -- a replenishment postpones a deadline that has come, by one period: to at most a period from now
-pub deadline-replenished-le : (r : Rate) (now bound : ℕ) (s : State) → s.deadline ≤ bound → now + r.period ≤ bound → (after_replenishment r now s).deadline ≤ bound
+pub deadline-replenished-le : (r : Rate) (now bound : ℕ) (s : State) → s.deadline ≤ bound → now + r.period ≤ bound
+    → (after_replenishment r now s).deadline ≤ bound
 deadline-replenished-le r now bound s h i = grind (arith, nat_tests)

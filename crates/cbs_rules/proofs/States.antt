@@ -11,7 +11,8 @@ pub IsState-fresh_state : (r : Rate) → IsState r fresh_state
 IsState-fresh_state r = record { capped = omega arith; spent = λ e. refl; unspent = λ e some. absurd (omega arith); unbegun = λ e. refl; unmarked = λ e. refl }
 
 -- an arrival at an unthrottled server keeps it
-pub IsState-after_arrival : (mode : Mode) (r : Rate) (now : ℕ) (s : State) → IsRate r.budget r.period → IsState r s → s.throttled ≡ false → IsState r (after_arrival mode r now s)
+pub IsState-after_arrival : (mode : Mode) (r : Rate) (now : ℕ) (s : State) → IsRate r.budget r.period → IsState r s → s.throttled ≡ false
+    → IsState r (after_arrival mode r now s)
 IsState-after_arrival mode r now s ok is free = record {
   capped = let a = is.capped in grind (arith, nat_tests);
   spent = let a = is.spent in let b = is.unmarked in grind (arith, nat_tests);
@@ -21,7 +22,8 @@ IsState-after_arrival mode r now s ok is free = record {
 }
 
 -- a unit of an unthrottled server that has had its first deadline keeps it
-pub IsState-after_unit : (mode : Mode) (r : Rate) (s : State) → IsRate r.budget r.period → IsState r s → s.throttled ≡ false → 0 < s.deadline → IsState r (after_unit mode r s)
+pub IsState-after_unit : (mode : Mode) (r : Rate) (s : State) → IsRate r.budget r.period → IsState r s → s.throttled ≡ false → 0 < s.deadline
+    → IsState r (after_unit mode r s)
 IsState-after_unit Soft r s ok is free begun = record {
   capped = let a = is.capped in grind (arith, nat_tests);
   spent = let a = is.spent in grind (arith, nat_tests);

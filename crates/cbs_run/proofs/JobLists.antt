@@ -2,7 +2,8 @@
 use Rattle.std.proofs.Common.{◌≡◌, ℕ, ◌<◌, List, [], ◌∷◌, ◌++◌, length, map, get_or, replicate, set, refl, sym, ap, ◌∙◌, inl, inr, append_assoc, arith}
 use Rattle.std.proofs.lemmas.Bool.{cases_lt}
 use Rattle.std.proofs.lemmas.Bool.Decides.{eqb_tells}
-use Rattle.std.proofs.lemmas.List.{append-nil, get_or-map, get_or-replicate, get_or-set_same, get_or-set_other, get_or_past, length-map, length-replicate, map-set}
+use Rattle.std.proofs.lemmas.List.{append-nil, get_or-map, get_or-replicate, get_or-set_same, get_or-set_other, get_or_past, length-map}
+use Rattle.std.proofs.lemmas.List.{length-replicate, map-set}
 use Rattle.std.proofs.lemmas.List.Elements.{filter_map-append}
 use Rattle.cbs_job.specs.declared.file.FileJob.{FileJob}
 use Rattle.cbs_steps.specs.declared.step.Step.{Step}
@@ -33,13 +34,16 @@ module _ {X : Type 0} (jobs : X → List FileJob) (lists : List X) where
   pub job_listed : (i server s : ℕ) (x y : X) (job : FileJob) → i ≡ server → server < length lists → x ≡ get_or lists i x → jobs y ≡ jobs x ++ job ∷ []
       → get_or (map jobs (set lists i y)) s [] ≡ get_or (map jobs lists) s [] ++ jobs_for s (Submit server job ∷ [])
   job_listed i server s x y job same lt at pushed =
-      let was : jobs x ≡ get_or (map jobs lists) server [] = ap jobs at ∙ (ap (λ k. jobs (get_or lists k x)) same ∙ sym (get_or-map jobs lists server x [] lt)) in
+      let was : jobs x ≡ get_or (map jobs lists) server [] =
+          ap jobs at ∙ (ap (λ k. jobs (get_or lists k x)) same ∙ sym (get_or-map jobs lists server x [] lt)) in
       let is : jobs y ≡ get_or (map jobs lists) server [] ++ job ∷ [] = pushed ∙ ap (λ js. js ++ job ∷ []) was in
-      let written : map jobs (set lists i y) ≡ set (map jobs lists) server (get_or (map jobs lists) server [] ++ job ∷ []) = map-set jobs lists i y ∙ rw (same, is) refl in
+      let written : map jobs (set lists i y) ≡ set (map jobs lists) server (get_or (map jobs lists) server [] ++ job ∷ []) =
+          map-set jobs lists i y ∙ rw (same, is) refl in
       rw written (submit_listed (map jobs lists) server s job (omega (arith, length-map lists jobs)))
 
 -- a list has the jobs of one step more, and the jobs of the steps that are left are its others
-pub lists_on : (s : ℕ) (old new jobs : List FileJob) (x : Step FileJob) (xs steps : List (Step FileJob)) → steps ≡ x ∷ xs → new ≡ old ++ jobs_for s (x ∷ []) → old ++ jobs_for s steps ≡ jobs
+pub lists_on : (s : ℕ) (old new jobs : List FileJob) (x : Step FileJob) (xs steps : List (Step FileJob)) → steps ≡ x ∷ xs
+    → new ≡ old ++ jobs_for s (x ∷ []) → old ++ jobs_for s steps ≡ jobs
     → new ++ jobs_for s xs ≡ jobs
 lists_on s old new jobs x xs steps is more so_far =
     let parts : jobs_for s steps ≡ jobs_for s (x ∷ []) ++ jobs_for s xs = ap (jobs_for s) is ∙ filter_map-append (job_for s) (x ∷ []) xs in

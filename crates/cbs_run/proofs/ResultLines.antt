@@ -10,7 +10,8 @@ use Rattle.cbs_file.specs.TaskFiles.{File}
 
 module _ {X : Type 0} (view : X → List ℕ) (xs : List X) (i : ℕ) where
   -- one more line is written
-  pub line_more : (x : X) (text new all : List ℕ) → i < length xs → x ≡ get_or xs i x → new ≡ text ++ server_line i (view x) → text ++ lines_from i (map view (drop i xs)) ≡ all
+  pub line_more : (x : X) (text new all : List ℕ) → i < length xs → x ≡ get_or xs i x → new ≡ text ++ server_line i (view x)
+      → text ++ lines_from i (map view (drop i xs)) ≡ all
       → new ++ lines_from (i + 1) (map view (drop (i + 1) xs)) ≡ all
   unfolding lines_from
   line_more x text new all lt at wrote so_far =

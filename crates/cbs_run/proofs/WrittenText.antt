@@ -29,11 +29,13 @@ Appends-nothing None = tt
 Appends-nothing (Some xs) = sym (append-nil xs)
 
 -- ---- a text that is written part by part: all of it is written but the rest
-pub part_goes_on : (old mid new : Option (List ℕ)) (part more left text : List ℕ) → left ≡ part ++ more → AppendsAllBut old mid left text → Appends mid new part → AppendsAllBut old new more text
+pub part_goes_on : (old mid new : Option (List ℕ)) (part more left text : List ℕ) → left ≡ part ++ more → AppendsAllBut old mid left text
+    → Appends mid new part → AppendsAllBut old new more text
 part_goes_on old mid new part more left text is so_far wrote =
     (so_far.0 ++ part, Appends-then old mid new so_far.0 part so_far.1 wrote, append_assoc so_far.0 part more ∙ (ap (λ t. so_far.0 ++ t) (sym is) ∙ so_far.2))
 
-pub part_ends : (old mid new : Option (List ℕ)) (part more left text : List ℕ) → left ≡ part ++ more → AppendsAllBut old mid left text → AppendsFront mid new part → AppendsFront old new text
+pub part_ends : (old mid new : Option (List ℕ)) (part more left text : List ℕ) → left ≡ part ++ more → AppendsAllBut old mid left text
+    → AppendsFront mid new part → AppendsFront old new text
 part_ends old mid new part more left text is so_far (front, rest, wrote, parts) =
     let whole : left ≡ (front ++ rest) ++ more = is ∙ ap (λ t. t ++ more) parts in
     let regrouped : text ≡ (so_far.0 ++ front) ++ (rest ++ more) =
@@ -46,7 +48,8 @@ part_done old now left text none so_far =
     rw (← all) so_far.1
 
 -- one more part at the end waits
-pub waits_too : (old now : Option (List ℕ)) (waiting text part : List ℕ) → AppendsAllBut old now waiting text → AppendsAllBut old now (waiting ++ part) (text ++ part)
+pub waits_too : (old now : Option (List ℕ)) (waiting text part : List ℕ) → AppendsAllBut old now waiting text
+    → AppendsAllBut old now (waiting ++ part) (text ++ part)
 waits_too old now waiting text part so_far = (so_far.0, so_far.1, sym (append_assoc so_far.0 waiting part) ∙ ap (λ t. t ++ part) so_far.2)
 
 -- nothing was written yet, and all waits
@@ -58,6 +61,7 @@ pub front_more : (old new : Option (List ℕ)) (text part : List ℕ) → Append
 front_more old new text part (front, rest, wrote, parts) = (front, rest ++ part, wrote, ap (λ t. t ++ part) parts ∙ append_assoc front rest part)
 
 -- what waited is written, but for its end
-pub all_but_then : (old mid new : Option (List ℕ)) (waiting left text : List ℕ) → AppendsAllBut old mid waiting text → AppendsAllBut mid new left waiting → AppendsAllBut old new left text
+pub all_but_then : (old mid new : Option (List ℕ)) (waiting left text : List ℕ) → AppendsAllBut old mid waiting text → AppendsAllBut mid new left waiting
+    → AppendsAllBut old new left text
 all_but_then old mid new waiting left text (front, wrote, parts) (more, wrote_more, more_parts) =
     (front ++ more, Appends-then old mid new front more wrote wrote_more, append_assoc front more left ∙ (ap (λ t. front ++ t) more_parts ∙ parts))

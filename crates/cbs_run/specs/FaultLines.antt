@@ -13,7 +13,8 @@ read_line e = codes "cbsrun: read fault " ++ (decimal (read_error_number e) ++ (
 
 -- the line of a file's fault: its number, its name and its place
 unfoldable pub file_line : FileFault → List ℕ
-file_line f = codes "cbsrun: file fault " ++ (decimal (file_kind_number f.kind) ++ (codes " " ++ (file_kind_name f.kind ++ (codes " at " ++ (place_text f.place ++ codes "\n")))))
+file_line f = codes "cbsrun: file fault " ++ (decimal (file_kind_number f.kind)
+    ++ (codes " " ++ (file_kind_name f.kind ++ (codes " at " ++ (place_text f.place ++ codes "\n")))))
 
 -- the line of a run fault: its number and its name
 unfoldable pub run_line : RunError → List ℕ

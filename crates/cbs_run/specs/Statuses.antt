@@ -12,8 +12,10 @@ use Rattle.cbs_run.specs.declared.words.Verb.{Verb}
 -- a run over the bytes ended with the status, and left out and err so
 pub data Ends (verb : Verb) (bytes : List ℕ) (out out' err err' : Writer) : ℕ → Type 0 where
   done : (f : File) → file bytes ≡ Ok f → Writes out out' (output_of verb f) → IsUntouched err err' → Ends verb bytes out out' err err' 0
-  refused : (fault : FileFault) → (fault ≡ no_memory) ⊎ (file bytes ≡ Err fault) → IsUntouched out out' → TriesToWrite err err' (file_line fault) → Ends verb bytes out out' err err' 3
-  stopped : (f : File) (error : RunError) → file bytes ≡ Ok f → StopsShort verb f error out out' → TriesToWrite err err' (run_line error) → Ends verb bytes out out' err err' 4
+  refused : (fault : FileFault) → (fault ≡ no_memory) ⊎ (file bytes ≡ Err fault) → IsUntouched out out' → TriesToWrite err err' (file_line fault)
+      → Ends verb bytes out out' err err' 3
+  stopped : (f : File) (error : RunError) → file bytes ≡ Ok f → StopsShort verb f error out out' → TriesToWrite err err' (run_line error)
+      → Ends verb bytes out out' err err' 4
 
 -- the file wanted more memory than it may: nothing was written but the line of that
 abbrev pub LacksMemory : Writer → Writer → Writer → Writer → ℕ → Type 0

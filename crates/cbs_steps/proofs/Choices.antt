@@ -1,5 +1,6 @@
 -- The choice: by a scan, and in words of its own.
-use Rattle.std.proofs.Common.{◌≡◌, ℕ, zero, suc, ◌+◌, ◌≤◌, ◌<◌, Bool, true, false, List, length, refl, sym, arith, ltb, ◌||◌, ◌&&◌, not, inl, inr, Option, Some, None, below_more, subst, add-one, if◌then◌else◌}
+use Rattle.std.proofs.Common.{◌≡◌, ℕ, zero, suc, ◌+◌, ◌≤◌, ◌<◌, Bool, true, false, List, length, refl, sym, arith, ltb, ◌||◌, ◌&&◌, not, inl, inr}
+use Rattle.std.proofs.Common.{Option, Some, None, below_more, subst, add-one, if◌then◌else◌}
 use Rattle.std.proofs.Math.Bool.{and-false}
 use Rattle.std.proofs.lemmas.Bool.{cases_lt, cases_Bool}
 use Rattle.std.proofs.lemmas.Bool.Decides.{nat_tests}
@@ -70,7 +71,8 @@ before_itself : (ranks : List Rank) (i : ℕ) → is_before ranks i i ≡ true
 before_itself ranks i = grind (arith, nat_tests)
 
 -- a rank of an earlier deadline is before all that the other is before
-before_along : (ranks : List Rank) (i b r : ℕ) → (rank_at ranks i).deadline < (rank_at ranks b).deadline → is_before ranks b r ≡ true → is_before ranks i r ≡ true
+before_along : (ranks : List Rank) (i b r : ℕ) → (rank_at ranks i).deadline < (rank_at ranks b).deadline → is_before ranks b r ≡ true
+    → is_before ranks i r ≡ true
 before_along ranks i b r lt before = grind (arith, nat_tests)
 
 -- a server of a lower number and no later deadline is before the other
@@ -88,7 +90,8 @@ module _ (ranks : List Rank) (i : ℕ) where
   }
 
   -- the earliest so far stays where the next is not ready, or not of an earlier deadline
-  best_old : (b : ℕ) → IsEarliest ranks i b → ((rank_at ranks i).ready ≡ true → (rank_at ranks b).deadline ≤ (rank_at ranks i).deadline) → IsEarliest ranks (i + 1) b
+  best_old : (b : ℕ) → IsEarliest ranks i b → ((rank_at ranks i).ready ≡ true → (rank_at ranks b).deadline ≤ (rank_at ranks i).deadline)
+      → IsEarliest ranks (i + 1) b
   best_old b best le = record {
     within = let w = best.within in omega arith;
     ready = best.ready;

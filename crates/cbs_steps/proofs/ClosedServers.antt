@@ -35,8 +35,10 @@ module _ {W : Type 0} (work : Meaning W) where
   -- a closed server accepts nothing
   not_accepted : (M : History W) (s : ℕ) (job : W) (r : Reply W) → (account_in work M s).closed ≡ true → Answers work M (Submit s job) r → IsAccepted r → ⊥
   not_accepted M s job r h answers accepted =
-      let refusal = closed_refuses M.setup.backlog (faces work (world_after work M)) s (ap (λ (f : Face). f.closed) (account_face work (world_after work M).accounts s) ∙ h) in
-      let is : reply_in work M (Submit s job) ≡ reply.NotAccepted (record { error = refusal.0; task = job }) = ap (submit_reply (world_after work M) s job) refusal.1 in
+      let refusal = closed_refuses M.setup.backlog (faces work (world_after work M)) s
+          (ap (λ (f : Face). f.closed) (account_face work (world_after work M).accounts s) ∙ h) in
+      let is : reply_in work M (Submit s job) ≡ reply.NotAccepted (record { error = refusal.0; task = job }) =
+          ap (submit_reply (world_after work M) s job) refusal.1 in
       elim (cases_Bool (is_lack r)) [
         | inl t ↦ let p : HandsBack (Submit s job) r × IsAccepted (reply_in work M (Submit s job)) = rw t at answers in let e = accepted.1 in let k = p.0 in cc
         | inr f ↦ let p : r ≡ reply_in work M (Submit s job) = rw f at answers in let e = accepted.1 in cc
@@ -44,15 +46,18 @@ module _ {W : Type 0} (work : Meaning W) where
 
   -- the first account does not matter for a close further on
   tail_closing : (now : ℕ) (a : Account W) (accounts : List (Account W)) (s : ℕ) (o : Option CoreError)
-      → account (after_closing (record { now = now; accounts = a ∷ accounts }) (suc s) o).accounts (suc s) ≡ account (after_closing (record { now = now; accounts = accounts }) s o).accounts s
+      → account (after_closing (record { now = now; accounts = a ∷ accounts }) (suc s) o).accounts (suc s)
+      ≡ account (after_closing (record { now = now; accounts = accounts }) s o).accounts s
   tail_closing now a accounts s None = refl
   tail_closing now a accounts s (Some e) = refl
 
   -- after a close of server s, which may be refused, s is closed; a server that is not there counts as closed
-  closes_at : (now : ℕ) (accounts : List (Account W)) (s : ℕ) → (account (after_closing (record { now = now; accounts = accounts }) s (close_refusal (map (face_of work) accounts) s)).accounts s).closed ≡ true
+  closes_at : (now : ℕ) (accounts : List (Account W)) (s : ℕ)
+      → (account (after_closing (record { now = now; accounts = accounts }) s (close_refusal (map (face_of work) accounts) s)).accounts s).closed ≡ true
   closes_at now [] s = refl
   closes_at now (a ∷ accounts) zero = elim (cases_Bool a.closed) [ inl t ↦ rw t refl | inr f ↦ rw f refl ]
-  closes_at now (a ∷ accounts) (suc s) = ap (λ (b : Account W). b.closed) (tail_closing now a accounts s (close_refusal (map (face_of work) accounts) s)) ∙ closes_at now accounts s
+  closes_at now (a ∷ accounts) (suc s) = ap (λ (b : Account W). b.closed)
+      (tail_closing now a accounts s (close_refusal (map (face_of work) accounts) s)) ∙ closes_at now accounts s
 
   -- after an answered close of t, server s is closed where it was closed before, or where t is s
   close_grown : (M : History W) (t s : ℕ) (r : Reply W) (closed : Bool) → (closed ≡ true → (account_in work M s).closed ≡ true) → Answers work M (Close t) r
@@ -68,16 +73,20 @@ module _ {W : Type 0} (work : Meaning W) where
   ]
 
   -- answered by the rules, no submit to a closed server is accepted
-  pub NoneAfterClose-all : (M : History W) (xs : List (Step W)) (rs : List (Reply W)) (s : ℕ) (closed : Bool) → AnswersAll work M xs rs → (closed ≡ true → (account_in work M s).closed ≡ true) → NoneAfterClose s closed xs rs
+  pub NoneAfterClose-all : (M : History W) (xs : List (Step W)) (rs : List (Reply W)) (s : ℕ) (closed : Bool) → AnswersAll work M xs rs
+      → (closed ≡ true → (account_in work M s).closed ≡ true) → NoneAfterClose s closed xs rs
   NoneAfterClose-all M [] rs s closed all h = tt
   NoneAfterClose-all M (x ∷ xs) [] s closed all h = absurd all
   NoneAfterClose-all M (Submit t job ∷ xs) (r ∷ rs) s closed all h =
-      ((λ y same accepted. not_accepted M t job r (rw same (h y)) all.0 accepted), NoneAfterClose-all (grown M (Submit t job) r) xs rs s closed all.1 (λ y. closed_grown M (Submit t job) r s (h y)))
-  NoneAfterClose-all M (Close t ∷ xs) (r ∷ rs) s closed all h = NoneAfterClose-all (grown M (Close t) r) xs rs s (closed || eqb t s) all.1 (close_grown M t s r closed h all.0)
+      ((λ y same accepted. not_accepted M t job r (rw same (h y)) all.0 accepted),
+          NoneAfterClose-all (grown M (Submit t job) r) xs rs s closed all.1 (λ y. closed_grown M (Submit t job) r s (h y)))
+  NoneAfterClose-all M (Close t ∷ xs) (r ∷ rs) s closed all h =
+      NoneAfterClose-all (grown M (Close t) r) xs rs s (closed || eqb t s) all.1 (close_grown M t s r closed h all.0)
   NoneAfterClose-all M (x ∷ xs) (r ∷ rs) s closed all h = NoneAfterClose-all (grown M x r) xs rs s closed all.1 (λ y. closed_grown M x r s (h y))
 
   -- the rules never answer by want of memory
-  no_lack : (w : World W) (s : ℕ) (job : W) (o : Option CoreError) → ((e : CoreError) → Some e ≡ o → is_out_of_memory e ≡ false) → is_lack (submit_reply w s job o) ≡ false
+  no_lack : (w : World W) (s : ℕ) (job : W) (o : Option CoreError) → ((e : CoreError) → Some e ≡ o → is_out_of_memory e ≡ false)
+      → is_lack (submit_reply w s job o) ≡ false
   no_lack w s job None named = refl
   no_lack w s job (Some e) named = named e refl
 

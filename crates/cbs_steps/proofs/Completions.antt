@@ -1,5 +1,6 @@
 -- The completions of a server: they go on from its finished jobs.
-use Rattle.std.proofs.Common.{◌≡◌, ℕ, zero, suc, ◌+◌, ◌≤◌, ◌<◌, true, List, [], ◌∷◌, ◌++◌, length, map, take, drop, get_or, eqb, leb, refl, sym, ◌∙◌, ap, arith, Option, Some, None, inl, inr, length-append, length-drop, append_assoc, append-nil}
+use Rattle.std.proofs.Common.{◌≡◌, ℕ, zero, suc, ◌+◌, ◌≤◌, ◌<◌, true, List, [], ◌∷◌, ◌++◌, length, map, take, drop, get_or, eqb, leb, refl, sym, ◌∙◌}
+use Rattle.std.proofs.Common.{ap, arith, Option, Some, None, inl, inr, length-append, length-drop, append_assoc, append-nil}
 use Rattle.std.proofs.Math.Seq.{take-add}
 use Rattle.std.proofs.lemmas.Bool.{cases_Bool}
 use Rattle.std.proofs.lemmas.List.{map-append, length-map, drop-drop, drop-append-le, take-append-le, drop_more}
@@ -42,9 +43,11 @@ part_of_one k xs lt = rw (drop_more xs k 0 lt)
 
 module _ {W : Type 0} where
   -- the completions among replies, and one more reply
-  pub completions_of-push : (s : ℕ) (rs : List (Reply W)) (r : Reply W) → completions_of s (rs ++ r ∷ []) ≡ completions_of s rs ++ completion_of s (completion_in r)
+  pub completions_of-push : (s : ℕ) (rs : List (Reply W)) (r : Reply W)
+      → completions_of s (rs ++ r ∷ []) ≡ completions_of s rs ++ completion_of s (completion_in r)
   completions_of-push s [] r = append-nil (completion_of s (completion_in r))
-  completions_of-push s (q ∷ rs) r = ap (λ cs. completion_of s (completion_in q) ++ cs) (completions_of-push s rs r) ∙ sym (append_assoc (completion_of s (completion_in q)) (completions_of s rs) (completion_of s (completion_in r)))
+  completions_of-push s (q ∷ rs) r = ap (λ cs. completion_of s (completion_in q) ++ cs) (completions_of-push s rs r)
+      ∙ sym (append_assoc (completion_of s (completion_in q)) (completions_of s rs) (completion_of s (completion_in r)))
 
 module _ {W : Type 0} (work : Meaning W) where
   -- with no step there is no completion
@@ -56,10 +59,13 @@ module _ {W : Type 0} (work : Meaning W) where
   Completes-append a b c cs ds h k =
       let n = length-append cs ds in
       let f = finished work a in
-      let wholes : map (whole work) c.accepted ≡ map (whole work) b.accepted ++ map (whole work) k.jobs.0 = ap (map (whole work)) k.jobs.1 ∙ map-append (whole work) b.accepted k.jobs.0 in
-      let within : f + length cs ≤ length (map (whole work) b.accepted) = let e = h.finished in omega (arith, length-map b.accepted (whole work), count_done-le work.left b.accepted b.got) in
+      let wholes : map (whole work) c.accepted ≡ map (whole work) b.accepted ++ map (whole work) k.jobs.0 =
+          ap (map (whole work)) k.jobs.1 ∙ map-append (whole work) b.accepted k.jobs.0 in
+      let within : f + length cs ≤ length (map (whole work) b.accepted) =
+          let e = h.finished in omega (arith, length-map b.accepted (whole work), count_done-le work.left b.accepted b.got) in
       let X = map (whole work) c.accepted in
-      let first : take (length cs) (drop f X) ≡ map (λ (d : Completion). d.result) cs = rw wholes (part_of_more f (length cs) (map (whole work) b.accepted) (map (whole work) k.jobs.0) within) ∙ sym h.results in
+      let first : take (length cs) (drop f X) ≡ map (λ (d : Completion). d.result) cs =
+          rw wholes (part_of_more f (length cs) (map (whole work) b.accepted) (map (whole work) k.jobs.0) within) ∙ sym h.results in
       let second : take (length ds) (drop (f + length cs) X) ≡ map (λ (d : Completion). d.result) ds = rw (← h.finished) (sym k.results) in
       let both : take (length cs + length ds) (drop f X) ≡ map (λ (d : Completion). d.result) cs ++ map (λ (d : Completion). d.result) ds =
       take-add (length cs) (length ds) (drop f X) ∙ rw (first, drop-drop (length cs) f X, second) refl in
@@ -88,9 +94,11 @@ module _ {W : Type 0} (work : Meaning W) where
     pub result : c.result ≡ get_or (map (whole work) a.accepted) c.seq 0
 
   -- a unit that completes a job tells the number and the whole result of the next unfinished one
-  unit_is : (a : Account W) (s : ℕ) (c : Completion) → Some c ≡ completion_ran (unit_reply work a s) → c ≡ record { server = s; seq = finished work a; result = get_or (map (whole work) a.accepted) (finished work a) 0 }
+  unit_is : (a : Account W) (s : ℕ) (c : Completion) → Some c ≡ completion_ran (unit_reply work a s)
+      → c ≡ record { server = s; seq = finished work a; result = get_or (map (whole work) a.accepted) (finished work a) 0 }
   unit_is a s c e = elim (cases_Bool (eqb (need work a (finished work a + 1)) (a.got + 1))) [
-    | inl t ↦ let k : Some c ≡ Some (record { server = s; seq = finished work a; result = get_or (map (whole work) a.accepted) (finished work a) 0 }) = rw t at e in cc
+    | inl t ↦ let k : Some c ≡ Some (record { server = s; seq = finished work a;
+        result = get_or (map (whole work) a.accepted) (finished work a) 0 }) = rw t at e in cc
     | inr f ↦ let k : Some c ≡ None = rw f at e in cc
   ]
 
@@ -99,7 +107,8 @@ module _ {W : Type 0} (work : Meaning W) where
   active_within a ready = (runnable (face_of work a) ready).active
 
   -- so does a run
-  run_tells : (w : World W) (o : Option ℕ) (c : Completion) → ((s : ℕ) → o ≡ Some s → is_ready (face_of work (account w.accounts s)) ≡ true) → Some c ≡ completion_ran (run_reply work w o) → Tells (account w.accounts c.server) c
+  run_tells : (w : World W) (o : Option ℕ) (c : Completion) → ((s : ℕ) → o ≡ Some s → is_ready (face_of work (account w.accounts s)) ≡ true)
+      → Some c ≡ completion_ran (run_reply work w o) → Tells (account w.accounts c.server) c
   run_tells w None c ready e = cc
   run_tells w (Some s) c ready e = elim (cases_Bool (leb clock_end w.now)) [
     | inl t ↦ let k : Some c ≡ None = rw t at e in cc
@@ -123,7 +132,8 @@ module _ {W : Type 0} (work : Meaning W) where
   reply_tells : (M : History W) (x : Step W) (c : Completion) → Some c ≡ completion_in (reply_in work M x) → Tells (account_in work M c.server) c
   reply_tells M (Submit s job) c e = let n = submit_none (world_after work M) s job (submit_refusal M.setup.backlog (faces work (world_after work M)) s) in cc
   reply_tells M Run c e = run_tells (world_after work M) (chosen work (world_after work M)) c (chosen_is_ready work (world_after work M)) e
-  reply_tells M (Advance n) c e = elim (cases_Bool (leb ((world_after work M).now + n) clock_end)) [ inl t ↦ let k : Some c ≡ None = rw t at e in cc | inr f ↦ let k : Some c ≡ None = rw f at e in cc ]
+  reply_tells M (Advance n) c e = elim (cases_Bool (leb ((world_after work M).now + n) clock_end))
+      [ inl t ↦ let k : Some c ≡ None = rw t at e in cc | inr f ↦ let k : Some c ≡ None = rw f at e in cc ]
   reply_tells M (Close s) c e = let n = close_none (close_refusal (faces work (world_after work M)) s) in cc
 
   -- no completion is told by a reply that says that memory refused a submit
@@ -132,7 +142,8 @@ module _ {W : Type 0} (work : Meaning W) where
   lack_none _ e = refl
 
   -- so does each answer: want of memory completes no job
-  pub answer_tells : (M : History W) (x : Step W) (r : Reply W) (c : Completion) → Answers work M x r → Some c ≡ completion_in r → Tells (account_in work M c.server) c
+  pub answer_tells : (M : History W) (x : Step W) (r : Reply W) (c : Completion) → Answers work M x r → Some c ≡ completion_in r
+      → Tells (account_in work M c.server) c
   answer_tells M x r c answers e = elim (cases_Bool (is_lack r)) [
     | inl t ↦ let n = lack_none r t in cc
     | inr f ↦ let same : r ≡ reply_in work M x = rw f at answers in reply_tells M x c (e ∙ ap completion_in same)
@@ -145,10 +156,12 @@ module _ {W : Type 0} (work : Meaning W) where
       → Completes work (account_in work M s) (account_in work (grown_by M (xs ++ x ∷ []) (rs ++ r ∷ [])) s) (completions_of s (rs ++ r ∷ []))
   completes_more M xs rs x r s all before now =
       rw (grown_by-push work M xs rs x r all, completions_of-push s rs r)
-      (Completes-append (account_in work M s) (account_in work (grown_by M xs rs) s) (account_in work (grown (grown_by M xs rs) x r) s) (completions_of s rs) (completion_of s (completion_in r)) before now)
+      (Completes-append (account_in work M s) (account_in work (grown_by M xs rs) s) (account_in work (grown (grown_by M xs rs) x r) s)
+          (completions_of s rs) (completion_of s (completion_in r)) before now)
 
   -- the replies to a list with one step more are those to the list, and then one
-  replies_after-push : (M : History W) (xs : List (Step W)) (x : Step W) → replies_after work M (xs ++ x ∷ []) ≡ replies_after work M xs ++ reply_in work (M ⊕⊕ xs) x ∷ []
+  replies_after-push : (M : History W) (xs : List (Step W)) (x : Step W)
+      → replies_after work M (xs ++ x ∷ []) ≡ replies_after work M xs ++ reply_in work (M ⊕⊕ xs) x ∷ []
   replies_after-push M [] x = refl
   replies_after-push M (y ∷ xs) x = ap (λ rs. reply_in work M y ∷ rs) (replies_after-push (M ⊕ y) xs x)
 
@@ -165,4 +178,5 @@ module _ {W : Type 0} (work : Meaning W) where
   steps_complete M xs x s before now =
       let N = M ⊕⊕ xs in
       rw (after-push M xs x, replies_after-push M xs x, completions_of-push s (replies_after work M xs) (reply_in work N x))
-      (Completes-append (account_in work M s) (account_in work N s) (account_in work (N ⊕ x) s) (completions_of s (replies_after work M xs)) (completion_of s (completion_in (reply_in work N x))) before now)
+      (Completes-append (account_in work M s) (account_in work N s) (account_in work (N ⊕ x) s)
+          (completions_of s (replies_after work M xs)) (completion_of s (completion_in (reply_in work N x))) before now)

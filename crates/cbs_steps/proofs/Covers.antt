@@ -50,7 +50,8 @@ module _ (r : Rate) (n b got : ℕ) (s : State) where
   replenished (suc k) some paid none u d = record { periods = k; units = omega arith; by = omega arith }
 
   -- so does a replenishment
-  pub covered_replenishment : (now : ℕ) → 0 < r.budget → got ≤ n → (s.throttled ≡ true → s.budget ≡ 0) → IsCovered r n b got s → IsCovered r n b got (after_replenishment r now s)
+  pub covered_replenishment : (now : ℕ) → 0 < r.budget → got ≤ n → (s.throttled ≡ true → s.budget ≡ 0) → IsCovered r n b got s
+      → IsCovered r n b got (after_replenishment r now s)
   covered_replenishment now some paid spent c = elim (cases_Bool (s.throttled && leb s.deadline now)) [
     | inl t ↦ let marked : s.throttled ≡ true = grind (arith, nat_tests) in rw t (replenished c.periods some paid (spent marked) c.units c.by)
     | inr f ↦ rw f c
@@ -64,7 +65,8 @@ module _ (r : Rate) (n b got : ℕ) (s : State) where
       record { periods = c.periods + m; units = omega arith; by = omega arith }
 
   -- so they do where nothing is owed, and a job comes in
-  pub covered_arrival : (mode : Mode) (now m : ℕ) → got ≡ n → IsCovered r n b got s → IsCovered r (n + m * r.budget) (max b now + m * r.period) got (after_arrival mode r now s)
+  pub covered_arrival : (mode : Mode) (now m : ℕ) → got ≡ n → IsCovered r n b got s
+      → IsCovered r (n + m * r.budget) (max b now + m * r.period) got (after_arrival mode r now s)
   covered_arrival mode now m paid c = elim (cases_Bool (is_renewed mode r now s)) [
     | inl t ↦ rw t (record { periods = m; units = omega arith; by = omega arith })
     | inr f ↦ rw f (covered_queued now m c)

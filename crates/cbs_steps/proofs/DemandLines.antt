@@ -88,7 +88,8 @@ line_kept P p q t c d now x e some capped le h far =
     omega arith
 
 -- so a renewal of such a budget asks for no more than before
-pub renewed_kept : (P p q t c d now x : ℕ) → t * p ≡ P → 0 < q → c ≤ q → now ≤ x → now ≤ d → (d - now) * q ≤ c * t → asked P (q * p) q (now + t) x ≤ asked P (q * p) c d x
+pub renewed_kept : (P p q t c d now x : ℕ) → t * p ≡ P → 0 < q → c ≤ q → now ≤ x → now ≤ d → (d - now) * q ≤ c * t
+    → asked P (q * p) q (now + t) x ≤ asked P (q * p) c d x
 renewed_kept P p q t c d now x e some capped early le h = elim (cases_lt x (now + t)) [
   | inl lt ↦ omega (arith, asked_before P (q * p) q (now + t) x lt)
   | inr ge ↦

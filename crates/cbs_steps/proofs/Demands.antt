@@ -9,15 +9,18 @@ use Rattle.cbs_rules.specs.Rules.{State, is_renewed, after_arrival, after_unit, 
 use Rattle.cbs_rules.specs.declared.mode.Mode.{Mode}
 use Rattle.cbs_rules.specs.declared.mode.Mode.TheVariants.{Soft, Throttled}
 use Rattle.cbs_steps.specs.OnTime.{full_demand, share_until, demand_of}
-use Rattle.cbs_steps.proofs.DemandLines.{asked, asked_renewed, asked_spent, asked_kept, renewed_kept, renewed_past, asked_less, asked_postponed, asked_replenished, asked_before, line-mono}
+use Rattle.cbs_steps.proofs.DemandLines.{asked, asked_renewed, asked_spent, asked_kept, renewed_kept, renewed_past, asked_less, asked_postponed}
+use Rattle.cbs_steps.proofs.DemandLines.{asked_replenished, asked_before, line-mono}
 
 -- an arrival that does not renew found a budget of no more than the share of the time until the deadline
-not_renewed : (mode : Mode) (r : Rate) (now : ℕ) (s : State) → is_renewed mode r now s ≡ false → (now < s.deadline) × (s.budget * r.period ≤ (s.deadline - now) * r.budget)
+not_renewed : (mode : Mode) (r : Rate) (now : ℕ) (s : State) → is_renewed mode r now s ≡ false
+    → (now < s.deadline) × (s.budget * r.period ≤ (s.deadline - now) * r.budget)
 not_renewed Soft r now s e = grind (arith, nat_tests)
 not_renewed Throttled r now s e = grind (arith, nat_tests)
 
 -- one that renews before the deadline found one of no less
-pub renewed_early : (mode : Mode) (r : Rate) (now : ℕ) (s : State) → is_renewed mode r now s ≡ true → now < s.deadline → (s.deadline - now) * r.budget ≤ s.budget * r.period
+pub renewed_early : (mode : Mode) (r : Rate) (now : ℕ) (s : State) → is_renewed mode r now s ≡ true → now < s.deadline
+    → (s.deadline - now) * r.budget ≤ s.budget * r.period
 renewed_early Soft r now s e h = grind (arith, nat_tests)
 renewed_early Throttled r now s e h = grind (arith, nat_tests)
 
@@ -50,7 +53,8 @@ module _ (P : ℕ) (r : Rate) (e : r.period * (P / r.period) ≡ P) where
   ]
 
   -- and for no more than before
-  arrival_full : (mode : Mode) (now : ℕ) (s : State) (x : ℕ) → now ≤ x → 0 < r.budget → s.budget ≤ r.budget → full_demand P r (after_arrival mode r now s) x ≤ full_demand P r s x
+  arrival_full : (mode : Mode) (now : ℕ) (s : State) (x : ℕ) → now ≤ x → 0 < r.budget → s.budget ≤ r.budget
+      → full_demand P r (after_arrival mode r now s) x ≤ full_demand P r s x
   arrival_full mode now s x early some capped = elim (cases_Bool (is_renewed mode r now s)) [
     | inl t ↦ rw t (elim (cases_lt now s.deadline) [
       | inl lt ↦ renewed_kept P (P / r.period) r.budget r.period s.budget s.deadline now x e some capped early (omega arith) (renewed_early mode r now s t lt)
@@ -139,7 +143,8 @@ module _ (P : ℕ) (r : Rate) (e : r.period * (P / r.period) ≡ P) (now x : ℕ
   ]
 
   -- where the server is not ready, at most its share from then on
-  pub rest_line : (active && not s.throttled) ≡ false → (s.throttled ≡ true → now < s.deadline) → demand_of P r (now + 1) x active (after_replenishment r (now + 1) s) ≤ share_until P r (now + 1) x
+  pub rest_line : (active && not s.throttled) ≡ false → (s.throttled ≡ true → now < s.deadline)
+      → demand_of P r (now + 1) x active (after_replenishment r (now + 1) s) ≤ share_until P r (now + 1) x
   rest_line rest ahead = elim (cases_Bool s.throttled) [
     | inl t ↦
         let a = demand-le P r (now + 1) x active (after_replenishment r (now + 1) s) in
@@ -166,7 +171,8 @@ module _ (P : ℕ) (r : Rate) (e : r.period * (P / r.period) ≡ P) (mode : Mode
   spent_unit = unit_spent mode r s free
 
   -- from the deadline on it asks for a tick less than the full demand before
-  pub run_less : 0 < s.budget → s.deadline ≤ x → demand_of P r (now + 1) x active (after_replenishment r (now + 1) (after_unit mode r s)) + P ≤ full_demand P r s x
+  pub run_less : 0 < s.budget → s.deadline ≤ x → demand_of P r (now + 1) x active (after_replenishment r (now + 1) (after_unit mode r s))
+      + P ≤ full_demand P r s x
   run_less some far =
       let b = tick_full P r e now x active (after_unit mode r s) spent_unit in
       let c = unit_less P r e mode s x some far in

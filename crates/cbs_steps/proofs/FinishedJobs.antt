@@ -52,17 +52,20 @@ count_done-le f xs g = greatest-le (λ k. leb (sum_by f (take k xs)) g) (length 
 -- the units suffice for the finished jobs
 pub count_done_within : {W : Type 0} (f : W → ℕ) (xs : List W) (g : ℕ) → sum_by f (take (count_done f xs g) xs) ≤ g
 count_done_within f xs g =
-    let h : leb (sum_by f (take (count_done f xs g) xs)) g ≡ true = greatest_passes (λ k. leb (sum_by f (take k xs)) g) (length xs) (grind (arith, nat_tests)) in
+    let h : leb (sum_by f (take (count_done f xs g) xs)) g ≡ true =
+        greatest_passes (λ k. leb (sum_by f (take k xs)) g) (length xs) (grind (arith, nat_tests)) in
     grind (arith, nat_tests)
 
 -- and not for one more
 pub count_done_beyond : {W : Type 0} (f : W → ℕ) (xs : List W) (g : ℕ) → count_done f xs g < length xs → g < sum_by f (take (count_done f xs g + 1) xs)
 count_done_beyond f xs g h =
-    let e : leb (sum_by f (take (count_done f xs g + 1) xs)) g ≡ false = greatest_above (λ k. leb (sum_by f (take k xs)) g) (length xs) (count_done f xs g + 1) (omega arith) (omega arith) in
+    let e : leb (sum_by f (take (count_done f xs g + 1) xs)) g ≡ false =
+        greatest_above (λ k. leb (sum_by f (take k xs)) g) (length xs) (count_done f xs g + 1) (omega arith) (omega arith) in
     grind (arith, nat_tests)
 
 -- as many jobs are finished as the units suffice for, if not for one more
-pub count_done-is : {W : Type 0} (f : W → ℕ) (xs : List W) (g k : ℕ) → k ≤ length xs → sum_by f (take k xs) ≤ g → (k < length xs → g < sum_by f (take (k + 1) xs)) → count_done f xs g ≡ k
+pub count_done-is : {W : Type 0} (f : W → ℕ) (xs : List W) (g k : ℕ) → k ≤ length xs → sum_by f (take k xs) ≤ g
+    → (k < length xs → g < sum_by f (take (k + 1) xs)) → count_done f xs g ≡ k
 count_done-is f xs g k h within beyond =
     greatest-is (λ k. leb (sum_by f (take k xs)) g) (length xs) k h (grind (arith, nat_tests))
     (λ j a b.

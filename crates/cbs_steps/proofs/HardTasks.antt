@@ -23,7 +23,8 @@ use Rattle.cbs_steps.proofs.OnTimeSteps.{IsSound}
 use Rattle.cbs_steps.proofs.Promises.{place}
 
 -- a job of at most a budget needs one period at most
-one_period : (r : Rate) (before slot now units : ℕ) → 0 < r.budget → units ≤ r.budget → before ≤ slot → slot ≤ now → due_from r before now units ≤ now + r.period
+one_period : (r : Rate) (before slot now units : ℕ) → 0 < r.budget → units ≤ r.budget → before ≤ slot → slot ≤ now
+    → due_from r before now units ≤ now + r.period
 one_period r before slot now units some small le early = by_periods (div_ceil units r.budget) (div_ceil_times units r.budget some).1
   where
     by_periods : (k : ℕ) → k * r.budget < units + r.budget → max before now + k * r.period ≤ now + r.period
@@ -40,7 +41,8 @@ module _ {W : Type 0} (work : Meaning W) (setup : Setup) (ok : IsAdmitted (given
       ≤ slot_submitted (slot work setup s M) ((after work setup M).now + (account (after work setup M).accounts t).terms.reservation.period) o
   due-slot_submit M t job None le h some =
       let k = h refl in
-      one_period (account (after work setup M).accounts t).terms.reservation (due work setup s M) (slot work setup s M) (after work setup M).now (work.left job) (some refl) k.0 le k.1
+      one_period (account (after work setup M).accounts t).terms.reservation (due work setup s M) (slot work setup s M)
+          (after work setup M).now (work.left job) (some refl) k.0 le k.1
   due-slot_submit M t job (Some e) le h some = le
 
   -- a hard task's last job is due a period after it came, at the latest
@@ -50,7 +52,8 @@ module _ {W : Type 0} (work : Meaning W) (setup : Setup) (ok : IsAdmitted (given
     | inl y ↦
         let e : t ≡ s = grind (arith, nat_tests) in
         rw y (due-slot_submit M t job (submit_refusal setup.backlog (faces work (after work setup M)) t) (due-slot M h.0) (h.1 e)
-        (λ k. (AllByRecursion-get (IsSound work (all_periods (given work setup))) (after work setup M).accounts t no_account (sound_after work setup M ok).each (place work setup M t job k)).lawful.rate.some))
+        (λ k. (AllByRecursion-get (IsSound work (all_periods (given work setup))) (after work setup M).accounts t no_account
+            (sound_after work setup M ok).each (place work setup M t job k)).lawful.rate.some))
     | inr n ↦ rw n (due-slot M h.0)
   ]
   due-slot (Run ∷ M) h = due-slot M h.0
@@ -63,5 +66,6 @@ module _ {W : Type 0} (work : Meaning W) where
   hard_kept N ok = λ quiet K M s job of hard late.
       let d = due-slot work N.setup ok s (Submit s job ∷ M) hard in
       let itself : eqb s s ≡ true = grind (arith, nat_tests) in
-      let e : slot work N.setup s (Submit s job ∷ M) ≡ (after work N.setup M).now + (account (after work N.setup M).accounts s).terms.reservation.period = rw (itself, of.accepted) in
+      let e : slot work N.setup s (Submit s job ∷ M) ≡ (after work N.setup M).now
+          + (account (after work N.setup M).accounts s).terms.reservation.period = rw (itself, of.accepted) in
       due_kept work N ok quiet K M s job of (omega arith)

@@ -9,7 +9,8 @@ use Rattle.cbs_steps.specs.Choice.{IsChoice}
 use Rattle.cbs_steps.specs.Continuations.{◌⊕⊕◌}
 use Rattle.cbs_steps.specs.Faces.{face_at, is_ready, ranks, submit_refusal, close_refusal}
 use Rattle.cbs_steps.specs.Accounts.{Account, face_of, no_account, account_with_job, account_with_unit, account_with_replenishment, account_with_close}
-use Rattle.cbs_steps.specs.History.{World, Setup, History, ◌⊕◌, account, faces, chosen, tick, ticks, start, runner, after_submit, after_run, after_closing, next, after, world_after}
+use Rattle.cbs_steps.specs.History.{World, Setup, History, ◌⊕◌, account, faces, chosen, tick, ticks, start, runner, after_submit, after_run}
+use Rattle.cbs_steps.specs.History.{after_closing, next, after, world_after}
 use Rattle.cbs_steps.proofs.Choices.{choice_is}
 use Rattle.cbs_steps.proofs.Faces.{rank_ready}
 use Rattle.cbs_steps.specs.Replies.{is_lack, grown, grown_by}
@@ -46,7 +47,8 @@ module _ {W : Type 0} (work : Meaning W) where
     Holds w s = P w.now (account w.accounts s)
 
     -- where a change of account i keeps P of it, P still holds of each account of which it held
-    holds_changed : (now : ℕ) (f : Account W → Account W) (accounts : List (Account W)) (i s : ℕ) → (P now (account accounts i) → P now (f (account accounts i))) → P now (account accounts s) → P now (account (changed_at f accounts i) s)
+    holds_changed : (now : ℕ) (f : Account W → Account W) (accounts : List (Account W)) (i s : ℕ)
+        → (P now (account accounts i) → P now (f (account accounts i))) → P now (account accounts s) → P now (account (changed_at f accounts i) s)
     holds_changed now f [] i s k h = h
     holds_changed now f (a ∷ accounts) zero zero k h = k h
     holds_changed now f (a ∷ accounts) zero (suc s) k h = h
@@ -54,7 +56,8 @@ module _ {W : Type 0} (work : Meaning W) where
     holds_changed now f (a ∷ accounts) (suc i) (suc s) k h = holds_changed now f accounts i s k h
 
     -- where a tick keeps P of every account, P still holds of each of which it held, and beyond the last server
-    holds_map : (now : ℕ) (accounts : List (Account W)) (s : ℕ) → P now (account accounts s) → P (now + 1) (account (map (account_with_replenishment (now + 1)) accounts) s)
+    holds_map : (now : ℕ) (accounts : List (Account W)) (s : ℕ) → P now (account accounts s)
+        → P (now + 1) (account (map (account_with_replenishment (now + 1)) accounts) s)
     holds_map now [] s h = replenishment now no_account h
     holds_map now (a ∷ accounts) zero h = replenishment now a h
     holds_map now (a ∷ accounts) (suc s) h = holds_map now accounts s h
@@ -75,10 +78,12 @@ module _ {W : Type 0} (work : Meaning W) where
     holds_close w t s (Some e) h = h
 
     -- so does a run, where the server that runs, if one does, is ready
-    holds_run : (w : World W) (s : ℕ) (o : Option ℕ) → ((t : ℕ) → o ≡ Some t → is_ready (face_of work (account w.accounts t)) ≡ true) → Holds w s → Holds (after_run w o) s
+    holds_run : (w : World W) (s : ℕ) (o : Option ℕ) → ((t : ℕ) → o ≡ Some t → is_ready (face_of work (account w.accounts t)) ≡ true) → Holds w s
+        → Holds (after_run w o) s
     holds_run w s None ready h = h
     holds_run w s (Some t) ready h =
-        holds_tick (record w { accounts = changed_at account_with_unit w.accounts t }) s (holds_changed w.now account_with_unit w.accounts t s (unit w.now (account w.accounts t) (ready t refl)) h)
+        holds_tick (record w { accounts = changed_at account_with_unit w.accounts t }) s
+            (holds_changed w.now account_with_unit w.accounts t s (unit w.now (account w.accounts t) (ready t refl)) h)
 
     -- so does each step that is no submit: a run
     pub holds_run_step : (backlog : ℕ) (w : World W) (s : ℕ) → Holds w s → Holds (next work backlog w Run) s
@@ -113,7 +118,8 @@ module _ {W : Type 0} (work : Meaning W) where
       ]
 
       -- more steps, as they were answered
-      pub holds_grown_by : (M : History W) (xs : List (Step W)) (rs : List (Reply W)) (s : ℕ) → Holds (world_after work M) s → Holds (world_after work (grown_by M xs rs)) s
+      pub holds_grown_by : (M : History W) (xs : List (Step W)) (rs : List (Reply W)) (s : ℕ) → Holds (world_after work M) s
+          → Holds (world_after work (grown_by M xs rs)) s
       holds_grown_by M [] rs s h = h
       holds_grown_by M (x ∷ xs) [] s h = h
       holds_grown_by M (x ∷ xs) (r ∷ rs) s h = holds_grown_by (grown M x r) xs rs s (holds_grown M x r s h)

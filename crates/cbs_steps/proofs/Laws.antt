@@ -34,7 +34,8 @@ module _ {W : Type 0} (work : Meaning W) where
   none_ready w e = rest_from (faces work w) (let h = choice_is (ranks (faces work w)) in rw (← e) at h)
 
   -- a run takes a tick where somebody is ready and the clock is not at its end
-  run_takes : (w : World W) (o : Option ℕ) → o ≡ chosen work w → ¬ IsAtRest work w → w.now < clock_end → w.now < (after_run w (if ltb w.now clock_end then o else None)).now
+  run_takes : (w : World W) (o : Option ℕ) → o ≡ chosen work w → ¬ IsAtRest work w → w.now < clock_end
+      → w.now < (after_run w (if ltb w.now clock_end then o else None)).now
   run_takes w None e busy early = absurd (busy (none_ready w e))
   run_takes w (Some s) e busy early = let t : ltb w.now clock_end ≡ true = grind (arith, nat_tests) in rw t (omega arith)
 
@@ -69,12 +70,14 @@ module _ {W : Type 0} where
   after-append M (x ∷ xs) ys = after-append (M ⊕ x) xs ys
 
   -- two lists of allowed steps are one
-  pub allowed-append : (P : History W → Step W → Type 0) (M : History W) (xs ys : List (Step W)) → EachAllowed P M xs → EachAllowed P (M ⊕⊕ xs) ys → EachAllowed P M (xs ++ ys)
+  pub allowed-append : (P : History W → Step W → Type 0) (M : History W) (xs ys : List (Step W)) → EachAllowed P M xs → EachAllowed P (M ⊕⊕ xs) ys
+      → EachAllowed P M (xs ++ ys)
   allowed-append P M [] ys p q = q
   allowed-append P M (x ∷ xs) ys p q = (p.0, allowed-append P (M ⊕ x) xs ys p.1 q)
 
   -- steps that one rule allows are allowed by a weaker one
-  pub allowed-weaker : (P Q : History W → Step W → Type 0) (M : History W) (xs : List (Step W)) → ((N : History W) (x : Step W) → P N x → Q N x) → EachAllowed P M xs → EachAllowed Q M xs
+  pub allowed-weaker : (P Q : History W → Step W → Type 0) (M : History W) (xs : List (Step W)) → ((N : History W) (x : Step W) → P N x → Q N x)
+      → EachAllowed P M xs → EachAllowed Q M xs
   allowed-weaker P Q M [] w p = tt
   allowed-weaker P Q M (x ∷ xs) w p = (w M x p.0, allowed-weaker P Q (M ⊕ x) xs w p.1)
 
@@ -85,7 +88,8 @@ module _ {W : Type 0} where
 
 module _ {W : Type 0} (work : Meaning W) where
   -- what is punctual whatever its steps will be, is so after these
-  pub punctual_after : (M : History W) → ((steps : List (Step W)) → IsPunctual work (record { setup = M.setup; steps = steps })) → (xs : List (Step W)) → IsPunctual work (M ⊕⊕ xs)
+  pub punctual_after : (M : History W) → ((steps : List (Step W)) → IsPunctual work (record { setup = M.setup; steps = steps })) → (xs : List (Step W))
+      → IsPunctual work (M ⊕⊕ xs)
   punctual_after M all xs = subst (λ s. IsPunctual work (record { setup = s; steps = (M ⊕⊕ xs).steps })) (sym (setup_after M xs)) (all (M ⊕⊕ xs).steps)
 
 -- as many servers as reservations were given, with a mode for each

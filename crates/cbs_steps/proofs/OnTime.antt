@@ -1,5 +1,6 @@
 -- What holds on time after whole lists of steps.
-use Rattle.std.proofs.Common.{◌≡◌, ℕ, zero, suc, ◌+◌, ◌-◌, ◌*◌, ◌≤◌, ◌<◌, true, false, leb, List, [], ◌∷◌, length, map, arith, refl, inl, inr, ◌∙◌, Option, Some, None}
+use Rattle.std.proofs.Common.{◌≡◌, ℕ, zero, suc, ◌+◌, ◌-◌, ◌*◌, ◌≤◌, ◌<◌, true, false, leb, List, [], ◌∷◌, length, map, arith, refl, inl, inr, ◌∙◌}
+use Rattle.std.proofs.Common.{Option, Some, None}
 use Rattle.std.specs.List.{sum_by, AllByRecursion}
 use Rattle.std.proofs.lemmas.Bool.{cases_Bool}
 use Rattle.std.proofs.lemmas.Bool.Decides.{nat_tests}
@@ -16,8 +17,10 @@ use Rattle.cbs_rules.specs.Rules.{clock_end, Terms}
 use Rattle.cbs_rules.proofs.States.{IsState-fresh_state}
 use Rattle.cbs_lists.specs.Lists.{changed_at}
 use Rattle.cbs_steps.specs.Faces.{Face, is_ready, reservations, submit_refusal, close_refusal}
-use Rattle.cbs_steps.specs.Accounts.{Account, face_of, new_account, no_account, account_with_job, account_with_unit, account_with_replenishment, account_with_close}
-use Rattle.cbs_steps.specs.History.{World, Setup, History, account, faces, tick, ticks, start, runner, after_submit, after_run, after_closing, next, after, world_after}
+use Rattle.cbs_steps.specs.Accounts.{Account, face_of, new_account, no_account, account_with_job, account_with_unit, account_with_replenishment}
+use Rattle.cbs_steps.specs.Accounts.{account_with_close}
+use Rattle.cbs_steps.specs.History.{World, Setup, History, account, faces, tick, ticks, start, runner, after_submit, after_run, after_closing, next}
+use Rattle.cbs_steps.specs.History.{after, world_after}
 use Rattle.cbs_steps.specs.OnTime.{demand, IsAhead, IsOnTimeIn, is_late, IsNobodyLate, IsWorldOnTime, NeverLate, KeepsTime, KeepsTimeAll}
 use Rattle.cbs_steps.specs.Quiet.{IsQuietStep, AreQuiet}
 use Rattle.cbs_steps.specs.Replies.{is_lack, grown}
@@ -61,7 +64,8 @@ module _ {W : Type 0} (work : Meaning W) where
   -- nor does a run
   rates_run : (w : World W) (o : Option ℕ) → map reservation (after_run w o).accounts ≡ map reservation w.accounts
   rates_run w None = refl
-  rates_run w (Some s) = rates_tick (record w { accounts = changed_at account_with_unit w.accounts s }) ∙ changed_kept reservation account_with_unit w.accounts s (λ a. refl)
+  rates_run w (Some s) = rates_tick (record w { accounts = changed_at account_with_unit w.accounts s })
+      ∙ changed_kept reservation account_with_unit w.accounts s (λ a. refl)
 
   -- nor does a close
   rates_close : (w : World W) (s : ℕ) (o : Option CoreError) → map reservation (after_closing w s o).accounts ≡ map reservation w.accounts
@@ -85,7 +89,8 @@ module _ {W : Type 0} (work : Meaning W) where
   rates_after setup (x ∷ M) = rates_next setup.backlog (after work setup M) x ∙ rates_after setup M
 
   -- each new account is sound
-  sound_new : (P : ℕ) (ts : List Terms) → AllLawful (map reservation (map new_account ts)) → IsCommonMultiple P (map reservation (map new_account ts)) → AllByRecursion (IsSound work P) (map new_account ts)
+  sound_new : (P : ℕ) (ts : List Terms) → AllLawful (map reservation (map new_account ts)) → IsCommonMultiple P (map reservation (map new_account ts))
+      → AllByRecursion (IsSound work P) (map new_account ts)
   sound_new P [] all common = tt
   sound_new P (t ∷ ts) all common = (
     record {
@@ -105,11 +110,13 @@ module _ {W : Type 0} (work : Meaning W) where
       }
 
   -- and asks for no more than its share
-  new_demand : (P x : ℕ) (ts : List Terms) → sum_by (λ a. demand P 0 x (face_of work a)) (map new_account ts) ≤ sum_by (λ a. (x - 0) * share P (reservation a)) (map new_account ts)
+  new_demand : (P x : ℕ) (ts : List Terms) → sum_by (λ a. demand P 0 x (face_of work a)) (map new_account ts)
+      ≤ sum_by (λ a. (x - 0) * share P (reservation a)) (map new_account ts)
   new_demand P x [] = omega arith
   new_demand P x (t ∷ ts) =
       let rest = new_demand P x ts in
-      omega (arith, sum_by-cons (λ a. demand P 0 x (face_of work a)) (new_account t) (map new_account ts), sum_by-cons (λ a. (x - 0) * share P (reservation a)) (new_account t) (map new_account ts))
+      omega (arith, sum_by-cons (λ a. demand P 0 x (face_of work a)) (new_account t) (map new_account ts),
+          sum_by-cons (λ a. (x - 0) * share P (reservation a)) (new_account t) (map new_account ts))
 
   -- and is not throttled
   new_ahead : (ts : List Terms) → AllByRecursion (λ a. IsAhead 0 (face_of work a)) (map new_account ts)
@@ -137,9 +144,11 @@ module _ {W : Type 0} (work : Meaning W) where
   sound_after setup (x ∷ M) ok = sound_next work (all_periods (given setup)) setup.backlog (after work setup M) x (sound_after setup M ok)
 
   -- and one on time, where each advance takes nobody's time
-  pub timely_after : (setup : Setup) (M : List (Step W)) → IsAdmitted (given setup) → AreQuiet work setup M → IsTimely work (all_periods (given setup)) (after work setup M)
+  pub timely_after : (setup : Setup) (M : List (Step W)) → IsAdmitted (given setup) → AreQuiet work setup M
+      → IsTimely work (all_periods (given setup)) (after work setup M)
   timely_after setup [] ok quiet = timely_start setup ok
-  timely_after setup (x ∷ M) ok quiet = timely_next work (all_periods (given setup)) setup.backlog (after work setup M) x (sound_after setup M ok) quiet.1 (timely_after setup M ok quiet.0)
+  timely_after setup (x ∷ M) ok quiet = timely_next work (all_periods (given setup)) setup.backlog (after work setup M) x
+      (sound_after setup M ok) quiet.1 (timely_after setup M ok quiet.0)
 
   -- on time, said of what the servers show and of the accounts
   shown_on_time : (setup : Setup) (M : List (Step W)) → IsTimely work (all_periods (given setup)) (after work setup M) → IsWorldOnTime work (after work setup M)
@@ -157,7 +166,8 @@ module _ {W : Type 0} (work : Meaning W) where
   on_time_after setup M ok quiet = shown_on_time setup M (timely_after setup M ok quiet)
 
   -- and the other way round
-  pub known_on_time : (setup : Setup) (M : List (Step W)) → IsWorldOnTime work (after work setup M) → IsTimely work (all_periods (given setup)) (after work setup M)
+  pub known_on_time : (setup : Setup) (M : List (Step W)) → IsWorldOnTime work (after work setup M)
+      → IsTimely work (all_periods (given setup)) (after work setup M)
   known_on_time setup M on =
       let w = after work setup M in
       let same : reservations (faces work w) ≡ given setup = rates_are w.accounts ∙ rates_after setup M in
@@ -171,10 +181,12 @@ module _ {W : Type 0} (work : Meaning W) where
   pub on_time_next : (M : History W) (x : Step W) → IsAdmitted (given M.setup) → KeepsTime work M x
   on_time_next M x ok = λ quiet on.
       shown_on_time M.setup (x ∷ M.steps)
-      (timely_next work (all_periods (given M.setup)) M.setup.backlog (world_after work M) x (sound_after M.setup M.steps ok) quiet (known_on_time M.setup M.steps on))
+      (timely_next work (all_periods (given M.setup)) M.setup.backlog (world_after work M) x (sound_after M.setup M.steps ok) quiet
+          (known_on_time M.setup M.steps on))
 
   -- also where memory refused it
-  on_time_one : (M : History W) (x : Step W) (r : Reply W) → IsAdmitted (given M.setup) → IsQuietStep work (world_after work M) x → IsWorldOnTime work (world_after work M)
+  on_time_one : (M : History W) (x : Step W) (r : Reply W) → IsAdmitted (given M.setup) → IsQuietStep work (world_after work M) x
+      → IsWorldOnTime work (world_after work M)
       → IsAdmitted (given (grown M x r).setup) × IsWorldOnTime work (world_after work (grown M x r))
   on_time_one M x r ok quiet on = elim (cases_Bool (is_lack r)) [ inl t ↦ rw t (ok, on) | inr f ↦ rw f (ok, on_time_next M x ok quiet on) ]
 
@@ -189,9 +201,12 @@ module _ {W : Type 0} (work : Meaning W) where
   on_time_start setup ok = shown_on_time setup [] (timely_start setup ok)
 
   -- after a list of such steps a ready server's deadline has not come
-  pub ready_early : (setup : Setup) (M : List (Step W)) → IsAdmitted (given setup) → IsTimely work (all_periods (given setup)) (after work setup M) → (s : ℕ) → s < length (after work setup M).accounts
-      → is_ready (face_of work (account (after work setup M).accounts s)) ≡ true → (after work setup M).now < (account (after work setup M).accounts s).state.deadline
-  ready_early setup M ok on s lt ready = not_late work (all_periods (given setup)) (after work setup M) (all_periods_some (given setup) ok.lawful) (sound_after setup M ok) on s lt ready
+  pub ready_early : (setup : Setup) (M : List (Step W)) → IsAdmitted (given setup) → IsTimely work (all_periods (given setup)) (after work setup M)
+      → (s : ℕ) → s < length (after work setup M).accounts
+      → is_ready (face_of work (account (after work setup M).accounts s)) ≡ true
+      → (after work setup M).now < (account (after work setup M).accounts s).state.deadline
+  ready_early setup M ok on s lt ready = not_late work (all_periods (given setup)) (after work setup M)
+      (all_periods_some (given setup) ok.lawful) (sound_after setup M ok) on s lt ready
 
   -- a ready server whose deadline has not come is not late
   not_late-false : (now : ℕ) (f : Face) → (is_ready f ≡ true → now < f.state.deadline) → is_late now f ≡ false
@@ -201,7 +216,8 @@ module _ {W : Type 0} (work : Meaning W) where
   ]
 
   -- so nobody is late
-  none_late : (setup : Setup) (M : List (Step W)) → IsAdmitted (given setup) → IsTimely work (all_periods (given setup)) (after work setup M) → IsNobodyLate (after work setup M).now (faces work (after work setup M))
+  none_late : (setup : Setup) (M : List (Step W)) → IsAdmitted (given setup) → IsTimely work (all_periods (given setup)) (after work setup M)
+      → IsNobodyLate (after work setup M).now (faces work (after work setup M))
   none_late setup M ok on =
       let w = after work setup M in
       AllByRecursion-map (λ a. is_late w.now (face_of work a) ≡ false) (λ f. is_late w.now f ≡ false) (face_of work) w.accounts
@@ -210,7 +226,8 @@ module _ {W : Type 0} (work : Meaning W) where
       (λ a h. h)
 
   -- in a world that is on time nobody is late
-  pub nobody_late : (M : History W) → IsAdmitted (given M.setup) → IsWorldOnTime work (world_after work M) → IsNobodyLate (world_after work M).now (faces work (world_after work M))
+  pub nobody_late : (M : History W) → IsAdmitted (given M.setup) → IsWorldOnTime work (world_after work M)
+      → IsNobodyLate (world_after work M).now (faces work (world_after work M))
   nobody_late M ok on = none_late M.setup M.steps ok (known_on_time M.setup M.steps on)
 
   -- nor was anybody from the start on

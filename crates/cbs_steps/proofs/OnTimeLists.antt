@@ -13,7 +13,8 @@ use Rattle.cbs_steps.specs.declared.step.Step.{Step}
 
 -- that a throttled server still waits is a fact that it suffices not to refute
 ahead_stable : (now : ℕ) (f : Face) → (¬ ¬ IsAhead now f) → IsAhead now f
-ahead_stable now f h = λ marked. elim (cases_lt now f.state.deadline) [ inl lt ↦ lt | inr ge ↦ absurd (h (λ ahead. let l = ahead marked in absurd (omega arith))) ]
+ahead_stable now f h = λ marked. elim (cases_lt now f.state.deadline)
+    [ inl lt ↦ lt | inr ge ↦ absurd (h (λ ahead. let l = ahead marked in absurd (omega arith))) ]
 
 all_ahead_stable : (now : ℕ) (fs : List Face) → (¬ ¬ AllByRecursion (IsAhead now) fs) → AllByRecursion (IsAhead now) fs
 all_ahead_stable now [] h = tt
@@ -33,12 +34,14 @@ on_time_stable now fs h =
 
 module _ {W : Type 0} (work : Meaning W) where
   -- steps that take nobody's time, and keep what is on time so, leave all on time
-  pub each_on_time : (M : History W) (xs : List (Step W)) → EachAllowed (KeepsTime work) M xs → EachAllowed (IsQuietAfter work) M xs → IsWorldOnTime work (world_after work M)
+  pub each_on_time : (M : History W) (xs : List (Step W)) → EachAllowed (KeepsTime work) M xs → EachAllowed (IsQuietAfter work) M xs
+      → IsWorldOnTime work (world_after work M)
       → EachAllowed (λ N x. IsWorldOnTime work (world_after work (N ⊕ x))) M xs
   each_on_time M [] keep quiet on = tt
   each_on_time M (x ∷ xs) keep quiet on = let next = keep.0 quiet.0 on in (next, each_on_time (M ⊕ x) xs keep.1 quiet.1 next)
 
-  pub last_on_time : (M : History W) (xs : List (Step W)) → EachAllowed (KeepsTime work) M xs → EachAllowed (IsQuietAfter work) M xs → IsWorldOnTime work (world_after work M)
+  pub last_on_time : (M : History W) (xs : List (Step W)) → EachAllowed (KeepsTime work) M xs → EachAllowed (IsQuietAfter work) M xs
+      → IsWorldOnTime work (world_after work M)
       → IsWorldOnTime work (world_after work (M ⊕⊕ xs))
   last_on_time M [] keep quiet on = on
   last_on_time M (x ∷ xs) keep quiet on = last_on_time (M ⊕ x) xs keep.1 quiet.1 (keep.0 quiet.0 on)

@@ -1,5 +1,6 @@
 -- Each step that takes nobody's time keeps a world on time, and in one that is on time no server is late.
-use Rattle.std.proofs.Common.{◌≡◌, ℕ, zero, suc, ◌+◌, ◌-◌, ◌*◌, ◌/◌, ◌≤◌, ◌<◌, true, false, ltb, leb, List, [], ◌∷◌, length, map, arith, refl, inl, inr, ◌∙◌, ap, Option, Some, None}
+use Rattle.std.proofs.Common.{◌≡◌, ℕ, zero, suc, ◌+◌, ◌-◌, ◌*◌, ◌/◌, ◌≤◌, ◌<◌, true, false, ltb, leb, List, [], ◌∷◌, length, map, arith, refl, inl}
+use Rattle.std.proofs.Common.{inr, ◌∙◌, ap, Option, Some, None}
 use Rattle.std.specs.List.{sum_by, AllByRecursion}
 use Rattle.std.proofs.Math.ListN.{get_or-map}
 use Rattle.std.proofs.lemmas.Bool.{cases_lt, cases_Bool}
@@ -68,14 +69,16 @@ module _ {W : Type 0} (work : Meaning W) (P : ℕ) where
   module _ (now x : ℕ) (a : Account W) (ok : IsSound work P a) where
     -- a job asks for no more
     asks_job : (job : W) → now ≤ x → asks now x (account_with_job work now job a) ≤ asks now x a
-    asks_job job early = job-le P a.terms.reservation now x (is_active (face_of work (account_with_job work now job a))) (is_active (face_of work a)) a.terms.mode a.state ok.divides ok.lawful.rate.some ok.lawful.state.capped early
+    asks_job job early = job-le P a.terms.reservation now x (is_active (face_of work (account_with_job work now job a)))
+        (is_active (face_of work a)) a.terms.mode a.state ok.divides ok.lawful.rate.some ok.lawful.state.capped early
 
     -- so does a tick
     asks_tick : asks (now + 1) x (account_with_replenishment (now + 1) a) ≤ asks now x a
     asks_tick = tick-le P a.terms.reservation ok.divides now x (is_active (face_of work a)) a.state ok.lawful.state.spent
 
     -- after it a server that was not ready stays below its share
-    asks_rest : is_ready (face_of work a) ≡ false → IsAhead now (face_of work a) → asks (now + 1) x (account_with_replenishment (now + 1) a) ≤ share_until P a.terms.reservation (now + 1) x
+    asks_rest : is_ready (face_of work a) ≡ false → IsAhead now (face_of work a)
+        → asks (now + 1) x (account_with_replenishment (now + 1) a) ≤ share_until P a.terms.reservation (now + 1) x
     asks_rest rest ahead = rest_line P a.terms.reservation ok.divides now x (is_active (face_of work a)) a.state ok.lawful.state.spent rest ahead
 
     -- and nothing is asked for before the deadline
@@ -90,16 +93,19 @@ module _ {W : Type 0} (work : Meaning W) (P : ℕ) where
       -- a unit and a tick ask for a tick less, from the deadline on
       asks_run : a.state.deadline ≤ x → asks (now + 1) x (account_with_replenishment (now + 1) (account_with_unit a)) + P ≤ asks now x a
       asks_run far = rw asks_ready
-          (run_less P a.terms.reservation ok.divides a.terms.mode now x (is_active (face_of work (account_with_unit a))) a.state (runnable (face_of work a) ready).free (ready_budget work a ready ok.lawful) far)
+          (run_less P a.terms.reservation ok.divides a.terms.mode now x (is_active (face_of work (account_with_unit a))) a.state
+              (runnable (face_of work a) ready).free (ready_budget work a ready ok.lawful) far)
 
       -- and for nothing before
       asks_run_before : x < a.state.deadline → asks (now + 1) x (account_with_replenishment (now + 1) (account_with_unit a)) ≡ 0
-      asks_run_before near = run_before P a.terms.reservation ok.divides a.terms.mode now x (is_active (face_of work (account_with_unit a))) a.state (runnable (face_of work a) ready).free near
+      asks_run_before near = run_before P a.terms.reservation ok.divides a.terms.mode now x
+          (is_active (face_of work (account_with_unit a))) a.state (runnable (face_of work a) ready).free near
 
   -- a tick keeps a world sound
   sound_tick : (w : World W) → AllSound work P w → AllSound work P (tick w)
   sound_tick w ok = record {
-    each = AllByRecursion-map (IsSound work P) (IsSound work P) (account_with_replenishment (w.now + 1)) w.accounts ok.each (λ a h. record { lawful = lawful_replenishment work (w.now + 1) a h.lawful; divides = h.divides });
+    each = AllByRecursion-map (IsSound work P) (IsSound work P) (account_with_replenishment (w.now + 1)) w.accounts ok.each
+        (λ a h. record { lawful = lawful_replenishment work (w.now + 1) a h.lawful; divides = h.divides });
     fits = rw (sum_map shares (account_with_replenishment (w.now + 1)) w.accounts) ok.fits;
   }
 
@@ -110,7 +116,8 @@ module _ {W : Type 0} (work : Meaning W) (P : ℕ) where
   sound_ticks (suc n) w ok = sound_ticks n (tick w) (sound_tick w ok)
 
   -- so does a change of one account that keeps it sound
-  sound_changed : (w : World W) (f : Account W → Account W) (i : ℕ) → ((a : Account W) → (f a).terms ≡ a.terms) → (IsSound work P (account w.accounts i) → IsSound work P (f (account w.accounts i))) → AllSound work P w
+  sound_changed : (w : World W) (f : Account W → Account W) (i : ℕ) → ((a : Account W) → (f a).terms ≡ a.terms)
+      → (IsSound work P (account w.accounts i) → IsSound work P (f (account w.accounts i))) → AllSound work P w
       → AllSound work P (record w { accounts = changed_at f w.accounts i })
   sound_changed w f i same here ok = record {
     each = AllByRecursion-changed_at (IsSound work P) (IsSound work P) f w.accounts i no_account ok.each (λ a h. h) here;
@@ -125,7 +132,8 @@ module _ {W : Type 0} (work : Meaning W) (P : ℕ) where
 
   -- so does a close
   sound_close : (w : World W) (s : ℕ) (o : Option CoreError) → AllSound work P w → AllSound work P (after_closing w s o)
-  sound_close w s None ok = sound_changed w account_with_close s (λ a. refl) (λ h. record { lawful = lawful_close work (account w.accounts s) h.lawful; divides = h.divides }) ok
+  sound_close w s None ok = sound_changed w account_with_close s (λ a. refl)
+      (λ h. record { lawful = lawful_close work (account w.accounts s) h.lawful; divides = h.divides }) ok
   sound_close w s (Some e) ok = ok
 
   -- so does a run of the chosen server
@@ -166,7 +174,8 @@ module _ {W : Type 0} (work : Meaning W) (P : ℕ) where
         let c = sum_changed-le (asks w.now x) (asks w.now x) (account_with_job work w.now job) w.accounts s no_account (λ i lt. omega arith)
         (λ lt. asks_job w.now x (account w.accounts s) (sound_at w ok s lt) job early) in
         omega arith;
-    ahead = AllByRecursion-changed_at (λ a. IsAhead w.now (face_of work a)) (λ a. IsAhead w.now (face_of work a)) (account_with_job work w.now job) w.accounts s no_account on.ahead (λ a h. h) (ahead_arrived w.now (face_of work (account w.accounts s)));
+    ahead = AllByRecursion-changed_at (λ a. IsAhead w.now (face_of work a)) (λ a. IsAhead w.now (face_of work a))
+        (account_with_job work w.now job) w.accounts s no_account on.ahead (λ a h. h) (ahead_arrived w.now (face_of work (account w.accounts s)));
   }
   timely_submit w s job (Some e) ok on = on
 
@@ -174,7 +183,8 @@ module _ {W : Type 0} (work : Meaning W) (P : ℕ) where
   timely_close : (w : World W) (s : ℕ) (o : Option CoreError) → IsTimely work P w → IsTimely work P (after_closing w s o)
   timely_close w s None on = record {
     within = λ x early. rw (sum_changed_same (asks w.now x) account_with_close w.accounts s (λ a. refl)) (on.within x early);
-    ahead = AllByRecursion-changed_at (λ a. IsAhead w.now (face_of work a)) (λ a. IsAhead w.now (face_of work a)) account_with_close w.accounts s no_account on.ahead (λ a h. h) (λ h. h);
+    ahead = AllByRecursion-changed_at (λ a. IsAhead w.now (face_of work a)) (λ a. IsAhead w.now (face_of work a)) account_with_close
+        w.accounts s no_account on.ahead (λ a h. h) (λ h. h);
   }
   timely_close w s (Some e) on = on
 
@@ -202,7 +212,8 @@ module _ {W : Type 0} (work : Meaning W) (P : ℕ) where
   -- the chosen server is there, and of the ready servers none has an earlier deadline
   record IsLeast (w : World W) (s : ℕ) : Type 0 where
     place : s < length w.accounts
-    least : (r : ℕ) → r < length w.accounts → is_ready (face_of work (account w.accounts r)) ≡ true → (account w.accounts s).state.deadline ≤ (account w.accounts r).state.deadline
+    least : (r : ℕ) → r < length w.accounts → is_ready (face_of work (account w.accounts r)) ≡ true
+        → (account w.accounts s).state.deadline ≤ (account w.accounts r).state.deadline
 
   -- so it is of the choice
   chosen_least : (w : World W) (s : ℕ) → chosen work w ≡ Some s → IsLeast w s
@@ -210,7 +221,8 @@ module _ {W : Type 0} (work : Meaning W) (P : ℕ) where
       let fs = faces work w in
       let rs = ranks fs in
       let h : IsEarliest rs (length rs) s = rw e at (choice_is rs) in
-      let n : length rs ≡ length w.accounts = length-map fs (λ (f : Face). record { ready = is_ready f; deadline = f.state.deadline }) ∙ length-map w.accounts (face_of work) in
+      let n : length rs ≡ length w.accounts = length-map fs (λ (f : Face). record { ready = is_ready f; deadline = f.state.deadline })
+          ∙ length-map w.accounts (face_of work) in
       let deadline = λ (r : ℕ). rank_deadline fs r ∙ ap (λ (f : Face). f.state.deadline) (account_face work w.accounts r) in
       record {
         place = let l = h.within in omega arith;
@@ -221,7 +233,8 @@ module _ {W : Type 0} (work : Meaning W) (P : ℕ) where
       }
 
   -- a unit of the chosen server, and the tick after it, keep a world on time
-  timely_run_one : (w : World W) (s : ℕ) → chosen work w ≡ Some s → AllSound work P w → IsTimely work P w → IsTimely work P (tick (record w { accounts = changed_at account_with_unit w.accounts s }))
+  timely_run_one : (w : World W) (s : ℕ) → chosen work w ≡ Some s → AllSound work P w → IsTimely work P w
+      → IsTimely work P (tick (record w { accounts = changed_at account_with_unit w.accounts s }))
   timely_run_one w s chose ok on =
       let best = chosen_least w s chose in
       let ready = chosen_is_ready work w s chose in
@@ -238,7 +251,8 @@ module _ {W : Type 0} (work : Meaning W) (P : ℕ) where
                         let l = best.least i lt t in
                         let z = asks_before w.now x (account w.accounts i) (sound_at w ok i lt) (omega arith) in
                         omega arith
-                    | inr n ↦ asks_rest w.now x (account w.accounts i) (sound_at w ok i lt) n (AllByRecursion-get (λ a. IsAhead w.now (face_of work a)) w.accounts i no_account on.ahead lt)
+                    | inr n ↦ asks_rest w.now x (account w.accounts i) (sound_at w ok i lt) n
+                        (AllByRecursion-get (λ a. IsAhead w.now (face_of work a)) w.accounts i no_account on.ahead lt)
                   ])
                   (λ lt. let z = asks_run_before w.now x (account w.accounts s) (sound_at w ok s lt) ready near in omega arith) in
                   let g = lines_fit w (x - (w.now + 1)) ok in
@@ -256,7 +270,8 @@ module _ {W : Type 0} (work : Meaning W) (P : ℕ) where
       }
 
   -- so does a run, where a server runs or none
-  timely_run : (w : World W) (o : Option ℕ) → ((s : ℕ) → o ≡ Some s → chosen work w ≡ Some s) → AllSound work P w → IsTimely work P w → IsTimely work P (after_run w o)
+  timely_run : (w : World W) (o : Option ℕ) → ((s : ℕ) → o ≡ Some s → chosen work w ≡ Some s) → AllSound work P w → IsTimely work P w
+      → IsTimely work P (after_run w o)
   timely_run w None chose ok on = on
   timely_run w (Some s) chose ok on = timely_run_one w s (chose s refl) ok on
 
@@ -272,7 +287,8 @@ module _ {W : Type 0} (work : Meaning W) (P : ℕ) where
   timely_ticks (suc n) w ok on q = timely_ticks n (tick w) (sound_tick w ok) (timely_tick w ok on (q 0 (omega arith))) (quiet_more w n q)
 
   -- each step that takes nobody's time keeps a world on time
-  pub timely_next : (backlog : ℕ) (w : World W) (x : Step W) → AllSound work P w → IsQuietStep work w x → IsTimely work P w → IsTimely work P (next work backlog w x)
+  pub timely_next : (backlog : ℕ) (w : World W) (x : Step W) → AllSound work P w → IsQuietStep work w x → IsTimely work P w
+      → IsTimely work P (next work backlog w x)
   timely_next backlog w (Submit s job) ok q on = timely_submit w s job (submit_refusal backlog (faces work w) s) ok on
   timely_next backlog w Run ok q on = timely_run w (runner work w) (runner_chosen w) ok on
   timely_next backlog w (Advance n) ok q on = elim (cases_Bool (leb (w.now + n) clock_end)) [
@@ -282,7 +298,8 @@ module _ {W : Type 0} (work : Meaning W) (P : ℕ) where
   timely_next backlog w (Close s) ok q on = timely_close w s (close_refusal (faces work w) s) on
 
   -- in a world on time a ready server's deadline has not come
-  pub not_late : (w : World W) → 0 < P → AllSound work P w → IsTimely work P w → (s : ℕ) → s < length w.accounts → is_ready (face_of work (account w.accounts s)) ≡ true → w.now < (account w.accounts s).state.deadline
+  pub not_late : (w : World W) → 0 < P → AllSound work P w → IsTimely work P w → (s : ℕ) → s < length w.accounts
+      → is_ready (face_of work (account w.accounts s)) ≡ true → w.now < (account w.accounts s).state.deadline
   not_late w some ok on s lt ready = elim (cases_lt w.now (account w.accounts s).state.deadline) [
     | inl early ↦ early
     | inr late ↦
@@ -293,7 +310,9 @@ module _ {W : Type 0} (work : Meaning W) (P : ℕ) where
         let b : sum_by (asks w.now w.now) w.accounts ≤ (w.now - w.now) * P = on.within w.now (omega arith) in
         let c : asks w.now w.now a ≤ sum_by (asks w.now w.now) w.accounts = get_or-le-sum_by (asks w.now w.now) w.accounts s no_account lt in
         let d : asks w.now w.now a ≡ full_demand P a.terms.reservation a.state w.now = asks_ready w.now w.now a law ready in
-        let e : full_demand P a.terms.reservation a.state w.now ≡ a.state.budget * P + (w.now - a.state.deadline) * share P a.terms.reservation = asked_from P (share P a.terms.reservation) a.state.budget a.state.deadline w.now late in
+        let e : full_demand P a.terms.reservation a.state w.now ≡ a.state.budget * P
+            + (w.now - a.state.deadline) * share P a.terms.reservation =
+            asked_from P (share P a.terms.reservation) a.state.budget a.state.deadline w.now late in
         let f = ready_budget work a ready law.lawful in
         let g = mul-le 1 P a.state.budget P f (omega arith) in
         let h : 0 < full_demand P a.terms.reservation a.state w.now = omega arith in

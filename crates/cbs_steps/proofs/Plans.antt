@@ -24,12 +24,14 @@ length-terms (m ∷ modes) (r ∷ rates) e = ap suc (length-terms modes rates (o
 
 module _ (modes : List Mode) (rates : List Rate) where
   -- one more server
-  pub faces_more : (n : ℕ) (m : Mode) (r : Rate) (fs fs' : List Face) → Some m ≡ slice_get modes n → Some r ≡ slice_get rates n → fs ≡ map new_face (take n (terms_of modes rates))
+  pub faces_more : (n : ℕ) (m : Mode) (r : Rate) (fs fs' : List Face) → Some m ≡ slice_get modes n → Some r ≡ slice_get rates n
+      → fs ≡ map new_face (take n (terms_of modes rates))
       → fs' ≡ fs ++ new_face (record { mode = m; reservation = r }) ∷ [] → fs' ≡ map new_face (take (n + 1) (terms_of modes rates))
   faces_more n m r fs fs' mode found before pushed = rw (pushed, before, add-one, next_terms modes rates n m r mode found) refl
 
   -- all of them
-  pub faces_all : (n : ℕ) (fs : List Face) → length (terms_of modes rates) ≤ n → fs ≡ map new_face (take n (terms_of modes rates)) → fs ≡ map new_face (terms_of modes rates)
+  pub faces_all : (n : ℕ) (fs : List Face) → length (terms_of modes rates) ≤ n → fs ≡ map new_face (take n (terms_of modes rates))
+      → fs ≡ map new_face (terms_of modes rates)
   faces_all n fs all e = rw e (ap (map new_face) (take_all n (terms_of modes rates) all))
 
   -- each reservation has a face

@@ -1,5 +1,6 @@
 -- Each job is finished by the tick that was told when it was accepted.
-use Rattle.std.proofs.Common.{◌≡◌, ℕ, suc, ◌+◌, ◌*◌, ◌≤◌, ◌<◌, true, false, ◌||◌, List, [], ◌∷◌, ◌++◌, length, take, arith, refl, inl, inr, sym, subst, ap, ◌∙◌, None, length-append, append_assoc}
+use Rattle.std.proofs.Common.{◌≡◌, ℕ, suc, ◌+◌, ◌*◌, ◌≤◌, ◌<◌, true, false, ◌||◌, List, [], ◌∷◌, ◌++◌, length, take, arith, refl, inl, inr, sym}
+use Rattle.std.proofs.Common.{subst, ap, ◌∙◌, None, length-append, append_assoc}
 use Rattle.std.specs.List.{sum_by}
 use Rattle.std.proofs.lemmas.Bool.{cases_lt, cases_Bool}
 use Rattle.std.proofs.lemmas.Bool.Decides.{nat_tests}
@@ -7,7 +8,8 @@ use Rattle.std.proofs.lemmas.List.{take_all, take_at, length-map}
 use Rattle.std.proofs.lemmas.List.Sums.{sum_by-append}
 use Rattle.cbs_job.specs.Work.{Meaning}
 use Rattle.cbs_steps.specs.Faces.{is_active, is_ready, submit_refusal}
-use Rattle.cbs_steps.specs.Accounts.{Account, need, finished, face_of, no_account, account_with_job, account_with_unit, account_with_replenishment, account_with_close}
+use Rattle.cbs_steps.specs.Accounts.{Account, need, finished, face_of, no_account, account_with_job, account_with_unit, account_with_replenishment}
+use Rattle.cbs_steps.specs.Accounts.{account_with_close}
 use Rattle.cbs_steps.specs.History.{World, Setup, History, account, faces, after}
 use Rattle.cbs_steps.specs.OnTime.{IsAhead}
 use Rattle.cbs_steps.specs.Promises.{KeepsPromise, IsRenewal, KeepsBound}
@@ -53,9 +55,11 @@ module _ {W : Type 0} (work : Meaning W) where
       omega arith
 
   -- the units that tick b covers are got by then, of a server that is active where it owes one of them
-  pub covered_got : (setup : Setup) (L : List (Step W)) (s n b : ℕ) → IsAdmitted (given work setup) → IsTimely work (all_periods (given work setup)) (after work setup L) → s < length (after work setup L).accounts
+  pub covered_got : (setup : Setup) (L : List (Step W)) (s n b : ℕ) → IsAdmitted (given work setup)
+      → IsTimely work (all_periods (given work setup)) (after work setup L) → s < length (after work setup L).accounts
       → (let a = account (after work setup L).accounts s in
-      (a.got < n → is_active (face_of work a) ≡ true) → a.state.budget ≤ a.terms.reservation.budget → (a.got < n → IsCovered a.terms.reservation n b a.got a.state) → b ≤ (after work setup L).now → n ≤ a.got)
+      (a.got < n → is_active (face_of work a) ≡ true) → a.state.budget ≤ a.terms.reservation.budget
+          → (a.got < n → IsCovered a.terms.reservation n b a.got a.state) → b ≤ (after work setup L).now → n ≤ a.got)
   covered_got setup L s n b ok on lt busy capped covered late =
       let w = after work setup L in
       let a = account w.accounts s in
@@ -93,7 +97,8 @@ module _ {W : Type 0} (work : Meaning W) where
         let n = length-append before (job ∷ h.behind) in
         let split : before ++ job ∷ h.behind ≡ (before ++ job ∷ []) ++ h.behind = sym (append_assoc before (job ∷ []) h.behind) in
         let front = length-append before (job ∷ []) in
-        let k : take (length before + 1) ((before ++ job ∷ []) ++ h.behind) ≡ before ++ job ∷ [] = take_at (before ++ job ∷ []) h.behind (length before + 1) (omega arith) in
+        let k : take (length before + 1) ((before ++ job ∷ []) ++ h.behind) ≡ before ++ job ∷ [] =
+            take_at (before ++ job ∷ []) h.behind (length before + 1) (omega arith) in
         let s = sum_by-append work.left before (job ∷ []) in
         (rw jobs (omega arith), rw (jobs, split, k) (omega arith))
 
@@ -153,7 +158,8 @@ module _ {W : Type 0} (work : Meaning W) where
       lawful = lawful_replenishment work now a h.lawful;
       behind = h.behind;
       jobs = h.jobs;
-      pending = λ owes. covered_replenishment a.terms.reservation goal b a.got a.state now h.lawful.rate.some (omega arith) h.lawful.state.spent (h.pending owes);
+      pending = λ owes. covered_replenishment a.terms.reservation goal b a.got a.state now h.lawful.rate.some (omega arith)
+          h.lawful.state.spent (h.pending owes);
     }
 
     -- and a close
@@ -161,17 +167,22 @@ module _ {W : Type 0} (work : Meaning W) where
     awaited_close a h = record { lawful = lawful_close work a h.lawful; behind = h.behind; jobs = h.jobs; pending = h.pending }
 
     -- in a world on time, at tick b or later, it is finished
-    pub awaited_finished : (setup : Setup) (L : List (Step W)) (s : ℕ) → IsAdmitted (given work setup) → IsTimely work (all_periods (given work setup)) (after work setup L) → s < length (after work setup L).accounts
-        → IsAwaited (account (after work setup L).accounts s) → b ≤ (after work setup L).now → length before < finished work (account (after work setup L).accounts s)
+    pub awaited_finished : (setup : Setup) (L : List (Step W)) (s : ℕ) → IsAdmitted (given work setup)
+        → IsTimely work (all_periods (given work setup)) (after work setup L) → s < length (after work setup L).accounts
+        → IsAwaited (account (after work setup L).accounts s) → b ≤ (after work setup L).now
+        → length before < finished work (account (after work setup L).accounts s)
     awaited_finished setup L s ok on lt h late =
         let a = account (after work setup L).accounts s in
         done-finished a h (covered_got setup L s goal b ok on lt (pending_active a h) h.lawful.state.capped h.pending late)
 
     -- so it is behind the steps M and more steps K that take nobody's time
-    awaited_behind : (setup : Setup) (K M : List (Step W)) (s : ℕ) → IsAdmitted (given work setup) → AreQuiet work setup (K ++ M) → s < length (after work setup (K ++ M)).accounts
-        → IsAwaited (account (after work setup M).accounts s) → b ≤ (after work setup (K ++ M)).now → length before < finished work (account (after work setup (K ++ M)).accounts s)
+    awaited_behind : (setup : Setup) (K M : List (Step W)) (s : ℕ) → IsAdmitted (given work setup) → AreQuiet work setup (K ++ M)
+        → s < length (after work setup (K ++ M)).accounts
+        → IsAwaited (account (after work setup M).accounts s) → b ≤ (after work setup (K ++ M)).now
+        → length before < finished work (account (after work setup (K ++ M)).accounts s)
     awaited_behind setup K M s ok quiet lt start late =
-        let h = holds_behind work (λ now. IsAwaited) (λ now. awaited_unit) (λ now. awaited_replenishment (now + 1)) (λ now. awaited_close) awaited_job setup K M s start in
+        let h = holds_behind work (λ now. IsAwaited) (λ now. awaited_unit) (λ now. awaited_replenishment (now + 1)) (λ now. awaited_close)
+            awaited_job setup K M s start in
         awaited_finished setup (K ++ M) s ok (timely_after work setup (K ++ M) ok quiet) lt h late
 
   -- there are as many servers as were given
@@ -204,7 +215,8 @@ module _ {W : Type 0} (work : Meaning W) where
         → IsCovered a.terms.reservation (sum_by work.left a.accepted + work.left job) b a.got (account_with_job work w.now job a).state
         → b ≤ (after work setup L).now → length a.accepted < finished work (account (after work setup L).accounts s)
     covered_finished b L K e ok quiet c late =
-        let law = (AllByRecursion-get (IsSound work (all_periods (given work setup))) w.accounts s no_account (sound_after work setup M ok).each place).lawful in
+        let law = (AllByRecursion-get (IsSound work (all_periods (given work setup))) w.accounts s no_account
+            (sound_after work setup M ok).each place).lawful in
         let start : IsAwaited a.accepted job b (account_with_job work w.now job a) = record {
           lawful = lawful_job work w.now job a law;
           behind = [];
@@ -212,20 +224,24 @@ module _ {W : Type 0} (work : Meaning W) where
           pending = λ owes. c;
         } in
         subst (λ L. AreQuiet work setup L → b ≤ (after work setup L).now → length a.accepted < finished work (account (after work setup L).accounts s)) (sym e)
-        (λ quiet late. awaited_behind a.accepted job b setup K (Submit s job ∷ M) s ok quiet (let n = count_after setup (K ++ Submit s job ∷ M) in let m = count_after setup M in let lt = place in omega arith)
+        (λ quiet late. awaited_behind a.accepted job b setup K (Submit s job ∷ M) s ok quiet
+            (let n = count_after setup (K ++ Submit s job ∷ M) in let m = count_after setup M in let lt = place in omega arith)
         (subst (λ (x : Account W). IsAwaited a.accepted job b x) (sym submitted) start) late) quiet late
 
     -- what is owed, and a budget more, is reached by as many budgets
     promised : (j : ℕ) (L K : List (Step W)) → L ≡ K ++ Submit s job ∷ M → IsAdmitted (given work setup) → AreQuiet work setup L
         → (let b = account_with_job work w.now job a in
-        all b ≤ b.got + b.state.budget + j * b.terms.reservation.budget → b.state.deadline + j * b.terms.reservation.period ≤ (after work setup L).now → length a.accepted < finished work (account (after work setup L).accounts s))
+        all b ≤ b.got + b.state.budget + j * b.terms.reservation.budget → b.state.deadline + j * b.terms.reservation.period
+            ≤ (after work setup L).now → length a.accepted < finished work (account (after work setup L).accounts s))
     promised j L K e ok quiet enough late =
         let b = account_with_job work w.now job a in
         let t = total in
-        covered_finished (b.state.deadline + j * a.terms.reservation.period) L K e ok quiet (record { periods = suc j; units = omega arith; by = omega arith }) late
+        covered_finished (b.state.deadline + j * a.terms.reservation.period) L K e ok quiet
+            (record { periods = suc j; units = omega arith; by = omega arith }) late
 
     -- a job that renews its server, and needs no more than a budget
-    bounded : (L K : List (Step W)) → L ≡ K ++ Submit s job ∷ M → IsAdmitted (given work setup) → AreQuiet work setup L → IsRenewal work (record { setup = setup; steps = M }) s job
+    bounded : (L K : List (Step W)) → L ≡ K ++ Submit s job ∷ M → IsAdmitted (given work setup) → AreQuiet work setup L
+        → IsRenewal work (record { setup = setup; steps = M }) s job
         → w.now + a.terms.reservation.period ≤ (after work setup L).now → length a.accepted < finished work (account (after work setup L).accounts s)
     bounded L K e ok quiet r late =
         let p = paid_after work setup M s in
@@ -233,7 +249,8 @@ module _ {W : Type 0} (work : Meaning W) where
         let paid = idle_owed a r.idle (omega arith) in
         let small = r.small in
         let busy : (is_active (face_of work a) || a.state.throttled) ≡ false = rw (r.idle, r.free) in
-        let new : (account_with_job work w.now job a).state ≡ record { budget = a.terms.reservation.budget; deadline = w.now + a.terms.reservation.period; throttled = a.state.throttled } = rw (busy, r.renewed) refl in
+        let new : (account_with_job work w.now job a).state ≡ record
+            { budget = a.terms.reservation.budget; deadline = w.now + a.terms.reservation.period; throttled = a.state.throttled } = rw (busy, r.renewed) refl in
         let t = total in
         promised 0 L K e ok quiet (rw new (omega arith)) (rw new (omega arith))
 

@@ -1,5 +1,6 @@
 -- No server takes more than its share: what it got, and its budget, against its deadline.
-use Rattle.std.proofs.Common.{◌≡◌, ℕ, zero, suc, ◌+◌, ◌-◌, ◌*◌, ◌≤◌, ◌<◌, Bool, true, leb, eqb, ◌||◌, ◌&&◌, List, [], ◌∷◌, ◌++◌, map, arith, refl, inl, inr, ap, ◌∙◌, if◌then◌else◌}
+use Rattle.std.proofs.Common.{◌≡◌, ℕ, zero, suc, ◌+◌, ◌-◌, ◌*◌, ◌≤◌, ◌<◌, Bool, true, leb, eqb, ◌||◌, ◌&&◌, List, [], ◌∷◌, ◌++◌, map, arith, refl}
+use Rattle.std.proofs.Common.{inl, inr, ap, ◌∙◌, if◌then◌else◌}
 use Rattle.std.proofs.lemmas.Bool.{cases_lt, cases_Bool}
 use Rattle.std.proofs.lemmas.Bool.Decides.{nat_tests}
 use Rattle.std.proofs.lemmas.Nat.{mul-le}
@@ -72,7 +73,8 @@ near_unit Soft r now s e h = cc
 near_unit Throttled r now s e h = grind (arith, nat_tests)
 
 -- what a job leaves of it
-near_job : (active : Bool) (terms : Terms) (now : ℕ) (s : State) → IsNear now terms s → IsNear now terms (if active || s.throttled then s else after_arrival terms.mode terms.reservation now s)
+near_job : (active : Bool) (terms : Terms) (now : ℕ) (s : State) → IsNear now terms s
+    → IsNear now terms (if active || s.throttled then s else after_arrival terms.mode terms.reservation now s)
 near_job active terms now s h = λ mode.
     let d = h mode in
     elim (cases_Bool (active || s.throttled)) [
@@ -119,19 +121,24 @@ module _ {W : Type 0} (work : Meaning W) (x y : ℕ) (terms : Terms) where
   kept_close a k = record { same = k.same; lawful = lawful_close work a k.lawful; shared = k.shared }
 
   -- what is kept, as a bound on the later account
-  kept_share : (a b : Account W) → a.terms ≡ terms → x ≡ a.state.deadline * terms.reservation.budget → y ≡ (a.got + a.state.budget) * terms.reservation.period → IsKept b → IsWithinShare a b
+  kept_share : (a b : Account W) → a.terms ≡ terms → x ≡ a.state.deadline * terms.reservation.budget
+      → y ≡ (a.got + a.state.budget) * terms.reservation.period → IsKept b → IsWithinShare a b
   kept_share a b same ex ey k =
       let h : (b.got + b.state.budget) * terms.reservation.period + x ≤ y + b.state.deadline * terms.reservation.budget = let s = k.shared in rw k.same at s in
       rw same (omega arith)
 
 module _ {W : Type 0} (work : Meaning W) where
   -- a server keeps its terms
-  pub terms_grown : (M : History W) (xs : List (Step W)) (rs : List (Reply W)) (s : ℕ) → (account_in work (grown_by M xs rs) s).terms ≡ (account_in work M s).terms
-  terms_grown M xs rs s = holds_grown_by work (λ now a. a.terms ≡ (account_in work M s).terms) (λ now a ready h. h) (λ now a h. h) (λ now a h. h) (λ now j a h. h) M xs rs s refl
+  pub terms_grown : (M : History W) (xs : List (Step W)) (rs : List (Reply W)) (s : ℕ)
+      → (account_in work (grown_by M xs rs) s).terms ≡ (account_in work M s).terms
+  terms_grown M xs rs s = holds_grown_by work (λ now a. a.terms ≡ (account_in work M s).terms) (λ now a ready h. h) (λ now a h. h)
+      (λ now a h. h) (λ now j a h. h) M xs rs s refl
 
   -- behind more steps a server keeps its terms, too
-  terms_behind : (setup : Setup) (K M : List (Step W)) (s : ℕ) → (account (after work setup (K ++ M)).accounts s).terms ≡ (account (after work setup M).accounts s).terms
-  terms_behind setup K M s = let t = (account (after work setup M).accounts s).terms in holds_behind work (λ now a. a.terms ≡ t) (λ now a ready h. h) (λ now a h. h) (λ now a h. h) (λ now j a h. h) setup K M s refl
+  terms_behind : (setup : Setup) (K M : List (Step W)) (s : ℕ)
+      → (account (after work setup (K ++ M)).accounts s).terms ≡ (account (after work setup M).accounts s).terms
+  terms_behind setup K M s = let t = (account (after work setup M).accounts s).terms in holds_behind work (λ now a. a.terms ≡ t)
+      (λ now a ready h. h) (λ now a h. h) (λ now a h. h) (λ now j a h. h) setup K M s refl
 
   -- from a list of steps on, behind more of them
   pub share_behind : (setup : Setup) (K M : List (Step W)) (s : ℕ) → IsLawful work (account (after work setup M).accounts s)
@@ -141,24 +148,28 @@ module _ {W : Type 0} (work : Meaning W) where
       let x = a.state.deadline * a.terms.reservation.budget in
       let y = (a.got + a.state.budget) * a.terms.reservation.period in
       kept_share work x y a.terms a (account (after work setup (K ++ M)).accounts s) refl refl refl
-      (holds_behind work (λ now. IsKept work x y a.terms) (λ now. kept_unit work x y a.terms) (λ now. kept_replenishment work x y a.terms (now + 1)) (λ now. kept_close work x y a.terms) (kept_job work x y a.terms) setup K M s
+      (holds_behind work (λ now. IsKept work x y a.terms) (λ now. kept_unit work x y a.terms)
+          (λ now. kept_replenishment work x y a.terms (now + 1)) (λ now. kept_close work x y a.terms) (kept_job work x y a.terms) setup K M s
       (record { same = refl; lawful = ok; shared = omega arith }))
 
   -- from a history on, as its steps were answered
-  pub share_grown : (M : History W) (xs : List (Step W)) (rs : List (Reply W)) (s : ℕ) → IsLawful work (account_in work M s) → IsWithinShare (account_in work M s) (account_in work (grown_by M xs rs) s)
+  pub share_grown : (M : History W) (xs : List (Step W)) (rs : List (Reply W)) (s : ℕ) → IsLawful work (account_in work M s)
+      → IsWithinShare (account_in work M s) (account_in work (grown_by M xs rs) s)
   share_grown M xs rs s ok =
       let a = account_in work M s in
       let x = a.state.deadline * a.terms.reservation.budget in
       let y = (a.got + a.state.budget) * a.terms.reservation.period in
       kept_share work x y a.terms a (account_in work (grown_by M xs rs) s) refl refl refl
-      (holds_grown_by work (λ now. IsKept work x y a.terms) (λ now. kept_unit work x y a.terms) (λ now. kept_replenishment work x y a.terms (now + 1)) (λ now. kept_close work x y a.terms) (kept_job work x y a.terms) M xs rs s
+      (holds_grown_by work (λ now. IsKept work x y a.terms) (λ now. kept_unit work x y a.terms)
+          (λ now. kept_replenishment work x y a.terms (now + 1)) (λ now. kept_close work x y a.terms) (kept_job work x y a.terms) M xs rs s
       (record { same = refl; lawful = ok; shared = omega arith }))
 
   -- after every history a throttled server's deadline is at most a period from now
   near_after : (setup : Setup) (M : List (Step W)) (s : ℕ) → (let w = after work setup M in let a = account w.accounts s in IsNear w.now a.terms a.state)
   near_after setup M s = holds_after work (λ now a. IsNear now a.terms a.state)
       (λ now a ready h mode. near_unit a.terms.mode a.terms.reservation now a.state mode (h mode))
-      (λ now a h mode. deadline-replenished-le a.terms.reservation (now + 1) (now + 1 + a.terms.reservation.period) a.state (let d = h mode in omega arith) (omega arith))
+      (λ now a h mode. deadline-replenished-le a.terms.reservation (now + 1) (now + 1 + a.terms.reservation.period) a.state
+          (let d = h mode in omega arith) (omega arith))
       (λ now a h. h)
       (λ now j a h. near_job (is_active (face_of work a)) a.terms now a.state h)
       setup M s (near_start setup.servers s)
@@ -169,19 +180,24 @@ module _ {W : Type 0} (work : Meaning W) where
       near_start (t ∷ ts) (suc s) = near_start ts s
 
   -- a window of a throttled server, from its share
-  cap_of : (M N : History W) (s : ℕ) → (account_in work N s).terms ≡ (account_in work M s).terms → IsWithinShare (account_in work M s) (account_in work N s) → IsWithinCap work M N s
+  cap_of : (M N : History W) (s : ℕ) → (account_in work N s).terms ≡ (account_in work M s).terms
+      → IsWithinShare (account_in work M s) (account_in work N s) → IsWithinCap work M N s
   cap_of M N s same share = λ mode ahead.
       let a = account_in work M s in
       let b = account_in work N s in
-      let near : b.state.deadline ≤ (world_after work N).now + a.terms.reservation.period = rw same at (near_after N.setup N.steps s (ap (λ (t : Terms). t.mode) same ∙ mode)) in
-      let late = mul-le b.state.deadline a.terms.reservation.budget ((world_after work N).now + a.terms.reservation.period) a.terms.reservation.budget near (omega arith) in
+      let near : b.state.deadline ≤ (world_after work N).now + a.terms.reservation.period =
+          rw same at (near_after N.setup N.steps s (ap (λ (t : Terms). t.mode) same ∙ mode)) in
+      let late = mul-le b.state.deadline a.terms.reservation.budget ((world_after work N).now + a.terms.reservation.period)
+          a.terms.reservation.budget near (omega arith) in
       let early = mul-le (world_after work M).now a.terms.reservation.budget a.state.deadline a.terms.reservation.budget ahead (omega arith) in
       omega arith
 
   -- behind steps as they were answered
-  pub cap_grown : (M : History W) (xs : List (Step W)) (rs : List (Reply W)) (s : ℕ) → IsLawful work (account_in work M s) → IsWithinCap work M (grown_by M xs rs) s
+  pub cap_grown : (M : History W) (xs : List (Step W)) (rs : List (Reply W)) (s : ℕ) → IsLawful work (account_in work M s)
+      → IsWithinCap work M (grown_by M xs rs) s
   cap_grown M xs rs s ok = cap_of M (grown_by M xs rs) s (terms_grown M xs rs s) (share_grown M xs rs s ok)
 
   -- and behind more steps of a list
-  pub cap_behind : (N : History W) (K M : List (Step W)) (s : ℕ) → IsLawful work (account_in work (when N M) s) → IsWithinCap work (when N M) (when N (K ++ M)) s
+  pub cap_behind : (N : History W) (K M : List (Step W)) (s : ℕ) → IsLawful work (account_in work (when N M) s)
+      → IsWithinCap work (when N M) (when N (K ++ M)) s
   cap_behind N K M s ok = cap_of (when N M) (when N (K ++ M)) s (terms_behind N.setup K M s) (share_behind N.setup K M s ok)

@@ -1,5 +1,6 @@
 -- While a server stays active it gets its budget by its deadline, and one budget more by each period after.
-use Rattle.std.proofs.Common.{◌≡◌, ◌≢◌, ℕ, suc, ◌+◌, ◌*◌, ◌≤◌, ◌<◌, true, false, eqb, List, [], ◌∷◌, ◌++◌, length, arith, inl, inr, sym, subst, Option, Some, None}
+use Rattle.std.proofs.Common.{◌≡◌, ◌≢◌, ℕ, suc, ◌+◌, ◌*◌, ◌≤◌, ◌<◌, true, false, eqb, List, [], ◌∷◌, ◌++◌, length, arith, inl, inr, sym, subst}
+use Rattle.std.proofs.Common.{Option, Some, None}
 use Rattle.std.proofs.lemmas.Bool.{cases_Bool, cases_lt}
 use Rattle.std.proofs.lemmas.Bool.Decides.{nat_tests}
 use Rattle.std.proofs.lemmas.List.{get_or_past}
@@ -55,13 +56,17 @@ module _ {W : Type 0} (work : Meaning W) (n b : ℕ) where
 
   module _ (s : ℕ) where
     -- a submit, to this server or another
-    supplied_submit : (w : World W) (t : ℕ) (job : W) (o : Option CoreError) → s < length w.accounts → is_active (face_of work (account w.accounts s)) ≡ true → IsSupplied (account w.accounts s) → IsSupplied (account (after_submit work w t job o).accounts s)
+    supplied_submit : (w : World W) (t : ℕ) (job : W) (o : Option CoreError) → s < length w.accounts
+        → is_active (face_of work (account w.accounts s)) ≡ true → IsSupplied (account w.accounts s)
+        → IsSupplied (account (after_submit work w t job o).accounts s)
     supplied_submit w t job (Some e) lt active h = h
     supplied_submit w t job None lt active h = elim (cases_Bool (eqb t s)) [
       | inl y ↦
           let same : t ≡ s = grind (arith, nat_tests) in
-          let here : account (changed_at (account_with_job work w.now job) w.accounts s) s ≡ account_with_job work w.now job (account w.accounts s) = changed_here (account_with_job work w.now job) w.accounts s no_account lt in
-          let is : IsSupplied (account (changed_at (account_with_job work w.now job) w.accounts s) s) = rw here (supplied_job w.now job (account w.accounts s) active h) in
+          let here : account (changed_at (account_with_job work w.now job) w.accounts s) s
+              ≡ account_with_job work w.now job (account w.accounts s) = changed_here (account_with_job work w.now job) w.accounts s no_account lt in
+          let is : IsSupplied (account (changed_at (account_with_job work w.now job) w.accounts s) s) =
+              rw here (supplied_job w.now job (account w.accounts s) active h) in
           rw same is
       | inr f ↦
           let other : s ≢ t = λ e. let y : eqb t s ≡ true = grind (arith, nat_tests) in cc in
@@ -69,19 +74,25 @@ module _ {W : Type 0} (work : Meaning W) (n b : ℕ) where
     ]
 
     -- each step keeps it, while the server is active
-    supplied_next : (backlog : ℕ) (w : World W) (x : Step W) → s < length w.accounts → is_active (face_of work (account w.accounts s)) ≡ true → IsSupplied (account w.accounts s) → IsSupplied (account (next work backlog w x).accounts s)
+    supplied_next : (backlog : ℕ) (w : World W) (x : Step W) → s < length w.accounts → is_active (face_of work (account w.accounts s)) ≡ true
+        → IsSupplied (account w.accounts s) → IsSupplied (account (next work backlog w x).accounts s)
     supplied_next backlog w (Submit t job) lt active h = supplied_submit w t job (submit_refusal backlog (faces work w) t) lt active h
-    supplied_next backlog w Run lt active h = holds_run_step work (λ now. IsSupplied) (λ now. supplied_unit) (λ now. supplied_replenishment (now + 1)) (λ now. supplied_close) backlog w s h
-    supplied_next backlog w (Advance m) lt active h = holds_advance_step work (λ now. IsSupplied) (λ now. supplied_unit) (λ now. supplied_replenishment (now + 1)) (λ now. supplied_close) backlog w m s h
-    supplied_next backlog w (Close t) lt active h = holds_close_step work (λ now. IsSupplied) (λ now. supplied_unit) (λ now. supplied_replenishment (now + 1)) (λ now. supplied_close) backlog w t s h
+    supplied_next backlog w Run lt active h = holds_run_step work (λ now. IsSupplied) (λ now. supplied_unit)
+        (λ now. supplied_replenishment (now + 1)) (λ now. supplied_close) backlog w s h
+    supplied_next backlog w (Advance m) lt active h = holds_advance_step work (λ now. IsSupplied) (λ now. supplied_unit)
+        (λ now. supplied_replenishment (now + 1)) (λ now. supplied_close) backlog w m s h
+    supplied_next backlog w (Close t) lt active h = holds_close_step work (λ now. IsSupplied) (λ now. supplied_unit)
+        (λ now. supplied_replenishment (now + 1)) (λ now. supplied_close) backlog w t s h
 
     -- the server is active at last
-    active_last : (setup : Setup) (K M : List (Step W)) → StaysActive work setup s M K → is_active (face_of work (account (after work setup (K ++ M)).accounts s)) ≡ true
+    active_last : (setup : Setup) (K M : List (Step W)) → StaysActive work setup s M K
+        → is_active (face_of work (account (after work setup (K ++ M)).accounts s)) ≡ true
     active_last setup [] M busy = busy
     active_last setup (x ∷ K) M busy = busy.1
 
     -- and was at first
-    active_first : (setup : Setup) (K M : List (Step W)) → StaysActive work setup s M K → is_active (face_of work (account (after work setup M).accounts s)) ≡ true
+    active_first : (setup : Setup) (K M : List (Step W)) → StaysActive work setup s M K
+        → is_active (face_of work (account (after work setup M).accounts s)) ≡ true
     active_first setup [] M busy = busy
     active_first setup (x ∷ K) M busy = active_first setup K M busy.0
 
@@ -93,16 +104,20 @@ module _ {W : Type 0} (work : Meaning W) (n b : ℕ) where
     ]
 
     -- so do the steps behind M
-    supplied_after : (setup : Setup) (K M : List (Step W)) → StaysActive work setup s M K → IsSupplied (account (after work setup M).accounts s) → IsSupplied (account (after work setup (K ++ M)).accounts s)
+    supplied_after : (setup : Setup) (K M : List (Step W)) → StaysActive work setup s M K → IsSupplied (account (after work setup M).accounts s)
+        → IsSupplied (account (after work setup (K ++ M)).accounts s)
     supplied_after setup [] M busy h = h
     supplied_after setup (x ∷ K) M busy h =
         let active = active_last setup K M busy.0 in
-        supplied_next setup.backlog (after work setup (K ++ M)) x (active_there (after work setup (K ++ M)).accounts active) active (supplied_after setup K M busy.0 h)
+        supplied_next setup.backlog (after work setup (K ++ M)) x (active_there (after work setup (K ++ M)).accounts active) active
+            (supplied_after setup K M busy.0 h)
 
 module _ {W : Type 0} (work : Meaning W) where
   -- behind M, while the server stays active through K
-  supply : (setup : Setup) (K M : List (Step W)) (s j : ℕ) → IsAdmitted (given work setup) → AreQuiet work setup (K ++ M) → StaysActive work setup s M K → (let a = account (after work setup M).accounts s in
-      a.state.deadline + j * a.terms.reservation.period ≤ (after work setup (K ++ M)).now → a.got + a.state.budget + j * a.terms.reservation.budget ≤ (account (after work setup (K ++ M)).accounts s).got)
+  supply : (setup : Setup) (K M : List (Step W)) (s j : ℕ) → IsAdmitted (given work setup) → AreQuiet work setup (K ++ M) → StaysActive work setup s M K
+      → (let a = account (after work setup M).accounts s in
+      a.state.deadline + j * a.terms.reservation.period ≤ (after work setup (K ++ M)).now → a.got + a.state.budget
+          + j * a.terms.reservation.budget ≤ (account (after work setup (K ++ M)).accounts s).got)
   supply setup K M s j ok quiet busy late =
       let w = after work setup M in
       let a = account w.accounts s in
@@ -110,13 +125,16 @@ module _ {W : Type 0} (work : Meaning W) where
       let b = a.state.deadline + j * a.terms.reservation.period in
       let there = active_there work n b s w.accounts (active_first work n b s setup K M busy) in
       let law = (AllByRecursion-get (IsSound work (all_periods (given work setup))) w.accounts s no_account (sound_after work setup M ok).each there).lawful in
-      let h = supplied_after work n b s setup K M busy (record { lawful = law; pending = λ owes. record { periods = suc j; units = omega arith; by = omega arith } }) in
+      let h = supplied_after work n b s setup K M busy (record
+          { lawful = law; pending = λ owes. record { periods = suc j; units = omega arith; by = omega arith } }) in
       let active = active_last work n b s setup K M busy in
-      covered_got work setup (K ++ M) s n b ok (timely_after work setup (K ++ M) ok quiet) (active_there work n b s (after work setup (K ++ M)).accounts active) (λ owes. active) h.lawful.state.capped h.pending late
+      covered_got work setup (K ++ M) s n b ok (timely_after work setup (K ++ M) ok quiet)
+          (active_there work n b s (after work setup (K ++ M)).accounts active) (λ owes. active) h.lawful.state.capped h.pending late
 
   -- every history keeps its supplies
   pub supply_kept : (N : History W) → IsAdmitted (given work N.setup) → KeepsSupply work N
   supply_kept N ok = λ quiet K M s j e busy.
       subst (λ L. AreQuiet work N.setup L → (let a = account (after work N.setup M).accounts s in
-      a.state.deadline + j * a.terms.reservation.period ≤ (after work N.setup L).now → a.got + a.state.budget + j * a.terms.reservation.budget ≤ (account (after work N.setup L).accounts s).got))
+      a.state.deadline + j * a.terms.reservation.period ≤ (after work N.setup L).now → a.got + a.state.budget
+          + j * a.terms.reservation.budget ≤ (account (after work N.setup L).accounts s).got))
       (sym e) (λ quiet late. supply N.setup K M s j ok quiet busy late) quiet

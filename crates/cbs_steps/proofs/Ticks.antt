@@ -9,14 +9,16 @@ use Rattle.cbs_steps.specs.History.{World, tick, ticks}
 
 module _ {W : Type 0} (work : Meaning W) where
   -- what is shown of replenished servers
-  pub replenished_faces : (now : ℕ) (accounts : List (Account W)) → map (face_of work) (map (account_with_replenishment now) accounts) ≡ map (with_replenishment now) (map (face_of work) accounts)
+  pub replenished_faces : (now : ℕ) (accounts : List (Account W))
+      → map (face_of work) (map (account_with_replenishment now) accounts) ≡ map (with_replenishment now) (map (face_of work) accounts)
   replenished_faces now accounts =
       map-map (face_of work) (account_with_replenishment now) accounts
       ∙ sym (map-map (with_replenishment now) (face_of work) accounts)
 
 module _ {W : Type 0} where
   -- a replenishment of all at tick k and then at tick m, no earlier, leaves what the one at m alone leaves
-  all_twice : (k m : ℕ) (accounts : List (Account W)) → k ≤ m → map (account_with_replenishment m) (map (account_with_replenishment k) accounts) ≡ map (account_with_replenishment m) accounts
+  all_twice : (k m : ℕ) (accounts : List (Account W)) → k ≤ m
+      → map (account_with_replenishment m) (map (account_with_replenishment k) accounts) ≡ map (account_with_replenishment m) accounts
   all_twice k m [] h = refl
   all_twice k m (a ∷ accounts) h = rw (replenished_twice a.terms.reservation k m a.state h, all_twice k m accounts h)
 

@@ -16,7 +16,8 @@ use Rattle.cbs_steps.proofs.Shares.{share_behind, cap_behind}
 
 module _ {W : Type 0} (work : Meaning W) where
   -- each server of the setup is lawful behind every list of steps
-  lawful_behind : (setup : Setup) (M : List (Step W)) (s : ℕ) → IsAdmitted (given work setup) → s < length setup.servers → IsLawful work (account (after work setup M).accounts s)
+  lawful_behind : (setup : Setup) (M : List (Step W)) (s : ℕ) → IsAdmitted (given work setup) → s < length setup.servers
+      → IsLawful work (account (after work setup M).accounts s)
   lawful_behind setup M s ok lt =
       let w = after work setup M in
       let n = count_after work setup M in

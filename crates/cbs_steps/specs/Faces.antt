@@ -1,5 +1,6 @@
 -- What a server shows beside its jobs, what is read off it, and what each step does to it.
-use Rattle.std.specs.Prelude.{ℕ, ◌+◌, ◌-◌, Bool, true, false, not, ◌&&◌, ◌||◌, leb, ltb, if◌then◌else◌, List, map, get_or, slice_get, Option, Some, None, Result, Ok, Err}
+use Rattle.std.specs.Prelude.{ℕ, ◌+◌, ◌-◌, Bool, true, false, not, ◌&&◌, ◌||◌, leb, ltb, if◌then◌else◌, List, map, get_or, slice_get, Option, Some}
+use Rattle.std.specs.Prelude.{None, Result, Ok, Err}
 use Rattle.cbs_rate.specs.Rate.{Rate}
 use Rattle.cbs_rules.specs.Rules.{State, Terms, fresh_state, after_arrival, after_unit, after_replenishment}
 use Rattle.cbs_rules.specs.declared.mode.Mode.TheVariants.{Soft}
@@ -23,7 +24,8 @@ new_face terms = record { terms = terms; state = fresh_state; closed = false; ac
 
 -- what stands where there is no such server
 abbrev pub no_face : Face
-no_face = record { terms = record { mode = Soft; reservation = record { budget = 0; period = 0 } }; state = fresh_state; closed = true; accepted = 0; finished = 0 }
+no_face = record { terms = record { mode = Soft; reservation = record { budget = 0; period = 0 } }; state = fresh_state; closed = true;
+    accepted = 0; finished = 0 }
 
 -- the face of server s
 abbrev pub face_at : List Face → ℕ → Face
@@ -72,7 +74,8 @@ reservations faces = map (λ f. f.terms.reservation) faces
 
 -- what a server shows to a caller
 abbrev pub view_of : Face → ServerView
-view_of f = record { budget = f.state.budget; deadline = f.state.deadline; throttled = f.state.throttled; closed = f.closed; accepted = f.accepted; finished = f.finished }
+view_of f = record { budget = f.state.budget; deadline = f.state.deadline; throttled = f.state.throttled; closed = f.closed;
+    accepted = f.accepted; finished = f.finished }
 
 -- what a view is answered: the server's, or that there is no such server
 abbrev pub view_reply : Option Face → Result ServerView CoreError

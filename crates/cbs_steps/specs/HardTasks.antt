@@ -40,5 +40,6 @@ module _ {W : Type 0} where
 
   -- each job of a hard task is finished a period after it came, whatever is asked of the others
   abbrev pub KeepsHard : Meaning W → History W → Type 0
-  KeepsHard work N = AreQuiet work N.setup N.steps → (K M : List (Step W)) (s : ℕ) (job : W) → IsJobOf work N K M s job → IsHard work N.setup s (Submit s job ∷ M)
+  KeepsHard work N = AreQuiet work N.setup N.steps → (K M : List (Step W)) (s : ℕ) (job : W) → IsJobOf work N K M s job
+      → IsHard work N.setup s (Submit s job ∷ M)
       → (world_after work (when N M)).now + (account_in work (when N M) s).terms.reservation.period ≤ (world_after work N).now → IsFinished work N M s

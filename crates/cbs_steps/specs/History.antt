@@ -13,7 +13,8 @@ use Rattle.cbs_steps.specs.declared.reply.Reply.TheVariants as reply
 use Rattle.cbs_lists.specs.Lists.{changed_at}
 use Rattle.cbs_steps.specs.Choice.{chosen_among}
 use Rattle.cbs_steps.specs.Faces.{Face, ranks, submit_refusal, close_refusal}
-use Rattle.cbs_steps.specs.Accounts.{Account, need, finished, face_of, new_account, no_account, account_with_job, account_with_unit, account_with_replenishment, account_with_close}
+use Rattle.cbs_steps.specs.Accounts.{Account, need, finished, face_of, new_account, no_account, account_with_job, account_with_unit}
+use Rattle.cbs_steps.specs.Accounts.{account_with_replenishment, account_with_close}
 
 -- the clock, and what is known of each server
 pub record World (W : Type 0) : Type 0 where

@@ -54,7 +54,8 @@ module _ {W : Type 0} where
   -- Each job is finished by the tick that can be told when it is accepted: with c, d the budget and deadline that its submit
   -- leaves, if all that the server then owes is at most c + j * Q units, by d + j * T.
   abbrev pub KeepsPromise : Meaning W → History W → Type 0
-  KeepsPromise work N = AreQuiet work N.setup N.steps → (K M : List (Step W)) (s : ℕ) (job : W) (j : ℕ) → IsJobOf work N K M s job → (let a = account_in work (when N (Submit s job ∷ M)) s in
+  KeepsPromise work N = AreQuiet work N.setup N.steps → (K M : List (Step W)) (s : ℕ) (job : W) (j : ℕ) → IsJobOf work N K M s job
+      → (let a = account_in work (when N (Submit s job ∷ M)) s in
       sum_by work.left a.accepted ≤ a.got + a.state.budget + j * a.terms.reservation.budget
       → a.state.deadline + j * a.terms.reservation.period ≤ (world_after work N).now → IsFinished work N M s)
 
@@ -62,7 +63,8 @@ module _ {W : Type 0} where
   pub record IsRenewal (work : Meaning W) (M : History W) (s : ℕ) (job : W) : Type 0 where
     pub idle : is_active (face_of work (account_in work M s)) ≡ false
     pub free : (account_in work M s).state.throttled ≡ false
-    pub renewed : is_renewed (account_in work M s).terms.mode (account_in work M s).terms.reservation (world_after work M).now (account_in work M s).state ≡ true
+    pub renewed : is_renewed (account_in work M s).terms.mode (account_in work M s).terms.reservation (world_after work M).now
+        (account_in work M s).state ≡ true
     pub small : work.left job ≤ (account_in work M s).terms.reservation.budget
 
   -- a job that renews its server, and needs no more than a budget, is finished a period after it came

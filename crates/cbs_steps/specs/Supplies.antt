@@ -17,6 +17,7 @@ module _ {W : Type 0} where
 
   -- while it stays active, throttled or not, a server gets its budget by its deadline, and one budget more by each period after
   abbrev pub KeepsSupply : Meaning W → History W → Type 0
-  KeepsSupply work N = AreQuiet work N.setup N.steps → (K M : List (Step W)) (s j : ℕ) → N.steps ≡ K ++ M → StaysActive work N.setup s M K → (let a = account_in work (when N M) s in
+  KeepsSupply work N = AreQuiet work N.setup N.steps → (K M : List (Step W)) (s j : ℕ) → N.steps ≡ K ++ M → StaysActive work N.setup s M K
+      → (let a = account_in work (when N M) s in
       a.state.deadline + j * a.terms.reservation.period ≤ (world_after work N).now
       → a.got + a.state.budget + j * a.terms.reservation.budget ≤ (account_in work N s).got)

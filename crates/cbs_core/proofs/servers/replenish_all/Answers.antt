@@ -18,7 +18,9 @@ loop-index-preserved c =
           ∙ (ap (λ f. set (swept g old l.index) l.index f) (one.face ∙ ap g read)
           ∙ (swept_more g old l.index x (omega (arith, l.auto.servers)) ∙ sym (ap (λ n. swept g old n) (add-one l.index))));
       listed = lists_set l.servers l.ready c.replenish_one.new.ready l.index y l.invariant.listed within one.ordered one.here one.others;
-      due = rw (add-one l.index) (due_more c.min-due.result l.servers l.index y within (due_earlier l.due c.min-due.result (take l.index l.servers) (omega (arith, c.min-due.ensures)) l.invariant.due) (λ t. let n = one.due t in omega (arith, c.min-due.ensures)));
+      due = rw (add-one l.index) (due_more c.min-due.result l.servers l.index y within
+          (due_earlier l.due c.min-due.result (take l.index l.servers) (omega (arith, c.min-due.ensures)) l.invariant.due)
+          (λ t. let n = one.due t in omega (arith, c.min-due.ensures)));
     }
 
 pub returns-clause-servers : goal.returns-clause-servers

@@ -8,5 +8,6 @@ invariant-loop-client l = record {
   can : goal.iterator-loop-client.can_next l.client-iterator;
   finite : goal.iterator-loop-client.is_finite l.client-iterator;
   count : into_iter_len l.client-iterator ≡ length (into_iter_items l.client-iterator);
-  boxed : map (λ b. Some b.value) l.boxes.items ++ map (λ c. Some (Client c)) (into_iter_items l.client-iterator) ≡ map (λ c. Some (Client c)) l.fn.clients.items;
+  boxed : map (λ b. Some b.value) l.boxes.items ++ map (λ c. Some (Client c)) (into_iter_items l.client-iterator)
+      ≡ map (λ c. Some (Client c)) l.fn.clients.items;
 }

@@ -20,10 +20,13 @@ loop-server-preserved g c =
     record {
       ends = grind (arith, common_steps);
       places = grind (arith, common_steps);
-      new = All_pushed IsNewEnd l.ends.items ends' made.consumer a (record { received = made.ensures.consumer.0; known = made.ensures.consumer.1 }) l.invariant.new;
-      rings = map_pushed consumer_ring ring_of l.ends.items ends' l.clients.items clients' made.consumer client a b (pair_ring made.producer made.consumer made.ensures.pair ∙ sym is.ring) l.invariant.rings;
+      new = All_pushed IsNewEnd l.ends.items ends' made.consumer a
+          (record { received = made.ensures.consumer.0; known = made.ensures.consumer.1 }) l.invariant.new;
+      rings = map_pushed consumer_ring ring_of l.ends.items ends' l.clients.items clients' made.consumer client a b
+          (pair_ring made.producer made.consumer made.ensures.pair ∙ sym is.ring) l.invariant.rings;
       clients = numbered_pushed server_of l.clients.items clients' client l.server b is.server l.invariant.clients;
-      unused = All_pushed (IsUnused c.args.slots) l.clients.items clients' client b (record { sent = is.sent; free = omega (arith, is.free, made.ensures.producer.1) }) l.invariant.unused;
+      unused = All_pushed (IsUnused c.args.slots) l.clients.items clients' client b
+          (record { sent = is.sent; free = omega (arith, is.free, made.ensures.producer.1) }) l.invariant.unused;
     }
 
 pub returns-clause-new : goal.returns-clause-new

@@ -16,7 +16,8 @@ loop-index-preserved g c =
     let room : l.index < length l.servers = omega (arith, within, c.requires, l.invariant.count) in
     record {
       count = length-set l.servers l.index c.server.result ∙ l.invariant.count;
-      noted = server_noted l.servers fs l.index c.server.result feed.result room within (c.server.ensures ∙ ap (λ f. f.client.server) feed.is) l.invariant.noted;
+      noted = server_noted l.servers fs l.index c.server.result feed.result room within
+          (c.server.ensures ∙ ap (λ f. f.client.server) feed.is) l.invariant.noted;
     }
 
 pub returns : goal.returns

@@ -6,7 +6,8 @@ use Rattle.cbs_house.proofs.StandingMessages.{all_taken_after}
 use Rattle.cbs_house.proofs.serving.finish_round.Goals as goal
 
 pub returns-in_err-drain-clause-steps : goal.returns-in_err-drain-clause-steps
-returns-in_err-drain-clause-steps g c = serves_drained g.W.Work.meaning c.args.house.now c.take_rest.new.house c.drain.new.self c.take_rest.ensures.steps c.drain.ensures.moves
+returns-in_err-drain-clause-steps g c = serves_drained g.W.Work.meaning c.args.house.now c.take_rest.new.house c.drain.new.self
+    c.take_rest.ensures.steps c.drain.ensures.moves
 
 pub settle_all-requires-clause-taken : goal.settle_all-requires-clause-taken
 settle_all-requires-clause-taken g c =

@@ -24,7 +24,8 @@ loop-index-preserved g c =
       ready = ready_set l.house t.new.house l.feeds l.index t.new.feed feed.result t.ensures.looked.rings within t.ensures.feed l.invariant.ready;
       feeds = feeds_on c.args.feeds.now l.feeds _ l.invariant.feeds (feeds_set l.feeds l.index t.new.feed feed.result within t.ensures.feed);
       looked = looks_then c.args.house.now l.house t.new.house l.invariant.looked t.ensures.looked;
-      taken = taken_set t.new.house l.feeds l.index t.new.feed (taken_looked l.house t.new.house l.feeds t.ensures.looked l.invariant.taken) (settled_is_taken t.new.house t.new.feed settled);
+      taken = taken_set t.new.house l.feeds l.index t.new.feed
+          (taken_looked l.house t.new.house l.feeds t.ensures.looked l.invariant.taken) (settled_is_taken t.new.house t.new.feed settled);
       settled = settled_more l.house t.new.house l.feeds l.index t.new.feed within t.ensures.looked l.invariant.settled settled;
     }
 

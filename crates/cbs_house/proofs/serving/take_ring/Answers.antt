@@ -16,7 +16,8 @@ loop-init g c =
     }
 
 pub returns-in_err-take_message-clause-steps : goal.returns-in_err-take_message-clause-steps
-returns-in_err-take_message-clause-steps g c = serves_then g.W.Work.meaning c.args.house.now c.loop.house c.take_message.new.house c.loop.invariant.steps c.take_message.ensures.steps
+returns-in_err-take_message-clause-steps g c = serves_then g.W.Work.meaning c.args.house.now c.loop.house c.take_message.new.house
+    c.loop.invariant.steps c.take_message.ensures.steps
 
 pub loop-preserved : goal.loop-preserved
 loop-preserved g c =
@@ -27,12 +28,15 @@ loop-preserved g c =
     let n = c.settle_feed-end.result in
     record {
       steps = serves_then work c.args.house.now l.house t.new.house l.invariant.steps t.ensures.steps;
-      opened = opened_same (rings_of l.house) (rings_of t.new.house) feed feed (serves_rings work l.house t.new.house t.ensures.steps) (keeps_feed feed) l.invariant.opened;
-      standing = c.in_ok-take_message.ensures.taken (n - (l.counter + 1)) (standing_at l.house feed.client (n - l.counter) _ l.invariant.standing (omega (arith, c.loop-test.true)));
+      opened = opened_same (rings_of l.house) (rings_of t.new.house) feed feed (serves_rings work l.house t.new.house t.ensures.steps)
+          (keeps_feed feed) l.invariant.opened;
+      standing = c.in_ok-take_message.ensures.taken (n - (l.counter + 1))
+          (standing_at l.house feed.client (n - l.counter) _ l.invariant.standing (omega (arith, c.loop-test.true)));
     }
 
 pub returns-clause-taken : goal.returns-clause-taken
 returns-clause-taken g c =
     let l = c.loop in
     let feed = c.settle_feed-end.new.feed in
-    standing_none l.house feed (standing_at l.house feed.client (c.settle_feed-end.result - l.counter) 0 l.invariant.standing (omega (arith, c.loop-test.false)))
+    standing_none l.house feed (standing_at l.house feed.client (c.settle_feed-end.result - l.counter) 0 l.invariant.standing
+        (omega (arith, c.loop-test.false)))

@@ -3,7 +3,8 @@ use Rattle.cbs_run.proofs.Writers.{tries, untouched}
 use Rattle.cbs_run.proofs.run.run_bytes_within.Goals as goal
 
 pub returns-in-Err-clause-ends : goal.returns-in-Err-clause-ends
-returns-in-Err-clause-ends g c = refused c.in-Err.fault c.in-Err.ensures.read (untouched _) (tries c.write_file_fault-written.result _ _ _ c.write_file_fault-written.ensures.ok c.write_file_fault-written.ensures.err)
+returns-in-Err-clause-ends g c = refused c.in-Err.fault c.in-Err.ensures.read (untouched _)
+    (tries c.write_file_fault-written.result _ _ _ c.write_file_fault-written.ensures.ok c.write_file_fault-written.ensures.err)
 
 pub returns-in-Ok-run_file-clause-ends : goal.returns-in-Ok-run_file-clause-ends
 returns-in-Ok-run_file-clause-ends g c = done c.in-Ok.file c.in-Ok.ensures.read c.in-Ok-run_file.ensures (untouched _)

@@ -6,14 +6,17 @@ use Rattle.std.proofs.lemmas.Result.{err_from_is_err_and}
 use Rattle.cbs_run.proofs.serve.served_house.Goals as goal
 
 pub returns-clause-servers : goal.returns-clause-servers
-returns-clause-servers g c = served_count c.args.file c.in_ok-house.house c.serve.new.house c.in_ok-house.ensures.core c.in_ok-serve.ensures.steps c.in_ok-house.ensures.lawful
+returns-clause-servers g c = served_count c.args.file c.in_ok-house.house c.serve.new.house c.in_ok-house.ensures.core
+    c.in_ok-serve.ensures.steps c.in_ok-house.ensures.lawful
 
 pub returns-clause-results : goal.returns-clause-results
 returns-clause-results g c =
     let opened = c.in_ok-house in
     let served = c.in_ok-serve.ensures in
-    results_are of_files c.serve.new.house c.args.file.ring (length c.args.file.plan.rates) opened.feeds.items c.serve.new.feeds _ opened.ensures.rings opened.ensures.servers opened.ensures.jobs
-    (rw c.deref_mut.ensures.value at served.feeds) (λ s. serves_handed of_files opened.house c.serve.new.house served.steps s ∙ opened.ensures.kept s) served.served ∙ by_server c.args.file
+    results_are of_files c.serve.new.house c.args.file.ring (length c.args.file.plan.rates) opened.feeds.items c.serve.new.feeds _
+        opened.ensures.rings opened.ensures.servers opened.ensures.jobs
+    (rw c.deref_mut.ensures.value at served.feeds) (λ s. serves_handed of_files opened.house c.serve.new.house served.steps s
+        ∙ opened.ensures.kept s) served.served ∙ by_server c.args.file
 
 pub returns-in_err-serve-clause-stops : goal.returns-in_err-serve-clause-stops
 returns-in_err-serve-clause-stops g c =

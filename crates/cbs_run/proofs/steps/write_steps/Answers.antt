@@ -37,20 +37,25 @@ returns-in_err-flush-in-Err-clause-written g c = λ M agrees.
 pub returns-in-Err-clause-written : goal.returns-in-Err-clause-written
 returns-in-Err-clause-written g c = λ M agrees.
     let wrote = c.in_ok-flush-in-Err.ensures.ok in
-    stops _ _ _ c.in-Some.step _ c.in-Some.ensures.steps.0 (c.loop-step.invariant.so_far M agrees) c.in-Err.ensures.refused refl wrote.0 (wrote.2 ∙ c.loop-step.invariant.none_failed)
+    stops _ _ _ c.in-Some.step _ c.in-Some.ensures.steps.0 (c.loop-step.invariant.so_far M agrees) c.in-Err.ensures.refused refl wrote.0
+        (wrote.2 ∙ c.loop-step.invariant.none_failed)
 
 pub loop-step-preserved : goal.loop-step-preserved
 loop-step-preserved g c = record {
   can = tt;
   finite = tt;
   count = omega (arith, ap length c.in-Some.ensures.steps.0, c.in-Some.ensures.steps.1, c.loop-step.invariant.count);
-  so_far = λ M agrees. goes_on _ _ c.as_str.result.now _ c.in-Some.step _ c.in-Some.ensures.steps.0 (c.loop-step.invariant.so_far M agrees) c.in-Ok.ensures.state
+  so_far = λ M agrees. goes_on _ _ c.as_str.result.now _ c.in-Some.step _ c.in-Some.ensures.steps.0 (c.loop-step.invariant.so_far M agrees)
+      c.in-Ok.ensures.state
       (λ N held. c.as_str.ensures.value ∙ c.in-Ok.ensures.text N held) c.in_ok-push-in-Ok.ensures.ok.0;
   none_failed = c.in_ok-push-in-Ok.ensures.ok.1 ∙ c.loop-step.invariant.none_failed;
-  split = c.loop-step.invariant.split ∙ ap (λ xs. c.loop-step.yielded ++ xs) c.in-Some.ensures.steps.0 ∙ sym (append_assoc c.loop-step.yielded (c.in-Some.step ∷ []) (into_iter_items c.next.new.self));
-  state = λ M agrees. rw (after-push of_files M c.loop-step.yielded c.in-Some.step) (c.in-Ok.ensures.state (M ⊕⊕ c.loop-step.yielded) (c.loop-step.invariant.state M agrees));
+  split = c.loop-step.invariant.split ∙ ap (λ xs. c.loop-step.yielded ++ xs) c.in-Some.ensures.steps.0
+      ∙ sym (append_assoc c.loop-step.yielded (c.in-Some.step ∷ []) (into_iter_items c.next.new.self));
+  state = λ M agrees. rw (after-push of_files M c.loop-step.yielded c.in-Some.step)
+      (c.in-Ok.ensures.state (M ⊕⊕ c.loop-step.yielded) (c.loop-step.invariant.state M agrees));
   completes = λ M agrees s.
-      steps_complete of_files M c.loop-step.yielded c.in-Some.step s (c.loop-step.invariant.completes M agrees s) (c.in-Ok.ensures.completes (M ⊕⊕ c.loop-step.yielded) (c.loop-step.invariant.state M agrees) s);
+      steps_complete of_files M c.loop-step.yielded c.in-Some.step s (c.loop-step.invariant.completes M agrees s)
+          (c.in-Ok.ensures.completes (M ⊕⊕ c.loop-step.yielded) (c.loop-step.invariant.state M agrees) s);
 }
 
 pub returns-in_err-push-in-Ok-clause-written : goal.returns-in_err-push-in-Ok-clause-written

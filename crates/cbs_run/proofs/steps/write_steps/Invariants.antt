@@ -15,7 +15,8 @@ invariant-loop-step g l = record {
   finite : (goal.iterator-loop-step g).is_finite l.step-iterator;
   count : into_iter_len l.step-iterator ≡ length (into_iter_items l.step-iterator);
   so_far : (M : History FileJob) → Agrees of_files l.fn.core M
-      → SoFar g.V.StepView.text_of M l.fn.steps.items (g.O.ByteOutput.written l.fn.out) (g.O.ByteOutput.written l.out) l.pending l.core (into_iter_items l.step-iterator);
+      → SoFar g.V.StepView.text_of M l.fn.steps.items (g.O.ByteOutput.written l.fn.out) (g.O.ByteOutput.written l.out) l.pending l.core
+      (into_iter_items l.step-iterator);
   split : l.fn.steps.items ≡ l.yielded ++ into_iter_items l.step-iterator;
   state : (M : History FileJob) → Agrees of_files l.fn.core M → Agrees of_files l.core (M ⊕⊕ l.yielded);
   completes : (M : History FileJob) → Agrees of_files l.fn.core M → (s : ℕ) → CompletesAll M l.yielded s;

@@ -6,7 +6,8 @@ use Rattle.cbs_run.proofs.words.asked_in.Goals as goal
 
 -- the name and the rows that were asked for apart, together
 both_are : {B : Type 0} (o : Option B) (name : B → Text) (rows : B → List Row) (t : Text) (rs : List Row) → Some t ≡ option_map name o
-    → Some rs ≡ option_map (λ (p : Text × List Row). p.1) (option_map {U = Text × List Row} (λ b. (name b, rows b)) o) → option_map {U = Text × List Row} (λ b. (name b, rows b)) o ≡ Some (t, rs)
+    → Some rs ≡ option_map (λ (p : Text × List Row). p.1) (option_map {U = Text × List Row} (λ b. (name b, rows b)) o)
+    → option_map {U = Text × List Row} (λ b. (name b, rows b)) o ≡ Some (t, rs)
 both_are None name rows t rs p q = absurd cc
 both_are (Some b) name rows t rs p q =
     let e : t ≡ name b = cc in
@@ -25,20 +26,24 @@ not_both o p q = absurd cc
 pub returns-clause-ok : goal.returns-clause-ok
 returns-clause-ok c =
     let inner = c.in-Some.inner.now in
-    let entered : subcommand_rows_of c.args.matches.now ≡ Some (c.in-Some.name.now, rows_of (found_of inner)) = both_are _ _ _ _ _ (rw c.in-Some.is at c.subcommand.ensures.name) (rw c.in-Some.is at c.subcommand.ensures.rows) in
+    let entered : subcommand_rows_of c.args.matches.now ≡ Some (c.in-Some.name.now, rows_of (found_of inner)) =
+        both_are _ _ _ _ _ (rw c.in-Some.is at c.subcommand.ensures.name) (rw c.in-Some.is at c.subcommand.ensures.rows) in
     let file : first_of (codes "FILE") (rows_of (found_of inner)) ≡ Some (string_bytes c.in_ok-file.file) =
     sym (first_value-rows (found_of inner) (codes "FILE")) ∙ (sym (rw c.in-Some-get_str.is at c.get_str.ensures) ∙ ap Some (sym c.in_ok-file.ensures.ok)) in
     (rows_of (found_of inner), entered ∙ rw c.in-Some-verb_of.ensures refl, file)
 
 pub returns-in_default-verb_of-clause-refused : goal.returns-in_default-verb_of-clause-refused
 returns-in_default-verb_of-clause-refused c = λ asked named.
-    let entered : subcommand_rows_of c.args.matches.now ≡ Some (c.in-Some.name.now, rows_of (found_of c.in-Some.inner.now)) = both_are _ _ _ _ _ (rw c.in-Some.is at c.subcommand.ensures.name) (rw c.in-Some.is at c.subcommand.ensures.rows) in
+    let entered : subcommand_rows_of c.args.matches.now ≡ Some (c.in-Some.name.now, rows_of (found_of c.in-Some.inner.now)) =
+        both_are _ _ _ _ _ (rw c.in-Some.is at c.subcommand.ensures.name) (rw c.in-Some.is at c.subcommand.ensures.rows) in
     absurd (c.in_default-verb_of.ensures asked.verb (sym (same_name _ _ (sym entered ∙ named.1))))
 
 pub returns-in_default-get_str-clause-refused : goal.returns-in_default-get_str-clause-refused
 returns-in_default-get_str-clause-refused c = λ asked named.
     let inner = c.in-Some.inner.now in
-    let entered : subcommand_rows_of c.args.matches.now ≡ Some (c.in-Some.name.now, rows_of (found_of inner)) = both_are _ _ _ _ _ (rw c.in-Some.is at c.subcommand.ensures.name) (rw c.in-Some.is at c.subcommand.ensures.rows) in
+    let entered : subcommand_rows_of c.args.matches.now ≡ Some (c.in-Some.name.now, rows_of (found_of inner)) =
+        both_are _ _ _ _ _ (rw c.in-Some.is at c.subcommand.ensures.name) (rw c.in-Some.is at c.subcommand.ensures.rows) in
     let same : rows_of (found_of inner) ≡ named.0 = same_rows _ _ (sym entered ∙ named.1) in
-    let none : first_of (codes "FILE") (rows_of (found_of inner)) ≡ None = sym (first_value-rows (found_of inner) (codes "FILE")) ∙ sym (rw c.in_default-get_str.is at c.get_str.ensures) in
+    let none : first_of (codes "FILE") (rows_of (found_of inner)) ≡ None =
+        sym (first_value-rows (found_of inner) (codes "FILE")) ∙ sym (rw c.in_default-get_str.is at c.get_str.ensures) in
     absurd (not_both _ (sym (ap (first_of (codes "FILE")) same) ∙ none) named.2)

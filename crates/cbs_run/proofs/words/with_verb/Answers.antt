@@ -4,4 +4,5 @@ use Rattle.clap.specs.Words.{App, app_of, with_subcommand}
 use Rattle.cbs_run.proofs.words.with_verb.Goals as goal
 
 pub returns : goal.returns
-returns c = IfOk-weaker c.subcommand.result _ _ (λ r h. h.shape c.in_ok-verb.ensures.local ∙ ap (λ (a : App). with_subcommand (app_of c.args.program) a.top) c.in_ok-verb.ensures.app) c.subcommand.ensures
+returns c = IfOk-weaker c.subcommand.result _ _ (λ r h. h.shape c.in_ok-verb.ensures.local
+    ∙ ap (λ (a : App). with_subcommand (app_of c.args.program) a.top) c.in_ok-verb.ensures.app) c.subcommand.ensures

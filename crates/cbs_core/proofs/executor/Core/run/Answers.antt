@@ -27,10 +27,13 @@ use_tick-requires g c =
 
 -- what the servers show after the unit and the replenishment
 shown : (g : Over) (c : goal.After-ran_from g) → c.replenish.new.self ≡ map (with_replenishment (c.self.inside.clock + 1))
-    (changed_at (with_unit (is_some (result_run g.W.Work.meaning (list_at c.self.inside.queues.lists c.in-Some.server)))) c.self.inside.servers c.in-Some.server)
+    (changed_at (with_unit (is_some (result_run g.W.Work.meaning (list_at c.self.inside.queues.lists c.in-Some.server))))
+        c.self.inside.servers c.in-Some.server)
 shown g c = rw (c.use_tick.ensures, c.is_some.ensures, c.run_first-result.ensures.result) at c.replenish.ensures
 
-ran : (g : Over) (c : goal.After-ran_from g) → c.ran_from.result ≡ ran_of c.in-Some.server (face_at c.self.inside.servers c.in-Some.server).finished (result_run g.W.Work.meaning (list_at c.self.inside.queues.lists c.in-Some.server))
+ran : (g : Over) (c : goal.After-ran_from g) → c.ran_from.result
+    ≡ ran_of c.in-Some.server (face_at c.self.inside.servers c.in-Some.server).finished
+    (result_run g.W.Work.meaning (list_at c.self.inside.queues.lists c.in-Some.server))
 ran g c = rw (c.finished-seq.ensures, c.run_first-result.ensures.result) at c.ran_from.ensures
 
 pub invariant_of-self : goal.invariant_of-self
@@ -68,7 +71,8 @@ returns-clause-makes g c =
     let may = may_run c.self.invariant c.in-Some.ensures.choice c.if-self-ge-LIMIT.false in
     record {
       reply = λ M agrees. unit_answered c.self.view_is agrees c.in-Some.server g.met.W.Work.lowers c.in-Some.ensures.first may c.ran_from.result (ran g c);
-      state = λ M agrees. unit_agrees c.self.view_is agrees c.in-Some.server g.met.W.Work.lowers c.in-Some.ensures.first may (shown g c) c.run_first-result.ensures.lists;
+      state = λ M agrees. unit_agrees c.self.view_is agrees c.in-Some.server g.met.W.Work.lowers c.in-Some.ensures.first may (shown g c)
+          c.run_first-result.ensures.lists;
       on_time = λ M agrees. keeps_time g.W.Work.meaning c.self.view_is c.self.invariant agrees step.Run;
       count = rw (← c.self.view_is, shown g c) (simp counted);
       budgets = budgets_kept (invariant_of-self g c);

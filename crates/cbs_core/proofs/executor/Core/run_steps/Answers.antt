@@ -38,24 +38,32 @@ loop-step-preserved g c =
       can = tt;
       finite = tt;
       count = omega (arith, ap length c.in-Some.ensures.steps.0, c.in-Some.ensures.steps.1, c.loop-step.invariant.count);
-      split = c.loop-step.invariant.split ∙ ap (λ xs. c.loop-step.yielded ++ xs) c.in-Some.ensures.steps.0 ∙ sym (append_assoc c.loop-step.yielded (c.in-Some.step ∷ []) (into_iter_items c.next.new.self));
+      split = c.loop-step.invariant.split ∙ ap (λ xs. c.loop-step.yielded ++ xs) c.in-Some.ensures.steps.0
+          ∙ sym (append_assoc c.loop-step.yielded (c.in-Some.step ∷ []) (into_iter_items c.next.new.self));
       servers = tries_count g.W.Work.meaning _ _ _ _ c.make-reply.ensures.tries ∙ c.loop-step.invariant.servers;
       budgets = tries_budgets g.W.Work.meaning _ _ _ _ c.make-reply.ensures.tries;
       room = omega (arith, c.push_reserved.ensures.len, c.push_reserved.ensures.capacity, c.in-Some.ensures.steps.1, c.loop-step.invariant.room);
       replies = λ M agrees.
           rw c.push_reserved.ensures.items
-          (AnswersAll-push g.W.Work.meaning M c.loop-step.yielded c.loop-step.replies.items c.in-Some.step c.make-reply.result (c.loop-step.invariant.replies M agrees)
-          (tries_answers g.W.Work.meaning _ _ _ _ c.make-reply.ensures.tries (grown_by M c.loop-step.yielded c.loop-step.replies.items) (c.loop-step.invariant.state M agrees)));
+          (AnswersAll-push g.W.Work.meaning M c.loop-step.yielded c.loop-step.replies.items c.in-Some.step c.make-reply.result
+              (c.loop-step.invariant.replies M agrees)
+          (tries_answers g.W.Work.meaning _ _ _ _ c.make-reply.ensures.tries (grown_by M c.loop-step.yielded c.loop-step.replies.items)
+              (c.loop-step.invariant.state M agrees)));
       state = λ M agrees.
           rw c.push_reserved.ensures.items
-          (agrees_more g.W.Work.meaning c.make-reply.new.self M c.loop-step.yielded c.loop-step.replies.items c.in-Some.step c.make-reply.result (c.loop-step.invariant.replies M agrees)
-          (tries_state g.W.Work.meaning _ _ _ _ c.make-reply.ensures.tries (grown_by M c.loop-step.yielded c.loop-step.replies.items) (c.loop-step.invariant.state M agrees)));
+          (agrees_more g.W.Work.meaning c.make-reply.new.self M c.loop-step.yielded c.loop-step.replies.items c.in-Some.step
+              c.make-reply.result (c.loop-step.invariant.replies M agrees)
+          (tries_state g.W.Work.meaning _ _ _ _ c.make-reply.ensures.tries (grown_by M c.loop-step.yielded c.loop-step.replies.items)
+              (c.loop-step.invariant.state M agrees)));
       completions = λ M agrees s.
           let N = grown_by M c.loop-step.yielded c.loop-step.replies.items in
           let before = c.loop-step.invariant.state M agrees in
           rw c.push_reserved.ensures.items
-          (completes_more g.W.Work.meaning M c.loop-step.yielded c.loop-step.replies.items c.in-Some.step c.make-reply.result s (c.loop-step.invariant.replies M agrees) (c.loop-step.invariant.completions M agrees s)
-          (step_completes g.W.Work.meaning N c.in-Some.step c.make-reply.result s _ c.loop-step.self c.make-reply.new.self refl (tries_answers g.W.Work.meaning _ _ _ _ c.make-reply.ensures.tries N before) c.make-reply.ensures.counts before (tries_state g.W.Work.meaning _ _ _ _ c.make-reply.ensures.tries N before)));
+          (completes_more g.W.Work.meaning M c.loop-step.yielded c.loop-step.replies.items c.in-Some.step c.make-reply.result s
+              (c.loop-step.invariant.replies M agrees) (c.loop-step.invariant.completions M agrees s)
+          (step_completes g.W.Work.meaning N c.in-Some.step c.make-reply.result s _ c.loop-step.self c.make-reply.new.self refl
+              (tries_answers g.W.Work.meaning _ _ _ _ c.make-reply.ensures.tries N before) c.make-reply.ensures.counts before
+              (tries_state g.W.Work.meaning _ _ _ _ c.make-reply.ensures.tries N before)));
     }
 
 pub returns-clause-tries : goal.returns-clause-tries

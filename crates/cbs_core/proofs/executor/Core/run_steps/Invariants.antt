@@ -19,5 +19,6 @@ invariant-loop-step g l = record {
   replies : (M : History g.row.W.Denot) → Agrees g.W.Work.meaning l.fn.self M → AnswersAll g.W.Work.meaning M l.yielded l.replies.items;
   state : (M : History g.row.W.Denot) → Agrees g.W.Work.meaning l.fn.self M → Agrees g.W.Work.meaning l.self (grown_by M l.yielded l.replies.items);
   completions : (M : History g.row.W.Denot) → Agrees g.W.Work.meaning l.fn.self M → (s : ℕ)
-      → Completes g.W.Work.meaning (account_in g.W.Work.meaning M s) (account_in g.W.Work.meaning (grown_by M l.yielded l.replies.items) s) (completions_of s l.replies.items);
+      → Completes g.W.Work.meaning (account_in g.W.Work.meaning M s) (account_in g.W.Work.meaning (grown_by M l.yielded l.replies.items) s)
+      (completions_of s l.replies.items);
 }

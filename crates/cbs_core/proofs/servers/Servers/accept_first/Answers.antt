@@ -13,6 +13,7 @@ invariant_of-self g c =
     let within : s < length fs = rw (← c.self.view_is) at c.requires.within in
     let read : x ≡ get_or fs s x = rw c.from.ensures at c.index_mut-it.ensures.value in (
       search rules,
-      rw c.from.ensures (lists_set fs old.ready c.follow.new.self s y c.self.invariant.1 within f.ordered (f.here ∙ c.accept_first-ready_by.ensures.ready) f.others),
+      rw c.from.ensures (lists_set fs old.ready c.follow.new.self s y c.self.invariant.1 within f.ordered
+          (f.here ∙ c.accept_first-ready_by.ensures.ready) f.others),
       rw (c.from.ensures, c.accept_first-ready_by.ensures.face) (due_taken old.due c.args.now fs s x within read c.self.invariant.2),
     )

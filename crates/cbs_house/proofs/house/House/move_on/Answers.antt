@@ -12,7 +12,8 @@ returns-in_err-stopped_by-clause-run g c =
     let t = c.turn-turn in
     record {
       steps = t.ensures.steps;
-      told = tells_run g.S.Sink.hears t.result.ran c.args.self.now t.new.self c.args.sink.now c.tell.new.sink t.ensures.collects t.ensures.numbered c.tell.ensures;
+      told = tells_run g.S.Sink.hears t.result.ran c.args.self.now t.new.self c.args.sink.now c.tell.new.sink t.ensures.collects
+          t.ensures.numbered c.tell.ensures;
     }
 
 pub returns-in_err-stopped_by-clause-on : goal.returns-in_err-stopped_by-clause-on
@@ -30,7 +31,8 @@ returns-clause-run g c =
     let t = c.turn-turn in
     record {
       steps = t.ensures.steps;
-      told = tells_run g.S.Sink.hears t.result.ran c.args.self.now t.new.self c.args.sink.now c.tell.new.sink t.ensures.collects t.ensures.numbered c.tell.ensures;
+      told = tells_run g.S.Sink.hears t.result.ran c.args.self.now t.new.self c.args.sink.now c.tell.new.sink t.ensures.collects
+          t.ensures.numbered c.tell.ensures;
     }
 
 pub returns-clause-on : goal.returns-clause-on

@@ -10,6 +10,8 @@ loop-server-preserved g c =
     let before = l.invariant in
     let within : l.server < length core.faces = omega (arith, c.loop-server-test.true, c.servers-server-end.ensures.value) in
     elim c.if-not-is_closed.branch [
-      | then-not-is_closed w ↦ let n = counted_open core l.server c.is_closed.result c.is_closed.ensures within (search rules) in let e = w.open-is in omega (arith, n, e, before)
-      | else-not-is_closed w ↦ let n = counted_closed core l.server c.is_closed.result c.is_closed.ensures within (search rules) in let e = w.open-is in omega (arith, n, e, before)
+      | then-not-is_closed w ↦ let n = counted_open core l.server c.is_closed.result c.is_closed.ensures within (search rules) in let e =
+          w.open-is in omega (arith, n, e, before)
+      | else-not-is_closed w ↦ let n = counted_closed core l.server c.is_closed.result c.is_closed.ensures within (search rules) in let e =
+          w.open-is in omega (arith, n, e, before)
     ]

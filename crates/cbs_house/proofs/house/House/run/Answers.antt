@@ -13,7 +13,8 @@ invariant_of-self-in_default g c =
     let old = c.args.self.now in
     let r = c.run-ran.ensures in
     record {
-      housed = housed_ran work old.core c.run-ran.new.self old.rings old.rings old.collector old.collector old.housed c.run-ran.result c.in_default.not-Done r.job r.makes.count
+      housed = housed_ran work old.core c.run-ran.new.self old.rings old.rings old.collector old.collector old.housed c.run-ran.result
+          c.in_default.not-Done r.job r.makes.count
           (Run ∷ []) r.makes.state refl (λ s. refl) refl;
     }
 
@@ -41,7 +42,8 @@ invariant_of-self g c =
     let done = c.in-Done.done in
     let taken = c.take_expected.ensures.taken in
     record {
-      housed = housed_one work old.core c.run-ran.new.self old.rings old.rings old.collector c.take_expected.new.self h done.server refl c.take_expected.ensures.others.1 r.makes.count
+      housed = housed_one work old.core c.run-ran.new.self old.rings old.rings old.collector c.take_expected.new.self h done.server refl
+          c.take_expected.ensures.others.1 r.makes.count
           (Run ∷ []) r.makes.state
           (λ l. keeps_done work _ _ _ _ _ _ _ _ (h.servers done.server l) done r.job.0 refl taken.handed taken.results)
           (λ l. taken.announced ∙ (h.announced done.server l ∙ sym r.job.0.accepted))
@@ -61,7 +63,8 @@ returns-in-Done g c =
     let t = c.take_expected.ensures in
     record {
       reply = r.makes.reply;
-      made = made_time work old _ Run (λ s. refl) r.makes.state r.makes.on_time refl (none_handed old.collector c.take_expected.new.self c.in-Done.done.server t.taken.handed t.others.0);
+      made = made_time work old _ Run (λ s. refl) r.makes.state r.makes.on_time refl
+          (none_handed old.collector c.take_expected.new.self c.in-Done.done.server t.taken.handed t.others.0);
       on_time = step_on_time work old.core c.run-ran.new.self Run old.housed.history r.makes.state r.makes.on_time (λ M agrees. tt);
       collects = (t.taken.results, λ s ne. (t.others.0 s ne).results);
       job = names old _ (ran.Done c.in-Done.done) r.job (t.taken.results, λ s ne. (t.others.0 s ne).results);

@@ -14,9 +14,11 @@ invariant_of-self g c =
     let u = c.submit_reserved-number.ensures in
     let e = c.expect_reserved in
     record {
-      housed = housed_one work old.core c.submit_reserved-number.new.self old.rings c.take.new.self old.collector e.new.self h s t.rings e.ensures.others.1 u.makes.count
+      housed = housed_one work old.core c.submit_reserved-number.new.self old.rings c.take.new.self old.collector e.new.self h s t.rings
+          e.ensures.others.1 u.makes.count
           (Submit s c.in-Job.task ∷ []) u.makes.state
-          (λ l. keeps_job work _ _ _ _ _ _ _ _ (h.servers s l) c.in-Job.task c.submit_reserved-number.result u.job.0 c.requires.room.accepts.is_open.unclosed t.received e.ensures.announced.handed e.ensures.announced.results)
+          (λ l. keeps_job work _ _ _ _ _ _ _ _ (h.servers s l) c.in-Job.task c.submit_reserved-number.result u.job.0
+              c.requires.room.accepts.is_open.unclosed t.received e.ensures.announced.handed e.ensures.announced.results)
           (λ l. let n = u.job.0.accepted in let m = e.ensures.announced.announced in omega (arith, h.announced s l))
           u.job.1 (λ r ne. (t.others r ne).0) e.ensures.others.0;
     }
@@ -56,6 +58,7 @@ pub returns-in-End-clause-polled : goal.returns-in-End-clause-polled
 returns-in-End-clause-polled g c =
     let t = c.in-End.ensures in
     let accepts = c.requires.room.accepts in (
-      made_end g.W.Work.meaning c.args.self.now _ c.args.server t.rings t.received t.known t.others (λ s. refl) c.close_open.ensures.makes.state c.close_open.ensures.makes.on_time,
+      made_end g.W.Work.meaning c.args.self.now _ c.args.server t.rings t.received t.known t.others (λ s. refl)
+          c.close_open.ensures.makes.state c.close_open.ensures.makes.on_time,
       accepts,
     )

@@ -23,7 +23,8 @@ returns-then-left-gt0-clause-lists g c =
     let queues = c.self.inside.jobs.lists in
     rw (← c.self.view_is)
     (jobs_stepped queues c.args.server _
-    ∙ job_stays g.W.Work.meaning (map jobs_of queues) c.args.server _ _ _ (job_first queues c.args.server _ c.first_mut.ensures.value) c.step.ensures.after (omega arith))
+    ∙ job_stays g.W.Work.meaning (map jobs_of queues) c.args.server _ _ _ (job_first queues c.args.server _ c.first_mut.ensures.value)
+        c.step.ensures.after (omega arith))
 
 pub returns-clause-lists : goal.returns-clause-lists
 returns-clause-lists g c =
@@ -31,7 +32,8 @@ returns-clause-lists g c =
     rw (← c.self.view_is, c.pop.ensures.lists)
     (jobs_popped _ c.args.server
     ∙ ap (λ lists. changed_at (drop 1) lists c.args.server) (jobs_stepped queues c.args.server _)
-    ∙ job_leaves g.W.Work.meaning (map jobs_of queues) c.args.server _ _ _ (job_first queues c.args.server _ c.first_mut.ensures.value) c.step.ensures.after (omega arith))
+    ∙ job_leaves g.W.Work.meaning (map jobs_of queues) c.args.server _ _ _ (job_first queues c.args.server _ c.first_mut.ensures.value)
+        c.step.ensures.after (omega arith))
 
 pub first_mut-requires : goal.first_mut-requires
 first_mut-requires g c = grind (arith, common_steps)

@@ -8,4 +8,5 @@ use Rattle.cbs_run.proofs.trace.LinesStepView.write_step.Goals as goal
 
 pub returns : goal.returns
 unfolding line_of
-returns c = on_ok_weaker c.write_line.result (λ wrote M agrees. wrote ∙ ap line_text (c.line_of-line.ensures M agrees ∙ ap (line_in (world_after of_files M) c.args.call) c.answer_of.ensures)) c.write_line.ensures
+returns c = on_ok_weaker c.write_line.result (λ wrote M agrees. wrote
+    ∙ ap line_text (c.line_of-line.ensures M agrees ∙ ap (line_in (world_after of_files M) c.args.call) c.answer_of.ensures)) c.write_line.ensures
