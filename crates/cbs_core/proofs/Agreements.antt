@@ -154,7 +154,7 @@ module _ {W : Type 0} {work : Meaning W} {core held : CoreHeld W} {M : History W
         shown = is ∙ rw (agrees.shown, agrees.clock)
             (sym (replenished_faces work (w.now + 1) (changed_at account_with_unit w.accounts s)
             ∙ ap (map (with_replenishment (w.now + 1))) (map-changed_at (face_of work) account_with_unit (with_unit done) w.accounts s
-                no_account (unit_face work (list_at core.queues s) (account w.accounts s) (jobs_are s may.within) law may.active may.unfinished))));
+            no_account (unit_face work (list_at core.queues s) (account w.accounts s) (jobs_are s may.within) law may.active may.unfinished))));
         jobs = rw run (AllZip-map (AgreesJobs work) (account_with_replenishment (w.now + 1)) (changed_at (jobs_run work) core.queues s)
             (changed_at account_with_unit w.accounts s)
             (AllZip-changed_at (AgreesJobs work) core.queues w.accounts s [] no_account (jobs_run work) account_with_unit agrees.jobs may.queue
@@ -220,7 +220,7 @@ module _ {W : Type 0} {work : Meaning W} {core held : CoreHeld W} {M : History W
             clock = agrees.clock;
             shown = is ∙ rw (agrees.shown, agrees.clock)
                 (sym (map-changed_at (face_of work) (account_with_job work w.now job) (with_job w.now) w.accounts s no_account
-                    (job_face work (list_at core.queues s) (account w.accounts s) (jobs_are s lt) w.now job paid some)));
+                (job_face work (list_at core.queues s) (account w.accounts s) (jobs_are s lt) w.now job paid some)));
             jobs = rw joined (AllZip-changed_at (AgreesJobs work) core.queues w.accounts s [] no_account (λ jobs. jobs ++ job ∷ [])
                 (account_with_job work w.now job) agrees.jobs (within_queues s lt)
                 (λ here. job_jobs work (list_at core.queues s) (account w.accounts s) here w.now job paid some));

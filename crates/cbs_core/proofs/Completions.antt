@@ -42,12 +42,12 @@ module _ {W : Type 0} (work : Meaning W) where
             let here : c.server ≡ s = grind (arith, nat_tests) in
             let seq : c.seq ≡ finished work (account_in work M s) = (rw here at counts.0) ∙ f in
             let count : finished work after ≡ finished work (account_in work M s) + 1 =
-                let k : (held_at new s).face.finished ≡ (held_at old s).face.finished + 1 = rw here at counts.1 in omega arith in
+            let k : (held_at new s).face.finished ≡ (held_at old s).face.finished + 1 = rw here at counts.1 in omega arith in
             let told : Tells work (account_in work M s) c = subst (λ t. Tells work (account_in work M t) c) here (answer_tells work M x r c answers is) in
             let wholes : map (whole work) after.accepted ≡ map (whole work) (account_in work M s).accepted ++ map (whole work) more.0 =
             ap (map (whole work)) more.1 ∙ map-append (whole work) (account_in work M s).accepted more.0 in
             let within : c.seq < length (map (whole work) (account_in work M s).accepted) =
-                let w = told.within in omega (arith, length-map (account_in work M s).accepted (whole work)) in
+            let w = told.within in omega (arith, length-map (account_in work M s).accepted (whole work)) in
             let found : take 1 (drop c.seq (map (whole work) after.accepted)) ≡ c.result ∷ [] =
             rw wholes (part_of_more c.seq 1 (map (whole work) (account_in work M s).accepted) (map (whole work) more.0) (omega arith))
             ∙ part_of_one c.seq (map (whole work) (account_in work M s).accepted) within ∙ ap (λ k. k ∷ []) (sym told.result) in

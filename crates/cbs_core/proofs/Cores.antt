@@ -165,23 +165,32 @@ module _ {W : Type 0} {work : Meaning W} {core : CoreHeld W} (ok : IsCore work c
   core_run {s} may shown run =
       let done = is_some (result_run work (list_at core.queues s)) in
       rw (shown, run) record {
-        few = omega (arith, ok.few, length-map (changed_at (with_unit done) core.faces s) (with_replenishment (core.clock + 1)),
-            length-changed_at (with_unit done) core.faces s);
+        few = omega (
+          arith,
+          ok.few,
+          length-map (changed_at (with_unit done) core.faces s) (with_replenishment (core.clock + 1)),
+          length-changed_at (with_unit done) core.faces s,
+        );
         small = ok.small;
         clock = let e = may.early in omega arith;
-        at_most_one = rw (map_kept reservation (with_replenishment (core.clock + 1)) (changed_at (with_unit done) core.faces s)
-            (λ f. refl), changed_kept reservation (with_unit done) core.faces s (λ f. refl)) ok.at_most_one;
+        at_most_one = rw (
+          map_kept reservation (with_replenishment (core.clock + 1)) (changed_at (with_unit done) core.faces s)
+              (λ f. refl),
+          changed_kept reservation (with_unit done) core.faces s (λ f. refl),
+        ) ok.at_most_one;
         each = AllByRecursion-map (IsServer core.backlog (core.clock + 1)) (IsServer core.backlog (core.clock + 1))
             (with_replenishment (core.clock + 1)) (changed_at (with_unit done) core.faces s)
             (AllByRecursion-changed_at (IsServer core.backlog core.clock) (IsServer core.backlog (core.clock + 1)) (with_unit done) core.faces s no_face ok.each
             (λ f is. server_later core.backlog core.clock f is (core.clock + 1) (omega arith))
-                (λ is. server_run core.backlog core.clock (face_at core.faces s) is done may.ready))
+            (λ is. server_run core.backlog core.clock (face_at core.faces s) is done may.ready))
             (λ f is. server_replenished core.backlog (core.clock + 1) f is);
         jobs = AllZip-map (HoldsBacklog work) (with_replenishment (core.clock + 1)) (changed_at (jobs_run work) core.queues s)
             (changed_at (with_unit done) core.faces s)
             (AllZip-changed_at (HoldsBacklog work) core.queues core.faces s [] no_face (jobs_run work) (with_unit done) ok.jobs may.queue
-            (λ h. record { counted = counted_run (list_at core.queues s) (face_at core.faces s) may.active h.counted;
-                unfinished = unfinished_run (list_at core.queues s) h.unfinished }))
+            (λ h. record {
+              counted = counted_run (list_at core.queues s) (face_at core.faces s) may.active h.counted;
+              unfinished = unfinished_run (list_at core.queues s) h.unfinished;
+            }))
             (λ jobs f h. record { counted = h.counted; unfinished = h.unfinished });
       }
 

@@ -86,8 +86,14 @@ module _ {W : Type 0} where
           let count : (held_at after s).face.finished ≡ (held_at before s).face.finished = rw more at late.finished in
           let answer : r ≡ ran.Unit s q = rw more at is in
           let here : RunsJob work q (held_at before s) (held_at after s) =
-          record { number = n; some = rw left (omega arith); results = rw (j, left, whole_kept work law job all.0) refl;
-              accepted = late.accepted; finished = count; closed = late.closed } in
+          record {
+            number = n;
+            some = rw left (omega arith);
+            results = rw (j, left, whole_kept work law job all.0) refl;
+            accepted = late.accepted;
+            finished = count;
+            closed = late.closed;
+          } in
           rw answer (here, others)
     ]
 
@@ -103,16 +109,20 @@ module _ {W : Type 0} where
       let f = with_unit (is_some (result_run work (list_at old.queues s))) in
       let middle = changed_at f old.faces s in
       let late : (t : ℕ) → SameJobs (record { face = face_at middle t; jobs = list_at queues t }) (held_at new t) =
-          λ t. rw shown (replenished_same now middle t (list_at queues t)) in
+      λ t. rw shown (replenished_same now middle t (list_at queues t)) in
       let others : OthersSame s old new = λ t ne.
       let k = late t in
       let e = changed_elsewhere f old.faces s t no_face ne in
       let j : list_at queues t ≡ list_at old.queues t = rw jobs (changed_elsewhere (jobs_run work) old.queues s t [] ne) in
-      record { jobs = j; accepted = k.accepted ∙ ap (λ (x : Face). x.accepted) e; finished = k.finished ∙ ap (λ (x : Face). x.finished) e;
-          closed = k.closed ∙ ap (λ (x : Face). x.closed) e } in
+      record {
+        jobs = j;
+        accepted = k.accepted ∙ ap (λ (x : Face). x.accepted) e;
+        finished = k.finished ∙ ap (λ (x : Face). x.finished) e;
+        closed = k.closed ∙ ap (λ (x : Face). x.closed) e;
+      } in
       let here : list_at queues s ≡ jobs_run work (list_at old.queues s) = rw jobs (changed_here (jobs_run work) old.queues s [] may.queue) in
       let there : SameJobs (record { face = f (face_at old.faces s); jobs = list_at queues s }) (held_at new s) =
-          rw (changed_here f old.faces s no_face may.within) at (late s) in
+      rw (changed_here f old.faces s no_face may.within) at (late s) in
       let jobs = list_at old.queues s in
       let q = (face_at old.faces s).finished in
       rw (← view) (ran_jobs work law s old new others jobs q r may.active may.unfinished refl here there refl is)

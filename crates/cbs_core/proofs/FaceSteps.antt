@@ -52,8 +52,15 @@ module _ (backlog now : ℕ) where
 
     -- through a close
     pub server_closed : IsServer backlog now (with_close f)
-    server_closed = record { lawful = ok.lawful; state = ok.state; begun = ok.begun; early = ok.early; counted = ok.counted;
-        few_done = ok.few_done; few_jobs = ok.few_jobs }
+    server_closed = record {
+      lawful = ok.lawful;
+      state = ok.state;
+      begun = ok.begun;
+      early = ok.early;
+      counted = ok.counted;
+      few_done = ok.few_done;
+      few_jobs = ok.few_jobs;
+    }
 
     -- through a job that comes in, where the backlog is not full
     pub server_joined : backlog_of f < backlog → IsServer backlog now (with_job now f)
@@ -62,8 +69,15 @@ module _ (backlog now : ℕ) where
         elim (cases_Bool (is_active f || f.state.throttled)) [
           | inl t ↦
               let begun : 0 < f.state.deadline = let b = ok.begun in let m = ok.state.unmarked in grind (arith, nat_tests) in
-              rw t record { lawful = ok.lawful; state = ok.state; begun = λ _. begun; early = ok.early; counted = omega arith;
-                  few_done = ok.few_done; few_jobs = omega arith }
+              rw t record {
+                lawful = ok.lawful;
+                state = ok.state;
+                begun = λ _. begun;
+                early = ok.early;
+                counted = omega arith;
+                few_done = ok.few_done;
+                few_jobs = omega arith;
+              }
           | inr n ↦
               rw n record {
                 lawful = ok.lawful;
@@ -88,7 +102,7 @@ module _ (backlog now : ℕ) where
         let e = ok.early in
         let p = ok.lawful.short in
         let rest : (finished : ℕ) → f.finished ≤ finished → finished ≤ f.finished + 1
-            → IsServer backlog (now + 1) (record (with_unit false f) { finished = finished }) = λ finished least most. record {
+        → IsServer backlog (now + 1) (record (with_unit false f) { finished = finished }) = λ finished least most. record {
           lawful = ok.lawful;
           state = IsState-after_unit f.terms.mode f.terms.reservation f.state ok.lawful ok.state run.free begun;
           begun = λ _. begun_after_unit f.terms.mode f.terms.reservation f.state begun;

@@ -87,8 +87,10 @@ all_sleep now m n (f ∷ fs) some lt rest each = (sleeps now m f rest.0 some (le
 all_waits : (now k : ℕ) (fs : List Face) → k ≤ clock_end - now → NoneReady fs
     → ((m : ℕ) → 0 < m → m < k → NoneReady (map (with_replenishment (now + m)) fs)) → AllByRecursion (λ f. k ≤ wait now f) fs
 all_waits now k [] end rest quiet = tt
-all_waits now k (f ∷ fs) end rest quiet = (wait_most now k f end rest.0 (λ m some lt. (quiet m some lt).0),
-    all_waits now k fs end rest.1 (λ m some lt. (quiet m some lt).1))
+all_waits now k (f ∷ fs) end rest quiet = (
+  wait_most now k f end rest.0 (λ m some lt. (quiet m some lt).0),
+  all_waits now k fs end rest.1 (λ m some lt. (quiet m some lt).1),
+)
 
 module _ {W : Type 0} (work : Meaning W) (w : World W) where
   -- after m ticks, one at least, each server shows what one replenishment at the last tick makes of its face

@@ -43,7 +43,7 @@ module _ {W : Type 0} (work : Meaning W) where
   admitted_by {core} {held} {M} view ok agrees =
       let shown : core.faces ≡ faces work (world_after work M) = rw view agrees.world.shown in
       let same : reservations core.faces ≡ given work M.setup =
-          ap reservations shown ∙ rates_are work (world_after work M).accounts ∙ rates_after work M.setup M.steps in
+      ap reservations shown ∙ rates_are work (world_after work M).accounts ∙ rates_after work M.setup M.steps in
       rw (← same) record {
         lawful = AllByRecursion-map (IsServer core.backlog core.clock) (λ (r : Rate). IsRate r.budget r.period)
             (λ (f : Face). f.terms.reservation) core.faces ok.each (λ f is. is.lawful);
@@ -65,11 +65,11 @@ module _ {W : Type 0} (work : Meaning W) where
         elim (cases_lt s (length core.faces)) [
           | inl lt ↦
               let is : face_of work (account w.accounts s) ≡ face_at core.faces s =
-                  sym (account_face work w.accounts s) ∙ ap (λ fs. face_at fs s) (sym shown) in
+              sym (account_face work w.accounts s) ∙ ap (λ fs. face_at fs s) (sym shown) in
               let early = ready_early work M.setup M.steps (admitted_by view ok agrees) (known_on_time work M.setup M.steps on) s
-                  (omega (arith, length-map w.accounts (face_of work))) in
+              (omega (arith, length-map w.accounts (face_of work))) in
               let goal : (face_at core.faces s).finished < (face_at core.faces s).accepted → (face_at core.faces s).state.throttled ≡ false
-                  → w.now < (face_at core.faces s).state.deadline = λ some free.
+              → w.now < (face_at core.faces s).state.deadline = λ some free.
               let ready : is_ready (face_at core.faces s) ≡ true = grind (arith, nat_tests) in
               let l = early (ap is_ready is ∙ ready) in
               let d = ap (λ (f : Face). f.state.deadline) is in

@@ -52,7 +52,7 @@ module _ (es : List Entry) (place : ℕ) (free d : Entry) (slots : List Entry) w
   read_down is some within =
       let next : suc (place - 1) ≡ place = omega (arith, some) in
       rw is (subst (λ n. get_or (insert es n free) (place - 1) d ≡ get_or es (place - 1) d) next
-          (read_before es (place - 1) free d (omega (arith, some, within))))
+      (read_before es (place - 1) free d (omega (arith, some, within))))
 
   pub moved_down : slots ≡ insert es place free → 0 < place → place ≤ length es
       → set slots place (get_or slots (place - 1) d) ≡ insert es (place - 1) (get_or es (place - 1) d)
@@ -114,7 +114,7 @@ module _ (es : List Entry) (place : ℕ) (free d : Entry) (slots : List Entry) w
   read_far is some within =
       let four : (place - 4) + 4 ≡ place = omega (arith, some) in
       rw is (subst (λ n. get_or (insert es n free) (place - 4) d ≡ get_or es (place - 4) d) four
-          (read_fourth es (place - 4) free d (omega (arith, some, within))))
+      (read_fourth es (place - 4) free d (omega (arith, some, within))))
 
   pub far_moved : slots ≡ insert es place free → 4 ≤ place → place ≤ length es
       → copy_within slots (place - 4) place (place - 3) ≡ insert es (place - 4) (get_or es (place - 4) d)
@@ -125,7 +125,7 @@ module _ (es : List Entry) (place : ℕ) (free d : Entry) (slots : List Entry) w
       let five : (place - 4) + 1 + 4 ≡ (place - 4) + 5 = omega arith in
       let moved = four_moved es (place - 4) free d (omega (arith, some, within)) in
       rw (is, one, many, five) (subst (λ n. take ((place - 4) + 1) (insert es n free) ++ take 4 (drop (place - 4) (insert es n free))
-          ++ drop ((place - 4) + 5) (insert es n free)
+      ++ drop ((place - 4) + 5) (insert es n free)
       ≡ insert es (place - 4) (get_or es (place - 4) d)) four moved)
 
 -- an entry that stands apart from each of a list stands apart from the one at place i

@@ -76,8 +76,12 @@ modes_go_on ms rs i d within is = at_drop_more (modes_with ms) rs i d within ∙
 pub paired_goes_on : (p : Planned) (ms : List Mode) (r : Server) {new : Planned} {news : List Mode} → length ms ≡ length p.rates → new ≡ with_server p r
     → news ≡ with_mode ms r → length news ≡ length new.rates
 paired_goes_on p ms r paired is_plan is_modes = rw (is_plan, is_modes)
-    (omega (arith, paired, length-append ms (unwrap_or (mode_from r.mode) Soft ∷ []),
-    length-append p.rates (record { budget = r.budget; period = r.period } ∷ [])))
+    (omega (
+      arith,
+      paired,
+      length-append ms (unwrap_or (mode_from r.mode) Soft ∷ []),
+      length-append p.rates (record { budget = r.budget; period = r.period } ∷ []),
+    ))
 
 -- as many reservations as servers
 pub planned_each : (p : Planned) (rs : List Server) → length (plan_with p rs).rates ≡ length p.rates + length rs

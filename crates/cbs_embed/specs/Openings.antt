@@ -51,4 +51,4 @@ OpensOrRefuses servers handles backlog ring (Ok x) = (setup_refusal whole_proces
     × (open_refusal backlog ring ≡ None)
 OpensOrRefuses servers handles backlog ring (Err error) =
     (setup_refusal whole_processor servers ≡ Some error) ⊎ ((setup_refusal whole_processor servers ≡ None)
-        × RefusesOpening (length servers) handles backlog ring error)
+    × RefusesOpening (length servers) handles backlog ring error)

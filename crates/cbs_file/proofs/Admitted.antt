@@ -17,7 +17,7 @@ module _ {V : Type 0} (view : V → Data) (mode : Option Mode) where
   unfolding admitted_from
   admitted_on i so_far next vs v total lt given before =
       let one : admitted_from mode i so_far (map view (drop i vs)) ≡ admitted_from mode (i + 1) next (map view (drop (i + 1) vs)) =
-          rw (drop_more vs i v lt, given) refl in
+      rw (drop_more vs i v lt, given) refl in
       sym one ∙ before
 
   -- .. or has a fault

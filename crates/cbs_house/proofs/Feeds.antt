@@ -133,7 +133,7 @@ module _ {W A : Type 0} {g : Ghosts W} where
   feeds_opened rings rings' (x ∷ a) [] e p o = absurd p
   feeds_opened rings rings' (x ∷ a) (y ∷ b) e p o =
       All-cons (λ f. IsOpened rings' f.client) y b (opened_same rings rings' x y e p.0 (All-head (λ f. IsOpened rings f.client) x a o))
-          (feeds_opened rings rings' a b e p.1 (All-tail (λ f. IsOpened rings f.client) x a o))
+      (feeds_opened rings rings' a b e p.1 (All-tail (λ f. IsOpened rings f.client) x a o))
 
   -- two ways to say that each client was opened
   one_of_all : (P : Client W A g → Type 0) (front back : List (Client W A g)) (c : Client W A g) → All P (front ++ c ∷ back) → P c
@@ -212,7 +212,7 @@ module _ {W A : Type 0} {g : Ghosts W} where
   server_noted servers fs i s d k l e h =
       let f = λ (x : Feed W A g). server_of x.client in
       take_more_set servers i s k ∙ (ap₂ (λ xs (x : ℕ). xs ++ x ∷ []) h (e ∙ sym (get_or-map f fs i d 0 l))
-          ∙ sym (take_more (servers_of fs) i 0 (omega (arith, length-map fs f))))
+      ∙ sym (take_more (servers_of fs) i 0 (omega (arith, length-map fs f))))
 
 module _ {W A : Type 0} {g : Ghosts W} (n : ℕ) where
   -- a feed that did nothing sends no more than it may

@@ -50,10 +50,16 @@ module _ {W : Type 0} (work : Meaning W) (h h' : Held W) (ms ms' : List (Message
   pub keeps_job : (job : W) (q : ℕ) → TakesJob job q h h' → h.face.closed ≡ false → ms' ≡ ms ++ Job job ∷ [] → n' ≡ n → rs' ≡ rs
       → KeepsServer work h' ms' n' rs'
   keeps_job job q t unclosed e i f = rw (e, i, f) (record {
-    outputs = rw (t.jobs, jobs_among-job ms job, map-append (whole work) h.jobs (job ∷ []),
-        map-append (whole work) (jobs_among ms) (job ∷ []), ← append_assoc rs (map (whole work) h.jobs) (whole work job ∷ []), k.outputs)
+    outputs = rw (
+      t.jobs,
+      jobs_among-job ms job,
+      map-append (whole work) h.jobs (job ∷ []),
+      map-append (whole work) (jobs_among ms) (job ∷ []),
+      ← append_assoc rs (map (whole work) h.jobs) (whole work job ∷ []),
+      k.outputs,
+    )
         (sym (drop-append-le n (map (whole work) (jobs_among ms)) (whole work job ∷ [])
-            (let w = k.within in omega (arith, w, length-map (jobs_among ms) (whole work)))));
+        (let w = k.within in omega (arith, w, length-map (jobs_among ms) (whole work)))));
     within = let w = k.within in rw (jobs_among-job ms job) (omega (arith, w, length-append (jobs_among ms) (job ∷ [])));
     accepted = let a = t.accepted in let b = k.accepted in rw (jobs_among-job ms job) (omega (arith, length-append (jobs_among ms) (job ∷ [])));
     finished = t.finished ∙ k.finished;
@@ -100,8 +106,15 @@ module _ {W : Type 0} (work : Meaning W) (h h' : Held W) (ms ms' : List (Message
       let e = ap length k.outputs in
       let w = k.within in
       let all = map (whole work) (jobs_among ms) in
-      omega (arith, length-append rs (map (whole work) h.jobs), length-map h.jobs (whole work), length-map (jobs_among ms) (whole work),
-          length-drop n all, e, w)
+      omega (
+        arith,
+        length-append rs (map (whole work) h.jobs),
+        length-map h.jobs (whole work),
+        length-map (jobs_among ms) (whole work),
+        length-drop n all,
+        e,
+        w,
+      )
 
   -- all results are handed out: none of them is kept, and they are counted
   pub keeps_handed : n' ≡ n + length rs → rs' ≡ [] → KeepsServer work h ms n' rs'
@@ -120,7 +133,7 @@ module _ {W A : Type 0} (work : Meaning W) (core core' : CoreHeld W) (rings ring
   -- one server is changed, and the others are as before
   pub housed_one :
       (t : ℕ) → rings_in rings' ≡ rings_in rings → length shelves' ≡ length shelves → length core'.faces ≡ length core.faces → (xs : List (Step W))
-          → Follows work core core' xs
+      → Follows work core core' xs
       → (t < length core.faces → KeepsServer work (held_at core' t) (received_in rings' t) (shelf_at shelves' t).handed (shelf_at shelves' t).results)
       → (t < length core.faces → (shelf_at shelves' t).announced ≡ (held_at core' t).face.accepted)
       → ((s : ℕ) → s ≢ t → SameJobs (held_at core s) (held_at core' s))
@@ -147,7 +160,7 @@ module _ {W A : Type 0} (work : Meaning W) (core core' : CoreHeld W) (rings ring
   -- all servers are as before
   pub housed_all :
       rings_in rings' ≡ rings_in rings → length shelves' ≡ length shelves → length core'.faces ≡ length core.faces → (xs : List (Step W))
-          → Follows work core core' xs
+      → Follows work core core' xs
       → ((s : ℕ) → SameJobs (held_at core s) (held_at core' s))
       → ((s : ℕ) → received_in rings' s ≡ received_in rings s)
       → ((s : ℕ) → SameShelf (shelf_at shelves s) (shelf_at shelves' s))
@@ -169,7 +182,7 @@ module _ {W A : Type 0} (work : Meaning W) (core core' : CoreHeld W) (rings ring
   housed_handed t c r n here others = housed_one t (ap rings_in r) n (ap (λ (x : CoreHeld W). length x.faces) c) [] (λ M agrees. rw c agrees)
       (λ l. rw (c, r) (keeps_handed work (held_at core t) (held_at core t) (received_in rings t) (received_in rings t)
       (shelf_at shelves t).handed (shelf_at shelves' t).handed (shelf_at shelves t).results (shelf_at shelves' t).results (h.servers t l)
-          here.handed here.results))
+      here.handed here.results))
       (λ l. rw c (here.announced ∙ h.announced t l))
       (λ s ne. rw c (record { jobs = refl; accepted = refl; finished = refl; closed = refl })) (λ s ne. rw r refl) others
 
@@ -192,7 +205,7 @@ module _ {W A : Type 0} (work : Meaning W) (core core' : CoreHeld W) (rings ring
       housed_one t r (ap length e) c xs follows
       (λ l. keeps_unit work (held_at core t) (held_at core' t) (received_in rings t) (received_in rings' t)
       (shelf_at shelves t).handed (shelf_at shelves' t).handed (shelf_at shelves t).results (shelf_at shelves' t).results (h.servers t l) q
-          d.0 (m t) (rw e refl) (rw e refl))
+      d.0 (m t) (rw e refl) (rw e refl))
       (λ l. rw e (h.announced t l ∙ sym d.0.accepted))
       d.1 (λ s ne. m s) (λ s ne. rw e (same_shelf _))
   housed_ran (ran.Done x) n d c xs follows r m e = absurd (n x refl)
@@ -205,7 +218,7 @@ module _ {W A : Type 0} (work : Meaning W) (core core' : CoreHeld W) (rings ring
       let k = h.servers s l in
       let shelf = shelf_at shelves s in
       let all = counts work (held_at core s) (held_at core' s) (received_in rings s) (received_in rings s) shelf.handed shelf.handed
-          shelf.results shelf.results k in
+      shelf.results shelf.results k in
       let some : length (held_at core s).jobs ≡ length (held_at core' s).jobs + 1 =
       let e = ap length f.results in omega (arith, e, length-map (held_at core s).jobs (whole work), length-map (held_at core' s).jobs (whole work)) in
       record {
@@ -226,7 +239,7 @@ held_none work core rings shelves h complete s = elim (cases_lt s (length core.f
       let k = h.servers s l in
       let shelf = shelf_at shelves s in
       let all = counts work (held_at core s) (held_at core s) (received_in rings s) (received_in rings s) shelf.handed shelf.handed
-          shelf.results shelf.results k in
+      shelf.results shelf.results k in
       let done = complete s no_shelf (omega (arith, h.shelf_count, l)) in
       no_jobs (taken shelf) (length (jobs_among (received_in rings s))) (held_at core s).jobs all (sym k.accepted ∙ (sym (h.announced s l) ∙ done))
   | inr ge ↦ none_beyond work core h.history s ge

@@ -59,7 +59,7 @@ pub span_granted : {W E : Type 0} (work : Meaning W) (core : CoreHeld W) (r : Re
 span_granted work core (Ok x) n history early end span = refl
 span_granted work core (Err e) n history early end span =
     absurd (history (λ M agrees. let past = end M agrees in let within = (span M agrees).within in let clock = agrees.world.clock in omega
-        (arith, past, within, clock)))
+    (arith, past, within, clock)))
 
 module _ {W A : Type 0} {g : Ghosts W} (work : Meaning W) where
   pub made_both : (a b c : House W A g) (xs ys : List (Step W)) → Made work a b xs → Made work b c ys → Made work a c (xs ++ ys)
@@ -76,8 +76,14 @@ module _ {W A : Type 0} {g : Ghosts W} (work : Meaning W) where
   }
 
   pub made_nothing : (a : House W A g) → Made work a a []
-  made_nothing a = record { steps = λ M agrees. agrees; keeps_time = λ M agrees. tt; rings = refl;
-      received = λ s. sym (append-nil (received a s)); known = λ s. ([], append-nil (known a s)); handed = λ s. refl }
+  made_nothing a = record {
+    steps = λ M agrees. agrees;
+    keeps_time = λ M agrees. tt;
+    rings = refl;
+    received = λ s. sym (append-nil (received a s));
+    known = λ s. ([], append-nil (known a s));
+    handed = λ s. refl;
+  }
 
   -- a look is no step
   pub made_look : (a b : House W A g) → LooksOnly a b → Made work a b []

@@ -91,8 +91,14 @@ module _ {W A : Type 0} {g : Ghosts W} (work : Meaning W) (P Q : History W → S
   -- what one rule allows, a weaker one allows
   pub moves_weaker : (a b : House W A g) (n : ℕ) → ((N : History W) (x : Step W) → P N x → Q N x) → Moves work P a b n → Moves work Q a b n
   moves_weaker a b n w p =
-      record { steps = p.steps; made = p.made; each = allowed_weaker work P Q (core_of a) p.steps w p.each; quiet = p.quiet;
-          on_time = p.on_time; count = p.count }
+      record {
+        steps = p.steps;
+        made = p.made;
+        each = allowed_weaker work P Q (core_of a) p.steps w p.each;
+        quiet = p.quiet;
+        on_time = p.on_time;
+        count = p.count;
+      }
 
 module _ {W : Type 0} (work : Meaning W) where
   drain_serves : (N : History W) (x : Step W) → MayDrain work N x → MayServe work N x

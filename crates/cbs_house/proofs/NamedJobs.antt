@@ -23,7 +23,7 @@ at_place rs x xs n all e =
     let counts = ap length e in
     let within : n + length rs < length all = omega (arith, counts, length-append rs (x ∷ xs), length-drop n all) in
     let here : get_or all (n + length rs) x ≡ x = sym (get_or-drop n all (length rs) x)
-        ∙ (ap (λ l. get_or l (length rs) x) (sym e) ∙ get_or-append_seam rs x xs x) in
+    ∙ (ap (λ l. get_or l (length rs) x) (sym e) ∙ get_or-append_seam rs x xs x) in
     slice_get-get_or all (n + length rs) x within ∙ ap Some here
 
 module _ {W A : Type 0} {g : Ghosts W} (old h : House W A g) where
@@ -33,7 +33,7 @@ module _ {W A : Type 0} {g : Ghosts W} (old h : House W A g) where
   comes_first s q job rest lt first number =
       let k = h.housed.servers s lt in
       let place = at_place (results_of h s) (whole g.meaning job) (map (whole g.meaning) rest) (handed_of h s)
-          (map (whole g.meaning) (jobs_among (received h s))) (rw first at k.outputs) in
+      (map (whole g.meaning) (jobs_among (received h s))) (rw first at k.outputs) in
       record { told = rw (number, k.finished) place }
 
   -- the result that was put behind the others is that of the job received of its number
@@ -45,7 +45,7 @@ module _ {W A : Type 0} {g : Ghosts W} (old h : House W A g) where
       let rs = results_of old s in
       let jobs = map (whole g.meaning) (held_at (core_of h) s).jobs in
       let place = at_place rs c.result jobs (handed_of h s) (map (whole g.meaning) (jobs_among (received h s)))
-          (sym (append_assoc rs (c.result ∷ []) jobs) ∙ (ap (λ l. l ++ jobs) (sym put) ∙ k.outputs)) in
+      (sym (append_assoc rs (c.result ∷ []) jobs) ∙ (ap (λ l. l ++ jobs) (sym put) ∙ k.outputs)) in
       let f = k.finished in
       let n = ap length put in
       let number : c.seq ≡ handed_of h s + length rs = omega (arith, f, n, count, length-append rs (c.result ∷ [])) in
@@ -70,7 +70,7 @@ module _ {W A : Type 0} {g : Ghosts W} (old h : House W A g) where
   names (ran.Unit s q) does put =
       let run = does.0 in
       names_first s q (held_at (core_of h) s).jobs refl run.some (holds_within g.meaning (core_of h) h.housed.history s run.some)
-          (run.number ∙ sym run.finished)
+      (run.number ∙ sym run.finished)
   names (ran.Done c) does put =
       let count = does.0.finished in
       let number = does.0.number in

@@ -67,7 +67,7 @@ module _ {X Y Z : Type 0} where
       → map f xs ≡ map h ys → map f xs' ≡ map h ys'
   map_pushed f h xs xs' ys ys' x y a b e k =
       ap (map f) a ∙ (map-append f xs (x ∷ []) ∙ (ap (λ zs. zs ++ f x ∷ []) k
-          ∙ (ap (λ z. map h ys ++ z ∷ []) e ∙ (sym (map-append h ys (y ∷ [])) ∙ ap (map h) (sym b)))))
+      ∙ (ap (λ z. map h ys ++ z ∷ []) e ∙ (sym (map-append h ys (y ∷ [])) ∙ ap (map h) (sym b)))))
 
 pub numbered_pushed : {X : Type 0} (f : X → ℕ) (xs xs' : List X) (x : X) (n : ℕ) → xs' ≡ xs ++ x ∷ [] → f x ≡ n → map f xs ≡ range_with_len 0 n
     → map f xs' ≡ range_with_len 0 (n + 1)
@@ -90,5 +90,5 @@ module _ {W A : Type 0} {g : Ghosts W} where
       sym (at_map server_of cs k d 0 l) ∙ (ap (λ xs. get_or xs k 0) b ∙ (get_or-range_with_len 0 n k 0 (omega (arith, count, l)) ∙ zero-add k)) in
       let ring : slice_get (map ring_of cs) k ≡ Some (ring_of c) =
       slice_get-get_or (map ring_of cs) k (ring_of c) (omega (arith, length-map cs (ring_of {W = W}), l))
-          ∙ ap (λ r. Some r) (at_map ring_of cs k d (ring_of c) l) in
+      ∙ ap (λ r. Some r) (at_map ring_of cs k d (ring_of c) l) in
       ap (λ (x : ℕ). slice_get rings x) here ∙ (ap (λ rs. slice_get rs k) a ∙ ring)

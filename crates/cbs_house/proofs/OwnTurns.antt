@@ -95,7 +95,7 @@ module _ {W A : Type 0} {g : Ghosts W} (work : Meaning W) where
         let w = world_after work M in
         let told : ran.Done c ≡ run_reply work w (chosen work w) = let e = answer M agrees in cc in
         let shown : face_at (core_of h).faces c.server ≡ face_of work (account w.accounts c.server) =
-            ap (λ fs. face_at fs c.server) agrees.world.shown ∙ account_face work w.accounts c.server in
+        ap (λ fs. face_at fs c.server) agrees.world.shown ∙ account_face work w.accounts c.server in
         ne (done_number work w (chosen work w) c told ∙ (sym (ap (λ f. f.finished) shown) ∙ finished_results h housed c.server))))
   ]
 
@@ -160,17 +160,35 @@ module _ {W A : Type 0} {g : Ghosts W} (work : Meaning W) where
 
   -- what leads to a poll without memory, and on from it
   pub lacked_behind : (a b c : House W A g) → ServesOn work a b → LackedMemory work b c → LackedMemory work a c
-  lacked_behind a b c h k = record { before = k.before; after = k.after; server = k.server;
-      first = serves_then work a b k.before h k.first; polled = k.polled; rest = k.rest }
+  lacked_behind a b c h k = record {
+    before = k.before;
+    after = k.after;
+    server = k.server;
+    first = serves_then work a b k.before h k.first;
+    polled = k.polled;
+    rest = k.rest;
+  }
 
   lacked_before : (a b c : House W A g) → LackedMemory work a b → ServesOn work b c → LackedMemory work a c
-  lacked_before a b c k h = record { before = k.before; after = k.after; server = k.server; first = k.first; polled = k.polled;
-      rest = serves_then work k.after b c k.rest h }
+  lacked_before a b c k h = record {
+    before = k.before;
+    after = k.after;
+    server = k.server;
+    first = k.first;
+    polled = k.polled;
+    rest = serves_then work k.after b c k.rest h;
+  }
 
   lacked : (s : ℕ) (a b : House W A g) (ps : List Poll) → Answered work s a ps b → list_any lacks_memory ps ≡ true → LackedMemory work a b
   lacked s a b [] h e = absurd (false≢true e)
-  lacked s a b (OutOfMemory ∷ ps) h e = record { before = a; after = h.0; server = s; first = serves_none work a; polled = h.1;
-      rest = serves_answered (s + 1) h.0 b ps h.2 }
+  lacked s a b (OutOfMemory ∷ ps) h e = record {
+    before = a;
+    after = h.0;
+    server = s;
+    first = serves_none work a;
+    polled = h.1;
+    rest = serves_answered (s + 1) h.0 b ps h.2;
+  }
   lacked s a b (Nothing ∷ ps) h e = lacked_behind a h.0 b (serves_poll work a h.0 s Nothing h.1) (lacked (s + 1) h.0 b ps h.2 e)
   lacked s a b (Took q ∷ ps) h e = lacked_behind a h.0 b (serves_poll work a h.0 s (Took q) h.1) (lacked (s + 1) h.0 b ps h.2 e)
   lacked s a b (Closed ∷ ps) h e = lacked_behind a h.0 b (serves_poll work a h.0 s Closed h.1) (lacked (s + 1) h.0 b ps h.2 e)
@@ -181,17 +199,17 @@ module _ {W A : Type 0} {g : Ghosts W} (work : Meaning W) where
   turn_lacked : (a b : House W A g) (t : Turn) → TakesOwnTurn work a b t → t.out_of_memory ≡ true → LackedMemory work a b
   turn_lacked a b t h e =
       lacked_before a h.between b (lacked 0 a h.between h.polled.answers h.polled.answered (sym h.polled.memory ∙ e))
-          (serves_on h.between b t.ran t.advanced h.goes_on)
+      (serves_on h.between b t.ran t.advanced h.goes_on)
 
   -- a unit, or an advance, moves the clock
   later_on : (a b : House W A g) (r : Ran) (n : ℕ) → Housed work a.core a.rings a.collector → GoesOn work a b r n
       → ((core_of a).clock < (core_of b).clock) ⊎ ((b ≡ a) × StaysBy r a)
   later_on a b r n housed (inl k) =
       inl (later_by work a.core b.core Run housed.history k.0.made.steps
-          (λ M agrees. let u = k.0.useful M agrees in run_later work M.setup.backlog (world_after work M) u.ready u.early))
+      (λ M agrees. let u = k.0.useful M agrees in run_later work M.setup.backlog (world_after work M) u.ready u.early))
   later_on a b r n housed (inr (inl k)) =
       inl (later_by work a.core b.core (Advance n) housed.history k.0.made.steps
-          (λ M agrees. let u = k.0.needed M agrees in advance_later work M.setup.backlog (world_after work M) n u.span u.early))
+      (λ M agrees. let u = k.0.needed M agrees in advance_later work M.setup.backlog (world_after work M) n u.span u.early))
   later_on a b r n housed (inr (inr k)) = inr (k.0, k.1)
 
   stays_idle : (r : Ran) (h : House W A g) → r ≢ ran.ClockEnd → StaysBy r h → HoldsNoJob (core_of h)

@@ -29,8 +29,10 @@ module _ {W A S : Type 0} {g : Ghosts W} (work : Meaning W) (hears : S → Compl
   run_none a u = record { steps = serves_none work a; told = tells_none hears a a u (λ s. refl) }
 
   pub run_then : (a b c : House W A g) (u v w : S) → RunsTelling work hears a b u v → RunsTelling work hears b c v w → RunsTelling work hears a c u w
-  run_then a b c u v w h k = record { steps = serves_then work a b c h.steps k.steps;
-      told = tells_both hears a b c u v w (serves_handed work a b h.steps) h.told k.told }
+  run_then a b c u v w h k = record {
+    steps = serves_then work a b c h.steps k.steps;
+    told = tells_both hears a b c u v w (serves_handed work a b h.steps) h.told k.told;
+  }
 
 module _ {W A : Type 0} {g : Ghosts W} (work : Meaning W) where
   -- a run that stops behind another run stops the two

@@ -27,7 +27,7 @@ module _ {W A : Type 0} {g : Ghosts W} (work : Meaning W) (h : House W A g) (hou
       let s = server_of f.client in
       let l : s < length (core_of h).faces = omega (arith, housed.ring_count, opened_within (rings_of h) f.client opened) in
       let all : jobs_among (received h s) ≡ all_jobs f = ap jobs_among settled
-          ∙ (sym (append-nil (jobs_among (sent_by f.client))) ∙ ap (λ ws. jobs_among (sent_by f.client) ++ ws) (sym done.none_left)) in
+      ∙ (sym (append-nil (jobs_among (sent_by f.client))) ∙ ap (λ ws. jobs_among (sent_by f.client) ++ ws) (sym done.none_left)) in
       record {
         done = done;
         results = none_held none s l ∙ ap (λ ws. drop (handed_of h s) (map (whole work) ws)) all;

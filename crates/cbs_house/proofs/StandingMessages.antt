@@ -116,8 +116,11 @@ module _ {W A : Type 0} {g : Ghosts W} where
 
   -- where nothing stands in the ring any more, all that was sent was received
   pub standing_none : (a : House W A g) (f : Feed W A g) → Standing a f.client 0 → IsTaken a f
-  standing_none a f h = ([], append-nil (sent_by f.client) ∙
-      (h.sent ∙ (ap (λ ms. received a (server_of f.client) ++ ms) (no_length h.rest h.count) ∙ append-nil (received a (server_of f.client)))))
+  standing_none a f h = (
+    [],
+    append-nil (sent_by f.client) ∙
+        (h.sent ∙ (ap (λ ms. received a (server_of f.client) ++ ms) (no_length h.rest h.count) ∙ append-nil (received a (server_of f.client)))),
+  )
 
   -- what was sent and received at least is what was received
   pub settled_taken : (a b : House W A g) (e f : Feed W A g) (known : List (Message W)) → server_of f.client ≡ server_of e.client

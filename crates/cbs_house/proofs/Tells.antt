@@ -67,20 +67,20 @@ module _ {W A S : Type 0} {g : Ghosts W} (hears : S → Completion → S → Typ
         k.results s ∙ (ap (λ rs. rs ++ map (λ (d : Completion). d.result) ys) (h.results s)
         ∙ (append_assoc (results_of a s) (map (λ (d : Completion). d.result) xs) (map (λ (d : Completion). d.result) ys)
         ∙ ap (λ rs. results_of a s ++ rs) (sym (map-append (λ (d : Completion). d.result) xs ys)
-            ∙ ap (map (λ (d : Completion). d.result)) (sym (filter-append (λ (d : Completion). eqb d.server s) h.completions k.completions)))));
+        ∙ ap (map (λ (d : Completion). d.result)) (sym (filter-append (λ (d : Completion). eqb d.server s) h.completions k.completions)))));
     numbers = λ s.
         let xs = completions_for s h.completions in
         let ys = completions_for s k.completions in
         let n = result_count a s in
         let kept : length (results_of b s) ≡ length (results_of a s) + length xs =
-            ap length (h.results s) ∙ (length-append (results_of a s) (map (λ (d : Completion). d.result) xs)
-            ∙ ap (λ j. length (results_of a s) + j) (length-map xs (λ (d : Completion). d.result))) in
+        ap length (h.results s) ∙ (length-append (results_of a s) (map (λ (d : Completion). d.result) xs)
+        ∙ ap (λ j. length (results_of a s) + j) (length-map xs (λ (d : Completion). d.result))) in
         let out = handed s in
         let m : result_count b s ≡ n + length xs = omega (arith, kept, out) in
         let both : completions_for s (h.completions ++ k.completions) ≡ xs ++ ys =
-            filter-append (λ (d : Completion). eqb d.server s) h.completions k.completions in
+        filter-append (λ (d : Completion). eqb d.server s) h.completions k.completions in
         ap (map (λ (d : Completion). d.seq)) both ∙ (map-append (λ (d : Completion). d.seq) xs ys
-            ∙ (ap (λ rs. rs ++ map (λ (d : Completion). d.seq) ys) (h.numbers s)
+        ∙ (ap (λ rs. rs ++ map (λ (d : Completion). d.seq) ys) (h.numbers s)
         ∙ (ap (λ rs. range_with_len n (length xs) ++ rs) (k.numbers s ∙ ap (λ j. range_with_len j (length ys)) m)
         ∙ (sym (range_both n (length xs) (length ys)) ∙ ap (range_with_len n) (sym (length-append xs ys) ∙ ap length (sym both))))));
   }

@@ -168,7 +168,7 @@ module _ {W A : Type 0} {g : Ghosts W} (work : Meaning W) where
       let xs = steps_in k.polls in
       let quiet : AllAllowed work (IsQuietAfter work) (core_of a) xs =
       allowed_weaker work (MayServe work) (IsQuietAfter work) (core_of a) xs (serve_quiet work)
-          (λ M agrees. allowed_turns work (length (core_of a).faces) k.polls M k.each) in
+      (λ M agrees. allowed_turns work (length (core_of a).faces) k.polls M k.each) in
       record { turns = turns; within = within; fewer = fewer; taken = k; quiet = quiet; on_time = all_on_time work (core_of a) xs k.made.keeps_time quiet }
 
   pub turns_rings : (most : ℕ) (servers : List ℕ) (a b : House W A g) (n : ℕ) → TakesTurns work most servers a b n → rings_of b ≡ rings_of a
@@ -178,8 +178,19 @@ module _ {W A : Type 0} {g : Ghosts W} (work : Meaning W) where
   pub serves_turns : (most : ℕ) (servers : List ℕ) (a b : House W A g) (n : ℕ) → TakesTurns work most servers a b n → ServesOn work a b
   serves_turns most servers a b n t =
       let k = t.taken in
-      record { moves = (n, record { steps = steps_in k.polls; made = k.made;
-          each = λ M agrees. allowed_turns work (length (core_of a).faces) k.polls M k.each; quiet = t.quiet; on_time = t.on_time; count = k.count }) }
+      record {
+        moves = (
+          n,
+          record {
+            steps = steps_in k.polls;
+            made = k.made;
+            each = λ M agrees. allowed_turns work (length (core_of a).faces) k.polls M k.each;
+            quiet = t.quiet;
+            on_time = t.on_time;
+            count = k.count;
+          },
+        );
+      }
 
   -- a round, and what is done behind it
   pub serves_round : (most : ℕ) (servers : List ℕ) (a b c d : House W A g) (n : ℕ) → ServesOn work a b → TakesTurns work most servers b c n

@@ -62,7 +62,7 @@ module _ {W A : Type 0} {g : Ghosts W} where
   TakesDueTurns work most idle old [] new later = (new ≡ old) × (later ≡ idle)
   TakesDueTurns work most idle old (t ∷ ts) new later =
       (next : House W A g) × IsDue most idle (core_of old) × TakesOwnTurn work old next t × (turn_stop t ≡ None)
-          × TakesDueTurns work most (idle_after idle (core_of old) (core_of next)) next ts new later
+      × TakesDueTurns work most (idle_after idle (core_of old) (core_of next)) next ts new later
 
   -- the house took turns where they were due, of which the last so many in a row were idle
   pub record RunsOn (work : Meaning W) (most : ℕ) (old new : House W A g) (idle : ℕ) : Type 0 where

@@ -122,8 +122,12 @@ module _ {p : Inside} {r : Rate} {budget period next : ℕ} (asked : IsAsked p r
 
     -- the sums with one more are those of the plan
     pub summed_next : IsBound p.bound.num p.bound.den
-        → IsSummed (record { bound = p.bound; rates = record { items = p.rates.items ++ r ∷ [] }; common = next;
-        taken = p.taken * (next / p.common) + budget * (next / period) })
+        → IsSummed (record {
+          bound = p.bound;
+          rates = record { items = p.rates.items ++ r ∷ [] };
+          common = next;
+          taken = p.taken * (next / p.common) + budget * (next / period);
+        })
     summed_next bounded = record {
       plan =
           let fitting = fits_next.1 within in

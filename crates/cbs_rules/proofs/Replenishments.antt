@@ -13,7 +13,7 @@ ticked_replenished r now zero s = refl
 ticked_replenished r now (suc n) s =
     let e : now + 1 + suc n ≡ now + suc (suc n) = omega arith in
     ticked_replenished r (now + 1) n (after_replenishment r (now + 1) s) ∙ replenished_twice r (now + 1) (now + 1 + suc n) s (omega arith)
-        ∙ ap (λ m. after_replenishment r m s) e
+    ∙ ap (λ m. after_replenishment r m s) e
 
 -- n ticks are one replenishment at the last of them
 pub replenished_ticked : (r : Rate) (now start n : ℕ) (s : State) → 0 < n → now ≡ start + n → after_replenishment r now s ≡ after_ticks r start n s

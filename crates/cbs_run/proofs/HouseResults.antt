@@ -44,13 +44,13 @@ module _ {W A : Type 0} {g : Ghosts W} where
       let numbers : map (λ f. server_of (client_of f)) fs' ≡ range_with_len 0 n = feeds_servers fs fs' kept ∙ servers in
       let all : map all_jobs fs' ≡ jobs =
       feeds_jobs fs fs' kept ∙ (map_all all_jobs unsent_jobs fs
-          (All-weaker (λ f. IsUnused ring (client_of f)) (λ f. all_jobs f ≡ unsent_jobs f) (unused_jobs ring) fs unused) ∙ lefts) in
+      (All-weaker (λ f. IsUnused ring (client_of f)) (λ f. all_jobs f ≡ unsent_jobs f) (unused_jobs ring) fs unused) ∙ lefts) in
       let each : map (λ f. results_of h (server_of (client_of f))) fs' ≡ map (λ f. map (whole work) (all_jobs f)) fs' =
       map_all (λ f. results_of h (server_of (client_of f))) (λ f. map (whole work) (all_jobs f)) fs'
       (All-weaker (IsServed work h) (λ f. results_of h (server_of (client_of f)) ≡ map (whole work) (all_jobs f))
-          (λ f s. s.results ∙ ap (λ k. drop k (map (whole work) (all_jobs f))) (none (server_of (client_of f)))) fs' served) in
+      (λ f s. s.results ∙ ap (λ k. drop k (map (whole work) (all_jobs f))) (none (server_of (client_of f)))) fs' served) in
       ap (map (results_of h)) (sym numbers) ∙ (map-map (results_of h) (λ f. server_of (client_of f)) fs'
-          ∙ (each ∙ (sym (map-map (map (whole work)) all_jobs fs') ∙ ap (map (map (whole work))) all)))
+      ∙ (each ∙ (sym (map-map (map (whole work)) all_jobs fs') ∙ ap (map (map (whole work))) all)))
 
 module _ {A : Type 0} {g : Ghosts FileJob} (f : File) where
   -- a house that served has the servers that it was opened with
@@ -58,18 +58,30 @@ module _ {A : Type 0} {g : Ghosts FileJob} (f : File) where
       → length (core_of b).faces ≡ length f.plan.rates
   served_count a b agrees on lawful =
       sym b.housed.ring_count ∙ (ap length (serves_rings of_files a b on)
-          ∙ (a.housed.ring_count ∙ (new_count of_files (core_of a) (start_of f).setup agrees ∙ terms_count f.modes f.plan.rates lawful.moded)))
+      ∙ (a.housed.ring_count ∙ (new_count of_files (core_of a) (start_of f).setup agrees ∙ terms_count f.modes f.plan.rates lawful.moded)))
 
   -- why a house that serves the file stops
   pub stops_short : (a b : House FileJob A g) (fs : List (Feed FileJob A g)) (e : HouseError) → Agrees of_files (core_of a) (start_of f)
       → ServesOn of_files a b → Stops e b fs → HouseStops f e
   stops_short a b fs house.OutOfMemory agrees on s = tt
   stops_short a b fs house.ClockEnd agrees on s =
-      let m = on.moves.1 in record { steps = m.steps; core =
-          core_of b; allowed = m.each (start_of f) agrees; agrees = m.made.steps (start_of f) agrees; comes = s }
+      let m = on.moves.1 in record {
+        steps = m.steps;
+        core =
+            core_of b;
+        allowed = m.each (start_of f) agrees;
+        agrees = m.made.steps (start_of f) agrees;
+        comes = s;
+      }
   stops_short a b fs house.Stalled agrees on s =
-      let m = on.moves.1 in record { steps = m.steps; core =
-          core_of b; allowed = m.each (start_of f) agrees; agrees = m.made.steps (start_of f) agrees; comes = s.drained }
+      let m = on.moves.1 in record {
+        steps = m.steps;
+        core =
+            core_of b;
+        allowed = m.each (start_of f) agrees;
+        agrees = m.made.steps (start_of f) agrees;
+        comes = s.drained;
+      }
   stops_short a b fs house.BadBacklog agrees on s = s
   stops_short a b fs house.BadRing agrees on s = s
   stops_short a b fs house.NoSuchServer agrees on s = s
@@ -87,4 +99,4 @@ pub results_more : (f : ℕ → List ℕ) {X : Type 0} (view : X → List ℕ) (
     → view x ≡ f n → map view (xs ++ x ∷ []) ≡ map f (range_with_len 0 (n + 1))
 results_more f view xs x n e here =
     map-append view xs (x ∷ []) ∙ (ap (λ rs. rs ++ view x ∷ []) e
-        ∙ (ap (λ r. map f (range_with_len 0 n) ++ r ∷ []) here ∙ sym (map-range_with_len_more f 0 n n (omega arith))))
+    ∙ (ap (λ r. map f (range_with_len 0 n) ++ r ∷ []) here ∙ sym (map-range_with_len_more f 0 n n (omega arith))))

@@ -35,10 +35,10 @@ module _ {X : Type 0} (jobs : X → List FileJob) (lists : List X) where
       → get_or (map jobs (set lists i y)) s [] ≡ get_or (map jobs lists) s [] ++ jobs_for s (Submit server job ∷ [])
   job_listed i server s x y job same lt at pushed =
       let was : jobs x ≡ get_or (map jobs lists) server [] =
-          ap jobs at ∙ (ap (λ k. jobs (get_or lists k x)) same ∙ sym (get_or-map jobs lists server x [] lt)) in
+      ap jobs at ∙ (ap (λ k. jobs (get_or lists k x)) same ∙ sym (get_or-map jobs lists server x [] lt)) in
       let is : jobs y ≡ get_or (map jobs lists) server [] ++ job ∷ [] = pushed ∙ ap (λ js. js ++ job ∷ []) was in
       let written : map jobs (set lists i y) ≡ set (map jobs lists) server (get_or (map jobs lists) server [] ++ job ∷ []) =
-          map-set jobs lists i y ∙ rw (same, is) refl in
+      map-set jobs lists i y ∙ rw (same, is) refl in
       rw written (submit_listed (map jobs lists) server s job (omega (arith, length-map lists jobs)))
 
 -- a list has the jobs of one step more, and the jobs of the steps that are left are its others

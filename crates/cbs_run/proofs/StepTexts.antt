@@ -43,7 +43,7 @@ module _ (text : StepText) where
   texts_after-append M [] ys = refl
   texts_after-append M (x ∷ xs) ys =
       ap (λ t. text_after text M x ++ t) (texts_after-append (M ⊕ x) xs ys)
-          ∙ sym (append_assoc (text_after text M x) (texts_after text (M ⊕ x) xs) (texts_after text ((M ⊕ x) ⊕⊕ xs) ys))
+      ∙ sym (append_assoc (text_after text M x) (texts_after text (M ⊕ x) xs) (texts_after text ((M ⊕ x) ⊕⊕ xs) ys))
 
   texts_after-push : (M : History FileJob) (xs : List (Step FileJob)) (x : Step FileJob)
       → texts_after text M (xs ++ x ∷ []) ≡ texts_after text M xs ++ text_after text (M ⊕⊕ xs) x
@@ -147,9 +147,9 @@ module _ {text : StepText} {M : History FileJob} {steps : List (Step FileJob)} {
       let N = M ⊕⊕ so_far.done in
       let more = texts_after text (N ⊕ x) xs in
       let whole : texts_after text M steps ≡ texts_after text M so_far.done ++ (part ++ more) =
-          texts_are so_far ∙ ap (λ t. texts_after text M so_far.done ++ t) (rw (is, its N so_far.agrees) refl) in
+      texts_are so_far ∙ ap (λ t. texts_after text M so_far.done ++ t) (rw (is, its N so_far.agrees) refl) in
       rw whole (part_ends old now new (waiting ++ part) more _ _ (sym (append_assoc waiting part more))
-          (waits_too old now waiting _ (part ++ more) so_far.lines) wrote)
+      (waits_too old now waiting _ (part ++ more) so_far.lines) wrote)
 
 -- what the core made is of no account to the writer
 pub without_core : (text : StepText) (M : History FileJob) (steps : List (Step FileJob)) (core : CoreHeld FileJob)

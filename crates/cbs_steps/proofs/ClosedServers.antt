@@ -36,9 +36,9 @@ module _ {W : Type 0} (work : Meaning W) where
   not_accepted : (M : History W) (s : ℕ) (job : W) (r : Reply W) → (account_in work M s).closed ≡ true → Answers work M (Submit s job) r → IsAccepted r → ⊥
   not_accepted M s job r h answers accepted =
       let refusal = closed_refuses M.setup.backlog (faces work (world_after work M)) s
-          (ap (λ (f : Face). f.closed) (account_face work (world_after work M).accounts s) ∙ h) in
+      (ap (λ (f : Face). f.closed) (account_face work (world_after work M).accounts s) ∙ h) in
       let is : reply_in work M (Submit s job) ≡ reply.NotAccepted (record { error = refusal.0; task = job }) =
-          ap (submit_reply (world_after work M) s job) refusal.1 in
+      ap (submit_reply (world_after work M) s job) refusal.1 in
       elim (cases_Bool (is_lack r)) [
         | inl t ↦ let p : HandsBack (Submit s job) r × IsAccepted (reply_in work M (Submit s job)) = rw t at answers in let e = accepted.1 in let k = p.0 in cc
         | inr f ↦ let p : r ≡ reply_in work M (Submit s job) = rw f at answers in let e = accepted.1 in cc
@@ -77,9 +77,10 @@ module _ {W : Type 0} (work : Meaning W) where
       → (closed ≡ true → (account_in work M s).closed ≡ true) → NoneAfterClose s closed xs rs
   NoneAfterClose-all M [] rs s closed all h = tt
   NoneAfterClose-all M (x ∷ xs) [] s closed all h = absurd all
-  NoneAfterClose-all M (Submit t job ∷ xs) (r ∷ rs) s closed all h =
-      ((λ y same accepted. not_accepted M t job r (rw same (h y)) all.0 accepted),
-          NoneAfterClose-all (grown M (Submit t job) r) xs rs s closed all.1 (λ y. closed_grown M (Submit t job) r s (h y)))
+  NoneAfterClose-all M (Submit t job ∷ xs) (r ∷ rs) s closed all h = (
+    (λ y same accepted. not_accepted M t job r (rw same (h y)) all.0 accepted),
+    NoneAfterClose-all (grown M (Submit t job) r) xs rs s closed all.1 (λ y. closed_grown M (Submit t job) r s (h y)),
+  )
   NoneAfterClose-all M (Close t ∷ xs) (r ∷ rs) s closed all h =
       NoneAfterClose-all (grown M (Close t) r) xs rs s (closed || eqb t s) all.1 (close_grown M t s r closed h all.0)
   NoneAfterClose-all M (x ∷ xs) (r ∷ rs) s closed all h = NoneAfterClose-all (grown M x r) xs rs s closed all.1 (λ y. closed_grown M x r s (h y))

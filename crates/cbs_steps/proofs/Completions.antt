@@ -60,12 +60,12 @@ module _ {W : Type 0} (work : Meaning W) where
       let n = length-append cs ds in
       let f = finished work a in
       let wholes : map (whole work) c.accepted ≡ map (whole work) b.accepted ++ map (whole work) k.jobs.0 =
-          ap (map (whole work)) k.jobs.1 ∙ map-append (whole work) b.accepted k.jobs.0 in
+      ap (map (whole work)) k.jobs.1 ∙ map-append (whole work) b.accepted k.jobs.0 in
       let within : f + length cs ≤ length (map (whole work) b.accepted) =
-          let e = h.finished in omega (arith, length-map b.accepted (whole work), count_done-le work.left b.accepted b.got) in
+      let e = h.finished in omega (arith, length-map b.accepted (whole work), count_done-le work.left b.accepted b.got) in
       let X = map (whole work) c.accepted in
       let first : take (length cs) (drop f X) ≡ map (λ (d : Completion). d.result) cs =
-          rw wholes (part_of_more f (length cs) (map (whole work) b.accepted) (map (whole work) k.jobs.0) within) ∙ sym h.results in
+      rw wholes (part_of_more f (length cs) (map (whole work) b.accepted) (map (whole work) k.jobs.0) within) ∙ sym h.results in
       let second : take (length ds) (drop (f + length cs) X) ≡ map (λ (d : Completion). d.result) ds = rw (← h.finished) (sym k.results) in
       let both : take (length cs + length ds) (drop f X) ≡ map (λ (d : Completion). d.result) cs ++ map (λ (d : Completion). d.result) ds =
       take-add (length cs) (length ds) (drop f X) ∙ rw (first, drop-drop (length cs) f X, second) refl in
@@ -97,8 +97,11 @@ module _ {W : Type 0} (work : Meaning W) where
   unit_is : (a : Account W) (s : ℕ) (c : Completion) → Some c ≡ completion_ran (unit_reply work a s)
       → c ≡ record { server = s; seq = finished work a; result = get_or (map (whole work) a.accepted) (finished work a) 0 }
   unit_is a s c e = elim (cases_Bool (eqb (need work a (finished work a + 1)) (a.got + 1))) [
-    | inl t ↦ let k : Some c ≡ Some (record { server = s; seq = finished work a;
-        result = get_or (map (whole work) a.accepted) (finished work a) 0 }) = rw t at e in cc
+    | inl t ↦ let k : Some c ≡ Some (record {
+      server = s;
+      seq = finished work a;
+      result = get_or (map (whole work) a.accepted) (finished work a) 0;
+    }) = rw t at e in cc
     | inr f ↦ let k : Some c ≡ None = rw f at e in cc
   ]
 
@@ -157,7 +160,7 @@ module _ {W : Type 0} (work : Meaning W) where
   completes_more M xs rs x r s all before now =
       rw (grown_by-push work M xs rs x r all, completions_of-push s rs r)
       (Completes-append (account_in work M s) (account_in work (grown_by M xs rs) s) (account_in work (grown (grown_by M xs rs) x r) s)
-          (completions_of s rs) (completion_of s (completion_in r)) before now)
+      (completions_of s rs) (completion_of s (completion_in r)) before now)
 
   -- the replies to a list with one step more are those to the list, and then one
   replies_after-push : (M : History W) (xs : List (Step W)) (x : Step W)
@@ -179,4 +182,4 @@ module _ {W : Type 0} (work : Meaning W) where
       let N = M ⊕⊕ xs in
       rw (after-push M xs x, replies_after-push M xs x, completions_of-push s (replies_after work M xs) (reply_in work N x))
       (Completes-append (account_in work M s) (account_in work N s) (account_in work (N ⊕ x) s)
-          (completions_of s (replies_after work M xs)) (completion_of s (completion_in (reply_in work N x))) before now)
+      (completions_of s (replies_after work M xs)) (completion_of s (completion_in (reply_in work N x))) before now)

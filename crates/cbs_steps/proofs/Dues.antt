@@ -70,12 +70,12 @@ module _ {W : Type 0} (work : Meaning W) where
       let m = budgets a job in
       let up = (div_ceil_times (work.left job) r.budget k.lawful.rate.some).0 in
       let whole : IsCovered r (all work a + m * r.budget) (max b now + m * r.period) a.got (account_with_job work now job a).state =
-          elim (cases_Bool (is_active (face_of work a) || a.state.throttled)) [
+      elim (cases_Bool (is_active (face_of work a) || a.state.throttled)) [
         | inl t ↦ rw t (covered_queued r (all work a) b a.got a.state now m k.covered)
         | inr f ↦ rw f (covered_arrival r (all work a) b a.got a.state a.terms.mode now m (idle_owed work a (grind (arith, nat_tests)) k.paid) k.covered)
       ] in
       covered-less r (all work a + m * r.budget) (max b now + m * r.period) a.got (account_with_job work now job a).state
-          (all work a + work.left job) (omega arith) whole
+      (all work a + work.left job) (omega arith) whole
 
   -- so it is kept, for a later tick
   kept_job : (b now : ℕ) (job : W) (a : Account W) → IsKept b a → IsKept (due_from a.terms.reservation b now (work.left job)) (account_with_job work now job a)
@@ -98,15 +98,15 @@ module _ {W : Type 0} (work : Meaning W) where
       | inl y ↦
           let same : t ≡ s = grind (arith, nat_tests) in
           let here : account (changed_at (account_with_job work w.now job) w.accounts s) s
-              ≡ account_with_job work w.now job (account w.accounts s) = changed_here (account_with_job work w.now job) w.accounts s no_account lt in
+          ≡ account_with_job work w.now job (account w.accounts s) = changed_here (account_with_job work w.now job) w.accounts s no_account lt in
           let is : IsKept (due_from (account w.accounts s).terms.reservation b w.now (work.left job))
-              (account (changed_at (account_with_job work w.now job) w.accounts s) s) = rw here (kept_job b w.now job (account w.accounts s) k) in
+          (account (changed_at (account_with_job work w.now job) w.accounts s) s) = rw here (kept_job b w.now job (account w.accounts s) k) in
           let goal : IsKept (due_from (account w.accounts t).terms.reservation b w.now (work.left job))
-              (account (changed_at (account_with_job work w.now job) w.accounts t) s) = rw same is in
+          (account (changed_at (account_with_job work w.now job) w.accounts t) s) = rw same is in
           rw y goal
       | inr n ↦
           let there : account (changed_at (account_with_job work w.now job) w.accounts t) s ≡ account w.accounts s =
-              changed_elsewhere (account_with_job work w.now job) w.accounts t s no_account (λ e. let y : eqb t s ≡ true = grind (arith, nat_tests) in cc) in
+          changed_elsewhere (account_with_job work w.now job) w.accounts t s no_account (λ e. let y : eqb t s ≡ true = grind (arith, nat_tests) in cc) in
           let goal : IsKept b (account (changed_at (account_with_job work w.now job) w.accounts t) s) = rw there k in
           rw n goal
     ]
@@ -147,7 +147,7 @@ module _ {W : Type 0} (work : Meaning W) where
         → IsKept (due work setup s M) (account (after work setup M).accounts s)
     kept_after setup [] ok lt =
         let law = (AllByRecursion-get (IsSound work (all_periods (given work setup))) (start setup).accounts s no_account
-            (sound_start work setup ok).each lt).lawful in
+        (sound_start work setup ok).each lt).lawful in
         let f = fresh setup.servers s in
         kept_new (account (start setup).accounts s) law f.none f.got f.deadline
     kept_after setup (x ∷ M) ok lt = kept_next setup.backlog (due work setup s M) (after work setup M) x

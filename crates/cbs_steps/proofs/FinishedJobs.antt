@@ -53,14 +53,14 @@ count_done-le f xs g = greatest-le (λ k. leb (sum_by f (take k xs)) g) (length 
 pub count_done_within : {W : Type 0} (f : W → ℕ) (xs : List W) (g : ℕ) → sum_by f (take (count_done f xs g) xs) ≤ g
 count_done_within f xs g =
     let h : leb (sum_by f (take (count_done f xs g) xs)) g ≡ true =
-        greatest_passes (λ k. leb (sum_by f (take k xs)) g) (length xs) (grind (arith, nat_tests)) in
+    greatest_passes (λ k. leb (sum_by f (take k xs)) g) (length xs) (grind (arith, nat_tests)) in
     grind (arith, nat_tests)
 
 -- and not for one more
 pub count_done_beyond : {W : Type 0} (f : W → ℕ) (xs : List W) (g : ℕ) → count_done f xs g < length xs → g < sum_by f (take (count_done f xs g + 1) xs)
 count_done_beyond f xs g h =
     let e : leb (sum_by f (take (count_done f xs g + 1) xs)) g ≡ false =
-        greatest_above (λ k. leb (sum_by f (take k xs)) g) (length xs) (count_done f xs g + 1) (omega arith) (omega arith) in
+    greatest_above (λ k. leb (sum_by f (take k xs)) g) (length xs) (count_done f xs g + 1) (omega arith) (omega arith) in
     grind (arith, nat_tests)
 
 -- as many jobs are finished as the units suffice for, if not for one more

@@ -42,7 +42,7 @@ module _ {W : Type 0} (work : Meaning W) (setup : Setup) (ok : IsAdmitted (given
   due-slot_submit M t job None le h some =
       let k = h refl in
       one_period (account (after work setup M).accounts t).terms.reservation (due work setup s M) (slot work setup s M)
-          (after work setup M).now (work.left job) (some refl) k.0 le k.1
+      (after work setup M).now (work.left job) (some refl) k.0 le k.1
   due-slot_submit M t job (Some e) le h some = le
 
   -- a hard task's last job is due a period after it came, at the latest
@@ -53,7 +53,7 @@ module _ {W : Type 0} (work : Meaning W) (setup : Setup) (ok : IsAdmitted (given
         let e : t ≡ s = grind (arith, nat_tests) in
         rw y (due-slot_submit M t job (submit_refusal setup.backlog (faces work (after work setup M)) t) (due-slot M h.0) (h.1 e)
         (λ k. (AllByRecursion-get (IsSound work (all_periods (given work setup))) (after work setup M).accounts t no_account
-            (sound_after work setup M ok).each (place work setup M t job k)).lawful.rate.some))
+        (sound_after work setup M ok).each (place work setup M t job k)).lawful.rate.some))
     | inr n ↦ rw n (due-slot M h.0)
   ]
   due-slot (Run ∷ M) h = due-slot M h.0
@@ -67,5 +67,5 @@ module _ {W : Type 0} (work : Meaning W) where
       let d = due-slot work N.setup ok s (Submit s job ∷ M) hard in
       let itself : eqb s s ≡ true = grind (arith, nat_tests) in
       let e : slot work N.setup s (Submit s job ∷ M) ≡ (after work N.setup M).now
-          + (account (after work N.setup M).accounts s).terms.reservation.period = rw (itself, of.accepted) in
+      + (account (after work N.setup M).accounts s).terms.reservation.period = rw (itself, of.accepted) in
       due_kept work N ok quiet K M s job of (omega arith)

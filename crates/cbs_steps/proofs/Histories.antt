@@ -83,7 +83,7 @@ module _ {W : Type 0} (work : Meaning W) where
     holds_run w s None ready h = h
     holds_run w s (Some t) ready h =
         holds_tick (record w { accounts = changed_at account_with_unit w.accounts t }) s
-            (holds_changed w.now account_with_unit w.accounts t s (unit w.now (account w.accounts t) (ready t refl)) h)
+        (holds_changed w.now account_with_unit w.accounts t s (unit w.now (account w.accounts t) (ready t refl)) h)
 
     -- so does each step that is no submit: a run
     pub holds_run_step : (backlog : ℕ) (w : World W) (s : ℕ) → Holds w s → Holds (next work backlog w Run) s

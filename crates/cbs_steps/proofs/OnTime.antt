@@ -115,8 +115,11 @@ module _ {W : Type 0} (work : Meaning W) where
   new_demand P x [] = omega arith
   new_demand P x (t ∷ ts) =
       let rest = new_demand P x ts in
-      omega (arith, sum_by-cons (λ a. demand P 0 x (face_of work a)) (new_account t) (map new_account ts),
-          sum_by-cons (λ a. (x - 0) * share P (reservation a)) (new_account t) (map new_account ts))
+      omega (
+        arith,
+        sum_by-cons (λ a. demand P 0 x (face_of work a)) (new_account t) (map new_account ts),
+        sum_by-cons (λ a. (x - 0) * share P (reservation a)) (new_account t) (map new_account ts),
+      )
 
   -- and is not throttled
   new_ahead : (ts : List Terms) → AllByRecursion (λ a. IsAhead 0 (face_of work a)) (map new_account ts)
@@ -182,7 +185,7 @@ module _ {W : Type 0} (work : Meaning W) where
   on_time_next M x ok = λ quiet on.
       shown_on_time M.setup (x ∷ M.steps)
       (timely_next work (all_periods (given M.setup)) M.setup.backlog (world_after work M) x (sound_after M.setup M.steps ok) quiet
-          (known_on_time M.setup M.steps on))
+      (known_on_time M.setup M.steps on))
 
   -- also where memory refused it
   on_time_one : (M : History W) (x : Step W) (r : Reply W) → IsAdmitted (given M.setup) → IsQuietStep work (world_after work M) x

@@ -94,7 +94,7 @@ module _ {W : Type 0} (work : Meaning W) (P : ℕ) where
       asks_run : a.state.deadline ≤ x → asks (now + 1) x (account_with_replenishment (now + 1) (account_with_unit a)) + P ≤ asks now x a
       asks_run far = rw asks_ready
           (run_less P a.terms.reservation ok.divides a.terms.mode now x (is_active (face_of work (account_with_unit a))) a.state
-              (runnable (face_of work a) ready).free (ready_budget work a ready ok.lawful) far)
+          (runnable (face_of work a) ready).free (ready_budget work a ready ok.lawful) far)
 
       -- and for nothing before
       asks_run_before : x < a.state.deadline → asks (now + 1) x (account_with_replenishment (now + 1) (account_with_unit a)) ≡ 0
@@ -222,7 +222,7 @@ module _ {W : Type 0} (work : Meaning W) (P : ℕ) where
       let rs = ranks fs in
       let h : IsEarliest rs (length rs) s = rw e at (choice_is rs) in
       let n : length rs ≡ length w.accounts = length-map fs (λ (f : Face). record { ready = is_ready f; deadline = f.state.deadline })
-          ∙ length-map w.accounts (face_of work) in
+      ∙ length-map w.accounts (face_of work) in
       let deadline = λ (r : ℕ). rank_deadline fs r ∙ ap (λ (f : Face). f.state.deadline) (account_face work w.accounts r) in
       record {
         place = let l = h.within in omega arith;
@@ -311,8 +311,8 @@ module _ {W : Type 0} (work : Meaning W) (P : ℕ) where
         let c : asks w.now w.now a ≤ sum_by (asks w.now w.now) w.accounts = get_or-le-sum_by (asks w.now w.now) w.accounts s no_account lt in
         let d : asks w.now w.now a ≡ full_demand P a.terms.reservation a.state w.now = asks_ready w.now w.now a law ready in
         let e : full_demand P a.terms.reservation a.state w.now ≡ a.state.budget * P
-            + (w.now - a.state.deadline) * share P a.terms.reservation =
-            asked_from P (share P a.terms.reservation) a.state.budget a.state.deadline w.now late in
+        + (w.now - a.state.deadline) * share P a.terms.reservation =
+        asked_from P (share P a.terms.reservation) a.state.budget a.state.deadline w.now late in
         let f = ready_budget work a ready law.lawful in
         let g = mul-le 1 P a.state.budget P f (omega arith) in
         let h : 0 < full_demand P a.terms.reservation a.state w.now = omega arith in

@@ -72,26 +72,29 @@ module _ {W : Type 0} (work : Meaning W) where
     all_finished_by = λ xs quiet late.
         let lt = owed_there (world_after work M).accounts s some in
         let law = (AllByRecursion-get (IsSound work (all_periods (given work M.setup))) (world_after work M).accounts s no_account
-            (sound_after work M.setup M.steps ok).each lt).lawful in
+        (sound_after work M.setup M.steps ok).each lt).lawful in
         let e = last_of work.left a.accepted (omega arith) in
         let n : sum_by work.left a.accepted ≡ sum_by work.left e.before + work.left e.last =
-            ap (sum_by work.left) e.split ∙ omega (arith, sum_by-append work.left e.before (e.last ∷ [])) in
+        ap (sum_by work.left) e.split ∙ omega (arith, sum_by-append work.left e.before (e.last ∷ [])) in
         let budgets = div_ceil_times (owed work a - a.state.budget) a.terms.reservation.budget law.rate.some in
         let start : IsAwaited work e.before e.last tick a = record {
           lawful = law;
           behind = [];
           jobs = e.split;
-          pending = λ owes. record { periods = suc (div_ceil (owed work a - a.state.budget) a.terms.reservation.budget);
-              units = omega arith; by = omega arith };
+          pending = λ owes. record {
+            periods = suc (div_ceil (owed work a - a.state.budget) a.terms.reservation.budget);
+            units = omega arith;
+            by = omega arith;
+          };
         } in
         let N = M ⊕⊕ xs in
         let going = going_on M xs s quiet (record { ok = ok; on = on; there = omega (arith, count_after work M.setup M.steps) }) in
         let h : IsAwaited work e.before e.last tick (account_in work N s) =
         holds_on work (λ now. IsAwaited work e.before e.last tick) (λ now. awaited_unit work e.before e.last tick)
-            (λ now. awaited_replenishment work e.before e.last tick (now + 1))
+        (λ now. awaited_replenishment work e.before e.last tick (now + 1))
         (λ now. awaited_close work e.before e.last tick) (awaited_job work e.before e.last tick) M xs s start in
         let last = awaited_finished work e.before e.last tick N.setup N.steps s going.ok (known_on_time work N.setup N.steps going.on)
-            (let there = going.there in omega (arith, count_after work N.setup N.steps)) h late in
+        (let there = going.there in omega (arith, count_after work N.setup N.steps)) h late in
         let count = ap length e.split ∙ length-append e.before (e.last ∷ []) in
         omega arith
 

@@ -59,7 +59,7 @@ module _ {W : Type 0} (work : Meaning W) where
       → IsTimely work (all_periods (given work setup)) (after work setup L) → s < length (after work setup L).accounts
       → (let a = account (after work setup L).accounts s in
       (a.got < n → is_active (face_of work a) ≡ true) → a.state.budget ≤ a.terms.reservation.budget
-          → (a.got < n → IsCovered a.terms.reservation n b a.got a.state) → b ≤ (after work setup L).now → n ≤ a.got)
+      → (a.got < n → IsCovered a.terms.reservation n b a.got a.state) → b ≤ (after work setup L).now → n ≤ a.got)
   covered_got setup L s n b ok on lt busy capped covered late =
       let w = after work setup L in
       let a = account w.accounts s in
@@ -98,7 +98,7 @@ module _ {W : Type 0} (work : Meaning W) where
         let split : before ++ job ∷ h.behind ≡ (before ++ job ∷ []) ++ h.behind = sym (append_assoc before (job ∷ []) h.behind) in
         let front = length-append before (job ∷ []) in
         let k : take (length before + 1) ((before ++ job ∷ []) ++ h.behind) ≡ before ++ job ∷ [] =
-            take_at (before ++ job ∷ []) h.behind (length before + 1) (omega arith) in
+        take_at (before ++ job ∷ []) h.behind (length before + 1) (omega arith) in
         let s = sum_by-append work.left before (job ∷ []) in
         (rw jobs (omega arith), rw (jobs, split, k) (omega arith))
 
@@ -182,7 +182,7 @@ module _ {W : Type 0} (work : Meaning W) where
         → length before < finished work (account (after work setup (K ++ M)).accounts s)
     awaited_behind setup K M s ok quiet lt start late =
         let h = holds_behind work (λ now. IsAwaited) (λ now. awaited_unit) (λ now. awaited_replenishment (now + 1)) (λ now. awaited_close)
-            awaited_job setup K M s start in
+        awaited_job setup K M s start in
         awaited_finished setup (K ++ M) s ok (timely_after work setup (K ++ M) ok quiet) lt h late
 
   -- there are as many servers as were given
@@ -216,7 +216,7 @@ module _ {W : Type 0} (work : Meaning W) where
         → b ≤ (after work setup L).now → length a.accepted < finished work (account (after work setup L).accounts s)
     covered_finished b L K e ok quiet c late =
         let law = (AllByRecursion-get (IsSound work (all_periods (given work setup))) w.accounts s no_account
-            (sound_after work setup M ok).each place).lawful in
+        (sound_after work setup M ok).each place).lawful in
         let start : IsAwaited a.accepted job b (account_with_job work w.now job a) = record {
           lawful = lawful_job work w.now job a law;
           behind = [];
@@ -225,19 +225,19 @@ module _ {W : Type 0} (work : Meaning W) where
         } in
         subst (λ L. AreQuiet work setup L → b ≤ (after work setup L).now → length a.accepted < finished work (account (after work setup L).accounts s)) (sym e)
         (λ quiet late. awaited_behind a.accepted job b setup K (Submit s job ∷ M) s ok quiet
-            (let n = count_after setup (K ++ Submit s job ∷ M) in let m = count_after setup M in let lt = place in omega arith)
+        (let n = count_after setup (K ++ Submit s job ∷ M) in let m = count_after setup M in let lt = place in omega arith)
         (subst (λ (x : Account W). IsAwaited a.accepted job b x) (sym submitted) start) late) quiet late
 
     -- what is owed, and a budget more, is reached by as many budgets
     promised : (j : ℕ) (L K : List (Step W)) → L ≡ K ++ Submit s job ∷ M → IsAdmitted (given work setup) → AreQuiet work setup L
         → (let b = account_with_job work w.now job a in
         all b ≤ b.got + b.state.budget + j * b.terms.reservation.budget → b.state.deadline + j * b.terms.reservation.period
-            ≤ (after work setup L).now → length a.accepted < finished work (account (after work setup L).accounts s))
+        ≤ (after work setup L).now → length a.accepted < finished work (account (after work setup L).accounts s))
     promised j L K e ok quiet enough late =
         let b = account_with_job work w.now job a in
         let t = total in
         covered_finished (b.state.deadline + j * a.terms.reservation.period) L K e ok quiet
-            (record { periods = suc j; units = omega arith; by = omega arith }) late
+        (record { periods = suc j; units = omega arith; by = omega arith }) late
 
     -- a job that renews its server, and needs no more than a budget
     bounded : (L K : List (Step W)) → L ≡ K ++ Submit s job ∷ M → IsAdmitted (given work setup) → AreQuiet work setup L
@@ -250,7 +250,7 @@ module _ {W : Type 0} (work : Meaning W) where
         let small = r.small in
         let busy : (is_active (face_of work a) || a.state.throttled) ≡ false = rw (r.idle, r.free) in
         let new : (account_with_job work w.now job a).state ≡ record
-            { budget = a.terms.reservation.budget; deadline = w.now + a.terms.reservation.period; throttled = a.state.throttled } = rw (busy, r.renewed) refl in
+        { budget = a.terms.reservation.budget; deadline = w.now + a.terms.reservation.period; throttled = a.state.throttled } = rw (busy, r.renewed) refl in
         let t = total in
         promised 0 L K e ok quiet (rw new (omega arith)) (rw new (omega arith))
 

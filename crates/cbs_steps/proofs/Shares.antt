@@ -149,7 +149,7 @@ module _ {W : Type 0} (work : Meaning W) where
       let y = (a.got + a.state.budget) * a.terms.reservation.period in
       kept_share work x y a.terms a (account (after work setup (K ++ M)).accounts s) refl refl refl
       (holds_behind work (λ now. IsKept work x y a.terms) (λ now. kept_unit work x y a.terms)
-          (λ now. kept_replenishment work x y a.terms (now + 1)) (λ now. kept_close work x y a.terms) (kept_job work x y a.terms) setup K M s
+      (λ now. kept_replenishment work x y a.terms (now + 1)) (λ now. kept_close work x y a.terms) (kept_job work x y a.terms) setup K M s
       (record { same = refl; lawful = ok; shared = omega arith }))
 
   -- from a history on, as its steps were answered
@@ -161,7 +161,7 @@ module _ {W : Type 0} (work : Meaning W) where
       let y = (a.got + a.state.budget) * a.terms.reservation.period in
       kept_share work x y a.terms a (account_in work (grown_by M xs rs) s) refl refl refl
       (holds_grown_by work (λ now. IsKept work x y a.terms) (λ now. kept_unit work x y a.terms)
-          (λ now. kept_replenishment work x y a.terms (now + 1)) (λ now. kept_close work x y a.terms) (kept_job work x y a.terms) M xs rs s
+      (λ now. kept_replenishment work x y a.terms (now + 1)) (λ now. kept_close work x y a.terms) (kept_job work x y a.terms) M xs rs s
       (record { same = refl; lawful = ok; shared = omega arith }))
 
   -- after every history a throttled server's deadline is at most a period from now
@@ -169,7 +169,7 @@ module _ {W : Type 0} (work : Meaning W) where
   near_after setup M s = holds_after work (λ now a. IsNear now a.terms a.state)
       (λ now a ready h mode. near_unit a.terms.mode a.terms.reservation now a.state mode (h mode))
       (λ now a h mode. deadline-replenished-le a.terms.reservation (now + 1) (now + 1 + a.terms.reservation.period) a.state
-          (let d = h mode in omega arith) (omega arith))
+      (let d = h mode in omega arith) (omega arith))
       (λ now a h. h)
       (λ now j a h. near_job (is_active (face_of work a)) a.terms now a.state h)
       setup M s (near_start setup.servers s)
@@ -186,9 +186,9 @@ module _ {W : Type 0} (work : Meaning W) where
       let a = account_in work M s in
       let b = account_in work N s in
       let near : b.state.deadline ≤ (world_after work N).now + a.terms.reservation.period =
-          rw same at (near_after N.setup N.steps s (ap (λ (t : Terms). t.mode) same ∙ mode)) in
+      rw same at (near_after N.setup N.steps s (ap (λ (t : Terms). t.mode) same ∙ mode)) in
       let late = mul-le b.state.deadline a.terms.reservation.budget ((world_after work N).now + a.terms.reservation.period)
-          a.terms.reservation.budget near (omega arith) in
+      a.terms.reservation.budget near (omega arith) in
       let early = mul-le (world_after work M).now a.terms.reservation.budget a.state.deadline a.terms.reservation.budget ahead (omega arith) in
       omega arith
 

@@ -64,9 +64,9 @@ module _ {W : Type 0} (work : Meaning W) (n b : ℕ) where
       | inl y ↦
           let same : t ≡ s = grind (arith, nat_tests) in
           let here : account (changed_at (account_with_job work w.now job) w.accounts s) s
-              ≡ account_with_job work w.now job (account w.accounts s) = changed_here (account_with_job work w.now job) w.accounts s no_account lt in
+          ≡ account_with_job work w.now job (account w.accounts s) = changed_here (account_with_job work w.now job) w.accounts s no_account lt in
           let is : IsSupplied (account (changed_at (account_with_job work w.now job) w.accounts s) s) =
-              rw here (supplied_job w.now job (account w.accounts s) active h) in
+          rw here (supplied_job w.now job (account w.accounts s) active h) in
           rw same is
       | inr f ↦
           let other : s ≢ t = λ e. let y : eqb t s ≡ true = grind (arith, nat_tests) in cc in
@@ -110,14 +110,14 @@ module _ {W : Type 0} (work : Meaning W) (n b : ℕ) where
     supplied_after setup (x ∷ K) M busy h =
         let active = active_last setup K M busy.0 in
         supplied_next setup.backlog (after work setup (K ++ M)) x (active_there (after work setup (K ++ M)).accounts active) active
-            (supplied_after setup K M busy.0 h)
+        (supplied_after setup K M busy.0 h)
 
 module _ {W : Type 0} (work : Meaning W) where
   -- behind M, while the server stays active through K
   supply : (setup : Setup) (K M : List (Step W)) (s j : ℕ) → IsAdmitted (given work setup) → AreQuiet work setup (K ++ M) → StaysActive work setup s M K
       → (let a = account (after work setup M).accounts s in
       a.state.deadline + j * a.terms.reservation.period ≤ (after work setup (K ++ M)).now → a.got + a.state.budget
-          + j * a.terms.reservation.budget ≤ (account (after work setup (K ++ M)).accounts s).got)
+      + j * a.terms.reservation.budget ≤ (account (after work setup (K ++ M)).accounts s).got)
   supply setup K M s j ok quiet busy late =
       let w = after work setup M in
       let a = account w.accounts s in
@@ -126,15 +126,15 @@ module _ {W : Type 0} (work : Meaning W) where
       let there = active_there work n b s w.accounts (active_first work n b s setup K M busy) in
       let law = (AllByRecursion-get (IsSound work (all_periods (given work setup))) w.accounts s no_account (sound_after work setup M ok).each there).lawful in
       let h = supplied_after work n b s setup K M busy (record
-          { lawful = law; pending = λ owes. record { periods = suc j; units = omega arith; by = omega arith } }) in
+      { lawful = law; pending = λ owes. record { periods = suc j; units = omega arith; by = omega arith } }) in
       let active = active_last work n b s setup K M busy in
       covered_got work setup (K ++ M) s n b ok (timely_after work setup (K ++ M) ok quiet)
-          (active_there work n b s (after work setup (K ++ M)).accounts active) (λ owes. active) h.lawful.state.capped h.pending late
+      (active_there work n b s (after work setup (K ++ M)).accounts active) (λ owes. active) h.lawful.state.capped h.pending late
 
   -- every history keeps its supplies
   pub supply_kept : (N : History W) → IsAdmitted (given work N.setup) → KeepsSupply work N
   supply_kept N ok = λ quiet K M s j e busy.
       subst (λ L. AreQuiet work N.setup L → (let a = account (after work N.setup M).accounts s in
       a.state.deadline + j * a.terms.reservation.period ≤ (after work N.setup L).now → a.got + a.state.budget
-          + j * a.terms.reservation.budget ≤ (account (after work N.setup L).accounts s).got))
+      + j * a.terms.reservation.budget ≤ (account (after work N.setup L).accounts s).got))
       (sym e) (λ quiet late. supply N.setup K M s j ok quiet busy late) quiet

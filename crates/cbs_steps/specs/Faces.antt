@@ -24,8 +24,13 @@ new_face terms = record { terms = terms; state = fresh_state; closed = false; ac
 
 -- what stands where there is no such server
 abbrev pub no_face : Face
-no_face = record { terms = record { mode = Soft; reservation = record { budget = 0; period = 0 } }; state = fresh_state; closed = true;
-    accepted = 0; finished = 0 }
+no_face = record {
+  terms = record { mode = Soft; reservation = record { budget = 0; period = 0 } };
+  state = fresh_state;
+  closed = true;
+  accepted = 0;
+  finished = 0;
+}
 
 -- the face of server s
 abbrev pub face_at : List Face → ℕ → Face
@@ -74,8 +79,14 @@ reservations faces = map (λ f. f.terms.reservation) faces
 
 -- what a server shows to a caller
 abbrev pub view_of : Face → ServerView
-view_of f = record { budget = f.state.budget; deadline = f.state.deadline; throttled = f.state.throttled; closed = f.closed;
-    accepted = f.accepted; finished = f.finished }
+view_of f = record {
+  budget = f.state.budget;
+  deadline = f.state.deadline;
+  throttled = f.state.throttled;
+  closed = f.closed;
+  accepted = f.accepted;
+  finished = f.finished;
+}
 
 -- what a view is answered: the server's, or that there is no such server
 abbrev pub view_reply : Option Face → Result ServerView CoreError

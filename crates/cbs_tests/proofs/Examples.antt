@@ -100,15 +100,12 @@ kept_throttled = refl
 
 -- an exhausted throttled server waits until its deadline
 waiting : rows (one Throttled 2 5) [] (submit 0 (1 ∷ 2 ∷ 3 ∷ []) ∷ run 0 ∷ run 0 ∷ run 0 ∷ advance 7 0 ∷ run 0 ∷ []) ≡
-    (0, accepted 0, at 2 5) ∷ (1, unit 0 0, at 1 5) ∷ (2, unit 0 0, throttled 0 5) ∷ (2, idle, throttled 0 5)
-        ∷ (9, reply.Advanced, at 2 10) ∷ (10, done 0 0 6, at 1 10) ∷ []
+    (0, accepted 0, at 2 5) ∷ (1, unit 0 0, at 1 5) ∷ (2, unit 0 0, throttled 0 5) ∷ (2, idle, throttled 0 5) ∷ (9, reply.Advanced, at 2 10) ∷ (10, done 0 0 6, at 1 10) ∷ []
 unfolding ticks
 waiting = refl
 
 -- after seven single ticks it is where one advance by seven leaves it
-ticked_singly : (account (after of_files (one Throttled 2 5)
-    (Advance 1 ∷ Advance 1 ∷ Advance 1 ∷ Advance 1 ∷ Advance 1 ∷ Advance 1 ∷ Advance 1 ∷ Run ∷ Run ∷ Run
-    ∷ Submit 0 (sum_of (1 ∷ 2 ∷ 3 ∷ [])) ∷ [])).accounts 0).state ≡ at 2 10
+ticked_singly : (account (after of_files (one Throttled 2 5) (Advance 1 ∷ Advance 1 ∷ Advance 1 ∷ Advance 1 ∷ Advance 1 ∷ Advance 1 ∷ Advance 1 ∷ Run ∷ Run ∷ Run ∷ Submit 0 (sum_of (1 ∷ 2 ∷ 3 ∷ [])) ∷ [])).accounts 0).state ≡ at 2 10
 unfolding ticks
 ticked_singly = refl
 
@@ -120,8 +117,7 @@ left_behind = refl
 
 -- a job that comes while the server is throttled waits with it
 queued_throttled : rows (one Throttled 1 4) [] (submit 0 (8 ∷ []) ∷ run 0 ∷ submit 0 (9 ∷ []) ∷ run 0 ∷ advance 3 0 ∷ run 0 ∷ []) ≡
-    (0, accepted 0, at 1 4) ∷ (1, done 0 0 8, throttled 0 4) ∷ (1, accepted 1, throttled 0 4) ∷ (1, idle, throttled 0 4)
-        ∷ (4, reply.Advanced, at 1 8) ∷ (5, done 0 1 9, throttled 0 8) ∷ []
+    (0, accepted 0, at 1 4) ∷ (1, done 0 0 8, throttled 0 4) ∷ (1, accepted 1, throttled 0 4) ∷ (1, idle, throttled 0 4) ∷ (4, reply.Advanced, at 1 8) ∷ (5, done 0 1 9, throttled 0 8) ∷ []
 unfolding ticks
 queued_throttled = refl
 
@@ -153,23 +149,19 @@ peak = refl
 sharing_throttled : rows (servers (terms Throttled 1 6 ∷ terms Throttled 1 3 ∷ terms Throttled 1 2 ∷ [])) []
     (submit 0 (1 ∷ 1 ∷ []) ∷ submit 1 (1 ∷ 1 ∷ []) ∷ submit 2 (1 ∷ 1 ∷ []) ∷ run 2 ∷ run 1 ∷ run 2 ∷ run 0 ∷ run 1 ∷ run 1 ∷ advance 1 1 ∷ run 0 ∷ []) ≡
     (0, accepted 0, at 1 6) ∷ (0, accepted 0, at 1 3) ∷ (0, accepted 0, at 1 2)
-    ∷ (1, unit 2 0, throttled 0 2) ∷ (2, unit 1 0, throttled 0 3) ∷ (3, done 2 0 2, throttled 0 4) ∷ (4, unit 0 0, throttled 0 6)
-        ∷ (5, done 1 0 2, throttled 0 6)
+    ∷ (1, unit 2 0, throttled 0 2) ∷ (2, unit 1 0, throttled 0 3) ∷ (3, done 2 0 2, throttled 0 4) ∷ (4, unit 0 0, throttled 0 6) ∷ (5, done 1 0 2, throttled 0 6)
     ∷ (5, idle, throttled 0 6) ∷ (6, reply.Advanced, at 1 9) ∷ (7, done 0 0 2, throttled 0 12) ∷ []
 unfolding ticks
 sharing_throttled = refl
 
 -- a renewing arrival of at most a budget is finished a period later, here at its last tick
-in_time : row (servers (terms Soft 3 5 ∷ terms Soft 2 5 ∷ []))
-    (Run ∷ Run ∷ Run ∷ Run ∷ Submit 1 (sum_of (1 ∷ 1 ∷ [])) ∷ Submit 0 (sum_of (1 ∷ 1 ∷ 1 ∷ [])) ∷ []) Run 1 ≡ (5, done 1 0 2, at 2 10)
+in_time : row (servers (terms Soft 3 5 ∷ terms Soft 2 5 ∷ [])) (Run ∷ Run ∷ Run ∷ Run ∷ Submit 1 (sum_of (1 ∷ 1 ∷ [])) ∷ Submit 0 (sum_of (1 ∷ 1 ∷ 1 ∷ [])) ∷ []) Run 1 ≡ (5, done 1 0 2, at 2 10)
 in_time = refl
 
 -- nothing is accepted after a close, and a second close is refused; the backlog is counted without the finished jobs
-closing : rows (record { servers = terms Soft 2 5 ∷ []; backlog = 1 }) []
-    (submit 0 (4 ∷ []) ∷ submit 0 (5 ∷ []) ∷ (Close 0, 0) ∷ submit 0 (6 ∷ []) ∷ run 0 ∷ (Close 0, 0) ∷ []) ≡
+closing : rows (record { servers = terms Soft 2 5 ∷ []; backlog = 1 }) [] (submit 0 (4 ∷ []) ∷ submit 0 (5 ∷ []) ∷ (Close 0, 0) ∷ submit 0 (6 ∷ []) ∷ run 0 ∷ (Close 0, 0) ∷ []) ≡
     (0, accepted 0, at 2 5) ∷ (0, reply.NotAccepted (record { error = error.BacklogFull; task = sum_of (5 ∷ []) }), at 2 5) ∷ (0, reply.Closed, at 2 5)
-    ∷ (0, reply.NotAccepted (record { error = error.Closed; task = sum_of (6 ∷ []) }), at 2 5) ∷ (1, done 0 0 4, at 1 5)
-        ∷ (1, reply.Refused error.Closed, at 1 5) ∷ []
+    ∷ (0, reply.NotAccepted (record { error = error.Closed; task = sum_of (6 ∷ []) }), at 2 5) ∷ (1, done 0 0 4, at 1 5) ∷ (1, reply.Refused error.Closed, at 1 5) ∷ []
 closing = refl
 
 -- at the clock's end
@@ -182,10 +174,8 @@ idle_at_end = rw at_end refl
 refused_at_end : reply_to of_files 4 (after of_files (one Soft 2 5) (Run ∷ Advance 1000000000000 ∷ [])) (Advance 1) ≡ reply.Refused error.ClockEnd
 refused_at_end = rw at_end refl
 
-accepted_at_end : row (one Soft 2 5) (Advance 1 ∷ Run ∷ Advance 1000000000000 ∷ []) (Submit 0 (sum_of (1 ∷ []))) 0
-    ≡ (1000000000000, accepted 0, at 2 1000000000005)
+accepted_at_end : row (one Soft 2 5) (Advance 1 ∷ Run ∷ Advance 1000000000000 ∷ []) (Submit 0 (sum_of (1 ∷ []))) 0 ≡ (1000000000000, accepted 0, at 2 1000000000005)
 accepted_at_end = rw at_end refl
 
-stopped_at_end : row (one Soft 2 5) (Submit 0 (sum_of (1 ∷ [])) ∷ Advance 1 ∷ Run ∷ Advance 1000000000000 ∷ []) Run 0
-    ≡ (1000000000000, reply.Ran ran.ClockEnd, at 2 1000000000005)
+stopped_at_end : row (one Soft 2 5) (Submit 0 (sum_of (1 ∷ [])) ∷ Advance 1 ∷ Run ∷ Advance 1000000000000 ∷ []) Run 0 ≡ (1000000000000, reply.Ran ran.ClockEnd, at 2 1000000000005)
 stopped_at_end = rw at_end refl

@@ -73,19 +73,16 @@ abbrev demands : List (Step ℕ) → ℕ → ℕ
 demands M x = sum_by (demand 25 (after units (setup whole) M).now x) (faces units (after units (setup whole) M))
 
 -- up to 5 and up to 10, after each unit: the ticks that are left until then, to the last
-demands_meet : (demands both 5 ∷ demands (Run ∷ both) 5 ∷ demands (Run ∷ Run ∷ both) 5 ∷ demands (Run ∷ Run ∷ Run ∷ both) 5
-    ∷ demands (Run ∷ Run ∷ Run ∷ Run ∷ both) 5 ∷ demands (Run ∷ Run ∷ Run ∷ Run ∷ Run ∷ both) 5 ∷ [])
+demands_meet : (demands both 5 ∷ demands (Run ∷ both) 5 ∷ demands (Run ∷ Run ∷ both) 5 ∷ demands (Run ∷ Run ∷ Run ∷ both) 5 ∷ demands (Run ∷ Run ∷ Run ∷ Run ∷ both) 5 ∷ demands (Run ∷ Run ∷ Run ∷ Run ∷ Run ∷ both) 5 ∷ [])
     ≡ 5 * 25 ∷ 4 * 25 ∷ 3 * 25 ∷ 2 * 25 ∷ 1 * 25 ∷ 0 ∷ []
 demands_meet = refl
 
-demands_meet_later : (demands both 10 ∷ demands (Run ∷ both) 10 ∷ demands (Run ∷ Run ∷ both) 10 ∷ demands (Run ∷ Run ∷ Run ∷ both) 10
-    ∷ demands (Run ∷ Run ∷ Run ∷ Run ∷ both) 10 ∷ demands (Run ∷ Run ∷ Run ∷ Run ∷ Run ∷ both) 10 ∷ [])
+demands_meet_later : (demands both 10 ∷ demands (Run ∷ both) 10 ∷ demands (Run ∷ Run ∷ both) 10 ∷ demands (Run ∷ Run ∷ Run ∷ both) 10 ∷ demands (Run ∷ Run ∷ Run ∷ Run ∷ both) 10 ∷ demands (Run ∷ Run ∷ Run ∷ Run ∷ Run ∷ both) 10 ∷ [])
     ≡ 10 * 25 ∷ 9 * 25 ∷ 8 * 25 ∷ 7 * 25 ∷ 6 * 25 ∷ 5 * 25 ∷ []
 demands_meet_later = refl
 
 -- a greedy client pays for each unit: after four, (got + c) * T is d * Q
-greedy : (let a = left_of (server Soft 1 10 ∷ []) (Run ∷ Run ∷ Run ∷ Run ∷ Submit 0 9 ∷ []) 0 in
-    ((a.got + a.state.budget) * 10 ∷ a.state.deadline * 1 ∷ [])) ≡ 50 ∷ 50 ∷ []
+greedy : (let a = left_of (server Soft 1 10 ∷ []) (Run ∷ Run ∷ Run ∷ Run ∷ Submit 0 9 ∷ []) 0 in ((a.got + a.state.budget) * 10 ∷ a.state.deadline * 1 ∷ [])) ≡ 50 ∷ 50 ∷ []
 greedy = refl
 
 -- jobs of 2, 3 and 1 units that come at 0, 3 and 30 are due at 5, 15 and 35
@@ -116,8 +113,7 @@ promised_soft : (told Soft [] ∷ told Soft three ∷ told Soft (Run ∷ three) 
 promised_soft = refl
 
 -- and by a throttled one, which has no budget left at 2, and a new one at 5
-promised_throttled : (told Throttled three ∷ told Throttled (Run ∷ Run ∷ three) ∷ told Throttled (Advance 3 ∷ Run ∷ Run ∷ three)
-    ∷ told Throttled (Run ∷ Advance 3 ∷ Run ∷ Run ∷ three) ∷ [])
+promised_throttled : (told Throttled three ∷ told Throttled (Run ∷ Run ∷ three) ∷ told Throttled (Advance 3 ∷ Run ∷ Run ∷ three) ∷ told Throttled (Run ∷ Advance 3 ∷ Run ∷ Run ∷ three) ∷ [])
     ≡ Some 10 ∷ Some 10 ∷ Some 10 ∷ None ∷ []
 unfolding ticks
 promised_throttled = refl

@@ -31,7 +31,7 @@ own c =
       | then-loop-place-test+else-is_ahead w ↦
           let ahead = sym w.is_ahead.ensures ∙ w.if-is_ahead.false in
           own_place c.args.entry es l.place w.loop-place-test.true within none
-              (rw (read_down es l.place i.moved.0 none l.entries i.moved.1 w.loop-place-test.true within) at ahead)
+          (rw (read_down es l.place i.moved.0 none l.entries i.moved.1 w.loop-place-test.true within) at ahead)
       | else-loop-place-test w ↦
           let first : l.place ≡ 0 = omega (arith, w.loop-place-test.false) in
           subst (λ n. IsBehind c.args.entry es n) (sym first) tt

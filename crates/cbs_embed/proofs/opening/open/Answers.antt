@@ -26,5 +26,10 @@ pub returns-in-Err-clause-refusal : goal.returns-in-Err-clause-refusal
 returns-in-Err-clause-refusal c =
     let same = ap (λ p. length p.rates) c.in_ok-plan.ensures.plan in
     let each = planned_each whole_processor c.args.servers.now in
-    inr (c.in_ok-plan.ensures.admitted, inr (omega (arith, each, same, c.len.ensures.value, c.if-clients-len.false),
-        (c.in-Err.error, refl, c.in-Err.ensures.refusal)))
+    inr (
+      c.in_ok-plan.ensures.admitted,
+      inr (
+        omega (arith, each, same, c.len.ensures.value, c.if-clients-len.false),
+        (c.in-Err.error, refl, c.in-Err.ensures.refusal),
+      ),
+    )

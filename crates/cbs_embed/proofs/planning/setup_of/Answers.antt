@@ -10,7 +10,7 @@ pub returns-in_err-take_in : goal.returns-in_err-take_in
 returns-in_err-take_in c =
     let p = err_from_is_err_and c.from_residual.result c.from_residual.ensures.1 in
     rw (p.1, p.2) (c.loop-server.invariant.0 ∙ refusal_stops c.loop-server.plan c.args.servers.now c.loop-server.server-index _
-        c.loop-server-test.true c.in_err-take_in.ensures.answer)
+    c.loop-server-test.true c.in_err-take_in.ensures.answer)
 
 pub loop-server-preserved : goal.loop-server-preserved
 loop-server-preserved c =
@@ -27,7 +27,7 @@ loop-server-preserved c =
 pub returns : goal.returns
 returns c =
     let over : drop c.loop-server.server-index c.args.servers.now ≡ [] =
-        drop_all c.loop-server.server-index c.args.servers.now c.loop-server-test.false in record {
+    drop_all c.loop-server.server-index c.args.servers.now c.loop-server-test.false in record {
       admitted = c.loop-server.invariant.0 ∙ ap (setup_refusal c.loop-server.plan) over ∙ refusal_none c.loop-server.plan;
       plan = sym (c.loop-server.invariant.1 ∙ ap (plan_with c.loop-server.plan) over ∙ with_none c.loop-server.plan);
       modes = sym (c.loop-server.invariant.2 ∙ ap (modes_with c.loop-server.modes) over ∙ modes_none c.loop-server.modes);

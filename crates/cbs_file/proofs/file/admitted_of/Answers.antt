@@ -13,9 +13,9 @@ returns-in_err-at-clause-value c =
     let v = c.index-entries-i.result in
     let p = err_from_is_err_and c.from_residual.result c.from_residual.ensures.1 in
     let fault = seen_at_err (Server i) (λ _. c.admit_entry.new.admitted) c.admit_entry.result
-        (admitted_entry c.args.mode c.loop-i.admitted (view v)) c.in_err-at.field-0.0 c.admit_entry.ensures.value (sym c.at.ensures ∙ c.in_err-at.was) in
+    (admitted_entry c.args.mode c.loop-i.admitted (view v)) c.in_err-at.field-0.0 c.admit_entry.ensures.value (sym c.at.ensures ∙ c.in_err-at.was) in
     let total = admitted_ends view c.args.mode i c.loop-i.admitted c.args.entries.now v _ c.in_err-at.field-0.0 c.loop-i-test.true
-        (rw (← c.index-entries-i.is) fault) c.loop-i.invariant.so_far in
+    (rw (← c.index-entries-i.is) fault) c.loop-i.invariant.so_far in
     rw (p.1, p.2) (sym total)
 
 pub loop-i-preserved : goal.loop-i-preserved
@@ -23,7 +23,7 @@ loop-i-preserved c =
     let i = c.loop-i.i in
     let v = c.index-entries-i.result in
     let next = seen_at (Server i) (λ _. c.admit_entry.new.admitted) c.admit_entry.result
-        (admitted_entry c.args.mode c.loop-i.admitted (view v)) c.in_ok-at.field-0 c.admit_entry.ensures.value (sym c.at.ensures ∙ c.in_ok-at.was) in
+    (admitted_entry c.args.mode c.loop-i.admitted (view v)) c.in_ok-at.field-0 c.admit_entry.ensures.value (sym c.at.ensures ∙ c.in_ok-at.was) in
     let is = at_ok (Server i) c.admit_entry.result c.in_ok-at.field-0 (sym c.at.ensures ∙ c.in_ok-at.was) in
     record {
       so_far = admitted_on view c.args.mode i c.loop-i.admitted c.admit_entry.new.admitted c.args.entries.now v _ c.loop-i-test.true

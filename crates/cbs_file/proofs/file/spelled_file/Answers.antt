@@ -13,11 +13,11 @@ unfolding file
 returns c =
     let table : at Top (document c.args.bytes.now) ≡ Ok (table_view c.in_ok-table.table) =
     gives_ok no_memory table_view (at Top c.document.result) _ c.in_ok-table.table
-        (Gives-at Top table_view c.document.result _ c.document.ensures) (sym c.at.ensures ∙ c.in_ok-table.was) in
+    (Gives-at Top table_view c.document.result _ c.document.ensures) (sym c.at.ensures ∙ c.in_ok-table.was) in
     let top : top_table (table_view c.in_ok-table.table) ≡ Ok (top_view c.in-Ok.top) = sym c.in-Ok.ensures.value in
     let admitted : admitted_from c.in-Ok.top.mode 0 (none_admitted c.in-Ok.top.bound) (map view c.in-Ok.top.servers.now.items)
-        ≡ Ok c.in_ok-admitted.admitted = rw (← c.deref.ensures.value) (sym c.in_ok-admitted.ensures.value) in
+    ≡ Ok c.in_ok-admitted.admitted = rw (← c.deref.ensures.value) (sym c.in_ok-admitted.ensures.value) in
     let len : c.len.result ≡ length c.in_ok-admitted.admitted.plan.rates = search rules in
     let steps : each_from 0 (λ i entry. at (AtStep i) (step_entry c.in-Ok.top.format (length c.in_ok-admitted.admitted.plan.rates) entry))
-        (map view c.in-Ok.top.steps.now.items) ≡ Ok c.in_ok-steps.steps.items = rw (← c.deref-2.ensures.value, ← len) c.in_ok-steps.ensures.steps in
+    (map view c.in-Ok.top.steps.now.items) ≡ Ok c.in_ok-steps.steps.items = rw (← c.deref-2.ensures.value, ← len) c.in_ok-steps.ensures.steps in
     rw (table, top, admitted, steps) refl

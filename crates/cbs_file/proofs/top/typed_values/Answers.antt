@@ -30,19 +30,43 @@ pub returns-in_err-ring : goal.returns-in_err-ring
 unfolding typed_values
 returns-in_err-ring c =
     let p = err_from_is_err_and c.from_residual-in_err-ring.result c.from_residual-in_err-ring.ensures.1 in
-    rw (p.1, p.2, ← c.in_ok-mode.ensures, ← c.in_ok-bound.ensures, ← rw c.deref.ensures.value at c.in_ok-all_integers.ensures,
-        ← c.in_ok-backlog.ensures, ← c.in_err-ring.ensures)
+    rw (
+      p.1,
+      p.2,
+      ← c.in_ok-mode.ensures,
+      ← c.in_ok-bound.ensures,
+      ← rw c.deref.ensures.value at c.in_ok-all_integers.ensures,
+      ← c.in_ok-backlog.ensures,
+      ← c.in_err-ring.ensures,
+    )
 
 pub returns-in_err-servers : goal.returns-in_err-servers
 unfolding typed_values
 returns-in_err-servers c =
     let p = err_from_is_err_and c.from_residual-in_err-servers.result c.from_residual-in_err-servers.ensures.1 in
-    rw (p.1, p.2, ← c.in_ok-mode.ensures, ← c.in_ok-bound.ensures, ← rw c.deref.ensures.value at c.in_ok-all_integers.ensures,
-        ← c.in_ok-backlog.ensures, ← c.in_ok-ring.ensures, ← c.in_err-servers.ensures)
+    rw (
+      p.1,
+      p.2,
+      ← c.in_ok-mode.ensures,
+      ← c.in_ok-bound.ensures,
+      ← rw c.deref.ensures.value at c.in_ok-all_integers.ensures,
+      ← c.in_ok-backlog.ensures,
+      ← c.in_ok-ring.ensures,
+      ← c.in_err-servers.ensures,
+    )
 
 pub returns-in_err-steps : goal.returns-in_err-steps
 unfolding typed_values
 returns-in_err-steps c =
     let p = err_from_is_err_and c.from_residual-in_err-steps.result c.from_residual-in_err-steps.ensures.1 in
-    rw (p.1, p.2, ← c.in_ok-mode.ensures, ← c.in_ok-bound.ensures, ← rw c.deref.ensures.value at c.in_ok-all_integers.ensures,
-        ← c.in_ok-backlog.ensures, ← c.in_ok-ring.ensures, ← c.in_ok-servers.ensures, ← c.in_err-steps.ensures)
+    rw (
+      p.1,
+      p.2,
+      ← c.in_ok-mode.ensures,
+      ← c.in_ok-bound.ensures,
+      ← rw c.deref.ensures.value at c.in_ok-all_integers.ensures,
+      ← c.in_ok-backlog.ensures,
+      ← c.in_ok-ring.ensures,
+      ← c.in_ok-servers.ensures,
+      ← c.in_err-steps.ensures,
+    )

@@ -36,10 +36,24 @@ pub returns-in_err-step : goal.returns-in_err-step
 unfolding values_at_keys
 returns-in_err-step c =
     let p = err_from_is_err_and c.from_residual-in_err-step.result c.from_residual-in_err-step.ensures.1 in
-    rw (p.1, p.2, ← c.in_ok-mode.ensures, ← c.in_ok-bound.ensures, ← c.in_ok-backlog.ensures, ← c.in_ok-ring.ensures,
-        ← c.in_ok-server.ensures, ← c.in_err-step.ensures)
+    rw (
+      p.1,
+      p.2,
+      ← c.in_ok-mode.ensures,
+      ← c.in_ok-bound.ensures,
+      ← c.in_ok-backlog.ensures,
+      ← c.in_ok-ring.ensures,
+      ← c.in_ok-server.ensures,
+      ← c.in_err-step.ensures,
+    )
 
 pub returns : goal.returns
 unfolding values_at_keys
-returns c = rw (← c.in_ok-mode.ensures, ← c.in_ok-bound.ensures, ← c.in_ok-backlog.ensures, ← c.in_ok-ring.ensures,
-    ← c.in_ok-server.ensures, ← c.in_ok-step.ensures)
+returns c = rw (
+  ← c.in_ok-mode.ensures,
+  ← c.in_ok-bound.ensures,
+  ← c.in_ok-backlog.ensures,
+  ← c.in_ok-ring.ensures,
+  ← c.in_ok-server.ensures,
+  ← c.in_ok-step.ensures,
+)

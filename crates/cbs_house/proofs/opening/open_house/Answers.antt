@@ -17,7 +17,7 @@ invariant_of-house g c =
     let made = c.in-Ok-open_rings in
     let agrees = c.in-Ok.ensures.start in
     let count : length core.faces ≡ c.len-servers.result = new_count g.W.Work.meaning core setup agrees
-        ∙ (terms_count c.args.modes c.args.plan.rates c.requires ∙ sym c.len-servers.ensures.value) in
+    ∙ (terms_count c.args.modes c.args.plan.rates c.requires ∙ sym c.len-servers.ensures.value) in
     record {
       housed = housed_new g.W.Work.meaning core setup agrees made.rings c.in-Ok-new.collector
           (same_count ring_of server_of (rings_in made.rings) made.clients.items c.len-servers.result made.ensures.rings made.ensures.clients ∙ sym count)
@@ -42,23 +42,23 @@ pub returns-clause-count : goal.returns-clause-count
 returns-clause-count g c =
     let made = c.in-Ok-open_rings in
     sym (length-map made.clients.items server_of) ∙ (ap length made.ensures.clients
-        ∙ (length-range_with_len 0 c.len-servers.result ∙ c.len-servers.ensures.value))
+    ∙ (length-range_with_len 0 c.len-servers.result ∙ c.len-servers.ensures.value))
 
 pub returns-clause-few : goal.returns-clause-few
 returns-clause-few g c =
     let made = c.in-Ok-open_rings in
     let count : length made.clients.items ≡ c.len-servers.result =
-        sym (length-map made.clients.items server_of) ∙ (ap length made.ensures.clients ∙ length-range_with_len 0 c.len-servers.result) in
+    sym (length-map made.clients.items server_of) ∙ (ap length made.ensures.clients ∙ length-range_with_len 0 c.len-servers.result) in
     omega (arith, count, c.len-servers.ensures)
 
 pub returns-clause-each : goal.returns-clause-each
 returns-clause-each g c =
     let made = c.in-Ok-open_rings in
     each_opened (rings_in made.rings) made.clients.items (all_opened (rings_in made.rings) made.clients.items c.len-servers.result
-        made.ensures.rings made.ensures.clients)
+    made.ensures.rings made.ensures.clients)
 
 pub returns-clause-together : goal.returns-clause-together
 returns-clause-together g c =
     let made = c.in-Ok-open_rings in
     are_opened (rings_in made.rings) made.clients.items (all_opened (rings_in made.rings) made.clients.items c.len-servers.result
-        made.ensures.rings made.ensures.clients)
+    made.ensures.rings made.ensures.clients)

@@ -27,7 +27,7 @@ pub returns-clause-polled : goal.returns-clause-polled
 returns-clause-polled g c =
     let l = c.loop-server in
     let all : l.server ≡ length (core_of c.args.house.now).faces =
-        omega (arith, c.loop-server-test.false, l.auto.server-end, c.servers-server-end.ensures.value) in
+    omega (arith, c.loop-server-test.false, l.auto.server-end, c.servers-server-end.ensures.value) in
     rw (← all) l.invariant.polled
 
 pub returns-clause-few : goal.returns-clause-few

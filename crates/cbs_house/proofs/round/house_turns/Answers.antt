@@ -22,10 +22,10 @@ pub returns-then-all_closed-clause-turns : goal.returns-then-all_closed-clause-t
 returns-then-all_closed-clause-turns g c =
     let l = c.loop in
     turns_within g.W.Work.meaning c.args.turns l.counter c.args.wanted.now c.args.house.now l.house l.took (omega arith)
-        (λ fewer. c.all_closed.ensures.0 c.if-all_closed.true) l.invariant.taken
+    (λ fewer. c.all_closed.ensures.0 c.if-all_closed.true) l.invariant.taken
 
 pub returns-after-loop-clause-turns : goal.returns-after-loop-clause-turns
 returns-after-loop-clause-turns g c =
     let l = c.loop in
     turns_within g.W.Work.meaning c.args.turns l.counter c.args.wanted.now c.args.house.now l.house l.took (omega arith)
-        (λ fewer. absurd (omega (arith, fewer))) l.invariant.taken
+    (λ fewer. absurd (omega (arith, fewer))) l.invariant.taken

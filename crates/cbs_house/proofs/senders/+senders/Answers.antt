@@ -12,7 +12,7 @@ send_all-returns-in-Some-clause-sends g n c =
     let i = c.in-Some.ensures.item in
     let sent = c.send_turns.ensures in
     sends_set c.args.turns c.args.feeds.now 0 c.send_turns.new.feed c.in-Some.feed.now i.3.0 (rw (← i.1) sent.kept)
-        (rw (← i.1) (omega (arith, sent.count, sent.most)))
+    (rw (← i.1) (omega (arith, sent.count, sent.most)))
 
 pub send_all-returns-clause-most : goal.send_all-returns-clause-most
 send_all-returns-clause-most g t c =
@@ -28,7 +28,7 @@ send_all-returns-clause-sends g t c =
     let parts = c.split_at_mut-front in
     let sent = c.send_both-a in
     rw parts.ensures.value (sends_both c.args.turns parts.result.0.now sent.new.front parts.result.1.now sent.new.back sent.ensures.sends.0
-        sent.ensures.sends.1)
+    sent.ensures.sends.1)
 
 pub send_both-join_mut+arg2-returns : goal.send_both-join_mut+arg2-returns
 send_both-join_mut+arg2-returns g t c = let sent = c.send_all.ensures in (sent.sends, sent.count, sent.most)

@@ -8,32 +8,36 @@ use Rattle.cbs_house.proofs.Turns.{serves_round}
 use Rattle.cbs_house.proofs.serving.serve.Goals as goal
 
 pub loop-init : goal.loop-init
-loop-init g c = record { ready = c.requires.ready; feeds = feeds_same c.args.feeds.now;
-    steps = serves_none g.W.Work.meaning c.args.house.now; stalled = λ p. absurd (omega (arith, p)) }
+loop-init g c = record {
+  ready = c.requires.ready;
+  feeds = feeds_same c.args.feeds.now;
+  steps = serves_none g.W.Work.meaning c.args.house.now;
+  stalled = λ p. absurd (omega (arith, p));
+}
 
 pub returns-in_err-finish_round-clause-feeds : goal.returns-in_err-finish_round-clause-feeds
 returns-in_err-finish_round-clause-feeds g c =
     let r = c.serve_round in
     feeds_on c.args.feeds.now r.new.feeds c.finish_round.new.feeds
-        (feeds_on c.args.feeds.now c.loop.feeds r.new.feeds c.loop.invariant.feeds r.ensures.feeds) c.finish_round.ensures.feeds
+    (feeds_on c.args.feeds.now c.loop.feeds r.new.feeds c.loop.invariant.feeds r.ensures.feeds) c.finish_round.ensures.feeds
 
 pub returns-then-branch-clause-feeds : goal.returns-then-branch-clause-feeds
 returns-then-branch-clause-feeds g c =
     let r = c.serve_round in
     feeds_on c.args.feeds.now r.new.feeds c.finish_round.new.feeds
-        (feeds_on c.args.feeds.now c.loop.feeds r.new.feeds c.loop.invariant.feeds r.ensures.feeds) c.finish_round.ensures.feeds
+    (feeds_on c.args.feeds.now c.loop.feeds r.new.feeds c.loop.invariant.feeds r.ensures.feeds) c.finish_round.ensures.feeds
 
 pub returns-in_err-finish_round-clause-steps : goal.returns-in_err-finish_round-clause-steps
 returns-in_err-finish_round-clause-steps g c =
     let r = c.serve_round in
     serves_round g.W.Work.meaning 10000 (servers_of c.loop.feeds) c.args.house.now c.loop.house r.new.house c.finish_round.new.house
-        r.result.took c.loop.invariant.steps r.ensures.took c.finish_round.ensures.steps
+    r.result.took c.loop.invariant.steps r.ensures.took c.finish_round.ensures.steps
 
 pub returns-then-branch-clause-steps : goal.returns-then-branch-clause-steps
 returns-then-branch-clause-steps g c =
     let r = c.serve_round in
     serves_round g.W.Work.meaning 10000 (servers_of c.loop.feeds) c.args.house.now c.loop.house r.new.house c.finish_round.new.house
-        r.result.took c.loop.invariant.steps r.ensures.took c.finish_round.ensures.steps
+    r.result.took c.loop.invariant.steps r.ensures.took c.finish_round.ensures.steps
 
 pub returns-then-branch-clause-served : goal.returns-then-branch-clause-served
 returns-then-branch-clause-served g c =

@@ -11,11 +11,15 @@ returns-clause-feed g c = keeps_looked c.args.feed.now _ c.settle.ensures.client
 
 pub returns-clause-standing : goal.returns-clause-standing
 returns-clause-standing g c =
-    record { rest = known c.settle.new.self (server_of c.settle.new.client); sent = c.settle.ensures.lawful; seen = prefix_refl _;
-        count = sym c.settle.ensures.value }
+    record {
+      rest = known c.settle.new.self (server_of c.settle.new.client);
+      sent = c.settle.ensures.lawful;
+      seen = prefix_refl _;
+      count = sym c.settle.ensures.value;
+    }
 
 pub returns-clause-settled : goal.returns-clause-settled
 returns-clause-settled g c = λ taken.
     let s = c.settle in
     settled_taken c.args.house.now s.new.self c.args.feed.now (record c.args.feed.now { client = s.new.client })
-        (known s.new.self (server_of s.new.client)) s.ensures.client.same.0 s.ensures.client.sent s.ensures.looked.received s.ensures.lawful taken
+    (known s.new.self (server_of s.new.client)) s.ensures.client.same.0 s.ensures.client.sent s.ensures.looked.received s.ensures.lawful taken

@@ -38,9 +38,9 @@ returns-in_ok-drain-in-Full-clause-taken g c =
     answered_ok c.memory_for.result _ _ c.memory_for.ensures
     (λ memory n standing.
     poll_takes work b p.new.self client p.result b.housed client.last opened polled memory
-        (not_full work b p.new.self c.server-server.result p.result b.housed c.in_ok-drain-in-Full.ensures.ok p.ensures.polled) n
+    (not_full work b p.new.self c.server-server.result p.result b.housed c.in_ok-drain-in-Full.ensures.ok p.ensures.polled) n
     (standing_moved work (MayDrain work) a b client (suc n) c.drain.ensures.moves
-        (standing_looked work h a client (suc n) c.in-Full.ensures.polled.0 standing)))
+    (standing_looked work h a client (suc n) c.in-Full.ensures.polled.0 standing)))
 
 pub returns-in_default-clause-taken : goal.returns-in_default-clause-taken
 returns-in_default-clause-taken g c =

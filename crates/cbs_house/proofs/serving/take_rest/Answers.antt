@@ -5,15 +5,19 @@ use Rattle.cbs_house.proofs.StandingMessages.{received_more, taken_more}
 use Rattle.cbs_house.proofs.serving.take_rest.Goals as goal
 
 pub loop-index-init : goal.loop-index-init
-loop-index-init g c = record { ready = c.requires.ready; feeds = feeds_same c.args.feeds.now;
-    steps = serves_none g.W.Work.meaning c.args.house.now; taken = λ k d p q. absurd (omega (arith, q)) }
+loop-index-init g c = record {
+  ready = c.requires.ready;
+  feeds = feeds_same c.args.feeds.now;
+  steps = serves_none g.W.Work.meaning c.args.house.now;
+  taken = λ k d p q. absurd (omega (arith, q));
+}
 
 pub returns-in_err-take_ring-clause-feeds : goal.returns-in_err-take_ring-clause-feeds
 returns-in_err-take_ring-clause-feeds g c =
     let l = c.loop-index in
     let t = c.take_ring in
     feeds_on c.args.feeds.now l.feeds _ l.invariant.feeds (feeds_set l.feeds l.index t.new.feed c.index-feeds-index.result
-        (omega (arith, c.loop-index-test.true)) t.ensures.feed)
+    (omega (arith, c.loop-index-test.true)) t.ensures.feed)
 
 pub returns-in_err-take_ring-clause-steps : goal.returns-in_err-take_ring-clause-steps
 returns-in_err-take_ring-clause-steps g c = serves_then g.W.Work.meaning c.args.house.now c.loop-index.house c.take_ring.new.house
@@ -44,4 +48,4 @@ returns-in_err-take_ring-clause-ready g c =
     let l = c.loop-index in
     let t = c.take_ring in
     ready_set l.house t.new.house l.feeds l.index t.new.feed c.index-feeds-index.result
-        (serves_rings g.W.Work.meaning l.house t.new.house t.ensures.steps) (omega (arith, c.loop-index-test.true)) t.ensures.feed l.invariant.ready
+    (serves_rings g.W.Work.meaning l.house t.new.house t.ensures.steps) (omega (arith, c.loop-index-test.true)) t.ensures.feed l.invariant.ready

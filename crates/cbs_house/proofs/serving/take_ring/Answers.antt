@@ -39,4 +39,4 @@ returns-clause-taken g c =
     let l = c.loop in
     let feed = c.settle_feed-end.new.feed in
     standing_none l.house feed (standing_at l.house feed.client (c.settle_feed-end.result - l.counter) 0 l.invariant.standing
-        (omega (arith, c.loop-test.false)))
+    (omega (arith, c.loop-test.false)))

@@ -7,10 +7,18 @@ returns-in-Top-clause-ok g c = rw c.in-Top.is (rw (c.format-number.ensures.text,
 
 pub returns-in-Server-clause-ok : goal.returns-in-Server-clause-ok
 unfolding file_line
-returns-in-Server-clause-ok g c = rw c.in-Server.is (rw (c.format-number.ensures.text, c.number.ensures, c.name-name.ensures,
-    c.format-i.ensures.text) at c.write_pieces-in-Server.ensures.ok)
+returns-in-Server-clause-ok g c = rw c.in-Server.is (rw (
+  c.format-number.ensures.text,
+  c.number.ensures,
+  c.name-name.ensures,
+  c.format-i.ensures.text,
+) at c.write_pieces-in-Server.ensures.ok)
 
 pub returns-in-Step-clause-ok : goal.returns-in-Step-clause-ok
 unfolding file_line
-returns-in-Step-clause-ok g c = rw c.in-Step.is (rw (c.format-number.ensures.text, c.number.ensures, c.name-name.ensures,
-    c.format-i-in-Step.ensures.text) at c.write_pieces-in-Step.ensures.ok)
+returns-in-Step-clause-ok g c = rw c.in-Step.is (rw (
+  c.format-number.ensures.text,
+  c.number.ensures,
+  c.name-name.ensures,
+  c.format-i-in-Step.ensures.text,
+) at c.write_pieces-in-Step.ensures.ok)

@@ -7,4 +7,4 @@ returns-clause-jobs c = λ s.
     let within : c.in-Submit.server < length c.args.lists.now.items = rw c.in-Submit.is at c.requires in
     rw c.in-Submit.is
     (job_listed (λ jobs. jobs.items) c.args.lists.now.items c.from.result c.in-Submit.server s c.index_mut.result.now c.push.new.self
-        c.in-Submit.task c.from.ensures within c.index_mut.ensures.value c.in_ok-push.ensures.items)
+    c.in-Submit.task c.from.ensures within c.index_mut.ensures.value c.in_ok-push.ensures.items)

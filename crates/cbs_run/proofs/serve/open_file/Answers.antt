@@ -17,8 +17,8 @@ feeds_of-requires c =
     let servers = length c.into_parts-modes.result.plan.rates in
     let lists : length c.in-Ok.jobs.items ≡ servers =
     sym (length-map c.in-Ok.jobs.items (λ jobs. jobs.items))
-        ∙ (ap length c.in-Ok.ensures ∙ (length-map-range_with_len (λ s. jobs_for s c.into_parts-modes.result.steps.items) 0 c.len.result
-        ∙ c.len.ensures.value)) in
+    ∙ (ap length c.in-Ok.ensures ∙ (length-map-range_with_len (λ s. jobs_for s c.into_parts-modes.result.steps.items) 0 c.len.result
+    ∙ c.len.ensures.value)) in
     let clients : length cs ≡ servers = sym (length-map cs server_of) ∙ (ap length c.in_ok-house.ensures.clients ∙ length-range_with_len 0 servers) in
     lists ∙ sym clients
 
@@ -26,19 +26,19 @@ pub returns-in-Ok-feeds_of-clause-servers : goal.returns-in-Ok-feeds_of-clause-s
 returns-in-Ok-feeds_of-clause-servers c =
     let servers = ap (λ (f : File). length f.plan.rates) c.into_parts-modes.ensures.value in
     sym (map-map server_of client_of c.in-Ok-feeds_of.feeds.items)
-        ∙ (ap (map server_of) c.in-Ok-feeds_of.ensures.clients ∙ (c.in_ok-house.ensures.clients ∙ ap (range_with_len 0) servers))
+    ∙ (ap (map server_of) c.in-Ok-feeds_of.ensures.clients ∙ (c.in_ok-house.ensures.clients ∙ ap (range_with_len 0) servers))
 
 pub returns-in-Ok-feeds_of-clause-rings : goal.returns-in-Ok-feeds_of-clause-rings
 returns-in-Ok-feeds_of-clause-rings c =
     let ring : c.into_parts-modes.result.ring ≡ c.args.file.ring = ap (λ (f : File). f.ring) c.into_parts-modes.ensures.value in
     rw (← ring) (feeds_unused c.into_parts-modes.result.ring c.in-Ok-feeds_of.feeds.items c.in_ok-house.clients.items
-        c.in-Ok-feeds_of.ensures.clients c.in_ok-house.ensures.unused)
+    c.in-Ok-feeds_of.ensures.clients c.in_ok-house.ensures.unused)
 
 pub returns-in-Ok-feeds_of-clause-jobs : goal.returns-in-Ok-feeds_of-clause-jobs
 returns-in-Ok-feeds_of-clause-jobs c =
     let servers = c.len.ensures.value ∙ ap (λ (f : File). length f.plan.rates) c.into_parts-modes.ensures.value in
     c.in-Ok-feeds_of.ensures.jobs ∙ (c.in-Ok.ensures ∙ jobs_are c.args.file c.len.result c.into_parts-modes.result.steps.items servers
-        (ap (λ (f : File). f.steps) c.into_parts-modes.ensures.value))
+    (ap (λ (f : File). f.steps) c.into_parts-modes.ensures.value))
 
 pub returns-in-Ok-feeds_of-clause-ready : goal.returns-in-Ok-feeds_of-clause-ready
 returns-in-Ok-feeds_of-clause-ready c =

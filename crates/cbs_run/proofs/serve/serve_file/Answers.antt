@@ -8,11 +8,11 @@ pub returns-in_err-write_text : goal.returns-in_err-write_text
 returns-in_err-write_text g c =
     let p = err_from_is_err_and c.from_residual-in_err-write_text.result c.from_residual-in_err-write_text.ensures.1 in
     let text : c.as_bytes.result.now ≡ result_lines c.args.file =
-        c.as_bytes.ensures.value ∙ ((rw c.deref.ensures.value at c.in_ok-text.ensures) ∙ result_lines_are c.args.file _ c.in-Ok.ensures.results) in
+    c.as_bytes.ensures.value ∙ ((rw c.deref.ensures.value at c.in_ok-text.ensures) ∙ result_lines_are c.args.file _ c.in-Ok.ensures.results) in
     rw (p.1, p.2) (rw text at c.in_err-write_text.ensures.err)
 
 pub returns : goal.returns
 returns g c =
     let text : c.as_bytes.result.now ≡ result_lines c.args.file =
-        c.as_bytes.ensures.value ∙ ((rw c.deref.ensures.value at c.in_ok-text.ensures) ∙ result_lines_are c.args.file _ c.in-Ok.ensures.results) in
+    c.as_bytes.ensures.value ∙ ((rw c.deref.ensures.value at c.in_ok-text.ensures) ∙ result_lines_are c.args.file _ c.in-Ok.ensures.results) in
     rw text at c.in_ok-write_text.ensures.ok

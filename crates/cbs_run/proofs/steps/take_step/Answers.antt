@@ -13,7 +13,7 @@ returns-clause-text g c =
     on_ok_weaker c.write_step.result (λ wrote M agrees.
     let made : Makes of_files _ c.step-reply.new.self c.args.step c.step-reply.result = rw lack at c.step-reply.ensures.tries in
     text_is g.V.StepView.text_of M c.args.step _ _ _ c.call_of-call.ensures (made.reply M agrees)
-        (wrote (M ⊕ c.args.step) (made.state M agrees))) c.write_step.ensures
+    (wrote (M ⊕ c.args.step) (made.state M agrees))) c.write_step.ensures
 
 pub returns-clause-completes : goal.returns-clause-completes
 returns-clause-completes g c =

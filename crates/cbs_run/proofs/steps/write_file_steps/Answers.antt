@@ -13,7 +13,7 @@ returns-in-Ok-clause-written g c =
     let agrees : Agrees of_files c.in-Ok.core (start_of c.args.file) = rw (← c.into_parts-modes.ensures.value) c.in-Ok.ensures.start in
     let steps : c.into_parts-modes.result.steps.items ≡ c.args.file.steps = ap (λ (f : File). f.steps) c.into_parts-modes.ensures.value in
     without_core _ (start_of c.args.file) c.args.file.steps _ c.write_steps.result _ _
-        (rw steps at (c.write_steps.ensures.written (start_of c.args.file) agrees))
+    (rw steps at (c.write_steps.ensures.written (start_of c.args.file) agrees))
 
 pub returns-after-matches-clause-written : goal.returns-after-matches-clause-written
 returns-after-matches-clause-written g c = nothing_written _ _ _ _

@@ -38,7 +38,7 @@ pub returns-in-Err-clause-written : goal.returns-in-Err-clause-written
 returns-in-Err-clause-written g c = λ M agrees.
     let wrote = c.in_ok-flush-in-Err.ensures.ok in
     stops _ _ _ c.in-Some.step _ c.in-Some.ensures.steps.0 (c.loop-step.invariant.so_far M agrees) c.in-Err.ensures.refused refl wrote.0
-        (wrote.2 ∙ c.loop-step.invariant.none_failed)
+    (wrote.2 ∙ c.loop-step.invariant.none_failed)
 
 pub loop-step-preserved : goal.loop-step-preserved
 loop-step-preserved g c = record {
@@ -55,7 +55,7 @@ loop-step-preserved g c = record {
       (c.in-Ok.ensures.state (M ⊕⊕ c.loop-step.yielded) (c.loop-step.invariant.state M agrees));
   completes = λ M agrees s.
       steps_complete of_files M c.loop-step.yielded c.in-Some.step s (c.loop-step.invariant.completes M agrees s)
-          (c.in-Ok.ensures.completes (M ⊕⊕ c.loop-step.yielded) (c.loop-step.invariant.state M agrees) s);
+      (c.in-Ok.ensures.completes (M ⊕⊕ c.loop-step.yielded) (c.loop-step.invariant.state M agrees) s);
 }
 
 pub returns-in_err-push-in-Ok-clause-written : goal.returns-in_err-push-in-Ok-clause-written

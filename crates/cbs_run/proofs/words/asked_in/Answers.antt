@@ -27,7 +27,7 @@ pub returns-clause-ok : goal.returns-clause-ok
 returns-clause-ok c =
     let inner = c.in-Some.inner.now in
     let entered : subcommand_rows_of c.args.matches.now ≡ Some (c.in-Some.name.now, rows_of (found_of inner)) =
-        both_are _ _ _ _ _ (rw c.in-Some.is at c.subcommand.ensures.name) (rw c.in-Some.is at c.subcommand.ensures.rows) in
+    both_are _ _ _ _ _ (rw c.in-Some.is at c.subcommand.ensures.name) (rw c.in-Some.is at c.subcommand.ensures.rows) in
     let file : first_of (codes "FILE") (rows_of (found_of inner)) ≡ Some (string_bytes c.in_ok-file.file) =
     sym (first_value-rows (found_of inner) (codes "FILE")) ∙ (sym (rw c.in-Some-get_str.is at c.get_str.ensures) ∙ ap Some (sym c.in_ok-file.ensures.ok)) in
     (rows_of (found_of inner), entered ∙ rw c.in-Some-verb_of.ensures refl, file)
@@ -35,15 +35,15 @@ returns-clause-ok c =
 pub returns-in_default-verb_of-clause-refused : goal.returns-in_default-verb_of-clause-refused
 returns-in_default-verb_of-clause-refused c = λ asked named.
     let entered : subcommand_rows_of c.args.matches.now ≡ Some (c.in-Some.name.now, rows_of (found_of c.in-Some.inner.now)) =
-        both_are _ _ _ _ _ (rw c.in-Some.is at c.subcommand.ensures.name) (rw c.in-Some.is at c.subcommand.ensures.rows) in
+    both_are _ _ _ _ _ (rw c.in-Some.is at c.subcommand.ensures.name) (rw c.in-Some.is at c.subcommand.ensures.rows) in
     absurd (c.in_default-verb_of.ensures asked.verb (sym (same_name _ _ (sym entered ∙ named.1))))
 
 pub returns-in_default-get_str-clause-refused : goal.returns-in_default-get_str-clause-refused
 returns-in_default-get_str-clause-refused c = λ asked named.
     let inner = c.in-Some.inner.now in
     let entered : subcommand_rows_of c.args.matches.now ≡ Some (c.in-Some.name.now, rows_of (found_of inner)) =
-        both_are _ _ _ _ _ (rw c.in-Some.is at c.subcommand.ensures.name) (rw c.in-Some.is at c.subcommand.ensures.rows) in
+    both_are _ _ _ _ _ (rw c.in-Some.is at c.subcommand.ensures.name) (rw c.in-Some.is at c.subcommand.ensures.rows) in
     let same : rows_of (found_of inner) ≡ named.0 = same_rows _ _ (sym entered ∙ named.1) in
     let none : first_of (codes "FILE") (rows_of (found_of inner)) ≡ None =
-        sym (first_value-rows (found_of inner) (codes "FILE")) ∙ sym (rw c.in_default-get_str.is at c.get_str.ensures) in
+    sym (first_value-rows (found_of inner) (codes "FILE")) ∙ sym (rw c.in_default-get_str.is at c.get_str.ensures) in
     absurd (not_both _ (sym (ap (first_of (codes "FILE")) same) ∙ none) named.2)

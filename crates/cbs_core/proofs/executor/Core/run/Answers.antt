@@ -28,7 +28,7 @@ use_tick-requires g c =
 -- what the servers show after the unit and the replenishment
 shown : (g : Over) (c : goal.After-ran_from g) → c.replenish.new.self ≡ map (with_replenishment (c.self.inside.clock + 1))
     (changed_at (with_unit (is_some (result_run g.W.Work.meaning (list_at c.self.inside.queues.lists c.in-Some.server))))
-        c.self.inside.servers c.in-Some.server)
+    c.self.inside.servers c.in-Some.server)
 shown g c = rw (c.use_tick.ensures, c.is_some.ensures, c.run_first-result.ensures.result) at c.replenish.ensures
 
 ran : (g : Over) (c : goal.After-ran_from g) → c.ran_from.result

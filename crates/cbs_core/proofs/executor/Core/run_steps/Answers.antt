@@ -46,24 +46,24 @@ loop-step-preserved g c =
       replies = λ M agrees.
           rw c.push_reserved.ensures.items
           (AnswersAll-push g.W.Work.meaning M c.loop-step.yielded c.loop-step.replies.items c.in-Some.step c.make-reply.result
-              (c.loop-step.invariant.replies M agrees)
+          (c.loop-step.invariant.replies M agrees)
           (tries_answers g.W.Work.meaning _ _ _ _ c.make-reply.ensures.tries (grown_by M c.loop-step.yielded c.loop-step.replies.items)
-              (c.loop-step.invariant.state M agrees)));
+          (c.loop-step.invariant.state M agrees)));
       state = λ M agrees.
           rw c.push_reserved.ensures.items
           (agrees_more g.W.Work.meaning c.make-reply.new.self M c.loop-step.yielded c.loop-step.replies.items c.in-Some.step
-              c.make-reply.result (c.loop-step.invariant.replies M agrees)
+          c.make-reply.result (c.loop-step.invariant.replies M agrees)
           (tries_state g.W.Work.meaning _ _ _ _ c.make-reply.ensures.tries (grown_by M c.loop-step.yielded c.loop-step.replies.items)
-              (c.loop-step.invariant.state M agrees)));
+          (c.loop-step.invariant.state M agrees)));
       completions = λ M agrees s.
           let N = grown_by M c.loop-step.yielded c.loop-step.replies.items in
           let before = c.loop-step.invariant.state M agrees in
           rw c.push_reserved.ensures.items
           (completes_more g.W.Work.meaning M c.loop-step.yielded c.loop-step.replies.items c.in-Some.step c.make-reply.result s
-              (c.loop-step.invariant.replies M agrees) (c.loop-step.invariant.completions M agrees s)
+          (c.loop-step.invariant.replies M agrees) (c.loop-step.invariant.completions M agrees s)
           (step_completes g.W.Work.meaning N c.in-Some.step c.make-reply.result s _ c.loop-step.self c.make-reply.new.self refl
-              (tries_answers g.W.Work.meaning _ _ _ _ c.make-reply.ensures.tries N before) c.make-reply.ensures.counts before
-              (tries_state g.W.Work.meaning _ _ _ _ c.make-reply.ensures.tries N before)));
+          (tries_answers g.W.Work.meaning _ _ _ _ c.make-reply.ensures.tries N before) c.make-reply.ensures.counts before
+          (tries_state g.W.Work.meaning _ _ _ _ c.make-reply.ensures.tries N before)));
     }
 
 pub returns-clause-tries : goal.returns-clause-tries

@@ -11,8 +11,10 @@ pub invariant_of-self : goal.invariant_of-self
 invariant_of-self c =
     let x : Entry = record { deadline = c.args.deadline; server = c.args.server } in
     let es = c.self.inside.entries in
-    rw c.insert.ensures (ordered-entered x es c.self.invariant.0 (rw (← c.self.view_is) at c.requires.absent),
-        known-entered 64 x es c.requires.known c.self.invariant.1)
+    rw c.insert.ensures (
+      ordered-entered x es c.self.invariant.0 (rw (← c.self.view_is) at c.requires.absent),
+      known-entered 64 x es c.requires.known c.self.invariant.1,
+    )
 
 pub returns-clause-here : goal.returns-clause-here
 returns-clause-here c =

@@ -22,16 +22,16 @@ pub loop-server-preserved : goal.loop-server-preserved
 loop-server-preserved g c =
     let pushed : c.push.new.self.items ≡ c.loop-server.servers.items ++ c.new.result ∷ [] = search (rules, common_steps) in
     faces_more c.args.modes.now c.args.plan.now.rates c.loop-server.server c.unwrap-mode.result c.unwrap-reservation.result
-        c.loop-server.servers.items c.push.new.self.items
+    c.loop-server.servers.items c.push.new.self.items
     (sym c.unwrap-mode.ensures ∙ c.get.ensures) (sym c.unwrap-reservation.ensures ∙ c.get-in-loop-server.ensures.value)
-        c.loop-server.invariant (rw c.new.ensures at pushed)
+    c.loop-server.invariant (rw c.new.ensures at pushed)
 
 pub invariant_of-result : goal.invariant_of-result
 invariant_of-result g c =
     let modes = c.args.modes.now in
     let rates = c.args.plan.now.rates in
     let all : length (terms_of modes rates) ≤ c.loop-server.server =
-        let m = c.len-server-end.ensures.value in rw (length-terms modes rates c.requires) (omega arith) in
+    let m = c.len-server-end.ensures.value in rw (length-terms modes rates c.requires) (omega arith) in
     let faces = faces_all modes rates c.loop-server.server c.loop-server.servers.items all c.loop-server.invariant in
     let same = ap length faces in
     let few = c.len.ensures.lawful.few in
@@ -43,5 +43,5 @@ returns-clause-servers g c =
     let modes = c.args.modes.now in
     let rates = c.args.plan.now.rates in
     let all : length (terms_of modes rates) ≤ c.loop-server.server =
-        let m = c.len-server-end.ensures.value in rw (length-terms modes rates c.requires) (omega arith) in
+    let m = c.len-server-end.ensures.value in rw (length-terms modes rates c.requires) (omega arith) in
     faces_all modes rates c.loop-server.server c.loop-server.servers.items all c.loop-server.invariant

@@ -11,8 +11,8 @@ pub returns-in-Some-clause-kept : goal.returns-in-Some-clause-kept
 returns-in-Some-clause-kept g c =
     let sent = c.send_reserved.ensures in
     keeps_sent c.args.self.now (record { client = c.send_reserved.new.self; jobs = c.pop_front.new.self }) c.has_slot.new.self
-        c.in-Some.task (c.has_slot.ensures.looked.same, c.has_slot.ensures.looked.sent) sent.same sent.sent c.in-Some.ensures.items
-        (sym c.if-ended.ensures.ended)
+    c.in-Some.task (c.has_slot.ensures.looked.same, c.has_slot.ensures.looked.sent) sent.same sent.sent c.in-Some.ensures.items
+    (sym c.if-ended.ensures.ended)
 
 pub returns-in-None-clause-kept : goal.returns-in-None-clause-kept
 returns-in-None-clause-kept g c = grind (arith, pushed)

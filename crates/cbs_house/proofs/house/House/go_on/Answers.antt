@@ -48,4 +48,4 @@ returns-in-Some-clause-later g c =
     let made = on_ok c.advance.result _ (returns-in-Some-clause-succeeds g c) c.advance.ensures.made in
     later_by work old.core c.advance.new.self.core (Advance c.in-Some.span) old.housed.history made.steps
     (λ M agrees. advance_later work M.setup.backlog (world_after work M) c.in-Some.span (c.in-Some.ensures M agrees)
-        (rw agrees.world.clock at c.requires.early))
+    (rw agrees.world.clock at c.requires.early))

@@ -18,9 +18,11 @@ returns-then-look-eq0-clause-made g c =
 pub returns-then-look-eq0-clause-some : goal.returns-then-look-eq0-clause-some
 returns-then-look-eq0-clause-some g c =
     let rings = c.args.self.now.housed.ring_count in
-    let seen = rw c.from-index.ensures at c.look.ensures.value in
-    (made_room g.W.Work.meaning _ _ c.look.ensures.looked (λ M agrees. agrees) (λ s. same_shelf _), omega arith,
-        inr (nil_from_length _ (sym seen ∙ c.if-look-eq0.true)))
+    let seen = rw c.from-index.ensures at c.look.ensures.value in (
+      made_room g.W.Work.meaning _ _ c.look.ensures.looked (λ M agrees. agrees) (λ s. same_shelf _),
+      omega arith,
+      inr (nil_from_length _ (sym seen ∙ c.if-look-eq0.true)),
+    )
 
 pub returns-in-Err-Closed-clause-made : goal.returns-in-Err-Closed-clause-made
 returns-in-Err-Closed-clause-made g c =

@@ -55,12 +55,14 @@ returns-in_err-move_on-clause-ends g c =
     let l = c.turns in
     let t = c.in_err-move_on.ensures.turn in
     let due : IsDue c.max-most.result l.idle (core_of l.self) =
-        record { unfinished = λ over. false≢true (sym c.turns-test.true ∙ c.is_over.ensures.over.1 over);
-        patient = omega (arith, l.invariant.within, c.if-idle-most.false) } in
+    record {
+      unfinished = λ over. false≢true (sym c.turns-test.true ∙ c.is_over.ensures.over.1 over);
+      patient = omega (arith, l.invariant.within, c.if-idle-most.false);
+    } in
     let why : IfErr c.from_residual.result (λ error. turn_stop t.turn ≡ Some error) = search rules in
     let most : c.max-most.result ≡ max c.args.idle_turns 1 = search rules in
     rw (← most) (run_stopped g.W.Work.meaning c.max-most.result l.idle c.args.self.now l.self c.move_on.new.self t.turn l.invariant.on due
-        t.taken c.from_residual.result c.from_residual.ensures.0 why)
+    t.taken c.from_residual.result c.from_residual.ensures.0 why)
 
 pub turns-smaller-then-branch : goal.turns-smaller-then-branch
 turns-smaller-then-branch g c =
@@ -68,7 +70,7 @@ turns-smaller-then-branch g c =
     let new = core_of c.move_on.new.self in
     let is = c.in_ok-move_on.ensures in
     fewer_turns c.max-most.result c.turns.idle (left_of old) (left_of new)
-        (less_left old new (sym is.turn.is.1 ∙ c.if-branch.true) is.on.0 is.few.0 is.on.1 is.few.1)
+    (less_left old new (sym is.turn.is.1 ∙ c.if-branch.true) is.on.0 is.few.0 is.on.1 is.few.1)
 
 pub turns-preserved-then-branch : goal.turns-preserved-then-branch
 turns-preserved-then-branch g c =
@@ -77,8 +79,10 @@ turns-preserved-then-branch g c =
     let m = c.move_on in
     let t = c.in_ok-move_on.ensures.turn in
     let due : IsDue c.max-most.result l.idle (core_of l.self) =
-        record { unfinished = λ over. false≢true (sym c.turns-test.true ∙ c.is_over.ensures.over.1 over);
-        patient = omega (arith, l.invariant.within, c.if-idle-most.false) } in
+    record {
+      unfinished = λ over. false≢true (sym c.turns-test.true ∙ c.is_over.ensures.over.1 over);
+      patient = omega (arith, l.invariant.within, c.if-idle-most.false);
+    } in
     let moved : moves_on (core_of l.self) (core_of m.new.self) ≡ true = sym t.is.1 ∙ c.if-branch.true in
     record {
       run = run_then work g.S.Sink.hears c.args.self.now l.self m.new.self c.args.sink.now l.sink m.new.sink l.invariant.run m.ensures.run;
@@ -94,8 +98,10 @@ turns-preserved g c =
     let m = c.move_on in
     let t = c.in_ok-move_on.ensures.turn in
     let due : IsDue c.max-most.result l.idle (core_of l.self) =
-        record { unfinished = λ over. false≢true (sym c.turns-test.true ∙ c.is_over.ensures.over.1 over);
-        patient = omega (arith, l.invariant.within, c.if-idle-most.false) } in
+    record {
+      unfinished = λ over. false≢true (sym c.turns-test.true ∙ c.is_over.ensures.over.1 over);
+      patient = omega (arith, l.invariant.within, c.if-idle-most.false);
+    } in
     let still : moves_on (core_of l.self) (core_of m.new.self) ≡ false = sym t.is.1 ∙ c.if-branch.false in
     record {
       run = run_then work g.S.Sink.hears c.args.self.now l.self m.new.self c.args.sink.now l.sink m.new.sink l.invariant.run m.ensures.run;

@@ -18,7 +18,7 @@ invariant_of-self g c =
           e.ensures.others.1 u.makes.count
           (Submit s c.in-Job.task ∷ []) u.makes.state
           (λ l. keeps_job work _ _ _ _ _ _ _ _ (h.servers s l) c.in-Job.task c.submit_reserved-number.result u.job.0
-              c.requires.room.accepts.is_open.unclosed t.received e.ensures.announced.handed e.ensures.announced.results)
+          c.requires.room.accepts.is_open.unclosed t.received e.ensures.announced.handed e.ensures.announced.results)
           (λ l. let n = u.job.0.accepted in let m = e.ensures.announced.announced in omega (arith, h.announced s l))
           u.job.1 (λ r ne. (t.others r ne).0) e.ensures.others.0;
     }

@@ -9,7 +9,7 @@ pub returns-clause-looked : goal.returns-clause-looked
 returns-clause-looked g c =
     let ends = c.args.self.now.ends.items in
     let p = looked_at ends c.args.server c.slots_beside.new.self c.index_mut-end.result.now
-        (omega (arith, length-map ends consumer_ring, c.requires.within)) c.index_mut-end.ensures.value c.slots_beside.ensures.looked in
+    (omega (arith, length-map ends consumer_ring, c.requires.within)) c.index_mut-end.ensures.value c.slots_beside.ensures.looked in
     record { rings = p.rings; received = p.received; known = p.known }
 
 pub index_mut-end-requires : goal.index_mut-end-requires

@@ -8,5 +8,5 @@ pub returns-clause-looked : goal.returns-clause-looked
 returns-clause-looked g c =
     let ends = c.args.self.now.ends.items in
     let p = looked_at ends c.args.server c.slots.new.self c.index_mut-end.result.now
-        (omega (arith, length-map ends consumer_ring, c.requires)) c.index_mut-end.ensures.value c.slots.ensures.looked in
+    (omega (arith, length-map ends consumer_ring, c.requires)) c.index_mut-end.ensures.value c.slots.ensures.looked in
     record { rings = p.rings; received = p.received; known = p.known }

@@ -6,7 +6,7 @@ use Rattle.cbs_queues.proofs.queues.Queues.new.Goals as goal
 pub invariant_of-result : goal.invariant_of-result
 invariant_of-result g c =
     let totals : c.in_ok-taken_in.taken_in.items ≡ replicate c.args.servers 0 =
-        rw c.from.ensures at c.in_ok-taken_in.ensures.items_if_clones_equal (λ y same. same) in
+    rw c.from.ensures at c.in_ok-taken_in.ensures.items_if_clones_equal (λ y same. same) in
     rw (c.in_ok-new.ensures.empty, totals) (counted_none g.W.Work.meaning c.args.servers)
 
 -- empty queues have no jobs

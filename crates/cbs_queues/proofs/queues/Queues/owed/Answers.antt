@@ -12,7 +12,7 @@ index-requires g c =
     let queues = c.self.inside.jobs.lists in
     let is = rw (← c.self.view_is) at c.requires in
     let there = total_there g.W.Work.meaning queues c.self.inside.taken_in.items c.self.invariant c.args.server
-        (omega (arith, is, length-map queues jobs_of)) in
+    (omega (arith, is, length-map queues jobs_of)) in
     search rules
 
 -- what is behind the first job is what is left there, which is little
@@ -27,7 +27,7 @@ behind g c =
     let h = counted_at work queues c.self.inside.taken_in.items c.self.invariant c.args.server within c.index.result.now read in
     let found : slice_get (list_at queues c.args.server) 0 ≡ Some c.in-Some.first.now = search rules in
     let same = behind_first work (list_at queues c.args.server) c.index.result.now c.in-Some.first.now c.behind.result found
-        c.behind.ensures c.behind.type_inv h in
+    c.behind.ensures c.behind.type_inv h in
     (same, rw same (behind_few work (list_at queues c.args.server) c.index.result.now h))
 
 pub overflow_add-result : goal.overflow_add-result

@@ -24,7 +24,7 @@ returns-then-left-gt0-clause-lists g c =
     rw (← c.self.view_is)
     (jobs_stepped queues c.args.server _
     ∙ job_stays g.W.Work.meaning (map jobs_of queues) c.args.server _ _ _ (job_first queues c.args.server _ c.first_mut.ensures.value)
-        c.step.ensures.after (omega arith))
+    c.step.ensures.after (omega arith))
 
 pub returns-clause-lists : goal.returns-clause-lists
 returns-clause-lists g c =
@@ -33,7 +33,7 @@ returns-clause-lists g c =
     (jobs_popped _ c.args.server
     ∙ ap (λ lists. changed_at (drop 1) lists c.args.server) (jobs_stepped queues c.args.server _)
     ∙ job_leaves g.W.Work.meaning (map jobs_of queues) c.args.server _ _ _ (job_first queues c.args.server _ c.first_mut.ensures.value)
-        c.step.ensures.after (omega arith))
+    c.step.ensures.after (omega arith))
 
 pub first_mut-requires : goal.first_mut-requires
 first_mut-requires g c = grind (arith, common_steps)

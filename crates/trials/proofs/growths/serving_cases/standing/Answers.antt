@@ -6,8 +6,7 @@ use Rattle.trials.proofs.growths.serving_cases.standing.Goals as goal
 
 pub settle-requires : goal.settle-requires
 settle-requires c =
-    subst (λ x. IsOpened (rings_of c.args.house.now) x) (sym c.client.ensures.value)
-        (ready_at c.args.house.now c.args.feeds.now c.args.index c.index-feeds-index.result c.requires.within c.requires.ready)
+    subst (λ x. IsOpened (rings_of c.args.house.now) x) (sym c.client.ensures.value) (ready_at c.args.house.now c.args.feeds.now c.args.index c.index-feeds-index.result c.requires.within c.requires.ready)
 
 pub returns-clause-ready : goal.returns-clause-ready
 returns-clause-ready c =

@@ -5,5 +5,4 @@ use Rattle.cbs_house.specs.RingEnds.{IsOpened}
 use Rattle.cbs_tests.proofs.tests.houses.polling.one_client.Goals as goal
 
 pub returns : goal.returns
-returns g c = (All-pop (IsOpened (rings_of c.in-Ok.house)) c.in-Ok.clients.items c.pop.new.self.items (Some c.in-Some.client)
-    c.in-Some.ensures.items c.in-Ok.ensures.opened).1
+returns g c = (All-pop (IsOpened (rings_of c.in-Ok.house)) c.in-Ok.clients.items c.pop.new.self.items (Some c.in-Some.client) c.in-Some.ensures.items c.in-Ok.ensures.opened).1

@@ -7,7 +7,7 @@ use Rattle.cbs_tests.proofs.tests.houses.serving.standing.Goals as goal
 pub settle-requires : goal.settle-requires
 settle-requires c =
     subst (λ x. IsOpened (rings_of c.args.house.now) x) (sym c.client.ensures.value)
-        (ready_at c.args.house.now c.args.feeds.now c.args.index c.index-feeds-index.result c.requires.within c.requires.ready)
+    (ready_at c.args.house.now c.args.feeds.now c.args.index c.index-feeds-index.result c.requires.within c.requires.ready)
 
 pub returns : goal.returns
 returns c =
@@ -15,9 +15,9 @@ returns c =
     let d = c.index-feeds-index.result in
     let old = get_or fs c.args.index d in
     let s = c.settle in
-    let same = rw c.client.ensures.value at s.ensures.client in
+    let looked = rw c.client.ensures.value at s.ensures.client in
     record {
       ready =
           ready_set c.args.house.now s.new.self fs c.args.index (record { client = s.new.client; jobs = old.jobs }) d s.ensures.looked.rings c.requires.within
-          (keeps_looked old (record { client = s.new.client; jobs = old.jobs }) same.0 same.1 refl) c.requires.ready;
+          (keeps_looked old (record { client = s.new.client; jobs = old.jobs }) looked.same looked.sent refl) c.requires.ready;
     }
