@@ -1,5 +1,4 @@
 -- What is dropped leaves the core, and so the time.
-use Rattle.std.proofs.Common.{ℕ}
 use Rattle.cbs_steps.specs.declared.reply.Ran.{Ran}
 use Rattle.cbs_steps.specs.declared.reply.Ran.TheVariants.{Idle, ClockEnd, Unit, Done}
 use Rattle.cbs_house.specs.Houses.{IsHouseOnTime}

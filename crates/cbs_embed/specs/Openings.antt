@@ -17,7 +17,6 @@ use Rattle.cbs_embed.specs.Plans.{setup_refusal, plan_with, modes_with, whole_pr
 use Rattle.cbs_embed.specs.declared.setup.Server.{Server}
 use Rattle.cbs_embed.specs.declared.inside.Inside.{Inside}
 use Rattle.cbs_embed.specs.declared.inside.Inside.TheVariants.{House, Client}
-use Rattle.cbs_embed.specs.declared.job.UnitJob.{UnitJob}
 use Rattle.cbs_embed.specs.declared.refusal.KeptError.TheVariants.{WrongCount}
 use Rattle.cbs_embed.specs.declared.refusal.Refusal.{Refusal}
 use Rattle.cbs_embed.specs.declared.refusal.Refusal.TheVariants as refused

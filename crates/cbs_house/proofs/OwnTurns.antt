@@ -13,7 +13,7 @@ use Rattle.cbs_steps.specs.Accounts.{face_of, finished}
 use Rattle.cbs_core.specs.Agreement.{Agrees}
 use Rattle.cbs_steps.specs.Continuations.{◌⊕⊕◌}
 use Rattle.cbs_steps.specs.Faces.{face_at, no_face, submit_refusal, close_refusal}
-use Rattle.cbs_core.specs.Held.{HoldsJob, HoldsNoJob, IsAtEnd}
+use Rattle.cbs_core.specs.Held.{HoldsNoJob, IsAtEnd}
 use Rattle.cbs_steps.specs.History.{World, History, ◌⊕◌, account, faces, chosen, after_submit, after_closing, run_reply, world_after, reply_in}
 use Rattle.cbs_steps.specs.declared.error.CoreError.{CoreError}
 use Rattle.cbs_steps.specs.declared.reply.Ran.{Ran}

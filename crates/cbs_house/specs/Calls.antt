@@ -1,5 +1,5 @@
 -- What each call of a house and of a client does, as one relation between before, answer and after.
-use Rattle.std.specs.Prelude.{◌≡◌, ◌≢◌, ◌↔◌, ◌⊎◌, ℕ, ◌+◌, ◌-◌, ◌*◌, ◌^◌, ◌<◌, ◌≤◌, true, false, List, [], ◌∷◌, ◌++◌, length, slice_get, Option}
+use Rattle.std.specs.Prelude.{◌≡◌, ◌↔◌, ◌⊎◌, ℕ, ◌+◌, ◌-◌, ◌*◌, ◌^◌, ◌<◌, ◌≤◌, true, false, List, [], ◌∷◌, ◌++◌, length, slice_get, Option}
 use Rattle.std.specs.Prelude.{IfSome, Result, IfOk, IfErr, OnOk, OnErr, IsOk, MatchOption, MatchResult}
 use Rattle.cbs_job.specs.Work.{Meaning}
 use Rattle.cbs_job.specs.declared.work.Work.{Ghosts}
@@ -17,7 +17,7 @@ use Rattle.cbs_steps.specs.declared.step.Step.{Step}
 use Rattle.cbs_steps.specs.declared.step.Step.TheVariants as step
 use Rattle.cbs_steps.specs.declared.view.ServerView.{ServerView}
 use Rattle.cbs_core.specs.Agreement.{Agrees}
-use Rattle.cbs_house.specs.Clients.{sent_by, free, slots_of, SameClient}
+use Rattle.cbs_house.specs.Clients.{sent_by, free, SameClient}
 use Rattle.cbs_house.specs.Houses.{core_of, rings_of, received, known, handed_of, results_of, IsHouseOnTime, view_answer, Made, SameHouse, Polled}
 use Rattle.cbs_house.specs.Houses.{Collects, NamesJob}
 use Rattle.cbs_house.specs.Messages.{jobs_among, has_end}
@@ -30,7 +30,6 @@ use Rattle.cbs_house.specs.declared.error.HouseError.TheVariants as house_error
 use Rattle.cbs_house.specs.declared.error.SendError.{SendError}
 use Rattle.cbs_house.specs.declared.error.SendError.TheVariants.{Ended, RingFull}
 use Rattle.cbs_house.specs.declared.house.House.{House}
-use Rattle.cbs_house.specs.declared.message.Message.{Message}
 use Rattle.cbs_house.specs.declared.message.Message.TheVariants.{Job, End}
 use Rattle.cbs_house.specs.declared.poll.Poll.{Poll}
 use Rattle.cbs_house.specs.declared.turn.Turn.{Turn}

@@ -2,10 +2,9 @@
 use Rattle.std.specs.Prelude.{ℕ, ◌≡◌, ◌⊎◌, [], ◌∷◌, length}
 use Rattle.cbs_job.specs.Work.{Meaning}
 use Rattle.cbs_job.specs.declared.work.Work.{Ghosts}
-use Rattle.cbs_rules.specs.Rules.{clock_end}
 use Rattle.cbs_core.specs.Agreement.{Agrees}
 use Rattle.cbs_steps.specs.Continuations.{IsNeeded, IsUseful}
-use Rattle.cbs_core.specs.Held.{HoldsJob, HoldsNoJob, IsAtEnd}
+use Rattle.cbs_core.specs.Held.{HoldsNoJob, IsAtEnd}
 use Rattle.cbs_steps.specs.History.{History, world_after, reply_in}
 use Rattle.cbs_steps.specs.declared.reply.Ran.{Ran}
 use Rattle.cbs_steps.specs.declared.reply.Ran.TheVariants as ran

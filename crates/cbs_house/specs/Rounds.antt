@@ -4,7 +4,6 @@ use Rattle.std.specs.List.{All}
 use mathlib.Core.List.{IsPrefix}
 use Rattle.cbs_job.specs.Work.{Meaning, whole}
 use Rattle.cbs_job.specs.declared.work.Work.{Ghosts}
-use Rattle.cbs_rules.specs.Rules.{clock_end}
 use Rattle.cbs_house.specs.declared.error.HouseError.{HouseError}
 use Rattle.cbs_house.specs.declared.error.HouseError.TheVariants.{BadBacklog, BadRing, OutOfMemory, NoSuchServer, ClockEnd, Stalled}
 use Rattle.cbs_house.specs.declared.client.Client.{Client}
@@ -16,7 +15,7 @@ use Rattle.cbs_house.specs.declared.poll.Poll.TheVariants as poll
 use Rattle.cbs_house.specs.Clients.{server_of, sent_by}
 use Rattle.cbs_house.specs.Feeds.{client_of, IsDone, all_jobs}
 use Rattle.cbs_house.specs.Houses.{core_of, rings_of, received, known, results_of, handed_of, Moves}
-use Rattle.cbs_core.specs.Held.{HoldsJob, HoldsNoJob, IsAtEnd}
+use Rattle.cbs_core.specs.Held.{HoldsNoJob, IsAtEnd}
 use Rattle.cbs_house.specs.RingEnds.{AreOpened}
 use Rattle.cbs_house.specs.Steps.{MayServe}
 

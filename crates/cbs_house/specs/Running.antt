@@ -4,8 +4,7 @@ use Rattle.std.specs.List.{count_by}
 use Rattle.cbs_job.specs.Work.{Meaning}
 use Rattle.cbs_job.specs.declared.completion.Completion.{Completion}
 use Rattle.cbs_job.specs.declared.work.Work.{Ghosts}
-use Rattle.cbs_rules.specs.Rules.{clock_end}
-use Rattle.cbs_core.specs.Held.{CoreHeld, IsOpen, IsClosed, HoldsJob, HoldsNoJob, IsAtEnd}
+use Rattle.cbs_core.specs.Held.{CoreHeld, IsOpen, IsClosed, HoldsNoJob, IsAtEnd}
 use Rattle.cbs_steps.specs.declared.reply.Ran.{Ran}
 use Rattle.cbs_steps.specs.declared.reply.Ran.TheVariants as ran
 use Rattle.cbs_house.specs.declared.error.HouseError.{HouseError}

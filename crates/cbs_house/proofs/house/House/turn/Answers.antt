@@ -1,4 +1,4 @@
-use Rattle.std.proofs.Common.{◌∙◌, ◌+◌, arith}
+use Rattle.std.proofs.Common.{◌∙◌}
 use Rattle.cbs_house.proofs.Moves.{serves_on_time}
 use Rattle.cbs_house.proofs.OwnTurns.{collects_behind, numbered_behind, polls_serve}
 use Rattle.cbs_house.proofs.house.House.turn.Goals as goal
