@@ -1,4 +1,4 @@
-/* Every call of the library, with every status that it can return but want of memory (memory.c). */
+/* Every call of the library, with every status that it can return but out of memory (memory.c). */
 #include "check.h"
 #include <stddef.h>
 #include <string.h>

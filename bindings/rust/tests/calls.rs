@@ -1,4 +1,4 @@
-//! Every call of the crate, with everything that it can return but for want of memory (`bindings/c/tests/memory.c` has that).
+//! Every call of the crate, with everything that it can return but out of memory (`bindings/c/tests/memory.c` has that).
 
 use cbs::{
     Client, House, HouseError, Mode, OpenError, Plan, PlanError, Poll, Ran, SendError, Unit,

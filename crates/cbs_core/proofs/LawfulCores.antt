@@ -55,7 +55,7 @@ module _ {W : Type 0} (work : Meaning W) where
     pub keeps_time : (x : Step W) → KeepsTime work M x
     keeps_time x = on_time_next work M x (admitted_by view ok agrees)
 
-    -- what a server shows to a caller, where all is on time
+    -- what a server shows to a caller, if all is on time
     pub shown_in_time : (s : ℕ) (r : Result ServerView CoreError) → r ≡ view_reply (slice_get core.faces s) → IsWorldOnTime work (world_after work M)
         → IfOk r (λ v. v.finished < v.accepted → v.throttled ≡ false → (world_after work M).now < v.deadline)
     shown_in_time s r e on =

@@ -21,7 +21,7 @@ module _ {W : Type 0} where
     pub count : length new.faces ≡ length old.faces
     pub budgets : KeepsBudgets new
 
-  -- memory refused the step x, where the rules would have accepted: its job comes back, and nothing but room changed
+  -- memory refused the step x, which the rules would have accepted: its job comes back, and nothing but room changed
   pub record Lacks (work : Meaning W) (old new : CoreHeld W) (x : Step W) (r : Reply W) : Type 0 where
     pub back : HandsBack x r
     pub accepted : (M : History W) → Agrees work old M → IsAccepted (reply_in work M x)
