@@ -1,11 +1,11 @@
 -- What C is told, by what is answered.
 use Rattle.std.proofs.Common.{◌≡◌, ℕ, Option, Result, Ok, Err, refl}
 use Rattle.cbs_embed.specs.Statuses.{refusal_status}
-use Rattle.cbs_embed.specs.declared.inside.Inside.{Inside}
+use Rattle.cbs_embed.specs.declared.held.Held.{Held}
 use Rattle.cbs_embed.specs.declared.refusal.Refusal.{Refusal}
 use Rattle.cbs_c.specs.Statuses.{Tells}
 
-module _ {T U : Type 0} (Does : Option Inside → Result T Refusal → Option Inside → Type 0) (shown : T → U) {held holds : Option Inside} {before after : U} where
+module _ {T U : Type 0} (Does : Option Held → Result T Refusal → Option Held → Type 0) (shown : T → U) {held holds : Option Held} {before after : U} where
   -- a call that succeeds is told
   pub told_ok : (x : T) → Does held (Ok x) holds → after ≡ shown x → Tells Does shown held before 0 holds after
   told_ok x does out = record { answer = Ok x; does = does; told = refl; out = out }

@@ -1,15 +1,15 @@
 -- What C is told of opening a house, and of planning one.
 use Rattle.std.specs.Prelude.{ℕ, ◌≡◌, OnOk, OnErr, MatchResult, Some, None, Result, List, length, map}
-use Rattle.cbs_embed.specs.Kepts.{held_by}
+use Rattle.cbs_embed.specs.Handles.{held_by}
 use Rattle.cbs_embed.specs.Openings.{OpensServers, OpensOrRefuses}
 use Rattle.cbs_embed.specs.Plans.{setup_refusal, plan_with, whole_processor, IsGreatestBudget}
-use Rattle.cbs_embed.specs.declared.kept.Kept.{Kept}
+use Rattle.cbs_embed.specs.declared.handle.Handle.{Handle}
 use Rattle.cbs_embed.specs.declared.refusal.Refusal.{Refusal}
 use Rattle.cbs_embed.specs.declared.setup.Server.{Server}
 use Rattle.cbs_c.specs.Statuses.{status_after, shown_or}
 
 -- the handles hold a house of these servers and its clients, or are as they were, and the status says which, and why
-pub record OpensForC (servers : List Server) (backlog ring : ℕ) (house house' : Kept) (clients clients' : List Kept) (status : ℕ) : Type 0 where
+pub record OpensForC (servers : List Server) (backlog ring : ℕ) (house house' : Handle) (clients clients' : List Handle) (status : ℕ) : Type 0 where
   pub answer : Result (Unit {0}) Refusal
   pub ok : OnOk answer (OpensServers servers backlog ring (held_by house') (map held_by clients'))
   pub err : OnErr answer ((house' ≡ house) × (clients' ≡ clients))

@@ -1,7 +1,7 @@
 -- What C is told of a call on a handle.
 use Rattle.std.specs.Prelude.{ℕ, ◌≡◌, ◌++◌, Option, Result, Ok, Err, List, take, drop, length}
 use Rattle.cbs_embed.specs.Statuses.{refusal_status}
-use Rattle.cbs_embed.specs.declared.inside.Inside.{Inside}
+use Rattle.cbs_embed.specs.declared.held.Held.{Held}
 use Rattle.cbs_embed.specs.declared.refusal.Refusal.{Refusal}
 
 module _ {T : Type 0} where
@@ -17,16 +17,16 @@ module _ {T : Type 0} where
 
 -- A call did this to what a handle held: C is told the status of its answer, and of a value what it is shown of it; where the call is
 -- refused, what stood at its place.
-pub record Tells {T U : Type 0} (Does : Option Inside → Result T Refusal → Option Inside → Type 0) (shown : T → U)
-    (held : Option Inside) (before : U) (status : ℕ) (holds : Option Inside) (after : U) : Type 0 where
+pub record Tells {T U : Type 0} (Does : Option Held → Result T Refusal → Option Held → Type 0) (shown : T → U)
+    (held : Option Held) (before : U) (status : ℕ) (holds : Option Held) (after : U) : Type 0 where
   pub answer : Result T Refusal
   pub does : Does held answer holds
   pub told : status ≡ status_after answer
   pub out : after ≡ shown_or shown answer before
 
 -- the same of a call with no value
-pub record Answers {T : Type 0} (Does : Option Inside → Result T Refusal → Option Inside → Type 0) (held : Option Inside) (status : ℕ)
-    (holds : Option Inside) : Type 0 where
+pub record Answers {T : Type 0} (Does : Option Held → Result T Refusal → Option Held → Type 0) (held : Option Held) (status : ℕ)
+    (holds : Option Held) : Type 0 where
   pub answer : Result T Refusal
   pub does : Does held answer holds
   pub told : status ≡ status_after answer

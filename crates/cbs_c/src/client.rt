@@ -1,39 +1,32 @@
 //! The calls on a client.
 
 ghost use Rattle.cbs_embed.specs.Calls.{OnHeld, InClient, Sends, Ends, Waits};
-ghost use Rattle.cbs_embed.specs.Kepts.{held_by};
+ghost use Rattle.cbs_embed.specs.Handles.{held_by};
 ghost use Rattle.cbs_c.specs.Statuses.{Answers, Tells};
 
 use crate::status::{status_of, tell};
-use cbs_embed::{Kept, calls};
-use std::alloc::Global;
+use cbs_embed::{Handle, calls};
 
 /// Sends a job. Refuses by its units, by a house that was freed, after an end, and at a full ring, in this order.
 #[unsafe(no_mangle)]
-pub extern "C" fn cbs_send(
-    alloc: Global,
-    client: &mut Kept,
-    token: u64,
-    units: u32,
-    seq: &mut u64,
-) -> u32
+pub extern "C" fn cbs_send(client: &mut Handle, token: u64, units: u32, seq: &mut u64) -> u32
     ensures { Tells (OnHeld (InClient (Sends token units))) (λ n. n) (held_by client.old) seq.old result (held_by client.new) seq.new }
 {
-    tell(seq, calls::send(alloc, client, token, units))
+    tell(seq, calls::send(client, token, units))
 }
 
 /// Sends the end. Refuses by a house that was freed, after an end, and at a full ring, in this order.
 #[unsafe(no_mangle)]
-pub extern "C" fn cbs_end(alloc: Global, client: &mut Kept) -> u32
+pub extern "C" fn cbs_end(client: &mut Handle) -> u32
     ensures { Answers (OnHeld (InClient Ends)) (held_by client.old) result (held_by client.new) }
 {
-    status_of(calls::end(alloc, client))
+    status_of(calls::end(client))
 }
 
 /// How many messages of the client stand in its ring.
 #[unsafe(no_mangle)]
-pub extern "C" fn cbs_waiting(alloc: Global, client: &mut Kept, out: &mut u64) -> u32
+pub extern "C" fn cbs_waiting(client: &mut Handle, out: &mut u64) -> u32
     ensures { Tells (OnHeld (InClient Waits)) (λ n. n) (held_by client.old) out.old result (held_by client.new) out.new }
 {
-    tell(out, calls::waiting(alloc, client))
+    tell(out, calls::waiting(client))
 }

@@ -1,11 +1,11 @@
 //! Opening and freeing, and what may be asked before.
 
 ghost use Rattle.std.specs.Prelude.{◌≡◌, None};
-ghost use Rattle.cbs_embed.specs.Kepts.{held_by};
+ghost use Rattle.cbs_embed.specs.Handles.{held_by};
 ghost use Rattle.cbs_c.specs.Openings.{OpensForC, TellsAdmission, TellsBudget};
 
 use crate::status::{status_of, tell};
-use cbs_embed::{Kept, Server, admit, greatest_budget, open};
+use cbs_embed::{Handle, Server, admit, greatest_budget, open};
 use std::alloc::Global;
 
 /// Opens a house with a client for each server.
@@ -15,8 +15,8 @@ pub extern "C" fn cbs_open(
     servers: &[Server],
     backlog: u64,
     ring: u64,
-    house: &mut Kept,
-    clients: &mut [Kept],
+    house: &mut Handle,
+    clients: &mut [Handle],
 ) -> u32
     ensures { OpensForC servers.now backlog ring house.old house.new clients.old clients.new result }
 {
@@ -25,7 +25,7 @@ pub extern "C" fn cbs_open(
 
 /// Frees what the handle holds, if it holds anything. A client that is freed ends, unless it has ended.
 #[unsafe(no_mangle)]
-pub extern "C" fn cbs_free(alloc: Global, handle: &mut Kept)
+pub extern "C" fn cbs_free(alloc: Global, handle: &mut Handle)
     ensures { held_by handle.new ≡ None }
 {
     drop(handle.take(alloc));

@@ -1,21 +1,20 @@
 //! The calls on a house.
 
 ghost use Rattle.cbs_embed.specs.Calls.{OnHeld, InHouse, Runs, Turns, Polls, Advances, TellsClock, Spans, Shows, Promises};
-ghost use Rattle.cbs_embed.specs.Kepts.{held_by};
+ghost use Rattle.cbs_embed.specs.Handles.{held_by};
 ghost use Rattle.cbs_c.specs.Events.{tick_event, turn_event, poll_kind, span_shown, view_shown, promise_low, promise_high};
 ghost use Rattle.cbs_c.specs.Statuses.{Answers, Tells};
 
 use crate::events::{Event, TurnEvent, View, event_of, high, kind_of, low, turn_event_of, view_of};
 use crate::status::{status_of, tell};
-use cbs_embed::{Kept, calls};
-use std::alloc::Global;
+use cbs_embed::{Handle, calls};
 
 /// Runs one unit.
 #[unsafe(no_mangle)]
-pub extern "C" fn cbs_run(alloc: Global, house: &mut Kept, out: &mut Event) -> u32
+pub extern "C" fn cbs_run(house: &mut Handle, out: &mut Event) -> u32
     ensures { Tells (OnHeld (InHouse Runs)) tick_event (held_by house.old) out.old result (held_by house.new) out.new }
 {
-    match calls::run(alloc, house) {
+    match calls::run(house) {
         Ok(ticked) => {
             *out = event_of(ticked);
             0
@@ -26,10 +25,10 @@ pub extern "C" fn cbs_run(alloc: Global, house: &mut Kept, out: &mut Event) -> u
 
 /// Takes a turn.
 #[unsafe(no_mangle)]
-pub extern "C" fn cbs_turn(alloc: Global, house: &mut Kept, out: &mut TurnEvent) -> u32
+pub extern "C" fn cbs_turn(house: &mut Handle, out: &mut TurnEvent) -> u32
     ensures { Tells (OnHeld (InHouse Turns)) turn_event (held_by house.old) out.old result (held_by house.new) out.new }
 {
-    match calls::turn(alloc, house) {
+    match calls::turn(house) {
         Ok(turned) => {
             *out = turn_event_of(turned);
             0
@@ -40,10 +39,10 @@ pub extern "C" fn cbs_turn(alloc: Global, house: &mut Kept, out: &mut TurnEvent)
 
 /// Looks for the next message of a server, and takes it. Refuses the number of no server.
 #[unsafe(no_mangle)]
-pub extern "C" fn cbs_poll(alloc: Global, house: &mut Kept, server: u16, kind: &mut u32) -> u32
+pub extern "C" fn cbs_poll(house: &mut Handle, server: u16, kind: &mut u32) -> u32
     ensures { Tells (OnHeld (InHouse (Polls server))) poll_kind (held_by house.old) kind.old result (held_by house.new) kind.new }
 {
-    match calls::poll(alloc, house, server) {
+    match calls::poll(house, server) {
         Ok(answer) => {
             *kind = kind_of(answer);
             0
@@ -54,26 +53,26 @@ pub extern "C" fn cbs_poll(alloc: Global, house: &mut Kept, server: u16, kind: &
 
 /// Lets ticks pass.
 #[unsafe(no_mangle)]
-pub extern "C" fn cbs_advance(alloc: Global, house: &mut Kept, ticks: u64) -> u32
+pub extern "C" fn cbs_advance(house: &mut Handle, ticks: u64) -> u32
     ensures { Answers (OnHeld (InHouse (Advances ticks))) (held_by house.old) result (held_by house.new) }
 {
-    status_of(calls::advance(alloc, house, ticks))
+    status_of(calls::advance(house, ticks))
 }
 
 /// The clock.
 #[unsafe(no_mangle)]
-pub extern "C" fn cbs_now(alloc: Global, house: &mut Kept, out: &mut u64) -> u32
+pub extern "C" fn cbs_now(house: &mut Handle, out: &mut u64) -> u32
     ensures { Tells (OnHeld (InHouse TellsClock)) (λ n. n) (held_by house.old) out.old result (held_by house.new) out.new }
 {
-    tell(out, calls::now(alloc, house))
+    tell(out, calls::now(house))
 }
 
 /// For how many ticks nobody will be ready; `u64::MAX` where somebody is now.
 #[unsafe(no_mangle)]
-pub extern "C" fn cbs_idle_span(alloc: Global, house: &mut Kept, out: &mut u64) -> u32
+pub extern "C" fn cbs_idle_span(house: &mut Handle, out: &mut u64) -> u32
     ensures { Tells (OnHeld (InHouse Spans)) span_shown (held_by house.old) out.old result (held_by house.new) out.new }
 {
-    match calls::idle_span(alloc, house) {
+    match calls::idle_span(house) {
         Ok(span) => {
             *out = span.unwrap_or(u64::MAX);
             0
@@ -84,10 +83,10 @@ pub extern "C" fn cbs_idle_span(alloc: Global, house: &mut Kept, out: &mut u64) 
 
 /// What a server shows. Refuses the number of no server.
 #[unsafe(no_mangle)]
-pub extern "C" fn cbs_view(alloc: Global, house: &mut Kept, server: u16, out: &mut View) -> u32
+pub extern "C" fn cbs_view(house: &mut Handle, server: u16, out: &mut View) -> u32
     ensures { Tells (OnHeld (InHouse (Shows server))) view_shown (held_by house.old) out.old result (held_by house.new) out.new }
 {
-    match calls::view(alloc, house, server) {
+    match calls::view(house, server) {
         Ok(view) => {
             *out = view_of(view);
             0
@@ -100,8 +99,7 @@ pub extern "C" fn cbs_view(alloc: Global, house: &mut Kept, server: u16, out: &m
 /// Refuses the number of no server.
 #[unsafe(no_mangle)]
 pub extern "C" fn cbs_promised(
-    alloc: Global,
-    house: &mut Kept,
+    house: &mut Handle,
     server: u16,
     lower: &mut u64,
     upper: &mut u64,
@@ -109,7 +107,7 @@ pub extern "C" fn cbs_promised(
     ensures lower { Tells (OnHeld (InHouse (Promises server))) promise_low (held_by house.old) lower.old result (held_by house.new) lower.new }
     ensures upper { Tells (OnHeld (InHouse (Promises server))) promise_high (held_by house.old) upper.old result (held_by house.new) upper.new }
 {
-    match calls::promised(alloc, house, server) {
+    match calls::promised(house, server) {
         Ok(tick) => {
             let tick = tick.unwrap_or(u128::MAX);
             *lower = low(tick);

@@ -11,7 +11,7 @@ use crate::house::{
     cbs_advance, cbs_idle_span, cbs_now, cbs_poll, cbs_promised, cbs_run, cbs_turn, cbs_view,
 };
 use crate::{Event, TurnEvent, View};
-use cbs_embed::{Kept, Server};
+use cbs_embed::{Handle, Server};
 use std::alloc::Global;
 use std::fmt::Debug;
 use std::process::Abort;
@@ -70,28 +70,21 @@ fn event(kind: u32, server: u16, seq: u64, token: u64) -> Event {
 }
 
 /// Runs, and is told this.
-fn runs(rt: &impl Abort, alloc: Global, house: &mut Kept, wanted: Event) {
+fn runs(rt: &impl Abort, house: &mut Handle, wanted: Event) {
     let mut out = NO_EVENT;
-    is(rt, cbs_run(alloc, house, &mut out), 0);
+    is(rt, cbs_run(house, &mut out), 0);
     same(rt, "ran", out, wanted);
 }
 
 /// Takes a turn, and is told this.
-fn turns(
-    rt: &impl Abort,
-    alloc: Global,
-    house: &mut Kept,
-    took: u64,
-    advanced: u64,
-    wanted: Event,
-) {
+fn turns(rt: &impl Abort, house: &mut Handle, took: u64, advanced: u64, wanted: Event) {
     let mut out = TurnEvent {
         took: 9,
         advanced: 9,
         ran: NO_EVENT,
         out_of_memory: true,
     };
-    is(rt, cbs_turn(alloc, house, &mut out), 0);
+    is(rt, cbs_turn(house, &mut out), 0);
     let turn = TurnEvent {
         took,
         advanced,
@@ -102,52 +95,52 @@ fn turns(
 }
 
 /// Sends a job, whose number is then this.
-fn sends(rt: &impl Abort, alloc: Global, client: &mut Kept, token: u64, units: u32, number: u64) {
+fn sends(rt: &impl Abort, client: &mut Handle, token: u64, units: u32, number: u64) {
     let mut seq = 9;
-    is(rt, cbs_send(alloc, client, token, units, &mut seq), 0);
+    is(rt, cbs_send(client, token, units, &mut seq), 0);
     same(rt, "number", seq, number);
 }
 
 /// For so many ticks nobody will be ready.
-fn rests_for(rt: &impl Abort, alloc: Global, house: &mut Kept, ticks: u64) {
+fn rests_for(rt: &impl Abort, house: &mut Handle, ticks: u64) {
     let mut span = 9;
-    is(rt, cbs_idle_span(alloc, house, &mut span), 0);
+    is(rt, cbs_idle_span(house, &mut span), 0);
     same(rt, "idle span", span, ticks);
 }
 
 /// The clock stands there.
-fn stands_at(rt: &impl Abort, alloc: Global, house: &mut Kept, tick: u64) {
+fn stands_at(rt: &impl Abort, house: &mut Handle, tick: u64) {
     let mut now = 9;
-    is(rt, cbs_now(alloc, house, &mut now), 0);
+    is(rt, cbs_now(house, &mut now), 0);
     same(rt, "now", now, tick);
 }
 
 /// Server 0 promises to be done by this tick.
-fn promises(rt: &impl Abort, alloc: Global, house: &mut Kept, low: u64, high: u64) {
+fn promises(rt: &impl Abort, house: &mut Handle, low: u64, high: u64) {
     let mut lower = 9;
     let mut upper = 9;
-    is(rt, cbs_promised(alloc, house, 0, &mut lower, &mut upper), 0);
+    is(rt, cbs_promised(house, 0, &mut lower, &mut upper), 0);
     same(rt, "promised", (lower, upper), (low, high));
 }
 
 /// A poll of a server does this.
-fn polls(rt: &impl Abort, alloc: Global, house: &mut Kept, server: u16, wanted: u32) {
+fn polls(rt: &impl Abort, house: &mut Handle, server: u16, wanted: u32) {
     let mut kind = 9;
-    is(rt, cbs_poll(alloc, house, server, &mut kind), 0);
+    is(rt, cbs_poll(house, server, &mut kind), 0);
     same(rt, "poll", kind, wanted);
 }
 
 /// So many messages of a client stand in its ring.
-fn waits(rt: &impl Abort, alloc: Global, client: &mut Kept, wanted: u64) {
+fn waits(rt: &impl Abort, client: &mut Handle, wanted: u64) {
     let mut waiting = 9;
-    is(rt, cbs_waiting(alloc, client, &mut waiting), 0);
+    is(rt, cbs_waiting(client, &mut waiting), 0);
     same(rt, "waiting", waiting, wanted);
 }
 
 /// A house of both servers, with a backlog of 4 and rings of so many places, and its clients.
-fn opened(rt: &impl Abort, alloc: Global, ring: u64) -> (Kept, Kept, Kept) {
-    let mut house = Kept::shut(alloc);
-    let mut clients = [Kept::shut(alloc), Kept::shut(alloc)];
+fn opened(rt: &impl Abort, alloc: Global, ring: u64) -> (Handle, Handle, Handle) {
+    let mut house = Handle::shut(alloc);
+    let mut clients = [Handle::shut(alloc), Handle::shut(alloc)];
     let status = cbs_open(alloc, &SERVERS, 4, ring, &mut house, &mut clients);
     is(rt, status, 0);
     let [soft, throttled] = clients;
@@ -158,19 +151,19 @@ fn opened(rt: &impl Abort, alloc: Global, ring: u64) -> (Kept, Kept, Kept) {
 fn serves_two_clients(rt: HostRuntime) {
     let alloc = rt.alloc();
     let (mut house, mut soft, mut throttled) = opened(&rt, alloc, 4);
-    promises(&rt, alloc, &mut house, u64::MAX, u64::MAX);
-    sends(&rt, alloc, &mut soft, 7, 3, 0);
-    sends(&rt, alloc, &mut throttled, 9, 2, 0);
-    is(&rt, cbs_end(alloc, &mut throttled), 0);
-    waits(&rt, alloc, &mut throttled, 2);
-    polls(&rt, alloc, &mut house, 0, 1);
+    promises(&rt, &mut house, u64::MAX, u64::MAX);
+    sends(&rt, &mut soft, 7, 3, 0);
+    sends(&rt, &mut throttled, 9, 2, 0);
+    is(&rt, cbs_end(&mut throttled), 0);
+    waits(&rt, &mut throttled, 2);
+    polls(&rt, &mut house, 0, 1);
     // Three units by 2 in 5: the third waits for the second budget.
-    promises(&rt, alloc, &mut house, 10, 0);
-    rests_for(&rt, alloc, &mut house, u64::MAX);
-    turns(&rt, alloc, &mut house, 1, 0, event(2, 0, 0, 7));
-    runs(&rt, alloc, &mut house, event(2, 0, 0, 7));
+    promises(&rt, &mut house, 10, 0);
+    rests_for(&rt, &mut house, u64::MAX);
+    turns(&rt, &mut house, 1, 0, event(2, 0, 0, 7));
+    runs(&rt, &mut house, event(2, 0, 0, 7));
     let mut view = NO_VIEW;
-    is(&rt, cbs_view(alloc, &mut house, 0, &mut view), 0);
+    is(&rt, cbs_view(&mut house, 0, &mut view), 0);
     let postponed = View {
         budget: 2,
         deadline_low: 10,
@@ -181,15 +174,15 @@ fn serves_two_clients(rt: HostRuntime) {
         closed: false,
     };
     same(&rt, "view", view, postponed);
-    runs(&rt, alloc, &mut house, event(3, 0, 0, 7));
-    turns(&rt, alloc, &mut house, 1, 0, event(2, 1, 0, 9));
+    runs(&rt, &mut house, event(3, 0, 0, 7));
+    turns(&rt, &mut house, 1, 0, event(2, 1, 0, 9));
     // Server 1 has used its budget up at 4, and waits until 10.
-    rests_for(&rt, alloc, &mut house, 6);
-    turns(&rt, alloc, &mut house, 0, 6, event(0, 0, 0, 0));
-    runs(&rt, alloc, &mut house, event(3, 1, 0, 9));
-    is(&rt, cbs_advance(alloc, &mut house, 1), 0);
-    stands_at(&rt, alloc, &mut house, 12);
-    runs(&rt, alloc, &mut house, event(0, 0, 0, 0));
+    rests_for(&rt, &mut house, 6);
+    turns(&rt, &mut house, 0, 6, event(0, 0, 0, 0));
+    runs(&rt, &mut house, event(3, 1, 0, 9));
+    is(&rt, cbs_advance(&mut house, 1), 0);
+    stands_at(&rt, &mut house, 12);
+    runs(&rt, &mut house, event(0, 0, 0, 0));
     cbs_free(alloc, &mut house);
     cbs_free(alloc, &mut soft);
     cbs_free(alloc, &mut throttled);
@@ -198,34 +191,30 @@ fn serves_two_clients(rt: HostRuntime) {
 #[test]
 fn refuses_handles_by_name(rt: HostRuntime) {
     let alloc = rt.alloc();
-    let mut house = Kept::shut(alloc);
-    let mut clients = [Kept::shut(alloc), Kept::shut(alloc)];
+    let mut house = Handle::shut(alloc);
+    let mut clients = [Handle::shut(alloc), Handle::shut(alloc)];
     let mut out = NO_EVENT;
-    is(&rt, cbs_run(alloc, &mut house, &mut out), NOT_OPEN);
+    is(&rt, cbs_run(&mut house, &mut out), NOT_OPEN);
     same(&rt, "ran", out, NO_EVENT);
     is(
         &rt,
         cbs_open(alloc, &SERVERS, 4, 4, &mut house, &mut clients),
         0,
     );
-    is(&rt, cbs_end(alloc, &mut house), OTHER_KIND);
+    is(&rt, cbs_end(&mut house), OTHER_KIND);
     let [mut client, _other] = clients;
-    is(&rt, cbs_run(alloc, &mut client, &mut out), OTHER_KIND);
+    is(&rt, cbs_run(&mut client, &mut out), OTHER_KIND);
     let mut seq = 9;
-    is(&rt, cbs_send(alloc, &mut client, 1, 0, &mut seq), 0x401);
-    is(
-        &rt,
-        cbs_advance(alloc, &mut house, 1_000_000_000_001),
-        0x305,
-    );
-    is(&rt, cbs_end(alloc, &mut client), 0);
-    is(&rt, cbs_send(alloc, &mut client, 1, 1, &mut seq), 0x501);
+    is(&rt, cbs_send(&mut client, 1, 0, &mut seq), 0x401);
+    is(&rt, cbs_advance(&mut house, 1_000_000_000_001), 0x305);
+    is(&rt, cbs_end(&mut client), 0);
+    is(&rt, cbs_send(&mut client, 1, 1, &mut seq), 0x501);
     same(&rt, "number, ran", (seq, out), (9, NO_EVENT));
     cbs_free(alloc, &mut house);
-    is(&rt, cbs_run(alloc, &mut house, &mut out), NOT_OPEN);
+    is(&rt, cbs_run(&mut house, &mut out), NOT_OPEN);
     cbs_free(alloc, &mut house);
     cbs_free(alloc, &mut client);
-    is(&rt, cbs_end(alloc, &mut client), NOT_OPEN);
+    is(&rt, cbs_end(&mut client), NOT_OPEN);
 }
 
 /// Opening is refused by this status.
@@ -237,14 +226,14 @@ fn refuses(
     ring: u64,
     status: u32,
 ) {
-    let mut house = Kept::shut(alloc);
-    let mut clients = [Kept::shut(alloc), Kept::shut(alloc)];
+    let mut house = Handle::shut(alloc);
+    let mut clients = [Handle::shut(alloc), Handle::shut(alloc)];
     is(
         rt,
         cbs_open(alloc, servers, backlog, ring, &mut house, &mut clients),
         status,
     );
-    is(rt, cbs_end(alloc, &mut house), NOT_OPEN);
+    is(rt, cbs_end(&mut house), NOT_OPEN);
 }
 
 #[test]

@@ -15,7 +15,7 @@ use Rattle.cbs_steps.specs.History.{World, History, ◌⊕◌, account, faces, c
 use Rattle.cbs_steps.specs.History.{run_reply, submit_reply, close_reply, reply_in}
 use Rattle.cbs_core.specs.Agreement.{AgreesJobs, AgreesWorld, Agrees}
 use Rattle.cbs_steps.specs.Promises.{promised_by, promised}
-use Rattle.cbs_steps.specs.Replies.{IsAccepted, grown, grown_by, AnswersAll}
+use Rattle.cbs_steps.specs.Replies.{IsAccepted}
 use Rattle.cbs_core.specs.Held.{CoreHeld, ran_of}
 use Rattle.cbs_queues.specs.Queues.{list_at, jobs_run, result_run}
 use Rattle.cbs_steps.specs.declared.error.CoreError.{CoreError}
@@ -28,10 +28,7 @@ use Rattle.cbs_steps.proofs.Histories.{account_face}
 use Rattle.cbs_steps.proofs.PaidUnits.{paid_after}
 use Rattle.cbs_lists.proofs.Lists.{map-changed_at, AllZip-length, AllZip-get, AllZip-map, AllZip-replicate, AllZip-changed_at, AllZip-changed_second}
 use Rattle.cbs_core.proofs.HeldJobs.{owed_jobs, unit_jobs, unit_face, unit_ran, job_jobs, job_face}
-use Rattle.cbs_steps.proofs.StepLists.{grown_by-push}
 use Rattle.cbs_steps.proofs.Ticks.{replenished_faces, ticks_none, ticks_some}
-use Rattle.cbs_steps.specs.declared.step.Step.{Step}
-use Rattle.cbs_steps.specs.declared.reply.Reply.{Reply}
 
 -- a choice between two that are the same is that one, whichever way it goes
 cond_same : {X : Type 0} {x : X} (b : Bool) → cond b x x ≡ x
@@ -39,10 +36,6 @@ cond_same true = refl
 cond_same false = refl
 
 module _ {W : Type 0} (work : Meaning W) where
-  -- a new core agrees with the start
-  new_faces : (terms : List Terms) → map new_face terms ≡ map (face_of work) (map new_account terms)
-  new_faces terms = sym (map-map (face_of work) new_account terms)
-
   -- a new core, with the faces and empty queues of new servers, agrees with the start
   pub start_agrees : (terms : List Terms) (backlog n : ℕ) (shown : List Face) (queues : List (List W)) (rooms : List ℕ) → shown ≡ map new_face terms
       → n ≡ length shown → queues ≡ replicate n []
@@ -51,17 +44,11 @@ module _ {W : Type 0} (work : Meaning W) where
   start_agrees terms backlog n shown queues rooms e count empty = record {
     same_backlog = refl;
     clock = refl;
-    shown = e ∙ new_faces terms;
+    shown = e ∙ sym (map-map (face_of work) new_account terms);
     jobs = let size : n ≡ length terms = count ∙ ap length e ∙ length-map terms new_face in
         let none = AllZip-replicate (AgreesJobs work) [] new_account terms (λ t. record { results = refl; lefts = refl }) in
         rw (empty, size) none;
   }
-
-module _ {W : Type 0} (work : Meaning W) where
-  -- agreement after one more step
-  pub agrees_more : (core : CoreHeld W) (M : History W) (xs : List (Step W)) (rs : List (Reply W)) (x : Step W) (r : Reply W)
-      → AnswersAll work M xs rs → Agrees work core (grown (grown_by M xs rs) x r) → Agrees work core (grown_by M (xs ++ x ∷ []) (rs ++ r ∷ []))
-  agrees_more core M xs rs x r all agrees = rw (grown_by-push work M xs rs x r all) agrees
 
 module _ {W : Type 0} {work : Meaning W} {core held : CoreHeld W} {M : History W} (view : core ≡ held)
     (before : Agrees work held M) where

@@ -1,10 +1,9 @@
 -- What a core counts as finished goes on by the completions that it tells.
-use Rattle.std.proofs.Common.{◌≡◌, ◌≢◌, ℕ, ◌+◌, ◌<◌, true, false, [], ◌∷◌, ◌++◌, length, map, take, drop, eqb, refl, sym, ◌∙◌, ap, subst, arith}
+use Rattle.std.proofs.Common.{◌≡◌, ◌≢◌, ℕ, ◌+◌, true, false, eqb, refl, sym, ◌∙◌, ap, arith}
 use Rattle.std.proofs.Common.{Option, Some, None, inl, inr}
 use Rattle.std.proofs.lemmas.Bool.{cases_Bool}
 use Rattle.std.proofs.lemmas.Bool.Decides.{nat_tests}
-use Rattle.std.proofs.lemmas.List.{map-append, length-map}
-use Rattle.cbs_job.specs.Work.{Meaning, whole}
+use Rattle.cbs_job.specs.Work.{Meaning}
 use Rattle.cbs_job.specs.declared.completion.Completion.{Completion}
 use Rattle.cbs_steps.specs.Faces.{Face}
 use Rattle.cbs_steps.specs.Accounts.{finished}
@@ -16,7 +15,7 @@ use Rattle.cbs_core.specs.Held.{CoreHeld, held_at, CountsOn}
 use Rattle.cbs_steps.specs.declared.step.Step.{Step}
 use Rattle.cbs_steps.specs.declared.reply.Reply.{Reply}
 use Rattle.cbs_core.proofs.Agreements.{face_is}
-use Rattle.cbs_steps.proofs.Completions.{Tells, accepted_grown, answer_tells, part_of_more, part_of_one}
+use Rattle.cbs_steps.proofs.Completions.{accepted_grown, completes_told}
 
 module _ {W : Type 0} (work : Meaning W) where
   -- a core counts as many finished jobs as are known
@@ -35,32 +34,17 @@ module _ {W : Type 0} (work : Meaning W) where
   step_completes M x r s (Some c) old new is answers counts agrees later =
       let f = finished_agrees old M agrees s in
       let g = finished_agrees new (grown M x r) later s in
-      let after = account_in work (grown M x r) s in
-      let more = accepted_grown work M x r s in
       elim (cases_Bool (eqb c.server s)) [
         | inl t ↦
             let here : c.server ≡ s = grind (arith, nat_tests) in
             let seq : c.seq ≡ finished work (account_in work M s) = (rw here at counts.0) ∙ f in
-            let count : finished work after ≡ finished work (account_in work M s) + 1 =
+            let count : finished work (account_in work (grown M x r) s) ≡ finished work (account_in work M s) + 1 =
             let k : (held_at new s).face.finished ≡ (held_at old s).face.finished + 1 = rw here at counts.1 in omega arith in
-            let told : Tells work (account_in work M s) c = subst (λ t. Tells work (account_in work M t) c) here (answer_tells work M x r c answers is) in
-            let wholes : map (whole work) after.accepted ≡ map (whole work) (account_in work M s).accepted ++ map (whole work) more.0 =
-            ap (map (whole work)) more.1 ∙ map-append (whole work) (account_in work M s).accepted more.0 in
-            let within : c.seq < length (map (whole work) (account_in work M s).accepted) =
-            let w = told.within in omega (arith, length-map (account_in work M s).accepted (whole work)) in
-            let found : take 1 (drop c.seq (map (whole work) after.accepted)) ≡ c.result ∷ [] =
-            rw wholes (part_of_more c.seq 1 (map (whole work) (account_in work M s).accepted) (map (whole work) more.0) (omega arith))
-            ∙ part_of_one c.seq (map (whole work) (account_in work M s).accepted) within ∙ ap (λ k. k ∷ []) (sym told.result) in
-            rw t record {
-              jobs = more;
-              numbers = ap (λ k. k ∷ []) seq;
-              results = sym (rw (← seq) found);
-              finished = count;
-            }
+            rw t (completes_told work M x r s c is answers here seq count)
         | inr n ↦
             let other : s ≢ c.server = λ e. let y : eqb c.server s ≡ true = grind (arith, nat_tests) in cc in
             let k = counts.2 s other in
-            rw n record { jobs = more; numbers = refl; results = refl; finished = omega arith }
+            rw n record { jobs = accepted_grown work M x r s; numbers = refl; results = refl; finished = omega arith }
       ]
 
   -- the same of one step that memory did not refuse

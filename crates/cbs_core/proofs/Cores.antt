@@ -4,9 +4,8 @@ use Rattle.std.proofs.Common.{inr, Some, None, sym, is_some, length-append}
 use Rattle.std.specs.Prelude.{slice_get, Result, IfOk, OnOk}
 use Rattle.std.proofs.lemmas.Bool.{cases_lt, cases_Bool}
 use Rattle.std.proofs.lemmas.Option.{slice_get-get_or, slice_get_past}
-use Rattle.std.proofs.lemmas.Bool.Decides.{nat_tests}
 use Rattle.std.proofs.lemmas.List.{length-map}
-use Rattle.std.specs.List.{AllByRecursion}
+use Rattle.std.specs.List.{AllByRecursion, AllZip}
 use Rattle.cbs_job.specs.Work.{Meaning}
 use Rattle.cbs_rate.specs.Rate.{Rate, IsRate}
 use Rattle.cbs_rate.specs.Plan.{total_share, all_periods}
@@ -26,21 +25,15 @@ use Rattle.cbs_steps.specs.Setups.{terms_of}
 use Rattle.cbs_core.specs.Invariant.{IsServer, HoldsBacklog, IsCore}
 use Rattle.cbs_steps.proofs.Faces.{rank_ready, runnable}
 use Rattle.cbs_core.proofs.FaceSteps.{server_new, server_later, server_replenished, server_closed, server_joined, server_run, budget_some, within_budget}
-use Rattle.cbs_lists.proofs.Lists.{length-changed_at, map_kept, changed_kept, AllByRecursion-map, AllByRecursion-get, AllByRecursion-changed_at}
+use Rattle.cbs_lists.proofs.Lists.{map_kept, changed_kept, AllByRecursion-map, AllByRecursion-weaker, AllByRecursion-get, AllByRecursion-changed_at}
 use Rattle.cbs_lists.proofs.Lists.{AllZip-length, AllZip-get, AllZip-map, AllZip-replicate, AllZip-changed_at, AllZip-changed_second}
-use Rattle.cbs_steps.proofs.Plans.{length-faces}
+use Rattle.cbs_steps.proofs.Plans.{length-faces, new_reservations}
+use Rattle.cbs_queues.proofs.QueueRuns.{unfinished_run}
 use Rattle.cbs_core.proofs.Refusals.{free_accepts}
 
 -- the reservation of a server
 abbrev reservation : Face → Rate
 reservation f = f.terms.reservation
-
--- new servers have the reservations that they were given
-new_reservations : (modes : List Mode) (rates : List Rate) → length modes ≡ length rates → reservations (map new_face (terms_of modes rates)) ≡ rates
-new_reservations [] [] e = refl
-new_reservations [] (r ∷ rates) e = cc
-new_reservations (m ∷ modes) [] e = cc
-new_reservations (m ∷ modes) (r ∷ rates) e = ap (λ rs. r ∷ rs) (new_reservations modes rates (omega arith))
 
 -- a new core
 module _ {W : Type 0} (work : Meaning W) (backlog : ℕ) where
@@ -145,102 +138,79 @@ module _ {W : Type 0} {work : Meaning W} {core : CoreHeld W} (ok : IsCore work c
   pub few_jobs : (s : ℕ) → s < length core.faces → (face_at core.faces s).accepted + 1 < 2 ^ 64
   few_jobs s lt = let b = server_at s lt in let c = b.counted in let f = b.few_done in let j = b.few_jobs in let k = ok.clock in let m = ok.small in omega arith
 
-  -- after a unit of the first job, each job held has a unit left, as each had before
-  unfinished_run : (jobs : List W) → AllByRecursion (λ w. 0 < work.left w) jobs → AllByRecursion (λ w. 0 < work.left w) (jobs_run work jobs)
-  unfinished_run [] all = all
-  unfinished_run (job ∷ jobs) all = elim (cases_Bool (eqb (work.left (work.after job)) 0))
-      [ inl e ↦ rw e all.1 | inr e ↦ rw e (grind (arith, nat_tests), all.1) ]
-
   -- after a unit of the first job, as many jobs are held as the backlog is, as there were before
   counted_run : (jobs : List W) (f : Face) → 0 < length jobs → length jobs ≡ backlog_of f
       → length (jobs_run work jobs) ≡ backlog_of (with_unit (is_some (result_run work jobs)) f)
   counted_run [] f some e = absurd (omega arith)
   counted_run (job ∷ jobs) f some e = elim (cases_Bool (eqb (work.left (work.after job)) 0)) [ inl t ↦ rw t (omega arith) | inr n ↦ rw n (omega arith) ]
 
+  -- what each core keeps, from what a step leaves of the servers and of their jobs
+  core_made : (clock : ℕ) (faces : List Face) (queues : List (List W)) (rooms : List ℕ) → clock ≤ clock_end → reservations faces ≡ reservations core.faces
+      → AllByRecursion (IsServer core.backlog clock) faces → AllZip (HoldsBacklog work) queues faces
+      → IsCore work (record { backlog = core.backlog; clock = clock; faces = faces; queues = queues; rooms = rooms })
+  core_made clock faces queues rooms early same each jobs = record {
+    few = let n = ap length same in omega (arith, ok.few, length-map faces reservation, length-map core.faces reservation);
+    small = ok.small;
+    clock = early;
+    at_most_one = rw same ok.at_most_one;
+    each = each;
+    jobs = jobs;
+  }
+
+  -- the same where all are then replenished
+  core_replenished : (now : ℕ) (faces : List Face) (queues : List (List W)) (rooms : List ℕ) → now ≤ clock_end → reservations faces ≡ reservations core.faces
+      → AllByRecursion (IsServer core.backlog now) faces → AllZip (HoldsBacklog work) queues faces
+      → IsCore work (record { backlog = core.backlog; clock = now; faces = map (with_replenishment now) faces; queues = queues; rooms = rooms })
+  core_replenished now faces queues rooms early same each jobs = core_made now _ queues rooms early
+      (map_kept reservation (with_replenishment now) faces (λ f. refl) ∙ same)
+      (AllByRecursion-map _ _ (with_replenishment now) faces each (server_replenished core.backlog now))
+      (AllZip-map _ (with_replenishment now) queues faces jobs (λ jobs f h. record { counted = h.counted; unfinished = h.unfinished }))
+
   -- a run of server s, by what it does to faces and queues
   pub core_run : {s : ℕ} {faces : List Face} {queues : List (List W)} {rooms : List ℕ} → MayRun work core s
       → faces ≡ map (with_replenishment (core.clock + 1)) (changed_at (with_unit (is_some (result_run work (list_at core.queues s)))) core.faces s)
       → queues ≡ changed_at (jobs_run work) core.queues s
       → IsCore work (record { backlog = core.backlog; clock = core.clock + 1; faces = faces; queues = queues; rooms = rooms })
-  core_run {s} may shown run =
+  core_run {s} {faces} {queues} {rooms} may shown run =
       let done = is_some (result_run work (list_at core.queues s)) in
-      rw (shown, run) record {
-        few = omega (
-          arith,
-          ok.few,
-          length-map (changed_at (with_unit done) core.faces s) (with_replenishment (core.clock + 1)),
-          length-changed_at (with_unit done) core.faces s,
-        );
-        small = ok.small;
-        clock = let e = may.early in omega arith;
-        at_most_one = rw (
-          map_kept reservation (with_replenishment (core.clock + 1)) (changed_at (with_unit done) core.faces s)
-              (λ f. refl),
-          changed_kept reservation (with_unit done) core.faces s (λ f. refl),
-        ) ok.at_most_one;
-        each = AllByRecursion-map (IsServer core.backlog (core.clock + 1)) (IsServer core.backlog (core.clock + 1))
-            (with_replenishment (core.clock + 1)) (changed_at (with_unit done) core.faces s)
-            (AllByRecursion-changed_at (IsServer core.backlog core.clock) (IsServer core.backlog (core.clock + 1)) (with_unit done) core.faces s no_face ok.each
-            (λ f is. server_later core.backlog core.clock f is (core.clock + 1) (omega arith))
-            (λ is. server_run core.backlog core.clock (face_at core.faces s) is done may.ready))
-            (λ f is. server_replenished core.backlog (core.clock + 1) f is);
-        jobs = AllZip-map (HoldsBacklog work) (with_replenishment (core.clock + 1)) (changed_at (jobs_run work) core.queues s)
-            (changed_at (with_unit done) core.faces s)
-            (AllZip-changed_at (HoldsBacklog work) core.queues core.faces s [] no_face (jobs_run work) (with_unit done) ok.jobs may.queue
-            (λ h. record {
-              counted = counted_run (list_at core.queues s) (face_at core.faces s) may.active h.counted;
-              unfinished = unfinished_run (list_at core.queues s) h.unfinished;
-            }))
-            (λ jobs f h. record { counted = h.counted; unfinished = h.unfinished });
-      }
+      rw (shown, run) (core_replenished (core.clock + 1) (changed_at (with_unit done) core.faces s) _ rooms (let e = may.early in omega arith)
+      (changed_kept reservation (with_unit done) core.faces s (λ f. refl))
+      (AllByRecursion-changed_at _ _ (with_unit done) core.faces s no_face ok.each
+      (λ f is. server_later core.backlog core.clock f is (core.clock + 1) (omega arith))
+      (λ is. server_run core.backlog core.clock (face_at core.faces s) is done may.ready))
+      (AllZip-changed_at _ core.queues core.faces s [] no_face (jobs_run work) (with_unit done) ok.jobs may.queue
+      (λ h. record {
+        counted = counted_run (list_at core.queues s) (face_at core.faces s) may.active h.counted;
+        unfinished = unfinished_run work (list_at core.queues s) h.unfinished;
+      })))
 
   -- a jump by n ticks
   pub core_jumped : (n : ℕ) {faces : List Face} {rooms : List ℕ} → n ≤ clock_end - core.clock
       → faces ≡ map (with_replenishment (core.clock + n)) core.faces
       → IsCore work (record { backlog = core.backlog; clock = core.clock + n; faces = faces; queues = core.queues; rooms = rooms })
-  core_jumped n late shown = rw shown record {
-    few = omega (arith, ok.few, length-map core.faces (with_replenishment (core.clock + n)));
-    small = ok.small;
-    clock = let k = ok.clock in omega arith;
-    at_most_one = rw (map_kept reservation (with_replenishment (core.clock + n)) core.faces (λ f. refl)) ok.at_most_one;
-    each = AllByRecursion-map (IsServer core.backlog core.clock) (IsServer core.backlog (core.clock + n))
-        (with_replenishment (core.clock + n)) core.faces ok.each
-        (λ f is. server_replenished core.backlog (core.clock + n) f (server_later core.backlog core.clock f is (core.clock + n) (omega arith)));
-    jobs = AllZip-map (HoldsBacklog work) (with_replenishment (core.clock + n)) core.queues core.faces ok.jobs
-        (λ jobs f h. record { counted = h.counted; unfinished = h.unfinished });
-  }
+  core_jumped n {faces} {rooms} late shown = rw shown (core_replenished (core.clock + n) core.faces core.queues rooms (let k = ok.clock in omega arith) refl
+      (AllByRecursion-weaker _ _ core.faces ok.each (λ f is. server_later core.backlog core.clock f is (core.clock + n) (omega arith))) ok.jobs)
 
   -- one more job of server s
   pub core_joined : (s : ℕ) (job : W) {faces : List Face} {queues : List (List W)} {rooms : List ℕ} → Accepts core s → 0 < work.left job
       → faces ≡ changed_at (with_job core.clock) core.faces s → queues ≡ changed_at (λ jobs. jobs ++ job ∷ []) core.queues s
       → IsCore work (record { backlog = core.backlog; clock = core.clock; faces = faces; queues = queues; rooms = rooms })
-  core_joined s job accepts some shown joined = rw (shown, joined) record {
-    few = omega (arith, ok.few, length-changed_at (with_job core.clock) core.faces s);
-    small = ok.small;
-    clock = ok.clock;
-    at_most_one = rw (changed_kept reservation (with_job core.clock) core.faces s (λ f. refl)) ok.at_most_one;
-    each = AllByRecursion-changed_at (IsServer core.backlog core.clock) (IsServer core.backlog core.clock) (with_job core.clock) core.faces
-        s no_face ok.each (λ f is. is)
-        (λ is. server_joined core.backlog core.clock (face_at core.faces s) is accepts.few);
-    jobs = AllZip-changed_at (HoldsBacklog work) core.queues core.faces s [] no_face (λ jobs. jobs ++ job ∷ []) (with_job core.clock)
-        ok.jobs (let n = queue_count in let lt = accepts.is_open.within in omega arith)
-        (λ h. record {
-          counted = let c = h.counted in let k = (server_at s accepts.is_open.within).counted in omega
-              (arith, length-append (list_at core.queues s) (job ∷ []));
-          unfinished = AllByRecursion-push (λ w. 0 < work.left w) (list_at core.queues s) job h.unfinished some;
-        });
-  }
+  core_joined s job {faces} {queues} {rooms} accepts some shown joined = rw (shown, joined) (core_made core.clock _ _ rooms ok.clock
+      (changed_kept reservation (with_job core.clock) core.faces s (λ f. refl))
+      (AllByRecursion-changed_at _ _ (with_job core.clock) core.faces s no_face ok.each (λ f is. is)
+      (λ is. server_joined core.backlog core.clock (face_at core.faces s) is accepts.few))
+      (AllZip-changed_at _ core.queues core.faces s [] no_face (λ jobs. jobs ++ job ∷ []) (with_job core.clock)
+      ok.jobs (let n = queue_count in let lt = accepts.is_open.within in omega arith)
+      (λ h. record {
+        counted = let c = h.counted in let k = (server_at s accepts.is_open.within).counted in omega
+            (arith, length-append (list_at core.queues s) (job ∷ []));
+        unfinished = AllByRecursion-push (λ w. 0 < work.left w) (list_at core.queues s) job h.unfinished some;
+      })))
 
   -- server s is closed
   pub core_closed : (s : ℕ) {faces : List Face} {rooms : List ℕ} → s < length core.faces → faces ≡ changed_at with_close core.faces s
       → IsCore work (record { backlog = core.backlog; clock = core.clock; faces = faces; queues = core.queues; rooms = rooms })
-  core_closed s lt shown = rw shown record {
-    few = omega (arith, ok.few, length-changed_at with_close core.faces s);
-    small = ok.small;
-    clock = ok.clock;
-    at_most_one = rw (changed_kept reservation with_close core.faces s (λ f. refl)) ok.at_most_one;
-    each = AllByRecursion-changed_at (IsServer core.backlog core.clock) (IsServer core.backlog core.clock) with_close core.faces s no_face
-        ok.each (λ f is. is) (λ is. server_closed core.backlog core.clock (face_at core.faces s) is);
-    jobs = AllZip-changed_second (HoldsBacklog work) with_close core.queues core.faces s ok.jobs
-        (λ jobs f h. record { counted = h.counted; unfinished = h.unfinished });
-  }
+  core_closed s {faces} {rooms} lt shown = rw shown (core_made core.clock _ core.queues rooms ok.clock
+      (changed_kept reservation with_close core.faces s (λ f. refl))
+      (AllByRecursion-changed_at _ _ with_close core.faces s no_face ok.each (λ f is. is) (server_closed core.backlog core.clock (face_at core.faces s)))
+      (AllZip-changed_second _ with_close core.queues core.faces s ok.jobs (λ jobs f h. record { counted = h.counted; unfinished = h.unfinished })))

@@ -1,16 +1,15 @@
 -- What the calls do to the jobs of one server, and leave to the others.
-use Rattle.std.proofs.Common.{◌≡◌, ℕ, zero, suc, ◌+◌, ◌<◌, List, [], ◌∷◌, ◌++◌, length, map, refl, ◌∙◌, ap, arith, eqb, inl, inr, is_some}
+use Rattle.std.proofs.Common.{◌≡◌, ℕ, zero, suc, ◌<◌, List, [], ◌∷◌, ◌++◌, length, map, refl, ◌∙◌, arith, eqb, inl, inr, is_some}
 use Rattle.std.proofs.lemmas.Bool.{cases_Bool}
 use Rattle.std.proofs.lemmas.Bool.Decides.{nat_tests}
 use Rattle.std.specs.List.{AllByRecursion}
-use Rattle.cbs_job.specs.Work.{Meaning, Lowers, whole}
-use Rattle.cbs_job.proofs.WholeResults.{whole_kept, output_whole}
+use Rattle.cbs_job.specs.Work.{Meaning, Lowers}
+use Rattle.cbs_job.proofs.WholeResults.{whole_kept, output_last}
 use Rattle.cbs_lists.specs.Lists.{changed_at}
 use Rattle.cbs_steps.specs.Faces.{Face, no_face, face_at, with_job, with_unit, with_replenishment, with_close}
-use Rattle.cbs_core.specs.Held.{CoreHeld, held_at, SameJobs, TakesJob, RunsJob, FinishesJob, ClosesServer, OthersSame, AllSame, DoesRun, ran_of}
+use Rattle.cbs_core.specs.Held.{CoreHeld, Held, held_at, SameJobs, TakesJob, RunsJob, ClosesServer, OthersSame, AllSame, DoesRun, ran_of}
 use Rattle.cbs_queues.specs.Queues.{list_at, jobs_run, result_run}
 use Rattle.cbs_steps.specs.declared.reply.Ran.{Ran}
-use Rattle.cbs_steps.specs.declared.reply.Ran.TheVariants as ran
 use Rattle.cbs_core.proofs.Cores.{MayRun}
 use Rattle.cbs_lists.proofs.Lists.{changed_here, changed_elsewhere}
 
@@ -18,6 +17,15 @@ module _ {W : Type 0} where
   -- nothing is changed where nothing is done
   pub all_same : (core : CoreHeld W) → AllSame core core
   all_same core t = record { jobs = refl; accepted = refl; finished = refl; closed = refl }
+
+  -- what is as before, and then still is, is as before
+  same_along : {a b c : Held W} → SameJobs a b → SameJobs b c → SameJobs a c
+  same_along p q = record {
+    jobs = q.jobs ∙ p.jobs;
+    accepted = q.accepted ∙ p.accepted;
+    finished = q.finished ∙ p.finished;
+    closed = q.closed ∙ p.closed;
+  }
 
   -- a replenishment leaves jobs, counts and close
   replenished_same : (now : ℕ) (faces : List Face) (s : ℕ) (jobs : List W)
@@ -73,28 +81,23 @@ module _ {W : Type 0} where
     ran_jobs [] q r some all j j' late n is = absurd (omega arith)
     ran_jobs (job ∷ jobs) q r some all j j' late n is = elim (cases_Bool (eqb (work.left (work.after job)) 0)) [
       | inl last ↦
-          let none : work.left (work.after job) ≡ 0 = grind (arith, nat_tests) in
-          let found : work.output (work.after job) ≡ whole work job = output_whole work (work.after job) none ∙ whole_kept work law job all.0 in
-          let gone : (held_at after s).jobs ≡ jobs = rw last at j' in
-          let count : (held_at after s).face.finished ≡ (held_at before s).face.finished + 1 = rw last at late.finished in
-          let answer : r ≡ ran.Done (record { server = s; seq = q; result = work.output (work.after job) }) = rw last at is in
-          let here : FinishesJob work (record { server = s; seq = q; result = work.output (work.after job) }) (held_at before s) (held_at after s) =
-          record { number = n; results = rw (j, gone, found) refl; accepted = late.accepted; finished = count; closed = late.closed } in
-          rw answer (here, others)
+          let gone = rw last at j' in
+          let found = output_last work law job all.0 (grind (arith, nat_tests)) in
+          let count = rw last at late.finished in
+          rw (is, last)
+          (record { number = n; results = rw (j, gone, found) refl; accepted = late.accepted; finished = count; closed = late.closed }, others)
       | inr more ↦
-          let left : (held_at after s).jobs ≡ work.after job ∷ jobs = rw more at j' in
-          let count : (held_at after s).face.finished ≡ (held_at before s).face.finished = rw more at late.finished in
-          let answer : r ≡ ran.Unit s q = rw more at is in
+          let left = rw more at j' in
           let here : RunsJob work q (held_at before s) (held_at after s) =
           record {
             number = n;
             some = rw left (omega arith);
             results = rw (j, left, whole_kept work law job all.0) refl;
             accepted = late.accepted;
-            finished = count;
+            finished = rw more at late.finished;
             closed = late.closed;
           } in
-          rw answer (here, others)
+          rw (is, more) (here, others)
     ]
 
   -- a run of server s, and a replenishment of all
@@ -110,16 +113,7 @@ module _ {W : Type 0} where
       let middle = changed_at f old.faces s in
       let late : (t : ℕ) → SameJobs (record { face = face_at middle t; jobs = list_at queues t }) (held_at new t) =
       λ t. rw shown (replenished_same now middle t (list_at queues t)) in
-      let others : OthersSame s old new = λ t ne.
-      let k = late t in
-      let e = changed_elsewhere f old.faces s t no_face ne in
-      let j : list_at queues t ≡ list_at old.queues t = rw jobs (changed_elsewhere (jobs_run work) old.queues s t [] ne) in
-      record {
-        jobs = j;
-        accepted = k.accepted ∙ ap (λ (x : Face). x.accepted) e;
-        finished = k.finished ∙ ap (λ (x : Face). x.finished) e;
-        closed = k.closed ∙ ap (λ (x : Face). x.closed) e;
-      } in
+      let others : OthersSame s old new = λ t ne. same_along (others_same {old = old} refl clock middle queues rooms s f (jobs_run work) refl jobs t ne) (late t) in
       let here : list_at queues s ≡ jobs_run work (list_at old.queues s) = rw jobs (changed_here (jobs_run work) old.queues s [] may.queue) in
       let there : SameJobs (record { face = f (face_at old.faces s); jobs = list_at queues s }) (held_at new s) =
       rw (changed_here f old.faces s no_face may.within) at (late s) in

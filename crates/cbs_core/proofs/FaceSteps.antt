@@ -1,11 +1,12 @@
 -- What each server keeps, through what each step does to its face.
-use Rattle.std.proofs.Common.{◌≡◌, ℕ, ◌+◌, ◌*◌, ◌≤◌, ◌<◌, Bool, true, false, ◌||◌, arith, inl, inr}
+use Rattle.std.proofs.Common.{◌≡◌, ℕ, ◌+◌, ◌*◌, ◌≤◌, ◌<◌, Bool, true, arith, inl, inr}
 use Rattle.std.proofs.lemmas.Bool.{cases_Bool}
 use Rattle.std.proofs.lemmas.Bool.Decides.{nat_tests}
 use Rattle.cbs_rate.specs.Rate.{IsRate}
-use Rattle.cbs_rules.specs.Rules.{Terms}
-use Rattle.cbs_rules.proofs.States.{IsState-fresh_state, IsState-after_arrival, IsState-after_unit, IsState-after_replenishment}
-use Rattle.cbs_rules.proofs.Deadlines.{begun_after_arrival, begun_after_unit, begun_after_replenishment, deadline-arrived-le, deadline-consumed-le}
+use Rattle.cbs_rules.specs.Rules.{Terms, State, IsState}
+use Rattle.cbs_steps.proofs.LawfulServers.{arrives_in}
+use Rattle.cbs_rules.proofs.States.{IsState-fresh_state, IsState-after_unit, IsState-after_replenishment}
+use Rattle.cbs_rules.proofs.Deadlines.{begun_after_unit, begun_after_replenishment, deadline-consumed-le}
 use Rattle.cbs_rules.proofs.Deadlines.{deadline-replenished-le}
 use Rattle.cbs_steps.specs.Faces.{Face, new_face, is_active, is_ready, backlog_of, with_job, with_unit, with_replenishment, with_close}
 use Rattle.cbs_core.specs.Invariant.{IsServer}
@@ -26,70 +27,49 @@ module _ (backlog now : ℕ) where
   }
 
   module _ (f : Face) (ok : IsServer backlog now f) where
-    -- as the clock goes on
-    pub server_later : (later : ℕ) → now ≤ later → IsServer backlog later f
-    server_later later le = record {
+    -- another state and another mark of closing, as time passes
+    server_stated : (later : ℕ) → now ≤ later → (state : State) (closed : Bool) → IsState f.terms.reservation state → (is_active f ≡ true → 0 < state.deadline)
+        → state.deadline ≤ later + (later + 1) * 1000000000 → IsServer backlog later (record f { state = state; closed = closed })
+    server_stated later le state closed is begun early = record {
       lawful = ok.lawful;
-      state = ok.state;
-      begun = ok.begun;
-      early = let e = ok.early in omega arith;
+      state = is;
+      begun = begun;
+      early = early;
       counted = ok.counted;
       few_done = let e = ok.few_done in omega arith;
       few_jobs = ok.few_jobs;
     }
 
+    -- as the clock goes on
+    pub server_later : (later : ℕ) → now ≤ later → IsServer backlog later f
+    server_later later le = server_stated later le f.state f.closed ok.state ok.begun (let e = ok.early in omega arith)
+
     -- through a replenishment
     pub server_replenished : IsServer backlog now (with_replenishment now f)
-    server_replenished = record {
-      lawful = ok.lawful;
-      state = IsState-after_replenishment f.terms.reservation now f.state ok.lawful ok.state;
-      begun = λ active. begun_after_replenishment f.terms.reservation now f.state (ok.begun active);
-      early = deadline-replenished-le f.terms.reservation now (now + (now + 1) * 1000000000) f.state ok.early (let p = ok.lawful.short in omega arith);
-      counted = ok.counted;
-      few_done = ok.few_done;
-      few_jobs = ok.few_jobs;
-    }
+    server_replenished = server_stated now (omega arith) (with_replenishment now f).state f.closed
+        (IsState-after_replenishment f.terms.reservation now f.state ok.lawful ok.state)
+        (λ active. begun_after_replenishment f.terms.reservation now f.state (ok.begun active))
+        (deadline-replenished-le f.terms.reservation now (now + (now + 1) * 1000000000) f.state ok.early (let p = ok.lawful.short in omega arith))
 
     -- through a close
     pub server_closed : IsServer backlog now (with_close f)
-    server_closed = record {
-      lawful = ok.lawful;
-      state = ok.state;
-      begun = ok.begun;
-      early = ok.early;
-      counted = ok.counted;
-      few_done = ok.few_done;
-      few_jobs = ok.few_jobs;
-    }
+    server_closed = server_stated now (omega arith) f.state true ok.state ok.begun ok.early
 
     -- through a job that comes in, where the backlog is not full
     pub server_joined : backlog_of f < backlog → IsServer backlog now (with_job now f)
     server_joined few =
         let counted = ok.counted in
-        elim (cases_Bool (is_active f || f.state.throttled)) [
-          | inl t ↦
-              let begun : 0 < f.state.deadline = let b = ok.begun in let m = ok.state.unmarked in grind (arith, nat_tests) in
-              rw t record {
-                lawful = ok.lawful;
-                state = ok.state;
-                begun = λ _. begun;
-                early = ok.early;
-                counted = omega arith;
-                few_done = ok.few_done;
-                few_jobs = omega arith;
-              }
-          | inr n ↦
-              rw n record {
-                lawful = ok.lawful;
-                state = IsState-after_arrival f.terms.mode f.terms.reservation now f.state ok.lawful ok.state (grind (arith, nat_tests));
-                begun = λ _. begun_after_arrival f.terms.mode f.terms.reservation now f.state ok.lawful;
-                early = deadline-arrived-le f.terms.mode f.terms.reservation now (now + (now + 1) * 1000000000) f.state ok.early
-                    (let p = ok.lawful.short in omega arith);
-                counted = omega arith;
-                few_done = ok.few_done;
-                few_jobs = omega arith;
-              }
-        ]
+        let bound = now + (now + 1) * 1000000000 in
+        let arrives = arrives_in now f ok.lawful ok.state ok.begun bound ok.early (let p = ok.lawful.short in omega arith) in
+        record {
+          lawful = ok.lawful;
+          state = arrives.state;
+          begun = λ _. arrives.begun;
+          early = arrives.early;
+          counted = omega arith;
+          few_done = ok.few_done;
+          few_jobs = omega arith;
+        }
 
     -- through a unit
     pub server_run : (done : Bool) → is_ready f ≡ true → IsServer backlog (now + 1) (with_unit done f)
@@ -101,20 +81,17 @@ module _ (backlog now : ℕ) where
         let some = ok.few_jobs in
         let e = ok.early in
         let p = ok.lawful.short in
-        let rest : (finished : ℕ) → f.finished ≤ finished → finished ≤ f.finished + 1
-        → IsServer backlog (now + 1) (record (with_unit false f) { finished = finished }) = λ finished least most. record {
+        let counts : (f.finished ≤ (with_unit done f).finished) × ((with_unit done f).finished ≤ f.finished + 1) =
+        elim (cases_Bool done) [ inl t ↦ rw t (omega arith, omega arith) | inr n ↦ rw n (omega arith, omega arith) ] in
+        record {
           lawful = ok.lawful;
           state = IsState-after_unit f.terms.mode f.terms.reservation f.state ok.lawful ok.state run.free begun;
           begun = λ _. begun_after_unit f.terms.mode f.terms.reservation f.state begun;
           early = omega (arith, deadline-consumed-le f.terms.mode f.terms.reservation f.state);
-          counted = omega arith;
-          few_done = omega arith;
-          few_jobs = omega arith;
-        } in
-        elim (cases_Bool done) [
-          | inl t ↦ rw t (rest (f.finished + 1) (omega arith) (omega arith))
-          | inr n ↦ rw n (rest f.finished (omega arith) (omega arith))
-        ]
+          counted = omega (arith, counts.1);
+          few_done = omega (arith, counts.1);
+          few_jobs = omega (arith, counts.0);
+        }
 
     -- a ready server has a budget
     pub budget_some : is_ready f ≡ true → 0 < f.state.budget

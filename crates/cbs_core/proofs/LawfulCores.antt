@@ -1,29 +1,24 @@
 -- What a core holds is lawful: the laws of steps hold of every history with which it agrees.
-use Rattle.std.proofs.Common.{◌≡◌, ℕ, ◌<◌, true, length, arith, inl, inr, sym, false, List, [], refl, ◌∙◌, ap, Option, Some, None}
-use Rattle.std.proofs.lemmas.Bool.{cases_lt}
-use Rattle.std.proofs.lemmas.Bool.Decides.{nat_tests}
+use Rattle.std.proofs.Common.{◌≡◌, ℕ, ◌<◌, length, List, [], refl, ◌∙◌, ap, Option, Some, None}
 use Rattle.cbs_job.specs.Work.{Meaning}
 use Rattle.cbs_rate.specs.Rate.{IsRate, Rate}
-use Rattle.cbs_steps.specs.Faces.{is_ready, Face, face_at, no_face, view_reply, reservations}
+use Rattle.cbs_steps.specs.Faces.{Face, reservations}
 use Rattle.cbs_steps.specs.Accounts.{face_of}
 use Rattle.cbs_core.specs.Invariant.{IsServer, IsCore}
-use Rattle.cbs_steps.specs.History.{History, Setup, account, faces, tick, world_after}
+use Rattle.cbs_steps.specs.History.{History, Setup, ◌⊕◌, faces, reply_in, tick, world_after}
 use Rattle.cbs_core.specs.Held.{CoreHeld, IsCoreOnTime}
 use Rattle.cbs_core.specs.Agreement.{Agrees}
 use Rattle.cbs_steps.specs.Laws.{account_in}
 use Rattle.cbs_core.proofs.Agreements.{face_is}
-use Rattle.cbs_core.proofs.Cores.{server_at}
-use Rattle.std.proofs.lemmas.Option.{slice_get-get_or, slice_get_past}
-use Rattle.std.proofs.lemmas.List.{length-map}
-use Rattle.std.specs.Prelude.{slice_get, Result, IfOk, IfSome}
-use Rattle.cbs_steps.specs.declared.view.ServerView.{ServerView}
-use Rattle.cbs_steps.specs.OnTime.{IsWorldOnTime, KeepsTime}
-use Rattle.cbs_steps.specs.declared.error.CoreError.{CoreError}
+use Rattle.cbs_core.proofs.Cores.{server_at, budgets_kept}
+use Rattle.cbs_core.specs.Calls.{Makes}
+use Rattle.cbs_steps.specs.declared.reply.Reply.{Reply}
+use Rattle.std.specs.Prelude.{IfSome}
+use Rattle.cbs_steps.specs.OnTime.{KeepsTime}
 use Rattle.cbs_steps.specs.declared.step.Step.{Step}
-use Rattle.cbs_steps.proofs.Histories.{account_face}
 use Rattle.cbs_lists.proofs.Lists.{AllByRecursion-map}
 use Rattle.cbs_steps.specs.Punctual.{IsPunctual}
-use Rattle.cbs_steps.proofs.OnTime.{IsAdmitted, given, known_on_time, on_time_next, rates_are, rates_after, on_time_start, ready_early}
+use Rattle.cbs_steps.proofs.OnTime.{IsAdmitted, given, on_time_next, rates_are, rates_after, on_time_start}
 use Rattle.cbs_steps.specs.Promises.{promised, AllFinishedBy}
 use Rattle.cbs_core.proofs.OnTimeCores.{agreed_on_time}
 use Rattle.cbs_steps.proofs.LawfulServers.{IsLawful}
@@ -55,28 +50,27 @@ module _ {W : Type 0} (work : Meaning W) where
     pub keeps_time : (x : Step W) → KeepsTime work M x
     keeps_time x = on_time_next work M x (admitted_by view ok agrees)
 
-    -- what a server shows to a caller, if all is on time
-    pub shown_in_time : (s : ℕ) (r : Result ServerView CoreError) → r ≡ view_reply (slice_get core.faces s) → IsWorldOnTime work (world_after work M)
-        → IfOk r (λ v. v.finished < v.accepted → v.throttled ≡ false → (world_after work M).now < v.deadline)
-    shown_in_time s r e on =
-        let w = world_after work M in
-        let shown : core.faces ≡ faces work w = rw view agrees.world.shown in
-        let count = ap length shown in
-        elim (cases_lt s (length core.faces)) [
-          | inl lt ↦
-              let is : face_of work (account w.accounts s) ≡ face_at core.faces s =
-              sym (account_face work w.accounts s) ∙ ap (λ fs. face_at fs s) (sym shown) in
-              let early = ready_early work M.setup M.steps (admitted_by view ok agrees) (known_on_time work M.setup M.steps on) s
-              (omega (arith, length-map w.accounts (face_of work))) in
-              let goal : (face_at core.faces s).finished < (face_at core.faces s).accepted → (face_at core.faces s).state.throttled ≡ false
-              → w.now < (face_at core.faces s).state.deadline = λ some free.
-              let ready : is_ready (face_at core.faces s) ≡ true = grind (arith, nat_tests) in
-              let l = early (ap is_ready is ∙ ready) in
-              let d = ap (λ (f : Face). f.state.deadline) is in
-              omega arith in
-              rw (e, slice_get-get_or core.faces s no_face lt) goal
-          | inr ge ↦ rw (e, slice_get_past core.faces s ge) tt
-        ]
+  module _ {core held : CoreHeld W} (view : core ≡ held) (ok : IsCore work core) (x : Step W) (r : Reply W) where
+    -- a step that is answered so, and leaves the world as it is, was made with no change
+    pub makes_still : ((M : History W) → Agrees work held M → (r ≡ reply_in work M x) × (world_after work (M ⊕ x) ≡ world_after work M)) → Makes work held held x r
+    makes_still told = record {
+      reply = λ M agrees. (told M agrees).0;
+      state = λ M agrees. record { world = rw (told M agrees).1 agrees.world };
+      on_time = λ M agrees. keeps_time view ok agrees x;
+      count = refl;
+      budgets = rw (← view) (budgets_kept ok);
+    }
+
+    -- a step that is answered so, and leads to what agrees with it, was made
+    pub makes_new : {new : CoreHeld W} → IsCore work new → length new.faces ≡ length core.faces
+        → ((M : History W) → Agrees work held M → (r ≡ reply_in work M x) × Agrees work new (M ⊕ x)) → Makes work held new x r
+    makes_new later count told = record {
+      reply = λ M agrees. (told M agrees).0;
+      state = λ M agrees. (told M agrees).1;
+      on_time = λ M agrees. keeps_time view ok agrees x;
+      count = rw (← view) count;
+      budgets = budgets_kept later;
+    }
 
   -- a new core is on time
   pub new_on_time : {core : CoreHeld W} {setup : Setup} → IsCore work core → Agrees work core (record { setup = setup; steps = [] }) → IsCoreOnTime core

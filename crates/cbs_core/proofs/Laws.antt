@@ -1,5 +1,5 @@
 -- The laws of the core that the crates above may cite.
-use Rattle.std.proofs.Common.{◌≡◌, ℕ, ◌<◌, ◌≤◌, true, false, List, [], ◌∷◌, length, map, get_or, ◌++◌, refl, sym, ◌∙◌, ap, subst, arith, inl, inr}
+use Rattle.std.proofs.Common.{◌≡◌, ℕ, ◌<◌, ◌≤◌, true, false, List, [], length, map, get_or, ◌++◌, sym, ◌∙◌, ap, subst, arith, inl, inr}
 use Rattle.std.proofs.lemmas.Bool.{cases_eq, cases_lt}
 use Rattle.std.proofs.lemmas.Bool.Decides.{nat_tests}
 use Rattle.std.proofs.lemmas.List.{length-map, get_or-map, nil_from_length}
@@ -31,14 +31,12 @@ module _ {W : Type 0} (work : Meaning W) where
         absurd (omega (arith, AllZip-length (AgreesJobs work) core.queues w.accounts agrees.world.jobs, length-map w.accounts (face_of work)))))
   ]
 
-  -- a list of jobs that is not longer than 0 is empty
-  none_of : (jobs : List W) → (0 < length jobs → ⊥) → jobs ≡ []
-  none_of [] n = refl
-  none_of (j ∷ jobs) n = absurd (n (omega arith))
-
   -- beyond the last server no job is held
   pub none_beyond : (core : CoreHeld W) → HasHistory work core → (s : ℕ) → length core.faces ≤ s → (held_at core s).jobs ≡ []
-  none_beyond core history s ge = none_of (held_at core s).jobs (λ some. let lt = holds_within core history s some in absurd (omega arith))
+  none_beyond core history s ge = elim (cases_lt 0 (length (held_at core s).jobs)) [
+    | inl some ↦ absurd (let lt = holds_within core history s some in omega arith)
+    | inr none ↦ nil_from_length (held_at core s).jobs (omega arith)
+  ]
 
   -- where the core holds a job, a job is unfinished
   pub busy_by : (core : CoreHeld W) (M : History W) → Agrees work core M → HoldsJob core → IsBusy work (world_after work M)

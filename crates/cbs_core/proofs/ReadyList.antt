@@ -1,9 +1,12 @@
 -- Entries come into the list of the ready servers, and leave it.
-use Rattle.std.proofs.Common.{◌≡◌, ◌≢◌, ℕ, zero, suc, ◌+◌, ◌<◌, ◌≤◌, true, false, eqb, List, [], ◌∷◌, length, drop, Some, None, if◌then◌else◌, refl}
+use Rattle.std.proofs.Common.{◌≡◌, ◌≢◌, ℕ, ◌<◌, true, false, eqb, List, [], ◌∷◌, length, drop, map, Some, None, if◌then◌else◌, refl}
 use Rattle.std.proofs.Common.{sym, ap, ◌∙◌, inl, inr, arith}
 use Rattle.std.proofs.lemmas.Bool.{cases_Bool}
 use Rattle.std.proofs.lemmas.Bool.Decides.{nat_tests}
-use Rattle.std.specs.List.{AllByRecursion}
+use Rattle.std.proofs.lemmas.List.{length-map}
+use Rattle.std.proofs.lemmas.Map.Steps.{length-le_from_distinct_below}
+use Rattle.std.specs.List.{AllByRecursion, IsDistinct, list_any}
+use Rattle.cbs_lists.proofs.Lists.{AllByRecursion-map, AllByRecursion-weaker}
 use Rattle.cbs_core.specs.declared.entries.Entry.{Entry}
 use Rattle.cbs_core.specs.ReadyList.{is_ahead, listed, first_of, entered, IsApart, IsOrdered}
 
@@ -32,7 +35,7 @@ listed-none s (e ∷ es) all =
     rw f (listed-none s es all.1)
 
 -- what holds of the new entry and of the others holds of all
-All-entered : (P : Entry → Type 0) (x : Entry) (es : List Entry) → P x → AllByRecursion P es → AllByRecursion P (entered x es)
+pub All-entered : (P : Entry → Type 0) (x : Entry) (es : List Entry) → P x → AllByRecursion P es → AllByRecursion P (entered x es)
 All-entered P x [] h all = (h, tt)
 All-entered P x (e ∷ es) h all = elim (cases_Bool (is_ahead x e)) [ inl t ↦ rw t (h, all) | inr f ↦ rw f (all.0, All-entered P x es h all.1) ]
 
@@ -73,19 +76,12 @@ listed-other x (e ∷ es) t ne =
       | inr f ↦ rw f (ap (λ o. if eqb e.server t then Some e.deadline else o) (listed-other x es t ne))
     ]
 
--- where an entry of server s stands apart from each of a list, none of the list is an entry of s
-apart_first : (e : Entry) (s : ℕ) (es : List Entry) → e.server ≡ s → AllByRecursion (IsApart e) es → AllByRecursion (λ r. s ≢ r.server) es
-apart_first e s [] q all = tt
-apart_first e s (r ∷ rs) q all = (λ x. all.0.other (q ∙ x), apart_first e s rs q all.1)
-
--- the first server has no entry behind the first
-rest_without : (s : ℕ) (es : List Entry) → IsOrdered es → first_of es ≡ Some s → AllByRecursion (λ r. s ≢ r.server) (drop 1 es)
-rest_without s [] sorted h = cc
-rest_without s (e ∷ es) sorted h = let q : e.server ≡ s = cc in apart_first e s es q sorted.0
-
 -- no first server is listed behind the first
 pub rest_here : (s : ℕ) (es : List Entry) → IsOrdered es → first_of es ≡ Some s → listed (drop 1 es) s ≡ None
-rest_here s es sorted h = listed-none s (drop 1 es) (rest_without s es sorted h)
+rest_here s [] sorted h = cc
+rest_here s (e ∷ es) sorted h =
+    let q : e.server ≡ s = cc in
+    listed-none s es (AllByRecursion-weaker (IsApart e) (λ r. s ≢ r.server) es sorted.0 (λ r apart x. apart.other (q ∙ x)))
 
 -- the first is ahead of every other that is listed
 pub first_ahead : (e : Entry) (es : List Entry) (t d : ℕ) → AllByRecursion (IsApart e) es → listed es t ≡ Some d
@@ -100,65 +96,31 @@ first_ahead e (r ∷ rs) t d all h = elim (cases_Bool (eqb r.server t)) [
   | inr f ↦ first_ahead e rs t d all.1 (rw f at h)
 ]
 
--- the list without a server
-abbrev without : ℕ → List Entry → List Entry
-without s [] = []
-without s (e ∷ es) = if eqb e.server s then es else e ∷ without s es
+-- no two entries of a list in order have one server
+distinct : (es : List Entry) → IsOrdered es → IsDistinct eqb (map (λ (r : Entry). r.server) es)
+unfolding IsDistinct
+distinct [] sorted = tt
+distinct (e ∷ es) sorted = (
+  AllByRecursion-map (IsApart e) (λ t. eqb e.server t ≡ false) (λ (r : Entry). r.server) es sorted.0
+      (λ r apart. let ne = apart.other in grind (arith, nat_tests)),
+  distinct es sorted.1,
+)
 
--- what holds of each entry holds of each that is left once a server is taken out
-All-without : (P : Entry → Type 0) (s : ℕ) (es : List Entry) → AllByRecursion P es → AllByRecursion P (without s es)
-All-without P s [] all = tt
-All-without P s (e ∷ es) all = elim (cases_Bool (eqb e.server s)) [ inl t ↦ rw t all.1 | inr f ↦ rw f (all.0, All-without P s es all.1) ]
-
--- a list in order stays in order where a server is taken out
-ordered-without : (s : ℕ) (es : List Entry) → IsOrdered es → IsOrdered (without s es)
-ordered-without s [] sorted = tt
-ordered-without s (e ∷ es) sorted = elim (cases_Bool (eqb e.server s))
-    [ inl t ↦ rw t sorted.1 | inr f ↦ rw f (All-without (IsApart e) s es sorted.0, ordered-without s es sorted.1) ]
-
--- once server s is taken out of a list in order, no entry of s is left
-without_none : (s : ℕ) (es : List Entry) → IsOrdered es → AllByRecursion (λ r. s ≢ r.server) (without s es)
-without_none s [] sorted = tt
-without_none s (e ∷ es) sorted = elim (cases_Bool (eqb e.server s)) [
-  | inl t ↦ let q : e.server ≡ s = grind (arith, nat_tests) in rw t (apart_first e s es q sorted.0)
-  | inr f ↦ rw f (λ q. let z : eqb e.server s ≡ true = grind (arith, nat_tests) in cc, without_none s es sorted.1)
+-- a server that has an entry is below a bound of all
+known_below : (n : ℕ) (es : List Entry) (q : ℕ) → AllByRecursion (λ r. r.server < n) es → list_any (eqb q) (map (λ (r : Entry). r.server) es) ≡ true → q < n
+known_below n [] q all h = cc
+known_below n (e ∷ es) q all h = elim (cases_Bool (eqb q e.server)) [
+  | inl t ↦ let below = all.0 in grind (arith, nat_tests)
+  | inr f ↦ known_below n es q all.1 (rw f at h)
 ]
 
--- with a server taken out the list is shorter by one at most
-length-without : (s : ℕ) (es : List Entry) → length es ≤ length (without s es) + 1
-length-without s [] = omega arith
-length-without s (e ∷ es) = elim (cases_Bool (eqb e.server s)) [ inl t ↦ rw t (omega arith) | inr f ↦ let h = length-without s es in rw f (omega arith) ]
-
--- servers whose numbers are below n + 1, and none of them n, have numbers below n
-below_both : (n : ℕ) (es : List Entry) → AllByRecursion (λ r. r.server < suc n) es → AllByRecursion (λ r. n ≢ r.server) es
-    → AllByRecursion (λ r. r.server < n) es
-below_both n [] a b = tt
-below_both n (e ∷ es) a b = (let x = a.0 in let y = b.0 in omega arith, below_both n es a.1 b.1)
-
--- there are no more entries than servers
-few : (n : ℕ) (es : List Entry) → IsOrdered es → AllByRecursion (λ r. r.server < n) es → length es ≤ n
-few zero [] sorted all = omega arith
-few zero (e ∷ es) sorted all = absurd (let x = all.0 in omega arith)
-few (suc n) es sorted all =
-    let rest = without n es in
-    let h = few n rest (ordered-without n es sorted) (below_both n rest (All-without (λ r. r.server < suc n) n es all) (without_none n es sorted)) in
-    let l = length-without n es in
-    omega arith
-
--- the list with one entry more is longer by one
-length-entered : (x : Entry) (es : List Entry) → length (entered x es) ≡ length es + 1
-length-entered x [] = refl
-length-entered x (e ∷ es) = elim (cases_Bool (is_ahead x e)) [ inl t ↦ rw t (omega arith) | inr f ↦ let h = length-entered x es in rw f (omega arith) ]
-
--- there is a place for a server that is not listed
+-- there is a place for a server that is not listed, since servers are numbered below n
 pub place_for : (n : ℕ) (x : Entry) (es : List Entry) → IsOrdered es → AllByRecursion (λ r. r.server < n) es → listed es x.server ≡ None → x.server < n
     → length es < n
+unfolding IsDistinct
 place_for n x es sorted all none lt =
-    let h = few n (entered x es) (ordered-entered x es sorted none) (All-entered (λ r. r.server < n) x es lt all) in
-    let l = length-entered x es in
-    omega arith
-
--- the servers' numbers stay below a bound
-pub known-entered : (n : ℕ) (x : Entry) (es : List Entry) → x.server < n → AllByRecursion (λ r. r.server < n) es
-    → AllByRecursion (λ r. r.server < n) (entered x es)
-known-entered n x es lt all = All-entered (λ r. r.server < n) x es lt all
+    let all_servers = x.server ∷ map (λ (r : Entry). r.server) es in
+    let others = AllByRecursion-map (λ r. x.server ≢ r.server) (λ t. eqb x.server t ≡ false) (λ (r : Entry). r.server) es (unlisted x.server es none)
+    (λ r ne. grind (arith, nat_tests)) in
+    let few = length-le_from_distinct_below all_servers n (others, distinct es sorted) (λ q h. known_below n (x ∷ es) q (lt, all) h) in
+    omega (arith, length-map es (λ (r : Entry). r.server))

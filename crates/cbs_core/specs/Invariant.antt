@@ -1,6 +1,7 @@
 -- What every core keeps. Private words of this crate: public clauses speak of agreement.
 use Rattle.std.specs.Prelude.{◌≡◌, ℕ, ◌+◌, ◌*◌, ◌≤◌, ◌<◌, true, List, length}
 use Rattle.std.specs.List.{AllByRecursion, AllZip}
+use Rattle.cbs_rate.specs.Limits.{longest_period, most_backlog, most_servers}
 use Rattle.cbs_job.specs.Work.{Meaning}
 use Rattle.cbs_rate.specs.Plan.{total_share, all_periods}
 use Rattle.cbs_rate.specs.Rate.{IsRate}
@@ -13,7 +14,7 @@ pub record IsServer (backlog now : ℕ) (f : Face) : Type 0 where
   pub lawful : IsRate f.terms.reservation.budget f.terms.reservation.period
   pub state : IsState f.terms.reservation f.state
   pub begun : is_active f ≡ true → 0 < f.state.deadline
-  pub early : f.state.deadline ≤ now + (now + 1) * 1000000000
+  pub early : f.state.deadline ≤ now + (now + 1) * longest_period
   pub counted : f.finished ≤ f.accepted
   pub few_done : f.finished ≤ now
   pub few_jobs : backlog_of f ≤ backlog
@@ -25,8 +26,8 @@ pub record HoldsBacklog {W : Type 0} (work : Meaning W) (jobs : List W) (f : Fac
 
 -- what each core keeps; the total bandwidth of its servers is at most one, as in every plan
 pub record IsCore {W : Type 0} (work : Meaning W) (core : CoreHeld W) : Type 0 where
-  pub few : length core.faces ≤ 64
-  pub small : core.backlog ≤ 4096
+  pub few : length core.faces ≤ most_servers
+  pub small : core.backlog ≤ most_backlog
   pub clock : core.clock ≤ clock_end
   pub at_most_one : total_share (reservations core.faces) ≤ all_periods (reservations core.faces)
   pub each : AllByRecursion (IsServer core.backlog core.clock) core.faces

@@ -4,3 +4,4 @@ pub mod Held
 pub mod IdleSpans
 pub mod Invariant
 pub mod ReadyList
+pub mod Waiting

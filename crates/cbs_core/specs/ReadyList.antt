@@ -44,11 +44,3 @@ pub record IsMoved (x : Entry) (es slots : List Entry) (place : ℕ) : Type 0 wh
 pub record ListsReady (es : List Entry) (faces : List Face) : Type 0 where
   pub ordered : IsOrdered es
   pub each : (s : ℕ) → listed es s ≡ ready_by (face_at faces s)
-
--- the server is not due for replenishment before a tick
-abbrev pub IsNotDueBefore : ℕ → Face → Type 0
-IsNotDueBefore tick f = f.state.throttled ≡ true → tick ≤ f.state.deadline
-
--- no server is due for replenishment before a tick
-abbrev pub NoneDueBefore : ℕ → List Face → Type 0
-NoneDueBefore tick faces = AllByRecursion (IsNotDueBefore tick) faces

@@ -2,6 +2,7 @@
 
 ghost use Rattle.std.specs.Prelude.{◌≡◌, ◌-◌, ◌<◌, ◌≤◌, [], ◌∷◌, length, drop, take};
 ghost use Rattle.cbs_core.specs.ReadyList.{is_ahead, entered, IsMoved, IsOrdered};
+ghost use Rattle.cbs_rate.specs.Limits.{most_servers};
 
 use arrayvec::ArrayVec;
 use std::marker::Model;
@@ -89,9 +90,15 @@ impl Entries {
     /// Puts an entry at its place among the others.
     pub fn insert(&mut self, entry: Entry)
         requires order { IsOrdered self.old }
-        requires room { length self.old < 64 }
+        requires room { length self.old < most_servers }
         ensures { self.new ≡ entered entry self.old }
     {
+        if self.first > 0 && self.first == self.slots.len() {
+            // The slot of the last that left is free.
+            self.first -= 1;
+            self.set_first(entry);
+            return;
+        }
         if self.slots.is_full() {
             move_to_the_front(&mut self.slots, self.first);
             self.first = 0;

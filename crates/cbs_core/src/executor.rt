@@ -15,6 +15,7 @@ ghost use Rattle.cbs_steps.specs.Setups.{terms_of, new_refusal};
 ghost use Rattle.cbs_core.specs.Agreement.{Agrees};
 ghost use Rattle.cbs_core.specs.Calls.{Makes, Tries, TriesAll};
 ghost use Rattle.cbs_core.specs.Held.{room_of, KeepsRoom, IsOpen, HasRoom, IsRefusedBy, IsCoreOnTime, front_output, held_at, TakesJob, ClosesServer, OthersSame, AllSame, DoesRun, CountsOn, ran_of};
+ghost use Rattle.cbs_rate.specs.Limits.{longest_period, most_servers};
 
 use crate::servers::Servers;
 use cbs_job::{Completion, Task, Work};
@@ -186,8 +187,8 @@ impl<W: Work, A: Allocator> Core<W, A> {
             return Ran::ClockEnd;
         }
         self.clock += 1;
-        let result = self.queues.run_first(server);
         let seq = self.servers.finished(server);
+        let result = self.queues.run_first(server);
         self.servers.use_tick(server, result.is_some());
         self.servers.replenish(self.clock);
         ran_from(server, seq, result)
@@ -268,7 +269,7 @@ impl<W: Work, A: Allocator> Core<W, A> {
     /// How many servers there are: at most 64, numbered from 0.
     pub fn servers(&self) -> u16
         ensures value { result ≡ length self.now.faces }
-        ensures few { result ≤ 64 }
+        ensures few { result ≤ most_servers }
     {
         self.servers.len()
     }
@@ -292,7 +293,7 @@ impl<W: Work, A: Allocator> Core<W, A> {
         ensures held { result ≡ view_reply (slice_get self.now.faces server) }
         ensures view { (M : History W) → Agrees W.meaning self.now M → result ≡ view_reply (slice_get (faces W.meaning (world_after W.meaning M)) server) }
         ensures early { (M : History W) → Agrees W.meaning self.now M
-            → IfOk result (λ view. let now = (world_after W.meaning M).now in view.deadline ≤ now + (now + 1) * 1000000000) }
+            → IfOk result (λ view. let now = (world_after W.meaning M).now in view.deadline ≤ now + (now + 1) * longest_period) }
         ensures budget { (M : History W) → Agrees W.meaning self.now M
             → OnOk result (IsWithinBudget (face_at (faces W.meaning (world_after W.meaning M)) server)) }
         ensures in_time { (M : History W) → Agrees W.meaning self.now M → IsWorldOnTime W.meaning (world_after W.meaning M)

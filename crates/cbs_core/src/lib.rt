@@ -7,6 +7,7 @@ mod executor;
 mod ready_list;
 mod server;
 mod servers;
+mod waits;
 
 pub use cbs_rules::LIMIT;
 pub use cbs_steps::{CoreError, Ran, Reply, ServerView, Step, StepsRefused, SubmitRefused};

@@ -1,7 +1,8 @@
 //! The ready servers, in the order of the choice.
 
-ghost use Rattle.std.specs.Prelude.{◌≡◌, ◌≢◌, ◌-◌, ◌<◌, ◌≤◌, ◌⊎◌, ℕ, true, false, [], length, drop, take, Some, None};
+ghost use Rattle.std.specs.Prelude.{◌≡◌, ◌≢◌, ◌-◌, ◌<◌, ◌≤◌, ℕ, true, false, [], length, drop, take, Some, None};
 ghost use Rattle.cbs_core.specs.ReadyList.{listed, first_of, IsOrdered};
+ghost use Rattle.cbs_rate.specs.Limits.{most_servers};
 
 use crate::entries::{Entries, Entry};
 use std::marker::Model;
@@ -14,6 +15,7 @@ pub struct ReadyList {
 }
 
 impl Model for ReadyList {
+    ghost use Rattle.cbs_rate.specs.Limits.{most_servers};
     ghost use Rattle.std.specs.Prelude.{List, ◌<◌};
     ghost use Rattle.std.specs.List.{AllByRecursion};
     ghost use Rattle.cbs_core.specs.declared.entries.Entry.{Entry};
@@ -23,7 +25,7 @@ impl Model for ReadyList {
 
     ghost view = { λ r. r.entries };
 
-    ghost invariant = { λ r. IsOrdered r.entries × AllByRecursion (λ e. e.server < 64) r.entries };
+    ghost invariant = { λ r. IsOrdered r.entries × AllByRecursion (λ e. e.server < most_servers) r.entries };
 }
 
 impl ReadyList {
@@ -43,30 +45,39 @@ impl ReadyList {
         first_server(self.entries.as_slice())
     }
 
-    /// Follows a server, which was ready by a deadline or was not, and is so now. One that stays ready
-    /// by another deadline, or is no longer ready, must come first.
+    /// A server that was not ready is now by a deadline, or still is not.
     #[inline(always)]
-    pub fn follow(&mut self, server: u16, was: Option<u128>, is: Option<u128>)
-        requires known { server < 64 }
+    pub fn enter(&mut self, server: u16, by: Option<u128>)
+        requires known { server < most_servers }
         requires ordered { IsOrdered self.old }
-        requires was { listed self.old server ≡ was }
-        requires first { (was ≡ is) ⊎ (was ≡ None) ⊎ (first_of self.old ≡ Some server) }
+        requires absent { listed self.old server ≡ None }
         ensures ordered { IsOrdered self.new }
-        ensures here { listed self.new server ≡ is }
+        ensures here { listed self.new server ≡ by }
         ensures others { (t : ℕ) → t ≢ server → listed self.new t ≡ listed self.old t }
     {
-        match (was, is) {
-            (None, Some(deadline)) => self.insert(server, deadline),
-            (Some(_), None) => self.remove_first(),
-            (Some(old), Some(deadline)) if old != deadline => self.postpone_first(server, deadline),
-            _ => {}
+        if let Some(deadline) = by {
+            self.insert(server, deadline);
+        }
+    }
+
+    /// The first server is now ready by another deadline, or is no longer.
+    #[inline(always)]
+    pub fn follow_first(&mut self, server: u16, by: Option<u128>)
+        requires { first_of self.old ≡ Some server }
+        ensures ordered { IsOrdered self.new }
+        ensures here { listed self.new server ≡ by }
+        ensures others { (t : ℕ) → t ≢ server → listed self.new t ≡ listed self.old t }
+    {
+        match by {
+            Some(deadline) => self.postpone_first(server, deadline),
+            None => self.remove_first(),
         }
     }
 
     /// A server becomes ready.
     #[inline]
     fn insert(&mut self, server: u16, deadline: u128)
-        requires known { server < 64 }
+        requires known { server < most_servers }
         requires absent { listed self.old server ≡ None }
         ensures ordered { IsOrdered self.new }
         ensures here { listed self.new server ≡ Some deadline }
@@ -105,7 +116,7 @@ impl ReadyList {
     // Out of line, for most units change nothing.
     #[inline(never)]
     fn move_first(&mut self, server: u16, deadline: u128)
-        requires known { server < 64 }
+        requires known { server < most_servers }
         requires first { first_of self.old ≡ Some server }
         ensures ordered { IsOrdered self.new }
         ensures here { listed self.new server ≡ Some deadline }

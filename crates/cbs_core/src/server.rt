@@ -2,9 +2,7 @@
 
 ghost use Rattle.std.specs.Prelude.{◌≡◌, ℕ, ◌+◌, ◌<◌, ◌≤◌, ◌^◌, false, true, Some};
 ghost use Rattle.cbs_steps.specs.Faces.{new_face, is_active, is_ready, ready_by, backlog_of, refuses_close, refuses_submit, view_of, with_job, with_unit, with_replenishment, with_close};
-ghost use Rattle.cbs_core.specs.IdleSpans.{wait};
 ghost use Rattle.cbs_steps.specs.Promises.{promised_by};
-ghost use Rattle.cbs_core.specs.ReadyList.{IsNotDueBefore};
 
 use cbs_rate::Reservation;
 use cbs_rules::{LIMIT, MAX_DEADLINE, Mode, ServerState};
@@ -88,17 +86,6 @@ impl Server {
         self.state.throttled()
     }
 
-    /// Before which tick of the clock it is not due for replenishment: its deadline, where it waits for that.
-    pub fn due(&self) -> u64
-        ensures { IsNotDueBefore result self.now }
-    {
-        if self.is_throttled() {
-            u64::try_from(self.deadline()).unwrap_or(u64::MAX)
-        } else {
-            u64::MAX
-        }
-    }
-
     /// The deadline by which it runs, where it is ready.
     pub fn ready_by(&self) -> Option<u128>
         ensures { result ≡ ready_by self.now }
@@ -111,18 +98,6 @@ impl Server {
         ensures { result ≡ backlog_of self.now }
     {
         self.accepted - self.finished
-    }
-
-    /// After how many ticks it may be ready, where it is not.
-    pub fn wait(&self, now: u64) -> u128
-        requires { now ≤ LIMIT }
-        ensures { result ≡ wait now self.now }
-    {
-        if self.is_active() {
-            self.deadline().saturating_sub(u128::from(now)).max(1)
-        } else {
-            u128::from(LIMIT - now)
-        }
     }
 
     /// By which tick it gets so many units, while no server is late; `None` where they are none.
@@ -216,6 +191,10 @@ impl Server {
     {
         let more = self.state.budget() > 1;
         self.state.consume(self.mode);
+        // Most units end here.
+        if more && !done {
+            return true;
+        }
         if done {
             self.finished += 1;
         }

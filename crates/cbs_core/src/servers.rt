@@ -1,17 +1,20 @@
 //! All servers, but for their jobs: the choice among them, and what the rules do to them.
 
-ghost use Rattle.std.specs.Prelude.{◌≡◌, ◌≢◌, ℕ, ◌+◌, ◌-◌, ◌<◌, ◌≤◌, ◌^◌, false, Some, IfOk, OnOk, length, map, slice_get};
+ghost use Rattle.std.specs.Prelude.{◌≡◌, ◌≢◌, ℕ, ◌+◌, ◌-◌, ◌<◌, ◌≤◌, ◌^◌, false, Some, IfOk, OnOk, MatchOption, length, map, slice_get};
 ghost use Rattle.cbs_rate.specs.Plan.{IsPlan};
 ghost use Rattle.cbs_lists.specs.Lists.{changed_at};
 ghost use Rattle.cbs_steps.specs.Choice.{chosen_among, IsChoice};
 ghost use Rattle.cbs_steps.specs.Faces.{new_face, face_at, is_active, ready_by, ranks, close_refusal, submit_refusal, view_reply, with_job, with_unit, with_replenishment, with_close};
-ghost use Rattle.cbs_core.specs.IdleSpans.{span_from};
+ghost use Rattle.cbs_core.specs.IdleSpans.{NoneReady, span_of};
 ghost use Rattle.cbs_steps.specs.Promises.{promised_by};
-ghost use Rattle.cbs_core.specs.ReadyList.{listed, IsOrdered, ListsReady, IsNotDueBefore, NoneDueBefore};
+ghost use Rattle.cbs_core.specs.ReadyList.{listed, IsOrdered, ListsReady};
+ghost use Rattle.cbs_core.specs.Waiting.{Keeps};
 ghost use Rattle.cbs_steps.specs.Setups.{terms_of};
+ghost use Rattle.cbs_rate.specs.Limits.{most_servers};
 
 use crate::ready_list::ReadyList;
 use crate::server::Server;
+use crate::waits::Waits;
 use cbs_rate::Plan;
 use cbs_rules::{LIMIT, MAX_DEADLINE, Modes};
 use cbs_steps::{CoreError, ServerView};
@@ -23,20 +26,21 @@ use std::marker::Model;
 pub struct Servers<A: Allocator = Global> {
     servers: Vec<Server, A>,
     ready: ReadyList,
-    // Nobody is due for replenishment before.
-    due: u64,
+    waits: Waits,
 }
 
 impl<A: Allocator> Model for Servers<A> {
+    ghost use Rattle.cbs_rate.specs.Limits.{most_servers};
     ghost use Rattle.std.specs.Prelude.{List, ◌≤◌, length};
     ghost use Rattle.cbs_steps.specs.Faces.{Face};
-    ghost use Rattle.cbs_core.specs.ReadyList.{ListsReady, NoneDueBefore};
+    ghost use Rattle.cbs_core.specs.ReadyList.{ListsReady};
+    ghost use Rattle.cbs_core.specs.Waiting.{Keeps};
 
     ghost Value = { List Face };
 
     ghost view = { λ s. s.servers.items };
 
-    ghost invariant = { λ s. (length s.servers.items ≤ 64) × ListsReady s.ready s.servers.items × NoneDueBefore s.due s.servers.items };
+    ghost invariant = { λ s. (length s.servers.items ≤ most_servers) × ListsReady s.ready s.servers.items × Keeps s.waits s.servers.items };
 }
 
 impl<A: Allocator + Clone> Servers<A> {
@@ -55,7 +59,7 @@ impl<A: Allocator + Clone> Servers<A> {
         Ok(Servers {
             servers,
             ready: ReadyList::new(),
-            due: u64::MAX,
+            waits: Waits::new(),
         })
     }
 }
@@ -64,7 +68,7 @@ impl<A: Allocator> Servers<A> {
     /// How many servers there are.
     pub fn len(&self) -> u16
         ensures value { result ≡ length self.now }
-        ensures few { result ≤ 64 }
+        ensures few { result ≤ most_servers }
     {
         self.servers.len() as u16
     }
@@ -80,17 +84,12 @@ impl<A: Allocator> Servers<A> {
     /// How many ticks nobody will be ready, up to the clock's end, or `None` if somebody is now.
     pub fn idle_span(&self, now: u64) -> Option<u64>
         requires { now ≤ LIMIT }
-        ensures { result ≡ span_from now (LIMIT - now) self.now }
+        ensures { MatchOption result (¬ NoneReady self.now) (λ span. NoneReady self.now × (span ≡ span_of now self.now)) }
     {
-        let mut least = u128::from(LIMIT - now);
-        for server in &self.servers {
-            if server.is_ready() {
-                return None;
-            }
-            least = least.min(server.wait(now));
+        if self.choose().is_some() {
+            return None;
         }
-        // At most what is left of the clock.
-        Some(least as u64)
+        Some(self.waits.wakes.saturating_sub(now).max(1).min(LIMIT - now))
     }
 
     /// Why a submit to a server is refused, if it is.
@@ -158,8 +157,6 @@ impl<A: Allocator> Servers<A> {
     }
 
     /// A job comes in for a server that has none, at tick `now`. Answers the job's number.
-    // Out of line, for most jobs of a busy server come in behind others.
-    #[inline(never)]
     #[tactic(auto, using(cbs_lists::proofs::Lists::written))]
     fn accept_first(&mut self, server: u16, now: u64) -> u64
         requires within { server < length self.old }
@@ -172,7 +169,8 @@ impl<A: Allocator> Servers<A> {
         let it = &mut self.servers[usize::from(server)];
         let number = it.accepted();
         let ready_by = it.accept_first(now);
-        self.ready.follow(server, None, ready_by);
+        self.ready.enter(server, ready_by);
+        self.waits.note(it);
         number
     }
 
@@ -185,13 +183,12 @@ impl<A: Allocator> Servers<A> {
         ensures { self.new ≡ changed_at (with_unit done) self.old server }
     {
         let it = &mut self.servers[usize::from(server)];
-        let was = it.deadline();
         // Most units change no place in the list, and nobody's due.
         if it.use_tick(done) {
             return;
         }
-        self.ready.follow(server, Some(was), it.ready_by());
-        self.due = self.due.min(it.due());
+        self.ready.follow_first(server, it.ready_by());
+        self.waits.note(it);
     }
 
     /// Replenishes every server that is due at tick `now`.
@@ -200,8 +197,8 @@ impl<A: Allocator> Servers<A> {
         requires { now ≤ LIMIT }
         ensures { self.new ≡ map (with_replenishment now) self.old }
     {
-        if now >= self.due {
-            self.due = replenish_all(&mut self.servers, &mut self.ready, now);
+        if now >= self.waits.due {
+            self.waits = replenish_all(&mut self.servers, &mut self.ready, now);
         }
     }
 
@@ -215,41 +212,39 @@ impl<A: Allocator> Servers<A> {
     }
 }
 
-/// Replenishes every server that is due at tick `now`, and lists those that are then ready. Before
-/// which tick nobody else is due.
+/// Replenishes every server that is due at tick `now`, and lists those that are then ready. What is
+/// then kept of those that wait.
 #[inline(never)]
-fn replenish_all(servers: &mut [Server], ready: &mut ReadyList, now: u64) -> u64
+fn replenish_all(servers: &mut [Server], ready: &mut ReadyList, now: u64) -> Waits
     requires clock { now ≤ LIMIT }
-    requires few { length servers.old ≤ 64 }
+    requires few { length servers.old ≤ most_servers }
     requires listed { ListsReady ready.old servers.old }
     ensures servers { servers.new ≡ map (with_replenishment now) servers.old }
     ensures listed { ListsReady ready.new servers.new }
-    ensures due { NoneDueBefore result servers.new }
+    ensures waits { Keeps result servers.new }
 {
-    let mut due = u64::MAX;
+    let mut waits = Waits::new();
     for index in 0..servers.len() {
-        due = due.min(replenish_one(&mut servers[index], index as u16, ready, now));
+        let it = &mut servers[index];
+        replenish_one(it, index as u16, ready, now);
+        waits.note(it);
     }
-    due
+    waits
 }
 
-/// Replenishes one server if it is due at tick `now`, and lists it if it is then ready. Before which
-/// tick it is not due.
-fn replenish_one(it: &mut Server, number: u16, ready: &mut ReadyList, now: u64) -> u64
+/// Replenishes one server if it is due at tick `now`, and lists it if it is then ready.
+fn replenish_one(it: &mut Server, number: u16, ready: &mut ReadyList, now: u64)
     requires clock { now ≤ LIMIT }
-    requires known { number < 64 }
+    requires known { number < most_servers }
     requires ordered { IsOrdered ready.old }
     requires listed { listed ready.old number ≡ ready_by it.old }
     ensures face { it.new ≡ with_replenishment now it.old }
     ensures ordered { IsOrdered ready.new }
     ensures here { listed ready.new number ≡ ready_by it.new }
     ensures others { (t : ℕ) → t ≢ number → listed ready.new t ≡ listed ready.old t }
-    ensures due { IsNotDueBefore result it.new }
 {
-    if !it.is_throttled() {
-        return u64::MAX;
+    if it.is_throttled() {
+        it.replenish(now);
+        ready.enter(number, it.ready_by());
     }
-    it.replenish(now);
-    ready.follow(number, None, it.ready_by());
-    it.due()
 }

@@ -1,7 +1,7 @@
 -- What is dropped leaves the core, and so the time.
 use Rattle.cbs_steps.specs.declared.reply.Ran.{Ran}
 use Rattle.cbs_steps.specs.declared.reply.Ran.TheVariants.{Idle, ClockEnd, Unit, Done}
-use Rattle.cbs_house.specs.Houses.{IsHouseOnTime}
+use Rattle.cbs_clients.specs.Houses.{IsHouseOnTime}
 use Rattle.cbs_embed.specs.Calls.{TheHouse, Drops}
 
 -- a house that is on time is so after a result was dropped

@@ -1,6 +1,7 @@
 pub mod AsBox
+pub mod Moves
 pub mod Tokens
 pub mod Openings
-pub mod Held
+pub mod InHandles
 pub mod Admissions
 pub mod Drops

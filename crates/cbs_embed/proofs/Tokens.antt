@@ -5,8 +5,8 @@ use Rattle.cbs_job.specs.Work.{whole, output_after}
 use Rattle.cbs_job.specs.declared.completion.Completion.{Completion}
 use Rattle.cbs_core.specs.Held.{front_output, held_at}
 use Rattle.cbs_steps.specs.declared.reply.Ran.TheVariants as ran
-use Rattle.cbs_house.specs.Houses.{core_of, received, ComesTo, NamesJob}
-use Rattle.cbs_house.specs.Messages.{jobs_among}
+use Rattle.cbs_clients.specs.Houses.{core_of, received, ComesTo, NamesJob}
+use Rattle.cbs_clients.specs.Messages.{jobs_among}
 use Rattle.cbs_embed.specs.Calls.{TheHouse, HasToken, NamesToken}
 use Rattle.cbs_embed.specs.Jobs.{counting}
 use Rattle.cbs_embed.specs.declared.job.UnitJob.{UnitJob}

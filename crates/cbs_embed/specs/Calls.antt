@@ -4,24 +4,24 @@ use Rattle.std.specs.Global.{Global}
 use Rattle.cbs_steps.specs.declared.view.ServerView.{ServerView}
 use Rattle.cbs_steps.specs.declared.reply.Ran.{Ran}
 use Rattle.cbs_steps.specs.declared.reply.Ran.TheVariants as ran
-use Rattle.cbs_house.specs.Calls.{PollOf, RunOf, TurnOf, AdvanceOf, ClockOf, SpanOf, ViewOf, PromiseOf, LooksAtRing, SendOf, EndOf}
-use Rattle.cbs_house.specs.Clients.{free, slots_of}
-use Rattle.cbs_house.specs.Houses.{core_of, IsHouseOnTime, received, HandsOutResults}
-use Rattle.cbs_house.specs.Messages.{jobs_among}
-use Rattle.cbs_house.specs.declared.client.Client as client
-use Rattle.cbs_house.specs.declared.error.HouseError.TheVariants.{NoSuchServer}
-use Rattle.cbs_house.specs.declared.house.House as house
-use Rattle.cbs_house.specs.declared.poll.Poll.{Poll}
-use Rattle.cbs_house.specs.declared.turn.Turn.{Turn}
+use Rattle.cbs_clients.specs.Calls.{PollOf, RunOf, TurnOf, AdvanceOf, ClockOf, SpanOf, ViewOf, PromiseOf, LooksAtRing, SendOf, EndOf}
+use Rattle.cbs_clients.specs.Clients.{free, slots_of}
+use Rattle.cbs_clients.specs.Houses.{core_of, IsHouseOnTime, received, HandsOutResults}
+use Rattle.cbs_clients.specs.Messages.{jobs_among}
+use Rattle.cbs_clients.specs.declared.client.Client as client
+use Rattle.cbs_clients.specs.declared.error.HouseError.TheVariants.{NoSuchServer}
+use Rattle.cbs_clients.specs.declared.house.House as house
+use Rattle.cbs_clients.specs.declared.poll.Poll.{Poll}
+use Rattle.cbs_clients.specs.declared.turn.Turn.{Turn}
 use Rattle.cbs_job.specs.Tasks.{task_refusal}
 use Rattle.cbs_embed.specs.Jobs.{counting}
 use Rattle.cbs_embed.specs.contracts.job.UnitJobWork.TheImpl.{ghosts}
 use Rattle.cbs_embed.specs.declared.calls.Ticked.{Ticked}
 use Rattle.cbs_embed.specs.declared.calls.Turned.{Turned}
-use Rattle.cbs_embed.specs.declared.inside.Inside.{Inside}
-use Rattle.cbs_embed.specs.declared.inside.Inside.TheVariants.{House, Client}
+use Rattle.cbs_embed.specs.declared.held.Held.{Held}
+use Rattle.cbs_embed.specs.declared.held.Held.TheVariants.{House, Client}
 use Rattle.cbs_embed.specs.declared.job.UnitJob.{UnitJob}
-use Rattle.cbs_embed.specs.declared.refusal.KeptError.TheVariants.{NotOpen, OtherKind, HouseGone}
+use Rattle.cbs_embed.specs.declared.refusal.HandleError.TheVariants.{NotOpen, OtherKind, HouseGone}
 use Rattle.cbs_embed.specs.declared.refusal.Refusal.{Refusal}
 use Rattle.cbs_embed.specs.declared.refusal.Refusal.TheVariants as refused
 
@@ -31,20 +31,32 @@ TheHouse = house.House UnitJob Global ghosts
 abbrev pub TheClient : Type 0
 TheClient = client.Client UnitJob Global ghosts
 
+-- why a call on a house is refused by a handle that holds this: it is not open, or holds a client
+abbrev pub RefusesHouse : Option Held → Refusal → Type 0
+RefusesHouse None e = e ≡ refused.Handle NotOpen
+RefusesHouse (Some (House h)) e = ⊥
+RefusesHouse (Some (Client c)) e = e ≡ refused.Handle OtherKind
+
+-- the same of a call on a client
+abbrev pub RefusesClient : Option Held → Refusal → Type 0
+RefusesClient None e = e ≡ refused.Handle NotOpen
+RefusesClient (Some (House h)) e = e ≡ refused.Handle OtherKind
+RefusesClient (Some (Client c)) e = ⊥
+
 -- a call on a house did this to the house that was inside, and that is inside. A client is refused by name, and unchanged
-abbrev pub InHouse : {T : Type 0} → (TheHouse → Result T Refusal → TheHouse → Type 0) → Inside → Result T Refusal → Inside → Type 0
+abbrev pub InHouse : {T : Type 0} → (TheHouse → Result T Refusal → TheHouse → Type 0) → Held → Result T Refusal → Held → Type 0
 InHouse Does (House h) answer new = (after : TheHouse) × (new ≡ House after) × Does h answer after
-InHouse Does (Client c) answer new = (answer ≡ Err (refused.Kept OtherKind)) × (new ≡ Client c)
+InHouse Does (Client c) answer new = (answer ≡ Err (refused.Handle OtherKind)) × (new ≡ Client c)
 
 -- the same the other way round
-abbrev pub InClient : {T : Type 0} → (TheClient → Result T Refusal → TheClient → Type 0) → Inside → Result T Refusal → Inside → Type 0
-InClient Does (House h) answer new = (answer ≡ Err (refused.Kept OtherKind)) × (new ≡ House h)
+abbrev pub InClient : {T : Type 0} → (TheClient → Result T Refusal → TheClient → Type 0) → Held → Result T Refusal → Held → Type 0
+InClient Does (House h) answer new = (answer ≡ Err (refused.Handle OtherKind)) × (new ≡ House h)
 InClient Does (Client c) answer new = (after : TheClient) × (new ≡ Client after) × Does c answer after
 
 -- a call did this to what the handle held, and that it holds. A handle that is not open is refused by name, and stays so
-abbrev pub OnHeld : {T : Type 0} → (Inside → Result T Refusal → Inside → Type 0) → Option Inside → Result T Refusal → Option Inside → Type 0
-OnHeld Does None answer new = (answer ≡ Err (refused.Kept NotOpen)) × (new ≡ None)
-OnHeld Does (Some held) answer new = (after : Inside) × (new ≡ Some after) × Does held answer after
+abbrev pub OnHeld : {T : Type 0} → (Held → Result T Refusal → Held → Type 0) → Option Held → Result T Refusal → Option Held → Type 0
+OnHeld Does None answer new = (answer ≡ Err (refused.Handle NotOpen)) × (new ≡ None)
+OnHeld Does (Some held) answer new = (after : Held) × (new ≡ Some after) × Does held answer after
 
 -- of the jobs received for server s, that of number q has this token
 abbrev pub HasToken : TheHouse → ℕ → ℕ → ℕ → Type 0
@@ -136,7 +148,7 @@ Waits old (Err e) new = ⊥
 abbrev pub Ends : TheClient → Result (Unit {0}) Refusal → TheClient → Type 0
 Ends old (Ok x) new = EndOf old (Ok x) new
 Ends old (Err (refused.Send e)) new = EndOf old (Err e) new
-Ends old (Err (refused.Kept e)) new = (e ≡ HouseGone) × LooksAtRing old new
+Ends old (Err (refused.Handle e)) new = (e ≡ HouseGone) × LooksAtRing old new
 Ends old (Err _) new = ⊥
 
 -- a job of so many units
@@ -150,5 +162,5 @@ Sends token units old (Ok number) new = (task_refusal units ≡ None) × SendOf 
 Sends token units old (Err (refused.Task e)) new = (task_refusal units ≡ Some e) × (new ≡ old)
 Sends token units old (Err (refused.Send e)) new = (task_refusal units ≡ None)
     × SendOf (job_of token units) old (Err (record { error = e; task = job_of token units })) new
-Sends token units old (Err (refused.Kept e)) new = (task_refusal units ≡ None) × (e ≡ HouseGone) × LooksAtRing old new
+Sends token units old (Err (refused.Handle e)) new = (task_refusal units ≡ None) × (e ≡ HouseGone) × LooksAtRing old new
 Sends token units old (Err _) new = ⊥

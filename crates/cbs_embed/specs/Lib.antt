@@ -1,7 +1,9 @@
 pub mod Jobs
-pub mod Kepts
+pub mod Handles
 pub mod Owned
 pub mod Statuses
 pub mod Calls
 pub mod Openings
 pub mod Plans
+pub mod Lending
+pub mod LendingHandles

@@ -4,26 +4,25 @@ use Rattle.std.specs.List.{All, range_with_len}
 use Rattle.cbs_rate.specs.Rate.{Rate}
 use Rattle.cbs_rules.specs.declared.mode.Mode.{Mode}
 use Rattle.cbs_steps.specs.Setups.{terms_of}
-use Rattle.cbs_house.specs.Calls.{IsNewHouse}
-use Rattle.cbs_house.specs.Clients.{server_of}
-use Rattle.cbs_house.specs.Houses.{rings_of}
-use Rattle.cbs_house.specs.Opened.{open_refusal, IsUnused}
-use Rattle.cbs_house.specs.RingEnds.{IsOpened}
-use Rattle.cbs_house.specs.declared.error.HouseError.{HouseError}
-use Rattle.cbs_house.specs.declared.error.HouseError.TheVariants.{OutOfMemory}
+use Rattle.cbs_clients.specs.Calls.{IsNewHouse}
+use Rattle.cbs_clients.specs.Clients.{server_of, IsOpened}
+use Rattle.cbs_clients.specs.Houses.{rings_of}
+use Rattle.cbs_clients.specs.Opened.{open_refusal, IsUnused}
+use Rattle.cbs_clients.specs.declared.error.HouseError.{HouseError}
+use Rattle.cbs_clients.specs.declared.error.HouseError.TheVariants.{OutOfMemory}
 use Rattle.cbs_embed.specs.Calls.{TheHouse, TheClient}
 use Rattle.cbs_embed.specs.Jobs.{counting}
 use Rattle.cbs_embed.specs.Plans.{setup_refusal, plan_with, modes_with, whole_processor}
 use Rattle.cbs_embed.specs.declared.setup.Server.{Server}
-use Rattle.cbs_embed.specs.declared.inside.Inside.{Inside}
-use Rattle.cbs_embed.specs.declared.inside.Inside.TheVariants.{House, Client}
-use Rattle.cbs_embed.specs.declared.refusal.KeptError.TheVariants.{WrongCount}
+use Rattle.cbs_embed.specs.declared.held.Held.{Held}
+use Rattle.cbs_embed.specs.declared.held.Held.TheVariants.{House, Client}
+use Rattle.cbs_embed.specs.declared.refusal.HandleError.TheVariants.{WrongCount}
 use Rattle.cbs_embed.specs.declared.refusal.Refusal.{Refusal}
 use Rattle.cbs_embed.specs.declared.refusal.Refusal.TheVariants as refused
 
 -- One handle holds a house with nothing taken, and the others its clients, in order of their servers, which have sent nothing: all
 -- that is said of a house that is opened.
-pub record Opens (modes : List Mode) (rates : List Rate) (backlog ring : ℕ) (held : Option Inside) (others : List (Option Inside)) : Type 0 where
+pub record Opens (modes : List Mode) (rates : List Rate) (backlog ring : ℕ) (held : Option Held) (others : List (Option Held)) : Type 0 where
   pub house : TheHouse
   pub clients : List TheClient
   pub holds : held ≡ Some (House house)
@@ -34,13 +33,13 @@ pub record Opens (modes : List Mode) (rates : List Rate) (backlog ring : ℕ) (h
   pub opened : All (IsOpened (rings_of house)) clients
 
 -- the same of a house of these servers
-abbrev pub OpensServers : List Server → ℕ → ℕ → Option Inside → List (Option Inside) → Type 0
+abbrev pub OpensServers : List Server → ℕ → ℕ → Option Held → List (Option Held) → Type 0
 OpensServers servers backlog ring = Opens (modes_with [] servers) (plan_with whole_processor servers).rates backlog ring
 
 -- a house of so many servers, with so many handles for its clients, is not opened: by their count, or as a house is not, memory included
 abbrev pub RefusesOpening : ℕ → ℕ → ℕ → ℕ → Refusal → Type 0
 RefusesOpening servers handles backlog ring error =
-    ((handles ≢ servers) × (error ≡ refused.Kept WrongCount))
+    ((handles ≢ servers) × (error ≡ refused.Handle WrongCount))
     ⊎ ((handles ≡ servers) × ((why : HouseError) × (error ≡ refused.House why)
     × ((open_refusal backlog ring ≡ Some why) ⊎ ((open_refusal backlog ring ≡ None) × (why ≡ OutOfMemory)))))
 

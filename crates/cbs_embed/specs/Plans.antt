@@ -9,7 +9,7 @@ use Rattle.cbs_embed.specs.declared.setup.Server.{Server}
 use Rattle.cbs_embed.specs.declared.setup.Setup.{Setup}
 use Rattle.cbs_rules.specs.declared.mode.Mode.{Mode}
 use Rattle.cbs_rules.specs.declared.mode.Mode.TheVariants.{Soft, Throttled}
-use Rattle.cbs_embed.specs.declared.refusal.KeptError.TheVariants.{BadMode}
+use Rattle.cbs_embed.specs.declared.refusal.HandleError.TheVariants.{BadMode}
 use Rattle.cbs_embed.specs.declared.refusal.Refusal.{Refusal}
 use Rattle.cbs_embed.specs.declared.refusal.Refusal.TheVariants as refused
 
@@ -22,7 +22,7 @@ mode_from (suc (suc n)) = None
 -- why a mode is refused, or else what is asked next
 abbrev pub mode_refusal : Option Mode → Option Refusal → Option Refusal
 mode_refusal (Some m) rest = rest
-mode_refusal None rest = Some (refused.Kept BadMode)
+mode_refusal None rest = Some (refused.Handle BadMode)
 
 -- the first refusal of the three, or else the rest
 abbrev pub first_refusal : Option RateError → Option AdmitError → Option Mode → Option Refusal → Option Refusal

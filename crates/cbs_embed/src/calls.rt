@@ -1,24 +1,22 @@
-//! The calls on a house or a client that is kept.
+//! The calls on a house or a client that a handle holds.
 
 ghost use Rattle.std.specs.Prelude.{◌≡◌, ◌≤◌, length, IfErr, MatchResult};
-ghost use Rattle.cbs_embed.specs.declared.refusal.KeptError.TheVariants as KeptError;
+ghost use Rattle.cbs_embed.specs.declared.refusal.HandleError.TheVariants as HandleError;
 ghost use Rattle.cbs_embed.specs.declared.refusal.Refusal.{Refusal};
 ghost use Rattle.cbs_embed.specs.declared.refusal.Refusal.TheVariants as refused;
 ghost use Rattle.cbs_embed.specs.Calls.{OnHeld, InHouse, InClient, Drops, Runs, Turns, HasServer, Polls, Advances, TellsClock, Spans, Shows, Promises, Sends, Ends, Waits, NamesToken};
-ghost use Rattle.cbs_house.specs.Calls.{LooksAtRing};
+ghost use Rattle.cbs_clients.specs.Calls.{LooksAtRing};
 ghost use Rattle.cbs_embed.specs.Jobs.{counting};
-ghost use Rattle.cbs_embed.specs.Kepts.{held_by};
-ghost use Rattle.cbs_house.specs.Houses.{core_of, NamesJob};
-ghost use Rattle.cbs_house.specs.declared.error.HouseError.TheVariants.{NoSuchServer};
+ghost use Rattle.cbs_embed.specs.Handles.{held_by};
+ghost use Rattle.cbs_clients.specs.Houses.{core_of, NamesJob};
+ghost use Rattle.cbs_clients.specs.declared.error.HouseError.TheVariants.{NoSuchServer};
 
-use crate::inside::Inside;
+use crate::handle::Handle;
 use crate::job::UnitJob;
-use crate::kept::Kept;
-use crate::refusal::{KeptError, Refusal};
+use crate::refusal::{HandleError, Refusal};
 use cbs_core::{Ran, ServerView};
 use cbs_house::{Client, House, HouseError, Poll, Turn};
 use cbs_job::Task;
-use std::alloc::Global;
 
 /// What a run did, and the token of the job that got the unit.
 #[derive(Clone, Copy, Debug, PartialEq, Eq)]
@@ -59,25 +57,11 @@ fn run_house(house: &mut House<UnitJob>) -> Result<Ticked, Refusal>
     Ok(Ticked { ran, token })
 }
 
-fn run_inside(inside: &mut Inside) -> Result<Ticked, Refusal>
-    ensures { InHouse Runs inside.old result inside.new }
-{
-    match inside {
-        Inside::House(house) => run_house(house),
-        Inside::Client(_) => Err(Refusal::Kept(KeptError::OtherKind)),
-    }
-}
-
 /// Runs one unit, as [`House::run`].
-pub fn run(alloc: Global, kept: &mut Kept) -> Result<Ticked, Refusal>
-    ensures { OnHeld (InHouse Runs) (held_by kept.old) result (held_by kept.new) }
+pub fn run(handle: &mut Handle) -> Result<Ticked, Refusal>
+    ensures { OnHeld (InHouse Runs) (held_by handle.old) result (held_by handle.new) }
 {
-    let Some(mut inside) = kept.take(alloc) else {
-        return Err(Refusal::Kept(KeptError::NotOpen));
-    };
-    let ran = run_inside(&mut inside);
-    kept.put(inside);
-    ran
+    run_house(handle.house_mut()?)
 }
 
 /// What a turn did, and the token of the job that got a unit.
@@ -98,25 +82,11 @@ fn turn_house(house: &mut House<UnitJob>) -> Result<Turned, Refusal>
     Ok(Turned { turn, token })
 }
 
-fn turn_inside(inside: &mut Inside) -> Result<Turned, Refusal>
-    ensures { InHouse Turns inside.old result inside.new }
-{
-    match inside {
-        Inside::House(house) => turn_house(house),
-        Inside::Client(_) => Err(Refusal::Kept(KeptError::OtherKind)),
-    }
-}
-
 /// Takes a turn, as [`House::turn`].
-pub fn turn(alloc: Global, kept: &mut Kept) -> Result<Turned, Refusal>
-    ensures { OnHeld (InHouse Turns) (held_by kept.old) result (held_by kept.new) }
+pub fn turn(handle: &mut Handle) -> Result<Turned, Refusal>
+    ensures { OnHeld (InHouse Turns) (held_by handle.old) result (held_by handle.new) }
 {
-    let Some(mut inside) = kept.take(alloc) else {
-        return Err(Refusal::Kept(KeptError::NotOpen));
-    };
-    let answer = turn_inside(&mut inside);
-    kept.put(inside);
-    answer
+    turn_house(handle.house_mut()?)
 }
 
 /// Refuses the number of a server that the house has not.
@@ -138,25 +108,11 @@ fn poll_house(house: &mut House<UnitJob>, server: u16) -> Result<Poll, Refusal>
     Ok(house.poll(server))
 }
 
-fn poll_inside(inside: &mut Inside, server: u16) -> Result<Poll, Refusal>
-    ensures { InHouse (Polls server) inside.old result inside.new }
-{
-    match inside {
-        Inside::House(house) => poll_house(house, server),
-        Inside::Client(_) => Err(Refusal::Kept(KeptError::OtherKind)),
-    }
-}
-
 /// Looks for the next message of a server, as [`House::poll`]. Refuses by [`HouseError::NoSuchServer`].
-pub fn poll(alloc: Global, kept: &mut Kept, server: u16) -> Result<Poll, Refusal>
-    ensures { OnHeld (InHouse (Polls server)) (held_by kept.old) result (held_by kept.new) }
+pub fn poll(handle: &mut Handle, server: u16) -> Result<Poll, Refusal>
+    ensures { OnHeld (InHouse (Polls server)) (held_by handle.old) result (held_by handle.new) }
 {
-    let Some(mut inside) = kept.take(alloc) else {
-        return Err(Refusal::Kept(KeptError::NotOpen));
-    };
-    let answer = poll_inside(&mut inside, server);
-    kept.put(inside);
-    answer
+    poll_house(handle.house_mut()?, server)
 }
 
 fn advance_house(house: &mut House<UnitJob>, ticks: u64) -> Result<(), Refusal>
@@ -165,25 +121,11 @@ fn advance_house(house: &mut House<UnitJob>, ticks: u64) -> Result<(), Refusal>
     house.advance(ticks).map_err(|error| Refusal::House(error))
 }
 
-fn advance_inside(inside: &mut Inside, ticks: u64) -> Result<(), Refusal>
-    ensures { InHouse (Advances ticks) inside.old result inside.new }
-{
-    match inside {
-        Inside::House(house) => advance_house(house, ticks),
-        Inside::Client(_) => Err(Refusal::Kept(KeptError::OtherKind)),
-    }
-}
-
 /// Lets ticks pass, as [`House::advance`].
-pub fn advance(alloc: Global, kept: &mut Kept, ticks: u64) -> Result<(), Refusal>
-    ensures { OnHeld (InHouse (Advances ticks)) (held_by kept.old) result (held_by kept.new) }
+pub fn advance(handle: &mut Handle, ticks: u64) -> Result<(), Refusal>
+    ensures { OnHeld (InHouse (Advances ticks)) (held_by handle.old) result (held_by handle.new) }
 {
-    let Some(mut inside) = kept.take(alloc) else {
-        return Err(Refusal::Kept(KeptError::NotOpen));
-    };
-    let answer = advance_inside(&mut inside, ticks);
-    kept.put(inside);
-    answer
+    advance_house(handle.house_mut()?, ticks)
 }
 
 fn now_house(house: &mut House<UnitJob>) -> Result<u64, Refusal>
@@ -192,25 +134,11 @@ fn now_house(house: &mut House<UnitJob>) -> Result<u64, Refusal>
     Ok(house.now())
 }
 
-fn now_inside(inside: &mut Inside) -> Result<u64, Refusal>
-    ensures { InHouse TellsClock inside.old result inside.new }
-{
-    match inside {
-        Inside::House(house) => now_house(house),
-        Inside::Client(_) => Err(Refusal::Kept(KeptError::OtherKind)),
-    }
-}
-
 /// The clock, as [`House::now`].
-pub fn now(alloc: Global, kept: &mut Kept) -> Result<u64, Refusal>
-    ensures { OnHeld (InHouse TellsClock) (held_by kept.old) result (held_by kept.new) }
+pub fn now(handle: &mut Handle) -> Result<u64, Refusal>
+    ensures { OnHeld (InHouse TellsClock) (held_by handle.old) result (held_by handle.new) }
 {
-    let Some(mut inside) = kept.take(alloc) else {
-        return Err(Refusal::Kept(KeptError::NotOpen));
-    };
-    let answer = now_inside(&mut inside);
-    kept.put(inside);
-    answer
+    now_house(handle.house_mut()?)
 }
 
 fn idle_span_house(house: &mut House<UnitJob>) -> Result<Option<u64>, Refusal>
@@ -219,25 +147,11 @@ fn idle_span_house(house: &mut House<UnitJob>) -> Result<Option<u64>, Refusal>
     Ok(house.idle_span())
 }
 
-fn idle_span_inside(inside: &mut Inside) -> Result<Option<u64>, Refusal>
-    ensures { InHouse Spans inside.old result inside.new }
-{
-    match inside {
-        Inside::House(house) => idle_span_house(house),
-        Inside::Client(_) => Err(Refusal::Kept(KeptError::OtherKind)),
-    }
-}
-
 /// For how many ticks nobody will be ready, as [`House::idle_span`].
-pub fn idle_span(alloc: Global, kept: &mut Kept) -> Result<Option<u64>, Refusal>
-    ensures { OnHeld (InHouse Spans) (held_by kept.old) result (held_by kept.new) }
+pub fn idle_span(handle: &mut Handle) -> Result<Option<u64>, Refusal>
+    ensures { OnHeld (InHouse Spans) (held_by handle.old) result (held_by handle.new) }
 {
-    let Some(mut inside) = kept.take(alloc) else {
-        return Err(Refusal::Kept(KeptError::NotOpen));
-    };
-    let answer = idle_span_inside(&mut inside);
-    kept.put(inside);
-    answer
+    idle_span_house(handle.house_mut()?)
 }
 
 fn view_house(house: &mut House<UnitJob>, server: u16) -> Result<ServerView, Refusal>
@@ -246,25 +160,11 @@ fn view_house(house: &mut House<UnitJob>, server: u16) -> Result<ServerView, Ref
     house.view(server).map_err(|error| Refusal::House(error))
 }
 
-fn view_inside(inside: &mut Inside, server: u16) -> Result<ServerView, Refusal>
-    ensures { InHouse (Shows server) inside.old result inside.new }
-{
-    match inside {
-        Inside::House(house) => view_house(house, server),
-        Inside::Client(_) => Err(Refusal::Kept(KeptError::OtherKind)),
-    }
-}
-
 /// What a server shows, as [`House::view`].
-pub fn view(alloc: Global, kept: &mut Kept, server: u16) -> Result<ServerView, Refusal>
-    ensures { OnHeld (InHouse (Shows server)) (held_by kept.old) result (held_by kept.new) }
+pub fn view(handle: &mut Handle, server: u16) -> Result<ServerView, Refusal>
+    ensures { OnHeld (InHouse (Shows server)) (held_by handle.old) result (held_by handle.new) }
 {
-    let Some(mut inside) = kept.take(alloc) else {
-        return Err(Refusal::Kept(KeptError::NotOpen));
-    };
-    let answer = view_inside(&mut inside, server);
-    kept.put(inside);
-    answer
+    view_house(handle.house_mut()?, server)
 }
 
 fn promised_house(house: &mut House<UnitJob>, server: u16) -> Result<Option<u128>, Refusal>
@@ -274,35 +174,21 @@ fn promised_house(house: &mut House<UnitJob>, server: u16) -> Result<Option<u128
     Ok(house.promised(server))
 }
 
-fn promised_inside(inside: &mut Inside, server: u16) -> Result<Option<u128>, Refusal>
-    ensures { InHouse (Promises server) inside.old result inside.new }
-{
-    match inside {
-        Inside::House(house) => promised_house(house, server),
-        Inside::Client(_) => Err(Refusal::Kept(KeptError::OtherKind)),
-    }
-}
-
 /// By which tick all that a server took is finished, as [`House::promised`]. Refuses by
 /// [`HouseError::NoSuchServer`].
-pub fn promised(alloc: Global, kept: &mut Kept, server: u16) -> Result<Option<u128>, Refusal>
-    ensures { OnHeld (InHouse (Promises server)) (held_by kept.old) result (held_by kept.new) }
+pub fn promised(handle: &mut Handle, server: u16) -> Result<Option<u128>, Refusal>
+    ensures { OnHeld (InHouse (Promises server)) (held_by handle.old) result (held_by handle.new) }
 {
-    let Some(mut inside) = kept.take(alloc) else {
-        return Err(Refusal::Kept(KeptError::NotOpen));
-    };
-    let answer = promised_inside(&mut inside, server);
-    kept.put(inside);
-    answer
+    promised_house(handle.house_mut()?, server)
 }
 
 /// Refuses a client whose house was freed.
 fn require_house(client: &mut Client<UnitJob>) -> Result<(), Refusal>
     ensures looked { LooksAtRing client.old client.new }
-    ensures gone { IfErr result (λ e. e ≡ refused.Kept KeptError.HouseGone) }
+    ensures gone { IfErr result (λ e. e ≡ refused.Handle HandleError.HouseGone) }
 {
     if client.house_is_gone() {
-        return Err(Refusal::Kept(KeptError::HouseGone));
+        return Err(Refusal::Handle(HandleError::HouseGone));
     }
     Ok(())
 }
@@ -317,28 +203,14 @@ fn send_to(client: &mut Client<UnitJob>, token: u64, units: u32) -> Result<u64, 
         .map_err(|refused| Refusal::Send(refused.error))
 }
 
-fn send_inside(inside: &mut Inside, token: u64, units: u32) -> Result<u64, Refusal>
-    ensures { InClient (Sends token units) inside.old result inside.new }
-{
-    match inside {
-        Inside::Client(client) => send_to(client, token, units),
-        Inside::House(_) => Err(Refusal::Kept(KeptError::OtherKind)),
-    }
-}
-
-/// Sends a job, as [`Client::send`]. Refuses, in this order: by its units; by [`KeptError::HouseGone`], if the
+/// Sends a job, as [`Client::send`]. Refuses, in this order: by its units; by [`HandleError::HouseGone`], if the
 /// client's house was freed; and as [`Client::send`]. Nothing was sent then.
 ///
 /// What a client sent before its house was freed is lost with the house.
-pub fn send(alloc: Global, kept: &mut Kept, token: u64, units: u32) -> Result<u64, Refusal>
-    ensures { OnHeld (InClient (Sends token units)) (held_by kept.old) result (held_by kept.new) }
+pub fn send(handle: &mut Handle, token: u64, units: u32) -> Result<u64, Refusal>
+    ensures { OnHeld (InClient (Sends token units)) (held_by handle.old) result (held_by handle.new) }
 {
-    let Some(mut inside) = kept.take(alloc) else {
-        return Err(Refusal::Kept(KeptError::NotOpen));
-    };
-    let answer = send_inside(&mut inside, token, units);
-    kept.put(inside);
-    answer
+    send_to(handle.client_mut()?, token, units)
 }
 
 fn end_of(client: &mut Client<UnitJob>) -> Result<(), Refusal>
@@ -348,26 +220,12 @@ fn end_of(client: &mut Client<UnitJob>) -> Result<(), Refusal>
     client.end().map_err(|error| Refusal::Send(error))
 }
 
-fn end_inside(inside: &mut Inside) -> Result<(), Refusal>
-    ensures { InClient Ends inside.old result inside.new }
-{
-    match inside {
-        Inside::Client(client) => end_of(client),
-        Inside::House(_) => Err(Refusal::Kept(KeptError::OtherKind)),
-    }
-}
-
-/// Sends the end, as [`Client::end`]. Refuses by [`KeptError::HouseGone`], if the client's house was freed, and then
+/// Sends the end, as [`Client::end`]. Refuses by [`HandleError::HouseGone`], if the client's house was freed, and then
 /// as [`Client::end`]. Nothing was sent then.
-pub fn end(alloc: Global, kept: &mut Kept) -> Result<(), Refusal>
-    ensures { OnHeld (InClient Ends) (held_by kept.old) result (held_by kept.new) }
+pub fn end(handle: &mut Handle) -> Result<(), Refusal>
+    ensures { OnHeld (InClient Ends) (held_by handle.old) result (held_by handle.new) }
 {
-    let Some(mut inside) = kept.take(alloc) else {
-        return Err(Refusal::Kept(KeptError::NotOpen));
-    };
-    let answer = end_inside(&mut inside);
-    kept.put(inside);
-    answer
+    end_of(handle.client_mut()?)
 }
 
 fn waiting_of(client: &mut Client<UnitJob>) -> Result<u64, Refusal>
@@ -376,23 +234,9 @@ fn waiting_of(client: &mut Client<UnitJob>) -> Result<u64, Refusal>
     Ok(client.waiting())
 }
 
-fn waiting_inside(inside: &mut Inside) -> Result<u64, Refusal>
-    ensures { InClient Waits inside.old result inside.new }
-{
-    match inside {
-        Inside::Client(client) => waiting_of(client),
-        Inside::House(_) => Err(Refusal::Kept(KeptError::OtherKind)),
-    }
-}
-
 /// How many messages stand in the client's ring, as [`Client::waiting`].
-pub fn waiting(alloc: Global, kept: &mut Kept) -> Result<u64, Refusal>
-    ensures { OnHeld (InClient Waits) (held_by kept.old) result (held_by kept.new) }
+pub fn waiting(handle: &mut Handle) -> Result<u64, Refusal>
+    ensures { OnHeld (InClient Waits) (held_by handle.old) result (held_by handle.new) }
 {
-    let Some(mut inside) = kept.take(alloc) else {
-        return Err(Refusal::Kept(KeptError::NotOpen));
-    };
-    let answer = waiting_inside(&mut inside);
-    kept.put(inside);
-    answer
+    waiting_of(handle.client_mut()?)
 }

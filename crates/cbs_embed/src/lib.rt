@@ -2,11 +2,11 @@
 //! units the host does itself.
 #![tactic(auto)]
 
+mod box_ptr;
 pub mod calls;
 mod handle;
-mod inside;
+mod held;
 mod job;
-mod kept;
 mod opening;
 mod parts;
 mod planning;
@@ -15,11 +15,10 @@ mod setup;
 mod texts;
 
 pub use handle::Handle;
-pub use inside::Inside;
+pub use held::Held;
 pub use job::UnitJob;
-pub use kept::Kept;
 pub use opening::open;
 pub use planning::{admit, greatest_budget, mode_of, setup_of};
-pub use refusal::{KeptError, Refusal};
+pub use refusal::{HandleError, Refusal};
 pub use setup::{Server, Setup};
 pub use texts::text_of;

@@ -2,16 +2,16 @@
 
 ghost use Rattle.std.specs.Prelude.{◌≡◌, IfOk, OnOk, OnErr, Some, length, map};
 ghost use Rattle.cbs_rate.specs.Refusals.{RefusesByOrMemory};
-ghost use Rattle.cbs_house.specs.Opened.{open_refusal};
-ghost use Rattle.cbs_embed.specs.Kepts.{held_by};
+ghost use Rattle.cbs_clients.specs.Opened.{open_refusal};
+ghost use Rattle.cbs_embed.specs.Handles.{held_by};
 ghost use Rattle.cbs_embed.specs.Openings.{Opens, OpensServers, OpensOrRefuses};
-ghost use Rattle.cbs_embed.specs.declared.inside.Inside.TheVariants as inside;
+ghost use Rattle.cbs_embed.specs.declared.held.Held.TheVariants as held;
 
-use crate::inside::Inside;
+use crate::handle::Handle;
+use crate::held::Held;
 use crate::job::UnitJob;
-use crate::kept::Kept;
 use crate::planning::setup_of;
-use crate::refusal::{KeptError, Refusal};
+use crate::refusal::{HandleError, Refusal};
 use crate::setup::{Server, Setup};
 use cbs_house::{Client, HouseError, open_house};
 use cbs_rate::Plan;
@@ -23,14 +23,16 @@ use std::collections::VecDeque;
 /// servers.
 ///
 /// What the handles held is dropped, at success alone. Refuses by the first server that does not fit, as
-/// [`setup_of`]; by [`KeptError::WrongCount`]; and as [`open_house`]. All handles are then as they were.
+/// [`setup_of`]; by [`HandleError::WrongCount`]; and as [`open_house`]. All handles are then as they were.
+// A house on its way into its box takes some kilobytes of stack, which the caller's frame is not to have.
+#[inline(never)]
 pub fn open(
     alloc: Global,
     servers: &[Server],
     backlog: u64,
     ring: u64,
-    house: &mut Kept,
-    clients: &mut [Kept],
+    house: &mut Handle,
+    clients: &mut [Handle],
 ) -> Result<(), Refusal>
     ensures ok { OnOk result (OpensServers servers.now backlog ring (held_by house.new) (map held_by clients.new)) }
     ensures err { OnErr result ((house.new ≡ house.old) × (clients.new ≡ clients.old)) }
@@ -38,12 +40,12 @@ pub fn open(
 {
     let Setup { plan, modes } = setup_of(servers)?;
     if clients.len() != plan.len() {
-        return Err(Refusal::Kept(KeptError::WrongCount));
+        return Err(Refusal::Handle(HandleError::WrongCount));
     }
     match open_boxes(alloc, plan, modes, backlog, ring) {
-        Ok((inside, ends)) => {
+        Ok((held, ends)) => {
             fill(clients, ends);
-            house.put(inside);
+            house.put(held);
             Ok(())
         }
         Err(error) => Err(Refusal::House(error)),
@@ -57,34 +59,34 @@ fn open_boxes(
     modes: Modes,
     backlog: u64,
     ring: u64,
-) -> Result<(Box<Inside>, Vec<Box<Inside>>), HouseError>
+) -> Result<(Box<Held>, Vec<Box<Held>>), HouseError>
     requires { length modes ≡ length plan.rates }
     ensures ok { IfOk result (λ r. Opens modes plan.rates backlog ring (Some r.0.value) (map (λ b. Some b.value) r.1.items)) }
     ensures refusal { RefusesByOrMemory HouseError.OutOfMemory result (open_refusal backlog ring) }
 {
     let (house, clients) = open_house(alloc, plan, modes, backlog, ring)?;
-    let Ok(inside) = Box::new(alloc, Inside::House(house)) else {
+    let Ok(held) = Box::new(alloc, Held::House(house)) else {
         return Err(HouseError::OutOfMemory);
     };
     let Ok(ends) = box_all(alloc, clients) else {
         return Err(HouseError::OutOfMemory);
     };
-    Ok((inside, ends))
+    Ok((held, ends))
 }
 
 /// Each client in a box.
-fn box_all(alloc: Global, clients: Vec<Client<UnitJob>>) -> Result<Vec<Box<Inside>>, AllocError>
-    ensures { IfOk result (λ boxes. map (λ b. Some b.value) boxes.items ≡ map (λ c. Some (inside.Client c)) clients.items) }
+fn box_all(alloc: Global, clients: Vec<Client<UnitJob>>) -> Result<Vec<Box<Held>>, AllocError>
+    ensures { IfOk result (λ boxes. map (λ b. Some b.value) boxes.items ≡ map (λ c. Some (held.Client c)) clients.items) }
 {
     let mut boxes = Vec::with_capacity(alloc, clients.len())?;
     for client in clients {
-        boxes.push(Box::new(alloc, Inside::Client(client))?)?;
+        boxes.push(Box::new(alloc, Held::Client(client))?)?;
     }
     Ok(boxes)
 }
 
 /// Puts a box into each handle.
-fn fill(handles: &mut [Kept], boxes: Vec<Box<Inside>>)
+fn fill(handles: &mut [Handle], boxes: Vec<Box<Held>>)
     requires { length handles.old ≡ length boxes.items }
     ensures { map held_by handles.new ≡ map (λ b. Some b.value) boxes.items }
 {

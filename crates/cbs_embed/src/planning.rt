@@ -2,11 +2,11 @@
 
 ghost use Rattle.std.specs.Prelude.{◌≡◌, OnOk, MatchResult, Option, Some, None, length};
 ghost use Rattle.cbs_embed.specs.Plans.{server_refusal, with_server, with_mode, mode_from, setup_refusal, plan_with, IsSetupOf, IsGreatestBudget, fits_plan, whole_processor};
-ghost use Rattle.cbs_embed.specs.declared.refusal.KeptError.TheVariants as KeptError;
+ghost use Rattle.cbs_embed.specs.declared.refusal.HandleError.TheVariants as HandleError;
 ghost use Rattle.cbs_embed.specs.declared.refusal.Refusal.{Refusal};
 ghost use Rattle.cbs_embed.specs.declared.refusal.Refusal.TheVariants as refused;
 
-use crate::refusal::{KeptError, Refusal};
+use crate::refusal::{HandleError, Refusal};
 use crate::setup::{Server, Setup};
 use cbs_rate::{Bound, MAX_PERIOD, Plan, Reservation};
 use cbs_rules::{Mode, Modes};
@@ -29,6 +29,8 @@ pub fn setup_of(servers: &[Server]) -> Result<Setup, Refusal>
 }
 
 /// Returns whether these servers make a plan: refuses as [`setup_of`].
+// Here and below: a plan takes a kilobyte of stack, which the caller's frame is not to have.
+#[inline(never)]
 pub fn admit(servers: &[Server]) -> Result<(), Refusal>
     ensures { MatchResult result (λ _. setup_refusal whole_processor servers.now ≡ None) (λ error. setup_refusal whole_processor servers.now ≡ Some error) }
 {
@@ -56,14 +58,14 @@ fn take_in(plan: &mut Plan, modes: &mut Modes, server: Server) -> Result<(), Ref
     Ok(())
 }
 
-/// The mode of this number, or [`KeptError::BadMode`].
+/// The mode of this number, or [`HandleError::BadMode`].
 pub fn mode_of(mode: u32) -> Result<Mode, Refusal>
-    ensures { MatchResult result (λ found. mode_from mode ≡ Some found) (λ error. (mode_from mode ≡ None) × (error ≡ refused.Kept KeptError.BadMode)) }
+    ensures { MatchResult result (λ found. mode_from mode ≡ Some found) (λ error. (mode_from mode ≡ None) × (error ≡ refused.Handle HandleError.BadMode)) }
 {
     match mode {
         0 => Ok(Mode::Soft),
         1 => Ok(Mode::Throttled),
-        _ => Err(Refusal::Kept(KeptError::BadMode)),
+        _ => Err(Refusal::Handle(HandleError::BadMode)),
     }
 }
 
@@ -71,6 +73,7 @@ pub fn mode_of(mode: u32) -> Result<Mode, Refusal>
 /// none would.
 ///
 /// Refuses exactly where these servers are refused themselves, as [`setup_of`].
+#[inline(never)]
 pub fn greatest_budget(servers: &[Server], period: u64) -> Result<u64, Refusal>
     ensures { MatchResult result
         (λ budget. (setup_refusal whole_processor servers.now ≡ None) × IsGreatestBudget (plan_with whole_processor servers.now) period budget)

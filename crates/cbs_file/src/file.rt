@@ -9,6 +9,7 @@ ghost use Rattle.cbs_file.specs.Fields.{Gives, seen, each_from};
 ghost use Rattle.cbs_file.specs.Memory.{memory_wanted, usual_bound};
 ghost use Rattle.cbs_file.specs.TaskFiles.{NamesServer};
 ghost use Rattle.cbs_file.specs.Spelling.{document, file, faulty, at, admitted_entry, admitted_from, none_admitted, no_memory};
+ghost use Rattle.cbs_rate.specs.Limits.{most_servers};
 
 use crate::entries::{server_entry, step_entry};
 use crate::fault::{FileFault, FileKind, Place};
@@ -103,7 +104,7 @@ fn steps_of(
     servers: u64,
     entries: &[Value],
 ) -> Result<Vec<Step<FileJob>>, FileFault>
-    requires { servers ≤ 64 }
+    requires { servers ≤ most_servers }
     ensures steps { Gives no_memory (λ v. v.items) result
         (each_from 0 (λ i entry. at (AtStep i) (step_entry format servers entry)) (map view entries.now)) }
     ensures named { IfOk result (λ v. All (NamesServer servers) v.items) }

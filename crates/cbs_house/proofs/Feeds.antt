@@ -6,20 +6,20 @@ use Rattle.std.proofs.lemmas.List.{append-nil, length-map, get_or-map, take_more
 use Rattle.std.proofs.lemmas.List.Elements.{All-nil, All-cons, All-head, All-tail}
 use Rattle.std.specs.List.{All}
 use Rattle.cbs_job.specs.declared.work.Work.{Ghosts}
-use Rattle.cbs_house.specs.declared.client.Client.{Client}
+use Rattle.cbs_clients.specs.declared.client.Client.{Client}
 use Rattle.cbs_house.specs.declared.feed.Feed.{Feed}
-use Rattle.cbs_house.specs.declared.house.House.{House}
-use Rattle.cbs_house.specs.Clients.{server_of, sent_by, SameClient}
-use Rattle.cbs_house.specs.Houses.{rings_of}
-use Rattle.cbs_house.specs.declared.message.Message.TheVariants.{Job}
-use Rattle.cbs_house.specs.Messages.{jobs_among, has_end}
-use Rattle.cbs_house.proofs.Messages.{sent-job, has_end-job}
-use Rattle.cbs_house.specs.Opened.{IsUnused}
-use Rattle.cbs_house.specs.RingEnds.{IsOpened, AreOpened, EachOpened}
-use Rattle.cbs_house.specs.Rings.{Ring}
+use Rattle.cbs_clients.specs.declared.house.House.{House}
+use Rattle.cbs_clients.specs.Clients.{server_of, sent_by, SameClient, IsOpened, AreOpened}
+use Rattle.cbs_clients.specs.Houses.{rings_of}
+use Rattle.cbs_clients.specs.declared.message.Message.TheVariants.{Job}
+use Rattle.cbs_clients.specs.Messages.{jobs_among, has_end}
+use Rattle.cbs_clients.proofs.Messages.{sent-job, has_end-job}
+use Rattle.cbs_clients.specs.Opened.{IsUnused}
+use Rattle.cbs_clients.specs.Rings.{Ring}
 use Rattle.cbs_house.specs.Rounds.{Ready}
 use Rattle.cbs_house.specs.Feeds.{client_of, unsent_jobs, all_jobs, KeepsFeed, KeepsFeeds, SendsAtMost, EachSendsAtMost, SendsFeeds, servers_of}
-use Rattle.cbs_house.proofs.RingLooks.{prefix_along, prefix_same}
+use Rattle.cbs_clients.proofs.RingLooks.{prefix_along, prefix_same}
+use Rattle.cbs_clients.proofs.NewHouses.{are_opened}
 
 module _ {W A : Type 0} {g : Ghosts W} where
   -- a feed that nothing was done to is kept
@@ -135,25 +135,11 @@ module _ {W A : Type 0} {g : Ghosts W} where
       All-cons (λ f. IsOpened rings' f.client) y b (opened_same rings rings' x y e p.0 (All-head (λ f. IsOpened rings f.client) x a o))
       (feeds_opened rings rings' a b e p.1 (All-tail (λ f. IsOpened rings f.client) x a o))
 
-  -- two ways to say that each client was opened
-  one_of_all : (P : Client W A g → Type 0) (front back : List (Client W A g)) (c : Client W A g) → All P (front ++ c ∷ back) → P c
-  one_of_all P [] back c h = All-head P c back h
-  one_of_all P (x ∷ front) back c h = one_of_all P front back c (All-tail P x (front ++ c ∷ back) h)
-
-  -- clients that were opened with a house, wherever they stand
-  pub each_opened : (rings : List (Ring A)) (cs : List (Client W A g)) → All (IsOpened rings) cs → EachOpened rings cs
-  each_opened rings cs h = λ front back c e. one_of_all (IsOpened rings) front back c (subst (λ xs. All (IsOpened rings) xs) e h)
-
   -- of feeds, and of their clients
   all_to_map : (rings : List (Ring A)) (fs : List (Feed W A g)) → All (λ f. IsOpened rings f.client) fs → All (IsOpened rings) (map client_of fs)
   all_to_map rings [] h = All-nil (IsOpened rings)
   all_to_map rings (f ∷ fs) h = All-cons (IsOpened rings) (client_of f) (map client_of fs) (All-head (λ x. IsOpened rings x.client) f fs h)
       (all_to_map rings fs (All-tail (λ x. IsOpened rings x.client) f fs h))
-
-  -- the same of all together
-  pub are_opened : (rings : List (Ring A)) (cs : List (Client W A g)) → All (IsOpened rings) cs → AreOpened rings cs
-  are_opened rings [] h = refl
-  are_opened rings (c ∷ cs) h = ap₂ ◌∷◌ (All-head (IsOpened rings) c cs h) (are_opened rings cs (All-tail (IsOpened rings) c cs h))
 
   -- of the clients of feeds
   are_of_feeds : (rings : List (Ring A)) (fs : List (Feed W A g)) → All (λ f. IsOpened rings f.client) fs → AreOpened rings (map client_of fs)

@@ -4,24 +4,20 @@ use Rattle.std.specs.List.{All}
 use Rattle.std.proofs.lemmas.List.{append-nil}
 use Rattle.cbs_job.specs.Work.{Meaning, whole}
 use Rattle.cbs_job.specs.declared.work.Work.{Ghosts}
-use Rattle.cbs_house.specs.Clients.{server_of, sent_by}
+use Rattle.cbs_clients.specs.Clients.{server_of, sent_by, IsOpened}
 use Rattle.cbs_house.specs.Feeds.{IsDone, all_jobs}
-use Rattle.cbs_house.specs.HouseInvariant.{Housed}
-use Rattle.cbs_house.specs.Houses.{core_of, rings_of, received, results_of, handed_of, AllFinished}
+use Rattle.cbs_clients.specs.HouseInvariant.{Housed}
+use Rattle.cbs_clients.specs.Houses.{core_of, rings_of, received, handed_of}
 use Rattle.cbs_core.specs.Held.{HoldsNoJob}
-use Rattle.cbs_house.specs.Messages.{jobs_among}
-use Rattle.cbs_house.specs.RingEnds.{IsOpened}
+use Rattle.cbs_clients.specs.Messages.{jobs_among}
 use Rattle.cbs_house.specs.Rounds.{Ready, IsSettled, IsServed}
 use Rattle.cbs_house.specs.declared.feed.Feed.{Feed}
-use Rattle.cbs_house.specs.declared.house.House.{House}
+use Rattle.cbs_clients.specs.declared.house.House.{House}
 use Rattle.cbs_house.proofs.Feeds.{ready_at}
-use Rattle.cbs_house.proofs.RingLooks.{opened_within}
+use Rattle.cbs_clients.proofs.RingLooks.{opened_within}
+use Rattle.cbs_clients.proofs.HouseInvariant.{none_held}
 
 module _ {W A : Type 0} {g : Ghosts W} (work : Meaning W) (h : House W A g) (housed : Housed work h.core h.rings h.collector) where
-  -- where no job is held, every job received is finished
-  pub none_held : HoldsNoJob (core_of h) → AllFinished work h
-  none_held none s l = sym (append-nil (results_of h s)) ∙ (ap (λ ws. results_of h s ++ map (whole work) ws) (sym (none s)) ∙ (housed.servers s l).outputs)
-
   served_at : (f : Feed W A g) → HoldsNoJob (core_of h) → IsOpened (rings_of h) f.client → IsDone f → IsSettled h f → IsServed work h f
   served_at f none opened done settled =
       let s = server_of f.client in
@@ -30,7 +26,7 @@ module _ {W A : Type 0} {g : Ghosts W} (work : Meaning W) (h : House W A g) (hou
       ∙ (sym (append-nil (jobs_among (sent_by f.client))) ∙ ap (λ ws. jobs_among (sent_by f.client) ++ ws) (sym done.none_left)) in
       record {
         done = done;
-        results = none_held none s l ∙ ap (λ ws. drop (handed_of h s) (map (whole work) ws)) all;
+        results = none_held work h housed none s l ∙ ap (λ ws. drop (handed_of h s) (map (whole work) ws)) all;
       }
 
   -- where no job is held, all feeds are done and all their messages received, all is served

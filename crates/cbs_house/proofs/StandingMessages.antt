@@ -1,6 +1,6 @@
 -- The messages that stand in a ring, as they are taken one by one.
-use Rattle.std.proofs.Common.{◌≡◌, ◌≢◌, ℕ, suc, ◌+◌, ◌<◌, get_or, true, Result, Ok, Err, OnOk, List, [], ◌∷◌, ◌++◌, length, refl, ap, sym, ◌∙◌, arith}
-use Rattle.std.proofs.Common.{inl, inr, length-append}
+use Rattle.std.proofs.Common.{◌≡◌, ◌≢◌, ℕ, suc, ◌+◌, ◌<◌, get_or, true, Result, Ok, Err, OnOk, List, [], ◌∷◌, ◌++◌, length, refl, ap, sym, ◌∙◌, arith, inl}
+use Rattle.std.proofs.Common.{inr, length-append}
 use Rattle.std.specs.Prelude.{MatchResult}
 use Rattle.std.proofs.Math.ListN.{set}
 use Rattle.std.specs.List.{All, AllWithin}
@@ -12,26 +12,25 @@ use Rattle.cbs_job.specs.Work.{Meaning}
 use Rattle.cbs_job.specs.declared.work.Work.{Ghosts}
 use Rattle.cbs_steps.specs.History.{History}
 use Rattle.cbs_steps.specs.declared.step.Step.{Step}
-use Rattle.cbs_house.specs.declared.client.Client.{Client}
+use Rattle.cbs_clients.specs.declared.client.Client.{Client}
 use Rattle.cbs_house.specs.declared.feed.Feed.{Feed}
-use Rattle.cbs_house.specs.declared.house.House.{House}
-use Rattle.cbs_house.specs.declared.message.Message.{Message}
-use Rattle.cbs_house.specs.declared.message.Message.TheVariants.{Job, End}
-use Rattle.cbs_house.specs.declared.poll.Poll.{Poll}
-use Rattle.cbs_house.specs.declared.poll.Poll.TheVariants.{Nothing, Took, Closed, Full, OutOfMemory, NoSuchServer}
-use Rattle.cbs_house.specs.Clients.{server_of, sent_by}
-use Rattle.cbs_house.specs.HouseInvariant.{Housed}
-use Rattle.cbs_house.specs.Houses.{core_of, rings_of, received, known, Made, Moves, LooksOnly, Polled}
+use Rattle.cbs_clients.specs.declared.house.House.{House}
+use Rattle.cbs_clients.specs.declared.message.Message.{Message}
+use Rattle.cbs_clients.specs.declared.message.Message.TheVariants.{Job, End}
+use Rattle.cbs_clients.specs.declared.poll.Poll.{Poll}
+use Rattle.cbs_clients.specs.declared.poll.Poll.TheVariants.{Nothing, Took, Closed, Full, OutOfMemory, NoSuchServer}
+use Rattle.cbs_clients.specs.Clients.{server_of, sent_by, IsOpened}
+use Rattle.cbs_clients.specs.HouseInvariant.{Housed}
+use Rattle.cbs_clients.specs.Houses.{core_of, rings_of, received, known, Made, Moves, LooksOnly, Polled, ServesOn}
 use Rattle.cbs_core.specs.Held.{HoldsNoJob, held_at}
-use Rattle.cbs_house.specs.Collected.{shelf_at}
-use Rattle.cbs_house.proofs.HouseInvariant.{counts}
-use Rattle.cbs_house.specs.Messages.{has_end, end_is_last}
-use Rattle.cbs_house.specs.RingEnds.{IsOpened}
-use Rattle.cbs_house.specs.Rounds.{ServesOn, Standing, IsTaken, IsSettled}
-use Rattle.cbs_house.specs.Steps.{messages_of}
-use Rattle.cbs_house.proofs.RingLooks.{prefix_along, prefix_same, opened_within}
-use Rattle.cbs_house.proofs.MadeSteps.{eqb_same}
-use Rattle.cbs_house.proofs.Moves.{none_taken}
+use Rattle.cbs_results.specs.Collected.{shelf_at}
+use Rattle.cbs_clients.proofs.HouseInvariant.{counts}
+use Rattle.cbs_clients.specs.Messages.{has_end, end_is_last}
+use Rattle.cbs_house.specs.Rounds.{Standing, IsTaken, IsSettled}
+use Rattle.cbs_clients.specs.Steps.{messages_of}
+use Rattle.cbs_clients.proofs.RingLooks.{prefix_along, prefix_same, opened_within}
+use Rattle.cbs_clients.proofs.MadeSteps.{eqb_same, looks_received}
+use Rattle.cbs_clients.proofs.Moves.{none_taken}
 
 module _ {X : Type 0} where
   nothing_before : (xs ys : List X) → IsPrefix xs ys → ys ≡ [] → xs ≡ []
@@ -73,8 +72,8 @@ module _ {W A : Type 0} {g : Ghosts W} where
       → messages_of (server_of c) xs ≡ [] → Standing a c n → Standing b c n
   standing_made work a b c n xs m e h =
       let s = server_of c in
-      let r : received b s ≡ received a s = m.received s ∙ (ap (λ ms. received a s ++ ms) e ∙ append-nil (received a s)) in
-      let k : IsPrefix (known a s) (known b s) = let p = m.known s in rw e at p in
+      let r : received b s ≡ received a s = (m.seats s).received ∙ (ap (λ ms. received a s ++ ms) e ∙ append-nil (received a s)) in
+      let k : IsPrefix (known a s) (known b s) = let p = (m.seats s).known in rw e at p in
       standing_kept a b c n r k h
 
   pub standing_looked : (work : Meaning W) (a b : House W A g) (c : Client W A g) (n : ℕ) → Made work a b [] → Standing a c n → Standing b c n
@@ -144,11 +143,11 @@ module _ {W A : Type 0} {g : Ghosts W} where
   all_taken_after a b fs p h = All-weaker (IsTaken a) (IsTaken b) (λ f k. taken_after a b f (p (server_of f.client)) k) fs h
 
   pub taken_looked : (a b : House W A g) (fs : List (Feed W A g)) → LooksOnly a b → All (IsTaken a) fs → All (IsTaken b) fs
-  taken_looked a b fs l h = all_taken_after a b fs (λ s. prefix_same (received a s) (received b s) (l.received s)) h
+  taken_looked a b fs l h = all_taken_after a b fs (λ s. prefix_same (received a s) (received b s) (looks_received a b l s)) h
 
   -- steps receive more
   pub received_more : (work : Meaning W) (a b : House W A g) → ServesOn work a b → (s : ℕ) → IsPrefix (received a s) (received b s)
-  received_more work a b m s = let x = m.moves.1 in (messages_of s x.steps, sym (x.made.received s))
+  received_more work a b m s = let x = m.moves.1 in (messages_of s x.steps, sym (x.made.seats s).received)
 
   pub taken_set : (a : House W A g) (fs : List (Feed W A g)) (i : ℕ) (f : Feed W A g) → All (IsTaken a) fs → IsTaken a f → All (IsTaken a) (set fs i f)
   taken_set a fs i f h k = All-set (IsTaken a) fs i f k h
@@ -167,16 +166,16 @@ module _ {W A : Type 0} {g : Ghosts W} where
     poll_takes a b c (Took q) housed last opened k memory few n h =
         let s = server_of c in
         let m = k.1 in
-        standing_next a b c n (Job k.0) (m.received s ∙ rw (eqb_same s) refl) (let p = m.known s in rw (eqb_same s) at p) h
+        standing_next a b c n (Job k.0) ((m.seats s).received ∙ rw (eqb_same s) refl) (let p = (m.seats s).known in rw (eqb_same s) at p) h
     poll_takes a b c Closed housed last opened k memory few n h =
         let s = server_of c in
         let m = k.0 in
-        standing_next a b c n End (m.received s ∙ rw (eqb_same s) refl) (let p = m.known s in rw (eqb_same s) at p) h
+        standing_next a b c n End ((m.seats s).received ∙ rw (eqb_same s) refl) (let p = (m.seats s).known in rw (eqb_same s) at p) h
     poll_takes a b c Nothing housed last opened k memory few n h =
         let s = server_of c in
         absurd (elim k.2 [
           | inl closed ↦ none_behind a c n h.rest (sym (housed.servers s k.1).closed ∙ closed) last h.sent h.count
-          | inr none ↦ none_seen a c n (nothing_before (known a s) (known b s) (k.0.known s) none) h
+          | inr none ↦ none_seen a c n (nothing_before (known a s) (known b s) (k.0.seats s).known none) h
         ])
     poll_takes a b c NoSuchServer housed last opened k memory few n h =
         absurd (let l = opened_within (rings_of a) c opened in let r = housed.ring_count in omega (arith, l, r, k.1))

@@ -3,10 +3,10 @@ use Rattle.std.specs.Prelude.{ℕ, ◌≡◌, ◌+◌, ◌≤◌, Bool, true, co
 use Rattle.std.specs.List.{sum_by, AllZip}
 use mathlib.Core.List.{IsPrefix}
 use Rattle.cbs_job.specs.declared.work.Work.{Ghosts}
-use Rattle.cbs_house.specs.declared.client.Client.{Client}
+use Rattle.cbs_clients.specs.declared.client.Client.{Client}
 use Rattle.cbs_house.specs.declared.feed.Feed.{Feed}
-use Rattle.cbs_house.specs.Clients.{server_of, sent_by, SameClient}
-use Rattle.cbs_house.specs.Messages.{jobs_among, has_end}
+use Rattle.cbs_clients.specs.Clients.{server_of, sent_by, SameClient}
+use Rattle.cbs_clients.specs.Messages.{jobs_among, has_end}
 
 module _ {W A : Type 0} {g : Ghosts W} where
   -- the feed's client

@@ -1,42 +1,64 @@
 -- What a contract says of rounds, and of serving.
-use Rattle.std.specs.Prelude.{ℕ, ◌≡◌, ◌≤◌, List, ◌++◌, drop, length, map}
-use Rattle.std.specs.List.{All}
+use Rattle.std.specs.Prelude.{ℕ, ◌≡◌, ◌≤◌, List, ◌++◌, drop, length, map, ◌<◌, [], ◌∷◌}
+use Rattle.std.specs.List.{All, AllByRecursion}
 use mathlib.Core.List.{IsPrefix}
+use Rattle.cbs_rate.specs.Limits.{most_servers}
 use Rattle.cbs_job.specs.Work.{Meaning, whole}
 use Rattle.cbs_job.specs.declared.work.Work.{Ghosts}
-use Rattle.cbs_house.specs.declared.error.HouseError.{HouseError}
-use Rattle.cbs_house.specs.declared.error.HouseError.TheVariants.{BadBacklog, BadRing, OutOfMemory, NoSuchServer, ClockEnd, Stalled}
-use Rattle.cbs_house.specs.declared.client.Client.{Client}
+use Rattle.cbs_clients.specs.declared.error.HouseError.{HouseError}
+use Rattle.cbs_clients.specs.declared.error.HouseError.TheVariants.{BadBacklog, BadRing, OutOfMemory, NoSuchServer, ClockEnd, Stalled}
+use Rattle.cbs_clients.specs.declared.client.Client.{Client}
 use Rattle.cbs_house.specs.declared.feed.Feed.{Feed}
-use Rattle.cbs_house.specs.declared.house.House.{House}
-use Rattle.cbs_house.specs.declared.message.Message.{Message}
-use Rattle.cbs_house.specs.declared.poll.Poll.{Poll}
-use Rattle.cbs_house.specs.declared.poll.Poll.TheVariants as poll
-use Rattle.cbs_house.specs.Clients.{server_of, sent_by}
+use Rattle.cbs_clients.specs.declared.house.House.{House}
+use Rattle.cbs_clients.specs.declared.message.Message.{Message}
+use Rattle.cbs_clients.specs.Clients.{server_of, sent_by, AreOpened}
 use Rattle.cbs_house.specs.Feeds.{client_of, IsDone, all_jobs}
-use Rattle.cbs_house.specs.Houses.{core_of, rings_of, received, known, results_of, handed_of, Moves}
-use Rattle.cbs_core.specs.Held.{HoldsNoJob, IsAtEnd}
-use Rattle.cbs_house.specs.RingEnds.{AreOpened}
-use Rattle.cbs_house.specs.Steps.{MayServe}
+use Rattle.cbs_clients.specs.Houses.{core_of, rings_of, received, known, results_of, handed_of, Made}
+use Rattle.cbs_core.specs.Held.{HoldsNoJob, IsAtEnd, IsClosed}
+use Rattle.cbs_clients.specs.Steps.{pops}
+use Rattle.cbs_core.specs.Agreement.{AllAllowed, AllOnTime}
+use Rattle.cbs_steps.specs.Quiet.{IsQuietAfter}
+use Rattle.cbs_steps.specs.declared.step.Step.{Step}
+use Rattle.cbs_steps.specs.declared.step.Step.TheVariants.{Run}
+use Rattle.cbs_clients.specs.Turns.{ArePolls}
 
--- how many messages a poll popped
-abbrev pub popped_by : Poll → ℕ
-popped_by (poll.Took q) = 1
-popped_by poll.Closed = 1
-popped_by poll.Nothing = 0
-popped_by poll.Full = 0
-popped_by poll.OutOfMemory = 0
-popped_by poll.NoSuchServer = 0
+module _ {W : Type 0} where
+  -- the steps of turns with these polls: after the polls of each turn, one run
+  abbrev pub steps_in : List (List (Step W)) → List (Step W)
+  steps_in [] = []
+  steps_in (polls ∷ turns) = polls ++ Run ∷ steps_in turns
+
+module _ {W A : Type 0} {g : Ghosts W} where
+  -- the house took one turn, which took n messages: it polled each server once, in the order of their numbers, and then ran
+  pub record TakesTurn (work : Meaning W) (old new : House W A g) (n : ℕ) : Type 0 where
+    pub polls : List (Step W)
+    pub each : ArePolls 0 (length (core_of old).faces) polls
+    pub made : Made work old new (polls ++ Run ∷ [])
+    pub count : pops polls ≡ n
+
+  -- the house took this many turns, one after another, which took n messages
+  pub record TakesExactly (work : Meaning W) (exactly : ℕ) (old new : House W A g) (n : ℕ) : Type 0 where
+    pub polls : List (List (Step W))
+    pub each : AllByRecursion (λ xs. ArePolls 0 (length (core_of old).faces) xs) polls
+    pub made : Made work old new (steps_in polls)
+    pub turns : length polls ≡ exactly
+    pub count : pops (steps_in polls) ≡ n
+
+  -- The house took turns, which took n messages: at most so many turns, and fewer only where all these servers are closed. They
+  -- make no advance, so from a house that is on time each step of theirs leaves all on time.
+  pub record TakesTurns (work : Meaning W) (most : ℕ) (servers : List ℕ) (old new : House W A g) (n : ℕ) : Type 0 where
+    pub turns : ℕ
+    pub within : turns ≤ most
+    pub fewer : turns < most → All (IsClosed (core_of new)) servers
+    pub taken : TakesExactly work turns old new n
+    pub quiet : AllAllowed work (IsQuietAfter work) (core_of old) (steps_in taken.polls)
+    pub on_time : AllOnTime work (core_of old) (steps_in taken.polls)
 
 module _ {W A : Type 0} {g : Ghosts W} where
   -- feeds that may be served by the house: at most 64, each with a client that was opened with the house
   pub record Ready (h : House W A g) (fs : List (Feed W A g)) : Type 0 where
-    pub few : length fs ≤ 64
+    pub few : length fs ≤ most_servers
     pub opened : AreOpened (rings_of h) (map client_of fs)
-
-  -- the house made some steps of serving
-  pub record ServesOn (work : Meaning W) (old new : House W A g) : Type 0 where
-    pub moves : (n : ℕ) × Moves work (MayServe work) old new n
 
   -- n messages of the client stand in its ring, behind those that were received, and the house has seen them
   pub record Standing (h : House W A g) (c : Client W A g) (n : ℕ) : Type 0 where

@@ -3,8 +3,7 @@
 ghost use Rattle.std.specs.Prelude.{◌≡◌, MatchResult, length, map};
 ghost use Rattle.cbs_house.specs.Feeds.{client_of, unsent_jobs};
 
-use crate::client::Client;
-use crate::gate::Gate;
+use cbs_clients::{Client, Gate};
 use cbs_job::{Task, Work};
 use std::alloc::{Allocator, Global};
 use std::collections::VecDeque;
@@ -29,8 +28,8 @@ impl<W: Work, A: Allocator> Feed<W, A> {
     ghost use Rattle.std.specs.Prelude.{◌≡◌, ◌+◌, ◌⊎◌, true, false, IsTrue, ◌↔◌, length, if◌then◌else◌};
     ghost use Rattle.std.specs.Borrow.{Lends, sem};
     ghost use Rattle.cbs_house.specs.contracts.feed.Feed.{the_row};
-    ghost use Rattle.cbs_house.specs.contracts.client.Client.{the_row as client_row};
-    ghost use Rattle.cbs_house.specs.Clients.{sent_by, HasNoSlot};
+    ghost use Rattle.cbs_clients.specs.contracts.client.Client.{the_row as client_row};
+    ghost use Rattle.cbs_clients.specs.Clients.{sent_by, HasNoSlot};
     ghost use Rattle.cbs_house.specs.Feeds.{client_of, unsent_jobs, has_ended, IsDone, KeepsFeed};
 
     /// A feed of these jobs, in order. It takes no memory.

@@ -4,17 +4,15 @@ ghost use Rattle.std.specs.Prelude.{◌≡◌, ◌+◌, ◌*◌, ◌≤◌, ◌�
 ghost use Rattle.std.specs.List.{All};
 ghost use Rattle.std.specs.Thread.{IsSync, IsSend};
 ghost use Rattle.cbs_house.specs.Feeds.{KeepsFeeds, EachSendsAtMost, SendsFeeds, servers_of, all_sent};
-ghost use Rattle.cbs_house.specs.Houses.{core_of, IsHouseOnTime};
+ghost use Rattle.cbs_clients.specs.Houses.{core_of, IsHouseOnTime};
 ghost use Rattle.cbs_core.specs.Held.{IsClosed};
-ghost use Rattle.cbs_house.specs.Rounds.{Ready};
-ghost use Rattle.cbs_house.specs.Turns.{TakesTurn, TakesTurns};
+ghost use Rattle.cbs_house.specs.Rounds.{Ready, TakesTurn, TakesTurns};
+ghost use Rattle.cbs_rate.specs.Limits.{most_servers};
 
+use crate::at_work::AtWork;
 use crate::feed::Feed;
-use crate::gate::Gate;
-use crate::house::House;
-use crate::pause::Pause;
-use crate::polls::poll_each;
 use crate::senders::send_all;
+use cbs_clients::{Gate, House, Pause, poll_each};
 use cbs_job::Work;
 use std::thread::{Threads, join_mut};
 use std::time::Clock;
@@ -62,13 +60,14 @@ pub fn serve_round<R: Threads + Clock + Sync, G: Gate + Sync, W: Work + Send>(
 {
     let mut servers = [0u16; 64];
     let wanted = servers_of(feeds, &mut servers);
-    let (sent, took) = both_sides(rt, gate, turns, wanted, feeds, house);
+    let at_work = AtWork::all(feeds.len() as u64);
+    let (sent, took) = both_sides(rt, gate, turns, wanted, &at_work, feeds, house);
     Round { sent, took }
 }
 
 /// The servers of the feeds.
 fn servers_of<'a, W: Work>(feeds: &[Feed<W>], servers: &'a mut [u16; 64]) -> &'a [u16]
-    requires { length feeds.now ≤ 64 }
+    requires { length feeds.now ≤ most_servers }
     ensures { result.now ≡ servers_of feeds.now }
 {
     for (index, feed) in feeds.iter().enumerate() {
@@ -84,10 +83,11 @@ fn both_sides<R: Threads + Clock + Sync, G: Gate + Sync, W: Work + Send>(
     gate: &G,
     turns: u64,
     wanted: &[u16],
+    at_work: &AtWork,
     feeds: &mut [Feed<W>],
     house: &mut House<W>,
 ) -> (u64, u64)
-    requires few { length feeds.old ≤ 64 }
+    requires few { length feeds.old ≤ most_servers }
     requires turns { turns ≤ 1000000000 }
     ensures sends { SendsFeeds turns feeds.old feeds.new }
     ensures sent { all_sent feeds.new ≡ all_sent feeds.old + result.0 }
@@ -98,23 +98,42 @@ fn both_sides<R: Threads + Clock + Sync, G: Gate + Sync, W: Work + Send>(
     join_mut(
         rt,
         &mut || -> u64
-            requires { IsSync R.row × IsSync G.row × IsSend W.row × (length feeds.now ≤ 64) × (turns ≤ 1000000000) }
+            requires { IsSync R.row × IsSync G.row × IsSend W.row × (length feeds.now ≤ most_servers) × (turns ≤ 1000000000) }
             ensures { SendsFeeds turns feeds.entry.now feeds.exit.now × (all_sent feeds.exit.now ≡ all_sent feeds.entry.now + result) × (result ≤ turns * length feeds.entry.now) }
-        { send_all(rt, gate, turns, feeds) },
+        { send_all(rt, gate, turns, at_work, feeds) },
         &mut || -> u64
             requires { turns ≤ 1000000000 }
             ensures { TakesTurns W.meaning turns wanted.entry.now house.entry.now house.exit.now result × (result ≤ turns * length (core_of house.entry.now).faces) }
-        { house_turns(rt, gate, turns, wanted, house) },
+        { house_side(rt, gate, turns, wanted, at_work, house) },
     )
 }
 
-/// The turns of the house, until the wanted servers are closed, with pauses behind those that take no
-/// message. How many messages it took.
+/// The house's side, which leaves once it has taken its turns. Returns how many messages it took.
+fn house_side<R: Clock, G: Gate, W: Work>(
+    rt: &R,
+    gate: &G,
+    turns: u64,
+    wanted: &[u16],
+    at_work: &AtWork,
+    house: &mut House<W>,
+) -> u64
+    requires { turns ≤ 1000000000 }
+    ensures turns { TakesTurns W.meaning turns wanted.now house.old house.new result }
+    ensures few { result ≤ turns * length (core_of house.old).faces }
+{
+    let took = house_turns(rt, gate, turns, wanted, at_work, house);
+    at_work.house_leaves();
+    took
+}
+
+/// The turns of the house, until the wanted servers are closed. After those that take no message it rests, while a
+/// sender is at work. Returns how many messages it took.
 fn house_turns<R: Clock, G: Gate, W: Work>(
     rt: &R,
     gate: &G,
     turns: u64,
     wanted: &[u16],
+    at_work: &AtWork,
     house: &mut House<W>,
 ) -> u64
     requires { turns ≤ 1000000000 }
@@ -135,7 +154,7 @@ fn house_turns<R: Clock, G: Gate, W: Work>(
         } else if house.now() > tick {
             pause.ran();
         } else {
-            pause.idle(rt);
+            at_work.house_rests(rt, &mut pause);
         }
     }
     took
@@ -152,7 +171,7 @@ fn all_closed<W: Work>(house: &House<W>, servers: &[u16]) -> bool
 fn house_turn<G: Gate, W: Work>(gate: &G, house: &mut House<W>) -> u64
     ensures turn { TakesTurn W.meaning house.old house.new result }
     ensures few { result ≤ length (core_of house.old).faces }
-    ensures most { result ≤ 64 }
+    ensures most { result ≤ most_servers }
 {
     let polls = poll_each(gate, house);
     house.run();

@@ -3,6 +3,7 @@
 ghost use Rattle.std.specs.Prelude.{◌≡◌, ◌≤◌, ℕ, length, take, drop};
 ghost use Rattle.cbs_job.specs.Work.{whole, output_after};
 ghost use Rattle.cbs_job.specs.Numbers.{Progress, peaking, IsPeak};
+ghost use Rattle.cbs_rate.specs.Limits.{greatest_number};
 
 use crate::work::Work;
 use std::marker::Model;
@@ -30,14 +31,14 @@ impl Model for PeakJob {
 
     ghost view = { λ j. record { numbers = drop j.next j.numbers.items; output = j.greatest } };
 
-    ghost invariant = { λ j. (j.next ≤ length j.numbers.items) × (length j.numbers.items ≤ 4294967295) };
+    ghost invariant = { λ j. (j.next ≤ length j.numbers.items) × (length j.numbers.items ≤ greatest_number) };
 }
 
 impl PeakJob {
     /// The greatest of at most 4,294,967,295 numbers: as many units, and the greatest as the result,
     /// or 0 where there is none. After k units the output is the greatest of the first k numbers.
     pub fn new(numbers: Vec<u32>) -> PeakJob
-        requires { length numbers.items ≤ 4294967295 }
+        requires { length numbers.items ≤ greatest_number }
         ensures value { result ≡ record { numbers = numbers.items; output = 0 } }
         ensures left { peaking.left result ≡ length numbers.items }
         ensures so_far { (k : ℕ) → IsPeak (take k numbers.items) (output_after peaking k result) }

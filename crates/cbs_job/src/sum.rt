@@ -3,6 +3,7 @@
 ghost use Rattle.std.specs.Prelude.{◌≡◌, ◌≤◌, ◌*◌, ℕ, length, take, drop, sum};
 ghost use Rattle.cbs_job.specs.Work.{whole, output_after};
 ghost use Rattle.cbs_job.specs.Numbers.{Progress, summing};
+ghost use Rattle.cbs_rate.specs.Limits.{greatest_number};
 
 use crate::work::Work;
 use std::marker::Model;
@@ -30,14 +31,14 @@ impl Model for SumJob {
 
     ghost view = { λ j. record { numbers = drop j.next j.numbers.items; output = j.total } };
 
-    ghost invariant = { λ j. (j.next ≤ length j.numbers.items) × (length j.numbers.items ≤ 4294967295) × (j.total ≤ j.next * 4294967295) };
+    ghost invariant = { λ j. (j.next ≤ length j.numbers.items) × (length j.numbers.items ≤ greatest_number) × (j.total ≤ j.next * greatest_number) };
 }
 
 impl SumJob {
     /// The sum of at most 4,294,967,295 numbers: as many units, and their total as the result.
     /// After k units the output is the total of the first k numbers.
     pub fn new(numbers: Vec<u32>) -> SumJob
-        requires { length numbers.items ≤ 4294967295 }
+        requires { length numbers.items ≤ greatest_number }
         ensures value { result ≡ record { numbers = numbers.items; output = 0 } }
         ensures left { summing.left result ≡ length numbers.items }
         ensures so_far { (k : ℕ) → output_after summing k result ≡ sum (take k numbers.items) }

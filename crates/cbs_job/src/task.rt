@@ -2,6 +2,7 @@
 
 ghost use Rattle.std.specs.Prelude.{◌≡◌, ◌<◌, ◌≤◌, IfOk, IfErr};
 ghost use Rattle.cbs_rate.specs.Refusals.{HandsBackBy};
+ghost use Rattle.cbs_rate.specs.Limits.{most_units};
 
 use crate::running::Running;
 use crate::work::Work;
@@ -22,7 +23,7 @@ impl<W: Work> Model for Task<W> {
 
     ghost view = { λ t. t.work };
 
-    ghost invariant = { λ t. (0 < W.meaning.left t.work) × (W.meaning.left t.work ≤ 1000000) };
+    ghost invariant = { λ t. (0 < W.meaning.left t.work) × (W.meaning.left t.work ≤ most_units) };
 }
 
 /// Why work makes no task.
@@ -98,7 +99,7 @@ impl<W: Work> Task<W> {
     pub fn left(&self) -> u32
         ensures value { result ≡ W.meaning.left self.now }
         ensures some { 0 < result }
-        ensures few { result ≤ 1000000 }
+        ensures few { result ≤ most_units }
     {
         self.work.left()
     }

@@ -1,2 +1,3 @@
+pub mod FreeSlots
 pub mod Lists
 pub mod Sums

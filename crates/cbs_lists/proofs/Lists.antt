@@ -1,7 +1,8 @@
 -- Lists of which one element is changed, and two lists place by place.
-use Rattle.std.proofs.Common.{◌≡◌, ◌≢◌, ℕ, zero, suc, ◌<◌, List, [], ◌∷◌, length, map, replicate, get_or, set, refl, ap, arith}
+use Rattle.std.proofs.Common.{◌≡◌, ◌≢◌, ℕ, zero, suc, ◌<◌, List, [], ◌∷◌, ◌++◌, length, map, replicate, take, get_or, set, refl, ap, arith}
 use Rattle.std.proofs.lemmas.List.{length-map}
-use Rattle.std.specs.List.{AllZip, AllByRecursion}
+use Rattle.std.proofs.lemmas.List.Elements.{All-same, All-push}
+use Rattle.std.specs.List.{All, AllZip, AllByRecursion}
 use Rattle.cbs_lists.specs.Lists.{changed_at}
 
 -- a change of one element keeps the length
@@ -94,6 +95,25 @@ AllByRecursion-changed_at P Q f [] i d all k h = tt
 AllByRecursion-changed_at P Q f (x ∷ xs) zero d all k h = (h all.0, AllByRecursion-weaker P Q xs all.1 k)
 AllByRecursion-changed_at P Q f (x ∷ xs) (suc i) d all k h = (k x all.0, AllByRecursion-changed_at P Q f xs i d all.1 k h)
 
+-- what holds of each holds with another at one place
+pub AllByRecursion-set : {X : Type 0} (P : X → Type 0) (xs : List X) (i : ℕ) (y : X) → AllByRecursion P xs → P y → AllByRecursion P (set xs i y)
+AllByRecursion-set P [] i y all h = tt
+AllByRecursion-set P (x ∷ xs) zero y all h = (h, all.1)
+AllByRecursion-set P (x ∷ xs) (suc i) y all h = (all.0, AllByRecursion-set P xs i y all.1 h)
+
+-- what holds of the first few holds of one more, with another in its place
+pub AllByRecursion-take_set : {X : Type 0} (P : X → Type 0) (xs : List X) (i : ℕ) (y : X) → i < length xs → AllByRecursion P (take i xs) → P y
+    → AllByRecursion P (take (suc i) (set xs i y))
+AllByRecursion-take_set P [] i y lt all h = absurd (omega arith)
+AllByRecursion-take_set P (x ∷ xs) zero y lt all h = (h, tt)
+AllByRecursion-take_set P (x ∷ xs) (suc i) y lt all h = (all.0, AllByRecursion-take_set P xs i y (omega arith) all.1 h)
+
+-- two lists of the same measures are positive alike
+pub positive_along : {X : Type 0} (f : X → ℕ) (xs ys : List X) → map f xs ≡ map f ys → AllByRecursion (λ x. 0 < f x) xs → AllByRecursion (λ x. 0 < f x) ys
+positive_along f xs [] e all = tt
+positive_along f [] (y ∷ ys) e all = cc
+positive_along f (x ∷ xs) (y ∷ ys) e all = let h : f x ≡ f y = cc in (let p = all.0 in omega arith, positive_along f xs ys (cc) all.1)
+
 module _ {X Y : Type 0} (R : X → Y → Type 0) where
   -- lists that agree place by place are of one length
   pub AllZip-length : (xs : List X) (ys : List Y) → AllZip R xs ys → length xs ≡ length ys
@@ -134,3 +154,7 @@ module _ {X Y : Type 0} (R : X → Y → Type 0) where
   AllZip-changed_second g (x ∷ xs) (y ∷ ys) zero all h = (h x y all.0, all.1)
   AllZip-changed_second g (x ∷ xs) (y ∷ ys) (suc i) all h = (all.0, AllZip-changed_second g xs ys i all.1 h)
   AllZip-changed_second g _ _ i all h = absurd all
+
+-- what holds of each element of a list holds with one more after them
+pub All_pushed : {X : Type 0} (P : X → Type 0) (xs xs' : List X) (x : X) → xs' ≡ xs ++ x ∷ [] → P x → All P xs → All P xs'
+All_pushed P xs xs' x a p h = All-same P xs' (xs ++ x ∷ []) a (All-push P xs x h p)

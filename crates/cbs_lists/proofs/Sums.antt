@@ -1,5 +1,5 @@
 -- Sums over a list, place by place.
-use Rattle.std.proofs.Common.{◌≡◌, ℕ, zero, suc, ◌+◌, ◌*◌, ◌≤◌, ◌<◌, List, [], ◌∷◌, length, map, get_or, refl, arith}
+use Rattle.std.proofs.Common.{◌≡◌, ℕ, zero, suc, ◌+◌, ◌*◌, ◌≤◌, ◌<◌, List, [], ◌∷◌, length, map, get_or, refl, sym, ap, ◌∙◌, arith}
 use Rattle.std.specs.List.{sum_by}
 use Rattle.std.proofs.lemmas.List.Sums.{sum_by-cons}
 use Rattle.cbs_lists.specs.Lists.{changed_at}
@@ -8,6 +8,10 @@ use Rattle.cbs_lists.specs.Lists.{changed_at}
 pub sum_map : {X Y : Type 0} (f : Y → ℕ) (h : X → Y) (xs : List X) → sum_by f (map h xs) ≡ sum_by (λ x. f (h x)) xs
 sum_map f h [] = refl
 sum_map f h (x ∷ xs) = omega (arith, sum_map f h xs, sum_by-cons f (h x) (map h xs), sum_by-cons (λ x. f (h x)) x xs)
+
+-- two lists of the same measures have one sum
+pub same_sum : {X : Type 0} (f : X → ℕ) (xs ys : List X) → map f xs ≡ map f ys → sum_by f xs ≡ sum_by f ys
+same_sum f xs ys e = sym (sum_map (λ n. n) f xs) ∙ (ap (sum_by (λ n. n)) e ∙ sum_map (λ n. n) f ys)
 
 -- a sum of multiples
 pub sum_times : {X : Type 0} (f : X → ℕ) (k : ℕ) (xs : List X) → sum_by (λ x. k * f x) xs ≡ k * sum_by f xs

@@ -1,6 +1,7 @@
 -- A unit of the first job of a queue, done in place.
 use Rattle.std.proofs.Common.{◌≡◌, ℕ, zero, suc, ◌<◌, false, eqb, List, [], ◌∷◌, length, get_or, drop, refl, ap, ◌∙◌, inl, inr, arith}
-use Rattle.std.proofs.lemmas.Bool.{cases_lt}
+use Rattle.std.proofs.lemmas.Bool.{cases_lt, cases_Bool}
+use Rattle.std.specs.List.{AllByRecursion}
 use Rattle.std.proofs.lemmas.Bool.Decides.{nat_tests}
 use Rattle.std.proofs.lemmas.List.{get_or_past}
 use Rattle.cbs_job.specs.Work.{Meaning}
@@ -32,6 +33,13 @@ job_there lists s now some = elim (cases_lt s (length lists)) [
       let none : length (list_at lists s) ≡ 0 = ap length past in
       absurd (omega arith)
 ]
+
+module _ {W : Type 0} (work : Meaning W) where
+  -- after a unit of the first job, each job held has a unit left, as each had before
+  pub unfinished_run : (jobs : List W) → AllByRecursion (λ w. 0 < work.left w) jobs → AllByRecursion (λ w. 0 < work.left w) (jobs_run work jobs)
+  unfinished_run [] all = all
+  unfinished_run (job ∷ jobs) all = elim (cases_Bool (eqb (work.left (work.after job)) 0))
+      [ inl e ↦ rw e all.1 | inr e ↦ rw e (grind (arith, nat_tests), all.1) ]
 
 module _ {W : Type 0} (work : Meaning W) (lists : List (List W)) (s : ℕ) (job now : W) (rest : List W)
     (first : list_at lists s ≡ job ∷ rest) where

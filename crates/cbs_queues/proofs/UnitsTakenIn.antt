@@ -1,6 +1,6 @@
 -- What each server has taken in, as jobs come and go.
 use Rattle.std.proofs.Common.{◌≡◌, ℕ, zero, suc, ◌+◌, ◌*◌, ◌%◌, ◌^◌, ◌≤◌, ◌<◌, List, [], ◌∷◌, ◌++◌, length, length-append, get_or, set, drop}
-use Rattle.std.proofs.Common.{replicate, slice_get, Some, None, refl, ap, arith}
+use Rattle.std.proofs.Common.{replicate, slice_get, Some, refl, ap, arith}
 use Rattle.std.proofs.lemmas.List.{length-map, map-append}
 use Rattle.std.proofs.lemmas.List.Sums.{sum_by-cons, sum_by-append}
 use Rattle.std.specs.List.{sum_by, AllByRecursion, AllZip}

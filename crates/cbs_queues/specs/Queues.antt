@@ -1,6 +1,7 @@
 -- What is seen of the queues of jobs: the list of each server, and for how many jobs more there is room.
 use Rattle.std.specs.Prelude.{◌≡◌, ◌≤◌, ◌<◌, ℕ, ◌+◌, ◌%◌, ◌^◌, eqb, if◌then◌else◌, List, [], ◌∷◌, map, length, drop, get_or, Option, Some, None}
 use Rattle.std.specs.List.{sum_by, AllByRecursion}
+use Rattle.cbs_rate.specs.Limits.{most_backlog, most_units}
 use Rattle.cbs_job.specs.Work.{Meaning}
 use Rattle.cbs_queues.specs.declared.queues.QueuedJob.{QueuedJob}
 
@@ -27,8 +28,8 @@ module _ {W : Type 0} where
   -- and there are no more jobs than a backlog holds
   pub record IsCounted (work : Meaning W) (queue : List (QueuedJob W)) (total : ℕ) : Type 0 where
     pub counted : AreCounted work queue total
-    pub short : AllByRecursion (λ job. work.left job ≤ 1000000) (jobs_of (drop 1 queue))
-    pub few : length queue ≤ 4096
+    pub short : AllByRecursion (λ job. work.left job ≤ most_units) (jobs_of (drop 1 queue))
+    pub few : length queue ≤ most_backlog
 
   -- the jobs after a unit of the first, which goes where the unit was its last
   abbrev pub jobs_run : Meaning W → List W → List W

@@ -4,6 +4,7 @@ ghost use Rattle.std.specs.Prelude.{◌≡◌, ◌+◌, ◌%◌, ◌^◌, ◌<�
 ghost use Rattle.std.specs.List.{sum_by, AllByRecursion};
 ghost use Rattle.cbs_queues.specs.Queues.{front_output, room_of, KeepsRoom, list_at, jobs_run, result_run};
 ghost use Rattle.cbs_lists.specs.Lists.{changed_at};
+ghost use Rattle.cbs_rate.specs.Limits.{most_backlog};
 
 use crate::chains::Chains;
 use cbs_job::{Running, Task, Work};
@@ -98,7 +99,7 @@ impl<W: Work, A: Allocator> Queues<W, A> {
     pub fn push(&mut self, server: u16, task: Task<W>)
         requires within { server < length self.old.lists }
         requires room { 0 < room_of self.old.rooms server }
-        requires few { length (list_at self.old.lists server) < 4096 }
+        requires few { length (list_at self.old.lists server) < most_backlog }
         ensures lists { self.new.lists ≡ changed_at (λ jobs. jobs ++ task ∷ []) self.old.lists server }
         ensures some { 0 < W.meaning.left task }
     {

@@ -1,3 +1,4 @@
+pub mod Limits
 pub mod Bound
 pub mod Errors
 pub mod Plan

@@ -2,6 +2,7 @@
 use Rattle.std.specs.Prelude.{◌≡◌, ℕ, zero, suc, ◌+◌, ◌*◌, ◌/◌, ◌%◌, ◌≤◌, ◌<◌, Bool, true, false, eqb, leb, ltb, if◌then◌else◌, List, [], ◌∷◌, ◌++◌}
 use Rattle.std.specs.Prelude.{length, sum_by, IsTrue, Option, Some, None}
 use Rattle.std.specs.List.{list_all, AllByRecursion}
+use Rattle.cbs_rate.specs.Limits.{greatest_common_multiple, most_servers}
 use Rattle.cbs_rate.specs.Bound.{Fraction}
 use Rattle.cbs_rate.specs.Rate.{Rate, IsRate}
 use Rattle.cbs_rate.specs.declared.error.AdmitError.{AdmitError}
@@ -55,16 +56,16 @@ common_multiple rates = common_multiple_from rates 1 (all_periods rates)
 -- What every plan keeps: at most 64 rates within the limits of a reservation, periods whose least common multiple
 -- is at most 10^18, and a total bandwidth of at most the bound, and so of at most one.
 pub record IsPlan (plan : Planned) : Type 0 where
-  pub few : length plan.rates ≤ 64
+  pub few : length plan.rates ≤ most_servers
   pub lawful : AllByRecursion (λ r. IsRate r.budget r.period) plan.rates
-  pub coarse : common_multiple plan.rates ≤ 1_000_000_000_000_000_000
+  pub coarse : common_multiple plan.rates ≤ greatest_common_multiple
   pub fits : IsTrue (fits plan.bound plan.rates)
   pub at_most_one : total_share plan.rates ≤ all_periods plan.rates
 
 -- why a plan does not take one more rate, if it does not: the first of the three tests that applies
 abbrev pub admit_refusal : Planned → Rate → Option AdmitError
 admit_refusal plan r =
-    if leb 64 (length plan.rates) then Some TooManyServers
-    else if ltb 1_000_000_000_000_000_000 (common_multiple (plan.rates ++ r ∷ [])) then Some PeriodsTooFine
+    if leb most_servers (length plan.rates) then Some TooManyServers
+    else if ltb greatest_common_multiple (common_multiple (plan.rates ++ r ∷ [])) then Some PeriodsTooFine
     else if fits plan.bound (plan.rates ++ r ∷ []) then None
     else Some OverBound

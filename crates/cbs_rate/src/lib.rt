@@ -4,11 +4,13 @@
 
 mod bound;
 mod error;
+mod limits;
 mod multiple;
 mod plan;
 mod reservation;
 
 pub use bound::{Bound, MAX_DENOMINATOR};
 pub use error::{AdmitError, RateError};
+pub use limits::MAX_RING;
 pub use plan::{MAX_COMMON_MULTIPLE, MAX_SERVERS, Plan};
 pub use reservation::{MAX_PERIOD, Reservation};

@@ -1,6 +1,7 @@
 //! The modes of several servers.
 
 ghost use Rattle.std.specs.Prelude.{◌≡◌, ◌↔◌, ◌≤◌, ◌<◌, [], ◌∷◌, ◌++◌, length, replicate, slice_get, IsTrue};
+ghost use Rattle.cbs_rate.specs.Limits.{most_servers};
 
 use crate::mode::Mode;
 use arrayvec::ArrayVec;
@@ -35,7 +36,7 @@ impl Modes {
 
     /// `servers` servers, at most [`MAX_SERVERS`], all with the same mode.
     pub fn uniform(mode: Mode, servers: u16) -> Modes
-        requires { servers ≤ 64 }
+        requires { servers ≤ most_servers }
         ensures { result ≡ replicate servers mode }
     {
         let mut modes = Modes::new();
@@ -47,7 +48,7 @@ impl Modes {
 
     /// One more server, with this mode. There must be fewer than [`MAX_SERVERS`].
     pub fn push(&mut self, mode: Mode)
-        requires { length self.old < 64 }
+        requires { length self.old < most_servers }
         ensures { self.new ≡ self.old ++ mode ∷ [] }
     {
         self.modes.push(mode);
@@ -56,7 +57,7 @@ impl Modes {
     /// The number of servers.
     pub fn len(&self) -> usize
         ensures value { result ≡ length self.now }
-        ensures few { length self.now ≤ 64 }
+        ensures few { length self.now ≤ most_servers }
     {
         self.modes.len()
     }

@@ -1,8 +1,6 @@
 -- The results that a house has after it served the jobs of a file.
-use Rattle.std.proofs.Common.{◌≡◌, ℕ, ◌+◌, List, [], ◌∷◌, ◌++◌, drop, length, map, refl, sym, ap, ap₂, ◌∙◌, arith}
+use Rattle.std.proofs.Common.{◌≡◌, ℕ, List, [], ◌∷◌, drop, length, map, refl, sym, ap, ap₂, ◌∙◌}
 use Rattle.std.specs.List.{All, range_with_len}
-use Rattle.std.proofs.lemmas.List.{map-append}
-use Rattle.std.proofs.lemmas.List.FromFn.{map-range_with_len_more}
 use Rattle.std.proofs.lemmas.List.Elements.{All-head, All-tail, All-weaker}
 use Rattle.std.proofs.lemmas.Simd.{map-map}
 use Rattle.cbs_job.specs.Work.{Meaning, whole}
@@ -11,17 +9,17 @@ use Rattle.cbs_job.specs.FileJobs.{of_files}
 use Rattle.cbs_job.specs.declared.file.FileJob.{FileJob}
 use Rattle.cbs_core.specs.Agreement.{Agrees}
 use Rattle.cbs_steps.specs.declared.step.Step.{Step}
-use Rattle.cbs_house.specs.Clients.{server_of}
+use Rattle.cbs_clients.specs.Clients.{server_of}
 use Rattle.cbs_house.specs.Feeds.{client_of, unsent_jobs, all_jobs, KeepsFeeds}
-use Rattle.cbs_house.specs.Houses.{core_of, results_of, handed_of}
-use Rattle.cbs_house.specs.Opened.{IsUnused}
-use Rattle.cbs_house.specs.Rounds.{IsServed, ServesOn, Stops}
-use Rattle.cbs_house.specs.declared.error.HouseError.{HouseError}
-use Rattle.cbs_house.specs.declared.error.HouseError.TheVariants as house
+use Rattle.cbs_clients.specs.Houses.{core_of, results_of, handed_of, ServesOn}
+use Rattle.cbs_clients.specs.Opened.{IsUnused}
+use Rattle.cbs_house.specs.Rounds.{IsServed, Stops}
+use Rattle.cbs_clients.specs.declared.error.HouseError.{HouseError}
+use Rattle.cbs_clients.specs.declared.error.HouseError.TheVariants as house
 use Rattle.cbs_house.specs.declared.feed.Feed.{Feed}
-use Rattle.cbs_house.specs.declared.house.House.{House}
+use Rattle.cbs_clients.specs.declared.house.House.{House}
 use Rattle.cbs_house.proofs.Feeds.{feeds_servers, feeds_jobs, unused_jobs}
-use Rattle.cbs_house.proofs.Moves.{serves_rings}
+use Rattle.cbs_clients.proofs.Moves.{serves_rings}
 use Rattle.cbs_core.proofs.Laws.{new_count, terms_count}
 use Rattle.cbs_file.specs.TaskFiles.{File, IsFile}
 use Rattle.cbs_run.specs.ResultLines.{jobs_for, results_by_server}
@@ -93,10 +91,3 @@ jobs_are f n steps servers same = rw (servers, same) refl
 
 pub by_server : (f : File) → map (map (whole of_files)) (map (λ s. jobs_for s f.steps) (range_with_len 0 (length f.plan.rates))) ≡ results_by_server f
 by_server f = map-map (map (whole of_files)) (λ s. jobs_for s f.steps) (range_with_len 0 (length f.plan.rates))
-
--- one more server's results
-pub results_more : (f : ℕ → List ℕ) {X : Type 0} (view : X → List ℕ) (xs : List X) (x : X) (n : ℕ) → map view xs ≡ map f (range_with_len 0 n)
-    → view x ≡ f n → map view (xs ++ x ∷ []) ≡ map f (range_with_len 0 (n + 1))
-results_more f view xs x n e here =
-    map-append view xs (x ∷ []) ∙ (ap (λ rs. rs ++ view x ∷ []) e
-    ∙ (ap (λ r. map f (range_with_len 0 n) ++ r ∷ []) here ∙ sym (map-range_with_len_more f 0 n n (omega arith))))

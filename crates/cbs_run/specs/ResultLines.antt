@@ -1,5 +1,5 @@
 -- What serving a task file writes: a line for each server, with the results of its jobs.
-use Rattle.std.specs.Prelude.{ℕ, ◌+◌, List, [], ◌∷◌, ◌++◌, codes, decimal, flat_map, filter_map, length, map, Option, Some, None, if◌then◌else◌, ◌==◌}
+use Rattle.std.specs.Prelude.{ℕ, List, ◌++◌, codes, decimal, flat_map, filter_map, length, map, Option, Some, None, if◌then◌else◌, ◌==◌}
 use Rattle.std.specs.List.{range_with_len}
 use Rattle.cbs_job.specs.FileJobs.{of_files}
 use Rattle.cbs_job.specs.Work.{whole}
@@ -23,10 +23,9 @@ jobs_for s steps = filter_map (job_for s) steps
 unfoldable pub server_line : ℕ → List ℕ → List ℕ
 server_line s results = codes "server " ++ decimal s ++ codes ":" ++ flat_map (λ r. codes " " ++ decimal r) results ++ codes "\n"
 
--- the lines of the servers from s on, each with its results
-unfoldable pub lines_from : ℕ → List (List ℕ) → List ℕ
-lines_from s [] = []
-lines_from s (results ∷ others) = server_line s results ++ lines_from (s + 1) others
+-- the lines of n servers, where f says the results of each
+abbrev pub kept_lines : (ℕ → List ℕ) → ℕ → List ℕ
+kept_lines f n = flat_map (λ s. server_line s (f s)) (range_with_len 0 n)
 
 -- the results of the jobs that a file submits to each server, whole and in order
 abbrev pub results_by_server : File → List (List ℕ)
@@ -34,4 +33,4 @@ results_by_server f = map (λ s. map (whole of_files) (jobs_for s f.steps)) (ran
 
 -- the lines of all servers, in order of their numbers, each with the whole results of the server's jobs
 abbrev pub result_lines : File → List ℕ
-result_lines f = flat_map (λ s. server_line s (map (whole of_files) (jobs_for s f.steps))) (range_with_len 0 (length f.plan.rates))
+result_lines f = kept_lines (λ s. map (whole of_files) (jobs_for s f.steps)) (length f.plan.rates)

@@ -5,10 +5,10 @@ use Rattle.cbs_job.specs.declared.file.FileJob.{FileJob}
 use Rattle.cbs_core.specs.Agreement.{Agrees}
 use Rattle.cbs_core.specs.Held.{CoreHeld, HoldsNoJob, IsAtEnd}
 use Rattle.cbs_steps.specs.declared.step.Step.{Step}
-use Rattle.cbs_house.specs.Steps.{MayServe}
+use Rattle.cbs_clients.specs.Steps.{MayServe}
 use Rattle.cbs_steps.specs.Continuations.{◌⊕⊕◌, EachAllowed}
-use Rattle.cbs_house.specs.declared.error.HouseError.{HouseError}
-use Rattle.cbs_house.specs.declared.error.HouseError.TheVariants as house
+use Rattle.cbs_clients.specs.declared.error.HouseError.{HouseError}
+use Rattle.cbs_clients.specs.declared.error.HouseError.TheVariants as house
 use Rattle.cbs_file.specs.TaskFiles.{File}
 use Rattle.cbs_run.specs.ResultLines.{result_lines}
 use Rattle.cbs_run.specs.StepTexts.{start_of}

@@ -5,27 +5,12 @@ use Rattle.cbs_job.specs.declared.file.FileJob.{FileJob}
 use Rattle.cbs_steps.specs.History.{World, faces}
 use Rattle.cbs_steps.specs.Faces.{view_reply}
 use Rattle.cbs_steps.specs.declared.error.CoreError.{CoreError}
-use Rattle.cbs_steps.specs.declared.reply.Reply.{Reply}
-use Rattle.cbs_steps.specs.declared.reply.Reply.TheVariants as reply
 use Rattle.cbs_steps.specs.declared.view.ServerView.{ServerView}
 use Rattle.cbs_file.specs.TaskFiles.{File}
 use Rattle.cbs_run.specs.Lines.{line_text, shown_server}
 use Rattle.cbs_run.specs.StepTexts.{StepText, start_of, texts_of, WritesSteps}
 use Rattle.cbs_run.specs.Writers.{Writer, StopsWriting}
-use Rattle.cbs_run.specs.declared.call.Call.{Call}
-use Rattle.cbs_run.specs.declared.line.Answer.{Answer}
-use Rattle.cbs_run.specs.declared.line.Answer.TheVariants.{Accepted, Refused, Ran, Made}
-use Rattle.cbs_run.specs.declared.line.Line.{Line}
 use Rattle.cbs_run.specs.declared.run_error.RunError.{RunError}
-
--- what a line says of a reply
-abbrev pub answer_of : Reply FileJob → Answer
-answer_of (reply.Accepted seq) = Accepted seq
-answer_of (reply.NotAccepted refused) = Refused refused.error
-answer_of (reply.Ran ran) = Ran ran
-answer_of reply.Advanced = Made
-answer_of reply.Closed = Made
-answer_of (reply.Refused error) = Refused error
 
 -- the view, if it is one
 abbrev pub view_if_any : Result ServerView CoreError → Option ServerView
@@ -37,13 +22,9 @@ abbrev pub shown : World FileJob → Option ℕ → Option ServerView
 shown w None = None
 shown w (Some s) = view_if_any (view_reply (slice_get (faces of_files w) s))
 
--- the line of a call with this answer, which left w
-abbrev pub line_in : World FileJob → Call → Answer → Line
-line_in w call answer = record { clock = w.now; call = call; answer = answer; state = record { server = shown w (shown_server call answer) } }
-
--- the text of the line of a step
+-- the text of the line of a step, which left w
 unfoldable pub line_of : StepText
-line_of call reply w = line_text (line_in w call (answer_of reply))
+line_of call reply w = line_text w.now call reply (shown w (shown_server call reply))
 
 -- the lines of all steps
 abbrev pub trace : File → List ℕ

@@ -1,12 +1,15 @@
 //! What serving a task file writes.
 
-ghost use Rattle.std.specs.Prelude.{◌≡◌, ◌++◌, ◌≤◌, IfOk, OnOk, length, map, string_bytes};
-ghost use Rattle.cbs_run.specs.ResultLines.{server_line, lines_from};
+ghost use Rattle.std.specs.Prelude.{◌≡◌, ◌++◌, IfOk, OnOk, length, string_bytes};
+ghost use Rattle.cbs_clients.specs.Houses.{core_of, results_of};
+ghost use Rattle.cbs_run.specs.ResultLines.{server_line, kept_lines};
 
 use crate::numbers::append_pair;
+use cbs_house::House;
+use cbs_job::FileJob;
 use std::alloc::{AllocError, Global};
 
-/// Appends the line of a server with these results. Only want of memory is an error.
+/// Appends the line of a server with these results. The only error is out of memory.
 #[tactic(auto, unfolding(crate::specs::ResultLines::server_line))]
 fn append_line(text: &mut String, server: u16, results: &[u64]) -> Result<(), AllocError>
     ensures { OnOk result (string_bytes text.new ≡ string_bytes text.old ++ server_line server results.now) }
@@ -19,15 +22,15 @@ fn append_line(text: &mut String, server: u16, results: &[u64]) -> Result<(), Al
     text.push_str("\n")
 }
 
-/// The lines of all servers with their results, the first that of server 0. Only want of memory is an
-/// error.
-pub fn result_text(alloc: Global, results: &[Vec<u64>]) -> Result<String, AllocError>
-    requires { length results.now ≤ 64 }
-    ensures { IfOk result (λ text. string_bytes text ≡ lines_from 0 (map (λ v. v.items) results.now)) }
+/// Returns the lines of all servers of a house, in order of their numbers, with the results that it keeps. The only
+/// error is out of memory.
+pub fn result_text(alloc: Global, house: &House<FileJob>) -> Result<String, AllocError>
+    ensures { IfOk result (λ text. string_bytes text ≡ kept_lines (results_of house.now) (length (core_of house.now).faces)) }
 {
     let mut text = String::new(alloc);
-    for (server, values) in results.iter().enumerate() {
-        append_line(&mut text, server as u16, values)?;
+    for server in 0..house.servers() {
+        let results = house.results(server).unwrap();
+        append_line(&mut text, server, results)?;
     }
     Ok(text)
 }

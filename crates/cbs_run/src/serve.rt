@@ -3,10 +3,10 @@
 ghost use Rattle.std.specs.Prelude.{ℕ, ◌≡◌, ◌<◌, ◌≤◌, ◌-◌, ◌^◌, All, IfErr, IfOk, length, map};
 ghost use Rattle.std.specs.List.{range_with_len};
 ghost use Rattle.cbs_core.specs.Agreement.{Agrees};
-ghost use Rattle.cbs_house.specs.Clients.{server_of};
+ghost use Rattle.cbs_clients.specs.Clients.{server_of};
 ghost use Rattle.cbs_house.specs.Feeds.{client_of, unsent_jobs};
-ghost use Rattle.cbs_house.specs.Houses.{core_of, results_of, handed_of};
-ghost use Rattle.cbs_house.specs.Opened.{IsUnused};
+ghost use Rattle.cbs_clients.specs.Houses.{core_of, results_of, handed_of};
+ghost use Rattle.cbs_clients.specs.Opened.{IsUnused};
 ghost use Rattle.cbs_house.specs.Rounds.{Ready};
 ghost use Rattle.cbs_job.specs.FileJobs.{of_files};
 ghost use Rattle.cbs_file.specs.TaskFiles.{IsFile};
@@ -20,13 +20,13 @@ use crate::output::{ByteOutput, write_text};
 use crate::result_lines::result_text;
 use crate::run_error::RunError;
 use cbs_file::{Parts, TaskFile};
-use cbs_house::{Feed, House, HouseError, OpenGate, feeds_of, open_house, serve};
+use cbs_house::{Feed, House, HouseError, OpenGate, open_feeds, serve};
 use cbs_job::FileJob;
-use std::alloc::{AllocError, Global};
+use std::alloc::Global;
 use std::thread::Threads;
 use std::time::Clock;
 
-/// The run fault that an error of the house is, if it is one. The others never come of a task file,
+/// Returns the run fault that an error of the house is, if it is one. The others never come of a task file,
 /// whose numbers are in range.
 fn fault_of(error: HouseError) -> Option<RunError>
     ensures { result ≡ fault_of error }
@@ -39,8 +39,8 @@ fn fault_of(error: HouseError) -> Option<RunError>
     }
 }
 
-/// A house with the plan, modes, backlog and ring of a task file; and for each of its servers, in
-/// order, a feed of the jobs that the file submits to it. Only want of memory is an error.
+/// Returns a house with the plan, modes, backlog and ring of a task file; and for each of its servers, in
+/// order, a feed of the jobs that the file submits to it. The only error is out of memory.
 fn open_file(
     alloc: Global,
     file: TaskFile,
@@ -61,17 +61,16 @@ fn open_file(
         ring,
         steps,
     } = file.into_parts();
-    let Ok(jobs) = jobs_by_server(alloc, plan.len() as u16, steps) else {
+    let Ok(lists) = jobs_by_server(alloc, plan.len() as u16, steps) else {
         return Err(HouseError::OutOfMemory);
     };
-    let (house, clients) = open_house(alloc, plan, modes, backlog, ring)?;
-    match feeds_of(alloc, clients, jobs) {
-        Ok(feeds) => Ok((house, feeds)),
-        Err(_) => Err(HouseError::OutOfMemory),
+    match open_feeds(alloc, plan, modes, backlog, ring, lists) {
+        Ok(opened) => Ok(opened),
+        Err(refused) => Err(refused.error),
     }
 }
 
-/// The house of a task file, after the clients have sent all its jobs and all are finished.
+/// Returns the house of a task file, after the clients have sent all its jobs and all are finished.
 fn served_house<R: Threads + Clock + Sync>(
     rt: &R,
     alloc: Global,
@@ -86,44 +85,13 @@ fn served_house<R: Threads + Clock + Sync>(
     Ok(house)
 }
 
-/// The results of all servers of a house, in order. Only want of memory is an error.
-fn results_in(alloc: Global, house: &House<FileJob>) -> Result<Vec<Vec<u64>>, AllocError>
-    ensures results { IfOk result (λ results. map (λ v. v.items) results.items ≡ map (results_of house.now) (range_with_len 0 (length (core_of house.now).faces))) }
-    ensures few { IfOk result (λ results. length results.items ≤ 64) }
-{
-    let servers = house.servers();
-    let mut all = Vec::with_capacity(alloc, usize::from(servers))?;
-    for server in 0..servers {
-        let results = house.results(server).unwrap();
-        all.push(Vec::from_slice(alloc, results)?)?;
-    }
-    Ok(all)
-}
-
-/// The results of each server of a task file, after the clients have sent all its jobs and all are finished.
-fn served_results<R: Threads + Clock + Sync>(
-    rt: &R,
-    alloc: Global,
-    file: TaskFile,
-) -> Result<Vec<Vec<u64>>, HouseError>
-    ensures results { IfOk result (λ results. map (λ v. v.items) results.items ≡ results_by_server file) }
-    ensures few { IfOk result (λ results. length results.items ≤ 64) }
-    ensures stops { IfErr result (HouseStops file) }
-{
-    let house = served_house(rt, alloc, file)?;
-    match results_in(alloc, &house) {
-        Ok(results) => Ok(results),
-        Err(_) => Err(HouseError::OutOfMemory),
-    }
-}
-
 /// Serves the submits of a task file, and writes the results of each server.
 ///
 /// The house has the plan, the modes, the backlog and the ring of the file. Refuses with
-/// [`RunError::OutOfMemory`]; with [`RunError::ClockEnd`] where the clock came to its end with a job
-/// unfinished; and with [`RunError::Stalled`] where the clients did not send all in the rounds that
-/// they are given. Nothing is written then. Refuses with [`RunError::WriteFault`] where a write fails
-/// or takes no byte: then a front of the text is written.
+/// [`RunError::OutOfMemory`]; with [`RunError::ClockEnd`] if the clock came to its end with a job
+/// unfinished; and with [`RunError::Stalled`] if the clients did not send all in the rounds that
+/// they are given. Nothing is written then. Refuses with [`RunError::WriteFault`] if a write fails
+/// or takes no byte: then a prefix of the text is written.
 pub fn serve_file<R: Threads + Clock + Sync, O: ByteOutput>(
     rt: &R,
     alloc: Global,
@@ -134,11 +102,11 @@ pub fn serve_file<R: Threads + Clock + Sync, O: ByteOutput>(
     ensures { Leaves (result_lines file) (ServeStops file) result
         (record { written = O.written out.old; failed = O.failed out.old }) (record { written = O.written out.new; failed = O.failed out.new }) }
 {
-    let results = match served_results(rt, alloc, file) {
-        Ok(results) => results,
+    let house = match served_house(rt, alloc, file) {
+        Ok(house) => house,
         Err(error) => return Err(fault_of(error).unwrap()),
     };
-    let text = result_text(alloc, &results)?;
+    let text = result_text(alloc, &house)?;
     write_text(out, text.as_bytes())?;
     Ok(())
 }

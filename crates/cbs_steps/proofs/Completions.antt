@@ -1,6 +1,6 @@
 -- The completions of a server: they go on from its finished jobs.
 use Rattle.std.proofs.Common.{◌≡◌, ℕ, zero, suc, ◌+◌, ◌≤◌, ◌<◌, true, List, [], ◌∷◌, ◌++◌, length, map, take, drop, get_or, eqb, leb, refl, sym, ◌∙◌}
-use Rattle.std.proofs.Common.{ap, arith, Option, Some, None, inl, inr, length-append, length-drop, append_assoc, append-nil}
+use Rattle.std.proofs.Common.{ap, subst, arith, Option, Some, None, inl, inr, length-append, length-drop, append_assoc, append-nil}
 use Rattle.std.proofs.Math.Seq.{take-add}
 use Rattle.std.proofs.lemmas.Bool.{cases_Bool}
 use Rattle.std.proofs.lemmas.List.{map-append, length-map, drop-drop, drop-append-le, take-append-le, drop_more}
@@ -183,3 +183,26 @@ module _ {W : Type 0} (work : Meaning W) where
       rw (after-push M xs x, replies_after-push M xs x, completions_of-push s (replies_after work M xs) (reply_in work N x))
       (Completes-append (account_in work M s) (account_in work N s) (account_in work (N ⊕ x) s)
       (completions_of s (replies_after work M xs)) (completion_of s (completion_in (reply_in work N x))) before now)
+
+module _ {W : Type 0} (work : Meaning W) where
+  -- an account goes on by the completion that a step is answered by, where that is of its server and is numbered and counted so
+  pub completes_told : (M : History W) (x : Step W) (r : Reply W) (s : ℕ) (c : Completion) → Some c ≡ completion_in r → Answers work M x r → c.server ≡ s
+      → c.seq ≡ finished work (account_in work M s) → finished work (account_in work (grown M x r) s) ≡ finished work (account_in work M s) + 1
+      → Completes work (account_in work M s) (account_in work (grown M x r) s) (c ∷ [])
+  completes_told M x r s c is answers here seq count =
+      let after = account_in work (grown M x r) s in
+      let more = accepted_grown work M x r s in
+      let told : Tells work (account_in work M s) c = subst (λ t. Tells work (account_in work M t) c) here (answer_tells work M x r c answers is) in
+      let wholes : map (whole work) after.accepted ≡ map (whole work) (account_in work M s).accepted ++ map (whole work) more.0 =
+      ap (map (whole work)) more.1 ∙ map-append (whole work) (account_in work M s).accepted more.0 in
+      let within : c.seq < length (map (whole work) (account_in work M s).accepted) =
+      let w = told.within in omega (arith, length-map (account_in work M s).accepted (whole work)) in
+      let found : take 1 (drop c.seq (map (whole work) after.accepted)) ≡ c.result ∷ [] =
+      rw wholes (part_of_more c.seq 1 (map (whole work) (account_in work M s).accepted) (map (whole work) more.0) (omega arith))
+      ∙ part_of_one c.seq (map (whole work) (account_in work M s).accepted) within ∙ ap (λ k. k ∷ []) (sym told.result) in
+      record {
+        jobs = more;
+        numbers = ap (λ k. k ∷ []) seq;
+        results = sym (rw (← seq) found);
+        finished = count;
+      }

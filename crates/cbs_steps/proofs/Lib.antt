@@ -9,6 +9,7 @@ pub mod Faces
 pub mod FinishedJobs
 pub mod HardTasks
 pub mod Histories
+pub mod JobsLeft
 pub mod LawfulServers
 pub mod Laws
 pub mod OnTime

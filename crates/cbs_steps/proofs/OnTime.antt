@@ -2,7 +2,10 @@
 use Rattle.std.proofs.Common.{◌≡◌, ℕ, zero, suc, ◌+◌, ◌-◌, ◌*◌, ◌≤◌, ◌<◌, true, false, leb, List, [], ◌∷◌, length, map, arith, refl, inl, inr, ◌∙◌}
 use Rattle.std.proofs.Common.{Option, Some, None}
 use Rattle.std.specs.List.{sum_by, AllByRecursion}
-use Rattle.std.proofs.lemmas.Bool.{cases_Bool}
+use Rattle.std.proofs.lemmas.Bool.{cases_lt, cases_Bool}
+use Rattle.std.proofs.lemmas.List.{length-map}
+use Rattle.std.proofs.lemmas.Option.{slice_get-get_or, slice_get_past}
+use Rattle.std.specs.Prelude.{slice_get, Result, IfOk}
 use Rattle.std.proofs.lemmas.Bool.Decides.{nat_tests}
 use Rattle.std.proofs.lemmas.List.Sums.{sum_by-cons}
 use Rattle.std.proofs.lemmas.Nat.{mul-le}
@@ -16,7 +19,9 @@ use Rattle.cbs_rate.proofs.Multiples.{AllLawful, all_periods_some, all_periods-c
 use Rattle.cbs_rules.specs.Rules.{clock_end, Terms}
 use Rattle.cbs_rules.proofs.States.{IsState-fresh_state}
 use Rattle.cbs_lists.specs.Lists.{changed_at}
-use Rattle.cbs_steps.specs.Faces.{Face, is_ready, reservations, submit_refusal, close_refusal}
+use Rattle.cbs_steps.specs.declared.view.ServerView.{ServerView}
+use Rattle.cbs_steps.proofs.Histories.{account_face}
+use Rattle.cbs_steps.specs.Faces.{Face, no_face, is_ready, reservations, view_reply, submit_refusal, close_refusal}
 use Rattle.cbs_steps.specs.Accounts.{Account, face_of, new_account, no_account, account_with_job, account_with_unit, account_with_replenishment}
 use Rattle.cbs_steps.specs.Accounts.{account_with_close}
 use Rattle.cbs_steps.specs.History.{World, Setup, History, account, faces, tick, ticks, start, runner, after_submit, after_run, after_closing, next}
@@ -210,6 +215,22 @@ module _ {W : Type 0} (work : Meaning W) where
       → (after work setup M).now < (account (after work setup M).accounts s).state.deadline
   ready_early setup M ok on s lt ready = not_late work (all_periods (given setup)) (after work setup M)
       (all_periods_some (given setup) ok.lawful) (sound_after setup M ok) on s lt ready
+
+  -- what a server shows to a caller, in a world that is on time: a deadline that has not come, if it could run
+  pub view_in_time : (M : History W) → IsAdmitted (given M.setup) → IsWorldOnTime work (world_after work M) → (s : ℕ) (r : Result ServerView CoreError)
+      → r ≡ view_reply (slice_get (faces work (world_after work M)) s)
+      → IfOk r (λ v. v.finished < v.accepted → v.throttled ≡ false → (world_after work M).now < v.deadline)
+  view_in_time M ok on s r e =
+      let w = world_after work M in
+      let a = account w.accounts s in
+      elim (cases_lt s (length (faces work w))) [
+        | inl lt ↦
+            let within : s < length w.accounts = omega (arith, length-map w.accounts (face_of work)) in
+            let early : (face_of work a).finished < (face_of work a).accepted → a.state.throttled ≡ false → w.now < a.state.deadline =
+            λ some free. ready_early M.setup M.steps ok (known_on_time M.setup M.steps on) s within (grind (arith, nat_tests)) in
+            rw (e, slice_get-get_or (faces work w) s no_face lt, account_face work w.accounts s) early
+        | inr ge ↦ rw (e, slice_get_past (faces work w) s ge) tt
+      ]
 
   -- a ready server whose deadline has not come is not late
   not_late-false : (now : ℕ) (f : Face) → (is_ready f ≡ true → now < f.state.deadline) → is_late now f ≡ false

@@ -4,7 +4,7 @@ use Rattle.std.specs.Prelude.{slice_get}
 use Rattle.std.proofs.lemmas.List.{take_all, length-map}
 use Rattle.cbs_rate.specs.Rate.{Rate}
 use Rattle.cbs_rules.specs.declared.mode.Mode.{Mode}
-use Rattle.cbs_steps.specs.Faces.{Face, new_face}
+use Rattle.cbs_steps.specs.Faces.{Face, new_face, reservations}
 use Rattle.cbs_steps.specs.Setups.{terms_of}
 
 -- the terms of the first n + 1 servers are those of the first n, and then those of server n
@@ -21,6 +21,13 @@ length-terms [] [] e = refl
 length-terms [] (r ∷ rates) e = cc
 length-terms (m ∷ modes) [] e = cc
 length-terms (m ∷ modes) (r ∷ rates) e = ap suc (length-terms modes rates (omega arith))
+
+-- new servers have the reservations that they were given
+pub new_reservations : (modes : List Mode) (rates : List Rate) → length modes ≡ length rates → reservations (map new_face (terms_of modes rates)) ≡ rates
+new_reservations [] [] e = refl
+new_reservations [] (r ∷ rates) e = cc
+new_reservations (m ∷ modes) [] e = cc
+new_reservations (m ∷ modes) (r ∷ rates) e = ap (λ rs. r ∷ rs) (new_reservations modes rates (omega arith))
 
 module _ (modes : List Mode) (rates : List Rate) where
   -- one more server

@@ -1,5 +1,6 @@
 -- What a core is given.
 use Rattle.std.specs.Prelude.{ℕ, ◌||◌, eqb, ltb, if◌then◌else◌, List, [], ◌∷◌, Option, Some, None}
+use Rattle.cbs_rate.specs.Limits.{most_backlog}
 use Rattle.cbs_rate.specs.Rate.{Rate}
 use Rattle.cbs_rules.specs.Rules.{Terms}
 use Rattle.cbs_rules.specs.declared.mode.Mode.{Mode}
@@ -14,4 +15,4 @@ terms_of (m ∷ modes) (r ∷ rates) = record { mode = m; reservation = r } ∷ 
 
 -- why a backlog is refused, if it is: it is 1 to 4096 jobs
 abbrev pub new_refusal : ℕ → Option CoreError
-new_refusal backlog = if eqb backlog 0 || ltb 4096 backlog then Some error.BadBacklog else None
+new_refusal backlog = if eqb backlog 0 || ltb most_backlog backlog then Some error.BadBacklog else None

@@ -15,15 +15,19 @@ use Rattle.cbs_steps.specs.declared.reply.Reply.{Reply}
 use Rattle.cbs_steps.specs.declared.reply.Reply.TheVariants as reply
 use Rattle.cbs_steps.proofs.Ticks.{ticks_some}
 
+-- a server of this mode with q ticks in every t
 abbrev terms : Mode → ℕ → ℕ → Terms
 terms m q t = record { mode = m; reservation = record { budget = q; period = t } }
 
+-- servers with backlogs of four jobs
 abbrev servers : List Terms → Setup
 servers ts = record { servers = ts; backlog = 4 }
 
+-- one server
 abbrev one : Mode → ℕ → ℕ → Setup
 one m q t = servers (terms m q t ∷ [])
 
+-- steps, the newest first
 abbrev Steps : Type 0
 Steps = List (Step FileJob)
 
@@ -33,22 +37,28 @@ row setup M x s =
     let w = after of_files setup (x ∷ M) in
     (w.now, reply_to of_files setup.backlog (after of_files setup M) x, (account w.accounts s).state)
 
+-- the same of each step, one after another
 abbrev rows : Setup → Steps → List (Step FileJob × ℕ) → List (ℕ × Reply FileJob × State)
 rows setup M [] = []
 rows setup M (x ∷ xs) = row setup M x.0 x.1 ∷ rows setup (x.0 ∷ M) xs
 
+-- a state with this budget and deadline
 abbrev at : ℕ → ℕ → State
 at c d = record { budget = c; deadline = d; throttled = false }
 
+-- the same of a throttled server
 abbrev throttled : ℕ → ℕ → State
 throttled c d = record { budget = c; deadline = d; throttled = true }
 
+-- the job that adds these numbers up
 abbrev sum_of : List ℕ → FileJob
 sum_of ns = Sum (record { numbers = ns; output = 0 })
 
+-- the job that finds the greatest of these numbers
 abbrev peak_of : List ℕ → FileJob
 peak_of ns = Peak (record { numbers = ns; output = 0 })
 
+-- a submit of a sum, and its server
 abbrev submit : ℕ → List ℕ → Step FileJob × ℕ
 submit s ns = (Submit s (sum_of ns), s)
 

@@ -1,20 +1,20 @@
 //! The clients' side: each client on a thread of its own.
 
-ghost use Rattle.std.specs.Prelude.{◌≡◌, ◌<◌, IfOk, length};
-ghost use Rattle.std.specs.Thread.{IsSync};
+ghost use Rattle.std.specs.Prelude.{◌≡◌, IfOk, length};
 
-use cbs_house::{Client, SendError};
+use cbs_house::Client;
 use cbs_job::{SumJob, Task};
 use std::alloc::{AllocError, Global};
-use std::thread::{Threads, join_mut, yield_now};
+use std::thread::{Threads, for_each_mut};
+use std::time::Clock;
 
 /// How many jobs each client sends: many more than its ring and the backlog of its server hold.
 pub const JOBS: u16 = 400;
 
 /// How often a message is tried at a full ring before a client gives up.
-const TRIES: u32 = 10_000_000;
+const TRIES: u64 = 1_000_000;
 
-/// How many units the jobs of a server have: a camera's 3, an encoder's 5, one of telemetry 1.
+/// Returns how many units the jobs of a server have: a camera's 3, an encoder's 5, one of telemetry 1.
 fn units_of(server: u16) -> u16 {
     match server {
         0 => 3,
@@ -23,7 +23,7 @@ fn units_of(server: u16) -> u16 {
     }
 }
 
-/// The numbers of a client's next job, one for each unit.
+/// Returns the numbers of a client's next job, one for each unit.
 fn numbers(alloc: Global, job: u16, units: u16) -> Result<Vec<u32>, AllocError>
     ensures { IfOk result (λ numbers. length numbers.items ≡ units) }
 {
@@ -34,34 +34,9 @@ fn numbers(alloc: Global, job: u16, units: u16) -> Result<Vec<u32>, AllocError>
     Ok(numbers)
 }
 
-/// Sends a job, and waits while the ring is full, so that the house can take what is in it. Whether it was sent.
-fn send(client: &mut Client<SumJob>, task: Task<SumJob>) -> bool {
-    let mut task = task;
-    for _try in 0..TRIES {
-        match client.send(task) {
-            Ok(_number) => return true,
-            Err(refused) => task = refused.task,
-        }
-        yield_now();
-    }
-    false
-}
-
-/// Sends the end, and waits while the ring is full. Whether it was sent.
-fn end(client: &mut Client<SumJob>) -> bool {
-    for _try in 0..TRIES {
-        match client.end() {
-            Ok(()) => return true,
-            Err(SendError::Ended) => return true,
-            Err(SendError::RingFull) => yield_now(),
-        }
-    }
-    false
-}
-
-/// Makes the jobs of a client one by one and sends each, and then the end. False where memory ran out
-/// or a message could not be sent.
-fn send_jobs(alloc: Global, client: &mut Client<SumJob>) -> bool {
+/// Makes the jobs of a client one by one and sends each, and then the end. Returns whether all were sent: false if
+/// memory ran out or a message could not be sent.
+fn send_jobs<R: Clock>(rt: &R, alloc: Global, client: &mut Client<SumJob>) -> bool {
     let units = units_of(client.server());
     for job in 0..JOBS {
         let Ok(numbers) = numbers(alloc, job, units) else {
@@ -70,44 +45,27 @@ fn send_jobs(alloc: Global, client: &mut Client<SumJob>) -> bool {
         let Ok(task) = Task::new(SumJob::new(numbers)) else {
             return false;
         };
-        if !send(client, task) {
+        if client.send_within(rt, task, TRIES).is_err() {
             return false;
         }
     }
-    end(client)
+    client.end_within(rt, TRIES).is_ok()
 }
 
-/// All clients at once, each in a part of its own of the joins.
-#[cycle(senders)]
-pub fn send_all<R: Threads + Sync>(rt: &R, alloc: Global, clients: &mut [Client<SumJob>]) -> bool {
-    if clients.len() < 2 {
-        return match clients.first_mut() {
-            Some(client) => send_jobs(alloc, client),
-            None => true,
-        };
-    }
-    let (front, back) = clients.split_at_mut(clients.len() / 2);
-    send_both(rt, alloc, front, back)
-}
-
-// Two parts at once. A function of its own, so that its closures borrow only what they are given.
-#[cycle(senders)]
-fn send_both<R: Threads + Sync>(
+/// All clients at once, each on a thread of its own. Returns whether each has sent all its jobs and its end.
+pub fn send_all<R: Threads + Clock + Sync>(
     rt: &R,
     alloc: Global,
-    front: &mut [Client<SumJob>],
-    back: &mut [Client<SumJob>],
-) -> bool
-    requires { (0 < length front.old) × (0 < length back.old) }
-{
-    let (a, b) = join_mut(
+    clients: &mut [Client<SumJob>],
+) -> bool {
+    let threads = clients.len().max(1);
+    for_each_mut(
         rt,
-        &mut || -> bool
-            requires { IsSync R.row }
-        { send_all(rt, alloc, front) },
-        &mut || -> bool
-            requires { IsSync R.row }
-        { send_all(rt, alloc, back) },
+        clients,
+        threads,
+        &|_, client| {
+            send_jobs(rt, alloc, client);
+        },
     );
-    a && b
+    clients.iter().all(|client| client.ended())
 }

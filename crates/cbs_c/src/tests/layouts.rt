@@ -5,7 +5,7 @@
 
 use super::same;
 use crate::{Event, TurnEvent, View};
-use cbs_embed::{Kept, Server};
+use cbs_embed::{Handle, Server};
 use std::alloc::Global;
 use std::fmt::Debug;
 use std::mem::{align_of, align_of_val, size_of, size_of_val};
@@ -146,7 +146,7 @@ fn a_server_and_a_handle_lie_as_in_c(rt: HostRuntime) {
     same(
         &rt,
         "handle",
-        (size_of::<Kept>(), align_of::<Kept>()),
+        (size_of::<Handle>(), align_of::<Handle>()),
         (16, 8),
     );
 }

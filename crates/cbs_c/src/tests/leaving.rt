@@ -5,8 +5,7 @@ use crate::View;
 use crate::client::{cbs_end, cbs_send};
 use crate::handles::cbs_free;
 use crate::house::{cbs_poll, cbs_promised, cbs_view};
-use cbs_embed::Kept;
-use std::alloc::Global;
+use cbs_embed::Handle;
 use std::process::Abort;
 
 const HOUSE_GONE: u32 = 0x605;
@@ -14,9 +13,9 @@ const HOUSE_GONE: u32 = 0x605;
 const NO_SUCH_SERVER: u32 = 0x304;
 
 /// A send is refused by this status, and writes no number.
-fn refuses_send(rt: &impl Abort, alloc: Global, client: &mut Kept, units: u32, status: u32) {
+fn refuses_send(rt: &impl Abort, client: &mut Handle, units: u32, status: u32) {
     let mut seq = 9;
-    is(rt, cbs_send(alloc, client, 1, units, &mut seq), status);
+    is(rt, cbs_send(client, 1, units, &mut seq), status);
     same(rt, "number", seq, 9);
 }
 
@@ -24,20 +23,20 @@ fn refuses_send(rt: &impl Abort, alloc: Global, client: &mut Kept, units: u32, s
 fn a_freed_client_closes_its_server(rt: HostRuntime) {
     let alloc = rt.alloc();
     let (mut house, mut soft, mut throttled) = opened(&rt, alloc, 1);
-    sends(&rt, alloc, &mut soft, 7, 1, 0);
-    refuses_send(&rt, alloc, &mut soft, 1, 0x502);
+    sends(&rt, &mut soft, 7, 1, 0);
+    refuses_send(&rt, &mut soft, 1, 0x502);
     cbs_free(alloc, &mut soft);
-    polls(&rt, alloc, &mut house, 0, 1);
-    polls(&rt, alloc, &mut house, 0, 2);
-    polls(&rt, alloc, &mut house, 0, 0);
+    polls(&rt, &mut house, 0, 1);
+    polls(&rt, &mut house, 0, 2);
+    polls(&rt, &mut house, 0, 0);
     let mut view = NO_VIEW;
-    is(&rt, cbs_view(alloc, &mut house, 0, &mut view), 0);
+    is(&rt, cbs_view(&mut house, 0, &mut view), 0);
     same(&rt, "view", (view.accepted, view.closed), (1, true));
     // The other one has ended before.
-    is(&rt, cbs_end(alloc, &mut throttled), 0);
+    is(&rt, cbs_end(&mut throttled), 0);
     cbs_free(alloc, &mut throttled);
-    polls(&rt, alloc, &mut house, 1, 2);
-    polls(&rt, alloc, &mut house, 1, 0);
+    polls(&rt, &mut house, 1, 2);
+    polls(&rt, &mut house, 1, 0);
     cbs_free(alloc, &mut house);
 }
 
@@ -45,16 +44,16 @@ fn a_freed_client_closes_its_server(rt: HostRuntime) {
 fn a_client_of_a_freed_house_is_refused(rt: HostRuntime) {
     let alloc = rt.alloc();
     let (mut house, mut soft, mut throttled) = opened(&rt, alloc, 1);
-    sends(&rt, alloc, &mut soft, 7, 1, 0);
-    is(&rt, cbs_end(alloc, &mut throttled), 0);
+    sends(&rt, &mut soft, 7, 1, 0);
+    is(&rt, cbs_end(&mut throttled), 0);
     cbs_free(alloc, &mut house);
-    refuses_send(&rt, alloc, &mut soft, 0, 0x401);
+    refuses_send(&rt, &mut soft, 0, 0x401);
     // At a full ring, and after an end.
-    refuses_send(&rt, alloc, &mut soft, 1, HOUSE_GONE);
-    is(&rt, cbs_end(alloc, &mut soft), HOUSE_GONE);
-    waits(&rt, alloc, &mut soft, 1);
-    refuses_send(&rt, alloc, &mut throttled, 1, HOUSE_GONE);
-    is(&rt, cbs_end(alloc, &mut throttled), HOUSE_GONE);
+    refuses_send(&rt, &mut soft, 1, HOUSE_GONE);
+    is(&rt, cbs_end(&mut soft), HOUSE_GONE);
+    waits(&rt, &mut soft, 1);
+    refuses_send(&rt, &mut throttled, 1, HOUSE_GONE);
+    is(&rt, cbs_end(&mut throttled), HOUSE_GONE);
     cbs_free(alloc, &mut soft);
     cbs_free(alloc, &mut throttled);
 }
@@ -63,34 +62,26 @@ fn a_client_of_a_freed_house_is_refused(rt: HostRuntime) {
 fn a_client_sees_what_was_taken(rt: HostRuntime) {
     let alloc = rt.alloc();
     let (mut house, mut soft, mut throttled) = opened(&rt, alloc, 4);
-    sends(&rt, alloc, &mut soft, 7, 1, 0);
-    sends(&rt, alloc, &mut soft, 8, 1, 1);
-    waits(&rt, alloc, &mut soft, 2);
-    polls(&rt, alloc, &mut house, 0, 1);
-    waits(&rt, alloc, &mut soft, 1);
-    polls(&rt, alloc, &mut house, 0, 1);
-    waits(&rt, alloc, &mut soft, 0);
-    waits(&rt, alloc, &mut throttled, 0);
+    sends(&rt, &mut soft, 7, 1, 0);
+    sends(&rt, &mut soft, 8, 1, 1);
+    waits(&rt, &mut soft, 2);
+    polls(&rt, &mut house, 0, 1);
+    waits(&rt, &mut soft, 1);
+    polls(&rt, &mut house, 0, 1);
+    waits(&rt, &mut soft, 0);
+    waits(&rt, &mut throttled, 0);
 }
 
 /// The house has no server of this number, and each call says so and writes nothing.
-fn knows_no_server(rt: &impl Abort, alloc: Global, house: &mut Kept, server: u16) {
+fn knows_no_server(rt: &impl Abort, house: &mut Handle, server: u16) {
     let mut kind = 9;
-    is(
-        rt,
-        cbs_poll(alloc, house, server, &mut kind),
-        NO_SUCH_SERVER,
-    );
+    is(rt, cbs_poll(house, server, &mut kind), NO_SUCH_SERVER);
     same(rt, "kind", kind, 9);
     let mut view = NO_VIEW;
-    is(
-        rt,
-        cbs_view(alloc, house, server, &mut view),
-        NO_SUCH_SERVER,
-    );
+    is(rt, cbs_view(house, server, &mut view), NO_SUCH_SERVER);
     same(rt, "view", view, NO_VIEW);
     let (mut lower, mut upper) = (8, 9);
-    let status = cbs_promised(alloc, house, server, &mut lower, &mut upper);
+    let status = cbs_promised(house, server, &mut lower, &mut upper);
     is(rt, status, NO_SUCH_SERVER);
     same(rt, "promised", (lower, upper), (8, 9));
 }
@@ -99,11 +90,11 @@ fn knows_no_server(rt: &impl Abort, alloc: Global, house: &mut Kept, server: u16
 fn a_server_that_is_not_there_is_refused(rt: HostRuntime) {
     let alloc = rt.alloc();
     let (mut house, mut soft, mut throttled) = opened(&rt, alloc, 1);
-    sends(&rt, alloc, &mut soft, 7, 1, 0);
+    sends(&rt, &mut soft, 7, 1, 0);
     for server in [2, 63, 64, 65535] {
-        knows_no_server(&rt, alloc, &mut house, server);
+        knows_no_server(&rt, &mut house, server);
     }
-    polls(&rt, alloc, &mut house, 0, 1);
-    polls(&rt, alloc, &mut house, 1, 0);
+    polls(&rt, &mut house, 0, 1);
+    polls(&rt, &mut house, 1, 0);
     cbs_free(alloc, &mut throttled);
 }

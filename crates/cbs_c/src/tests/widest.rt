@@ -2,7 +2,7 @@
 
 use super::{event, is, sends, turns};
 use crate::handles::{cbs_greatest_budget, cbs_open};
-use cbs_embed::{Kept, Server};
+use cbs_embed::{Handle, Server};
 use std::alloc::Global;
 use std::process::Abort;
 
@@ -14,48 +14,47 @@ const NARROW: Server = Server {
 };
 
 /// So many handles that are not open.
-fn handles(rt: &impl Abort, alloc: Global, count: usize) -> Vec<Kept> {
+fn handles(rt: &impl Abort, alloc: Global, count: usize) -> Vec<Handle> {
     let mut all = Vec::new(alloc);
     for _handle in 0..count {
-        all.push(Kept::shut(alloc)).ok().expect(rt, "memory");
+        all.push(Handle::shut(alloc)).ok().expect(rt, "memory");
     }
     all
 }
 
 /// Each client sends a job of one unit, whose token is the place of the client.
-fn sends_each(rt: &impl Abort, alloc: Global, clients: &mut [Kept]) {
+fn sends_each(rt: &impl Abort, clients: &mut [Handle]) {
     for (place, client) in clients.iter_mut().enumerate() {
-        sends(rt, alloc, client, place as u64, 1, 0);
+        sends(rt, client, place as u64, 1, 0);
     }
 }
 
 #[test]
 fn a_house_of_64_servers_serves_each(rt: HostRuntime) {
     let alloc = rt.alloc();
-    let mut house = Kept::shut(alloc);
+    let mut house = Handle::shut(alloc);
     let mut clients = handles(&rt, alloc, 64);
     let status = cbs_open(alloc, &[NARROW; 64], 1, 1, &mut house, &mut clients);
     is(&rt, status, 0);
-    sends_each(&rt, alloc, &mut clients);
+    sends_each(&rt, &mut clients);
     // The first turn takes all jobs. All deadlines are 64, so the lowest number is first.
-    turns(&rt, alloc, &mut house, 64, 0, event(3, 0, 0, 0));
+    turns(&rt, &mut house, 64, 0, event(3, 0, 0, 0));
     for server in 1..64 {
         turns(
             &rt,
-            alloc,
             &mut house,
             0,
             0,
             event(3, server, 0, u64::from(server)),
         );
     }
-    turns(&rt, alloc, &mut house, 0, 0, event(0, 0, 0, 0));
+    turns(&rt, &mut house, 0, 0, event(0, 0, 0, 0));
 }
 
 #[test]
 fn no_house_has_65_servers(rt: HostRuntime) {
     let alloc = rt.alloc();
-    let mut house = Kept::shut(alloc);
+    let mut house = Handle::shut(alloc);
     let mut clients = handles(&rt, alloc, 65);
     let narrow = Server {
         period: 65,

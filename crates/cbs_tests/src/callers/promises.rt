@@ -4,14 +4,14 @@ ghost use Rattle.std.specs.Prelude.{◌≡◌, Some, IfOk, IfSome, length};
 ghost use Rattle.cbs_core.specs.Agreement.{Agrees};
 ghost use Rattle.cbs_steps.specs.History.{History};
 ghost use Rattle.cbs_steps.specs.Promises.{AllFinishedBy};
-ghost use Rattle.cbs_house.specs.Houses.{core_of};
+ghost use Rattle.cbs_clients.specs.Houses.{core_of};
 ghost use Rattle.cbs_embed.specs.Calls.{TheHouse};
 ghost use Rattle.cbs_embed.specs.Jobs.{counting};
-ghost use Rattle.cbs_embed.specs.Kepts.{held_by};
-ghost use Rattle.cbs_embed.specs.declared.inside.Inside.TheVariants as inside;
+ghost use Rattle.cbs_embed.specs.Handles.{held_by};
+ghost use Rattle.cbs_embed.specs.declared.held.Held.TheVariants as held;
 ghost use Rattle.cbs_embed.specs.declared.job.UnitJob as job;
 
-use cbs_embed::{Kept, Refusal, Server, calls, open};
+use cbs_embed::{Handle, Refusal, Server, calls, open};
 use cbs_house::{House, HouseError, open_house};
 use cbs_job::Work;
 use cbs_rate::Plan;
@@ -42,16 +42,16 @@ pub fn promised_after_turns<W: Work>(
 pub fn told_after_turns(
     alloc: Global,
     servers: &[Server],
-    house: &mut Kept,
-    clients: &mut [Kept],
+    house: &mut Handle,
+    clients: &mut [Handle],
     turns: u64,
 ) -> Result<Option<u128>, Refusal>
-    ensures { IfOk result (λ told. (h : TheHouse) → held_by house.new ≡ Some (inside.House h)
+    ensures { IfOk result (λ told. (h : TheHouse) → held_by house.new ≡ Some (held.House h)
         → IfSome told (λ tick. (M : History job.UnitJob) → Agrees counting (core_of h) M → AllFinishedBy counting M 0 tick)) }
 {
     open(alloc, servers, 4, 4, house, clients)?;
     for _ in 0..turns {
-        calls::turn(alloc, house)?;
+        calls::turn(house)?;
     }
-    calls::promised(alloc, house, 0)
+    calls::promised(house, 0)
 }

@@ -2,8 +2,8 @@
 
 ghost use Rattle.std.specs.Prelude.{◌≡◌, ◌++◌, IfOk, IfSome, length};
 ghost use Rattle.cbs_core.specs.Held.{HoldsNoJob};
-ghost use Rattle.cbs_house.specs.Clients.{server_of, sent_by};
-ghost use Rattle.cbs_house.specs.Houses.{core_of, received, known};
+ghost use Rattle.cbs_clients.specs.Clients.{server_of, sent_by};
+ghost use Rattle.cbs_clients.specs.Houses.{core_of, received, known};
 
 use cbs_house::{
     Client, Feed, House, HouseError, OpenGate, feeds_of, open_feeds, open_house, serve,

@@ -1,9 +1,8 @@
 //! The calls of the house and the collector that take memory.
 
 ghost use Rattle.std.specs.Prelude.{◌≡◌, length, IfOk};
-ghost use Rattle.cbs_house.specs.Clients.{SameClient};
-ghost use Rattle.cbs_house.specs.Houses.{rings_of};
-ghost use Rattle.cbs_house.specs.RingEnds.{IsOpened};
+ghost use Rattle.cbs_clients.specs.Clients.{SameClient, IsOpened};
+ghost use Rattle.cbs_clients.specs.Houses.{rings_of};
 
 use super::telling::{begin, tell};
 use crate::setup::{lists_of, plan_of, sum_of};
@@ -92,11 +91,6 @@ pub fn new_collector(rt: &impl Print, alloc: Global) -> Result<()> {
     Ok(())
 }
 
-/// Makes a place for one more result.
-fn makes_place(rt: &impl Print, what: &str, collector: &mut Collector) {
-    tell(rt, what, collector.make_room(0));
-}
-
 /// Announces a completion.
 fn announces(rt: &impl Print, what: &str, collector: &mut Collector) {
     tell(rt, what, collector.expect(0));
@@ -112,20 +106,15 @@ fn takes(rt: &impl Print, what: &str, collector: &mut Collector, seq: u64, outpu
     tell(rt, what, collector.take(done));
 }
 
-/// Prints the results.
-fn tell_results(rt: &impl Print, collector: &Collector) {
-    tell(rt, "results", collector.results(0));
-}
-
 /// A place for a result, and no announcement.
 pub fn collector_room(rt: &impl Print, alloc: Global) -> Result<()> {
     let mut collector = Collector::new(alloc, 1)?;
     begin(rt);
-    makes_place(rt, "first", &mut collector);
+    tell(rt, "first", collector.make_room(0));
     takes(rt, "take", &mut collector, 0, 6);
-    makes_place(rt, "again", &mut collector);
+    tell(rt, "again", collector.make_room(0));
     takes(rt, "take", &mut collector, 0, 6);
-    tell_results(rt, &collector);
+    tell(rt, "results", collector.results(0));
     Ok(())
 }
 
@@ -138,7 +127,7 @@ pub fn announce(rt: &impl Print, alloc: Global) -> Result<()> {
     announces(rt, "again", &mut collector);
     takes(rt, "take", &mut collector, 0, 6);
     takes(rt, "take the next", &mut collector, 1, 7);
-    tell_results(rt, &collector);
+    tell(rt, "results", collector.results(0));
     Ok(())
 }
 

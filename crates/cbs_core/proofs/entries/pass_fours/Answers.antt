@@ -1,8 +1,9 @@
-use Rattle.std.proofs.Common.{◌≡◌, ◌-◌, true, length, take, get_or, sym, ◌∙◌, arith}
-use Rattle.std.proofs.lemmas.List.{length-take-le}
+use Rattle.std.proofs.Common.{◌-◌, length, take, get_or, sym, ◌∙◌, arith}
+use Rattle.std.proofs.lemmas.List.{length-take-le, drop_all}
+use Rattle.std.proofs.lemmas.List.Edits.{get_or-insert_below}
 use Rattle.cbs_core.specs.declared.entries.Entry.{Entry}
-use Rattle.cbs_core.specs.ReadyList.{is_ahead}
-use Rattle.cbs_core.proofs.Slots.{last_behind, none_beyond, read_far, far_moved, ahead_from}
+use Rattle.cbs_lists.proofs.FreeSlots.{last_behind, far_moved}
+use Rattle.cbs_core.proofs.Slots.{ahead_from}
 use Rattle.cbs_core.proofs.entries.pass_fours.Goals as goal
 
 pub loop-place-init : goal.loop-place-init
@@ -12,7 +13,7 @@ loop-place-init c =
     record {
       within = omega (arith, long);
       moved = last_behind es c.requires.some;
-      behind = none_beyond (λ e. is_ahead c.args.entry e ≡ true) (take (length es - 1) es) (length es - 1) (omega (arith, long));
+      behind = rw (drop_all (length es - 1) (take (length es - 1) es) (omega (arith, long))) tt;
     }
 
 pub loop-place-preserved : goal.loop-place-preserved
@@ -23,9 +24,11 @@ loop-place-preserved c =
     let some = c.loop-place-test.true in
     let within = i.within in
     let none : Entry = record { deadline = 0; server = 0 } in
-    let ahead = rw (read_far es l.place i.moved.0 none l.entries i.moved.1 some within) at (sym c.is_ahead.ensures ∙ c.if-is_ahead.true) in
+    let read = get_or-insert_below es l.place i.moved.0 none (l.place - 4) (omega arith) within in
+    let ahead = rw (i.moved.1, read) at (sym c.is_ahead.ensures ∙ c.if-is_ahead.true) in
+    let moved = far_moved es l.entries (l.place - 4) l.place i.moved.0 none (omega arith) within i.moved.1 in
     record {
       within = omega (arith, some, within);
-      moved = (get_or es (l.place - 4) none, c.copy_within.ensures.after ∙ far_moved es l.place i.moved.0 none l.entries i.moved.1 some within);
+      moved = (get_or es (l.place - 4) none, c.copy_within.ensures.after ∙ moved);
       behind = ahead_from c.args.entry es (l.place - 4) none c.requires.order (omega (arith, some, within)) ahead;
     }

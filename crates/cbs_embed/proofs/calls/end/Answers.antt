@@ -1,6 +1,13 @@
-use Rattle.cbs_embed.specs.Calls.{InClient, Ends}
-use Rattle.cbs_embed.proofs.Held.{on_held}
+use Rattle.std.proofs.Common.{refl, rules}
+use Rattle.cbs_embed.specs.Calls.{Ends}
+use Rattle.cbs_embed.specs.Handles.{held_by}
+use Rattle.cbs_embed.proofs.InHandles.{no_client, on_client}
 use Rattle.cbs_embed.proofs.calls.end.Goals as goal
 
+pub returns-in_err-client_mut : goal.returns-in_err-client_mut
+returns-in_err-client_mut c = no_client Ends (held_by c.args.handle.now) c.in_err-client_mut.ensures.value
+    (rw c.in_err-client_mut.was at c.client_mut.follows.holds-at-none) (search rules)
+
 pub returns : goal.returns
-returns c = on_held (InClient Ends) c.in-Some.ensures.taken c.deref_mut.ensures.value c.put.ensures c.end_inside-answer.ensures
+returns c = on_client Ends c.in_ok-client_mut.ensures.value
+    (c.client_mut.follows.holds c.end_of.new.client (rw c.in_ok-client_mut.was refl)) c.end_of.ensures

@@ -1,6 +1,13 @@
-use Rattle.cbs_embed.specs.Calls.{InHouse, Turns}
-use Rattle.cbs_embed.proofs.Held.{on_held}
+use Rattle.std.proofs.Common.{refl, rules}
+use Rattle.cbs_embed.specs.Calls.{Turns}
+use Rattle.cbs_embed.specs.Handles.{held_by}
+use Rattle.cbs_embed.proofs.InHandles.{no_house, on_house}
 use Rattle.cbs_embed.proofs.calls.turn.Goals as goal
 
+pub returns-in_err-house_mut : goal.returns-in_err-house_mut
+returns-in_err-house_mut c = no_house Turns (held_by c.args.handle.now) c.in_err-house_mut.ensures.value
+    (rw c.in_err-house_mut.was at c.house_mut.follows.holds-at-none) (search rules)
+
 pub returns : goal.returns
-returns c = on_held (InHouse Turns) c.in-Some.ensures.taken c.deref_mut.ensures.value c.put.ensures c.turn_inside-answer.ensures
+returns c = on_house Turns c.in_ok-house_mut.ensures.value
+    (c.house_mut.follows.holds c.turn_house.new.house (rw c.in_ok-house_mut.was refl)) c.turn_house.ensures

@@ -1,6 +1,13 @@
-use Rattle.cbs_embed.specs.Calls.{InHouse, Shows}
-use Rattle.cbs_embed.proofs.Held.{on_held}
+use Rattle.std.proofs.Common.{refl, rules}
+use Rattle.cbs_embed.specs.Calls.{Shows}
+use Rattle.cbs_embed.specs.Handles.{held_by}
+use Rattle.cbs_embed.proofs.InHandles.{no_house, on_house}
 use Rattle.cbs_embed.proofs.calls.view.Goals as goal
 
+pub returns-in_err-house_mut : goal.returns-in_err-house_mut
+returns-in_err-house_mut c = no_house (Shows c.args.server) (held_by c.args.handle.now) c.in_err-house_mut.ensures.value
+    (rw c.in_err-house_mut.was at c.house_mut.follows.holds-at-none) (search rules)
+
 pub returns : goal.returns
-returns c = on_held (InHouse (Shows c.args.server)) c.in-Some.ensures.taken c.deref_mut.ensures.value c.put.ensures c.view_inside-answer.ensures
+returns c = on_house (Shows c.args.server) c.in_ok-house_mut.ensures.value
+    (c.house_mut.follows.holds c.view_house.new.house (rw c.in_ok-house_mut.was refl)) c.view_house.ensures

@@ -1,6 +1,6 @@
 use Rattle.std.proofs.Common.{◌≡◌, ◌++◌, length, map, Some}
 use Rattle.std.specs.Vec.Iter.{into_iter_items, into_iter_len}
-use Rattle.cbs_embed.specs.declared.inside.Inside.TheVariants.{Client}
+use Rattle.cbs_embed.specs.declared.held.Held.TheVariants.{Client}
 use Rattle.cbs_embed.proofs.opening.box_all.Given as goal
 
 abbrev pub invariant-loop-client : goal.invariant-loop-client

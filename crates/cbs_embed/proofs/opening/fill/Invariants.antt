@@ -1,5 +1,5 @@
 use Rattle.std.proofs.Common.{◌≡◌, ◌+◌, ◌++◌, length, map, take, Some}
-use Rattle.cbs_embed.specs.Kepts.{held_by}
+use Rattle.cbs_embed.specs.Handles.{held_by}
 use Rattle.cbs_embed.proofs.opening.fill.Given as goal
 
 abbrev pub invariant-loop-handle : goal.invariant-loop-handle

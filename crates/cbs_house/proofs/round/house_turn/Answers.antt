@@ -1,4 +1,4 @@
-use Rattle.cbs_house.proofs.Turns.{turn_taken}
+use Rattle.cbs_house.proofs.Rounds.{turn_taken}
 use Rattle.cbs_house.proofs.round.house_turn.Goals as goal
 
 pub returns-clause-turn : goal.returns-clause-turn

@@ -1,5 +1,6 @@
 use Rattle.std.proofs.Common.{arith}
-use Rattle.cbs_house.proofs.Turns.{turns_none, turns_next, turns_within, same_servers}
+use Rattle.cbs_house.proofs.Rounds.{turns_none, turns_next, turns_within}
+use Rattle.cbs_clients.proofs.PolledServers.{same_servers}
 use Rattle.cbs_house.proofs.round.house_turns.Goals as goal
 
 pub loop-init : goal.loop-init

@@ -1,6 +1,6 @@
 use Rattle.std.proofs.Common.{◌≤◌, ◌*◌, length}
-use Rattle.cbs_house.specs.Houses.{core_of}
-use Rattle.cbs_house.specs.Turns.{TakesExactly}
+use Rattle.cbs_clients.specs.Houses.{core_of}
+use Rattle.cbs_house.specs.Rounds.{TakesExactly}
 use Rattle.cbs_house.proofs.round.house_turns.Given as goal
 
 abbrev pub invariant-loop : goal.invariant-loop

@@ -1,6 +1,6 @@
 use Rattle.cbs_house.proofs.Feeds.{ready_on}
-use Rattle.cbs_house.proofs.Turns.{turns_rings, serves_turns}
-use Rattle.cbs_house.proofs.Moves.{serves_on_time}
+use Rattle.cbs_house.proofs.Rounds.{turns_rings, serves_turns}
+use Rattle.cbs_clients.proofs.Moves.{serves_on_time}
 use Rattle.cbs_house.proofs.round.serve_round.Goals as goal
 
 pub returns-clause-ready : goal.returns-clause-ready

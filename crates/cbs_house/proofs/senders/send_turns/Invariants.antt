@@ -1,5 +1,5 @@
 use Rattle.std.proofs.Common.{◌≡◌, ◌+◌, ◌≤◌, length}
-use Rattle.cbs_house.specs.Clients.{sent_by}
+use Rattle.cbs_clients.specs.Clients.{sent_by}
 use Rattle.cbs_house.specs.Feeds.{KeepsFeed}
 use Rattle.cbs_house.proofs.senders.send_turns.Given as goal
 

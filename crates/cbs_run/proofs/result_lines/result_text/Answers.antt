@@ -1,14 +1,17 @@
-use Rattle.std.proofs.Common.{◌≡◌, ◌++◌, string_bytes}
-use Rattle.cbs_run.specs.ResultLines.{server_line}
-use Rattle.cbs_run.proofs.ResultLines.{line_more, lines_done}
+use Rattle.std.proofs.Common.{◌≡◌, ◌∙◌, length, ap, arith}
+use Rattle.cbs_clients.specs.Houses.{core_of, results_of}
+use Rattle.cbs_run.specs.ResultLines.{kept_lines}
+use Rattle.cbs_run.proofs.ResultLines.{line_more}
 use Rattle.cbs_run.proofs.result_lines.result_text.Goals as goal
 
 pub loop-server-preserved : goal.loop-server-preserved
 loop-server-preserved c =
-    let wrote : string_bytes c.append_line.new.text ≡ string_bytes c.loop-server.text
-    ++ server_line c.loop-server.server c.index-results-server.result.items = rw (← c.deref.ensures.value) c.in_ok-append_line.ensures in
-    line_more (λ v. v.items) c.args.results.now c.loop-server.server c.index-results-server.result _ _ _ c.loop-server-test.true
-    c.index-results-server.is wrote c.loop-server.invariant
+    let l = c.loop-server in
+    let found = rw c.unwrap-results.ensures at c.results.ensures.ok in
+    line_more (results_of c.args.house.now) l.server _ _ (rw found.1 at c.in_ok-append_line.ensures) l.invariant
 
 pub returns : goal.returns
-returns c = lines_done (λ v. v.items) c.args.results.now c.loop-server.server _ _ c.loop-server-test.false c.loop-server.invariant
+returns c =
+    let all : c.loop-server.server ≡ length (core_of c.args.house.now).faces =
+    omega (arith, c.servers-server-end.ensures.value, c.loop-server-test.false) in
+    c.loop-server.invariant ∙ ap (kept_lines (results_of c.args.house.now)) all

@@ -1,6 +1,6 @@
 use Rattle.std.proofs.Common.{◌∙◌, length}
 use Rattle.cbs_job.specs.FileJobs.{of_files}
-use Rattle.cbs_house.proofs.Moves.{serves_handed}
+use Rattle.cbs_clients.proofs.Moves.{serves_handed}
 use Rattle.cbs_run.proofs.HouseResults.{results_are, by_server, served_count, stops_short}
 use Rattle.std.proofs.lemmas.Result.{err_from_is_err_and}
 use Rattle.cbs_run.proofs.serve.served_house.Goals as goal

@@ -4,7 +4,7 @@
 //! makes many of them is proved fast. A sequence of calls of one house and its client stands in rows
 //! instead (`rows`).
 
-ghost use Rattle.cbs_house.specs.Clients.{SameClient};
+ghost use Rattle.cbs_clients.specs.Clients.{SameClient};
 
 use super::same;
 use cbs_core::Ran;

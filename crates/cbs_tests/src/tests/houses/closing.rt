@@ -2,7 +2,7 @@
 
 ghost use Rattle.std.specs.Prelude.{◌≡◌};
 ghost use Rattle.std.specs.Thread.{IsSync};
-ghost use Rattle.cbs_house.specs.Houses.{rings_of};
+ghost use Rattle.cbs_clients.specs.Houses.{rings_of};
 
 use super::calls::{ends, gave, sends, stands_at};
 use super::rows::{Opened, Row};

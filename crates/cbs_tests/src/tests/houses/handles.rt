@@ -1,7 +1,7 @@
-//! That what a handle keeps may go to another thread, and the text of each status.
+//! That what a handle holds may go to another thread, and the text of each status.
 
 use crate::tests::{same, says};
-use cbs_embed::{Inside, Kept, KeptError, Refusal, text_of};
+use cbs_embed::{Handle, HandleError, Held, Refusal, text_of};
 use cbs_house::{HouseError, SendError};
 use cbs_job::TaskError;
 use cbs_rate::{AdmitError, RateError};
@@ -17,9 +17,9 @@ fn crossing<T: Send>(value: T) -> T {
 #[test]
 fn may_cross(rt: HostRuntime) {
     let alloc = rt.alloc();
-    let mut kept = crossing(Kept::shut(alloc));
-    let inside = kept.take(alloc).map(|inside: Box<Inside>| crossing(inside));
-    assert!(rt; inside.is_none());
+    let mut handle = crossing(Handle::shut(alloc));
+    let held = handle.take(alloc).map(|held: Box<Held>| crossing(held));
+    assert!(rt; held.is_none());
 }
 
 /// A refusal is told by this status, and the status by the text of its error.
@@ -70,31 +70,35 @@ fn houses_and_clients_refuse_by_their_texts(rt: HostRuntime) {
 }
 
 /// A handle is refused by this status, and the status has this text.
-fn refused(rt: &impl Abort, error: KeptError, status: u32, text: &str) {
-    same(rt, "status", Refusal::Kept(error).status(), status);
+fn refused(rt: &impl Abort, error: HandleError, status: u32, text: &str) {
+    same(rt, "status", Refusal::Handle(error).status(), status);
     same(rt, "text", text_of(status), text);
 }
 
 #[test]
 fn handles_are_refused_by_texts_of_their_own(rt: HostRuntime) {
     for (error, status, text) in [
-        (KeptError::NotOpen, 0x601, "the handle is not open"),
+        (HandleError::NotOpen, 0x601, "the handle is not open"),
         (
-            KeptError::OtherKind,
+            HandleError::OtherKind,
             0x602,
             "the handle is of the other kind",
         ),
         (
-            KeptError::WrongCount,
+            HandleError::WrongCount,
             0x603,
             "there are not as many clients as servers",
         ),
         (
-            KeptError::BadMode,
+            HandleError::BadMode,
             0x604,
             "the mode is neither soft nor throttled",
         ),
-        (KeptError::HouseGone, 0x605, "the client's house was freed"),
+        (
+            HandleError::HouseGone,
+            0x605,
+            "the client's house was freed",
+        ),
     ] {
         refused(&rt, error, status, text);
     }

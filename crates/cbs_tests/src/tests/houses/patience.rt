@@ -6,7 +6,7 @@ use super::polling::one_client;
 use super::{filled, lists_of, plan_of, same, same_at, sum_of};
 use cbs_core::Ran;
 use cbs_house::{
-    Feed, Gate, House, HouseError, NoSink, Poll, Turn, open_feeds, serve, serve_round,
+    Feed, Gate, House, HouseError, NoSink, Poll, SendError, Turn, open_feeds, serve, serve_round,
 };
 use cbs_job::SumJob;
 use cbs_rules::{Mode, Modes};
@@ -204,4 +204,39 @@ fn a_run_stops_at_the_first_poll_without_memory(rt: HostRuntime) {
     let answer = house.run_until_closed(&naps, &mut NoSink, 100_000);
     same(&rt, "with memory", answer, Ok(()));
     same(&rt, "now", house.now(), 3);
+}
+
+/// In how many tries a client gives up at a full ring, and how it slept meanwhile: after each try but the last it rests
+/// as a house does after an idle turn.
+const TRIES: [(u64, (u64, u64, u64)); 4] = [
+    (0, (0, 0, 0)),
+    (1, (0, 0, 0)),
+    (192, (0, 0, 0)),
+    (193, (1, 200, 200)),
+];
+
+#[test]
+fn a_client_tries_as_often_as_it_is_told(rt: HostRuntime) {
+    let alloc = rt.alloc();
+    let (mut house, mut client) = one_client(&rt, alloc, Mode::Soft, (2, 5), (4, 1));
+    let sent = client.send_within(&Naps::none(), sum_of(&rt, alloc, &[1]), 0);
+    same(&rt, "at a free ring", sent.ok(), Some(0));
+    for (place, &(tries, wanted)) in TRIES.iter().enumerate() {
+        let at = ("tries", place);
+        let naps = Naps::none();
+        let sent = client.send_within(&naps, sum_of(&rt, alloc, &[2]), tries);
+        let error = sent.err().map(|refused| refused.error);
+        same_at(&rt, at, "send_within", error, Some(SendError::RingFull));
+        same_at(&rt, at, "sleeps of a send", naps.seen(), wanted);
+        let naps = Naps::none();
+        let ended = client.end_within(&naps, tries);
+        same_at(&rt, at, "end_within", ended, Err(SendError::RingFull));
+        same_at(&rt, at, "sleeps of an end", naps.seen(), wanted);
+    }
+    same(&rt, "poll", house.poll(0), Poll::Took(0));
+    let naps = Naps::none();
+    same(&rt, "end_within", client.end_within(&naps, 1000), Ok(()));
+    let ended = client.end_within(&naps, 1000);
+    same(&rt, "after the end", ended, Err(SendError::Ended));
+    same(&rt, "sleeps", naps.seen(), (0, 0, 0));
 }

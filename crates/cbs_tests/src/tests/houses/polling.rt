@@ -1,7 +1,7 @@
 //! Messages on their way from a client to the results.
 
-ghost use Rattle.cbs_house.specs.Houses.{rings_of};
-ghost use Rattle.cbs_house.specs.RingEnds.{IsOpened};
+ghost use Rattle.cbs_clients.specs.Houses.{rings_of};
+ghost use Rattle.cbs_clients.specs.Clients.{IsOpened};
 
 use super::calls::{polls, sends};
 use super::rows::{Case, Opened, Row, does_all, plays_all};

@@ -1,8 +1,8 @@
 //! Calls of a house and of its only client in rows, each with what it answers.
 
 ghost use Rattle.std.specs.Prelude.{◌≡◌};
-ghost use Rattle.cbs_house.specs.Houses.{rings_of};
-ghost use Rattle.cbs_house.specs.RingEnds.{IsOpened};
+ghost use Rattle.cbs_clients.specs.Houses.{rings_of};
+ghost use Rattle.cbs_clients.specs.Clients.{IsOpened};
 
 use super::polling::one_client;
 use super::{same_at, sum_of};

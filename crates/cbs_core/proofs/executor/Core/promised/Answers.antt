@@ -1,5 +1,5 @@
 use Rattle.std.proofs.Common.{arith}
-use Rattle.cbs_core.proofs.Agreements.{promised_held, promised_beyond}
+use Rattle.cbs_core.proofs.Agreements.{promised_held}
 use Rattle.cbs_core.proofs.Cores.{server_at, queue_count}
 use Rattle.cbs_core.proofs.LawfulCores.{promised_kept}
 use Rattle.cbs_core.proofs.executor.Core.promised.Goals as goal
@@ -12,9 +12,6 @@ promised-requires g c =
     let early = (server_at c.self.invariant c.args.server (omega arith)).early in
     let clock = c.self.invariant.clock in
     record { within = omega arith; early = omega arith }
-
-pub returns-then-server-len-clause-value : goal.returns-then-server-len-clause-value
-returns-then-server-len-clause-value g c = λ M agrees. promised_beyond c.self.view_is agrees c.args.server (omega arith)
 
 pub returns-clause-value : goal.returns-clause-value
 returns-clause-value g c = λ M agrees.

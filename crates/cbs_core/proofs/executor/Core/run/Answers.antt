@@ -1,14 +1,14 @@
-use Rattle.std.proofs.Common.{◌≡◌, ◌+◌, map, is_some, sym, refl}
+use Rattle.std.proofs.Common.{◌≡◌, ◌+◌, map, is_some}
 use Rattle.cbs_lists.specs.Lists.{changed_at}
 use Rattle.cbs_lists.proofs.Lists.{counted}
 use Rattle.cbs_steps.specs.Faces.{face_at, with_unit, with_replenishment}
 use Rattle.cbs_queues.specs.Queues.{list_at, result_run}
 use Rattle.cbs_core.specs.Held.{ran_of}
-use Rattle.cbs_core.proofs.Agreements.{idle_next, reply_by, next_late, end_reply, unit_agrees, unit_answered}
-use Rattle.cbs_core.proofs.Cores.{core_run, may_run, budgets_kept}
+use Rattle.cbs_core.proofs.Agreements.{next_late, end_reply, unit_agrees, unit_answered}
+use Rattle.cbs_core.proofs.Cores.{core_run, may_run}
 use Rattle.cbs_core.proofs.Effects.{did_run}
 use Rattle.cbs_steps.specs.declared.step.Step.TheVariants as step
-use Rattle.cbs_core.proofs.LawfulCores.{keeps_time}
+use Rattle.cbs_core.proofs.LawfulCores.{makes_still, makes_new}
 use Rattle.cbs_core.proofs.executor.Core.run.Given.{Over}
 use Rattle.cbs_core.proofs.executor.Core.run.Goals as goal
 
@@ -16,14 +16,6 @@ pub run_first-result-requires : goal.run_first-result-requires
 run_first-result-requires g c =
     let may = may_run c.self.invariant c.in-Some.ensures.choice c.if-self-ge-LIMIT.false in
     record { some = may.active; unfinished = may.unfinished }
-
-pub finished-seq-requires : goal.finished-seq-requires
-finished-seq-requires g c = c.in-Some.ensures.choice.within
-
-pub use_tick-requires : goal.use_tick-requires
-use_tick-requires g c =
-    let may = may_run c.self.invariant c.in-Some.ensures.choice c.if-self-ge-LIMIT.false in
-    record { chosen = sym c.in-Some.ensures.first; some = may.budget; room = may.room }
 
 -- what the servers show after the unit and the replenishment
 shown : (g : Over) (c : goal.After-ran_from g) → c.replenish.new.self ≡ map (with_replenishment (c.self.inside.clock + 1))
@@ -48,32 +40,17 @@ returns-clause-job g c =
     did_run g.met.W.Work.lowers c.self.view_is (c.self.inside.clock + 1) _ c.replenish.new.self queues.lists queues.rooms
     c.in-Some.server c.ran_from.result may (ran g c) (shown g c) c.run_first-result.ensures.lists
 
-pub returns-in_default-clause-makes : goal.returns-in_default-clause-makes
-returns-in_default-clause-makes g c = record {
-  reply = λ M agrees. reply_by c.self.view_is agrees _ c.in_default.ensures.first;
-  state = λ M agrees. record { world = rw (idle_next c.self.view_is agrees c.in_default.ensures.first) agrees.world };
-  on_time = λ M agrees. keeps_time g.W.Work.meaning c.self.view_is c.self.invariant agrees step.Run;
-  count = refl;
-  budgets = rw (← c.self.view_is) (budgets_kept c.self.invariant);
-}
-
 pub returns-then-self-ge-LIMIT-clause-makes : goal.returns-then-self-ge-LIMIT-clause-makes
-returns-then-self-ge-LIMIT-clause-makes g c = record {
-  reply = λ M agrees. end_reply c.self.view_is agrees c.in-Some.server c.in-Some.ensures.first c.if-self-ge-LIMIT.true;
-  state = λ M agrees. record { world = rw (next_late c.self.view_is agrees c.if-self-ge-LIMIT.true) agrees.world };
-  on_time = λ M agrees. keeps_time g.W.Work.meaning c.self.view_is c.self.invariant agrees step.Run;
-  count = refl;
-  budgets = rw (← c.self.view_is) (budgets_kept c.self.invariant);
-}
+returns-then-self-ge-LIMIT-clause-makes g c = makes_still _ c.self.view_is c.self.invariant step.Run _ (λ M agrees. (
+  end_reply c.self.view_is agrees c.in-Some.server c.in-Some.ensures.first c.if-self-ge-LIMIT.true,
+  next_late c.self.view_is agrees c.if-self-ge-LIMIT.true,
+))
 
 pub returns-clause-makes : goal.returns-clause-makes
 returns-clause-makes g c =
     let may = may_run c.self.invariant c.in-Some.ensures.choice c.if-self-ge-LIMIT.false in
-    record {
-      reply = λ M agrees. unit_answered c.self.view_is agrees c.in-Some.server g.met.W.Work.lowers c.in-Some.ensures.first may c.ran_from.result (ran g c);
-      state = λ M agrees. unit_agrees c.self.view_is agrees c.in-Some.server g.met.W.Work.lowers c.in-Some.ensures.first may (shown g c)
-          c.run_first-result.ensures.lists;
-      on_time = λ M agrees. keeps_time g.W.Work.meaning c.self.view_is c.self.invariant agrees step.Run;
-      count = rw (← c.self.view_is, shown g c) (simp counted);
-      budgets = budgets_kept (invariant_of-self g c);
-    }
+    let first = c.in-Some.ensures.first in
+    makes_new _ c.self.view_is c.self.invariant step.Run _ (invariant_of-self g c) (rw (shown g c) (simp counted)) (λ M agrees. (
+      unit_answered c.self.view_is agrees c.in-Some.server g.met.W.Work.lowers first may c.ran_from.result (ran g c),
+      unit_agrees c.self.view_is agrees c.in-Some.server g.met.W.Work.lowers first may (shown g c) c.run_first-result.ensures.lists,
+    ))

@@ -2,10 +2,8 @@ use Rattle.std.proofs.Common.{◌≡◌, ◌++◌, ◌∷◌, [], arith, length,
 use Rattle.std.proofs.lemmas.Grind.{common_steps}
 use Rattle.std.proofs.lemmas.List.{nil_from_length}
 use Rattle.std.specs.Vec.Iter.{into_iter_items}
-use Rattle.cbs_steps.specs.Replies.{grown_by}
 use Rattle.cbs_steps.specs.Laws.{account_in}
-use Rattle.cbs_steps.proofs.StepLists.{AnswersAll-push, all_yielded}
-use Rattle.cbs_core.proofs.Agreements.{agrees_more}
+use Rattle.cbs_steps.proofs.StepLists.{AnswersAll-push, all_yielded, grown_by-push}
 use Rattle.cbs_steps.proofs.Completions.{Completes-none, completes_more}
 use Rattle.cbs_core.proofs.Completions.{step_completes}
 use Rattle.cbs_core.proofs.Calls.{tries_answers, tries_state, tries_count, tries_budgets}
@@ -29,41 +27,32 @@ loop-step-init g c = record {
   completions = λ M agrees s. rw c.in-Ok-with_capacity.ensures.items (Completes-none g.W.Work.meaning (account_in g.W.Work.meaning M s));
 }
 
-pub push_reserved-requires : goal.push_reserved-requires
-push_reserved-requires g c = omega (arith, c.in-Some.ensures.steps.1, c.loop-step.invariant.room)
-
 pub loop-step-preserved : goal.loop-step-preserved
 loop-step-preserved g c =
+    let l = c.loop-step in
+    let i = l.invariant in
+    let pushed = c.push_reserved.ensures in
+    let tries = c.make-reply.ensures.tries in
+    let steps = c.in-Some.ensures.steps in
+    let answers = tries_answers g.W.Work.meaning _ _ _ _ tries in
+    let state = tries_state g.W.Work.meaning _ _ _ _ tries in
     record {
       can = tt;
       finite = tt;
-      count = omega (arith, ap length c.in-Some.ensures.steps.0, c.in-Some.ensures.steps.1, c.loop-step.invariant.count);
-      split = c.loop-step.invariant.split ∙ ap (λ xs. c.loop-step.yielded ++ xs) c.in-Some.ensures.steps.0
-          ∙ sym (append_assoc c.loop-step.yielded (c.in-Some.step ∷ []) (into_iter_items c.next.new.self));
-      servers = tries_count g.W.Work.meaning _ _ _ _ c.make-reply.ensures.tries ∙ c.loop-step.invariant.servers;
-      budgets = tries_budgets g.W.Work.meaning _ _ _ _ c.make-reply.ensures.tries;
-      room = omega (arith, c.push_reserved.ensures.len, c.push_reserved.ensures.capacity, c.in-Some.ensures.steps.1, c.loop-step.invariant.room);
+      count = omega (arith, ap length steps.0, steps.1, i.count);
+      split = i.split ∙ ap (λ xs. l.yielded ++ xs) steps.0 ∙ sym (append_assoc l.yielded (c.in-Some.step ∷ []) (into_iter_items c.next.new.self));
+      servers = tries_count g.W.Work.meaning _ _ _ _ tries ∙ i.servers;
+      budgets = tries_budgets g.W.Work.meaning _ _ _ _ tries;
+      room = omega (arith, pushed.len, pushed.capacity, steps.1, i.room);
       replies = λ M agrees.
-          rw c.push_reserved.ensures.items
-          (AnswersAll-push g.W.Work.meaning M c.loop-step.yielded c.loop-step.replies.items c.in-Some.step c.make-reply.result
-          (c.loop-step.invariant.replies M agrees)
-          (tries_answers g.W.Work.meaning _ _ _ _ c.make-reply.ensures.tries (grown_by M c.loop-step.yielded c.loop-step.replies.items)
-          (c.loop-step.invariant.state M agrees)));
+          rw pushed.items (AnswersAll-push g.W.Work.meaning M _ _ _ _ (i.replies M agrees) (answers _ (i.state M agrees)));
       state = λ M agrees.
-          rw c.push_reserved.ensures.items
-          (agrees_more g.W.Work.meaning c.make-reply.new.self M c.loop-step.yielded c.loop-step.replies.items c.in-Some.step
-          c.make-reply.result (c.loop-step.invariant.replies M agrees)
-          (tries_state g.W.Work.meaning _ _ _ _ c.make-reply.ensures.tries (grown_by M c.loop-step.yielded c.loop-step.replies.items)
-          (c.loop-step.invariant.state M agrees)));
+          rw (pushed.items, grown_by-push g.W.Work.meaning M _ _ _ _ (i.replies M agrees)) (state _ (i.state M agrees));
       completions = λ M agrees s.
-          let N = grown_by M c.loop-step.yielded c.loop-step.replies.items in
-          let before = c.loop-step.invariant.state M agrees in
-          rw c.push_reserved.ensures.items
-          (completes_more g.W.Work.meaning M c.loop-step.yielded c.loop-step.replies.items c.in-Some.step c.make-reply.result s
-          (c.loop-step.invariant.replies M agrees) (c.loop-step.invariant.completions M agrees s)
-          (step_completes g.W.Work.meaning N c.in-Some.step c.make-reply.result s _ c.loop-step.self c.make-reply.new.self refl
-          (tries_answers g.W.Work.meaning _ _ _ _ c.make-reply.ensures.tries N before) c.make-reply.ensures.counts before
-          (tries_state g.W.Work.meaning _ _ _ _ c.make-reply.ensures.tries N before)));
+          let before = i.state M agrees in
+          rw pushed.items
+          (completes_more g.W.Work.meaning M _ _ _ _ s (i.replies M agrees) (i.completions M agrees s)
+          (step_completes g.W.Work.meaning _ _ _ s _ _ _ refl (answers _ before) c.make-reply.ensures.counts before (state _ before)));
     }
 
 pub returns-clause-tries : goal.returns-clause-tries

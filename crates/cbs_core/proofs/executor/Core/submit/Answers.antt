@@ -1,11 +1,10 @@
-use Rattle.cbs_core.proofs.Calls.{makes_same}
 use Rattle.std.proofs.Common.{refl, rules}
 use Rattle.std.proofs.lemmas.Grind.{common_steps}
 use Rattle.cbs_core.proofs.Agreements.{submit_replied, submit_left, submit_accepted}
 use Rattle.cbs_core.proofs.Cores.{queue_there, budgets_kept}
 use Rattle.cbs_core.proofs.Refusals.{free_accepts, accepts_free, refusal_named}
 use Rattle.cbs_steps.specs.declared.step.Step.TheVariants as step
-use Rattle.cbs_core.proofs.LawfulCores.{keeps_time}
+use Rattle.cbs_core.proofs.LawfulCores.{makes_still}
 use Rattle.cbs_core.proofs.executor.Core.submit.Goals as goal
 
 pub returns-in-Some-clause-succeeds : goal.returns-in-Some-clause-succeeds
@@ -22,13 +21,11 @@ submit_reserved-requires g c =
     record { accepts = free_accepts refl c.args.server c.in_default.ensures; room = search rules }
 
 pub returns-in-Some-clause-tries : goal.returns-in-Some-clause-tries
-returns-in-Some-clause-tries g c = rw (refusal_named c.self.view_is c.args.server c.in-Some.error c.in-Some.ensures) record {
-  reply = λ M agrees. submit_replied c.self.view_is agrees c.args.server c.args.task _ c.in-Some.ensures;
-  state = λ M agrees. record { world = rw (submit_left c.self.view_is agrees c.args.server c.args.task _ c.in-Some.ensures) agrees.world };
-  on_time = λ M agrees. keeps_time g.W.Work.meaning c.self.view_is c.self.invariant agrees (step.Submit c.args.server c.args.task);
-  count = refl;
-  budgets = rw (← c.self.view_is) (budgets_kept c.self.invariant);
-}
+returns-in-Some-clause-tries g c = rw (refusal_named c.self.view_is c.args.server c.in-Some.error c.in-Some.ensures)
+    (makes_still _ c.self.view_is c.self.invariant (step.Submit c.args.server c.args.task) _ (λ M agrees. (
+      submit_replied c.self.view_is agrees c.args.server c.args.task _ c.in-Some.ensures,
+      submit_left c.self.view_is agrees c.args.server c.args.task _ c.in-Some.ensures,
+    )))
 
 pub returns-then-is_err-clause-tries : goal.returns-then-is_err-clause-tries
 returns-then-is_err-clause-tries g c = record {
@@ -37,6 +34,3 @@ returns-then-is_err-clause-tries g c = record {
   same = search (rules, common_steps);
   budgets = budgets_kept c.self.invariant;
 }
-
-pub returns-clause-tries : goal.returns-clause-tries
-returns-clause-tries g c = makes_same g.W.Work.meaning _ _ _ _ _ (search (rules, common_steps)) c.submit_reserved.ensures.makes

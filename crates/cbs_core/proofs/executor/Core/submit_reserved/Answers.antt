@@ -1,10 +1,10 @@
 use Rattle.cbs_lists.proofs.Lists.{counted}
 use Rattle.cbs_core.proofs.Agreements.{submit_answered, submit_agrees}
-use Rattle.cbs_core.proofs.Cores.{core_joined, few_held, few_jobs, queue_there, budgets_kept}
+use Rattle.cbs_core.proofs.Cores.{core_joined, few_held, queue_there}
 use Rattle.cbs_core.proofs.Effects.{took_job}
 use Rattle.cbs_core.proofs.Refusals.{accepts_free}
 use Rattle.cbs_steps.specs.declared.step.Step.TheVariants as step
-use Rattle.cbs_core.proofs.LawfulCores.{keeps_time}
+use Rattle.cbs_core.proofs.LawfulCores.{makes_new}
 use Rattle.cbs_core.proofs.executor.Core.submit_reserved.Goals as goal
 
 pub push-requires : goal.push-requires
@@ -12,11 +12,6 @@ push-requires g c =
     let is = rw (← c.self.view_is) at c.requires in
     let free = accepts_free c.self.view_is c.args.server c.requires.accepts in
     record { within = queue_there c.self.invariant c.args.server free; room = is.room; few = few_held c.self.invariant c.args.server is.accepts }
-
-pub accept-requires : goal.accept-requires
-accept-requires g c =
-    let within = (rw (← c.self.view_is) at c.requires).accepts.is_open.within in
-    record { within = within; clock = c.self.invariant.clock; few = few_jobs c.self.invariant c.args.server within }
 
 pub invariant_of-self : goal.invariant_of-self
 invariant_of-self g c =
@@ -36,11 +31,9 @@ pub returns-clause-makes : goal.returns-clause-makes
 returns-clause-makes g c =
     let is = rw (← c.self.view_is) at c.requires in
     let free = accepts_free c.self.view_is c.args.server c.requires.accepts in
-    record {
-      reply = λ M agrees. submit_answered c.self.view_is agrees c.args.server c.args.task free c.accept.result c.accept.ensures.number;
-      state = λ M agrees. submit_agrees c.self.view_is agrees c.args.server c.args.task free {queues = c.push.new.self.lists} is.accepts.is_open.within
-          c.accept.ensures.servers c.push.ensures.lists c.push.ensures.some;
-      on_time = λ M agrees. keeps_time g.W.Work.meaning c.self.view_is c.self.invariant agrees (step.Submit c.args.server c.args.task);
-      count = rw (← c.self.view_is, c.accept.ensures.servers) (simp counted);
-      budgets = budgets_kept (invariant_of-self g c);
-    }
+    makes_new _ c.self.view_is c.self.invariant (step.Submit c.args.server c.args.task) _ (invariant_of-self g c)
+    (rw c.accept.ensures.servers (simp counted)) (λ M agrees. (
+      submit_answered c.self.view_is agrees c.args.server c.args.task free c.accept.result c.accept.ensures.number,
+      submit_agrees c.self.view_is agrees c.args.server c.args.task free {queues = c.push.new.self.lists} is.accepts.is_open.within
+          c.accept.ensures.servers c.push.ensures.lists c.push.ensures.some,
+    ))

@@ -1,5 +1,6 @@
+use Rattle.std.proofs.Common.{◌<◌}
 use Rattle.cbs_core.specs.declared.entries.Entry.{Entry}
-use Rattle.cbs_core.proofs.ReadyList.{listed-here, listed-other, place_for, ordered-entered, known-entered}
+use Rattle.cbs_core.proofs.ReadyList.{listed-here, listed-other, place_for, ordered-entered, All-entered}
 use Rattle.cbs_core.proofs.ready_list.ReadyList.insert.Goals as goal
 
 pub insert-requires-clause-room : goal.insert-requires-clause-room
@@ -13,7 +14,7 @@ invariant_of-self c =
     let es = c.self.inside.entries in
     rw c.insert.ensures (
       ordered-entered x es c.self.invariant.0 (rw (← c.self.view_is) at c.requires.absent),
-      known-entered 64 x es c.requires.known c.self.invariant.1,
+      All-entered (λ e. e.server < 64) x es c.requires.known c.self.invariant.1,
     )
 
 pub returns-clause-here : goal.returns-clause-here

@@ -1,7 +1,7 @@
 use Rattle.std.proofs.Common.{sym, arith}
 use Rattle.std.proofs.lemmas.Grind.{common_steps}
 use Rattle.cbs_house.proofs.Feeds.{keeps_feed, keeps_sent}
-use Rattle.cbs_house.proofs.Messages.{pushed}
+use Rattle.cbs_clients.proofs.Messages.{pushed}
 use Rattle.cbs_house.proofs.feed.Feed.turn.Goals as goal
 
 pub returns-then-ended-clause-kept : goal.returns-then-ended-clause-kept

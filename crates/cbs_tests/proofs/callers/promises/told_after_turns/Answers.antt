@@ -1,4 +1,4 @@
-use Rattle.cbs_embed.specs.Kepts.{held_by}
+use Rattle.cbs_embed.specs.Handles.{held_by}
 use Rattle.cbs_tests.proofs.HeldHouses.{opened, turned}
 use Rattle.cbs_tests.proofs.callers.promises.told_after_turns.Goals as goal
 
@@ -8,4 +8,4 @@ loop-init c =
     opened (held_by c.open.new.house) o.house o.holds o.new.on_time
 
 pub loop-preserved : goal.loop-preserved
-loop-preserved c = turned (held_by c.loop.house) (held_by c.turn.new.kept) c.in_ok-turn.field-0 c.in_ok-turn.ensures c.loop.invariant
+loop-preserved c = turned (held_by c.loop.house) (held_by c.turn.new.handle) c.in_ok-turn.field-0 c.in_ok-turn.ensures c.loop.invariant

@@ -1,4 +1,4 @@
-use Rattle.cbs_embed.specs.Kepts.{held_by}
+use Rattle.cbs_embed.specs.Handles.{held_by}
 use Rattle.cbs_tests.proofs.HeldHouses.{IsHeldOnTime}
 use Rattle.cbs_tests.proofs.callers.promises.told_after_turns.Given as goal
 

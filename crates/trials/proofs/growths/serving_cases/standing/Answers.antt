@@ -1,6 +1,6 @@
 use Rattle.std.proofs.Common.{get_or, refl, sym, subst}
-use Rattle.cbs_house.specs.Houses.{rings_of}
-use Rattle.cbs_house.specs.RingEnds.{IsOpened}
+use Rattle.cbs_clients.specs.Houses.{rings_of}
+use Rattle.cbs_clients.specs.Clients.{IsOpened}
 use Rattle.cbs_house.proofs.Feeds.{keeps_looked, ready_at, ready_set}
 use Rattle.trials.proofs.growths.serving_cases.standing.Goals as goal
 

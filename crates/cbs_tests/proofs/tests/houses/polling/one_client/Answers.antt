@@ -1,7 +1,7 @@
 use Rattle.std.proofs.Common.{Some}
 use Rattle.std.proofs.lemmas.List.Elements.{All-pop}
-use Rattle.cbs_house.specs.Houses.{rings_of}
-use Rattle.cbs_house.specs.RingEnds.{IsOpened}
+use Rattle.cbs_clients.specs.Houses.{rings_of}
+use Rattle.cbs_clients.specs.Clients.{IsOpened}
 use Rattle.cbs_tests.proofs.tests.houses.polling.one_client.Goals as goal
 
 pub returns : goal.returns

@@ -1,0 +1,17 @@
+pub mod Messages
+pub mod Tries
+pub mod Places
+pub mod RingLooks
+pub mod StepMessages
+pub mod HouseInvariant
+pub mod Beside
+pub mod ClosedServers
+pub mod MadeSteps
+pub mod Moves
+pub mod PolledServers
+pub mod Turns
+pub mod NamedJobs
+pub mod OpenServers
+pub mod Tells
+pub mod Runs
+pub mod NewHouses

@@ -1,0 +1,47 @@
+use Rattle.std.proofs.Common.{◌∷◌, [], refl, arith}
+use Rattle.std.proofs.lemmas.Grind.{common_steps}
+use Rattle.cbs_steps.specs.declared.step.Step.TheVariants.{Advance}
+use Rattle.cbs_clients.proofs.HouseInvariant.{housed_all, same_shelf}
+use Rattle.cbs_clients.proofs.MadeSteps.{made_time}
+use Rattle.cbs_clients.proofs.Moves.{step_on_time}
+use Rattle.cbs_clients.proofs.house.House.advance.Goals as goal
+
+pub invariant_of-self : goal.invariant_of-self
+invariant_of-self g c =
+    let work = g.W.Work.meaning in
+    let old = c.args.self.now in
+    let a = c.advance.ensures in
+    record {
+      housed = housed_all work old.core c.advance.new.self old.rings old.rings old.collector old.collector old.housed refl refl a.makes.count
+          (Advance c.args.n ∷ []) a.makes.state a.jobs (λ s. refl) (λ s. same_shelf _);
+    }
+
+pub returns-in-Err : goal.returns-in-Err
+returns-in-Err g c = record {
+  made = tt;
+  on_time = λ quiet on. rw c.in-Err.ensures.unchanged on;
+  rings = refl;
+  results = λ s. refl;
+  refused = (
+    refl,
+    record {
+      core = c.in-Err.ensures.unchanged;
+      rings = refl;
+      seats = λ s. refl;
+    },
+  );
+  end = grind (arith, common_steps);
+}
+
+pub returns-in-Ok : goal.returns-in-Ok
+returns-in-Ok g c =
+    let old = c.args.self.now in
+    let a = c.advance.ensures in
+    record {
+      made = made_time g.W.Work.meaning old _ (Advance c.args.n) (λ s. refl) a.makes.state a.makes.on_time refl (λ s. refl);
+      on_time = step_on_time g.W.Work.meaning old.core c.advance.new.self (Advance c.args.n) old.housed.history a.makes.state a.makes.on_time;
+      rings = refl;
+      results = λ s. refl;
+      refused = tt;
+      end = grind (arith, common_steps);
+    }

@@ -1,0 +1,9 @@
+use Rattle.std.proofs.Common.{arith}
+use Rattle.std.proofs.lemmas.Grind.{common_steps}
+use Rattle.cbs_clients.proofs.rings.Rings.take_at.Goals as goal
+
+pub index_mut-end-requires : goal.index_mut-end-requires
+index_mut-end-requires g c = grind (arith, common_steps)
+
+pub pop_known-requires : goal.pop_known-requires
+pop_known-requires g c = grind (arith, common_steps)

@@ -1,0 +1,133 @@
+-- What each call of a house and of a client does, as one relation between before, answer and after.
+use Rattle.std.specs.Prelude.{◌≡◌, ◌↔◌, ◌⊎◌, ℕ, ◌+◌, ◌*◌, ◌<◌, ◌≤◌, true, false, List, [], ◌∷◌, ◌++◌, length, slice_get, Option, IfSome, Result}
+use Rattle.std.specs.Prelude.{IfOk, IfErr, OnOk, OnErr, IsOk, MatchOption, MatchResult}
+use Rattle.cbs_rate.specs.Limits.{longest_period}
+use Rattle.cbs_job.specs.Work.{Meaning}
+use Rattle.cbs_job.specs.declared.work.Work.{Ghosts}
+use Rattle.cbs_rules.specs.Rules.{clock_end}
+use Rattle.cbs_steps.specs.Faces.{face_at, view_reply}
+use Rattle.cbs_steps.specs.History.{Setup, History, faces, world_after, reply_in}
+use Rattle.cbs_steps.specs.Laws.{account_in, IsWithinBudget}
+use Rattle.cbs_steps.specs.OnTime.{IsWorldOnTime}
+use Rattle.cbs_steps.specs.Promises.{promised, AllFinishedBy}
+use Rattle.cbs_steps.specs.Punctual.{IsPunctual}
+use Rattle.cbs_steps.specs.Quiet.{IsAtRest, IsIdleSpan, IsQuietAfter}
+use Rattle.cbs_steps.specs.declared.reply.Ran.{Ran}
+use Rattle.cbs_steps.specs.declared.reply.Reply.TheVariants as reply
+use Rattle.cbs_steps.specs.declared.step.Step.{Step}
+use Rattle.cbs_steps.specs.declared.step.Step.TheVariants as step
+use Rattle.cbs_steps.specs.declared.view.ServerView.{ServerView}
+use Rattle.cbs_core.specs.Agreement.{Agrees}
+use Rattle.cbs_clients.specs.Clients.{sent_by, free, most_jobs, SameClient}
+use Rattle.cbs_clients.specs.Houses.{core_of, rings_of, seat_at, new_seat, IsHouseOnTime, KeepsResults, view_answer, Made, SameHouse, Polled}
+use Rattle.cbs_clients.specs.Houses.{ServesOn, Collects, NamesJob}
+use Rattle.cbs_clients.specs.Messages.{jobs_among, has_end}
+use Rattle.cbs_clients.specs.Turns.{IsNumbered, TakesOwnTurn}
+use Rattle.cbs_clients.specs.declared.client.Client.{Client}
+use Rattle.cbs_clients.specs.declared.client.SendRefused.{SendRefused}
+use Rattle.cbs_clients.specs.declared.error.HouseError.{HouseError}
+use Rattle.cbs_clients.specs.declared.error.HouseError.TheVariants as house_error
+use Rattle.cbs_clients.specs.declared.error.SendError.{SendError}
+use Rattle.cbs_clients.specs.declared.error.SendError.TheVariants.{Ended, RingFull}
+use Rattle.cbs_clients.specs.declared.house.House.{House}
+use Rattle.cbs_clients.specs.declared.message.Message.TheVariants.{Job, End}
+use Rattle.cbs_clients.specs.declared.poll.Poll.{Poll}
+use Rattle.cbs_clients.specs.declared.turn.Turn.{Turn}
+
+module _ {W A : Type 0} {g : Ghosts W} where
+  -- A house that was opened with these servers: its core agrees with no step, nothing was received, no result is kept or was
+  -- handed out, it is on time, and every list of steps that it may make is punctual.
+  pub record IsNewHouse (work : Meaning W) (setup : Setup) (h : House W A g) : Type 0 where
+    pub agrees : Agrees work (core_of h) (record { setup = setup; steps = [] })
+    pub empty : (s : ℕ) → seat_at h s ≡ new_seat
+    pub on_time : IsHouseOnTime h
+    pub punctual : (steps : List (Step W)) → IsPunctual work (record { setup = setup; steps = steps })
+
+  -- a poll of server s: it makes one step or none, by its answer, and leaves the results
+  pub record PollOf (work : Meaning W) (s : ℕ) (old : House W A g) (answer : Poll) (new : House W A g) : Type 0 where
+    pub polled : Polled work old s answer new
+    pub on_time : IsHouseOnTime old → IsHouseOnTime new
+    pub rings : rings_of new ≡ rings_of old
+    pub results : KeepsResults old new
+
+  -- a run: it answers what the rules give, makes that one step, and collects a completion
+  pub record RunOf (work : Meaning W) (old : House W A g) (told : Ran) (new : House W A g) : Type 0 where
+    pub reply : (M : History W) → Agrees work (core_of old) M → reply.Ran told ≡ reply_in work M step.Run
+    pub made : Made work old new (step.Run ∷ [])
+    pub on_time : IsHouseOnTime old → IsHouseOnTime new
+    pub collects : Collects told old new
+    pub job : NamesJob work told new
+
+  -- an advance by n: it makes that one step, and keeps a house on time so if it takes nobody's time; or the clock would pass its
+  -- end, and nothing changed
+  pub record AdvanceOf (work : Meaning W) (n : ℕ) (old : House W A g) (answer : Result (Unit {0}) HouseError) (new : House W A g) : Type 0 where
+    pub made : OnOk answer (Made work old new (step.Advance n ∷ []))
+    pub on_time : ((M : History W) → Agrees work (core_of old) M → IsQuietAfter work M (step.Advance n)) → IsHouseOnTime old → IsHouseOnTime new
+    pub rings : rings_of new ≡ rings_of old
+    pub results : KeepsResults old new
+    pub refused : IfErr answer (λ error. (error ≡ house_error.ClockEnd) × SameHouse old new)
+    pub end : (M : History W) → Agrees work (core_of old) M
+        → MatchResult answer (λ _. (world_after work M).now + n ≤ clock_end) (λ _. clock_end < (world_after work M).now + n)
+
+  -- a turn of a house by itself, which told this
+  pub record TurnOf (work : Meaning W) (old : House W A g) (told : Turn) (new : House W A g) : Type 0 where
+    pub turn : TakesOwnTurn work old new told
+    pub steps : ServesOn work old new
+    pub on_time : IsHouseOnTime old → IsHouseOnTime new
+    pub few : told.took ≤ length (core_of old).faces
+    pub rings : rings_of new ≡ rings_of old
+    pub collects : Collects told.ran old new
+    pub numbered : IsNumbered told.ran old
+    pub job : NamesJob work told.ran new
+
+  -- the clock is told
+  pub record ClockOf (work : Meaning W) (h : House W A g) (told : ℕ) : Type 0 where
+    pub now : (M : History W) → Agrees work (core_of h) M → told ≡ (world_after work M).now
+    pub clock : told ≡ (core_of h).clock
+    pub most : told ≤ clock_end
+
+  -- the idle span is told, or that somebody is ready
+  abbrev pub SpanOf : Meaning W → House W A g → Option ℕ → Type 0
+  SpanOf work h span = (M : History W) → Agrees work (core_of h) M
+      → MatchOption span (¬ IsAtRest work (world_after work M)) (IsIdleSpan work (world_after work M))
+
+  -- What server s shows is told, or that there is none. Where all is on time, a ready server's deadline is still to come.
+  pub record ViewOf (work : Meaning W) (s : ℕ) (h : House W A g) (answer : Result ServerView HouseError) : Type 0 where
+    pub view : (M : History W) → Agrees work (core_of h) M → answer ≡ view_answer (view_reply (slice_get (faces work (world_after work M)) s))
+    pub early : (M : History W) → Agrees work (core_of h) M → IfOk answer (λ v. let now = (world_after work M).now in v.deadline ≤ now + (now + 1) * longest_period)
+    pub budget : (M : History W) → Agrees work (core_of h) M → OnOk answer (IsWithinBudget (face_at (faces work (world_after work M)) s))
+    pub in_time : (M : History W) → Agrees work (core_of h) M → IsWorldOnTime work (world_after work M)
+        → IfOk answer (λ v. v.finished < v.accepted → v.throttled ≡ false → (world_after work M).now < v.deadline)
+
+  -- The tick is told by which all that server s accepted is finished, if something is owed. It is kept, whatever is asked for later, if
+  -- the house is on time and no step to come takes anybody's time.
+  pub record PromiseOf (work : Meaning W) (s : ℕ) (h : House W A g) (tick : Option ℕ) : Type 0 where
+    pub value : (M : History W) → Agrees work (core_of h) M → tick ≡ promised work (account_in work M s)
+    pub kept : IsHouseOnTime h → IfSome tick (λ t. (M : History W) → Agrees work (core_of h) M → AllFinishedBy work M s t)
+
+  -- the client looked at its ring anew, and sent nothing
+  pub record LooksAtRing (old new : Client W A g) : Type 0 where
+    pub same : SameClient old new
+    pub sent : sent_by new ≡ sent_by old
+    pub looked : free old ≤ free new
+
+  -- A job is sent, and its number told; or it comes back: after an end, or at a ring that is not known to have a free slot, or where
+  -- 2^64 - 1 jobs were sent. A slot that is known to be free is one that the next message takes.
+  pub record SendOf (job : W) (old : Client W A g) (answer : Result ℕ (SendRefused W)) (new : Client W A g) : Type 0 where
+    pub same : SameClient old new
+    pub ok : IfOk answer (λ number. (number ≡ length (jobs_among (sent_by old))) × (sent_by new ≡ sent_by old ++ Job job ∷ []))
+    pub back : IfErr answer (λ refused. (refused.task ≡ job) × (sent_by new ≡ sent_by old))
+    pub ended : MatchResult answer (λ _. has_end (sent_by old) ≡ false) (λ refused. (refused.error ≡ Ended) ↔ (has_end (sent_by old) ≡ true))
+    pub succeeds : (has_end (sent_by old) ≡ false) × (0 < free old) × (length (jobs_among (sent_by old)) < most_jobs) → IsOk answer
+    pub left : MatchResult answer (λ _. free old ≤ free new + 1) (λ _. free old ≤ free new)
+    pub full : IfErr answer (λ refused. refused.error ≡ RingFull → (free new ≡ 0) ⊎ (length (jobs_among (sent_by old)) ≡ most_jobs))
+
+  -- an end is sent; or it is refused: after an end, or at a ring that is not known to have a free slot
+  pub record EndOf (old : Client W A g) (answer : Result (Unit {0}) SendError) (new : Client W A g) : Type 0 where
+    pub same : SameClient old new
+    pub ok : OnOk answer (sent_by new ≡ sent_by old ++ End ∷ [])
+    pub back : OnErr answer (sent_by new ≡ sent_by old)
+    pub ended : MatchResult answer (λ _. has_end (sent_by old) ≡ false) (λ error. (error ≡ Ended) ↔ (has_end (sent_by old) ≡ true))
+    pub succeeds : (has_end (sent_by old) ≡ false) × (0 < free old) → IsOk answer
+    pub left : MatchResult answer (λ _. free old ≤ free new + 1) (λ _. free old ≤ free new)
+    pub full : IfErr answer (λ error. error ≡ RingFull → free new ≡ 0)

@@ -1,0 +1,191 @@
+-- What a contract sees of a house.
+use Rattle.std.specs.Prelude.{ℕ, ◌≡◌, ◌≢◌, ◌⊎◌, ◌+◌, ◌≤◌, ◌<◌, true, Result, Ok, Err, List, [], ◌∷◌, ◌++◌, drop, length, map, slice_get, Some}
+use mathlib.Core.List.{IsPrefix}
+use Rattle.cbs_job.specs.Work.{Meaning, whole}
+use Rattle.cbs_job.specs.declared.work.Work.{Ghosts}
+use Rattle.cbs_steps.specs.Faces.{face_at, backlog_of}
+use Rattle.cbs_core.specs.Held.{CoreHeld, held_at, IsOpen, Accepts, HasRoom, IsCoreOnTime}
+use Rattle.cbs_steps.specs.History.{History}
+use Rattle.cbs_steps.specs.OnTime.{KeepsTime}
+use Rattle.cbs_steps.specs.Quiet.{IsQuietAfter}
+use Rattle.cbs_steps.specs.declared.error.CoreError.{CoreError}
+use Rattle.cbs_steps.specs.declared.reply.Ran.{Ran}
+use Rattle.cbs_steps.specs.declared.reply.Ran.TheVariants as ran
+use Rattle.cbs_steps.specs.declared.step.Step.{Step}
+use Rattle.cbs_steps.specs.declared.step.Step.TheVariants as step
+use Rattle.cbs_steps.specs.declared.view.ServerView.{ServerView}
+use Rattle.cbs_clients.specs.declared.error.HouseError.{HouseError}
+use Rattle.cbs_clients.specs.declared.error.HouseError.TheVariants as house_error
+use Rattle.cbs_clients.specs.declared.house.House.{House}
+use Rattle.cbs_clients.specs.declared.message.Message.{Message}
+use Rattle.cbs_clients.specs.declared.poll.Poll.{Poll}
+use Rattle.cbs_clients.specs.declared.poll.Poll.TheVariants.{Nothing, Took, Closed, Full, OutOfMemory, NoSuchServer}
+use Rattle.cbs_results.specs.Collected.{shelf_at}
+use Rattle.cbs_clients.specs.Messages.{jobs_among}
+use Rattle.cbs_clients.specs.Rings.{rings_in, received_in, known_in, Ring}
+use Rattle.cbs_clients.specs.Steps.{messages_of, pops, MayServe}
+use Rattle.cbs_core.specs.Agreement.{Follows, AllAllowed, AllOnTime}
+
+-- What a house has of one server: the messages received, oldest first; those that it knows to stand in the ring, oldest first; how many
+-- results were handed out; and the results that are kept, in order.
+pub record Seat (W : Type 0) : Type 0 where
+  pub received : List (Message W)
+  pub known : List (Message W)
+  pub handed : ℕ
+  pub results : List ℕ
+
+module _ {W : Type 0} where
+  -- what a new house has of a server
+  abbrev pub new_seat : Seat W
+  new_seat = record { received = []; known = []; handed = 0; results = [] }
+
+  -- these messages were taken, and what is known to stand in the ring got shorter by them alone, from its front
+  pub record TakesMessages (ms : List (Message W)) (old new : Seat W) : Type 0 where
+    pub received : new.received ≡ old.received ++ ms
+    pub known : IsPrefix old.known (ms ++ new.known)
+    pub handed : new.handed ≡ old.handed
+
+  -- more messages may be known to stand in the ring, and nothing else changed
+  pub record SeesMore (old new : Seat W) : Type 0 where
+    pub same : new ≡ record old { known = new.known }
+    pub known : IsPrefix old.known new.known
+
+module _ {W A : Type 0} {g : Ghosts W} where
+  -- what the house's core holds
+  abbrev pub core_of : House W A g → CoreHeld W
+  core_of h = h.core
+
+  -- a house that is on time: its core is
+  abbrev pub IsHouseOnTime : House W A g → Type 0
+  IsHouseOnTime h = IsCoreOnTime (core_of h)
+
+  -- the ring that was opened for each server
+  abbrev pub rings_of : House W A g → List (Ring A)
+  rings_of h = rings_in h.rings
+
+  -- what a house has of server s
+  abbrev pub seat_at : House W A g → ℕ → Seat W
+  seat_at h s = record {
+    received = received_in h.rings s;
+    known = known_in h.rings s;
+    handed = (shelf_at h.collector s).handed;
+    results = (shelf_at h.collector s).results;
+  }
+
+  -- the messages received for server s, oldest first
+  abbrev pub received : House W A g → ℕ → List (Message W)
+  received h s = (seat_at h s).received
+
+  -- the messages that the house knows to stand in the ring of server s, oldest first
+  abbrev pub known : House W A g → ℕ → List (Message W)
+  known h s = (seat_at h s).known
+
+  -- how many results of server s were handed out
+  abbrev pub handed_of : House W A g → ℕ → ℕ
+  handed_of h s = (seat_at h s).handed
+
+  -- the results of server s that are kept, in order
+  abbrev pub results_of : House W A g → ℕ → List ℕ
+  results_of h s = (seat_at h s).results
+
+  -- how many results of server s there are: those handed out, and those kept
+  abbrev pub result_count : House W A g → ℕ → ℕ
+  result_count h s = handed_of h s + length (results_of h s)
+
+  -- the results of every server are as before
+  abbrev pub KeepsResults : House W A g → House W A g → Type 0
+  KeepsResults old new = (s : ℕ) → results_of new s ≡ results_of old s
+
+  -- The house made these steps: whatever history its core agreed with, it now agrees with that and then the steps; the rings
+  -- are the same; each server's messages among the steps were taken; and no result was handed out. Each step keeps what is on time
+  -- so, if it takes nobody's time.
+  pub record Made (work : Meaning W) (old new : House W A g) (xs : List (Step W)) : Type 0 where
+    pub steps : Follows work (core_of old) (core_of new) xs
+    pub keeps_time : AllAllowed work (KeepsTime work) (core_of old) xs
+    pub rings : rings_of new ≡ rings_of old
+    pub seats : (s : ℕ) → TakesMessages (messages_of s xs) (seat_at old s) (seat_at new s)
+
+  -- the house looked at its rings, and nothing else
+  pub record LooksOnly (old new : House W A g) : Type 0 where
+    pub core : core_of new ≡ core_of old
+    pub rings : rings_of new ≡ rings_of old
+    pub seats : (s : ℕ) → SeesMore (seat_at old s) (seat_at new s)
+
+  -- nothing of the house changed
+  pub record SameHouse (old new : House W A g) : Type 0 where
+    pub core : core_of new ≡ core_of old
+    pub rings : rings_of new ≡ rings_of old
+    pub seats : (s : ℕ) → seat_at new s ≡ seat_at old s
+
+  -- the results of server s were handed out: none of them is kept, and they are counted; nothing else changed
+  pub record HandsOutResults (s : ℕ) (old new : House W A g) : Type 0 where
+    pub core : core_of new ≡ core_of old
+    pub rings : rings_of new ≡ rings_of old
+    pub seat : seat_at new s ≡ record (seat_at old s) { results = []; handed = result_count old s }
+    pub others : (t : ℕ) → t ≢ s → seat_at new t ≡ seat_at old t
+
+-- what a view is answered, by what the core answers
+abbrev pub view_answer : Result ServerView CoreError → Result ServerView HouseError
+view_answer (Ok view) = Ok view
+view_answer (Err e) = Err house_error.NoSuchServer
+
+module _ {W A : Type 0} {g : Ghosts W} where
+  -- every job received is finished: the results of each server are what those jobs come to, in order, behind the results that
+  -- were handed out
+  abbrev pub AllFinished : Meaning W → House W A g → Type 0
+  AllFinished work h = (s : ℕ) → s < length (core_of h).faces → results_of h s ≡ drop (handed_of h s) (map (whole work) (jobs_among (received h s)))
+
+module _ {W A : Type 0} {g : Ghosts W} where
+  -- The house made some steps, each of which may stand where it stands, and they took n messages. No advance among them took
+  -- anybody's time, so from a house that is on time each step leaves all on time.
+  pub record Moves (work : Meaning W) (allowed : History W → Step W → Type 0) (old new : House W A g) (n : ℕ) : Type 0 where
+    pub steps : List (Step W)
+    pub made : Made work old new steps
+    pub each : AllAllowed work allowed (core_of old) steps
+    pub quiet : AllAllowed work (IsQuietAfter work) (core_of old) steps
+    pub on_time : AllOnTime work (core_of old) steps
+    pub count : pops steps ≡ n
+
+  -- the house made some steps of serving
+  pub record ServesOn (work : Meaning W) (old new : House W A g) : Type 0 where
+    pub moves : (n : ℕ) × Moves work (MayServe work) old new n
+
+  -- What a poll of server s did, by its answer. The first four pop nothing: nothing is seen or the server is closed; a message
+  -- is seen, and the backlog is full; a message is seen, and the backlog is not full, but there is no memory; there is no such
+  -- server. Else the next message is popped: a job is accepted, as the number that it has among the jobs received; an end
+  -- closes the server.
+  abbrev pub Polled : Meaning W → House W A g → ℕ → Poll → House W A g → Type 0
+  Polled work old s Nothing new = Made work old new [] × (s < length (core_of old).faces)
+      × (((face_at (core_of old).faces s).closed ≡ true) ⊎ (known new s ≡ []))
+  Polled work old s Full new =
+      Made work old new [] × IsOpen (core_of old) s × (0 < length (known new s)) × ((core_of old).backlog ≤ backlog_of (face_at (core_of old).faces s))
+  Polled work old s OutOfMemory new = Made work old new [] × Accepts (core_of old) s × (0 < length (known new s))
+  Polled work old s NoSuchServer new = Made work old new [] × (length (core_of old).faces ≤ s)
+  Polled work old s (Took q) new = (job : W) × Made work old new (step.Submit s job ∷ []) × Accepts (core_of old) s × (q ≡ length (jobs_among (received old s)))
+  Polled work old s Closed new = Made work old new (step.Close s ∷ []) × Accepts (core_of old) s
+
+  -- the next message of server s is seen, and there is room for it and for a result
+  pub record CanTake (h : House W A g) (s : ℕ) : Type 0 where
+    pub room : HasRoom (core_of h) s
+    pub spare : 0 < (shelf_at h.collector s).spare
+    pub next : 0 < length (known h s)
+
+  -- what a run did to the results, by its answer: a completion is put behind those of its server
+  abbrev pub Collects : Ran → House W A g → House W A g → Type 0
+  Collects ran.Idle old new = KeepsResults old new
+  Collects ran.ClockEnd old new = KeepsResults old new
+  Collects (ran.Unit t q) old new = KeepsResults old new
+  Collects (ran.Done c) old new = (results_of new c.server ≡ results_of old c.server ++ c.result ∷ [])
+      × ((s : ℕ) → s ≢ c.server → results_of new s ≡ results_of old s)
+
+  -- of the jobs received for server s, that of number q comes to this result
+  pub record ComesTo (work : Meaning W) (h : House W A g) (s q result : ℕ) : Type 0 where
+    pub told : slice_get (map (whole work) (jobs_among (received h s))) q ≡ Some result
+
+  -- The job that a run tells of is that of its number among those received. Where it got a unit and is not done, it is the first that
+  -- its server holds, and comes to what that one comes to; a completion tells what it comes to.
+  abbrev pub NamesJob : Meaning W → Ran → House W A g → Type 0
+  NamesJob work ran.Idle h = Unit {0}
+  NamesJob work ran.ClockEnd h = Unit {0}
+  NamesJob work (ran.Unit s q) h = (job : W) × (rest : List W) × ((held_at (core_of h) s).jobs ≡ job ∷ rest) × ComesTo work h s q (whole work job)
+  NamesJob work (ran.Done c) h = ComesTo work h c.server c.seq c.result

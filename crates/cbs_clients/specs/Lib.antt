@@ -1,0 +1,13 @@
+pub mod Messages
+pub mod Rings
+pub mod Clients
+pub mod Steps
+pub mod HouseInvariant
+pub mod Houses
+pub mod Turns
+pub mod Sinks
+pub mod UntilClosed
+pub mod Pauses
+pub mod Opened
+pub mod Errors
+pub mod Calls

@@ -1,0 +1,42 @@
+-- The rings: which ring an end is of, and what a contract sees of the house's ends.
+use Rattle.std.specs.Prelude.{ℕ, ◌≡◌, List, [], map, get_or}
+use mathlib.Core.List.{IsPrefix}
+use denote.RawPtr.{Ptr}
+use Rattle.rtrb.specs.Ring.{received, known_items}
+use Rattle.rtrb.specs.declared.producer.Producer.{Producer}
+use Rattle.rtrb.specs.declared.consumer.Consumer.{Consumer}
+use Rattle.cbs_clients.specs.declared.message.Message.{Message}
+use Rattle.cbs_clients.specs.declared.rings.Rings.{Rings}
+
+-- A ring: its memory, its allocator and the names by which proofs know it. That a producer and a consumer are the two ends of one
+-- ring is an equation of two names.
+abbrev pub Ring : Type 0 → Type 0
+Ring A = Ptr × Ptr × (ℕ × (ℕ × ℕ)) × A
+
+module _ {T A P : Type 0} where
+  -- the ring that a producer pushes into
+  abbrev pub producer_ring : Producer T A P → Ring A
+  producer_ring p = (p.end.words, p.end.slots, p.end.names, p.end.heap)
+
+  -- the ring that a consumer pops from
+  abbrev pub consumer_ring : Consumer T A P → Ring A
+  consumer_ring c = (c.end.words, c.end.slots, c.end.names, c.end.heap)
+
+module _ {W A : Type 0} where
+  -- the ring of each server
+  abbrev pub rings_in : Rings W A → List (Ring A)
+  rings_in r = map consumer_ring r.ends.items
+
+  -- the messages that were popped for server s, oldest first
+  abbrev pub received_in : Rings W A → ℕ → List (Message W)
+  received_in r s = get_or (map received r.ends.items) s []
+
+  -- the messages that were seen in the ring of server s and not popped, oldest first
+  abbrev pub known_in : Rings W A → ℕ → List (Message W)
+  known_in r s = get_or (map known_items r.ends.items) s []
+
+  -- nothing was popped, and no message that was seen is lost
+  pub record Looked (old new : Rings W A) : Type 0 where
+    pub rings : rings_in new ≡ rings_in old
+    pub received : (s : ℕ) → received_in new s ≡ received_in old s
+    pub known : (s : ℕ) → IsPrefix (known_in old s) (known_in new s)

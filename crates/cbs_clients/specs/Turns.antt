@@ -1,0 +1,103 @@
+-- A turn of a house: a poll of each server, and what comes after the polls.
+use Rattle.std.specs.Prelude.{ℕ, ◌≡◌, ◌+◌, Bool, true, false, List, [], ◌∷◌, length, ◌⊎◌, ◌≤◌, ◌<◌}
+use Rattle.std.specs.List.{list_any}
+use Rattle.cbs_job.specs.Work.{Meaning}
+use Rattle.cbs_job.specs.declared.work.Work.{Ghosts}
+use Rattle.cbs_steps.specs.declared.step.Step.{Step}
+use Rattle.cbs_clients.specs.declared.house.House.{House}
+use Rattle.cbs_clients.specs.declared.poll.Poll.{Poll}
+use Rattle.cbs_clients.specs.declared.poll.Poll.TheVariants as poll
+use Rattle.cbs_clients.specs.Houses.{Made, Polled, core_of, result_count}
+use Rattle.cbs_clients.specs.Steps.{pops}
+use Rattle.cbs_core.specs.Agreement.{Agrees}
+use Rattle.cbs_steps.specs.Continuations.{IsNeeded, IsUseful}
+use Rattle.cbs_core.specs.Held.{HoldsNoJob, IsAtEnd}
+use Rattle.cbs_steps.specs.History.{History, world_after, reply_in}
+use Rattle.cbs_steps.specs.declared.reply.Ran.{Ran}
+use Rattle.cbs_steps.specs.declared.reply.Ran.TheVariants as ran
+use Rattle.cbs_steps.specs.declared.reply.Reply.TheVariants as reply
+use Rattle.cbs_steps.specs.declared.step.Step.TheVariants.{Run, Advance, Submit, Close}
+use Rattle.cbs_clients.specs.declared.turn.Turn.{Turn}
+
+-- how many messages a poll popped
+abbrev pub popped_by : Poll → ℕ
+popped_by (poll.Took q) = 1
+popped_by poll.Closed = 1
+popped_by poll.Nothing = 0
+popped_by poll.Full = 0
+popped_by poll.OutOfMemory = 0
+popped_by poll.NoSuchServer = 0
+
+-- whether a poll saw a message for which there was no memory
+abbrev pub lacks_memory : Poll → Bool
+lacks_memory poll.OutOfMemory = true
+lacks_memory (poll.Took q) = false
+lacks_memory poll.Closed = false
+lacks_memory poll.Nothing = false
+lacks_memory poll.Full = false
+lacks_memory poll.NoSuchServer = false
+
+module _ {W : Type 0} where
+  -- Each step takes a message of a server from `first` on and below `count`: at most one of each server, in the order of their
+  -- numbers. A poll that takes no message is no step.
+  abbrev pub ArePolls : ℕ → ℕ → List (Step W) → Type 0
+  ArePolls first count [] = Unit {0}
+  ArePolls first count (Submit s job ∷ xs) = (first ≤ s) × (s < count) × ArePolls (s + 1) count xs
+  ArePolls first count (Close s ∷ xs) = (first ≤ s) × (s < count) × ArePolls (s + 1) count xs
+  ArePolls first count (Run ∷ xs) = ⊥
+  ArePolls first count (Advance n ∷ xs) = ⊥
+
+module _ {W A : Type 0} {g : Ghosts W} where
+  -- the house polled as many servers as there are answers, one after another, from server s on, and was answered so
+  abbrev pub Answered : Meaning W → ℕ → House W A g → List Poll → House W A g → Type 0
+  Answered work s old [] new = new ≡ old
+  Answered work s old (p ∷ ps) new = (next : House W A g) × Polled work old s p next × Answered work (s + 1) next ps new
+
+  -- The house polled its servers below `servers`, each once, in the order of their numbers. The polls took so many messages,
+  -- and it is told whether one of them saw a message for which there was no memory.
+  pub record PollsEach (work : Meaning W) (servers : ℕ) (old new : House W A g) (took : ℕ) (out_of_memory : Bool) : Type 0 where
+    pub answers : List Poll
+    pub all : length answers ≡ servers
+    pub answered : Answered work 0 old answers new
+    pub memory : out_of_memory ≡ list_any lacks_memory answers
+    pub polls : List (Step W)
+    pub each : ArePolls 0 servers polls
+    pub made : Made work old new polls
+    pub count : pops polls ≡ took
+
+module _ {W A : Type 0} {g : Ghosts W} where
+  -- somebody was ready, and the house ran one unit, which was answered so
+  pub record RunsOne (work : Meaning W) (old new : House W A g) (told : Ran) : Type 0 where
+    pub made : Made work old new (Run ∷ [])
+    pub useful : (M : History W) → Agrees work (core_of old) M → IsUseful work (world_after work M)
+    pub answer : (M : History W) → Agrees work (core_of old) M → reply.Ran told ≡ reply_in work M Run
+
+  -- a job was held and nobody was ready, and the house advanced by the idle span, n ticks
+  pub record Advances (work : Meaning W) (old new : House W A g) (n : ℕ) : Type 0 where
+    pub made : Made work old new (Advance n ∷ [])
+    pub needed : (M : History W) → Agrees work (core_of old) M → IsNeeded work (world_after work M) n
+
+  -- why the clock stays, by what is told: no job is held, or the clock stands at its end with a job unfinished
+  abbrev pub StaysBy : Ran → House W A g → Type 0
+  StaysBy ran.Idle h = HoldsNoJob (core_of h)
+  StaysBy ran.ClockEnd h = IsAtEnd (core_of h)
+  StaysBy (ran.Unit s q) h = ⊥
+  StaysBy (ran.Done c) h = ⊥
+
+  -- what a turn does behind its polls, by what it tells: it runs one unit; or it advances by n ticks; or it does nothing
+  abbrev pub GoesOn : Meaning W → House W A g → House W A g → Ran → ℕ → Type 0
+  GoesOn work old new told n =
+      (RunsOne work old new told × (n ≡ 0)) ⊎ (Advances work old new n × (told ≡ ran.Idle)) ⊎ ((new ≡ old) × StaysBy told old × (n ≡ 0))
+
+  -- a completion has the number of its place among the results of its server, of which it is the next
+  abbrev pub IsNumbered : Ran → House W A g → Type 0
+  IsNumbered ran.Idle h = Unit {0}
+  IsNumbered ran.ClockEnd h = Unit {0}
+  IsNumbered (ran.Unit s q) h = Unit {0}
+  IsNumbered (ran.Done c) h = c.seq ≡ result_count h c.server
+
+  -- the house took a turn and told this of it: it polled each server once, in the order of their numbers, and then went on
+  pub record TakesOwnTurn (work : Meaning W) (old new : House W A g) (turn : Turn) : Type 0 where
+    pub between : House W A g
+    pub polled : PollsEach work (length (core_of old).faces) old between turn.took turn.out_of_memory
+    pub goes_on : GoesOn work between new turn.ran turn.advanced

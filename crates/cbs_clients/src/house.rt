@@ -1,0 +1,243 @@
+//! The house: the core with its ends of the rings, and the results.
+
+ghost use Rattle.cbs_clients.specs.HouseInvariant.{Housed};
+ghost use Rattle.cbs_rate.specs.Limits.{most_servers};
+
+use crate::client::Client;
+use crate::error::HouseError;
+use crate::message::Message;
+use crate::poll::Poll;
+use crate::rings::Rings;
+use cbs_core::{Core, CoreError, LIMIT, Ran, ServerView};
+use cbs_job::Work;
+use cbs_results::Collector;
+use std::alloc::{Allocator, Global};
+
+/// A house: it owns the core, takes the messages of the clients, and keeps the results.
+///
+/// All its calls are made from one thread. It meets the clients at their rings alone.
+pub struct House<W: Work, A: Allocator = Global> {
+    pub(crate) core: Core<W, A>,
+    pub(crate) rings: Rings<W, A>,
+    pub(crate) collector: Collector<A>,
+    ghost housed: { Housed W.meaning core rings collector },
+}
+
+// What owns a house calls this on each way out, in the place of the drops of all that a house holds.
+impl<W: Work, A: Allocator> Drop for House<W, A> {
+    fn drop(self) {
+        let House {
+            core: _,
+            rings: _,
+            collector: _,
+        } = self;
+    }
+}
+
+impl<W: Work, A: Allocator> House<W, A> {
+    ghost use Rattle.std.specs.Prelude.{ℕ, ◌≡◌, ◌↔◌, ◌⊎◌, IsTrue, ◌<◌, ◌≤◌, [], ◌++◌, length, IfSome, IfNone, IfOk, IfErr};
+    ghost use Rattle.cbs_core.specs.Held.{front_output, held_at, IsClosed};
+    ghost use Rattle.cbs_clients.specs.Calls.{PollOf, RunOf, AdvanceOf, ClockOf, SpanOf, ViewOf, PromiseOf, LooksAtRing};
+    ghost use Rattle.cbs_clients.specs.Clients.{server_of, sent_by, IsOpened};
+    ghost use Rattle.cbs_clients.specs.Houses.{core_of, rings_of, received, known, KeepsResults, Made, LooksOnly, Polled, CanTake};
+
+    /// How many servers there are, at most 64. Their numbers are those below it.
+    pub fn servers(&self) -> u16
+        ensures value { result ≡ length (core_of self.now).faces }
+        ensures few { result ≤ most_servers }
+    {
+        self.core.servers()
+    }
+
+    /// Whether a server is there and closed.
+    pub fn is_closed(&self, server: u16) -> bool
+        ensures { IsTrue result ↔ IsClosed (core_of self.now) server }
+    {
+        match self.core.view(server) {
+            Ok(view) => view.closed,
+            Err(_) => false,
+        }
+    }
+
+    /// How many messages stand in a client's ring. The client must have been opened with this house.
+    ///
+    /// The caller holds both ends of the ring, so the number is exact: what was received and what
+    /// stands in the ring are, in order, all that the client sent.
+    pub fn settle(&mut self, client: &mut Client<W, A>) -> u64
+        requires { IsOpened (rings_of self.old) client.old }
+        ensures looked { LooksOnly self.old self.new }
+        ensures client { LooksAtRing client.old client.new }
+        ensures value { result ≡ length (known self.new (server_of client.new)) }
+        ensures lawful { sent_by client.new ≡ received self.new (server_of client.new) ++ known self.new (server_of client.new) }
+    {
+        self.rings.settle(client) as u64
+    }
+
+    /// Looks for the next message of a server, and takes it: a job is given to the core, an end closes
+    /// the server. There is room for a message before it is popped, so none is lost.
+    ///
+    /// Answers, in this order: [`Poll::NoSuchServer`]; [`Poll::Nothing`] where the server is closed or
+    /// no message is seen; [`Poll::Full`] where the backlog of the server is full, whatever the next
+    /// message is; [`Poll::OutOfMemory`] where an allocation is refused. These pop nothing. Else
+    /// [`Poll::Took`] with the job's number, which is the one that the client was told; or
+    /// [`Poll::Closed`].
+    pub fn poll(&mut self, server: u16) -> Poll
+        ensures { PollOf W.meaning server self.old result self.new }
+    {
+        let index = usize::from(server);
+        if index >= self.rings.len() {
+            return Poll::NoSuchServer;
+        }
+        if self.rings.look(index) == 0 {
+            return Poll::Nothing;
+        }
+        self.take_seen(server)
+    }
+
+    /// Polls the server of a client, as [`poll`](House::poll), while nothing can be sent, since the client is
+    /// at hand. It must have been opened with this house.
+    ///
+    /// The answer is [`Poll::Nothing`] exactly where the server is closed or all that the client sent was
+    /// taken, as where [`settle`](House::settle) just answered 0: there, however little memory there is.
+    pub fn poll_beside(&mut self, client: &mut Client<W, A>) -> Poll
+        requires { IsOpened (rings_of self.old) client.old }
+        ensures nothing { (result ≡ Poll.Nothing) ↔ (IsClosed (core_of self.old) (server_of client.old) ⊎ (sent_by client.old ≡ received self.old (server_of client.old))) }
+        ensures poll { PollOf W.meaning (server_of client.old) self.old result self.new }
+        ensures client { LooksAtRing client.old client.new }
+    {
+        // A look at both ends shows all that was sent. Without it a poll may miss the newest messages.
+        if self.settle(client) == 0 {
+            return Poll::Nothing;
+        }
+        self.poll(client.server())
+    }
+
+    /// Takes the next message of a server, which was seen, if there is room for it. It is not inlined, since a poll of an
+    /// empty ring then saves no registers.
+    #[inline(never)]
+    fn take_seen(&mut self, server: u16) -> Poll
+        requires { 0 < length (known self.old server) }
+        ensures { PollOf W.meaning server self.old result self.new }
+    {
+        if let Some(answer) = self.prepare(server) {
+            return answer;
+        }
+        self.take_next(server)
+    }
+
+    /// Makes room for the next message of a server, which was seen. Pops nothing. Returns what a poll answers, if there
+    /// is no room.
+    fn prepare(&mut self, server: u16) -> Option<Poll>
+        requires { 0 < length (known self.old server) }
+        ensures made { Made W.meaning self.old self.new [] }
+        ensures core { core_of self.new ≡ record (core_of self.old) { rooms = (core_of self.new).rooms } }
+        ensures results { KeepsResults self.old self.new }
+        ensures some { IfSome result (λ answer. Polled W.meaning self.old server answer self.new) }
+        ensures none { IfNone result (CanTake self.new server) }
+    {
+        match self.core.make_room(server) {
+            Ok(()) => {}
+            Err(CoreError::Closed) => return Some(Poll::Nothing),
+            Err(CoreError::BacklogFull) => return Some(Poll::Full),
+            // The server is there, so that memory alone is left.
+            Err(_) => return Some(Poll::OutOfMemory),
+        }
+        match self.collector.reserve(server) {
+            Ok(()) => None,
+            Err(_) => Some(Poll::OutOfMemory),
+        }
+    }
+
+    /// Pops the next message, which was seen, and gives it to the core, which has room for it.
+    fn take_next(&mut self, server: u16) -> Poll
+        requires { CanTake self.old server }
+        ensures polled { Polled W.meaning self.old server result self.new }
+        ensures rings { rings_of self.new ≡ rings_of self.old }
+        ensures results { KeepsResults self.old self.new }
+    {
+        match self.rings.take(server) {
+            Message::Job(task) => {
+                let number = self.core.submit_reserved(server, task);
+                self.collector.expect_reserved(server);
+                Poll::Took(number)
+            }
+            Message::End => {
+                self.core.close_open(server);
+                Poll::Closed
+            }
+        }
+    }
+
+    /// Runs one unit of the job at the front of the chosen server, as [`Core::run`]; a completion is
+    /// put in the results.
+    #[inline(always)]
+    pub fn run(&mut self) -> Ran
+        ensures { RunOf W.meaning self.old result self.new }
+    {
+        let ran = self.core.run();
+        if let Ran::Done(done) = ran {
+            self.collector.take_expected(done);
+        }
+        ran
+    }
+
+    /// Lets `n` ticks pass, by one jump, as [`Core::advance`].
+    ///
+    /// Refuses by [`HouseError::ClockEnd`] where the clock would pass [`LIMIT`], and then changes
+    /// nothing.
+    pub fn advance(&mut self, n: u64) -> Result<(), HouseError>
+        ensures { AdvanceOf W.meaning n self.old result self.new }
+    {
+        match self.core.advance(n) {
+            Ok(()) => Ok(()),
+            Err(_) => Err(HouseError::ClockEnd),
+        }
+    }
+
+    /// The clock, in ticks: 0 to [`LIMIT`].
+    pub fn now(&self) -> u64
+        ensures { ClockOf W.meaning self.now result }
+    {
+        self.core.now()
+    }
+
+    /// For how many ticks nobody will be ready, as [`Core::idle_span`].
+    ///
+    /// Where no job is held it reaches to the clock's end, [`LIMIT`]: nobody is ready until a message is
+    /// taken. Whoever polls must not advance by it then, since nothing can run once the clock stands at its
+    /// end. [`turn`](House::turn) advances by it only while a job is held.
+    pub fn idle_span(&self) -> Option<u64>
+        ensures { SpanOf W.meaning self.now result }
+    {
+        self.core.idle_span()
+    }
+
+    /// Returns the tick by which every job that a server accepted so far is finished, as
+    /// [`Core::promised`], or `None` if all are finished or there is no such server.
+    ///
+    /// It is kept if all are on time now and no advance to come takes anybody's time. A house is on time
+    /// when it is opened. Each call keeps it so, but an [`advance`](House::advance) while somebody is ready.
+    pub fn promised(&self, server: u16) -> Option<u128>
+        ensures { PromiseOf W.meaning server self.now result }
+    {
+        self.core.promised(server)
+    }
+
+    /// The output so far of the job at the front of a server, as [`Core::front_output`]; `None` where it has
+    /// no unfinished job, and where there is no such server.
+    pub fn front_output(&self, server: u16) -> Option<u64>
+        ensures { result ≡ front_output W.meaning (held_at (core_of self.now) server).jobs }
+    {
+        self.core.front_output(server)
+    }
+
+    /// What a server shows, or [`HouseError::NoSuchServer`].
+    pub fn view(&self, server: u16) -> Result<ServerView, HouseError>
+        ensures { ViewOf W.meaning server self.now result }
+    {
+        match self.core.view(server) {
+            Ok(view) => Ok(view),
+            Err(_) => Err(HouseError::NoSuchServer),
+        }
+    }
+}

@@ -1,0 +1,101 @@
+//! Opening a house with its clients.
+
+ghost use Rattle.std.specs.Prelude.{◌≡◌, ◌≤◌, length, map, IfOk};
+ghost use Rattle.std.specs.List.{All, range_with_len};
+ghost use Rattle.cbs_steps.specs.Setups.{terms_of};
+ghost use Rattle.cbs_rate.specs.Refusals.{RefusesByOrMemory};
+ghost use Rattle.cbs_clients.specs.Calls.{IsNewHouse};
+ghost use Rattle.cbs_clients.specs.Clients.{server_of, ring_of, IsOpened, AreOpened, EachOpened};
+ghost use Rattle.cbs_clients.specs.Houses.{rings_of};
+ghost use Rattle.cbs_clients.specs.Opened.{open_refusal, IsNewEnd, IsUnused};
+ghost use Rattle.cbs_clients.specs.Rings.{rings_in};
+ghost use Rattle.cbs_rate.specs.Limits.{most_ring, most_servers};
+
+use crate::client::Client;
+use crate::error::HouseError;
+use crate::house::House;
+use crate::rings::Rings;
+use cbs_core::{Core, MAX_BACKLOG};
+use cbs_job::Work;
+use cbs_rate::{MAX_RING, Plan};
+use cbs_results::Collector;
+use cbs_rules::Modes;
+use rtrb::RingBuffer;
+use std::alloc::{AllocError, Allocator};
+
+/// Opens a house whose servers have the reservations of the plan and, by number, these modes, each
+/// with at most `backlog` unfinished jobs; and one client for each server, in order of their numbers,
+/// each with a ring of `ring` slots.
+///
+/// A client that is dropped ends, so its server closes once all that it sent is taken. Its ring has one slot
+/// more than `ring` for that end, so it is sent at a full ring too.
+///
+/// There must be a mode for each server of the plan.
+///
+/// Refuses, in this order: [`HouseError::BadBacklog`] where the backlog is not within 1 to
+/// [`MAX_BACKLOG`]; [`HouseError::BadRing`] where the ring is not within 1 to [`MAX_RING`];
+/// [`HouseError::OutOfMemory`] where an allocation is refused.
+pub fn open_house<W: Work, A: Allocator + Copy>(
+    alloc: A,
+    plan: Plan,
+    modes: Modes,
+    backlog: u64,
+    ring: u64,
+) -> Result<(House<W, A>, Vec<Client<W, A>, A>), HouseError>
+    requires { length modes ≡ length plan.rates }
+    ensures new { IfOk result (λ r. IsNewHouse W.meaning (record { servers = terms_of modes plan.rates; backlog = backlog }) r.0) }
+    ensures clients { IfOk result (λ r. map server_of r.1.items ≡ range_with_len 0 (length plan.rates)) }
+    ensures count { IfOk result (λ r. length r.1.items ≡ length plan.rates) }
+    ensures few { IfOk result (λ r. length r.1.items ≤ most_servers) }
+    ensures unused { IfOk result (λ r. All (IsUnused ring) r.1.items) }
+    ensures opened { IfOk result (λ r. All (IsOpened (rings_of r.0)) r.1.items) }
+    ensures together { IfOk result (λ r. AreOpened (rings_of r.0) r.1.items) }
+    ensures each { IfOk result (λ r. EachOpened (rings_of r.0) r.1.items) }
+    ensures refusal { RefusesByOrMemory HouseError.OutOfMemory result (open_refusal backlog ring) }
+{
+    if backlog == 0 || backlog > MAX_BACKLOG {
+        return Err(HouseError::BadBacklog);
+    }
+    if ring == 0 || ring > MAX_RING {
+        return Err(HouseError::BadRing);
+    }
+    let servers = plan.len() as u16;
+    let Ok(core) = Core::new(alloc, plan, modes, backlog) else {
+        return Err(HouseError::OutOfMemory);
+    };
+    let Ok(collector) = Collector::new(alloc, servers) else {
+        return Err(HouseError::OutOfMemory);
+    };
+    let Ok((rings, clients)) = open_rings(alloc, servers, ring as usize) else {
+        return Err(HouseError::OutOfMemory);
+    };
+    let house = House {
+        core,
+        rings,
+        collector,
+    };
+    Ok((house, clients))
+}
+
+/// A ring for each of so many servers: the house's ends, and the clients with theirs. Each ring has so many slots
+/// for what its client sends, and one that is kept for the end of a dropped client.
+fn open_rings<W: Work, A: Allocator + Copy>(
+    alloc: A,
+    servers: u16,
+    slots: usize,
+) -> Result<(Rings<W, A>, Vec<Client<W, A>, A>), AllocError>
+    requires { slots ≤ most_ring }
+    ensures new { IfOk result (λ r. All IsNewEnd r.0.ends.items) }
+    ensures rings { IfOk result (λ r. rings_in r.0 ≡ map ring_of r.1.items) }
+    ensures clients { IfOk result (λ r. map server_of r.1.items ≡ range_with_len 0 servers) }
+    ensures unused { IfOk result (λ r. All (IsUnused slots) r.1.items) }
+{
+    let mut ends = Vec::with_capacity(alloc, usize::from(servers))?;
+    let mut clients = Vec::with_capacity(alloc, usize::from(servers))?;
+    for server in 0..servers {
+        let (producer, consumer) = RingBuffer::new(alloc, slots + 1)?;
+        ends.push_reserved(consumer);
+        clients.push_reserved(Client::new(server, producer));
+    }
+    Ok((Rings { ends }, clients))
+}

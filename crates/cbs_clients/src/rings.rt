@@ -1,0 +1,88 @@
+//! The house's ends of the rings.
+
+use crate::client::Client;
+use crate::message::Message;
+use cbs_job::Work;
+use rtrb::{Consumer, Producer};
+use std::alloc::{Allocator, Global};
+
+/// The house's ends of the rings, by server.
+#[derive(Drop)]
+pub struct Rings<W: Work, A: Allocator = Global> {
+    pub(crate) ends: Vec<Consumer<Message<W>, A>, A>,
+}
+
+impl<W: Work, A: Allocator> Rings<W, A> {
+    ghost use Rattle.std.specs.Prelude.{ℕ, ◌≡◌, ◌≢◌, ◌<◌, ◌≤◌, ◌+◌, [], ◌∷◌, ◌++◌, length, slice_get, Some};
+    ghost use Rattle.rtrb.specs.Ring.{sent, ProducerLooked};
+    ghost use Rattle.cbs_clients.specs.Rings.{producer_ring, rings_in, received_in, known_in, Looked};
+    ghost use Rattle.cbs_clients.specs.Clients.{server_of, sent_by, free, SameClient, IsOpened};
+
+    /// How many rings there are.
+    pub fn len(&self) -> usize
+        ensures { result ≡ length (rings_in self.now) }
+    {
+        self.ends.len()
+    }
+
+    /// How many messages are seen in a server's ring.
+    #[tactic(auto, using(crate::proofs::RingLooks::ringed))]
+    pub fn look(&mut self, server: usize) -> usize
+        requires { server < length (rings_in self.old) }
+        ensures looked { Looked self.old self.new }
+        ensures value { result ≡ length (known_in self.new server) }
+    {
+        let end = &mut self.ends[server];
+        end.slots()
+    }
+
+    /// Pops the next message of a server. One must have been seen.
+    pub fn take(&mut self, server: u16) -> Message<W>
+        requires { 0 < length (known_in self.old server) }
+        ensures rings { rings_in self.new ≡ rings_in self.old }
+        ensures received { received_in self.new server ≡ received_in self.old server ++ result ∷ [] }
+        ensures known { known_in self.old server ≡ result ∷ known_in self.new server }
+        ensures others { (s : ℕ) → s ≢ server → (received_in self.new s ≡ received_in self.old s) × (known_in self.new s ≡ known_in self.old s) }
+    {
+        self.take_at(usize::from(server))
+    }
+
+    #[tactic(auto, using(crate::proofs::RingLooks::ringed))]
+    fn take_at(&mut self, server: usize) -> Message<W>
+        requires { 0 < length (known_in self.old server) }
+        ensures rings { rings_in self.new ≡ rings_in self.old }
+        ensures received { received_in self.new server ≡ received_in self.old server ++ result ∷ [] }
+        ensures known { known_in self.old server ≡ result ∷ known_in self.new server }
+        ensures others { (s : ℕ) → s ≢ server → (received_in self.new s ≡ received_in self.old s) × (known_in self.new s ≡ known_in self.old s) }
+    {
+        let end = &mut self.ends[server];
+        end.pop_known()
+    }
+
+    /// How many messages stand in the ring of a server, whose other end is at hand.
+    #[tactic(auto, using(crate::proofs::RingLooks::ringed))]
+    fn beside(&mut self, server: usize, ring: &mut Producer<Message<W>, A>) -> usize
+        requires within { server < length (rings_in self.old) }
+        requires pair { slice_get (rings_in self.old) server ≡ Some (producer_ring ring.old) }
+        ensures looked { Looked self.old self.new }
+        ensures ring { ProducerLooked ring.old ring.new }
+        ensures value { result ≡ length (known_in self.new server) }
+        ensures lawful { received_in self.new server ++ known_in self.new server ≡ sent ring.new }
+    {
+        let end = &mut self.ends[server];
+        end.slots_beside(ring)
+    }
+
+    /// How many messages stand in a client's ring.
+    #[tactic(auto, using(crate::proofs::RingLooks::settled))]
+    pub fn settle(&mut self, client: &mut Client<W, A>) -> usize
+        requires { IsOpened (rings_in self.old) client.old }
+        ensures looked { Looked self.old self.new }
+        ensures client { SameClient client.old client.new × (sent_by client.new ≡ sent_by client.old) × (free client.old ≤ free client.new) }
+        ensures value { result ≡ length (known_in self.new (server_of client.new)) }
+        ensures lawful { received_in self.new (server_of client.new) ++ known_in self.new (server_of client.new) ≡ sent_by client.new }
+    {
+        let server = usize::from(client.server);
+        self.beside(server, &mut client.ring)
+    }
+}

@@ -1,0 +1,144 @@
+//! A turn of a house: the polls of all servers, and what comes after them.
+
+ghost use Rattle.std.specs.Prelude.{ℕ, ◌≡◌, ◌≤◌, length};
+ghost use Rattle.cbs_clients.specs.Houses.{core_of, KeepsResults};
+ghost use Rattle.cbs_clients.specs.Turns.{lacks_memory, PollsEach, popped_by};
+ghost use Rattle.cbs_rate.specs.Limits.{most_servers};
+
+use crate::gate::{Gate, OpenGate};
+use crate::house::House;
+use crate::poll::Poll;
+use cbs_core::{LIMIT, Ran};
+use cbs_job::Work;
+use std::alloc::Allocator;
+
+/// What the polls of a turn came to.
+#[derive(Clone, Copy)]
+pub struct Polls {
+    /// How many messages they took, of all servers.
+    pub took: u64,
+    /// Whether one saw a message for which there was no memory.
+    pub out_of_memory: bool,
+}
+
+/// Polls each server once, in the order of their numbers, and tells the gate each answer.
+pub fn poll_each<G: Gate, W: Work, A: Allocator>(gate: &G, house: &mut House<W, A>) -> Polls
+    ensures polled { PollsEach W.meaning (length (core_of house.old).faces) house.old house.new result.took result.out_of_memory }
+    ensures results { KeepsResults house.old house.new }
+    ensures few { result.took ≤ length (core_of house.old).faces }
+    ensures most { result.took ≤ most_servers }
+{
+    let mut took = 0;
+    let mut out_of_memory = false;
+    for server in 0..house.servers() {
+        let poll = house.poll(server);
+        gate.answered(server, poll);
+        took += count(poll);
+        out_of_memory |= is_out_of_memory(poll);
+    }
+    Polls {
+        took,
+        out_of_memory,
+    }
+}
+
+/// How many messages a poll popped.
+fn count(poll: Poll) -> u64
+    ensures value { result ≡ popped_by poll }
+    ensures most { result ≤ 1 }
+{
+    match poll {
+        Poll::Took(_) | Poll::Closed => 1,
+        Poll::Nothing | Poll::Full | Poll::OutOfMemory | Poll::NoSuchServer => 0,
+    }
+}
+
+/// Whether a poll saw a message for which there was no memory.
+fn is_out_of_memory(poll: Poll) -> bool
+    ensures { result ≡ lacks_memory poll }
+{
+    match poll {
+        Poll::OutOfMemory => true,
+        Poll::Took(_) | Poll::Closed | Poll::Nothing | Poll::Full | Poll::NoSuchServer => false,
+    }
+}
+
+/// What a turn did.
+#[derive(Clone, Copy, Debug, PartialEq, Eq)]
+pub struct Turn {
+    /// How many messages it took, ends included: at most one of each server.
+    pub took: u64,
+    /// Whether a poll saw a message for which there was no memory. The message stays in its ring.
+    pub out_of_memory: bool,
+    /// What ran: [`Ran::Idle`] where nobody was ready, and [`Ran::ClockEnd`] where the clock stands at
+    /// its end with a job unfinished.
+    pub ran: Ran,
+    /// By how many ticks the clock was advanced, with nobody ready. The tick of a unit is not counted.
+    pub advanced: u64,
+}
+
+impl<W: Work, A: Allocator> House<W, A> {
+    ghost use Rattle.std.specs.Prelude.{ℕ, ◌≡◌, ◌<◌, ◌≤◌, length};
+    ghost use Rattle.cbs_clients.specs.Houses.{core_of, rings_of, Collects, NamesJob};
+    ghost use Rattle.cbs_clients.specs.Turns.{GoesOn, IsNumbered};
+    ghost use Rattle.cbs_clients.specs.Calls.{TurnOf};
+    ghost use Rattle.cbs_core.specs.Held.{HoldsJob};
+
+    /// Takes one turn: polls each server once, in the order of their numbers, and then runs one unit, as
+    /// [`run`](House::run). Where nobody is ready it advances the clock by the idle span, but only while
+    /// an accepted job is unfinished; where none is, or the clock stands at [`LIMIT`], the clock stays.
+    ///
+    /// No advance takes anybody's time. Nothing is lost where a poll finds no memory: the message stays
+    /// in its ring, and the next turn polls again.
+    pub fn turn(&mut self) -> Turn
+        ensures { TurnOf W.meaning self.old result self.new }
+    {
+        let polls = poll_each(&OpenGate, self);
+        let (ran, advanced) = self.go_on_if_busy();
+        Turn {
+            took: polls.took,
+            out_of_memory: polls.out_of_memory,
+            ran,
+            advanced,
+        }
+    }
+
+    /// Goes on if a job is held and the clock is not at its end. Returns what ran, and by how many ticks the clock was
+    /// advanced.
+    fn go_on_if_busy(&mut self) -> (Ran, u64)
+        ensures goes_on { GoesOn W.meaning self.old self.new result.0 result.1 }
+        ensures rings { rings_of self.new ≡ rings_of self.old }
+        ensures collects { Collects result.0 self.old self.new }
+        ensures numbered { IsNumbered result.0 self.old }
+        ensures job { NamesJob W.meaning result.0 self.new }
+    {
+        if !self.is_busy() {
+            return (Ran::Idle, 0);
+        }
+        if self.now() == LIMIT {
+            return (Ran::ClockEnd, 0);
+        }
+        self.go_on()
+    }
+
+    /// Runs one unit if somebody is ready, and else advances by the idle span, so the clock is later. Returns what ran,
+    /// and by how many ticks the clock was advanced.
+    pub(crate) fn go_on(&mut self) -> (Ran, u64)
+        requires busy { HoldsJob (core_of self.old) }
+        requires early { (core_of self.old).clock < LIMIT }
+        ensures goes_on { GoesOn W.meaning self.old self.new result.0 result.1 }
+        ensures later { (core_of self.old).clock < (core_of self.new).clock }
+        ensures rings { rings_of self.new ≡ rings_of self.old }
+        ensures collects { Collects result.0 self.old self.new }
+        ensures numbered { IsNumbered result.0 self.old }
+        ensures job { NamesJob W.meaning result.0 self.new }
+    {
+        match self.idle_span() {
+            None => (self.run(), 0),
+            Some(span) => {
+                self.advance(span).unwrap();
+                (Ran::Idle, span)
+            }
+        }
+    }
+}

@@ -1,0 +1,27 @@
+-- The pointer may go to another thread, since what it may hold may.
+use mir.Raw.{raw}
+use base.Shift.{Keyless}
+use denote.Memory.{lone}
+use denote.Struct.Struct.{exits_of}
+use denote.Struct.Owning.{shape, fields, to}
+use denote.Param.Send.{IsSend, AllSend, owning_send, struct_send, sendable}
+use Rattle.std.proofs.Crossing as heap
+use Rattle.std_alloc.proofs.SendSync.{quiet, lies}
+use Rattle.std_heap.proofs.Global.TheSendSync as handle
+use denote.RawPtr.{Ptr}
+use Rattle.std.specs.Prelude.{Option, Some, None}
+use Rattle.std.specs.Global.{Global}
+use Rattle.cbs_embed.specs.Owned.{pointer_owns}
+use Rattle.cbs_embed.specs.contracts.held.Held as Held
+use Rattle.cbs_embed.proofs.held.Held.TheSendSync.{the_send as held}
+use Rattle.cbs_embed.specs.contracts.box_ptr.BoxPtr.{the_row, the_type}
+
+owns : (a : Global) (p : Ptr) (h : Option (Held.the_row).Denot) → Keyless (pointer_owns a p h)
+owns a p None = tt
+owns a p (Some x) = (lies Held.the_row held p x, heap.frees.frees a (raw (lone Held.the_row.mir)) p)
+
+pub send : IsSend the_row
+send =
+    let all : AllSend (fields the_type) = (search sendable, (handle.the_field_send, tt)) in
+    owning_send the_type all (λ d. owns d.alloc d.ptr d.held)
+    (λ k. quiet (to the_type) (exits_of k (fields the_type)) ((struct_send (shape the_type) all).leaving k))

@@ -1,0 +1,13 @@
+use Rattle.std.proofs.Common.{◌-◌}
+use Rattle.cbs_clients.specs.Houses.{rings_of, ServesOn}
+use Rattle.cbs_clients.specs.Clients.{IsOpened}
+use Rattle.cbs_house.specs.Rounds.{Standing}
+use Rattle.cbs_house.proofs.service.take_ring.Given as goal
+
+abbrev pub invariant-loop : goal.invariant-loop
+invariant-loop g l =
+    record {
+      steps : ServesOn g.W.Work.meaning l.fn.house l.house;
+      opened : IsOpened (rings_of l.house) l.feed.client;
+      standing : Standing l.house l.feed.client (l.end - l.counter);
+    }

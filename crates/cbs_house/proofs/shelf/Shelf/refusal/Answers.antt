@@ -1,5 +1,0 @@
-use Rattle.std.proofs.Common.{rules}
-use Rattle.cbs_house.proofs.shelf.Shelf.refusal.Goals as goal
-
-pub returns : goal.returns
-returns g c = search rules

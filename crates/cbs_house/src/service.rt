@@ -1,0 +1,186 @@
+//! Serving feeds to their end.
+
+ghost use Rattle.std.specs.Prelude.{ℕ, suc, ◌≡◌, ◌≢◌, ◌+◌, ◌≤◌, ◌↔◌, true, length, IsTrue, IfOk, OnOk, IfErr, MatchResult};
+ghost use Rattle.std.specs.List.{All};
+ghost use Rattle.cbs_house.specs.Feeds.{IsDone, KeepsFeed, KeepsFeeds, all_unsent};
+ghost use Rattle.cbs_clients.specs.Houses.{core_of, rings_of, IsHouseOnTime, LooksOnly, ServesOn};
+ghost use Rattle.cbs_core.specs.Held.{HoldsNoJob};
+ghost use Rattle.cbs_clients.specs.Clients.{IsOpened};
+ghost use Rattle.cbs_house.specs.Rounds.{Ready, Standing, IsTaken, IsSettled, IsServed, Halts, Stops};
+ghost use Rattle.cbs_rate.specs.Limits.{most_servers};
+
+use crate::feed::Feed;
+use crate::round::serve_round;
+use cbs_clients::{Client, Gate, House, HouseError, Poll};
+use cbs_job::Work;
+use std::thread::Threads;
+use std::time::Clock;
+
+/// How many turns each round of serving has.
+const TURNS: u64 = 10_000;
+
+/// Serves the feeds until each is done and all its jobs are finished: the results of its server, behind
+/// those that were handed out, are then those of all its jobs, in order, each once, whatever the threads did.
+///
+/// It makes rounds of 10000 turns ([`serve_round`]). After each it takes what stands in the rings,
+/// and drains; the gate is not told of the polls that it makes then. With no feed it makes one round,
+/// and drains what the house holds.
+///
+/// Refuses by [`HouseError::OutOfMemory`] where there is no memory to take what stands in a ring; by
+/// [`HouseError::ClockEnd`] where the clock stands at its end with a job unfinished; and by
+/// [`HouseError::Stalled`] where that is not enough after one round more than the feeds had messages
+/// to send. No job is lost then: each is in its feed, its ring, the core or the results, and the
+/// feeds may be served again.
+///
+/// There are at most 64 feeds, each with a client that was opened with this house. A feed whose client
+/// ended with jobs left is never done.
+pub fn serve<R: Threads + Clock + Sync, G: Gate + Sync, W: Work + Send>(
+    rt: &R,
+    house: &mut House<W>,
+    feeds: &mut [Feed<W>],
+    gate: &G,
+) -> Result<(), HouseError>
+    requires ready { Ready house.old feeds.old }
+    ensures ready { Ready house.new feeds.new }
+    ensures feeds { KeepsFeeds feeds.old feeds.new }
+    ensures steps { ServesOn W.meaning house.old house.new }
+    ensures on_time { IsHouseOnTime house.old → IsHouseOnTime house.new }
+    ensures served { OnOk result (All (IsServed W.meaning house.new) feeds.new) }
+    ensures drained { OnOk result (HoldsNoJob (core_of house.new)) }
+    ensures stops { IfErr result (λ error. Stops error house.new feeds.new) }
+{
+    for _ in 0..rounds_for(feeds) {
+        serve_round(rt, house, feeds, TURNS, gate);
+        if finish_round(house, feeds)? {
+            return Ok(());
+        }
+    }
+    Err(HouseError::Stalled)
+}
+
+/// How many rounds feeds are given: one, and one for each message that they have still to send.
+fn rounds_for<W: Work>(feeds: &[Feed<W>]) -> u128
+    requires { length feeds.now ≤ most_servers }
+    ensures { result ≡ all_unsent feeds.now + 1 }
+{
+    let mut rounds = 1;
+    for feed in feeds {
+        rounds += u128::from(feed.left());
+        if !feed.client.ended() {
+            rounds += 1;
+        }
+    }
+    rounds
+}
+
+/// Takes and finishes what a round left. Whether all is served.
+fn finish_round<W: Work>(house: &mut House<W>, feeds: &mut [Feed<W>]) -> Result<bool, HouseError>
+    requires ready { Ready house.old feeds.old }
+    ensures ready { Ready house.new feeds.new }
+    ensures feeds { KeepsFeeds feeds.old feeds.new }
+    ensures steps { ServesOn W.meaning house.old house.new }
+    ensures drained { OnOk result (HoldsNoJob (core_of house.new)) }
+    ensures settled { OnOk result (All (IsSettled house.new) feeds.new) }
+    ensures done { IfOk result (λ all. IsTrue all ↔ All IsDone feeds.new) }
+    ensures halts { IfErr result (λ error. Halts error house.new) }
+{
+    take_rest(house, feeds)?;
+    house.drain()?;
+    settle_all(house, feeds);
+    Ok(all_done(feeds))
+}
+
+/// Takes what stands in the rings of the feeds.
+fn take_rest<W: Work>(house: &mut House<W>, feeds: &mut [Feed<W>]) -> Result<(), HouseError>
+    requires ready { Ready house.old feeds.old }
+    ensures ready { Ready house.new feeds.new }
+    ensures feeds { KeepsFeeds feeds.old feeds.new }
+    ensures steps { ServesOn W.meaning house.old house.new }
+    ensures taken { OnOk result (All (IsTaken house.new) feeds.new) }
+    ensures halts { IfErr result (λ error. Halts error house.new) }
+{
+    for index in 0..feeds.len() {
+        take_ring(house, &mut feeds[index])?;
+    }
+    Ok(())
+}
+
+/// Takes what stands in the ring of one feed.
+fn take_ring<W: Work>(house: &mut House<W>, feed: &mut Feed<W>) -> Result<(), HouseError>
+    requires opened { IsOpened (rings_of house.old) feed.old.client }
+    ensures feed { KeepsFeed feed.old feed.new }
+    ensures steps { ServesOn W.meaning house.old house.new }
+    ensures taken { OnOk result (IsTaken house.new feed.new) }
+    ensures halts { IfErr result (λ error. Halts error house.new) }
+{
+    for _ in 0..settle_feed(house, feed) {
+        take_message(house, &feed.client)?;
+    }
+    Ok(())
+}
+
+/// Takes the next message of a client, and drains first where the backlog of its server is full.
+#[tactic(auto, using(cbs_clients::proofs::Moves::serving))]
+fn take_message<W: Work>(house: &mut House<W>, client: &Client<W>) -> Result<(), HouseError>
+    requires opened { IsOpened (rings_of house.old) client.now }
+    ensures steps { ServesOn W.meaning house.old house.new }
+    ensures taken { OnOk result ((n : ℕ) → Standing house.old client.now (suc n) → Standing house.new client.now n) }
+    ensures halts { IfErr result (λ error. Halts error house.new) }
+{
+    let server = client.server();
+    match house.poll(server) {
+        Poll::Full => {
+            house.drain()?;
+            memory_for(house.poll(server))
+        }
+        poll => memory_for(poll),
+    }
+}
+
+/// Whether a poll found memory.
+fn memory_for(poll: Poll) -> Result<(), HouseError>
+    ensures { MatchResult result (λ _. poll ≢ Poll.OutOfMemory) (λ error. error ≡ HouseError.OutOfMemory) }
+{
+    match poll {
+        Poll::OutOfMemory => Err(HouseError::OutOfMemory),
+        _ => Ok(()),
+    }
+}
+
+/// Settles all feeds, whose rings were emptied. Nothing is popped, so that what is seen of one ring
+/// stays.
+fn settle_all<W: Work>(house: &mut House<W>, feeds: &mut [Feed<W>])
+    requires ready { Ready house.old feeds.old }
+    requires taken { All (IsTaken house.old) feeds.old }
+    ensures ready { Ready house.new feeds.new }
+    ensures feeds { KeepsFeeds feeds.old feeds.new }
+    ensures looked { LooksOnly house.old house.new }
+    ensures settled { All (IsSettled house.new) feeds.new }
+{
+    for index in 0..feeds.len() {
+        settle_feed(house, &mut feeds[index]);
+    }
+}
+
+/// How many messages stand in the ring of a feed.
+fn settle_feed<W: Work>(house: &mut House<W>, feed: &mut Feed<W>) -> u64
+    requires opened { IsOpened (rings_of house.old) feed.old.client }
+    ensures feed { KeepsFeed feed.old feed.new }
+    ensures looked { LooksOnly house.old house.new }
+    ensures standing { Standing house.new feed.new.client result }
+    ensures settled { IsTaken house.old feed.old → IsSettled house.new feed.new }
+{
+    house.settle(&mut feed.client)
+}
+
+/// Whether all feeds are done.
+fn all_done<W: Work>(feeds: &[Feed<W>]) -> bool
+    ensures { IsTrue result ↔ All IsDone feeds.now }
+{
+    for feed in feeds {
+        if !feed.done() {
+            return false;
+        }
+    }
+    true
+}

@@ -1,0 +1,84 @@
+-- What a collector holds.
+use Rattle.std.specs.Prelude.{ℕ, ◌≡◌, ◌≢◌, ◌+◌, ◌<◌, ◌||◌, leb, ltb, if◌then◌else◌, List, [], ◌∷◌, ◌++◌, length, get_or, Option, Some, None}
+use Rattle.cbs_job.specs.declared.completion.Completion.{Completion}
+use Rattle.cbs_results.specs.declared.error.CollectError.{CollectError}
+use Rattle.cbs_results.specs.declared.error.CollectError.TheVariants.{Stranger, Double, Early}
+
+-- what a collector holds of one server: how many results were handed out; the results kept, which were taken behind those, in
+-- order; how many completions were announced, and how many more can be announced with no allocation
+pub record Shelved : Type 0 where
+  pub handed : ℕ
+  pub results : List ℕ
+  pub announced : ℕ
+  pub spare : ℕ
+
+-- what is held of a server before its first result, and where there is no such server
+abbrev pub no_shelf : Shelved
+no_shelf = record { handed = 0; results = []; announced = 0; spare = 0 }
+
+-- what is held of server s
+abbrev pub shelf_at : List Shelved → ℕ → Shelved
+shelf_at c s = get_or c s no_shelf
+
+-- how many results were taken: those handed out, and those kept
+abbrev pub taken : Shelved → ℕ
+taken h = h.handed + length h.results
+
+-- results and announcements of a server are as before, and where one more could be announced with no allocation, it still can
+pub record SameShelf (old new : Shelved) : Type 0 where
+  pub handed : new.handed ≡ old.handed
+  pub results : new.results ≡ old.results
+  pub announced : new.announced ≡ old.announced
+  pub spare : 0 < old.spare → 0 < new.spare
+
+-- results and announcements of every server but s are as before
+abbrev pub OtherShelvesSame : ℕ → List Shelved → List Shelved → Type 0
+OtherShelvesSame s old new = (t : ℕ) → t ≢ s → SameShelf (shelf_at old t) (shelf_at new t)
+
+-- results and announcements of every server are as before
+abbrev pub AllShelvesSame : List Shelved → List Shelved → Type 0
+AllShelvesSame old new = (t : ℕ) → SameShelf (shelf_at old t) (shelf_at new t)
+
+-- one more completion is announced
+pub record Announces (old new : Shelved) : Type 0 where
+  pub handed : new.handed ≡ old.handed
+  pub results : new.results ≡ old.results
+  pub announced : new.announced ≡ old.announced + 1
+
+-- a result was taken, behind the others, and where one more could be announced with no allocation, it still can
+pub record TakesResult (result : ℕ) (old new : Shelved) : Type 0 where
+  pub handed : new.handed ≡ old.handed
+  pub results : new.results ≡ old.results ++ result ∷ []
+  pub announced : new.announced ≡ old.announced
+  pub spare : 0 < old.spare → 0 < new.spare
+
+-- the results were handed out: none of them is kept, and they are counted
+pub record HandsOut (old new : Shelved) : Type 0 where
+  pub handed : new.handed ≡ taken old
+  pub results : new.results ≡ []
+  pub announced : new.announced ≡ old.announced
+
+-- a completion was announced and not taken
+abbrev pub IsWaiting : Shelved → Type 0
+IsWaiting h = taken h < h.announced
+
+-- every completion that was announced was taken
+abbrev pub IsComplete : Shelved → Type 0
+IsComplete h = h.announced ≡ taken h
+
+-- the completion is the next one: of a known server, with the number of results taken so far, and announced
+pub record IsNext (c : List Shelved) (done : Completion) : Type 0 where
+  pub known : done.server < length c
+  pub number : done.seq ≡ taken (shelf_at c done.server)
+  pub announced : done.seq < (shelf_at c done.server).announced
+
+-- why a completion of job seq is refused where this is held of its server, if it is
+abbrev pub shelf_refusal : Shelved → ℕ → Option CollectError
+shelf_refusal h seq =
+    if ltb seq (taken h) then Some Double
+    else if ltb (taken h) seq || leb h.announced seq then Some Early
+    else None
+
+-- why a completion is refused, if it is
+abbrev pub take_refusal : List Shelved → Completion → Option CollectError
+take_refusal c done = if leb (length c) done.server then Some Stranger else shelf_refusal (shelf_at c done.server) done.seq

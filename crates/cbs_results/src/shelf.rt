@@ -1,0 +1,128 @@
+//! The results of one server.
+
+ghost use Rattle.std.specs.Prelude.{◌≡◌, ◌<◌, IfOk, OnOk, OnErr, IsOk, MatchResult, Some, None, true, false};
+ghost use Rattle.cbs_results.specs.Collected.{SameShelf, Announces, TakesResult, HandsOut, IsWaiting, IsComplete, shelf_refusal, no_shelf};
+
+use crate::error::CollectError;
+use std::alloc::{AllocError, Allocator, Global};
+use std::marker::Model;
+use std::mem::replace;
+
+/// The results of one server, each with a place from the time that it is announced.
+#[derive(Drop)]
+pub struct Shelf<A: Allocator = Global> {
+    results: Vec<u64, A>,
+    // how many were taken in all, of which the last are kept
+    taken: u64,
+    announced: u64,
+}
+
+impl<A: Allocator> Model for Shelf<A> {
+    ghost use Rattle.std.specs.Prelude.{◌≤◌, ◌+◌, ◌-◌, min, vec_len, vec_capacity};
+    ghost use Rattle.cbs_results.specs.Collected.{Shelved};
+
+    ghost Value = { Shelved };
+
+    ghost view = { λ h. record {
+      handed = h.taken - vec_len h.results;
+      results = h.results.items;
+      announced = h.announced;
+      spare = min (h.taken - vec_len h.results + vec_capacity h.results) 18446744073709551615 - h.announced;
+    } };
+
+    ghost invariant = { λ h. (vec_len h.results ≤ h.taken) × (h.taken ≤ h.announced)
+        × (h.announced ≤ h.taken - vec_len h.results + vec_capacity h.results) };
+}
+
+impl<A: Allocator> Shelf<A> {
+    /// No result, and none announced.
+    pub fn new(alloc: A) -> Shelf<A>
+        ensures { SameShelf no_shelf result }
+    {
+        Shelf {
+            results: Vec::new(alloc),
+            taken: 0,
+            announced: 0,
+        }
+    }
+
+    /// Makes a place for one more result than are announced, unless 2^64 - 1 are.
+    pub fn make_room(&mut self) -> Result<(), AllocError>
+        ensures same { SameShelf self.old self.new }
+        ensures room { OnOk result (0 < self.new.spare) }
+        ensures succeeds { 0 < self.old.spare → IsOk result }
+    {
+        if self.announced == u64::MAX {
+            return Err(AllocError);
+        }
+        let pending = (self.announced - self.taken) as usize;
+        self.results.reserve(pending + 1)
+    }
+
+    /// Announces one more completion, where there is a place for its result.
+    pub fn expect_reserved(&mut self)
+        requires { 0 < self.old.spare }
+        ensures { Announces self.old self.new }
+    {
+        self.announced += 1;
+    }
+
+    /// Why the result of job `seq` is not the next one, if it is not.
+    pub fn refusal(&self, seq: u64) -> Option<CollectError>
+        ensures { result ≡ shelf_refusal self.now seq }
+    {
+        if seq < self.taken {
+            return Some(CollectError::Double);
+        }
+        if seq > self.taken || seq >= self.announced {
+            return Some(CollectError::Early);
+        }
+        None
+    }
+
+    /// Takes the next result, which was announced.
+    pub fn take(&mut self, output: u64)
+        requires { IsWaiting self.old }
+        ensures { TakesResult output self.old self.new }
+    {
+        self.results.push_reserved(output);
+        self.taken += 1;
+    }
+
+    /// Whether a completion was announced and not taken.
+    pub fn is_waiting(&self) -> bool
+        ensures some { result ≡ true → IsWaiting self.now }
+        ensures none { result ≡ false → IsComplete self.now }
+    {
+        self.taken != self.announced
+    }
+
+    /// Hands out the results, in order, and keeps none of them. Each completion that is announced and not
+    /// taken has a new place: that alone takes memory.
+    pub fn hand_out(&mut self) -> Result<Vec<u64, A>, AllocError>
+    where
+        A: Clone,
+        ensures ok { IfOk result (λ results. results.items ≡ self.old.results) }
+        ensures handed { OnOk result (HandsOut self.old self.new) }
+        ensures refused { OnErr result (self.new ≡ self.old) }
+    {
+        let pending = (self.announced - self.taken) as usize;
+        let alloc = self.results.allocator().clone()?;
+        let places = Vec::with_capacity(alloc, pending)?;
+        Ok(replace(&mut self.results, places))
+    }
+
+    /// Drops the results, as if they were handed out, and keeps their places: no memory is taken.
+    pub fn discard(&mut self)
+        ensures { HandsOut self.old self.new }
+    {
+        self.results.clear();
+    }
+
+    /// The results, in order.
+    pub fn results(&self) -> &[u64]
+        ensures { result.now ≡ self.now.results }
+    {
+        self.results.as_slice()
+    }
+}
