@@ -54,6 +54,9 @@ fn asked_of(rt: &HostRuntime, alloc: Global) -> Result<(Asked, u64), WordsFault>
 }
 
 /// The bytes of a file. One that cannot be opened is a read fault.
+// A read has a buffer of 64 KiB on the stack, which must be gone before the file is run: where the address
+// space is limited, a stack that grows late ends the program by a signal.
+#[inline(never)]
 fn bytes_of(rt: &HostRuntime, alloc: Global, path: &str) -> Result<Vec<u8>, ReadError> {
     let Ok(file) = File::open(rt, path) else {
         return Err(ReadError::ReadFault);
