@@ -104,26 +104,12 @@ fn both_sides<R: Threads + Clock + Sync, G: Gate + Sync, W: Work + Send>(
         &mut || -> u64
             requires { turns ≤ 1000000000 }
             ensures { TakesTurns W.meaning turns wanted.entry.now house.entry.now house.exit.now result × (result ≤ turns * length (core_of house.entry.now).faces) }
-        { house_side(rt, gate, turns, wanted, at_work, house) },
+        {
+            let took = house_turns(rt, gate, turns, wanted, at_work, house);
+            at_work.house_leaves();
+            took
+        },
     )
-}
-
-/// The house's side, which leaves once it has taken its turns. Returns how many messages it took.
-fn house_side<R: Clock, G: Gate, W: Work>(
-    rt: &R,
-    gate: &G,
-    turns: u64,
-    wanted: &[u16],
-    at_work: &AtWork,
-    house: &mut House<W>,
-) -> u64
-    requires { turns ≤ 1000000000 }
-    ensures turns { TakesTurns W.meaning turns wanted.now house.old house.new result }
-    ensures few { result ≤ turns * length (core_of house.old).faces }
-{
-    let took = house_turns(rt, gate, turns, wanted, at_work, house);
-    at_work.house_leaves();
-    took
 }
 
 /// The turns of the house, until the wanted servers are closed. After those that take no message it rests, while a

@@ -42,23 +42,6 @@ fn send_turns<R: Clock, W: Work, G: Gate>(
     sent
 }
 
-/// One sender, which leaves once it has taken its turns. Returns how many messages it sent.
-fn send_one<R: Clock, W: Work, G: Gate>(
-    rt: &R,
-    feed: &mut Feed<W>,
-    gate: &G,
-    turns: u64,
-    at_work: &AtWork,
-) -> u64
-    ensures kept { KeepsFeed feed.old feed.new }
-    ensures count { length (sent_by feed.new.client) ≡ length (sent_by feed.old.client) + result }
-    ensures most { result ≤ turns }
-{
-    let sent = send_turns(rt, feed, gate, turns, at_work);
-    at_work.sender_leaves();
-    sent
-}
-
 /// The senders of all feeds, each in a part of its own of the joins. Returns how many messages they sent.
 #[cycle(senders)]
 pub fn send_all<R: Threads + Clock + Sync, G: Gate + Sync, W: Work + Send>(
@@ -76,7 +59,11 @@ pub fn send_all<R: Threads + Clock + Sync, G: Gate + Sync, W: Work + Send>(
 {
     if feeds.len() < 2 {
         return match feeds.first_mut() {
-            Some(feed) => send_one(rt, feed, gate, turns, at_work),
+            Some(feed) => {
+                let sent = send_turns(rt, feed, gate, turns, at_work);
+                at_work.sender_leaves();
+                sent
+            }
             None => 0,
         };
     }

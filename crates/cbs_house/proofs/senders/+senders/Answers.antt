@@ -10,8 +10,8 @@ most_of_both turns front back all a b e p q = rw (← e, mul-add turns front bac
 pub send_all-returns-in-Some-clause-sends : goal.send_all-returns-in-Some-clause-sends
 send_all-returns-in-Some-clause-sends g n c =
     let i = c.in-Some.ensures.item in
-    let sent = c.send_one.ensures in
-    sends_set c.args.turns c.args.feeds.now 0 c.send_one.new.feed c.in-Some.feed.now i.3.0 (rw (← i.1) sent.kept)
+    let sent = c.send_turns-sent.ensures in
+    sends_set c.args.turns c.args.feeds.now 0 c.send_turns-sent.new.feed c.in-Some.feed.now i.3.0 (rw (← i.1) sent.kept)
     (rw (← i.1) (omega (arith, sent.count, sent.most)))
 
 pub send_all-returns-clause-most : goal.send_all-returns-clause-most
@@ -39,7 +39,7 @@ send_both-join_mut+arg3-returns g t c = let sent = c.send_all.ensures in (sent.s
 pub send_all-returns-in-Some-clause-most : goal.send_all-returns-in-Some-clause-most
 send_all-returns-in-Some-clause-most g t c =
     let one : length c.args.feeds.now ≡ 1 = omega (arith, c.if-feeds-lt2.true, c.in-Some.ensures.item.3.0) in
-    rw one (omega (arith, c.send_one.ensures.most))
+    rw one (omega (arith, c.send_turns-sent.ensures.most))
 
 pub send_all-returns-in-Some-clause-count : goal.send_all-returns-in-Some-clause-count
 send_all-returns-in-Some-clause-count g t c = grind (arith, common_steps)
