@@ -1,28 +1,25 @@
 -- What C is told of opening a house, and of planning one.
-use Rattle.std.specs.Prelude.{ℕ, ◌≡◌, OnOk, OnErr, MatchResult, Some, None, Result, List, length, map}
-use Rattle.cbs_embed.specs.Handles.{held_by}
-use Rattle.cbs_embed.specs.Openings.{OpensServers, OpensOrRefuses}
+use Rattle.std.specs.Prelude.{ℕ, ◌≡◌, MatchResult, Some, None, Result, List}
+use Rattle.cbs_embed.specs.Openings.{OpenOf}
 use Rattle.cbs_embed.specs.Plans.{setup_refusal, plan_with, whole_processor, IsGreatestBudget}
 use Rattle.cbs_embed.specs.declared.handle.Handle.{Handle}
 use Rattle.cbs_embed.specs.declared.refusal.Refusal.{Refusal}
 use Rattle.cbs_embed.specs.declared.setup.Server.{Server}
 use Rattle.cbs_c.specs.Statuses.{status_after, shown_or}
 
--- the handles hold a house of these servers and its clients, or are as they were, and the status says which, and why
+-- a house of these servers is opened, or not, and C is told which, and why
 pub record OpensForC (servers : List Server) (backlog ring : ℕ) (house house' : Handle) (clients clients' : List Handle) (status : ℕ) : Type 0 where
   pub answer : Result (Unit {0}) Refusal
-  pub ok : OnOk answer (OpensServers servers backlog ring (held_by house') (map held_by clients'))
-  pub err : OnErr answer ((house' ≡ house) × (clients' ≡ clients))
-  pub refusal : OpensOrRefuses servers (length clients) backlog ring answer
+  pub opens : OpenOf servers backlog ring house house' clients clients' answer
   pub told : status ≡ status_after answer
 
--- it is told whether these servers make a plan, or why they are refused
+-- it is told that these servers make a plan, or why they are refused
 pub record TellsAdmission (servers : List Server) (status : ℕ) : Type 0 where
   pub answer : Result (Unit {0}) Refusal
   pub admitted : MatchResult answer (λ _. setup_refusal whole_processor servers ≡ None) (λ error. setup_refusal whole_processor servers ≡ Some error)
   pub told : status ≡ status_after answer
 
--- the greatest budget that is still admitted behind these servers is told, or why they are refused themselves
+-- the greatest budget that is still admitted after these servers is told, or why they are refused themselves
 pub record TellsBudget (servers : List Server) (period before status after : ℕ) : Type 0 where
   pub answer : Result ℕ Refusal
   pub greatest : MatchResult answer

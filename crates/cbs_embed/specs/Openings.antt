@@ -1,5 +1,5 @@
 -- What opening a house puts into handles.
-use Rattle.std.specs.Prelude.{ℕ, ◌≡◌, ◌≢◌, ◌⊎◌, Option, Some, None, Result, Ok, Err, List, [], length, map}
+use Rattle.std.specs.Prelude.{ℕ, ◌≡◌, ◌≢◌, ◌⊎◌, OnOk, OnErr, Option, Some, None, Result, Ok, Err, List, [], length, map}
 use Rattle.std.specs.List.{All, range_with_len}
 use Rattle.cbs_rate.specs.Rate.{Rate}
 use Rattle.cbs_rules.specs.declared.mode.Mode.{Mode}
@@ -11,8 +11,10 @@ use Rattle.cbs_clients.specs.Opened.{open_refusal, IsUnused}
 use Rattle.cbs_clients.specs.declared.error.HouseError.{HouseError}
 use Rattle.cbs_clients.specs.declared.error.HouseError.TheVariants.{OutOfMemory}
 use Rattle.cbs_embed.specs.Calls.{TheHouse, TheClient}
+use Rattle.cbs_embed.specs.Handles.{held_by}
 use Rattle.cbs_embed.specs.Jobs.{counting}
 use Rattle.cbs_embed.specs.Plans.{setup_refusal, plan_with, modes_with, whole_processor}
+use Rattle.cbs_embed.specs.declared.handle.Handle.{Handle}
 use Rattle.cbs_embed.specs.declared.setup.Server.{Server}
 use Rattle.cbs_embed.specs.declared.held.Held.{Held}
 use Rattle.cbs_embed.specs.declared.held.Held.TheVariants.{House, Client}
@@ -43,10 +45,17 @@ RefusesOpening servers handles backlog ring error =
     ⊎ ((handles ≡ servers) × ((why : HouseError) × (error ≡ refused.House why)
     × ((open_refusal backlog ring ≡ Some why) ⊎ ((open_refusal backlog ring ≡ None) × (why ≡ OutOfMemory)))))
 
--- it is opened where nothing refuses it; the first server that does not fit refuses it before all else
+-- it is opened if nothing refuses it; the first server that does not fit refuses it before all else
 abbrev pub OpensOrRefuses : List Server → ℕ → ℕ → ℕ → Result (Unit {0}) Refusal → Type 0
 OpensOrRefuses servers handles backlog ring (Ok x) = (setup_refusal whole_processor servers ≡ None) × (handles ≡ length servers)
     × (open_refusal backlog ring ≡ None)
 OpensOrRefuses servers handles backlog ring (Err error) =
     (setup_refusal whole_processor servers ≡ Some error) ⊎ ((setup_refusal whole_processor servers ≡ None)
     × RefusesOpening (length servers) handles backlog ring error)
+
+-- what opening does, by its answer: the handles hold a house of these servers and its clients, or are as they were; it says which, and why
+pub record OpenOf (servers : List Server) (backlog ring : ℕ) (house house' : Handle) (clients clients' : List Handle)
+    (answer : Result (Unit {0}) Refusal) : Type 0 where
+  pub ok : OnOk answer (OpensServers servers backlog ring (held_by house') (map held_by clients'))
+  pub err : OnErr answer ((house' ≡ house) × (clients' ≡ clients))
+  pub refusal : OpensOrRefuses servers (length clients) backlog ring answer

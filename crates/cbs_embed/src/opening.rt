@@ -1,10 +1,10 @@
 //! Opening a house with its clients, each in a handle.
 
-ghost use Rattle.std.specs.Prelude.{◌≡◌, IfOk, OnOk, OnErr, Some, length, map};
+ghost use Rattle.std.specs.Prelude.{◌≡◌, IfOk, Some, length, map};
 ghost use Rattle.cbs_rate.specs.Refusals.{RefusesByOrMemory};
 ghost use Rattle.cbs_clients.specs.Opened.{open_refusal};
 ghost use Rattle.cbs_embed.specs.Handles.{held_by};
-ghost use Rattle.cbs_embed.specs.Openings.{Opens, OpensServers, OpensOrRefuses};
+ghost use Rattle.cbs_embed.specs.Openings.{Opens, OpenOf};
 ghost use Rattle.cbs_embed.specs.declared.held.Held.TheVariants as held;
 
 use crate::handle::Handle;
@@ -34,9 +34,7 @@ pub fn open(
     house: &mut Handle,
     clients: &mut [Handle],
 ) -> Result<(), Refusal>
-    ensures ok { OnOk result (OpensServers servers.now backlog ring (held_by house.new) (map held_by clients.new)) }
-    ensures err { OnErr result ((house.new ≡ house.old) × (clients.new ≡ clients.old)) }
-    ensures refusal { OpensOrRefuses servers.now (length clients.old) backlog ring result }
+    ensures { OpenOf servers.now backlog ring house.old house.new clients.old clients.new result }
 {
     let Setup { plan, modes } = setup_of(servers)?;
     if clients.len() != plan.len() {
@@ -74,7 +72,7 @@ fn open_boxes(
     Ok((held, ends))
 }
 
-/// Each client in a box.
+/// Returns each client in a box.
 fn box_all(alloc: Global, clients: Vec<Client<UnitJob>>) -> Result<Vec<Box<Held>>, AllocError>
     ensures { IfOk result (λ boxes. map (λ b. Some b.value) boxes.items ≡ map (λ c. Some (held.Client c)) clients.items) }
 {
