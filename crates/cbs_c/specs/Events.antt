@@ -39,7 +39,7 @@ view_shown v = record {
   closed = v.closed;
 }
 
--- the number of a poll's answer; where there is no such server, the call is refused instead
+-- the number of a poll's answer; if there is no such server, the call is refused instead
 abbrev pub poll_kind : Poll → ℕ
 poll_kind poll.Nothing = 0
 poll_kind (poll.Took q) = 1
@@ -48,11 +48,11 @@ poll_kind poll.Full = 3
 poll_kind poll.OutOfMemory = 4
 poll_kind poll.NoSuchServer = 0
 
--- the number of a span: the greatest of 64 bits where there is none
+-- the number of a span: the greatest of 64 bits if there is none
 abbrev pub span_shown : Option ℕ → ℕ
 span_shown span = unwrap_or span (2 ^ 64 - 1)
 
--- the number of a promise: the greatest of 128 bits where there is none
+-- the number of a promise: the greatest of 128 bits if there is none
 abbrev pub promise_shown : Option ℕ → ℕ
 promise_shown tick = unwrap_or tick (2 ^ 128 - 1)
 

@@ -10,13 +10,13 @@ module _ {T : Type 0} where
   status_after (Ok x) = 0
   status_after (Err e) = refusal_status e
 
-  -- what stands at the caller's place afterwards: what C is shown of the value, or what stood there
+  -- what the caller's place has afterwards: what C is shown of the value, or what it had before
   abbrev pub shown_or : {U : Type 0} → (T → U) → Result T Refusal → U → U
   shown_or shown (Ok x) before = shown x
   shown_or shown (Err e) before = before
 
--- A call did this to what a handle held: C is told the status of its answer, and of a value what it is shown of it; where the call is
--- refused, what stood at its place.
+-- A call did this to what a handle held: C is told the status of its answer. The caller's place has what C is shown of the value, or what
+-- it had before if the call is refused.
 pub record Tells {T U : Type 0} (Does : Option Held → Result T Refusal → Option Held → Type 0) (shown : T → U)
     (held : Option Held) (before : U) (status : ℕ) (holds : Option Held) (after : U) : Type 0 where
   pub answer : Result T Refusal
@@ -31,7 +31,7 @@ pub record Answers {T : Type 0} (Does : Option Held → Result T Refusal → Opt
   pub does : Does held answer holds
   pub told : status ≡ status_after answer
 
--- As much of a text as fits is written, what stands after it stays, and the length of the whole is answered. Which text a status has
+-- As much of a text as fits is written, what comes after it stays, and the length of the whole is returned. Which text a status has
 -- is not said.
 pub record WritesSomeText (before after : List ℕ) (answer : ℕ) : Type 0 where
   pub text : List ℕ

@@ -23,7 +23,7 @@ pub extern "C" fn cbs_end(client: &mut Handle) -> u32
     status_of(calls::end(client))
 }
 
-/// How many messages of the client stand in its ring.
+/// Tells how many messages of the client wait in its ring.
 #[unsafe(no_mangle)]
 pub extern "C" fn cbs_waiting(client: &mut Handle, out: &mut u64) -> u32
     ensures { Tells (OnHeld (InClient Waits)) (λ n. n) (held_by client.old) out.old result (held_by client.new) out.new }

@@ -55,7 +55,7 @@ pub struct View {
     pub closed: bool,
 }
 
-/// The event of a run.
+/// Returns the event of a run.
 pub(crate) fn event_of(ticked: Ticked) -> Event
     ensures { result ≡ ran_event ticked.ran ticked.token }
 {
@@ -73,7 +73,7 @@ pub(crate) fn event_of(ticked: Ticked) -> Event
     }
 }
 
-/// The event of a turn.
+/// Returns the event of a turn.
 pub(crate) fn turn_event_of(turned: Turned) -> TurnEvent
     ensures { result ≡ turn_event turned }
 {
@@ -89,21 +89,21 @@ pub(crate) fn turn_event_of(turned: Turned) -> TurnEvent
     }
 }
 
-/// The lower 64 bits of a number.
+/// Returns the lower 64 bits of a number.
 pub(crate) fn low(number: u128) -> u64
     ensures { result ≡ number % 2 ^ 64 }
 {
     (number % (1 << 64)) as u64
 }
 
-/// The upper 64 bits.
+/// Returns the upper 64 bits.
 pub(crate) fn high(number: u128) -> u64
     ensures { result ≡ number / 2 ^ 64 }
 {
     (number >> 64) as u64
 }
 
-/// What C sees of a server.
+/// Returns what C sees of a server.
 pub(crate) fn view_of(view: ServerView) -> View
     ensures { result ≡ view_shown view }
 {
@@ -118,7 +118,7 @@ pub(crate) fn view_of(view: ServerView) -> View
     }
 }
 
-/// The number of a poll's answer. A server that the house has not is refused by its status instead.
+/// Returns the number of a poll's answer. A server that the house has not is refused by its status instead.
 pub(crate) fn kind_of(answer: Poll) -> u32
     ensures { result ≡ poll_kind answer }
 {

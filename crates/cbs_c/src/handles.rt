@@ -31,7 +31,7 @@ pub extern "C" fn cbs_free(alloc: Global, handle: &mut Handle)
     drop(handle.take(alloc));
 }
 
-/// Returns whether these servers make a plan, and opens nothing.
+/// Returns 0 if these servers make a plan, or why they do not. It opens nothing.
 #[unsafe(no_mangle)]
 pub extern "C" fn cbs_admit(servers: &[Server]) -> u32
     ensures { TellsAdmission servers.now result }
@@ -39,7 +39,7 @@ pub extern "C" fn cbs_admit(servers: &[Server]) -> u32
     status_of(admit(servers))
 }
 
-/// The greatest budget with which a server of this period would be admitted behind these.
+/// Tells the greatest budget with which a server of this period would be admitted after these.
 #[unsafe(no_mangle)]
 pub extern "C" fn cbs_greatest_budget(servers: &[Server], period: u64, out: &mut u64) -> u32
     ensures { TellsBudget servers.now period out.old result out.new }

@@ -59,7 +59,7 @@ pub extern "C" fn cbs_advance(house: &mut Handle, ticks: u64) -> u32
     status_of(calls::advance(house, ticks))
 }
 
-/// The clock.
+/// Tells the clock.
 #[unsafe(no_mangle)]
 pub extern "C" fn cbs_now(house: &mut Handle, out: &mut u64) -> u32
     ensures { Tells (OnHeld (InHouse TellsClock)) (λ n. n) (held_by house.old) out.old result (held_by house.new) out.new }
@@ -67,7 +67,7 @@ pub extern "C" fn cbs_now(house: &mut Handle, out: &mut u64) -> u32
     tell(out, calls::now(house))
 }
 
-/// For how many ticks nobody will be ready; `u64::MAX` where somebody is now.
+/// Tells for how many ticks nobody will be ready; `u64::MAX` if somebody is now.
 #[unsafe(no_mangle)]
 pub extern "C" fn cbs_idle_span(house: &mut Handle, out: &mut u64) -> u32
     ensures { Tells (OnHeld (InHouse Spans)) span_shown (held_by house.old) out.old result (held_by house.new) out.new }
@@ -81,7 +81,7 @@ pub extern "C" fn cbs_idle_span(house: &mut Handle, out: &mut u64) -> u32
     }
 }
 
-/// What a server shows. Refuses the number of no server.
+/// Tells what a server shows. Refuses the number of no server.
 #[unsafe(no_mangle)]
 pub extern "C" fn cbs_view(house: &mut Handle, server: u16, out: &mut View) -> u32
     ensures { Tells (OnHeld (InHouse (Shows server))) view_shown (held_by house.old) out.old result (held_by house.new) out.new }
@@ -95,7 +95,7 @@ pub extern "C" fn cbs_view(house: &mut Handle, server: u16, out: &mut View) -> u
     }
 }
 
-/// By which tick all that a server took is finished, in two halves; both are `u64::MAX` if all is finished.
+/// Tells the tick by which all that a server took is finished, in two halves; both are `u64::MAX` if all is finished.
 /// Refuses the number of no server.
 #[unsafe(no_mangle)]
 pub extern "C" fn cbs_promised(

@@ -1,5 +1,5 @@
 //! The library for C: the calls of `cbs_embed` under names and in types that C knows, as `cbs.h` declares
-//! them. Each answers a status: 0, or [`Refusal::status`](cbs_embed::Refusal::status). A call that refuses
+//! them. Each returns a status: 0, or [`Refusal::status`](cbs_embed::Refusal::status). A call that refuses
 //! changes nothing, and writes nothing to its out parameters.
 #![tactic(auto)]
 

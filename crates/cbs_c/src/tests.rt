@@ -108,7 +108,7 @@ fn rests_for(rt: &impl Abort, house: &mut Handle, ticks: u64) {
     same(rt, "idle span", span, ticks);
 }
 
-/// The clock stands there.
+/// The clock is at this tick.
 fn stands_at(rt: &impl Abort, house: &mut Handle, tick: u64) {
     let mut now = 9;
     is(rt, cbs_now(house, &mut now), 0);
@@ -130,7 +130,7 @@ fn polls(rt: &impl Abort, house: &mut Handle, server: u16, wanted: u32) {
     same(rt, "poll", kind, wanted);
 }
 
-/// So many messages of a client stand in its ring.
+/// So many messages of a client wait in its ring.
 fn waits(rt: &impl Abort, client: &mut Handle, wanted: u64) {
     let mut waiting = 9;
     is(rt, cbs_waiting(client, &mut waiting), 0);

@@ -91,7 +91,7 @@ module _ {W A : Type 0} {g : Ghosts W} where
   SpanOf work h span = (M : History W) → Agrees work (core_of h) M
       → MatchOption span (¬ IsAtRest work (world_after work M)) (IsIdleSpan work (world_after work M))
 
-  -- What server s shows is told, or that there is none. Where all is on time, a ready server's deadline is still to come.
+  -- What server s shows is told, or that there is none. If all is on time, a ready server's deadline is still to come.
   pub record ViewOf (work : Meaning W) (s : ℕ) (h : House W A g) (answer : Result ServerView HouseError) : Type 0 where
     pub view : (M : History W) → Agrees work (core_of h) M → answer ≡ view_answer (view_reply (slice_get (faces work (world_after work M)) s))
     pub early : (M : History W) → Agrees work (core_of h) M → IfOk answer (λ v. let now = (world_after work M).now in v.deadline ≤ now + (now + 1) * longest_period)
@@ -111,7 +111,7 @@ module _ {W A : Type 0} {g : Ghosts W} where
     pub sent : sent_by new ≡ sent_by old
     pub looked : free old ≤ free new
 
-  -- A job is sent, and its number told; or it comes back: after an end, or at a ring that is not known to have a free slot, or where
+  -- A job is sent, and its number told; or it comes back: after an end, or at a ring that is not known to have a free slot, or if
   -- 2^64 - 1 jobs were sent. A slot that is known to be free is one that the next message takes.
   pub record SendOf (job : W) (old : Client W A g) (answer : Result ℕ (SendRefused W)) (new : Client W A g) : Type 0 where
     pub same : SameClient old new

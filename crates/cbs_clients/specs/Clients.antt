@@ -53,6 +53,6 @@ module _ {W A : Type 0} {g : Ghosts W} where
   abbrev pub AreOpened : List (Ring A) → List (Client W A g) → Type 0
   AreOpened rings cs = map (λ c. slice_get rings (server_of c)) cs ≡ map (λ c. Some (ring_of c)) cs
 
-  -- and of each, wherever it stands among them
+  -- and of each, at whatever place among them
   abbrev pub EachOpened : List (Ring A) → List (Client W A g) → Type 0
   EachOpened rings cs = (front back : List (Client W A g)) (c : Client W A g) → cs ≡ front ++ c ∷ back → IsOpened rings c

@@ -10,8 +10,8 @@ use Rattle.cbs_clients.specs.Rings.{rings_in, received_in}
 use Rattle.cbs_core.specs.Agreement.{HasHistory}
 
 -- What a house keeps of one server, of which so many results were handed out: its results, and then what the jobs held come to,
--- are what the jobs received come to, in order, behind the results that were handed out; it accepted each job received, and
--- finished as many as results were handed out or are kept; and it is closed exactly where an end was received, which is then the
+-- are what the jobs received come to, in order, after the results that were handed out; it accepted each job received, and
+-- finished as many as results were handed out or are kept; and it is closed exactly if an end was received, which is then the
 -- last message.
 pub record KeepsServer {W : Type 0} (work : Meaning W) (h : Held W) (received : List (Message W)) (handed : ℕ) (results : List ℕ) : Type 0 where
   pub outputs : results ++ map (whole work) h.jobs ≡ drop handed (map (whole work) (jobs_among received))

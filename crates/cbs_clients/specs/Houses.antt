@@ -26,7 +26,7 @@ use Rattle.cbs_clients.specs.Rings.{rings_in, received_in, known_in, Ring}
 use Rattle.cbs_clients.specs.Steps.{messages_of, pops, MayServe}
 use Rattle.cbs_core.specs.Agreement.{Follows, AllAllowed, AllOnTime}
 
--- What a house has of one server: the messages received, oldest first; those that it knows to stand in the ring, oldest first; how many
+-- What a house has of one server: the messages received, oldest first; those that it knows to wait in the ring, oldest first; how many
 -- results were handed out; and the results that are kept, in order.
 pub record Seat (W : Type 0) : Type 0 where
   pub received : List (Message W)
@@ -39,13 +39,13 @@ module _ {W : Type 0} where
   abbrev pub new_seat : Seat W
   new_seat = record { received = []; known = []; handed = 0; results = [] }
 
-  -- these messages were taken, and what is known to stand in the ring got shorter by them alone, from its front
+  -- these messages were taken, and what is known to wait in the ring got shorter by them alone, from its front
   pub record TakesMessages (ms : List (Message W)) (old new : Seat W) : Type 0 where
     pub received : new.received ≡ old.received ++ ms
     pub known : IsPrefix old.known (ms ++ new.known)
     pub handed : new.handed ≡ old.handed
 
-  -- more messages may be known to stand in the ring, and nothing else changed
+  -- more messages may be known to wait in the ring, and nothing else changed
   pub record SeesMore (old new : Seat W) : Type 0 where
     pub same : new ≡ record old { known = new.known }
     pub known : IsPrefix old.known new.known
@@ -76,7 +76,7 @@ module _ {W A : Type 0} {g : Ghosts W} where
   abbrev pub received : House W A g → ℕ → List (Message W)
   received h s = (seat_at h s).received
 
-  -- the messages that the house knows to stand in the ring of server s, oldest first
+  -- the messages that the house knows to wait in the ring of server s, oldest first
   abbrev pub known : House W A g → ℕ → List (Message W)
   known h s = (seat_at h s).known
 
@@ -130,13 +130,13 @@ view_answer (Ok view) = Ok view
 view_answer (Err e) = Err house_error.NoSuchServer
 
 module _ {W A : Type 0} {g : Ghosts W} where
-  -- every job received is finished: the results of each server are what those jobs come to, in order, behind the results that
+  -- every job received is finished: the results of each server are what those jobs come to, in order, after the results that
   -- were handed out
   abbrev pub AllFinished : Meaning W → House W A g → Type 0
   AllFinished work h = (s : ℕ) → s < length (core_of h).faces → results_of h s ≡ drop (handed_of h s) (map (whole work) (jobs_among (received h s)))
 
 module _ {W A : Type 0} {g : Ghosts W} where
-  -- The house made some steps, each of which may stand where it stands, and they took n messages. No advance among them took
+  -- The house made some steps, each of which is allowed at its place, and they took n messages. No advance among them took
   -- anybody's time, so from a house that is on time each step leaves all on time.
   pub record Moves (work : Meaning W) (allowed : History W → Step W → Type 0) (old new : House W A g) (n : ℕ) : Type 0 where
     pub steps : List (Step W)
@@ -170,7 +170,7 @@ module _ {W A : Type 0} {g : Ghosts W} where
     pub spare : 0 < (shelf_at h.collector s).spare
     pub next : 0 < length (known h s)
 
-  -- what a run did to the results, by its answer: a completion is put behind those of its server
+  -- what a run did to the results, by its answer: a completion is put after those of its server
   abbrev pub Collects : Ran → House W A g → House W A g → Type 0
   Collects ran.Idle old new = KeepsResults old new
   Collects ran.ClockEnd old new = KeepsResults old new
@@ -182,7 +182,7 @@ module _ {W A : Type 0} {g : Ghosts W} where
   pub record ComesTo (work : Meaning W) (h : House W A g) (s q result : ℕ) : Type 0 where
     pub told : slice_get (map (whole work) (jobs_among (received h s))) q ≡ Some result
 
-  -- The job that a run tells of is that of its number among those received. Where it got a unit and is not done, it is the first that
+  -- The job that a run tells of is that of its number among those received. If it got a unit and is not done, it is the first that
   -- its server holds, and comes to what that one comes to; a completion tells what it comes to.
   abbrev pub NamesJob : Meaning W → Ran → House W A g → Type 0
   NamesJob work ran.Idle h = Unit {0}

@@ -1,4 +1,4 @@
--- What stands in a list of messages.
+-- What is in a list of messages.
 use Rattle.std.specs.Prelude.{Bool, true, false, List, [], ◌∷◌}
 use Rattle.cbs_clients.specs.declared.message.Message.{Message}
 use Rattle.cbs_clients.specs.declared.message.Message.TheVariants.{Job, End}
@@ -21,7 +21,7 @@ module _ {W : Type 0} where
   is_nothing [] = true
   is_nothing (m ∷ ms) = false
 
-  -- whether nothing stands behind an end
+  -- whether nothing comes after an end
   abbrev pub end_is_last : List (Message W) → Bool
   end_is_last [] = true
   end_is_last (Job w ∷ ms) = end_is_last ms

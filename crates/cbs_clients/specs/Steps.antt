@@ -1,4 +1,4 @@
--- The steps that a house makes: the messages that they take, and where each may stand.
+-- The steps that a house makes: the messages that they take, and when each is allowed.
 use Rattle.std.specs.Prelude.{ℕ, ◌+◌, eqb, if◌then◌else◌, List, [], ◌∷◌, ◌++◌}
 use Rattle.cbs_job.specs.Work.{Meaning}
 use Rattle.cbs_steps.specs.Continuations.{IsNeeded}
@@ -33,7 +33,7 @@ module _ {W : Type 0} where
   pops [] = 0
   pops (x ∷ xs) = pops_of x + pops xs
 
-  -- where serving makes a step: an advance as a drain makes it
+  -- when serving makes a step: an advance as a drain makes it
   abbrev pub MayServe : Meaning W → History W → Step W → Type 0
   MayServe work M (Submit s job) = Unit {0}
   MayServe work M Run = Unit {0}

@@ -77,14 +77,14 @@ module _ {W A : Type 0} {g : Ghosts W} where
     pub made : Made work old new (Advance n ∷ [])
     pub needed : (M : History W) → Agrees work (core_of old) M → IsNeeded work (world_after work M) n
 
-  -- why the clock stays, by what is told: no job is held, or the clock stands at its end with a job unfinished
+  -- why the clock stays, by what is told: no job is held, or the clock is at its end with a job unfinished
   abbrev pub StaysBy : Ran → House W A g → Type 0
   StaysBy ran.Idle h = HoldsNoJob (core_of h)
   StaysBy ran.ClockEnd h = IsAtEnd (core_of h)
   StaysBy (ran.Unit s q) h = ⊥
   StaysBy (ran.Done c) h = ⊥
 
-  -- what a turn does behind its polls, by what it tells: it runs one unit; or it advances by n ticks; or it does nothing
+  -- what a turn does after its polls, by what it tells: it runs one unit; or it advances by n ticks; or it does nothing
   abbrev pub GoesOn : Meaning W → House W A g → House W A g → Ran → ℕ → Type 0
   GoesOn work old new told n =
       (RunsOne work old new told × (n ≡ 0)) ⊎ (Advances work old new n × (told ≡ ran.Idle)) ⊎ ((new ≡ old) × StaysBy told old × (n ≡ 0))

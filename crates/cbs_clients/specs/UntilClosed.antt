@@ -33,7 +33,7 @@ pub record IsOver {W : Type 0} (core : CoreHeld W) : Type 0 where
 abbrev pub moves_on : {W : Type 0} → CoreHeld W → CoreHeld W → Bool
 moves_on old new = ltb old.clock new.clock || ltb (open_servers new) (open_servers old)
 
--- how many turns in a row were idle, after one more turn: a turn is idle where the clock stands and no server is closed
+-- how many turns in a row were idle, after one more turn: a turn is idle if the clock stays and no server is closed
 abbrev pub idle_after : {W : Type 0} → ℕ → CoreHeld W → CoreHeld W → ℕ
 idle_after idle old new = if moves_on old new then 0 else idle + 1
 
@@ -44,7 +44,7 @@ meets_end ran.ClockEnd = true
 meets_end (ran.Unit s q) = false
 meets_end (ran.Done c) = false
 
--- why a turn stops a run, if it does: a poll found no memory, or the clock stands at its end with a job unfinished
+-- why a turn stops a run, if it does: a poll found no memory, or the clock is at its end with a job unfinished
 abbrev pub turn_stop : Turn → Option HouseError
 turn_stop t = if t.out_of_memory then Some OutOfMemory else if meets_end t.ran then Some ClockEnd else None
 
@@ -54,7 +54,7 @@ pub record IsDue {W : Type 0} (most idle : ℕ) (core : CoreHeld W) : Type 0 whe
   pub patient : idle < most
 
 module _ {W A : Type 0} {g : Ghosts W} where
-  -- The house took these turns, one after another, each where one was due, and none of them stopped it. Before them `idle` turns in
+  -- The house took these turns, one after another, each when one was due, and none of them stopped it. Before them `idle` turns in
   -- a row were idle, and after them `later`.
   abbrev pub TakesDueTurns : Meaning W → ℕ → ℕ → House W A g → List Turn → House W A g → ℕ → Type 0
   TakesDueTurns work most idle old [] new later = (new ≡ old) × (later ≡ idle)
@@ -62,12 +62,12 @@ module _ {W A : Type 0} {g : Ghosts W} where
       (next : House W A g) × IsDue most idle (core_of old) × TakesOwnTurn work old next t × (turn_stop t ≡ None)
       × TakesDueTurns work most (idle_after idle (core_of old) (core_of next)) next ts new later
 
-  -- the house took turns where they were due, of which the last so many in a row were idle
+  -- the house took turns when they were due, of which the last so many in a row were idle
   pub record RunsOn (work : Meaning W) (most : ℕ) (old new : House W A g) (idle : ℕ) : Type 0 where
     pub turns : List Turn
     pub taken : TakesDueTurns work most 0 old turns new idle
 
-  -- the house took turns where they were due, the last of which stopped it
+  -- the house took turns when they were due, the last of which stopped it
   pub record IsStoppedBy (work : Meaning W) (most : ℕ) (error : HouseError) (old new : House W A g) : Type 0 where
     pub before : House W A g
     pub idle : ℕ
@@ -77,7 +77,7 @@ module _ {W A : Type 0} {g : Ghosts W} where
     pub taken : TakesOwnTurn work before new turn
     pub why : turn_stop turn ≡ Some error
 
-  -- Where a run ends, by its answer: where all is over; where `most` turns in a row were idle, and not all is over; or where a turn
+  -- When a run ends, by its answer: when all is over; when `most` turns in a row were idle, and not all is over; or when a turn
   -- stopped it.
   abbrev pub RunEnds : Meaning W → ℕ → House W A g → Result (Unit {0}) HouseError → House W A g → Type 0
   RunEnds work most old (Ok x) new = ((idle : ℕ) × RunsOn work most old new idle) × IsOver (core_of new)

@@ -75,7 +75,7 @@ impl<W: Work, A: Allocator> Client<W, A> {
     ghost use Rattle.cbs_clients.specs.Clients.{server_of, ring_of, sent_by, free, slots_of, HasSlot, HasNoSlot, SameClient};
     ghost use Rattle.cbs_clients.specs.declared.message.Message.TheVariants.{Job, End};
 
-    /// The client of a server, at its end of a new ring.
+    /// Returns the client of a server, at its end of a new ring.
     pub(crate) fn new(server: u16, ring: Producer<Message<W>, A>) -> Client<W, A>
         requires { (sent ring ≡ []) × (0 < known_free ring) }
         ensures server { server_of result ≡ server }
@@ -91,21 +91,21 @@ impl<W: Work, A: Allocator> Client<W, A> {
         }
     }
 
-    /// The number of the client's server.
+    /// Returns the number of the client's server.
     pub fn server(&self) -> u16
         ensures { result ≡ server_of self.now }
     {
         self.server
     }
 
-    /// How many jobs the client has sent.
+    /// Returns how many jobs the client has sent.
     pub fn sent(&self) -> u64
         ensures { result ≡ length (jobs_among (sent_by self.now)) }
     {
         self.count
     }
 
-    /// How many messages of the client stand in its ring, not taken yet: the slots that are not known to be
+    /// Returns how many messages of the client wait in its ring, not taken yet: the slots that are not known to be
     /// free. The client looks anew; while the house polls there may be fewer when the call is over.
     pub fn waiting(&mut self) -> u64
         ensures looked { LooksAtRing self.old self.new }
@@ -122,7 +122,7 @@ impl<W: Work, A: Allocator> Client<W, A> {
         self.ring.is_abandoned()
     }
 
-    /// Whether the client has ended: it sends no further job.
+    /// Returns whether the client has ended: it sends no further job.
     pub fn ended(&self) -> bool
         ensures ended { result ≡ has_end (sent_by self.now) }
         ensures last { end_is_last (sent_by self.now) ≡ true }
@@ -130,8 +130,8 @@ impl<W: Work, A: Allocator> Client<W, A> {
         self.ended
     }
 
-    /// How many slots of the ring are free, as it is looked at now: so many messages will be taken, the end
-    /// among them. The house may free more at any time.
+    /// Returns how many slots of the ring are free, as it is looked at now: so many messages will be taken, the
+    /// end among them. The house may free more at any time.
     pub fn free(&mut self) -> u64
         ensures looked { LooksAtRing self.old self.new }
         ensures value { result ≡ free self.new }
@@ -147,7 +147,7 @@ impl<W: Work, A: Allocator> Client<W, A> {
         self.ring.cached_slots() > 1 || self.ring.slots() > 1
     }
 
-    /// Whether a slot is free for the next message, and one more job can be counted.
+    /// Returns whether a slot is free for the next message, and one more job can be counted.
     pub fn has_slot(&mut self) -> bool
         ensures looked { LooksAtRing self.old self.new }
         ensures slot { result ≡ true → HasSlot self.new }
@@ -156,10 +156,10 @@ impl<W: Work, A: Allocator> Client<W, A> {
         self.count < u64::MAX && self.ring_has_slot()
     }
 
-    /// Sends a job, and answers the job's number among the sent jobs of the client.
+    /// Sends a job. Returns the job's number among the sent jobs of the client.
     ///
-    /// Refuses, in this order: [`SendError::Ended`] where the client has ended;
-    /// [`SendError::RingFull`] where the ring has no free slot, or the client has sent `u64::MAX`
+    /// Refuses, in this order: [`SendError::Ended`] if the client has ended;
+    /// [`SendError::RingFull`] if the ring has no free slot, or the client has sent `u64::MAX`
     /// jobs. The job then comes back, and nothing was sent.
     #[tactic(auto, using(crate::proofs::Messages::pushed))]
     pub fn send(&mut self, task: Task<W>) -> Result<u64, SendRefused<W>>
@@ -180,7 +180,7 @@ impl<W: Work, A: Allocator> Client<W, A> {
         Ok(self.send_reserved(task))
     }
 
-    /// Sends a job where a slot is known to be free, and answers its number.
+    /// Sends a job, for which a slot must be known to be free. Returns its number.
     #[tactic(auto, using(crate::proofs::Messages::pushed))]
     pub fn send_reserved(&mut self, task: Task<W>) -> u64
         requires unended { has_end (sent_by self.old) ≡ false }
@@ -196,11 +196,11 @@ impl<W: Work, A: Allocator> Client<W, A> {
         number
     }
 
-    /// Sends the end, which closes the server once the house takes it, behind the jobs: after it the
+    /// Sends the end, which closes the server once the house takes it, after the jobs: after it the
     /// client sends nothing.
     ///
-    /// Refuses, in this order: [`SendError::Ended`] where the client has ended;
-    /// [`SendError::RingFull`] where the ring has no free slot. Then nothing was sent.
+    /// Refuses, in this order: [`SendError::Ended`] if the client has ended;
+    /// [`SendError::RingFull`] if the ring has no free slot. Then nothing was sent.
     #[tactic(auto, using(crate::proofs::Messages::pushed))]
     pub fn end(&mut self) -> Result<(), SendError>
         ensures { EndOf self.old result self.new }
@@ -215,7 +215,7 @@ impl<W: Work, A: Allocator> Client<W, A> {
         Ok(())
     }
 
-    /// Sends the end where a slot is known to be free.
+    /// Sends the end, for which a slot must be known to be free.
     #[tactic(auto, using(crate::proofs::Messages::pushed))]
     pub fn end_reserved(&mut self)
         requires unended { has_end (sent_by self.old) ≡ false }

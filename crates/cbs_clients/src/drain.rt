@@ -16,7 +16,7 @@ impl<W: Work, A: Allocator> House<W, A> {
     /// that no time is lost; it takes no message. At `Ok` the results of each server, after those that were
     /// handed out, are those of all its jobs received.
     ///
-    /// Refuses by [`HouseError::ClockEnd`] if the clock stands at [`LIMIT`] with a job unfinished.
+    /// Refuses by [`HouseError::ClockEnd`] if the clock is at [`LIMIT`] with a job unfinished.
     /// The steps made stay made.
     pub fn drain(&mut self) -> Result<(), HouseError>
         ensures moves { Moves W.meaning (MayDrain W.meaning) self.old self.new 0 }

@@ -19,7 +19,7 @@ pub enum HouseError {
     /// No server has that number.
     #[error("there is no such server")]
     NoSuchServer = 4,
-    /// The clock would pass its end, or stands there with a job unfinished.
+    /// The clock would pass its end, or is there with a job unfinished.
     #[error("the clock would pass its end, 1000000000000 ticks, or stands there with a job unfinished")]
     ClockEnd = 5,
     /// The clients did not send all, in as many rounds as they are given.
@@ -30,14 +30,14 @@ pub enum HouseError {
 impl HouseError {
     ghost use Rattle.cbs_clients.specs.Errors.{house_error_number, house_error_name};
 
-    /// The error's number, from 1.
+    /// Returns the error's number, from 1.
     pub fn number(self) -> u8
         ensures { result ≡ house_error_number self }
     {
         self as u8
     }
 
-    /// The error's name: that of its variant.
+    /// Returns the error's name: that of its variant.
     pub fn name(self) -> &'static str
         ensures { result.now ≡ house_error_name self }
     {
@@ -66,14 +66,14 @@ pub enum SendError {
 impl SendError {
     ghost use Rattle.cbs_clients.specs.Errors.{send_error_number, send_error_name};
 
-    /// The error's number, from 1.
+    /// Returns the error's number, from 1.
     pub fn number(self) -> u8
         ensures { result ≡ send_error_number self }
     {
         self as u8
     }
 
-    /// The error's name: that of its variant.
+    /// Returns the error's name: that of its variant.
     pub fn name(self) -> &'static str
         ensures { result.now ≡ send_error_name self }
     {

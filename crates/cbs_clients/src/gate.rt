@@ -5,13 +5,13 @@ ghost use Rattle.std.specs.Prelude.{◌≡◌, true, false};
 use crate::poll::Poll;
 
 /// Watches a round, and may hold sends back. It is asked and told from several threads, and must not
-/// wait in one call for another: where the system makes no thread, the parts of a round run one after
+/// wait in one call for another: if the system makes no thread, the parts of a round run one after
 /// the other, and it would wait for ever.
 pub trait Gate {
     /// That the gate may say false. It is so of every gate that does not say otherwise.
     ghost may_hold_back: { Self → Type 0 } = { λ _. Unit {0} };
 
-    /// Whether the client of `server` may try its next message now. `number` is how many jobs it has
+    /// Returns whether the client of `server` may try its next message now. `number` is how many jobs it has
     /// sent before that message, which may be the end.
     fn before_send(&self, server: u16, number: u64) -> bool
         ensures { result ≡ false → may_hold_back self.now };

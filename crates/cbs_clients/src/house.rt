@@ -41,7 +41,7 @@ impl<W: Work, A: Allocator> House<W, A> {
     ghost use Rattle.cbs_clients.specs.Clients.{server_of, sent_by, IsOpened};
     ghost use Rattle.cbs_clients.specs.Houses.{core_of, rings_of, received, known, KeepsResults, Made, LooksOnly, Polled, CanTake};
 
-    /// How many servers there are, at most 64. Their numbers are those below it.
+    /// Returns how many servers there are, at most 64. Their numbers are those below it.
     pub fn servers(&self) -> u16
         ensures value { result ≡ length (core_of self.now).faces }
         ensures few { result ≤ most_servers }
@@ -49,7 +49,7 @@ impl<W: Work, A: Allocator> House<W, A> {
         self.core.servers()
     }
 
-    /// Whether a server is there and closed.
+    /// Returns whether a server is there and closed.
     pub fn is_closed(&self, server: u16) -> bool
         ensures { IsTrue result ↔ IsClosed (core_of self.now) server }
     {
@@ -59,10 +59,10 @@ impl<W: Work, A: Allocator> House<W, A> {
         }
     }
 
-    /// How many messages stand in a client's ring. The client must have been opened with this house.
+    /// Returns how many messages wait in a client's ring. The client must have been opened with this house.
     ///
     /// The caller holds both ends of the ring, so the number is exact: what was received and what
-    /// stands in the ring are, in order, all that the client sent.
+    /// waits in the ring are, in order, all that the client sent.
     pub fn settle(&mut self, client: &mut Client<W, A>) -> u64
         requires { IsOpened (rings_of self.old) client.old }
         ensures looked { LooksOnly self.old self.new }
@@ -76,9 +76,9 @@ impl<W: Work, A: Allocator> House<W, A> {
     /// Looks for the next message of a server, and takes it: a job is given to the core, an end closes
     /// the server. There is room for a message before it is popped, so none is lost.
     ///
-    /// Answers, in this order: [`Poll::NoSuchServer`]; [`Poll::Nothing`] where the server is closed or
-    /// no message is seen; [`Poll::Full`] where the backlog of the server is full, whatever the next
-    /// message is; [`Poll::OutOfMemory`] where an allocation is refused. These pop nothing. Else
+    /// Returns, in this order: [`Poll::NoSuchServer`]; [`Poll::Nothing`] if the server is closed or
+    /// no message is seen; [`Poll::Full`] if the backlog of the server is full, whatever the next
+    /// message is; [`Poll::OutOfMemory`] if an allocation is refused. These pop nothing. Else
     /// [`Poll::Took`] with the job's number, which is the one that the client was told; or
     /// [`Poll::Closed`].
     pub fn poll(&mut self, server: u16) -> Poll
@@ -97,8 +97,8 @@ impl<W: Work, A: Allocator> House<W, A> {
     /// Polls the server of a client, as [`poll`](House::poll), while nothing can be sent, since the client is
     /// at hand. It must have been opened with this house.
     ///
-    /// The answer is [`Poll::Nothing`] exactly where the server is closed or all that the client sent was
-    /// taken, as where [`settle`](House::settle) just answered 0: there, however little memory there is.
+    /// The answer is [`Poll::Nothing`] exactly if the server is closed or all that the client sent was
+    /// taken, as after a [`settle`](House::settle) that returned 0: then, however little memory there is.
     pub fn poll_beside(&mut self, client: &mut Client<W, A>) -> Poll
         requires { IsOpened (rings_of self.old) client.old }
         ensures nothing { (result ≡ Poll.Nothing) ↔ (IsClosed (core_of self.old) (server_of client.old) ⊎ (sent_by client.old ≡ received self.old (server_of client.old))) }
@@ -183,7 +183,7 @@ impl<W: Work, A: Allocator> House<W, A> {
 
     /// Lets `n` ticks pass, by one jump, as [`Core::advance`].
     ///
-    /// Refuses by [`HouseError::ClockEnd`] where the clock would pass [`LIMIT`], and then changes
+    /// Refuses by [`HouseError::ClockEnd`] if the clock would pass [`LIMIT`], and then changes
     /// nothing.
     pub fn advance(&mut self, n: u64) -> Result<(), HouseError>
         ensures { AdvanceOf W.meaning n self.old result self.new }
@@ -194,17 +194,17 @@ impl<W: Work, A: Allocator> House<W, A> {
         }
     }
 
-    /// The clock, in ticks: 0 to [`LIMIT`].
+    /// Returns the clock, in ticks: 0 to [`LIMIT`].
     pub fn now(&self) -> u64
         ensures { ClockOf W.meaning self.now result }
     {
         self.core.now()
     }
 
-    /// For how many ticks nobody will be ready, as [`Core::idle_span`].
+    /// Returns for how many ticks nobody will be ready, as [`Core::idle_span`].
     ///
-    /// Where no job is held it reaches to the clock's end, [`LIMIT`]: nobody is ready until a message is
-    /// taken. Whoever polls must not advance by it then, since nothing can run once the clock stands at its
+    /// If no job is held it reaches to the clock's end, [`LIMIT`]: nobody is ready until a message is
+    /// taken. Whoever polls must not advance by it then, since nothing can run once the clock is at its
     /// end. [`turn`](House::turn) advances by it only while a job is held.
     pub fn idle_span(&self) -> Option<u64>
         ensures { SpanOf W.meaning self.now result }
@@ -223,15 +223,15 @@ impl<W: Work, A: Allocator> House<W, A> {
         self.core.promised(server)
     }
 
-    /// The output so far of the job at the front of a server, as [`Core::front_output`]; `None` where it has
-    /// no unfinished job, and where there is no such server.
+    /// Returns the output so far of the job at the front of a server, as [`Core::front_output`]; `None` if it
+    /// has no unfinished job, and if there is no such server.
     pub fn front_output(&self, server: u16) -> Option<u64>
         ensures { result ≡ front_output W.meaning (held_at (core_of self.now) server).jobs }
     {
         self.core.front_output(server)
     }
 
-    /// What a server shows, or [`HouseError::NoSuchServer`].
+    /// Returns what a server shows. Refuses by [`HouseError::NoSuchServer`].
     pub fn view(&self, server: u16) -> Result<ServerView, HouseError>
         ensures { ViewOf W.meaning server self.now result }
     {

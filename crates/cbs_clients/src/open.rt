@@ -32,9 +32,9 @@ use std::alloc::{AllocError, Allocator};
 ///
 /// There must be a mode for each server of the plan.
 ///
-/// Refuses, in this order: [`HouseError::BadBacklog`] where the backlog is not within 1 to
-/// [`MAX_BACKLOG`]; [`HouseError::BadRing`] where the ring is not within 1 to [`MAX_RING`];
-/// [`HouseError::OutOfMemory`] where an allocation is refused.
+/// Refuses, in this order: [`HouseError::BadBacklog`] if the backlog is not within 1 to
+/// [`MAX_BACKLOG`]; [`HouseError::BadRing`] if the ring is not within 1 to [`MAX_RING`];
+/// [`HouseError::OutOfMemory`] if an allocation is refused.
 pub fn open_house<W: Work, A: Allocator + Copy>(
     alloc: A,
     plan: Plan,
@@ -77,8 +77,8 @@ pub fn open_house<W: Work, A: Allocator + Copy>(
     Ok((house, clients))
 }
 
-/// A ring for each of so many servers: the house's ends, and the clients with theirs. Each ring has so many slots
-/// for what its client sends, and one that is kept for the end of a dropped client.
+/// Opens a ring for each of so many servers. Returns the house's ends, and the clients with theirs. Each ring
+/// has so many slots for what its client sends, and one that is kept for the end of a dropped client.
 fn open_rings<W: Work, A: Allocator + Copy>(
     alloc: A,
     servers: u16,

@@ -15,11 +15,12 @@ impl<W: Work, A: Allocator> House<W, A> {
     ghost use Rattle.cbs_clients.specs.HouseInvariant.{KeepsServer};
     ghost use Rattle.cbs_core.specs.Held.{held_at};
 
-    /// The results of a server that were not handed out, in the order of its jobs, or [`HouseError::NoSuchServer`].
+    /// Returns the results of a server that were not handed out, in the order of its jobs. Refuses by
+    /// [`HouseError::NoSuchServer`].
     pub fn results(&self, server: u16) -> Result<&[u64], HouseError>
         ensures ok { IfOk result (λ results. (server < length (core_of self.now).faces) × (results.now ≡ results_of self.now server)) }
         ensures error { IfErr result (λ error. (error ≡ HouseError.NoSuchServer) × (length (core_of self.now).faces ≤ server)) }
-        // At all times: with what the jobs held come to, they are what the jobs received come to, behind the
+        // At all times: with what the jobs held come to, they are what the jobs received come to, after the
         // results that were handed out.
         ensures keeps { IfOk result (λ results. KeepsServer W.meaning (held_at (core_of self.now) server) (received self.now server) (handed_of self.now server) results.now) }
     {
@@ -32,19 +33,19 @@ impl<W: Work, A: Allocator> House<W, A> {
     /// Hands out the results of a server found so far, in the order of its jobs, and keeps none of them, so
     /// that a house can serve for ever in bounded memory. All calls go on as before: the numbers of jobs do,
     /// and [`results`](House::results) shows what comes from here on. So what the calls handed out, one
-    /// behind another, is at all times a front of what the jobs of the server come to, in order.
+    /// after another, is at all times a prefix of what the jobs of the server come to, in order.
     ///
     /// Memory is taken for the places of the results of jobs that are accepted and not finished, so that
-    /// [`run`](House::run) and [`drain`](House::drain) need none; where no job is held, none is asked for.
+    /// [`run`](House::run) and [`drain`](House::drain) need none; if no job is held, none is asked for.
     ///
-    /// Refuses, in this order: [`HouseError::NoSuchServer`]; [`HouseError::OutOfMemory`] where an allocation,
+    /// Refuses, in this order: [`HouseError::NoSuchServer`]; [`HouseError::OutOfMemory`] if an allocation,
     /// or a clone of the allocator, is refused. Then nothing changed.
     pub fn take_results(&mut self, server: u16) -> Result<Vec<u64, A>, HouseError>
     where
         A: Clone,
         ensures ok { IfOk result (λ results. results.items ≡ results_of self.old server) }
         ensures handed { OnOk result (HandsOutResults server self.old self.new) }
-        // What is handed out goes on where the results that were handed out before it end.
+        // What is handed out follows the results that were handed out before it.
         ensures front { IfOk result (λ results. IsPrefix results.items (drop (handed_of self.old server) (map (whole W.meaning) (jobs_among (received self.old server))))) }
         ensures rings { rings_of self.new ≡ rings_of self.old }
         ensures unchanged { OnErr result (SameHouse self.old self.new) }
@@ -59,7 +60,7 @@ impl<W: Work, A: Allocator> House<W, A> {
         }
     }
 
-    /// Drops the results of a server found so far, as if they were handed out; nothing where there is no such
+    /// Drops the results of a server found so far, as if they were handed out; nothing if there is no such
     /// server. No memory is taken: a house whose results are dropped after each completion serves for ever in
     /// the places that it has.
     pub fn discard_results(&mut self, server: u16)

@@ -18,14 +18,14 @@ impl<W: Work, A: Allocator> Rings<W, A> {
     ghost use Rattle.cbs_clients.specs.Rings.{producer_ring, rings_in, received_in, known_in, Looked};
     ghost use Rattle.cbs_clients.specs.Clients.{server_of, sent_by, free, SameClient, IsOpened};
 
-    /// How many rings there are.
+    /// Returns how many rings there are.
     pub fn len(&self) -> usize
         ensures { result ≡ length (rings_in self.now) }
     {
         self.ends.len()
     }
 
-    /// How many messages are seen in a server's ring.
+    /// Returns how many messages are seen in a server's ring.
     #[tactic(auto, using(crate::proofs::RingLooks::ringed))]
     pub fn look(&mut self, server: usize) -> usize
         requires { server < length (rings_in self.old) }
@@ -59,7 +59,7 @@ impl<W: Work, A: Allocator> Rings<W, A> {
         end.pop_known()
     }
 
-    /// How many messages stand in the ring of a server, whose other end is at hand.
+    /// Returns how many messages wait in the ring of a server, whose other end is at hand.
     #[tactic(auto, using(crate::proofs::RingLooks::ringed))]
     fn beside(&mut self, server: usize, ring: &mut Producer<Message<W>, A>) -> usize
         requires within { server < length (rings_in self.old) }
@@ -73,7 +73,7 @@ impl<W: Work, A: Allocator> Rings<W, A> {
         end.slots_beside(ring)
     }
 
-    /// How many messages stand in a client's ring.
+    /// Returns how many messages wait in a client's ring.
     #[tactic(auto, using(crate::proofs::RingLooks::settled))]
     pub fn settle(&mut self, client: &mut Client<W, A>) -> usize
         requires { IsOpened (rings_in self.old) client.old }

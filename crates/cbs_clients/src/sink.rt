@@ -6,7 +6,7 @@ ghost use Rattle.cbs_job.specs.declared.completion.Completion.{Completion};
 use cbs_job::Completion;
 
 /// Is told of each completion, as it comes. It is told on the house's thread, between two turns, so
-/// that the house stands still meanwhile.
+/// the house does nothing meanwhile.
 pub trait Sink {
     /// What telling does to it. Of every sink that does not say otherwise nothing is known.
     ghost hears: { Self → Completion → Self → Type 0 } = { λ _ _ _. Unit {0} };

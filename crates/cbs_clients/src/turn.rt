@@ -42,7 +42,7 @@ pub fn poll_each<G: Gate, W: Work, A: Allocator>(gate: &G, house: &mut House<W, 
     }
 }
 
-/// How many messages a poll popped.
+/// Returns how many messages a poll popped.
 fn count(poll: Poll) -> u64
     ensures value { result ≡ popped_by poll }
     ensures most { result ≤ 1 }
@@ -53,7 +53,7 @@ fn count(poll: Poll) -> u64
     }
 }
 
-/// Whether a poll saw a message for which there was no memory.
+/// Returns whether a poll saw a message for which there was no memory.
 fn is_out_of_memory(poll: Poll) -> bool
     ensures { result ≡ lacks_memory poll }
 {
@@ -70,7 +70,7 @@ pub struct Turn {
     pub took: u64,
     /// Whether a poll saw a message for which there was no memory. The message stays in its ring.
     pub out_of_memory: bool,
-    /// What ran: [`Ran::Idle`] where nobody was ready, and [`Ran::ClockEnd`] where the clock stands at
+    /// What ran: [`Ran::Idle`] if nobody was ready, and [`Ran::ClockEnd`] if the clock is at
     /// its end with a job unfinished.
     pub ran: Ran,
     /// By how many ticks the clock was advanced, with nobody ready. The tick of a unit is not counted.
@@ -85,10 +85,10 @@ impl<W: Work, A: Allocator> House<W, A> {
     ghost use Rattle.cbs_core.specs.Held.{HoldsJob};
 
     /// Takes one turn: polls each server once, in the order of their numbers, and then runs one unit, as
-    /// [`run`](House::run). Where nobody is ready it advances the clock by the idle span, but only while
-    /// an accepted job is unfinished; where none is, or the clock stands at [`LIMIT`], the clock stays.
+    /// [`run`](House::run). If nobody is ready it advances the clock by the idle span, but only while
+    /// an accepted job is unfinished; if none is, or the clock is at [`LIMIT`], the clock stays.
     ///
-    /// No advance takes anybody's time. Nothing is lost where a poll finds no memory: the message stays
+    /// No advance takes anybody's time. Nothing is lost if a poll finds no memory: the message stays
     /// in its ring, and the next turn polls again.
     pub fn turn(&mut self) -> Turn
         ensures { TurnOf W.meaning self.old result self.new }

@@ -62,7 +62,7 @@ OnHeld Does (Some held) answer new = (after : Held) × (new ≡ Some after) × D
 abbrev pub HasToken : TheHouse → ℕ → ℕ → ℕ → Type 0
 HasToken h s q token = slice_get (map (λ job. job.token) (jobs_among (received h s))) q ≡ Some token
 
--- the token that is told is that of the job which is told by its number, and 0 where none is told
+-- the token that is told is that of the job which is told by its number, and 0 if none is told
 abbrev pub NamesToken : Ran → ℕ → TheHouse → Type 0
 NamesToken ran.Idle token h = token ≡ 0
 NamesToken ran.ClockEnd token h = token ≡ 0

@@ -26,7 +26,7 @@ client_row = client.the_row job.the_row heap.the_row work.ghosts allocator.ghost
 abbrev pub with_held : BoxPtr → Held → BoxPtr
 with_held p w = record { ptr = p.ptr; alloc = p.alloc; held = Some w }
 
--- the box ends with the last value behind r in it
+-- the box ends with the last value of r in it
 abbrev pub LendsHeld : MutBor BoxPtr → MutBor Held → Fml
 LendsHeld p r = Lends pointer.the_row held.the_row p r (with_held p.now)
 

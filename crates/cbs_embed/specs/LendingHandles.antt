@@ -11,7 +11,7 @@ use Rattle.cbs_embed.specs.declared.held.Held.{Held}
 use Rattle.cbs_embed.specs.declared.held.Held.TheVariants.{House, Client}
 use Rattle.cbs_embed.specs.declared.refusal.Refusal.{Refusal}
 
--- the handle holds what is left behind r; or holds what it held
+-- the handle holds the last value of r; or holds what it held
 abbrev pub LendsOpen : MutBor Handle → Result (MutBor Held) Refusal → Fml
 LendsOpen h r = LendsSoOk handle.the_row held.the_row h r (λ n w. held_by n ≡ Some w) (λ n. held_by n ≡ held_by h.now)
 

@@ -39,7 +39,7 @@ server_refusal p r rest = first_refusal (rate_refusal r.budget r.period)
 abbrev pub with_server : Planned → Server → Planned
 with_server p r = record p { rates = p.rates ++ record { budget = r.budget; period = r.period } ∷ [] }
 
--- the modes with one more server's. Where its number is of no mode, its server is refused
+-- the modes with one more server's. If its number is of no mode, its server is refused
 abbrev pub with_mode : List Mode → Server → List Mode
 with_mode modes r = modes ++ unwrap_or (mode_from r.mode) Soft ∷ []
 

@@ -73,7 +73,7 @@ impl BoxPtr {
         }
     }
 
-    /// Returns what is in the box, where it stands. The pointer must not be null.
+    /// Returns what is in the box, in place. The pointer must not be null.
     pub fn as_mut(&mut self) -> &mut Held
         requires { IsSome self.old.held }
         ensures* writes_back { sem 𝓛 (LendsHeld self.entry result) }

@@ -27,7 +27,7 @@ pub struct Ticked {
     pub token: u64,
 }
 
-/// The token of the job that a run told of, or 0.
+/// Returns the token of the job that a run told of, or 0.
 fn token_of(house: &House<UnitJob>, ran: Ran) -> u64
     requires { NamesJob counting ran house.now }
     ensures { NamesToken ran result house.now }
@@ -39,7 +39,7 @@ fn token_of(house: &House<UnitJob>, ran: Ran) -> u64
     }
 }
 
-/// Drops the result of a finished job: the host was told its token, and no result is kept.
+/// Drops the result of a finished job: the host is told its token, and no result is kept.
 fn forget(house: &mut House<UnitJob>, ran: Ran)
     ensures { Drops ran house.old house.new }
 {
@@ -57,7 +57,7 @@ fn run_house(house: &mut House<UnitJob>) -> Result<Ticked, Refusal>
     Ok(Ticked { ran, token })
 }
 
-/// Runs one unit, as [`House::run`].
+/// Runs one unit, as [`House::run`]. Returns what ran, and its token.
 pub fn run(handle: &mut Handle) -> Result<Ticked, Refusal>
     ensures { OnHeld (InHouse Runs) (held_by handle.old) result (held_by handle.new) }
 {
@@ -82,7 +82,7 @@ fn turn_house(house: &mut House<UnitJob>) -> Result<Turned, Refusal>
     Ok(Turned { turn, token })
 }
 
-/// Takes a turn, as [`House::turn`].
+/// Takes a turn, as [`House::turn`]. Returns what it did, and the token of the unit's job.
 pub fn turn(handle: &mut Handle) -> Result<Turned, Refusal>
     ensures { OnHeld (InHouse Turns) (held_by handle.old) result (held_by handle.new) }
 {
@@ -134,7 +134,7 @@ fn now_house(house: &mut House<UnitJob>) -> Result<u64, Refusal>
     Ok(house.now())
 }
 
-/// The clock, as [`House::now`].
+/// Returns the clock, as [`House::now`].
 pub fn now(handle: &mut Handle) -> Result<u64, Refusal>
     ensures { OnHeld (InHouse TellsClock) (held_by handle.old) result (held_by handle.new) }
 {
@@ -147,7 +147,7 @@ fn idle_span_house(house: &mut House<UnitJob>) -> Result<Option<u64>, Refusal>
     Ok(house.idle_span())
 }
 
-/// For how many ticks nobody will be ready, as [`House::idle_span`].
+/// Returns for how many ticks nobody will be ready, as [`House::idle_span`].
 pub fn idle_span(handle: &mut Handle) -> Result<Option<u64>, Refusal>
     ensures { OnHeld (InHouse Spans) (held_by handle.old) result (held_by handle.new) }
 {
@@ -160,7 +160,7 @@ fn view_house(house: &mut House<UnitJob>, server: u16) -> Result<ServerView, Ref
     house.view(server).map_err(|error| Refusal::House(error))
 }
 
-/// What a server shows, as [`House::view`].
+/// Returns what a server shows, as [`House::view`].
 pub fn view(handle: &mut Handle, server: u16) -> Result<ServerView, Refusal>
     ensures { OnHeld (InHouse (Shows server)) (held_by handle.old) result (held_by handle.new) }
 {
@@ -174,7 +174,7 @@ fn promised_house(house: &mut House<UnitJob>, server: u16) -> Result<Option<u128
     Ok(house.promised(server))
 }
 
-/// By which tick all that a server took is finished, as [`House::promised`]. Refuses by
+/// Returns the tick by which all that a server took is finished, as [`House::promised`]. Refuses by
 /// [`HouseError::NoSuchServer`].
 pub fn promised(handle: &mut Handle, server: u16) -> Result<Option<u128>, Refusal>
     ensures { OnHeld (InHouse (Promises server)) (held_by handle.old) result (held_by handle.new) }
@@ -234,7 +234,7 @@ fn waiting_of(client: &mut Client<UnitJob>) -> Result<u64, Refusal>
     Ok(client.waiting())
 }
 
-/// How many messages stand in the client's ring, as [`Client::waiting`].
+/// Returns how many messages wait in the client's ring, as [`Client::waiting`].
 pub fn waiting(handle: &mut Handle) -> Result<u64, Refusal>
     ensures { OnHeld (InClient Waits) (held_by handle.old) result (held_by handle.new) }
 {

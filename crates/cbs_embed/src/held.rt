@@ -20,7 +20,7 @@ pub enum Held {
 }
 
 impl Held {
-    /// Returns the house, where it stands, or [`HandleError::OtherKind`].
+    /// Returns the house, in place. Refuses by [`HandleError::OtherKind`].
     pub(crate) fn house_mut(&mut self) -> Result<&mut House<UnitJob>, Refusal>
         ensures* writes_back { sem 𝓛 (LendsHouse self.entry result) }
         ensures value { MatchResult result
@@ -33,7 +33,7 @@ impl Held {
         }
     }
 
-    /// Returns the client, where it stands, or [`HandleError::OtherKind`].
+    /// Returns the client, in place. Refuses by [`HandleError::OtherKind`].
     pub(crate) fn client_mut(&mut self) -> Result<&mut Client<UnitJob>, Refusal>
         ensures* writes_back { sem 𝓛 (LendsClient self.entry result) }
         ensures value { MatchResult result

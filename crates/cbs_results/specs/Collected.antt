@@ -4,7 +4,7 @@ use Rattle.cbs_job.specs.declared.completion.Completion.{Completion}
 use Rattle.cbs_results.specs.declared.error.CollectError.{CollectError}
 use Rattle.cbs_results.specs.declared.error.CollectError.TheVariants.{Stranger, Double, Early}
 
--- what a collector holds of one server: how many results were handed out; the results kept, which were taken behind those, in
+-- what a collector holds of one server: how many results were handed out; the results kept, which were taken after those, in
 -- order; how many completions were announced, and how many more can be announced with no allocation
 pub record Shelved : Type 0 where
   pub handed : ℕ
@@ -12,7 +12,7 @@ pub record Shelved : Type 0 where
   pub announced : ℕ
   pub spare : ℕ
 
--- what is held of a server before its first result, and where there is no such server
+-- what is held of a server before its first result, and if there is no such server
 abbrev pub no_shelf : Shelved
 no_shelf = record { handed = 0; results = []; announced = 0; spare = 0 }
 
@@ -24,7 +24,7 @@ shelf_at c s = get_or c s no_shelf
 abbrev pub taken : Shelved → ℕ
 taken h = h.handed + length h.results
 
--- results and announcements of a server are as before, and where one more could be announced with no allocation, it still can
+-- results and announcements of a server are as before, and if one more could be announced with no allocation, it still can
 pub record SameShelf (old new : Shelved) : Type 0 where
   pub handed : new.handed ≡ old.handed
   pub results : new.results ≡ old.results
@@ -45,7 +45,7 @@ pub record Announces (old new : Shelved) : Type 0 where
   pub results : new.results ≡ old.results
   pub announced : new.announced ≡ old.announced + 1
 
--- a result was taken, behind the others, and where one more could be announced with no allocation, it still can
+-- a result was taken, after the others, and if one more could be announced with no allocation, it still can
 pub record TakesResult (result : ℕ) (old new : Shelved) : Type 0 where
   pub handed : new.handed ≡ old.handed
   pub results : new.results ≡ old.results ++ result ∷ []
@@ -72,7 +72,7 @@ pub record IsNext (c : List Shelved) (done : Completion) : Type 0 where
   pub number : done.seq ≡ taken (shelf_at c done.server)
   pub announced : done.seq < (shelf_at c done.server).announced
 
--- why a completion of job seq is refused where this is held of its server, if it is
+-- why a completion of job seq is refused if this is held of its server; none if it is not
 abbrev pub shelf_refusal : Shelved → ℕ → Option CollectError
 shelf_refusal h seq =
     if ltb seq (taken h) then Some Double

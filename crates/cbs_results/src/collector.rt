@@ -11,7 +11,7 @@ use std::alloc::{AllocError, Allocator, Global};
 use std::marker::Model;
 
 /// The results of all servers: of each server those of its jobs 0, 1, 2, .., in order, each once; but
-/// for the first ones, where they were handed out. A completion is announced before it is taken, and has
+/// for the first ones, if they were handed out. A completion is announced before it is taken, and has
 /// its place from then on.
 #[derive(Drop)]
 pub struct Collector<A: Allocator = Global> {
@@ -28,9 +28,9 @@ impl<A: Allocator> Model for Collector<A> {
 }
 
 impl<A: Allocator> Collector<A> {
-    /// A collector for so many servers, with no result and none announced.
+    /// Returns a collector for so many servers, with no result and none announced.
     ///
-    /// Answers [`CollectError::OutOfMemory`] where an allocation is refused.
+    /// Refuses by [`CollectError::OutOfMemory`] if an allocation is refused.
     pub fn new(alloc: A, servers: u16) -> Result<Self, CollectError>
     where
         A: Clone,
@@ -47,8 +47,8 @@ impl<A: Allocator> Collector<A> {
     /// Makes a place for one more result: the next [`expect`](Collector::expect) of that server takes
     /// no memory. No result and no announcement changes.
     ///
-    /// Refuses, in this order: [`CollectError::Stranger`] where there is no such server;
-    /// [`CollectError::OutOfMemory`] where an allocation is refused, or 2^64 - 1 completions are announced.
+    /// Refuses, in this order: [`CollectError::Stranger`] if there is no such server;
+    /// [`CollectError::OutOfMemory`] if an allocation is refused, or 2^64 - 1 completions are announced.
     pub fn make_room(&mut self, server: u16) -> Result<(), CollectError>
         ensures same { AllShelvesSame self.old self.new × (length self.new ≡ length self.old) }
         ensures room { OnOk result (0 < (shelf_at self.new server).spare) }
@@ -80,8 +80,8 @@ impl<A: Allocator> Collector<A> {
     /// Announces one more completion of a server. It takes no memory after a
     /// [`make_room`](Collector::make_room) of that server since the last announcement of one.
     ///
-    /// Refuses, in this order: [`CollectError::Stranger`] where there is no such server;
-    /// [`CollectError::OutOfMemory`] where an allocation is refused, or 2^64 - 1 completions are announced.
+    /// Refuses, in this order: [`CollectError::Stranger`] if there is no such server;
+    /// [`CollectError::OutOfMemory`] if an allocation is refused, or 2^64 - 1 completions are announced.
     /// Then nothing is announced.
     pub fn expect(&mut self, server: u16) -> Result<(), CollectError>
         ensures ok { OnOk result (Announces (shelf_at self.old server) (shelf_at self.new server)) }
@@ -104,7 +104,7 @@ impl<A: Allocator> Collector<A> {
         }
     }
 
-    /// Announces one more completion of a server, where there is a place for its result.
+    /// Announces one more completion of a server. There must be a place for its result.
     pub fn expect_reserved(&mut self, server: u16)
         requires within { server < length self.old }
         requires spare { 0 < (shelf_at self.old server).spare }
@@ -115,10 +115,10 @@ impl<A: Allocator> Collector<A> {
         shelf.expect_reserved();
     }
 
-    /// Takes a completion: its result stands behind those of its server from here on.
+    /// Takes a completion: its result comes after those of its server from here on.
     ///
-    /// Refuses, in this order: [`CollectError::Stranger`] where there is no such server;
-    /// [`CollectError::Double`] where the job's result was taken before; [`CollectError::Early`] where
+    /// Refuses, in this order: [`CollectError::Stranger`] if there is no such server;
+    /// [`CollectError::Double`] if the job's result was taken before; [`CollectError::Early`] if
     /// an earlier job's was not, or the completion was not announced. Then nothing changed.
     pub fn take(&mut self, done: Completion) -> Result<(), CollectError>
         ensures exact { IsOk result ↔ IsNext self.old done }
@@ -148,7 +148,7 @@ impl<A: Allocator> Collector<A> {
         shelf.take(done.result);
     }
 
-    /// Whether a completion was announced and not taken.
+    /// Returns whether a completion was announced and not taken.
     pub fn is_waiting(&self) -> bool
         ensures some { result ≡ true → (s : ℕ) × IsWaiting (shelf_at self.now s) }
         ensures none { result ≡ false → All IsComplete self.now }
@@ -163,10 +163,10 @@ impl<A: Allocator> Collector<A> {
 
     /// Hands out the results of a server, in order, and keeps none of them. The numbers of its completions
     /// go on, and each completion that is announced and not taken has its place still: that alone takes
-    /// memory, so that none is asked for where none is awaited.
+    /// memory, so that none is asked for if none is awaited.
     ///
-    /// Refuses, in this order: [`CollectError::Stranger`] where there is no such server;
-    /// [`CollectError::OutOfMemory`] where an allocation is refused. Then nothing changed.
+    /// Refuses, in this order: [`CollectError::Stranger`] if there is no such server;
+    /// [`CollectError::OutOfMemory`] if an allocation is refused. Then nothing changed.
     pub fn take_results(&mut self, server: u16) -> Result<Vec<u64, A>, CollectError>
     where
         A: Clone,
@@ -188,7 +188,7 @@ impl<A: Allocator> Collector<A> {
         }
     }
 
-    /// Drops the results of a server, as if they were handed out; nothing where there is no such server. No
+    /// Drops the results of a server, as if they were handed out; nothing if there is no such server. No
     /// memory is taken.
     pub fn discard(&mut self, server: u16)
         ensures discarded { HandsOut (shelf_at self.old server) (shelf_at self.new server) }
@@ -199,7 +199,7 @@ impl<A: Allocator> Collector<A> {
         }
     }
 
-    /// The results of a server that are kept, in order, or `None` where there is no such server.
+    /// Returns the results of a server that are kept, in order, or `None` if there is no such server.
     pub fn results(&self, server: u16) -> Option<&[u64]>
         ensures { MatchOption result (length self.now ≤ server) (λ r. (server < length self.now) × (r.now ≡ (shelf_at self.now server).results)) }
     {
@@ -210,7 +210,7 @@ impl<A: Allocator> Collector<A> {
     }
 }
 
-/// So many shelves with nothing on them.
+/// Returns so many shelves with nothing on them.
 fn shelves_of<A: Allocator + Clone>(alloc: A, servers: u16) -> Result<Vec<Shelf<A>, A>, AllocError>
     ensures count { IfOk result (λ v. length v.items ≡ servers) }
     ensures empty { IfOk result (λ v. All (SameShelf no_shelf) v.items) }

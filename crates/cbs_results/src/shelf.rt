@@ -35,7 +35,7 @@ impl<A: Allocator> Model for Shelf<A> {
 }
 
 impl<A: Allocator> Shelf<A> {
-    /// No result, and none announced.
+    /// Returns a shelf with no result, and none announced.
     pub fn new(alloc: A) -> Shelf<A>
         ensures { SameShelf no_shelf result }
     {
@@ -59,7 +59,7 @@ impl<A: Allocator> Shelf<A> {
         self.results.reserve(pending + 1)
     }
 
-    /// Announces one more completion, where there is a place for its result.
+    /// Announces one more completion. There must be a place for its result.
     pub fn expect_reserved(&mut self)
         requires { 0 < self.old.spare }
         ensures { Announces self.old self.new }
@@ -67,7 +67,7 @@ impl<A: Allocator> Shelf<A> {
         self.announced += 1;
     }
 
-    /// Why the result of job `seq` is not the next one, if it is not.
+    /// Returns why the result of job `seq` is not the next one, if it is not.
     pub fn refusal(&self, seq: u64) -> Option<CollectError>
         ensures { result ≡ shelf_refusal self.now seq }
     {
@@ -89,7 +89,7 @@ impl<A: Allocator> Shelf<A> {
         self.taken += 1;
     }
 
-    /// Whether a completion was announced and not taken.
+    /// Returns whether a completion was announced and not taken.
     pub fn is_waiting(&self) -> bool
         ensures some { result ≡ true → IsWaiting self.now }
         ensures none { result ≡ false → IsComplete self.now }
@@ -119,7 +119,7 @@ impl<A: Allocator> Shelf<A> {
         self.results.clear();
     }
 
-    /// The results, in order.
+    /// Returns the results, in order.
     pub fn results(&self) -> &[u64]
         ensures { result.now ≡ self.now.results }
     {

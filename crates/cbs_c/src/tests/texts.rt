@@ -71,7 +71,7 @@ const NO_STATUSES: [u32; 14] = [
     u32::MAX,
 ];
 
-/// A status has this text: all of it where there is room, and its front where there is not.
+/// A status has this text: all of it if there is room, and a prefix of it if there is not.
 fn tells(rt: &impl Abort, status: u32, text: &str) {
     let mut all = [b'#'; 128];
     let length = cbs_status_text(status, &mut all);
