@@ -4,14 +4,14 @@ use Rattle.std.proofs.lemmas.List.{drop_more}
 use Rattle.std.proofs.Math.ListN.{drop_of_length-le}
 use Rattle.toml.specs.Data.{Data}
 use Rattle.cbs_rules.specs.declared.mode.Mode.{Mode}
+use Rattle.cbs_rules.specs.Setups.{ModedPlan}
 use Rattle.cbs_file.specs.declared.fault.FileFault.{FileFault}
 use Rattle.cbs_file.specs.declared.fault.Place.TheVariants.{Server}
-use Rattle.cbs_file.specs.declared.file.Admitted.{Admitted}
 use Rattle.cbs_file.specs.Spelling.{at, admitted_from, admitted_entry}
 
 module _ {V : Type 0} (view : V → Data) (mode : Option Mode) where
   -- the next entry is admitted
-  pub admitted_on : (i : ℕ) (so_far next : Admitted) (vs : List V) (v : V) (total : Result Admitted FileFault) → i < length vs
+  pub admitted_on : (i : ℕ) (so_far next : ModedPlan) (vs : List V) (v : V) (total : Result ModedPlan FileFault) → i < length vs
       → at (Server i) (admitted_entry mode so_far (view (get_or vs i v))) ≡ Ok next
       → admitted_from mode i so_far (map view (drop i vs)) ≡ total → admitted_from mode (i + 1) next (map view (drop (i + 1) vs)) ≡ total
   unfolding admitted_from
@@ -21,7 +21,7 @@ module _ {V : Type 0} (view : V → Data) (mode : Option Mode) where
       sym one ∙ before
 
   -- .. or has a fault
-  pub admitted_ends : (i : ℕ) (so_far : Admitted) (vs : List V) (v : V) (total : Result Admitted FileFault) (e : FileFault) → i < length vs
+  pub admitted_ends : (i : ℕ) (so_far : ModedPlan) (vs : List V) (v : V) (total : Result ModedPlan FileFault) (e : FileFault) → i < length vs
       → at (Server i) (admitted_entry mode so_far (view (get_or vs i v))) ≡ Err e
       → admitted_from mode i so_far (map view (drop i vs)) ≡ total → total ≡ Err e
   unfolding admitted_from
@@ -30,7 +30,7 @@ module _ {V : Type 0} (view : V → Data) (mode : Option Mode) where
       sym before ∙ one
 
   -- no entry is left
-  pub admitted_done : (i : ℕ) (so_far : Admitted) (vs : List V) (total : Result Admitted FileFault) → length vs ≤ i
+  pub admitted_done : (i : ℕ) (so_far : ModedPlan) (vs : List V) (total : Result ModedPlan FileFault) → length vs ≤ i
       → admitted_from mode i so_far (map view (drop i vs)) ≡ total → total ≡ Ok so_far
   unfolding admitted_from
   admitted_done i so_far vs total le before =

@@ -1,6 +1,6 @@
 //! A task file, read from its bytes.
 
-ghost use Rattle.std.specs.Prelude.{◌≡◌, ◌<◌, ◌≤◌, map, length, Ok, Err, IfOk, OnOk, All};
+ghost use Rattle.std.specs.Prelude.{◌≡◌, ◌<◌, ◌≤◌, map, Ok, Err, IfOk, All};
 ghost use Rattle.toml.specs.View.{view, table_view};
 ghost use Rattle.cbs_file.specs.declared.fault.FileKind.TheVariants.{OutOfMemory};
 ghost use Rattle.cbs_file.specs.declared.fault.Place.TheVariants.{Step as AtStep};
@@ -8,8 +8,9 @@ ghost use Rattle.cbs_file.specs.Entries.{step_entry};
 ghost use Rattle.cbs_file.specs.Fields.{Gives, seen, each_from};
 ghost use Rattle.cbs_file.specs.Memory.{memory_wanted, usual_bound};
 ghost use Rattle.cbs_file.specs.TaskFiles.{NamesServer};
-ghost use Rattle.cbs_file.specs.Spelling.{document, file, faulty, at, admitted_entry, admitted_from, none_admitted, no_memory};
+ghost use Rattle.cbs_file.specs.Spelling.{document, file, faulty, at, admitted_entry, admitted_from, no_memory};
 ghost use Rattle.cbs_rate.specs.Limits.{most_servers};
+ghost use Rattle.cbs_rules.specs.Setups.{no_servers};
 
 use crate::entries::{server_entry, step_entry};
 use crate::fault::{FileFault, FileKind, Place};
@@ -19,8 +20,8 @@ use crate::task_file::TaskFile;
 use crate::top::top_table;
 use cbs_core::Step;
 use cbs_job::FileJob;
-use cbs_rate::{Bound, Plan};
-use cbs_rules::{Mode, Modes};
+use cbs_rate::Bound;
+use cbs_rules::{Mode, Setup};
 use std::alloc::Global;
 use toml::{Table, Value};
 
@@ -58,43 +59,29 @@ fn at<T>(place: Place, read: Result<T, FileKind>) -> Result<T, FileFault>
     }
 }
 
-/// The servers that were admitted, with their modes.
-#[derive(Drop)]
-struct Admitted {
-    plan: Plan,
-    modes: Modes,
-}
-
 /// Admits the server of one entry, where all servers may have a mode already.
-fn admit_entry(admitted: &mut Admitted, mode: Option<Mode>, entry: &Value) -> Result<(), FileKind>
-    requires { length admitted.old.modes ≡ length admitted.old.plan.rates }
-    ensures value { seen (λ _. admitted.new) result ≡ admitted_entry mode admitted.old (view entry.now) }
-    ensures moded { OnOk result (length admitted.new.modes ≡ length admitted.new.plan.rates) }
+fn admit_entry(setup: &mut Setup, mode: Option<Mode>, entry: &Value) -> Result<(), FileKind>
+    ensures { seen (λ _. setup.new) result ≡ admitted_entry mode setup.old (view entry.now) }
 {
     let server = server_entry(mode, entry)?;
-    let Ok(_) = admitted.plan.admit(server.reservation) else {
-        return Err(FileKind::NotAdmitted);
-    };
-    admitted.modes.push(server.mode);
-    Ok(())
+    match setup.admit(server.reservation, server.mode) {
+        Ok(_) => Ok(()),
+        Err(_) => Err(FileKind::NotAdmitted),
+    }
 }
 
-/// The plan and the modes of the entries of `server`, where all servers may have a mode already.
-fn admitted_of(bound: Bound, mode: Option<Mode>, entries: &[Value]) -> Result<Admitted, FileFault>
-    ensures value { result ≡ admitted_from mode 0 (none_admitted bound) (map view entries.now) }
-    ensures moded { IfOk result (λ a. length a.modes ≡ length a.plan.rates) }
+/// The servers of the entries of `server`, where all servers may have a mode already.
+fn setup_of(bound: Bound, mode: Option<Mode>, entries: &[Value]) -> Result<Setup, FileFault>
+    ensures { result ≡ admitted_from mode 0 (no_servers bound) (map view entries.now) }
 {
-    let mut admitted = Admitted {
-        plan: Plan::new(bound),
-        modes: Modes::new(),
-    };
+    let mut setup = Setup::new(bound);
     for (i, entry) in entries.iter().enumerate() {
         at(
             Place::Server(i as u64),
-            admit_entry(&mut admitted, mode, entry),
+            admit_entry(&mut setup, mode, entry),
         )?;
     }
-    Ok(admitted)
+    Ok(setup)
 }
 
 /// The steps of the entries of `step`, in a file of this format with so many servers.
@@ -132,12 +119,11 @@ fn spelled_file(alloc: Global, bytes: &[u8]) -> Result<TaskFile, FileFault>
         Ok(top) => top,
         Err(kind) => return Err(faulty(Place::Top, kind)),
     };
-    let admitted = admitted_of(top.bound, top.mode, top.servers)?;
-    let Admitted { plan, modes } = admitted;
-    let steps = steps_of(alloc, top.format, plan.len() as u64, top.steps)?;
+    let setup = setup_of(top.bound, top.mode, top.servers)?;
+    let servers = setup.plan().len() as u64;
+    let steps = steps_of(alloc, top.format, servers, top.steps)?;
     Ok(TaskFile {
-        modes,
-        plan,
+        setup,
         backlog: top.backlog,
         ring: top.ring,
         steps,

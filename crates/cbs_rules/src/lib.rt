@@ -4,7 +4,9 @@
 mod mode;
 mod modes;
 mod server_state;
+mod setup;
 
 pub use mode::Mode;
 pub use modes::Modes;
 pub use server_state::{LIMIT, MAX_DEADLINE, ServerState};
+pub use setup::Setup;

@@ -1,10 +1,13 @@
-//! A caller of cbs_rules.
+//! Callers of cbs_rules.
 
-ghost use Rattle.std.specs.Prelude.{◌≡◌, ◌≤◌};
+ghost use Rattle.std.specs.Prelude.{◌≡◌, ◌≤◌, []};
+ghost use Rattle.cbs_rate.specs.Plan.{admit_refusal};
+ghost use Rattle.cbs_rate.specs.Refusals.{AnswersBy};
 ghost use Rattle.cbs_rules.specs.Rules.{clock_end, fresh_state, after_arrival, after_unit};
+ghost use Rattle.cbs_rules.specs.Setups.{no_servers, with_server};
 
-use cbs_rate::Reservation;
-use cbs_rules::{Mode, ServerState};
+use cbs_rate::{AdmitError, Bound, Reservation};
+use cbs_rules::{Mode, ServerState, Setup};
 
 /// A new server to which a job comes at tick `now`, and which then uses a tick.
 pub fn after_a_unit(mode: Mode, reservation: Reservation, now: u64) -> ServerState
@@ -15,4 +18,13 @@ pub fn after_a_unit(mode: Mode, reservation: Reservation, now: u64) -> ServerSta
     server.arrive_idle(mode, now);
     server.consume(mode);
     server
+}
+
+/// A setup of one server, or why it is not admitted.
+pub fn setup_of_one(bound: Bound, reservation: Reservation, mode: Mode) -> Result<Setup, AdmitError>
+    ensures { AnswersBy result (admit_refusal (record { bound = bound; rates = [] }) reservation) (with_server (no_servers bound) reservation mode) }
+{
+    let mut setup = Setup::new(bound);
+    setup.admit(reservation, mode)?;
+    Ok(setup)
 }

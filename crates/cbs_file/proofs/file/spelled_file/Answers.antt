@@ -3,8 +3,9 @@ use Rattle.toml.specs.View.{view, table_view}
 use Rattle.cbs_file.specs.declared.fault.Place.TheVariants.{Top, Step as AtStep}
 use Rattle.cbs_file.specs.Entries.{step_entry}
 use Rattle.cbs_file.specs.Fields.{each_from}
-use Rattle.cbs_file.specs.Spelling.{file, at, document, admitted_from, none_admitted, no_memory}
+use Rattle.cbs_file.specs.Spelling.{file, at, document, admitted_from, no_memory}
 use Rattle.cbs_file.specs.TopTables.{top_table, top_view}
+use Rattle.cbs_rules.specs.Setups.{no_servers}
 use Rattle.cbs_file.proofs.Places.{Gives-at, gives_ok}
 use Rattle.cbs_file.proofs.file.spelled_file.Goals as goal
 
@@ -15,9 +16,9 @@ returns c =
     gives_ok no_memory table_view (at Top c.document.result) _ c.in_ok-table.table
     (Gives-at Top table_view c.document.result _ c.document.ensures) (sym c.at.ensures ∙ c.in_ok-table.was) in
     let top : top_table (table_view c.in_ok-table.table) ≡ Ok (top_view c.in-Ok.top) = sym c.in-Ok.ensures.value in
-    let admitted : admitted_from c.in-Ok.top.mode 0 (none_admitted c.in-Ok.top.bound) (map view c.in-Ok.top.servers.now.items)
-    ≡ Ok c.in_ok-admitted.admitted = rw (← c.deref.ensures.value) (sym c.in_ok-admitted.ensures.value) in
-    let len : c.len.result ≡ length c.in_ok-admitted.admitted.plan.rates = search rules in
-    let steps : each_from 0 (λ i entry. at (AtStep i) (step_entry c.in-Ok.top.format (length c.in_ok-admitted.admitted.plan.rates) entry))
+    let setup : admitted_from c.in-Ok.top.mode 0 (no_servers c.in-Ok.top.bound) (map view c.in-Ok.top.servers.now.items)
+    ≡ Ok c.in_ok-setup.setup = rw (← c.deref.ensures.value) (sym c.in_ok-setup.ensures) in
+    let len : c.len-servers.result ≡ length c.in_ok-setup.setup.plan.rates = search rules in
+    let steps : each_from 0 (λ i entry. at (AtStep i) (step_entry c.in-Ok.top.format (length c.in_ok-setup.setup.plan.rates) entry))
     (map view c.in-Ok.top.steps.now.items) ≡ Ok c.in_ok-steps.steps.items = rw (← c.deref-2.ensures.value, ← len) c.in_ok-steps.ensures.steps in
-    rw (table, top, admitted, steps) refl
+    rw (table, top, setup, steps) refl

@@ -3,8 +3,8 @@
 use super::{done, same_at, sum_of, whole};
 use cbs_core::{Core, CoreError, Ran, ServerView};
 use cbs_job::{SumJob, Work};
-use cbs_rate::{Bound, Plan, Reservation};
-use cbs_rules::{Mode, Modes};
+use cbs_rate::{Bound, Reservation};
+use cbs_rules::{Mode, Setup};
 use std::alloc::{Allocator, Global};
 use std::process::Abort;
 
@@ -46,15 +46,12 @@ pub struct Case {
 
 /// The core of a case, as it is at first.
 pub fn new_core(rt: &impl Abort, alloc: Global, case: &Case) -> Core<SumJob> {
-    let mut plan = Plan::new(Bound::new(1, 1).expect(rt, "a bound"));
-    let mut modes = Modes::new();
+    let mut setup = Setup::new(Bound::new(1, 1).expect(rt, "a bound"));
     for &(mode, budget, period) in case.servers {
         let reservation = Reservation::new(budget, period).expect(rt, "a reservation");
-        plan.admit(reservation).expect(rt, "a server");
-        assert!(rt; modes.len() < 64);
-        modes.push(mode);
+        setup.admit(reservation, mode).expect(rt, "a server");
     }
-    assert!(rt; modes.len() == plan.len());
+    let (plan, modes) = setup.into_parts();
     Core::new(alloc, plan, modes, case.backlog).expect(rt, "a core")
 }
 

@@ -1,8 +1,8 @@
 //! The rules of one server, run on worked examples.
 
 use super::same;
-use cbs_rate::{MAX_PERIOD, Reservation};
-use cbs_rules::{LIMIT, MAX_DEADLINE, Mode, ServerState};
+use cbs_rate::{AdmitError, Bound, MAX_PERIOD, Reservation};
+use cbs_rules::{LIMIT, MAX_DEADLINE, Mode, ServerState, Setup};
 use std::process::Abort;
 
 /// What happens to a server, with the tick at which it does.
@@ -119,4 +119,23 @@ fn the_limits_are_those_of_a_clock_of_a_million_million_ticks(rt: HostRuntime) {
     same(&rt, "LIMIT", LIMIT, 1_000_000_000_000);
     let latest = u128::from(LIMIT) * u128::from(MAX_PERIOD) + u128::from(LIMIT);
     same(&rt, "MAX_DEADLINE", MAX_DEADLINE, latest);
+}
+
+#[test]
+fn a_setup_has_a_mode_for_each_server(rt: HostRuntime) {
+    let two_in_four = Reservation::new(2, 4).expect(&rt, "a reservation");
+    let one_in_four = Reservation::new(1, 4).expect(&rt, "a reservation");
+    let mut setup = Setup::new(Bound::new(3, 4).expect(&rt, "a bound"));
+    let first = setup.admit(two_in_four, Mode::Throttled);
+    same(&rt, "admit", first, Ok(0));
+    let over = setup.admit(two_in_four, Mode::Soft);
+    same(&rt, "admit over the bound", over, Err(AdmitError::OverBound));
+    let last = setup.admit(one_in_four, Mode::Soft);
+    same(&rt, "admit", last, Ok(1));
+    same(&rt, "plan", setup.plan().get(1), Some(one_in_four));
+    same(&rt, "modes", setup.modes().len(), 2);
+    let (plan, modes) = setup.into_parts();
+    same(&rt, "plan", plan.len(), 2);
+    let each = (modes.get(0), modes.get(1));
+    same(&rt, "modes", each, (Some(Mode::Throttled), Some(Mode::Soft)));
 }
