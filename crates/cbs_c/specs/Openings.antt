@@ -1,10 +1,10 @@
 -- What C is told of opening a house, and of planning one.
 use Rattle.std.specs.Prelude.{ℕ, ◌≡◌, MatchResult, Some, None, Result, List}
 use Rattle.cbs_embed.specs.Openings.{OpenOf}
-use Rattle.cbs_embed.specs.Plans.{setup_refusal, plan_with, whole_processor, IsGreatestBudget}
+use Rattle.cbs_embed.specs.Plans.{setup_refusal, setup_with, whole_processor, IsGreatestBudget}
 use Rattle.cbs_embed.specs.declared.handle.Handle.{Handle}
 use Rattle.cbs_embed.specs.declared.refusal.Refusal.{Refusal}
-use Rattle.cbs_embed.specs.declared.setup.Server.{Server}
+use Rattle.cbs_embed.specs.declared.server.Server.{Server}
 use Rattle.cbs_c.specs.Statuses.{status_after, shown_or}
 
 -- a house of these servers is opened, or not, and C is told which, and why
@@ -23,7 +23,7 @@ pub record TellsAdmission (servers : List Server) (status : ℕ) : Type 0 where
 pub record TellsBudget (servers : List Server) (period before status after : ℕ) : Type 0 where
   pub answer : Result ℕ Refusal
   pub greatest : MatchResult answer
-      (λ budget. (setup_refusal whole_processor servers ≡ None) × IsGreatestBudget (plan_with whole_processor servers) period budget)
+      (λ budget. (setup_refusal whole_processor servers ≡ None) × IsGreatestBudget (setup_with whole_processor servers).plan period budget)
       (λ error. setup_refusal whole_processor servers ≡ Some error)
   pub told : status ≡ status_after answer
   pub out : after ≡ shown_or (λ budget. budget) answer before

@@ -13,9 +13,9 @@ use Rattle.cbs_clients.specs.declared.error.HouseError.TheVariants.{OutOfMemory}
 use Rattle.cbs_embed.specs.Calls.{TheHouse, TheClient}
 use Rattle.cbs_embed.specs.Handles.{held_by}
 use Rattle.cbs_embed.specs.Jobs.{counting}
-use Rattle.cbs_embed.specs.Plans.{setup_refusal, plan_with, modes_with, whole_processor}
+use Rattle.cbs_embed.specs.Plans.{setup_refusal, setup_with, whole_processor}
 use Rattle.cbs_embed.specs.declared.handle.Handle.{Handle}
-use Rattle.cbs_embed.specs.declared.setup.Server.{Server}
+use Rattle.cbs_embed.specs.declared.server.Server.{Server}
 use Rattle.cbs_embed.specs.declared.held.Held.{Held}
 use Rattle.cbs_embed.specs.declared.held.Held.TheVariants.{House, Client}
 use Rattle.cbs_embed.specs.declared.refusal.HandleError.TheVariants.{WrongCount}
@@ -36,7 +36,7 @@ pub record Opens (modes : List Mode) (rates : List Rate) (backlog ring : ℕ) (h
 
 -- the same of a house of these servers
 abbrev pub OpensServers : List Server → ℕ → ℕ → Option Held → List (Option Held) → Type 0
-OpensServers servers backlog ring = Opens (modes_with [] servers) (plan_with whole_processor servers).rates backlog ring
+OpensServers servers = let setup = setup_with whole_processor servers in Opens setup.modes setup.plan.rates
 
 -- a house of so many servers, with so many handles for its clients, is not opened: by their count, or as a house is not, memory included
 abbrev pub RefusesOpening : ℕ → ℕ → ℕ → ℕ → Refusal → Type 0

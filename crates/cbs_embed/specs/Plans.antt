@@ -1,12 +1,13 @@
--- Which reservations make a plan.
-use Rattle.std.specs.Prelude.{ℕ, ◌≡◌, ◌+◌, ◌<◌, ◌&&◌, Bool, true, false, zero, suc, List, [], ◌∷◌, ◌++◌, Option, Some, None}
+-- Which servers make a setup.
+use Rattle.std.specs.Prelude.{ℕ, ◌≡◌, ◌+◌, ◌<◌, ◌&&◌, Bool, true, false, zero, suc, List, [], ◌∷◌, Option, Some, None}
 use Rattle.std.specs.Option.{unwrap_or, is_none}
 use Rattle.cbs_rate.specs.Plan.{Planned, admit_refusal}
 use Rattle.cbs_rate.specs.Rate.{rate_refusal}
 use Rattle.cbs_rate.specs.declared.error.RateError.{RateError}
 use Rattle.cbs_rate.specs.declared.error.AdmitError.{AdmitError}
-use Rattle.cbs_embed.specs.declared.setup.Server.{Server}
-use Rattle.cbs_embed.specs.declared.setup.Setup.{Setup}
+use Rattle.cbs_embed.specs.declared.server.Server.{Server}
+use Rattle.cbs_rules.specs.Setups.{ModedPlan}
+use Rattle.cbs_rules.specs.Setups as setups
 use Rattle.cbs_rules.specs.declared.mode.Mode.{Mode}
 use Rattle.cbs_rules.specs.declared.mode.Mode.TheVariants.{Soft, Throttled}
 use Rattle.cbs_embed.specs.declared.refusal.HandleError.TheVariants.{BadMode}
@@ -35,38 +36,23 @@ abbrev pub server_refusal : Planned → Server → Option Refusal → Option Ref
 server_refusal p r rest = first_refusal (rate_refusal r.budget r.period)
     (admit_refusal p (record { budget = r.budget; period = r.period })) (mode_from r.mode) rest
 
--- the plan with one more server
-abbrev pub with_server : Planned → Server → Planned
-with_server p r = record p { rates = p.rates ++ record { budget = r.budget; period = r.period } ∷ [] }
+-- the setup with one more server. Where its number is of no mode, the server is refused
+abbrev pub with_server : ModedPlan → Server → ModedPlan
+with_server s r = setups.with_server s (record { budget = r.budget; period = r.period }) (unwrap_or (mode_from r.mode) Soft)
 
--- the modes with one more server's. If its number is of no mode, its server is refused
-abbrev pub with_mode : List Mode → Server → List Mode
-with_mode modes r = modes ++ unwrap_or (mode_from r.mode) Soft ∷ []
-
--- a plan with no server, whose servers may take all of the processor
-abbrev pub whole_processor : Planned
-whole_processor = record { bound = record { num = 1; den = 1 }; rates = [] }
+-- no server: those to come may take all of the processor
+abbrev pub whole_processor : ModedPlan
+whole_processor = setups.no_servers (record { num = 1; den = 1 })
 
 -- why these servers are refused, taken one after another, if one is
-unfoldable pub setup_refusal : Planned → List Server → Option Refusal
-setup_refusal p [] = None
-setup_refusal p (r ∷ rs) = server_refusal p r (setup_refusal (with_server p r) rs)
+unfoldable pub setup_refusal : ModedPlan → List Server → Option Refusal
+setup_refusal s [] = None
+setup_refusal s (r ∷ rs) = server_refusal s.plan r (setup_refusal (with_server s r) rs)
 
--- the plan after all of them
-unfoldable pub plan_with : Planned → List Server → Planned
-plan_with p [] = p
-plan_with p (r ∷ rs) = plan_with (with_server p r) rs
-
--- the modes after all of them
-unfoldable pub modes_with : List Mode → List Server → List Mode
-modes_with modes [] = modes
-modes_with modes (r ∷ rs) = modes_with (with_mode modes r) rs
-
--- these servers are all admitted within the whole processor, and the setup has their reservations and modes, in order
-pub record IsSetupOf (servers : List Server) (setup : Setup) : Type 0 where
-  pub admitted : setup_refusal whole_processor servers ≡ None
-  pub plan : setup.plan ≡ plan_with whole_processor servers
-  pub modes : setup.modes ≡ modes_with [] servers
+-- the setup with all of them
+unfoldable pub setup_with : ModedPlan → List Server → ModedPlan
+setup_with s [] = s
+setup_with s (r ∷ rs) = setup_with (with_server s r) rs
 
 -- whether the plan takes one more server of this budget and period
 abbrev pub fits_plan : Planned → ℕ → ℕ → Bool

@@ -11,14 +11,15 @@ mod opening;
 mod parts;
 mod planning;
 mod refusal;
-mod setup;
+mod server;
 mod texts;
 
+pub use cbs_rules::Setup;
 pub use handle::Handle;
 pub use held::Held;
 pub use job::UnitJob;
 pub use opening::open;
 pub use planning::{admit, greatest_budget, mode_of, setup_of};
 pub use refusal::{HandleError, Refusal};
-pub use setup::{Server, Setup};
+pub use server::Server;
 pub use texts::text_of;

@@ -12,10 +12,9 @@ use crate::held::Held;
 use crate::job::UnitJob;
 use crate::planning::setup_of;
 use crate::refusal::{HandleError, Refusal};
-use crate::setup::{Server, Setup};
+use crate::server::Server;
 use cbs_house::{Client, HouseError, open_house};
-use cbs_rate::Plan;
-use cbs_rules::Modes;
+use cbs_rules::Setup;
 use std::alloc::{AllocError, Global};
 use std::collections::VecDeque;
 
@@ -36,11 +35,11 @@ pub fn open(
 ) -> Result<(), Refusal>
     ensures { OpenOf servers.now backlog ring house.old house.new clients.old clients.new result }
 {
-    let Setup { plan, modes } = setup_of(servers)?;
-    if clients.len() != plan.len() {
+    let setup = setup_of(servers)?;
+    if clients.len() != setup.plan().len() {
         return Err(Refusal::Handle(HandleError::WrongCount));
     }
-    match open_boxes(alloc, plan, modes, backlog, ring) {
+    match open_boxes(alloc, setup, backlog, ring) {
         Ok((held, ends)) => {
             fill(clients, ends);
             house.put(held);
@@ -53,15 +52,14 @@ pub fn open(
 /// Opens a house with its clients, each in a box.
 fn open_boxes(
     alloc: Global,
-    plan: Plan,
-    modes: Modes,
+    setup: Setup,
     backlog: u64,
     ring: u64,
 ) -> Result<(Box<Held>, Vec<Box<Held>>), HouseError>
-    requires { length modes ≡ length plan.rates }
-    ensures ok { IfOk result (λ r. Opens modes plan.rates backlog ring (Some r.0.value) (map (λ b. Some b.value) r.1.items)) }
+    ensures ok { IfOk result (λ r. Opens setup.modes setup.plan.rates backlog ring (Some r.0.value) (map (λ b. Some b.value) r.1.items)) }
     ensures refusal { RefusesByOrMemory HouseError.OutOfMemory result (open_refusal backlog ring) }
 {
+    let (plan, modes) = setup.into_parts();
     let (house, clients) = open_house(alloc, plan, modes, backlog, ring)?;
     let Ok(held) = Box::new(alloc, Held::House(house)) else {
         return Err(HouseError::OutOfMemory);

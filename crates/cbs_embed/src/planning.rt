@@ -1,31 +1,31 @@
 //! Which servers make a setup.
 
-ghost use Rattle.std.specs.Prelude.{◌≡◌, OnOk, MatchResult, Option, Some, None, length};
-ghost use Rattle.cbs_embed.specs.Plans.{server_refusal, with_server, with_mode, mode_from, setup_refusal, plan_with, IsSetupOf, IsGreatestBudget, fits_plan, whole_processor};
+ghost use Rattle.std.specs.Prelude.{◌≡◌, OnOk, MatchResult, Option, Some, None};
+ghost use Rattle.cbs_rate.specs.Refusals.{AnswersBy};
+ghost use Rattle.cbs_embed.specs.Plans.{server_refusal, with_server, mode_from, setup_refusal, setup_with, IsGreatestBudget, fits_plan, whole_processor};
 ghost use Rattle.cbs_embed.specs.declared.refusal.HandleError.TheVariants as HandleError;
 ghost use Rattle.cbs_embed.specs.declared.refusal.Refusal.{Refusal};
 ghost use Rattle.cbs_embed.specs.declared.refusal.Refusal.TheVariants as refused;
 
 use crate::refusal::{HandleError, Refusal};
-use crate::setup::{Server, Setup};
+use crate::server::Server;
 use cbs_rate::{Bound, MAX_PERIOD, Plan, Reservation};
-use cbs_rules::{Mode, Modes};
+use cbs_rules::{Mode, Setup};
 
 /// The plan of these servers, within the whole processor, with their modes.
 ///
 /// Refuses by the first server that does not fit: by its reservation, then its admission, then its mode.
 pub fn setup_of(servers: &[Server]) -> Result<Setup, Refusal>
-    ensures { MatchResult result (IsSetupOf servers.now) (λ error. setup_refusal whole_processor servers.now ≡ Some error) }
+    ensures { AnswersBy result (setup_refusal whole_processor servers.now) (setup_with whole_processor servers.now) }
 {
     let Ok(bound) = Bound::new(1, 1) else {
         unreachable!()
     };
-    let mut plan = Plan::new(bound);
-    let mut modes = Modes::new();
+    let mut setup = Setup::new(bound);
     for server in servers.iter() {
-        take_in(&mut plan, &mut modes, *server)?;
+        take_in(&mut setup, *server)?;
     }
-    Ok(Setup { plan, modes })
+    Ok(setup)
 }
 
 /// Returns whether these servers make a plan: refuses as [`setup_of`].
@@ -38,23 +38,23 @@ pub fn admit(servers: &[Server]) -> Result<(), Refusal>
     Ok(())
 }
 
-/// Takes one more server in. Where it refuses, the plan and the modes are of no use any more.
-fn take_in(plan: &mut Plan, modes: &mut Modes, server: Server) -> Result<(), Refusal>
-    requires { length modes.old ≡ length plan.old.rates }
-    ensures answer { MatchResult result (λ _. server_refusal plan.old server None ≡ None)
-        (λ error. (rest : Option Refusal) → server_refusal plan.old server rest ≡ Some error) }
-    ensures plan { OnOk result (plan.new ≡ with_server plan.old server) }
-    ensures modes { OnOk result (modes.new ≡ with_mode modes.old server) }
+/// Takes one more server in. If it refuses, the setup is of no use any more.
+fn take_in(setup: &mut Setup, server: Server) -> Result<(), Refusal>
+    ensures answer { MatchResult result (λ _. server_refusal setup.old.plan server None ≡ None)
+        (λ error. (rest : Option Refusal) → server_refusal setup.old.plan server rest ≡ Some error) }
+    ensures setup { OnOk result (setup.new ≡ with_server setup.old server) }
 {
     let reservation = match Reservation::new(server.budget, server.period) {
         Ok(reservation) => reservation,
         Err(error) => return Err(Refusal::Rate(error)),
     };
-    match plan.admit(reservation) {
+    // An admission refuses before a mode does.
+    let mode = mode_of(server.mode);
+    match setup.admit(reservation, mode.unwrap_or(Mode::Soft)) {
         Ok(_) => {}
         Err(error) => return Err(Refusal::Admit(error)),
     }
-    modes.push(mode_of(server.mode)?);
+    mode?;
     Ok(())
 }
 
@@ -76,7 +76,7 @@ pub fn mode_of(mode: u32) -> Result<Mode, Refusal>
 #[inline(never)]
 pub fn greatest_budget(servers: &[Server], period: u64) -> Result<u64, Refusal>
     ensures { MatchResult result
-        (λ budget. (setup_refusal whole_processor servers.now ≡ None) × IsGreatestBudget (plan_with whole_processor servers.now) period budget)
+        (λ budget. (setup_refusal whole_processor servers.now ≡ None) × IsGreatestBudget (setup_with whole_processor servers.now).plan period budget)
         (λ error. setup_refusal whole_processor servers.now ≡ Some error) }
 {
     admit(servers)?;
@@ -84,7 +84,7 @@ pub fn greatest_budget(servers: &[Server], period: u64) -> Result<u64, Refusal>
     let mut refused = if period > MAX_PERIOD { 1 } else { period + 1 };
     while refused - admitted > 1 {
         let budget = admitted + (refused - admitted) / 2;
-        let Setup { mut plan, .. } = setup_of(servers)?;
+        let (mut plan, _) = setup_of(servers)?.into_parts();
         if admits(&mut plan, budget, period) {
             admitted = budget;
         } else {

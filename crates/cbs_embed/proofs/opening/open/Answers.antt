@@ -1,4 +1,4 @@
-use Rattle.std.proofs.Common.{Some, length, refl, ap, inl, inr, arith, rules}
+use Rattle.std.proofs.Common.{Some, length, refl, ap, inl, inr, ◌∙◌, arith, rules}
 use Rattle.std.proofs.lemmas.List.{length-map}
 use Rattle.cbs_embed.specs.Plans.{whole_processor}
 use Rattle.cbs_embed.proofs.Admissions.{planned_each}
@@ -8,37 +8,44 @@ use Rattle.cbs_embed.proofs.opening.open.Goals as goal
 pub fill-requires : goal.fill-requires
 fill-requires c =
     let count = opens_each _ _ _ _ _ _ c.in-Ok.ensures.ok in
-    omega (arith, count, length-map c.in-Ok.ends.items (λ b. Some b.value), c.len.ensures.value, c.if-clients-len.false)
+    omega (
+      arith,
+      count,
+      length-map c.in-Ok.ends.items (λ b. Some b.value),
+      c.len.ensures.value,
+      ap (λ p. length p.rates) c.plan.ensures.value,
+      c.if-clients-len.false,
+    )
 
 pub returns-then-clients-len : goal.returns-then-clients-len
 returns-then-clients-len c =
-    let same = ap (λ p. length p.rates) c.in_ok-plan.ensures.plan in
+    let same = ap (λ p. length p.rates) c.plan.ensures.value ∙ ap (λ s. length s.plan.rates) c.in_ok-setup.ensures.1 in
     let each = planned_each whole_processor c.args.servers.now in
     record {
       ok = search rules;
       err = search rules;
-      refusal = inr (c.in_ok-plan.ensures.admitted, inl ((λ e. absurd (omega (arith, e, each, same, c.len.ensures.value, c.if-clients-len.true))), refl));
+      refusal = inr (c.in_ok-setup.ensures.0, inl ((λ e. absurd (omega (arith, e, each, same, c.len.ensures.value, c.if-clients-len.true))), refl));
     }
 
 pub returns-in-Ok : goal.returns-in-Ok
 returns-in-Ok c =
-    let same = ap (λ p. length p.rates) c.in_ok-plan.ensures.plan in
+    let same = ap (λ p. length p.rates) c.plan.ensures.value ∙ ap (λ s. length s.plan.rates) c.in_ok-setup.ensures.1 in
     let each = planned_each whole_processor c.args.servers.now in
     record {
       ok = search rules;
       err = search rules;
-      refusal = (c.in_ok-plan.ensures.admitted, omega (arith, each, same, c.len.ensures.value, c.if-clients-len.false), c.in-Ok.ensures.refusal);
+      refusal = (c.in_ok-setup.ensures.0, omega (arith, each, same, c.len.ensures.value, c.if-clients-len.false), c.in-Ok.ensures.refusal);
     }
 
 pub returns-in-Err : goal.returns-in-Err
 returns-in-Err c =
-    let same = ap (λ p. length p.rates) c.in_ok-plan.ensures.plan in
+    let same = ap (λ p. length p.rates) c.plan.ensures.value ∙ ap (λ s. length s.plan.rates) c.in_ok-setup.ensures.1 in
     let each = planned_each whole_processor c.args.servers.now in
     record {
       ok = search rules;
       err = search rules;
       refusal = inr (
-        c.in_ok-plan.ensures.admitted,
+        c.in_ok-setup.ensures.0,
         inr (
           omega (arith, each, same, c.len.ensures.value, c.if-clients-len.false),
           (c.in-Err.error, refl, c.in-Err.ensures.refusal),
