@@ -1,6 +1,6 @@
 -- One server after the other.
 use Rattle.std.specs.Prelude.{◌≡◌, ◌+◌, ◌<◌, ℕ, List, [], ◌∷◌, length, get_or, drop, Option, Some, None}
-use Rattle.std.specs.Option.{is_some, unwrap_or}
+use Rattle.std.specs.Option.{is_some}
 use Rattle.std.proofs.Common.{refl, sym, ap, true≢false, ◌∙◌, arith}
 use Rattle.std.proofs.lemmas.List.{at_drop_more, length-append}
 use Rattle.cbs_rate.specs.declared.error.RateError.{RateError}

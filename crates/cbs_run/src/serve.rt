@@ -55,12 +55,12 @@ fn open_file(
     ensures lawful { IsFile file }
 {
     let Parts {
-        modes,
-        plan,
+        setup,
         backlog,
         ring,
         steps,
     } = file.into_parts();
+    let (plan, modes) = setup.into_parts();
     let Ok(lists) = jobs_by_server(alloc, plan.len() as u16, steps) else {
         return Err(HouseError::OutOfMemory);
     };

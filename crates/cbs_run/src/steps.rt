@@ -121,12 +121,12 @@ pub fn write_file_steps<V: StepView, O: ByteOutput>(
     ensures laws { OnOk result (KeepsLaws file) }
 {
     let Parts {
-        modes,
-        plan,
+        setup,
         backlog,
         steps,
         ..
     } = file.into_parts();
+    let (plan, modes) = setup.into_parts();
     match Core::new(alloc, plan, modes, backlog) {
         Ok(mut core) => write_steps(view, alloc, &mut core, steps, out),
         Err(error) => {
