@@ -5,8 +5,8 @@
 use anyhow::{Context, Result};
 use cbs_house::{Client, House, Poll, open_house};
 use cbs_job::{SumJob, Task};
-use cbs_rate::{Bound, Plan, Reservation};
-use cbs_rules::{Mode, Modes};
+use cbs_rate::{Bound, Reservation};
+use cbs_rules::{Mode, Setup};
 use std::alloc::Global;
 
 /// Sends a job that adds these two numbers up, one a tick.
@@ -24,11 +24,11 @@ fn send_all(alloc: Global, client: &mut Client<SumJob>) -> Result<()> {
     Ok(client.end()?)
 }
 
-/// A house with one server, of two ticks in every five, and its client.
+/// A house with one soft server, of two ticks in every five, and its client.
 fn open(alloc: Global) -> Result<(House<SumJob>, Client<SumJob>)> {
-    let mut plan = Plan::new(Bound::new(1, 1)?);
-    plan.admit(Reservation::new(2, 5)?)?;
-    let modes = Modes::uniform(Mode::Soft, plan.len() as u16);
+    let mut setup = Setup::new(Bound::new(1, 1)?);
+    setup.admit(Reservation::new(2, 5)?, Mode::Soft)?;
+    let (plan, modes) = setup.into_parts();
     let (house, mut clients) = open_house(alloc, plan, modes, 4, 4)?;
     let client = clients.pop().context("a client for each server")?;
     Ok((house, client))

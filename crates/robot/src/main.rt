@@ -7,8 +7,8 @@ mod track;
 
 use anyhow::Result;
 use cbs_house::{Client, House, open_house};
-use cbs_rate::{Bound, Plan, Reservation};
-use cbs_rules::{Mode, Modes};
+use cbs_rate::{Bound, Reservation};
+use cbs_rules::{Mode, Setup};
 use sensor::{Fitting, Sensor};
 use std::alloc::Global;
 use track::TrackJob;
@@ -39,19 +39,19 @@ const FITTINGS: [Fitting; 3] = [
 /// How many turns the robot drives. Each is a tick; where time is real, it would be a millisecond, say.
 const TURNS: u64 = 48;
 
-/// A reservation for each sensor.
-fn plan() -> Result<Plan> {
-    let mut plan = Plan::new(Bound::new(1, 1)?);
+/// A soft server for each sensor.
+fn setup() -> Result<Setup> {
+    let mut setup = Setup::new(Bound::new(1, 1)?);
     for fitting in FITTINGS {
-        plan.admit(Reservation::new(fitting.budget, fitting.period)?)?;
+        let reservation = Reservation::new(fitting.budget, fitting.period)?;
+        setup.admit(reservation, Mode::Soft)?;
     }
-    Ok(plan)
+    Ok(setup)
 }
 
 /// The house, with a server for each sensor, and the sensors.
 fn open(alloc: Global) -> Result<(House<TrackJob>, Vec<Sensor>)> {
-    let plan = plan()?;
-    let modes = Modes::uniform(Mode::Soft, plan.len() as u16);
+    let (plan, modes) = setup()?.into_parts();
     let (house, clients) = open_house(alloc, plan, modes, 4, 4)?;
     Ok((house, fitted(alloc, clients)?))
 }

@@ -4,11 +4,11 @@ ghost use Rattle.std.specs.Thread.{IsSync};
 
 use super::clients::send_all;
 use super::finished::Finished;
-use super::{CLIENTS, plan};
+use super::{CLIENTS, setup};
 use anyhow::{Result, ensure};
 use cbs_house::{Client, House, HouseError, open_house};
 use cbs_job::SumJob;
-use cbs_rules::{Mode, Modes};
+use cbs_rules::Mode;
 use std::alloc::Global;
 use std::thread::{Threads, join_mut};
 use std::time::Clock;
@@ -39,10 +39,8 @@ fn run_together<R: Threads + Clock + Sync>(
 /// The house and the clients, with a server for each. Telemetry gets its budget and no more; the other two may have
 /// what is left.
 fn open(alloc: Global) -> Result<(House<SumJob>, Vec<Client<SumJob>>)> {
-    let plan = plan()?;
-    let mut modes = Modes::uniform(Mode::Soft, 2);
-    modes.push(Mode::Throttled);
-    ensure!(modes.len() == plan.len(), "not a mode for each server");
+    let modes = [Mode::Soft, Mode::Soft, Mode::Throttled];
+    let (plan, modes) = setup(modes)?.into_parts();
     Ok(open_house(alloc, plan, modes, 4, 4)?)
 }
 

@@ -1,10 +1,10 @@
 //! A batch: the jobs of each client are known beforehand, and a call serves them all. Each list has a thread that sends it.
 
-use super::{CLIENTS, plan};
+use super::{CLIENTS, setup};
 use anyhow::{Result, ensure};
 use cbs_house::{House, OpenGate, open_feeds, serve};
 use cbs_job::{SumJob, Task};
-use cbs_rules::{Mode, Modes};
+use cbs_rules::Mode;
 use std::alloc::Global;
 use std::thread::Threads;
 use std::time::Clock;
@@ -30,9 +30,9 @@ fn lists(alloc: Global) -> Result<Vec<Vec<Task<SumJob>>>> {
 
 /// Serves all jobs. The house, which has their results.
 fn serve_all<R: Threads + Clock + Sync>(rt: &R, alloc: Global) -> Result<House<SumJob>> {
-    let (plan, lists) = (plan()?, lists(alloc)?);
+    let (plan, modes) = setup([Mode::Soft; 3])?.into_parts();
+    let lists = lists(alloc)?;
     ensure!(lists.len() == plan.len(), "not a list for each server");
-    let modes = Modes::uniform(Mode::Soft, plan.len() as u16);
     let opened = open_feeds(alloc, plan, modes, 4, 4, lists);
     let (mut house, mut feeds) = opened.map_err(|refused| refused.error)?;
     serve(rt, &mut house, &mut feeds, &OpenGate)?;

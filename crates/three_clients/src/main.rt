@@ -9,18 +9,19 @@ mod clients;
 mod finished;
 
 use anyhow::Result;
-use cbs_rate::{Bound, Plan, Reservation};
+use cbs_rate::{Bound, Reservation};
+use cbs_rules::{Mode, Setup};
 
 /// The clients, each with the budget of its server in every ten ticks.
 const CLIENTS: [(&str, u64); 3] = [("camera", 3), ("encoder", 5), ("telemetry", 1)];
 
-/// A reservation for each client.
-fn plan() -> Result<Plan> {
-    let mut plan = Plan::new(Bound::new(1, 1)?);
-    for (_name, budget) in CLIENTS {
-        plan.admit(Reservation::new(budget, 10)?)?;
+/// A server for each client, each with its mode.
+fn setup(modes: [Mode; 3]) -> Result<Setup> {
+    let mut setup = Setup::new(Bound::new(1, 1)?);
+    for ((_name, budget), mode) in CLIENTS.into_iter().zip(modes) {
+        setup.admit(Reservation::new(budget, 10)?, mode)?;
     }
-    Ok(plan)
+    Ok(setup)
 }
 
 fn main(rt: HostRuntime) -> Result<()> {

@@ -1,22 +1,22 @@
 //! What the calls are made on.
 
-ghost use Rattle.std.specs.Prelude.{◌≡◌, length, IfOk};
+ghost use Rattle.std.specs.Prelude.{IfOk};
 ghost use Rattle.cbs_house.specs.Rounds.{Ready};
 
 use anyhow::{Result, ensure};
 use cbs_house::{Feed, House, open_feeds};
 use cbs_job::{MAX_UNITS, SumJob, Task, Work};
-use cbs_rate::{Bound, Plan, Reservation};
-use cbs_rules::Modes;
+use cbs_rate::{Bound, Reservation};
+use cbs_rules::{Mode, Setup};
 use std::alloc::Global;
 
-/// A plan of reservations, each a budget and a period.
-pub fn plan_of(rates: &[(u64, u64)]) -> Result<Plan> {
-    let mut plan = Plan::new(Bound::new(1, 1)?);
+/// Soft servers, each of a budget and a period.
+pub fn soft_servers(rates: &[(u64, u64)]) -> Result<Setup> {
+    let mut setup = Setup::new(Bound::new(1, 1)?);
     for &(budget, period) in rates {
-        plan.admit(Reservation::new(budget, period)?)?;
+        setup.admit(Reservation::new(budget, period)?, Mode::Soft)?;
     }
-    Ok(plan)
+    Ok(setup)
 }
 
 /// The task that adds these numbers up.
@@ -47,19 +47,18 @@ pub fn lists_of(alloc: Global, lists: &[&[&[u32]]]) -> Result<Vec<Vec<Task<SumJo
 /// A house of these servers, with this backlog and these rings, and for each a feed of the list at its place.
 pub fn fed<W: Work>(
     alloc: Global,
-    plan: Plan,
-    modes: Modes,
+    setup: Setup,
     backlog: u64,
     ring: u64,
     lists: Vec<Vec<Task<W>>>,
 ) -> Result<(House<W>, Vec<Feed<W>>)>
-    requires { length modes ≡ length plan.rates }
     ensures { IfOk result (λ r. Ready r.0 r.1.items) }
 {
     ensure!(
-        lists.len() == plan.len(),
+        lists.len() == setup.plan().len(),
         "not a list of jobs for each server"
     );
+    let (plan, modes) = setup.into_parts();
     match open_feeds(alloc, plan, modes, backlog, ring, lists) {
         Ok(opened) => Ok(opened),
         Err(refused) => Err(refused.error.into()),

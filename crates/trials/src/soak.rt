@@ -7,7 +7,7 @@ mod gate;
 mod load;
 
 use crate::setup::fed;
-use anyhow::{Result, ensure};
+use anyhow::Result;
 use cbs_house::{Feed, House, serve};
 use cbs_job::FileJob;
 use gate::RandomDelays;
@@ -35,19 +35,8 @@ pub fn serve_load<R: Print + Threads + Clock + Sync>(
     text: &str,
 ) -> Result<()> {
     let load = read_load(alloc, text)?;
-    ensure!(
-        load.modes.len() == load.plan.len(),
-        "not a mode for each server"
-    );
     let gate = RandomDelays::new(load.seed);
-    let (mut house, mut feeds) = fed(
-        alloc,
-        load.plan,
-        load.modes,
-        load.backlog,
-        load.ring,
-        load.jobs,
-    )?;
+    let (mut house, mut feeds) = fed(alloc, load.setup, load.backlog, load.ring, load.jobs)?;
     serve_and_print(rt, &mut house, &mut feeds, &gate)
 }
 

@@ -2,34 +2,32 @@
 
 use super::telling::{begin, tell};
 use super::wide::{WideJob, wide};
-use crate::setup::{plan_of, sum_of};
+use crate::setup::{soft_servers, sum_of};
 use anyhow::Result;
 use cbs_core::{Core, CoreError, Reply, Step};
 use cbs_job::{SumJob, Task, Work};
-use cbs_rate::Plan;
-use cbs_rules::{Mode, Modes};
+use cbs_rules::Setup;
 use std::alloc::Global;
 
-/// Why a core of this plan is refused.
-fn refusal(alloc: Global, plan: Plan) -> Option<CoreError> {
-    let modes = Modes::uniform(Mode::Soft, plan.len() as u16);
+/// Why a core of these servers is refused.
+fn refusal(alloc: Global, setup: Setup) -> Option<CoreError> {
+    let (plan, modes) = setup.into_parts();
     Core::<SumJob>::new(alloc, plan, modes, 4).err()
 }
 
 /// A core of two servers.
 pub fn new_core(rt: &impl Print, alloc: Global) -> Result<()> {
-    let plan = plan_of(&[(2, 5), (2, 5)])?;
-    let same = plan_of(&[(2, 5), (2, 5)])?;
+    let setup = soft_servers(&[(2, 5), (2, 5)])?;
+    let same = soft_servers(&[(2, 5), (2, 5)])?;
     begin(rt);
-    tell(rt, "first", refusal(alloc, plan));
+    tell(rt, "first", refusal(alloc, setup));
     tell(rt, "again", refusal(alloc, same));
     Ok(())
 }
 
 /// A soft core of one server with 2 ticks in every 5.
 fn core_of_one<W: Work>(alloc: Global) -> Result<Core<W>> {
-    let plan = plan_of(&[(2, 5)])?;
-    let modes = Modes::uniform(Mode::Soft, plan.len() as u16);
+    let (plan, modes) = soft_servers(&[(2, 5)])?.into_parts();
     Ok(Core::new(alloc, plan, modes, 4)?)
 }
 

@@ -5,37 +5,35 @@ ghost use Rattle.cbs_clients.specs.Clients.{SameClient, IsOpened};
 ghost use Rattle.cbs_clients.specs.Houses.{rings_of};
 
 use super::telling::{begin, tell};
-use crate::setup::{lists_of, plan_of, sum_of};
+use crate::setup::{lists_of, soft_servers, sum_of};
 use anyhow::{Result, bail, ensure};
 use cbs_house::{
     Client, CollectError, Collector, FeedsRefused, House, HouseError, NoSink, feeds_of, open_house,
 };
 use cbs_job::{Completion, SumJob, Task};
-use cbs_rate::Plan;
-use cbs_rules::{Mode, Modes};
+use cbs_rules::Setup;
 use std::alloc::Global;
 use std::time::Clock;
 
-/// Why a house of this plan is refused.
-fn refusal(alloc: Global, plan: Plan) -> Option<HouseError> {
-    let modes = Modes::uniform(Mode::Soft, plan.len() as u16);
+/// Why a house of these servers is refused.
+fn refusal(alloc: Global, setup: Setup) -> Option<HouseError> {
+    let (plan, modes) = setup.into_parts();
     open_house::<SumJob, Global>(alloc, plan, modes, 4, 4).err()
 }
 
 /// A house of two servers.
 pub fn new_house(rt: &impl Print, alloc: Global) -> Result<()> {
-    let plan = plan_of(&[(2, 5), (2, 5)])?;
-    let same = plan_of(&[(2, 5), (2, 5)])?;
+    let setup = soft_servers(&[(2, 5), (2, 5)])?;
+    let same = soft_servers(&[(2, 5), (2, 5)])?;
     begin(rt);
-    tell(rt, "first", refusal(alloc, plan));
+    tell(rt, "first", refusal(alloc, setup));
     tell(rt, "again", refusal(alloc, same));
     Ok(())
 }
 
 /// The clients of a house of two servers.
 fn two_clients(alloc: Global) -> Result<Vec<Client<SumJob>>> {
-    let plan = plan_of(&[(2, 5), (2, 5)])?;
-    let modes = Modes::uniform(Mode::Soft, plan.len() as u16);
+    let (plan, modes) = soft_servers(&[(2, 5), (2, 5)])?.into_parts();
     let (_house, clients) = open_house(alloc, plan, modes, 4, 4)?;
     Ok(clients)
 }
@@ -135,8 +133,7 @@ pub fn announce(rt: &impl Print, alloc: Global) -> Result<()> {
 fn house_of_one(alloc: Global) -> Result<(House<SumJob>, Client<SumJob>)>
     ensures { IfOk result (λ r. IsOpened (rings_of r.0) r.1) }
 {
-    let plan = plan_of(&[(2, 5)])?;
-    let modes = Modes::uniform(Mode::Soft, plan.len() as u16);
+    let (plan, modes) = soft_servers(&[(2, 5)])?.into_parts();
     let (house, mut clients) = open_house(alloc, plan, modes, 4, 4)?;
     let Some(client) = clients.pop() else {
         bail!("a house without a client");

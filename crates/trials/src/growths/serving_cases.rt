@@ -4,11 +4,10 @@ ghost use Rattle.std.specs.Prelude.{◌<◌, ◌≡◌, length, IfOk};
 ghost use Rattle.cbs_house.specs.Rounds.{Ready};
 
 use super::telling::{begin, tell};
-use crate::setup::{fed, lists_of, plan_of};
+use crate::setup::{fed, lists_of, soft_servers};
 use anyhow::Result;
 use cbs_house::{Feed, House, OpenGate, serve, serve_round};
 use cbs_job::SumJob;
-use cbs_rules::{Mode, Modes};
 use std::alloc::Global;
 use std::thread::Threads;
 use std::time::Clock;
@@ -23,9 +22,8 @@ const JOBS: [&[&[u32]]; 3] = [&[&[1, 2, 3], &[9]], &[], &[&[10], &[20, 30, 0]]];
 fn three_fed(alloc: Global) -> Result<(House<SumJob>, Vec<Feed<SumJob>>)>
     ensures { IfOk result (λ r. Ready r.0 r.1.items) }
 {
-    let plan = plan_of(&[(2, 5), (1, 10), (1, 4)])?;
-    let modes = Modes::uniform(Mode::Soft, plan.len() as u16);
-    fed(alloc, plan, modes, 4, 4, lists_of(alloc, &JOBS)?)
+    let setup = soft_servers(&[(2, 5), (1, 10), (1, 4)])?;
+    fed(alloc, setup, 4, 4, lists_of(alloc, &JOBS)?)
 }
 
 /// How many messages stand in the ring of the feed at this index.

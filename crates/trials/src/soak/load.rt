@@ -1,9 +1,9 @@
 //! A load: servers, and the jobs of their clients.
 
-use anyhow::{Context, Result, bail, ensure};
+use anyhow::{Context, Result, bail};
 use cbs_job::{FileJob, MAX_UNITS, PeakJob, SumJob, Task};
-use cbs_rate::{Bound, MAX_SERVERS, Plan, Reservation};
-use cbs_rules::{Mode, Modes};
+use cbs_rate::{Bound, Reservation};
+use cbs_rules::{Mode, Setup};
 use std::alloc::Global;
 use std::str::SplitWhitespace;
 
@@ -13,9 +13,7 @@ pub struct Load {
     pub seed: u64,
     pub backlog: u64,
     pub ring: u64,
-    pub plan: Plan,
-    /// The mode of each server.
-    pub modes: Modes,
+    pub setup: Setup,
     /// The jobs of each server, in order.
     pub jobs: Vec<Vec<Task<FileJob>>>,
 }
@@ -44,8 +42,7 @@ fn read_first(alloc: Global, words: &mut SplitWhitespace<'_>) -> Result<Load> {
         seed,
         backlog: number(words)?,
         ring: number(words)?,
-        plan: Plan::new(Bound::new(1, 1)?),
-        modes: Modes::new(),
+        setup: Setup::new(Bound::new(1, 1)?),
         jobs: Vec::new(alloc),
     })
 }
@@ -71,9 +68,7 @@ fn read_line(alloc: Global, load: &mut Load, line: &str) -> Result<()> {
 /// Takes the reservation and the mode of one more server.
 fn read_server(load: &mut Load, words: &mut SplitWhitespace<'_>) -> Result<()> {
     let reservation = Reservation::new(number(words)?, number(words)?)?;
-    load.plan.admit(reservation)?;
-    ensure!(load.modes.len() < MAX_SERVERS, "too many servers");
-    load.modes.push(read_mode(words)?);
+    load.setup.admit(reservation, read_mode(words)?)?;
     Ok(())
 }
 

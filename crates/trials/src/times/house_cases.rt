@@ -4,13 +4,13 @@ ghost use Rattle.std.specs.Prelude.{IfOk};
 ghost use Rattle.cbs_house.specs.Rounds.{Ready};
 
 use super::count::{CountJob, counting};
-use super::setup::{BACKLOG, plan_of};
+use super::setup::{BACKLOG, equal_shares};
 use super::timing::Timing;
 use crate::setup::fed;
 use anyhow::{Context, Result, ensure};
 use cbs_house::{Client, Feed, House, OpenGate, Poll, open_house, serve};
 use cbs_job::Task;
-use cbs_rules::{Mode, Modes};
+use cbs_rules::Mode;
 use std::alloc::Global;
 use std::thread::Threads;
 use std::time::{Clock, Instant};
@@ -31,8 +31,7 @@ fn time_polls(rt: &impl Clock, house: &mut House<CountJob>, turns: u64) -> Resul
 
 /// A house, and its clients, which send nothing.
 fn idle_house(alloc: Global, servers: u16) -> Result<(House<CountJob>, Vec<Client<CountJob>>)> {
-    let plan = plan_of(servers, 1)?;
-    let modes = Modes::uniform(Mode::Soft, plan.len() as u16);
+    let (plan, modes) = equal_shares(servers, 1, Mode::Soft)?.into_parts();
     Ok(open_house(alloc, plan, modes, BACKLOG, 64)?)
 }
 
@@ -96,16 +95,9 @@ fn count_results(house: &House<CountJob>) -> Result<u64> {
 fn opened(alloc: Global, servers: u16, jobs: u64) -> Result<(House<CountJob>, Vec<Feed<CountJob>>)>
     ensures { IfOk result (λ r. Ready r.0 r.1.items) }
 {
-    let plan = plan_of(servers, 1)?;
-    let modes = Modes::uniform(Mode::Soft, plan.len() as u16);
-    fed(
-        alloc,
-        plan,
-        modes,
-        BACKLOG,
-        64,
-        job_lists(alloc, servers, jobs)?,
-    )
+    let setup = equal_shares(servers, 1, Mode::Soft)?;
+    let lists = job_lists(alloc, servers, jobs)?;
+    fed(alloc, setup, BACKLOG, 64, lists)
 }
 
 /// So many jobs of one unit for each server.

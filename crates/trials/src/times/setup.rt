@@ -3,8 +3,8 @@
 use super::count::{CountJob, counting};
 use anyhow::{Context, Result};
 use cbs_core::Core;
-use cbs_rate::{Bound, Plan, Reservation};
-use cbs_rules::{Mode, Modes};
+use cbs_rate::{Bound, Reservation};
+use cbs_rules::{Mode, Setup};
 use std::alloc::Global;
 
 /// The greatest backlog.
@@ -14,20 +14,19 @@ pub const BACKLOG: u64 = 4096;
 pub const LONG: u32 = 1_000_000;
 
 /// Equal shares of the whole: budgets of `least` to four times that, and periods of `servers` budgets.
-pub fn plan_of(servers: u16, least: u64) -> Result<Plan> {
-    let mut plan = Plan::new(Bound::new(1, 1)?);
+pub fn equal_shares(servers: u16, least: u64, mode: Mode) -> Result<Setup> {
+    let mut setup = Setup::new(Bound::new(1, 1)?);
     for server in 0..servers {
         let budget = least.saturating_mul(1 + u64::from(server % 4));
         let period = budget.saturating_mul(u64::from(servers));
-        plan.admit(Reservation::new(budget, period)?)?;
+        setup.admit(Reservation::new(budget, period)?, mode)?;
     }
-    Ok(plan)
+    Ok(setup)
 }
 
-/// A core with such a plan and nothing to do.
+/// A core of such servers, with nothing to do.
 pub fn core_of(alloc: Global, servers: u16, least: u64, mode: Mode) -> Result<Core<CountJob>> {
-    let plan = plan_of(servers, least)?;
-    let modes = Modes::uniform(mode, plan.len() as u16);
+    let (plan, modes) = equal_shares(servers, least, mode)?.into_parts();
     Ok(Core::new(alloc, plan, modes, BACKLOG)?)
 }
 
