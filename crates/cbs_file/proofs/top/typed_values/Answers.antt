@@ -8,23 +8,23 @@ returns-in_err-mode c =
     let p = err_from_is_err_and c.from_residual.result c.from_residual.ensures.1 in
     rw (p.1, p.2, ← c.in_err-mode.ensures)
 
+pub returns-in_err-items : goal.returns-in_err-items
+unfolding typed_values
+returns-in_err-items c =
+    let p = err_from_is_err_and c.from_residual-in_err-items.result c.from_residual-in_err-items.ensures.1 in
+    rw (p.1, p.2, ← c.in_ok-mode.ensures, ← c.in_err-items.ensures)
+
 pub returns-in_err-bound : goal.returns-in_err-bound
 unfolding typed_values
 returns-in_err-bound c =
     let p = err_from_is_err_and c.from_residual-in_err-bound.result c.from_residual-in_err-bound.ensures.1 in
-    rw (p.1, p.2, ← c.in_ok-mode.ensures, ← c.in_err-bound.ensures)
-
-pub returns-in_err-all_integers : goal.returns-in_err-all_integers
-unfolding typed_values
-returns-in_err-all_integers c =
-    let p = err_from_is_err_and c.from_residual-in_err-all_integers.result c.from_residual-in_err-all_integers.ensures.1 in
-    rw (p.1, p.2, ← c.in_ok-mode.ensures, ← c.in_ok-bound.ensures, ← rw c.deref.ensures.value at c.in_err-all_integers.ensures)
+    rw (p.1, p.2, ← c.in_ok-mode.ensures, ← c.in_ok-items.ensures, ← rw c.deref.ensures.value at c.in_err-bound.ensures)
 
 pub returns-in_err-backlog : goal.returns-in_err-backlog
 unfolding typed_values
 returns-in_err-backlog c =
     let p = err_from_is_err_and c.from_residual-in_err-backlog.result c.from_residual-in_err-backlog.ensures.1 in
-    rw (p.1, p.2, ← c.in_ok-mode.ensures, ← c.in_ok-bound.ensures, ← rw c.deref.ensures.value at c.in_ok-all_integers.ensures, ← c.in_err-backlog.ensures)
+    rw (p.1, p.2, ← c.in_ok-mode.ensures, ← c.in_ok-items.ensures, ← rw c.deref.ensures.value at c.in_ok-bound.ensures, ← c.in_err-backlog.ensures)
 
 pub returns-in_err-ring : goal.returns-in_err-ring
 unfolding typed_values
@@ -34,8 +34,8 @@ returns-in_err-ring c =
       p.1,
       p.2,
       ← c.in_ok-mode.ensures,
-      ← c.in_ok-bound.ensures,
-      ← rw c.deref.ensures.value at c.in_ok-all_integers.ensures,
+      ← c.in_ok-items.ensures,
+      ← rw c.deref.ensures.value at c.in_ok-bound.ensures,
       ← c.in_ok-backlog.ensures,
       ← c.in_err-ring.ensures,
     )
@@ -48,8 +48,8 @@ returns-in_err-servers c =
       p.1,
       p.2,
       ← c.in_ok-mode.ensures,
-      ← c.in_ok-bound.ensures,
-      ← rw c.deref.ensures.value at c.in_ok-all_integers.ensures,
+      ← c.in_ok-items.ensures,
+      ← rw c.deref.ensures.value at c.in_ok-bound.ensures,
       ← c.in_ok-backlog.ensures,
       ← c.in_ok-ring.ensures,
       ← c.in_err-servers.ensures,
@@ -63,8 +63,8 @@ returns-in_err-steps c =
       p.1,
       p.2,
       ← c.in_ok-mode.ensures,
-      ← c.in_ok-bound.ensures,
-      ← rw c.deref.ensures.value at c.in_ok-all_integers.ensures,
+      ← c.in_ok-items.ensures,
+      ← rw c.deref.ensures.value at c.in_ok-bound.ensures,
       ← c.in_ok-backlog.ensures,
       ← c.in_ok-ring.ensures,
       ← c.in_ok-servers.ensures,
