@@ -129,7 +129,12 @@ fn a_setup_has_a_mode_for_each_server(rt: HostRuntime) {
     let first = setup.admit(two_in_four, Mode::Throttled);
     same(&rt, "admit", first, Ok(0));
     let over = setup.admit(two_in_four, Mode::Soft);
-    same(&rt, "admit over the bound", over, Err(AdmitError::OverBound));
+    same(
+        &rt,
+        "admit over the bound",
+        over,
+        Err(AdmitError::OverBound),
+    );
     let last = setup.admit(one_in_four, Mode::Soft);
     same(&rt, "admit", last, Ok(1));
     same(&rt, "plan", setup.plan().get(1), Some(one_in_four));
@@ -137,5 +142,10 @@ fn a_setup_has_a_mode_for_each_server(rt: HostRuntime) {
     let (plan, modes) = setup.into_parts();
     same(&rt, "plan", plan.len(), 2);
     let each = (modes.get(0), modes.get(1));
-    same(&rt, "modes", each, (Some(Mode::Throttled), Some(Mode::Soft)));
+    same(
+        &rt,
+        "modes",
+        each,
+        (Some(Mode::Throttled), Some(Mode::Soft)),
+    );
 }
