@@ -1,5 +1,5 @@
 -- What opening a house puts into handles.
-use Rattle.std.specs.Prelude.{ℕ, ◌≡◌, ◌≢◌, ◌⊎◌, OnOk, OnErr, Option, Some, None, Result, Ok, Err, List, [], length, map}
+use Rattle.std.specs.Prelude.{ℕ, ◌≡◌, ◌≢◌, ◌⊎◌, OnOk, OnErr, Option, Some, None, Result, Ok, Err, List, length, map}
 use Rattle.std.specs.List.{All, range_with_len}
 use Rattle.cbs_rate.specs.Rate.{Rate}
 use Rattle.cbs_rules.specs.declared.mode.Mode.{Mode}
