@@ -3,7 +3,8 @@
  *
  * The library decides, the program does. A client sends jobs: a token, which is any number of the program's, and how
  * many units the job has. cbs_run and cbs_turn tell which unit of which job is next, and the program does it.
- * A unit takes one tick of the house's clock, however long it takes; nothing is measured, nothing is interrupted.
+ * A unit takes one tick of the house's clock; nothing is measured, nothing is interrupted. A program whose unit took
+ * longer charges its server the ticks beyond the first (cbs_charge), so that a unit takes no other server's share.
  *
  *     struct cbs_server servers[2] = {{2, 5, CBS_SOFT}, {1, 10, CBS_THROTTLED}};
  *     struct cbs_handle house = CBS_HANDLE_INIT, clients[2] = {CBS_HANDLE_INIT, CBS_HANDLE_INIT};
@@ -159,6 +160,7 @@ enum {
     CBS_HOUSE_NO_SUCH_SERVER = CBS_HOUSE | 4,
     CBS_HOUSE_CLOCK_END = CBS_HOUSE | 5,          /* the clock would pass its end, 10^12 */
     CBS_HOUSE_STALLED = CBS_HOUSE | 6,            /* no call returns it */
+    CBS_HOUSE_NOT_RUNNING = CBS_HOUSE | 7,        /* a charge of a server that did not run the last unit, or too late */
 
     CBS_TASK_EMPTY_JOB = CBS_TASK | 1,            /* 0 units */
     CBS_TASK_TOO_LONG = CBS_TASK | 2,             /* more than 1000000 units */
@@ -229,6 +231,17 @@ uint32_t cbs_run(struct cbs_handle *house, struct cbs_unit *out);
  * holds then. Refuses by CBS_HOUSE_CLOCK_END if the clock would pass 10^12. */
 uint32_t cbs_advance(struct cbs_handle *house, uint64_t ticks);
 
+/* Charges a server the ticks that its last unit took beyond the first: as many pass, and the server pays for them from
+ * its budgets. Round up: of a unit that took `took` nanoseconds these are (took - 1) / tick. Charge after the unit and
+ * before the next poll; a job that comes between may renew the server, and the new budget pays then. A charge of 0 ticks
+ * changes nothing, and several charges of one unit are one charge of their sum.
+ * Refuses, in this order, by CBS_HOUSE_NO_SUCH_SERVER; by CBS_HOUSE_NOT_RUNNING unless the server ran the last unit, and
+ * no tick has passed since but what it was charged for that; and by CBS_HOUSE_CLOCK_END if the clock would pass 10^12. */
+uint32_t cbs_charge(struct cbs_handle *house, uint16_t server, uint64_t ticks);
+
+/* Writes how many ticks a server was charged, in all, and at most for one unit. Refuses by CBS_HOUSE_NO_SUCH_SERVER. */
+uint32_t cbs_charges(struct cbs_handle *house, uint16_t server, uint64_t *total, uint64_t *most);
+
 /* Writes the clock: 0 to 10^12 ticks. */
 uint32_t cbs_now(struct cbs_handle *house, uint64_t *out);
 
@@ -240,8 +253,8 @@ uint32_t cbs_idle_span(struct cbs_handle *house, uint64_t *out);
 uint32_t cbs_view(struct cbs_handle *house, uint16_t server, struct cbs_shown *out);
 
 /* Writes the tick by which all that a server has taken is finished, whatever the others ask for: 128 bits. It is kept if
- * no advance took anybody's time, before the call or after it. An advance while somebody is ready takes time: the tick may
- * then have passed already. Both halves are UINT64_MAX if nothing is unfinished. Refuses by CBS_HOUSE_NO_SUCH_SERVER. */
+ * nothing was charged, and no advance took anybody's time, before the call or after it. An advance while somebody is ready
+ * takes time, and so does a charge: the tick may then have passed already. Both halves are UINT64_MAX if nothing is unfinished. Refuses by CBS_HOUSE_NO_SUCH_SERVER. */
 uint32_t cbs_promised(struct cbs_handle *house, uint16_t server, uint64_t *low, uint64_t *high);
 
 /* ---- Of a client: by one thread at a time, beside calls on the house and on other clients ---- */

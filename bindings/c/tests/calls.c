@@ -94,6 +94,8 @@ static void no_house(struct cbs_handle *handle, uint32_t status) {
     CHECK(cbs_run(handle, &unit) == status && unit.seq == UNTOUCHED && unit.token == UNTOUCHED);
     CHECK(cbs_turn(handle, &turn) == status && turn.took == UNTOUCHED && turn.advanced == UNTOUCHED);
     CHECK(cbs_advance(handle, 1) == status);
+    CHECK(cbs_charge(handle, 0, 1) == status);
+    CHECK(cbs_charges(handle, 0, &number, &other) == status && number == UNTOUCHED && other == UNTOUCHED);
     CHECK(cbs_now(handle, &number) == status && number == UNTOUCHED);
     CHECK(cbs_idle_span(handle, &number) == status && number == UNTOUCHED);
     CHECK(cbs_view(handle, 0, &view) == status && view.budget == UNTOUCHED && view.finished == UNTOUCHED);
@@ -109,6 +111,8 @@ static void no_server(struct cbs_handle *house, uint16_t server) {
     CHECK(cbs_poll(house, server, &kind) == CBS_HOUSE_NO_SUCH_SERVER && kind == 99);
     CHECK(cbs_view(house, server, &shown) == CBS_HOUSE_NO_SUCH_SERVER && shown.budget == UNTOUCHED && shown.finished == UNTOUCHED);
     CHECK(cbs_promised(house, server, &low, &high) == CBS_HOUSE_NO_SUCH_SERVER && low == UNTOUCHED && high == UNTOUCHED);
+    CHECK(cbs_charge(house, server, 0) == CBS_HOUSE_NO_SUCH_SERVER);
+    CHECK(cbs_charges(house, server, &low, &high) == CBS_HOUSE_NO_SUCH_SERVER && low == UNTOUCHED && high == UNTOUCHED);
 }
 
 /* Every call of a client returns this for the handle, and writes nothing. */
@@ -281,6 +285,46 @@ static void throttling(void) {
     tear_down(&setup);
 }
 
+static void charged(struct setup *setup, uint16_t server, uint64_t total, uint64_t most) {
+    uint64_t all = UNTOUCHED, one = UNTOUCHED;
+    CHECK(cbs_charges(&setup->house, server, &all, &one) == CBS_OK && all == total && one == most);
+}
+
+/* A throttled and a soft server with 1 tick in every 10 each, and a unit of each that took longer than its tick. */
+static void charging(void) {
+    struct cbs_server servers[2] = {{1, 10, CBS_THROTTLED}, {1, 10, CBS_SOFT}};
+    struct setup setup;
+    uint64_t now = 0, span = 0;
+    set_up(&setup, servers, 2, 4, 4);
+    submit(&setup, 0, 100, 2, 0);
+    submit(&setup, 1, 200, 2, 0);
+    CHECK(cbs_charge(&setup.house, 0, 1) == CBS_HOUSE_NOT_RUNNING); /* nobody ran */
+    runs(&setup, CBS_RUN_UNIT, 0, 0, 100);
+    shows(&setup, 0, 0, 10, true);
+    CHECK(cbs_charge(&setup.house, 1, 1) == CBS_HOUSE_NOT_RUNNING); /* the other ran */
+    CHECK(cbs_charge(&setup.house, 0, UINT64_MAX) == CBS_HOUSE_CLOCK_END);
+    CHECK(cbs_charge(&setup.house, 0, 0) == CBS_OK);
+    shows(&setup, 0, 0, 10, true);
+    CHECK(cbs_charge(&setup.house, 0, 1) == CBS_OK);
+    shows(&setup, 0, 0, 20, true); /* a period pays for the tick */
+    CHECK(cbs_charge(&setup.house, 0, 2) == CBS_OK);
+    shows(&setup, 0, 0, 40, true);
+    charged(&setup, 0, 3, 3);
+    runs(&setup, CBS_RUN_UNIT, 1, 0, 200); /* tick 5 */
+    shows(&setup, 1, 1, 20, false);
+    CHECK(cbs_charge(&setup.house, 0, 1) == CBS_HOUSE_NOT_RUNNING); /* too late */
+    CHECK(cbs_charge(&setup.house, 1, 3) == CBS_OK);
+    shows(&setup, 1, 1, 50, false);
+    charged(&setup, 1, 3, 3);
+    CHECK(cbs_now(&setup.house, &now) == CBS_OK && now == 8);
+    runs(&setup, CBS_RUN_DONE, 1, 0, 200);
+    CHECK(cbs_idle_span(&setup.house, &span) == CBS_OK && span == 31); /* of tick 9, until 40 */
+    CHECK(cbs_advance(&setup.house, 1) == CBS_OK);
+    CHECK(cbs_charge(&setup.house, 1, 1) == CBS_HOUSE_NOT_RUNNING); /* a tick has passed */
+    charged(&setup, 1, 3, 3);
+    tear_down(&setup);
+}
+
 static void turns(struct setup *setup, uint64_t took, uint64_t advanced, uint32_t kind, uint64_t token) {
     struct cbs_turned turn;
     CHECK(cbs_turn(&setup->house, &turn) == CBS_OK);
@@ -385,7 +429,7 @@ static void texts(void) {
     static const uint32_t statuses[] = {
         CBS_OK, CBS_RATE_ZERO_BUDGET, CBS_RATE_PERIOD_TOO_LONG, CBS_RATE_BUDGET_OVER_PERIOD, CBS_RATE_BAD_BOUND,
         CBS_ADMIT_TOO_MANY_SERVERS, CBS_ADMIT_PERIODS_TOO_FINE, CBS_ADMIT_OVER_BOUND, CBS_HOUSE_BAD_BACKLOG,
-        CBS_HOUSE_BAD_RING, CBS_HOUSE_OUT_OF_MEMORY, CBS_HOUSE_NO_SUCH_SERVER, CBS_HOUSE_CLOCK_END, CBS_HOUSE_STALLED,
+        CBS_HOUSE_BAD_RING, CBS_HOUSE_OUT_OF_MEMORY, CBS_HOUSE_NO_SUCH_SERVER, CBS_HOUSE_CLOCK_END, CBS_HOUSE_STALLED, CBS_HOUSE_NOT_RUNNING,
         CBS_TASK_EMPTY_JOB, CBS_TASK_TOO_LONG, CBS_SEND_ENDED, CBS_SEND_RING_FULL, CBS_CALL_NOT_OPEN,
         CBS_CALL_OTHER_KIND, CBS_CALL_WRONG_COUNT, CBS_CALL_BAD_MODE, CBS_CALL_HOUSE_GONE};
     char text[256];
@@ -418,6 +462,7 @@ int main(void) {
     polling();
     running();
     throttling();
+    charging();
     turning();
     clock_ends();
     greatest_budgets();

@@ -1,19 +1,22 @@
 //! A robot's loop in real time: a controller at 1 kHz beside vision and logging, all on one thread.
 //!
 //! A tick is a quarter of a millisecond of the host's clock. (With a tick of a millisecond, a controller that runs each
-//! millisecond would take every tick, and nobody else were admitted.) In each tick the loop does at most one unit, so a
-//! unit has to take less than that: the controller has one in each millisecond, a picture is looked at in bands, and the log
-//! is packed in blocks. The logger is greedy: it sends all that its ring takes. It gets its share, and what nobody else wants.
+//! millisecond would take every tick, and nobody else were admitted.) In each tick the loop does at most one unit: the
+//! controller has one in each millisecond, a picture is looked at in bands, and the log is packed in blocks. Each unit is
+//! measured, and its server charged the ticks that it took beyond its first. The logger is greedy: it sends all that its ring
+//! takes, and each sixteenth block is flushed, which takes four ticks. It gets its share in time, and what nobody else wants.
 //!
 //! Checked, with status 1 if it does not hold: each job is done once and in order, each control job by the tick of its
-//! deadline, and each other job by the tick that was promised when it was taken.
+//! deadline, and each other job by the tick that was promised when it was taken; and later by no more than the most that each
+//! other server was charged for a unit, unless the job's own server was charged since.
 //! Counted only: how often the host's own clock was past a deadline, since the host may take its processor away.
 //!
 //! `cargo run --release --example robot [SECONDS]`: 2 if no number is given.
 
-use cbs::{Client, House, Mode, Plan, Poll, Ran, SendError, Unit};
+use cbs::{Client, House, HouseError, Mode, Plan, Poll, Ran, SendError, Unit};
 use std::collections::VecDeque;
 use std::error::Error;
+use std::hint;
 use std::sync::atomic::{AtomicBool, Ordering};
 use std::sync::Arc;
 use std::thread::{self, JoinHandle};
@@ -34,6 +37,10 @@ const BANDS: u32 = 60;
 
 /// How many blocks a job of the logger has, each a unit.
 const BLOCKS: u32 = 8;
+
+/// How long a flush of the log takes, and each how many blocks there is one.
+const FLUSH: Duration = Duration::from_micros(900);
+const BLOCKS_OF_A_FLUSH: u64 = 16;
 
 /// The arm that is controlled, a mass that is pushed: where it is and how fast it goes.
 #[derive(Default)]
@@ -59,8 +66,8 @@ impl Arm {
 struct Tally {
     units: u64,
     finished: u64,
-    /// By which tick each job that is not finished was promised to be.
-    due: VecDeque<u128>,
+    /// By which tick each job that is not finished has to be, and what its server was charged before.
+    due: VecDeque<(u128, u64)>,
     late_by_ticks: u64,
     late_by_clock: u64,
     disordered: u64,
@@ -75,6 +82,7 @@ struct Robot {
     checksum: u32,
     tallies: [Tally; 3],
     released: u64,
+    next_release: u64,
     start: Instant,
 }
 
@@ -91,6 +99,7 @@ impl Robot {
             checksum: 0,
             tallies: Default::default(),
             released: 0,
+            next_release: 0,
             start: Instant::now(),
         }
     }
@@ -100,49 +109,68 @@ impl Robot {
         (self.start.elapsed().as_nanos() / TICK.as_nanos()) as u64
     }
 
-    /// One tick: the controller's job is sent if a millisecond begins, messages are taken, and one unit is done.
+    /// One tick: the controller's job is sent once a millisecond is over, messages are taken, and one unit is done.
     fn tick(&mut self) -> Result<(), Box<dyn Error>> {
         let now = self.house.now();
-        if now % CONTROL_PERIOD == 0 {
+        if now >= self.next_release {
             self.controller.send(now, 1)?;
             self.released += 1;
+            self.next_release = now + CONTROL_PERIOD;
         }
         for server in [CONTROL, VISION, LOGGER] {
             if self.house.poll(server)? == Poll::Took {
                 let promised = self.house.promised(server)?.expect("a job was taken");
-                self.tallies[usize::from(server)].due.push_back(promised);
+                let due = match server {
+                    CONTROL => u128::from(now + CONTROL_PERIOD),
+                    _ => promised,
+                };
+                let charged = self.house.charges(server)?.total;
+                self.tallies[usize::from(server)]
+                    .due
+                    .push_back((due, charged));
             }
         }
         match self.house.run() {
-            Ran::Unit(unit) => self.unit(unit),
+            Ran::Unit(unit) => self.unit(unit)?,
             Ran::Idle => self.house.advance(1)?, // nobody is ready, so it is nobody's time
             Ran::ClockEnd => return Err("the clock is at its end".into()),
         }
         Ok(())
     }
 
-    /// Does one unit.
-    fn unit(&mut self, unit: Unit) {
+    /// Does one unit, and charges what it took beyond a tick, rounded up.
+    fn unit(&mut self, unit: Unit) -> Result<(), HouseError> {
+        let began = Instant::now();
         match unit.server {
             CONTROL => self.arm.control(1.0),
             VISION => self.look(self.tallies[usize::from(VISION)].units % u64::from(BANDS)),
             _ => self.pack(unit.token),
         }
-        let now = self.house.now();
+        let beyond = began.elapsed().as_nanos().saturating_sub(1) / TICK.as_nanos();
+        self.house.charge(unit.server, beyond as u64)?;
         let tally = &mut self.tallies[usize::from(unit.server)];
         tally.units += 1;
         tally.disordered += u64::from(unit.seq != tally.finished);
-        if !unit.last {
-            return;
+        if unit.last {
+            self.finish(unit.server)?;
         }
+        Ok(())
+    }
+
+    /// Notes that the first job of a server is finished, and whether it is late.
+    fn finish(&mut self, server: u16) -> Result<(), HouseError> {
+        let now = u128::from(self.house.now());
+        let mut others = 0;
+        for other in (0..3).filter(|&other| other != server) {
+            others += u128::from(self.house.charges(other)?.most);
+        }
+        let charged = self.house.charges(server)?.total;
+        let tally = &mut self.tallies[usize::from(server)];
+        let (due, before) = tally.due.pop_front().expect("it was taken");
         tally.finished += 1;
-        let promised = tally.due.pop_front().expect("it was taken");
-        let deadline = match unit.server {
-            CONTROL => unit.token + CONTROL_PERIOD, // its token is the tick of its release
-            _ => promised as u64,
-        };
-        tally.late_by_ticks += u64::from(now > deadline);
-        tally.late_by_clock += u64::from(self.start.elapsed() > TICK * deadline as u32);
+        tally.late_by_ticks += u64::from(now > due + others && charged == before);
+        tally.late_by_clock += u64::from(self.start.elapsed() > TICK * due as u32);
+        Ok(())
     }
 
     /// How bright a band of the picture is.
@@ -155,14 +183,20 @@ impl Robot {
             .sum::<u64>();
     }
 
-    /// Packs a block of the log: a checksum over what stands there.
+    /// Packs a block of the log: a checksum over what stands there. Now and then it flushes.
     fn pack(&mut self, token: u64) {
+        let began = Instant::now();
         let line = format!(
             "{token}: arm at {:.6}, {:.6}\n",
             self.arm.place, self.arm.speed
         );
         for byte in line.repeat(16).bytes() {
             self.checksum = self.checksum.rotate_left(5) ^ u32::from(byte);
+        }
+        if self.tallies[usize::from(LOGGER)].units % BLOCKS_OF_A_FLUSH == 0 {
+            while began.elapsed() < FLUSH {
+                hint::spin_loop();
+            }
         }
     }
 
@@ -216,11 +250,13 @@ fn report(robot: &mut Robot, pictures: u64, logs: u64) -> bool {
     let mut lawful = true;
     for (server, (name, sent)) in (0..).zip(["control", "vision", "logger"].into_iter().zip(sent)) {
         let view = robot.house.view(server).expect("a server of the plan");
+        let charged = robot.house.charges(server).expect("a server of the plan");
         let tally = &robot.tallies[usize::from(server)];
         println!(
-            "{name:8} {sent:5} jobs sent, {:5} finished, {:4.1} % of the ticks; late by ticks {}, by the host's clock {}",
+            "{name:8} {sent:5} jobs sent, {:5} finished, {:4.1} % of the ticks, {} of them charged; late by ticks {}, by the host's clock {}",
             tally.finished,
-            100.0 * tally.units as f64 / now as f64,
+            100.0 * (tally.units + charged.total) as f64 / now as f64,
+            charged.total,
             tally.late_by_ticks,
             tally.late_by_clock
         );

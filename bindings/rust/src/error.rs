@@ -87,6 +87,8 @@ errors! {
         NoSuchServer = 0x304,
         /// The clock would pass its end, 10^12 ticks.
         ClockEnd = 0x305,
+        /// The server did not run the last unit, or a tick has passed since that it was not charged.
+        NotRunning = 0x307,
     }
 }
 

@@ -96,6 +96,8 @@ extern "C" {
     fn cbs_poll(house: *mut Handle, server: u16, kind: *mut u32) -> u32;
     fn cbs_run(house: *mut Handle, out: *mut Unit) -> u32;
     fn cbs_advance(house: *mut Handle, ticks: u64) -> u32;
+    fn cbs_charge(house: *mut Handle, server: u16, ticks: u64) -> u32;
+    fn cbs_charges(house: *mut Handle, server: u16, total: *mut u64, most: *mut u64) -> u32;
     fn cbs_now(house: *mut Handle, out: *mut u64) -> u32;
     fn cbs_idle_span(house: *mut Handle, out: *mut u64) -> u32;
     fn cbs_view(house: *mut Handle, server: u16, out: *mut View) -> u32;
@@ -191,6 +193,16 @@ pub(crate) fn run(house: &mut Handle) -> Result<Unit, Status> {
 
 pub(crate) fn advance(house: &mut Handle, ticks: u64) -> Result<(), Status> {
     answered(unsafe { cbs_advance(house, ticks) }, ())
+}
+
+pub(crate) fn charge(house: &mut Handle, server: u16, ticks: u64) -> Result<(), Status> {
+    answered(unsafe { cbs_charge(house, server, ticks) }, ())
+}
+
+pub(crate) fn charges(house: &mut Handle, server: u16) -> Result<(u64, u64), Status> {
+    let (mut total, mut most) = (0, 0);
+    let status = unsafe { cbs_charges(house, server, &mut total, &mut most) };
+    answered(status, (total, most))
 }
 
 pub(crate) fn now(house: &mut Handle) -> Result<u64, Status> {

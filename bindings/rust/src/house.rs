@@ -31,7 +31,7 @@ pub enum Ran {
     Idle,
     /// Nothing: the clock stands at its end, 10^12 ticks, with a job unfinished.
     ClockEnd,
-    /// This unit. It took one tick.
+    /// This unit. It took one tick; what it takes beyond that is for the program to [charge](House::charge).
     Unit(Unit),
 }
 
@@ -78,6 +78,15 @@ pub struct View {
     pub throttled: bool,
     /// Whether its client's end was taken.
     pub closed: bool,
+}
+
+/// What a server was charged for units that took longer than a tick, in ticks.
+#[derive(Clone, Copy, Debug, PartialEq, Eq)]
+pub struct Charges {
+    /// In all.
+    pub total: u64,
+    /// At most for one unit.
+    pub most: u64,
 }
 
 fn certain<T>(answer: Result<T, Status>) -> T {
@@ -169,6 +178,45 @@ impl House {
         ffi::advance(&mut self.handle, ticks).map_err(HouseError::of)
     }
 
+    /// Charges a server the ticks that its last unit took beyond the first: as many pass, and the server pays for them from
+    /// its budgets. So a unit that takes long takes no other server's share. A charge of 0 ticks changes nothing.
+    ///
+    /// Round up: of a unit that took `took` nanoseconds these are `(took - 1) / tick`. Charge after the unit and before the
+    /// next poll. A job that comes between may renew the server, and the new budget pays then.
+    ///
+    /// # Errors
+    ///
+    /// [`HouseError::NoSuchServer`]; [`HouseError::NotRunning`], unless the server ran the last unit, and no tick has passed
+    /// since but what it was charged for that; [`HouseError::ClockEnd`] if the clock would pass its end. Nothing changed then.
+    ///
+    /// ```
+    /// use cbs::{Mode, Plan, Ran};
+    ///
+    /// let mut plan = Plan::new();
+    /// plan.admit(1, 10, Mode::Throttled)?;
+    /// let (mut house, mut clients) = plan.open(4, 4)?;
+    /// clients[0].send(7, 2)?;
+    /// if let Ran::Unit(unit) = house.turn().ran {
+    ///     house.charge(unit.server, 3)?; // it took four ticks
+    /// }
+    /// assert_eq!(house.now(), 4);
+    /// assert_eq!(house.view(0)?.deadline, 40); // three periods pay for the three ticks
+    /// # Ok::<(), Box<dyn std::error::Error>>(())
+    /// ```
+    pub fn charge(&mut self, server: u16, ticks: u64) -> Result<(), HouseError> {
+        ffi::charge(&mut self.handle, server, ticks).map_err(HouseError::of)
+    }
+
+    /// Returns what a server was charged.
+    ///
+    /// # Errors
+    ///
+    /// [`HouseError::NoSuchServer`].
+    pub fn charges(&mut self, server: u16) -> Result<Charges, HouseError> {
+        let (total, most) = ffi::charges(&mut self.handle, server).map_err(HouseError::of)?;
+        Ok(Charges { total, most })
+    }
+
     /// Returns the clock, in ticks.
     pub fn now(&mut self) -> u64 {
         certain(ffi::now(&mut self.handle))
@@ -198,7 +246,7 @@ impl House {
     }
 
     /// Returns the tick by which all that a server has taken is finished, whatever the others ask for, as long as no advance
-    /// takes anybody's time; `None` if nothing is unfinished.
+    /// takes anybody's time and nothing is charged; `None` if nothing is unfinished.
     ///
     /// # Errors
     ///

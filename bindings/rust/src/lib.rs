@@ -3,7 +3,8 @@
 //!
 //! The library decides, the program does. A [`Client`] sends jobs: a token, which is any number of the program's, and how many
 //! units the job has. [`House::turn`] and [`House::run`] return which unit of which job is next, and the program does it. A
-//! unit takes one tick of the house's clock, however long it takes; nothing is measured, and nothing is interrupted.
+//! unit takes one tick of the house's clock; nothing is measured, and nothing is interrupted. A program whose unit took longer
+//! charges its server the ticks beyond the first ([`House::charge`]), so that it takes nobody's share.
 //!
 //! ```
 //! use cbs::{Mode, Plan, Ran};
@@ -57,5 +58,5 @@ mod plan;
 
 pub use client::Client;
 pub use error::{HouseError, OpenError, PlanError, SendError};
-pub use house::{House, Poll, Ran, Turn, Unit, View};
+pub use house::{Charges, House, Poll, Ran, Turn, Unit, View};
 pub use plan::{Mode, Plan};

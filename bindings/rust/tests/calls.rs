@@ -1,7 +1,8 @@
 //! Every call of the crate, with everything that it can return but out of memory (`bindings/c/tests/memory.c` has that).
 
 use cbs::{
-    Client, House, HouseError, Mode, OpenError, Plan, PlanError, Poll, Ran, SendError, Unit,
+    Charges, Client, House, HouseError, Mode, OpenError, Plan, PlanError, Poll, Ran, SendError,
+    Unit,
 };
 use std::error::Error;
 
@@ -109,6 +110,44 @@ fn a_throttled_server_waits_for_its_deadline() {
     assert_eq!(house.advance(9), Ok(()));
     assert_eq!(house.run(), unit(0, 0, 7, true));
     assert_eq!(house.now(), 11);
+}
+
+// A unit that took four ticks. The throttled server has used its budget up at tick 1, and a period pays for each tick.
+#[test]
+fn a_throttled_server_pays_for_a_long_unit() {
+    let (mut house, mut clients) = open(&[(1, 10, Mode::Throttled), (1, 10, Mode::Soft)]);
+    clients[0].send(7, 2).unwrap();
+    assert_eq!(house.charge(0, 1), Err(HouseError::NotRunning));
+    assert_eq!(house.turn().ran, unit(0, 0, 7, false));
+    assert_eq!(house.charge(2, 1), Err(HouseError::NoSuchServer));
+    assert_eq!(house.charge(1, 1), Err(HouseError::NotRunning));
+    assert_eq!(house.charge(0, u64::MAX), Err(HouseError::ClockEnd));
+    assert_eq!(house.charge(0, 0), Ok(()));
+    assert_eq!(house.now(), 1);
+    assert_eq!(house.charge(0, 3), Ok(()));
+    assert_eq!(house.charge(0, 1), Ok(()));
+    assert_eq!(house.now(), 5);
+    let view = house.view(0).unwrap();
+    assert_eq!((view.budget, view.deadline, view.throttled), (0, 50, true));
+    assert_eq!(house.charges(0), Ok(Charges { total: 4, most: 4 }));
+    assert_eq!(house.charges(1), Ok(Charges { total: 0, most: 0 }));
+    assert_eq!(house.charges(2), Err(HouseError::NoSuchServer));
+    assert_eq!(house.advance(1), Ok(()));
+    assert_eq!(house.charge(0, 1), Err(HouseError::NotRunning));
+    assert_eq!(house.idle_span(), Some(44));
+}
+
+// The soft server has a new budget for tick 20 at tick 1, and three more when it was charged.
+#[test]
+fn a_soft_server_pays_by_later_deadlines() {
+    let (mut house, mut clients) = open(&[(1, 10, Mode::Soft)]);
+    clients[0].send(7, 2).unwrap();
+    assert_eq!(house.turn().ran, unit(0, 0, 7, false));
+    assert_eq!(house.charge(0, 3), Ok(()));
+    let view = house.view(0).unwrap();
+    assert_eq!((view.budget, view.deadline, view.throttled), (1, 50, false));
+    assert_eq!(house.turn().ran, unit(0, 0, 7, true));
+    assert_eq!(house.now(), 5);
 }
 
 #[test]

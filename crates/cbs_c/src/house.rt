@@ -1,6 +1,6 @@
 //! The calls on a house.
 
-ghost use Rattle.cbs_embed.specs.Calls.{OnHeld, InHouse, Runs, Turns, Polls, Advances, TellsClock, Spans, Shows, Promises};
+ghost use Rattle.cbs_embed.specs.Calls.{OnHeld, InHouse, Runs, Turns, Polls, Advances, ChargesServer, ShowsCharges, TellsClock, Spans, Shows, Promises};
 ghost use Rattle.cbs_embed.specs.Handles.{held_by};
 ghost use Rattle.cbs_c.specs.Events.{tick_event, turn_event, poll_kind, span_shown, view_shown, promise_low, promise_high};
 ghost use Rattle.cbs_c.specs.Statuses.{Answers, Tells};
@@ -57,6 +57,35 @@ pub extern "C" fn cbs_advance(house: &mut Handle, ticks: u64) -> u32
     ensures { Answers (OnHeld (InHouse (Advances ticks))) (held_by house.old) result (held_by house.new) }
 {
     status_of(calls::advance(house, ticks))
+}
+
+/// Charges a server the ticks that its last unit took beyond the first.
+#[unsafe(no_mangle)]
+pub extern "C" fn cbs_charge(house: &mut Handle, server: u16, ticks: u64) -> u32
+    ensures { Answers (OnHeld (InHouse (ChargesServer server ticks))) (held_by house.old) result (held_by house.new) }
+{
+    status_of(calls::charge(house, server, ticks))
+}
+
+/// Tells how many ticks a server was charged, in all and at most for one unit. Refuses the number of no server.
+#[unsafe(no_mangle)]
+pub extern "C" fn cbs_charges(
+    house: &mut Handle,
+    server: u16,
+    total: &mut u64,
+    most: &mut u64,
+) -> u32
+    ensures total { Tells (OnHeld (InHouse (ShowsCharges server))) (λ charges. charges.total) (held_by house.old) total.old result (held_by house.new) total.new }
+    ensures most { Tells (OnHeld (InHouse (ShowsCharges server))) (λ charges. charges.most) (held_by house.old) most.old result (held_by house.new) most.new }
+{
+    match calls::charges(house, server) {
+        Ok(charges) => {
+            *total = charges.total;
+            *most = charges.most;
+            0
+        }
+        Err(refusal) => refusal.status(),
+    }
 }
 
 /// Tells the clock.

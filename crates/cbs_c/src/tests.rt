@@ -8,7 +8,8 @@ mod widest;
 use crate::client::{cbs_end, cbs_send, cbs_waiting};
 use crate::handles::{cbs_admit, cbs_free, cbs_greatest_budget, cbs_open};
 use crate::house::{
-    cbs_advance, cbs_idle_span, cbs_now, cbs_poll, cbs_promised, cbs_run, cbs_turn, cbs_view,
+    cbs_advance, cbs_charge, cbs_charges, cbs_idle_span, cbs_now, cbs_poll, cbs_promised, cbs_run,
+    cbs_turn, cbs_view,
 };
 use crate::{Event, TurnEvent, View};
 use cbs_embed::{Handle, Server};
@@ -183,6 +184,43 @@ fn serves_two_clients(rt: HostRuntime) {
     is(&rt, cbs_advance(&mut house, 1), 0);
     stands_at(&rt, &mut house, 12);
     runs(&rt, &mut house, event(0, 0, 0, 0));
+    cbs_free(alloc, &mut house);
+    cbs_free(alloc, &mut soft);
+    cbs_free(alloc, &mut throttled);
+}
+
+/// A server was charged so much.
+fn is_charged(rt: &impl Abort, house: &mut Handle, server: u16, total: u64, most: u64) {
+    let (mut all, mut one) = (0, 0);
+    is(rt, cbs_charges(house, server, &mut all, &mut one), 0);
+    same(rt, "charges", (all, one), (total, most));
+}
+
+#[test]
+fn charges_a_long_unit(rt: HostRuntime) {
+    let alloc = rt.alloc();
+    let (mut house, mut soft, mut throttled) = opened(&rt, alloc, 4);
+    sends(&rt, &mut throttled, 9, 2, 0);
+    is(&rt, cbs_charge(&mut house, 1, 1), 0x307);
+    turns(&rt, &mut house, 1, 0, event(2, 1, 0, 9));
+    is(&rt, cbs_charge(&mut house, 2, 1), 0x304);
+    is(&rt, cbs_charge(&mut house, 0, 1), 0x307);
+    is(&rt, cbs_charge(&mut house, 1, u64::MAX), 0x305);
+    is(&rt, cbs_charge(&mut house, 1, 2), 0);
+    is(&rt, cbs_charge(&mut house, 1, 1), 0);
+    stands_at(&rt, &mut house, 4);
+    // It was throttled at tick 1 until 10, and a period of 10 pays for each of the three ticks.
+    rests_for(&rt, &mut house, 36);
+    is_charged(&rt, &mut house, 1, 3, 3);
+    is_charged(&rt, &mut house, 0, 0, 0);
+    let (mut total, mut most) = (8, 9);
+    is(
+        &rt,
+        cbs_charges(&mut house, 2, &mut total, &mut most),
+        0x304,
+    );
+    is(&rt, cbs_charge(&mut soft, 0, 1), OTHER_KIND);
+    same(&rt, "charges", (total, most), (8, 9));
     cbs_free(alloc, &mut house);
     cbs_free(alloc, &mut soft);
     cbs_free(alloc, &mut throttled);

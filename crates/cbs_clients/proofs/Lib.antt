@@ -7,6 +7,7 @@ pub mod HouseInvariant
 pub mod Beside
 pub mod ClosedServers
 pub mod MadeSteps
+pub mod Charged
 pub mod Moves
 pub mod PolledServers
 pub mod Turns

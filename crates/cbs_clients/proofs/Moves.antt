@@ -9,7 +9,7 @@ use Rattle.cbs_steps.specs.History.{History}
 use Rattle.cbs_steps.specs.OnTime.{KeepsTime}
 use Rattle.cbs_steps.specs.Quiet.{IsQuietAfter}
 use Rattle.cbs_steps.specs.declared.step.Step.{Step}
-use Rattle.cbs_steps.specs.declared.step.Step.TheVariants.{Submit, Run, Advance, Close}
+use Rattle.cbs_steps.specs.declared.step.Step.TheVariants.{Submit, Run, Advance, Close, Charge}
 use Rattle.cbs_clients.specs.declared.house.House.{House}
 use Rattle.cbs_clients.specs.declared.poll.Poll.{Poll}
 use Rattle.cbs_clients.specs.declared.poll.Poll.TheVariants.{Nothing, Took, Closed, Full, OutOfMemory, NoSuchServer}
@@ -26,6 +26,7 @@ none_taken s [] e = refl
 none_taken s (Submit t job ∷ xs) e = absurd (omega (arith, e))
 none_taken s (Run ∷ xs) e = none_taken s xs (omega (arith, e))
 none_taken s (Advance n ∷ xs) e = none_taken s xs (omega (arith, e))
+none_taken s (Charge t n ∷ xs) e = none_taken s xs (omega (arith, e))
 none_taken s (Close t ∷ xs) e = absurd (omega (arith, e))
 
 -- where each step of a kind stands, it takes nobody's time
@@ -99,6 +100,7 @@ module _ {W : Type 0} (work : Meaning W) where
   drain_serves N Run p = tt
   drain_serves N (Advance n) p = p
   drain_serves N (Close t) p = tt
+  drain_serves N (Charge t n) p = absurd p
 
   -- an advance of serving, and so of a drain, takes nobody's time
   pub serve_quiet : TakesNoTime work (MayServe work)
@@ -106,6 +108,7 @@ module _ {W : Type 0} (work : Meaning W) where
   serve_quiet N Run p = tt
   serve_quiet N (Advance n) p = λ early. p.span.quiet
   serve_quiet N (Close t) p = tt
+  serve_quiet N (Charge t n) p = absurd p
 
   pub drain_quiet : TakesNoTime work (MayDrain work)
   drain_quiet N x p = serve_quiet N x (drain_serves N x p)

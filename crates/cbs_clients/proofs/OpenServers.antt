@@ -90,7 +90,7 @@ same_open fs gs e same =
 module _ {W : Type 0} (work : Meaning W) where
   -- a closed server stays closed
   closed_on : (M : History W) (xs : List (Step W)) (s : ℕ) → (account_in work M s).closed ≡ true → (account_in work (M ⊕⊕ xs) s).closed ≡ true
-  closed_on M xs s h = holds_on work (λ now a. a.closed ≡ true) (λ now a ready k. k) (λ now a k. k) (λ now a k. refl) (λ now j a k. k) M xs s h
+  closed_on M xs s h = holds_on work (λ now a. a.closed ≡ true) (λ now a ready k. k) (λ now a k. k) (λ now a k. refl) (λ now a k. k) (λ now j a k. k) (λ now n a some runs k. k) M xs s h
 
   closed_shows : (core : CoreHeld W) (M : History W) (s : ℕ) → Agrees work core M → (face_at core.faces s).closed ≡ (account_in work M s).closed
   closed_shows core M s agrees = ap (λ fs. (face_at fs s).closed) agrees.world.shown

@@ -5,7 +5,7 @@ use Rattle.std.specs.List.{list_any}
 use Rattle.cbs_job.specs.Work.{Meaning}
 use Rattle.cbs_job.specs.declared.work.Work.{Ghosts}
 use Rattle.cbs_steps.specs.declared.step.Step.{Step}
-use Rattle.cbs_steps.specs.declared.step.Step.TheVariants.{Submit, Run, Advance, Close}
+use Rattle.cbs_steps.specs.declared.step.Step.TheVariants.{Submit, Run, Advance, Close, Charge}
 use Rattle.cbs_clients.specs.declared.house.House.{House}
 use Rattle.cbs_clients.specs.declared.poll.Poll.{Poll}
 use Rattle.cbs_clients.specs.declared.poll.Poll.TheVariants.{Nothing, Took, Closed, Full, OutOfMemory, NoSuchServer}
@@ -36,6 +36,7 @@ module _ {W : Type 0} where
   polls_wider first n (Close s ∷ xs) p = (p.0, omega (arith, p.1), polls_wider (s + 1) n xs p.2)
   polls_wider first n (Run ∷ xs) p = absurd p
   polls_wider first n (Advance m ∷ xs) p = absurd p
+  polls_wider first n (Charge t m ∷ xs) p = absurd p
 
   -- a message of the next server behind those of the servers before it
   polls_more : (first n : ℕ) (xs : List (Step W)) (x : Step W) → first ≤ n → ((m : ℕ) → m ≤ n → ArePolls m (n + 1) (x ∷ [])) → ArePolls first n xs
@@ -45,6 +46,7 @@ module _ {W : Type 0} where
   polls_more first n (Close s ∷ xs) x l one p = (p.0, omega (arith, p.1), polls_more (s + 1) n xs x (omega (arith, p.1)) one p.2)
   polls_more first n (Run ∷ xs) x l one p = absurd p
   polls_more first n (Advance m ∷ xs) x l one p = absurd p
+  polls_more first n (Charge t m ∷ xs) x l one p = absurd p
 
   -- polls take at most one message of each server
   polls_few : (first n : ℕ) (xs : List (Step W)) → first ≤ n → ArePolls first n xs → first + pops xs ≤ n
@@ -53,6 +55,7 @@ module _ {W : Type 0} where
   polls_few first n (Close s ∷ xs) l p = let h = polls_few (s + 1) n xs (omega (arith, p.1)) p.2 in omega (arith, h, p.0)
   polls_few first n (Run ∷ xs) l p = absurd p
   polls_few first n (Advance m ∷ xs) l p = absurd p
+  polls_few first n (Charge t m ∷ xs) l p = absurd p
 
 module _ {W A : Type 0} {g : Ghosts W} (work : Meaning W) where
   pub polled_none : (a : House W A g) → PollsEach work 0 a a 0 false

@@ -10,7 +10,7 @@ use Rattle.cbs_job.specs.Work.{Meaning}
 use Rattle.cbs_job.specs.declared.completion.Completion.{Completion}
 use Rattle.cbs_job.specs.declared.work.Work.{Ghosts}
 use Rattle.cbs_clients.specs.declared.error.HouseError.{HouseError}
-use Rattle.cbs_clients.specs.declared.error.HouseError.TheVariants.{BadBacklog, BadRing, OutOfMemory, NoSuchServer, ClockEnd, Stalled}
+use Rattle.cbs_clients.specs.declared.error.HouseError.TheVariants.{BadBacklog, BadRing, OutOfMemory, NoSuchServer, ClockEnd, Stalled, NotRunning}
 use Rattle.cbs_clients.specs.declared.house.House.{House}
 use Rattle.cbs_clients.specs.Houses.{ServesOn, core_of, received}
 use Rattle.cbs_clients.specs.declared.turn.Turn.{Turn}
@@ -47,6 +47,7 @@ module _ {W A : Type 0} {g : Ghosts W} (work : Meaning W) where
   stops_behind a b c BadBacklog h k = k
   stops_behind a b c BadRing h k = k
   stops_behind a b c NoSuchServer h k = k
+  stops_behind a b c NotRunning h k = k
 
   pub result_behind : {T : Type 0} (a b c : House W A g) (r : Result T HouseError) → ServesOn work a b → IfErr r (λ error. RunStops work error b c)
       → IfErr r (λ error. RunStops work error a c)
@@ -88,6 +89,7 @@ module _ {W A : Type 0} {g : Ghosts W} (work : Meaning W) (most m : ℕ) (a b c 
   run_stopped (Err Stalled) is why = absurd (other Stalled (λ e. cc) (λ e. cc) why)
   run_stopped (Err BadBacklog) is why = absurd (other BadBacklog (λ e. cc) (λ e. cc) why)
   run_stopped (Err BadRing) is why = absurd (other BadRing (λ e. cc) (λ e. cc) why)
+  run_stopped (Err NotRunning) is why = absurd (other NotRunning (λ e. cc) (λ e. cc) why)
   run_stopped (Err NoSuchServer) is why = absurd (other NoSuchServer (λ e. cc) (λ e. cc) why)
 
 -- one of two tests

@@ -20,7 +20,7 @@ use Rattle.cbs_steps.specs.declared.reply.Ran.{Ran}
 use Rattle.cbs_steps.specs.declared.reply.Ran.TheVariants as ran
 use Rattle.cbs_steps.specs.declared.reply.Reply.TheVariants as reply
 use Rattle.cbs_steps.specs.declared.step.Step.{Step}
-use Rattle.cbs_steps.specs.declared.step.Step.TheVariants.{Submit, Run, Advance, Close}
+use Rattle.cbs_steps.specs.declared.step.Step.TheVariants.{Submit, Run, Advance, Close, Charge}
 use Rattle.cbs_steps.proofs.Histories.{account_face}
 use Rattle.cbs_core.proofs.Laws.{run_later, advance_later, later_by}
 use Rattle.cbs_rules.specs.Rules.{clock_end}
@@ -126,6 +126,7 @@ module _ {W : Type 0} (work : Meaning W) where
       ∙ closing_now (world_after work M) s (close_refusal (faces work (world_after work M)) s)
   polls_now M first n (Run ∷ xs) p = absurd p
   polls_now M first n (Advance m ∷ xs) p = absurd p
+  polls_now M first n (Charge t m ∷ xs) p = absurd p
 
 module _ {W A : Type 0} {g : Ghosts W} (work : Meaning W) where
   polled_clock : (a b : House W A g) (n k : ℕ) (m : Bool) → Housed work a.core a.rings a.collector → PollsEach work n a b k m

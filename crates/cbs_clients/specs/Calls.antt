@@ -1,12 +1,12 @@
 -- What each call of a house and of a client does, as one relation between before, answer and after.
-use Rattle.std.specs.Prelude.{◌≡◌, ◌↔◌, ◌⊎◌, ℕ, ◌+◌, ◌*◌, ◌<◌, ◌≤◌, true, false, List, [], ◌∷◌, ◌++◌, length, slice_get, Option, IfSome, Result}
+use Rattle.std.specs.Prelude.{◌≡◌, ◌↔◌, ◌⊎◌, ℕ, ◌+◌, ◌*◌, ◌<◌, ◌≤◌, true, false, List, [], ◌∷◌, ◌++◌, length, slice_get, Option, IfSome, Result, Err}
 use Rattle.std.specs.Prelude.{IfOk, IfErr, OnOk, OnErr, IsOk, MatchOption, MatchResult}
 use Rattle.cbs_rate.specs.Limits.{longest_period}
 use Rattle.cbs_job.specs.Work.{Meaning}
 use Rattle.cbs_job.specs.declared.work.Work.{Ghosts}
 use Rattle.cbs_rules.specs.Rules.{clock_end}
-use Rattle.cbs_steps.specs.Faces.{face_at, view_reply}
-use Rattle.cbs_steps.specs.History.{Setup, History, faces, world_after, reply_in}
+use Rattle.cbs_steps.specs.Faces.{face_at, view_reply, charges_reply}
+use Rattle.cbs_steps.specs.History.{Setup, History, faces, world_after, reply_in, charge_refusal}
 use Rattle.cbs_steps.specs.Laws.{account_in, IsWithinBudget}
 use Rattle.cbs_steps.specs.OnTime.{IsWorldOnTime}
 use Rattle.cbs_steps.specs.Promises.{promised, AllFinishedBy}
@@ -16,10 +16,13 @@ use Rattle.cbs_steps.specs.declared.reply.Ran.{Ran}
 use Rattle.cbs_steps.specs.declared.reply.Reply.TheVariants as reply
 use Rattle.cbs_steps.specs.declared.step.Step.{Step}
 use Rattle.cbs_steps.specs.declared.step.Step.TheVariants as step
+use Rattle.cbs_steps.specs.declared.charges.Charges.{Charges}
 use Rattle.cbs_steps.specs.declared.view.ServerView.{ServerView}
 use Rattle.cbs_core.specs.Agreement.{Agrees}
+use Rattle.cbs_core.specs.Held.{running}
+use Rattle.cbs_clients.specs.Errors.{charge_answer}
 use Rattle.cbs_clients.specs.Clients.{sent_by, free, most_jobs, SameClient}
-use Rattle.cbs_clients.specs.Houses.{core_of, rings_of, seat_at, new_seat, IsHouseOnTime, KeepsResults, view_answer, Made, SameHouse, Polled}
+use Rattle.cbs_clients.specs.Houses.{core_of, rings_of, seat_at, new_seat, IsHouseOnTime, KeepsResults, told_answer, Made, SameHouse, Polled}
 use Rattle.cbs_clients.specs.Houses.{ServesOn, Collects, NamesJob}
 use Rattle.cbs_clients.specs.Messages.{jobs_among, has_end}
 use Rattle.cbs_clients.specs.Turns.{IsNumbered, TakesOwnTurn}
@@ -69,6 +72,20 @@ module _ {W A : Type 0} {g : Ghosts W} where
     pub end : (M : History W) → Agrees work (core_of old) M
         → MatchResult answer (λ _. (world_after work M).now + n ≤ clock_end) (λ _. clock_end < (world_after work M).now + n)
 
+  -- a charge of a server: it makes that one step; or it is refused as the core refuses it, and nothing changed
+  pub record ChargeOf (work : Meaning W) (server ticks : ℕ) (old : House W A g) (answer : Result (Unit {0}) HouseError) (new : House W A g) : Type 0 where
+    pub made : OnOk answer (Made work old new (step.Charge server ticks ∷ []))
+    pub rings : rings_of new ≡ rings_of old
+    pub results : KeepsResults old new
+    pub same : OnErr answer (SameHouse old new)
+    pub refusal : (M : History W) → Agrees work (core_of old) M
+        → answer ≡ charge_answer (charge_refusal (world_after work M) server ticks)
+
+  -- a charge of the server that runs; or none runs, and nothing changed
+  abbrev pub ChargesLast : Meaning W → ℕ → House W A g → Result (Unit {0}) HouseError → House W A g → Type 0
+  ChargesLast work ticks old answer new =
+      MatchOption (running (core_of old)) ((answer ≡ Err house_error.NotRunning) × SameHouse old new) (λ server. ChargeOf work server ticks old answer new)
+
   -- a turn of a house by itself, which told this
   pub record TurnOf (work : Meaning W) (old : House W A g) (told : Turn) (new : House W A g) : Type 0 where
     pub turn : TakesOwnTurn work old new told
@@ -93,11 +110,16 @@ module _ {W A : Type 0} {g : Ghosts W} where
 
   -- What server s shows is told, or that there is none. If all is on time, a ready server's deadline is still to come.
   pub record ViewOf (work : Meaning W) (s : ℕ) (h : House W A g) (answer : Result ServerView HouseError) : Type 0 where
-    pub view : (M : History W) → Agrees work (core_of h) M → answer ≡ view_answer (view_reply (slice_get (faces work (world_after work M)) s))
+    pub view : (M : History W) → Agrees work (core_of h) M → answer ≡ told_answer (view_reply (slice_get (faces work (world_after work M)) s))
     pub early : (M : History W) → Agrees work (core_of h) M → IfOk answer (λ v. let now = (world_after work M).now in v.deadline ≤ now + (now + 1) * longest_period)
     pub budget : (M : History W) → Agrees work (core_of h) M → OnOk answer (IsWithinBudget (face_at (faces work (world_after work M)) s))
     pub in_time : (M : History W) → Agrees work (core_of h) M → IsWorldOnTime work (world_after work M)
         → IfOk answer (λ v. v.finished < v.accepted → v.throttled ≡ false → (world_after work M).now < v.deadline)
+
+  -- what server s was charged is told, or that there is none
+  abbrev pub ChargesOf : Meaning W → ℕ → House W A g → Result Charges HouseError → Type 0
+  ChargesOf work s h answer = (M : History W) → Agrees work (core_of h) M
+      → answer ≡ told_answer (charges_reply (slice_get (faces work (world_after work M)) s))
 
   -- The tick is told by which all that server s accepted is finished, if something is owed. It is kept, whatever is asked for later, if
   -- the house is on time and no step to come takes anybody's time.

@@ -1,5 +1,7 @@
 -- The numbers and names of the errors of a house and of a client.
-use Rattle.std.specs.Prelude.{ℕ, List, codes}
+use Rattle.std.specs.Prelude.{ℕ, List, codes, Option, None, Some, Result, Ok, Err}
+use Rattle.cbs_steps.specs.declared.error.CoreError.{CoreError}
+use Rattle.cbs_steps.specs.declared.error.CoreError.TheVariants as core
 use Rattle.cbs_clients.specs.declared.error.HouseError.{HouseError}
 use Rattle.cbs_clients.specs.declared.error.HouseError.TheVariants as house
 use Rattle.cbs_clients.specs.declared.error.SendError.{SendError}
@@ -13,6 +15,7 @@ house_error_number house.OutOfMemory = 3
 house_error_number house.NoSuchServer = 4
 house_error_number house.ClockEnd = 5
 house_error_number house.Stalled = 6
+house_error_number house.NotRunning = 7
 
 -- its name, as text
 abbrev pub house_error_name : HouseError → List ℕ
@@ -22,6 +25,18 @@ house_error_name house.OutOfMemory = codes "OutOfMemory"
 house_error_name house.NoSuchServer = codes "NoSuchServer"
 house_error_name house.ClockEnd = codes "ClockEnd"
 house_error_name house.Stalled = codes "Stalled"
+house_error_name house.NotRunning = codes "NotRunning"
+
+-- why a charge is refused, by why the core refuses it, which is by one of three
+abbrev pub charge_error : CoreError → HouseError
+charge_error core.NoSuchServer = house.NoSuchServer
+charge_error core.NotRunning = house.NotRunning
+charge_error _ = house.ClockEnd
+
+-- what a charge is answered, by why the core refuses it
+abbrev pub charge_answer : Option CoreError → Result (Unit {0}) HouseError
+charge_answer None = Ok tt
+charge_answer (Some e) = Err (charge_error e)
 
 -- the number of each error of a client
 abbrev pub send_error_number : SendError → ℕ

@@ -124,10 +124,10 @@ module _ {W A : Type 0} {g : Ghosts W} where
     pub seat : seat_at new s ≡ record (seat_at old s) { results = []; handed = result_count old s }
     pub others : (t : ℕ) → t ≢ s → seat_at new t ≡ seat_at old t
 
--- what a view is answered, by what the core answers
-abbrev pub view_answer : Result ServerView CoreError → Result ServerView HouseError
-view_answer (Ok view) = Ok view
-view_answer (Err e) = Err house_error.NoSuchServer
+-- what is told of a server, by what the core tells: it refuses only where there is no such server
+abbrev pub told_answer : {T : Type 0} → Result T CoreError → Result T HouseError
+told_answer (Ok told) = Ok told
+told_answer (Err e) = Err house_error.NoSuchServer
 
 module _ {W A : Type 0} {g : Ghosts W} where
   -- every job received is finished: the results of each server are what those jobs come to, in order, after the results that

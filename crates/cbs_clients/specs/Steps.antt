@@ -4,7 +4,7 @@ use Rattle.cbs_job.specs.Work.{Meaning}
 use Rattle.cbs_steps.specs.Continuations.{IsNeeded}
 use Rattle.cbs_steps.specs.History.{History, world_after}
 use Rattle.cbs_steps.specs.declared.step.Step.{Step}
-use Rattle.cbs_steps.specs.declared.step.Step.TheVariants.{Submit, Run, Advance, Close}
+use Rattle.cbs_steps.specs.declared.step.Step.TheVariants.{Submit, Run, Advance, Close, Charge}
 use Rattle.cbs_clients.specs.declared.message.Message.{Message}
 use Rattle.cbs_clients.specs.declared.message.Message.TheVariants.{Job, End}
 
@@ -15,6 +15,7 @@ module _ {W : Type 0} where
   message_of s Run = []
   message_of s (Advance n) = []
   message_of s (Close t) = if eqb t s then End ∷ [] else []
+  message_of s (Charge t n) = []
 
   -- the messages of server s that the steps take, in order
   abbrev pub messages_of : ℕ → List (Step W) → List (Message W)
@@ -27,15 +28,17 @@ module _ {W : Type 0} where
   pops_of Run = 0
   pops_of (Advance n) = 0
   pops_of (Close t) = 1
+  pops_of (Charge t n) = 0
 
   -- how many messages the steps take, of all servers
   abbrev pub pops : List (Step W) → ℕ
   pops [] = 0
   pops (x ∷ xs) = pops_of x + pops xs
 
-  -- when serving makes a step: an advance as a drain makes it
+  -- when serving makes a step: an advance as a drain makes it, and no charge
   abbrev pub MayServe : Meaning W → History W → Step W → Type 0
   MayServe work M (Submit s job) = Unit {0}
   MayServe work M Run = Unit {0}
   MayServe work M (Advance n) = IsNeeded work (world_after work M) n
   MayServe work M (Close s) = Unit {0}
+  MayServe work M (Charge s n) = ⊥

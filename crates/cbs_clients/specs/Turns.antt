@@ -16,7 +16,7 @@ use Rattle.cbs_steps.specs.History.{History, world_after, reply_in}
 use Rattle.cbs_steps.specs.declared.reply.Ran.{Ran}
 use Rattle.cbs_steps.specs.declared.reply.Ran.TheVariants as ran
 use Rattle.cbs_steps.specs.declared.reply.Reply.TheVariants as reply
-use Rattle.cbs_steps.specs.declared.step.Step.TheVariants.{Run, Advance, Submit, Close}
+use Rattle.cbs_steps.specs.declared.step.Step.TheVariants.{Run, Advance, Submit, Close, Charge}
 use Rattle.cbs_clients.specs.declared.turn.Turn.{Turn}
 
 -- how many messages a poll popped
@@ -46,6 +46,7 @@ module _ {W : Type 0} where
   ArePolls first count (Close s ∷ xs) = (first ≤ s) × (s < count) × ArePolls (s + 1) count xs
   ArePolls first count (Run ∷ xs) = ⊥
   ArePolls first count (Advance n ∷ xs) = ⊥
+  ArePolls first count (Charge s n ∷ xs) = ⊥
 
 module _ {W A : Type 0} {g : Ghosts W} where
   -- the house polled as many servers as there are answers, one after another, from server s on, and was answered so

@@ -8,7 +8,7 @@ use Rattle.cbs_core.specs.Held.{CoreHeld, IsOpen, IsClosed, HoldsNoJob, IsAtEnd}
 use Rattle.cbs_steps.specs.declared.reply.Ran.{Ran}
 use Rattle.cbs_steps.specs.declared.reply.Ran.TheVariants as ran
 use Rattle.cbs_clients.specs.declared.error.HouseError.{HouseError}
-use Rattle.cbs_clients.specs.declared.error.HouseError.TheVariants.{BadBacklog, BadRing, OutOfMemory, NoSuchServer, ClockEnd, Stalled}
+use Rattle.cbs_clients.specs.declared.error.HouseError.TheVariants.{OutOfMemory, ClockEnd, Stalled}
 use Rattle.cbs_clients.specs.declared.house.House.{House}
 use Rattle.cbs_clients.specs.declared.poll.Poll.TheVariants as poll
 use Rattle.cbs_clients.specs.declared.turn.Turn.{Turn}
@@ -84,9 +84,7 @@ module _ {W A : Type 0} {g : Ghosts W} where
   RunEnds work most old (Err Stalled) new = RunsOn work most old new most × (¬ IsOver (core_of new))
   RunEnds work most old (Err OutOfMemory) new = IsStoppedBy work most OutOfMemory old new
   RunEnds work most old (Err ClockEnd) new = IsStoppedBy work most ClockEnd old new
-  RunEnds work most old (Err BadBacklog) new = ⊥
-  RunEnds work most old (Err BadRing) new = ⊥
-  RunEnds work most old (Err NoSuchServer) new = ⊥
+  RunEnds work most old (Err _) new = ⊥
 
   -- among the steps of serving that led here there was a poll that saw a message for which there was no memory
   pub record LackedMemory (work : Meaning W) (old new : House W A g) : Type 0 where
@@ -113,9 +111,7 @@ module _ {W A : Type 0} {g : Ghosts W} where
   RunStops work OutOfMemory old new = LackedMemory work old new
   RunStops work ClockEnd old new = IsAtEnd (core_of new)
   RunStops work Stalled old new = IsWaiting new
-  RunStops work BadBacklog old new = ⊥
-  RunStops work BadRing old new = ⊥
-  RunStops work NoSuchServer old new = ⊥
+  RunStops work _ old new = ⊥
 
 -- what is told of a turn of a run: that it moved on, or was idle; or why it stopped the run
 abbrev pub IsToldOf : {W : Type 0} → Turn → Result Bool HouseError → CoreHeld W → CoreHeld W → Type 0

@@ -2,6 +2,7 @@
 
 ghost use Rattle.std.specs.Prelude.{◌≡◌};
 
+use cbs_core::CoreError;
 use thiserror::Error;
 
 /// Why the house refuses a call.
@@ -25,10 +26,13 @@ pub enum HouseError {
     /// The clients did not send all, in as many rounds as they are given.
     #[error("the clients did not send all in the rounds that they are given")]
     Stalled = 6,
+    /// The server did not run the last unit, or a tick has passed since that it was not charged.
+    #[error("the server did not run the last unit, or other ticks have passed since")]
+    NotRunning = 7,
 }
 
 impl HouseError {
-    ghost use Rattle.cbs_clients.specs.Errors.{house_error_number, house_error_name};
+    ghost use Rattle.cbs_clients.specs.Errors.{house_error_number, house_error_name, charge_error};
 
     /// Returns the error's number, from 1.
     pub fn number(self) -> u8
@@ -48,6 +52,18 @@ impl HouseError {
             HouseError::NoSuchServer => "NoSuchServer",
             HouseError::ClockEnd => "ClockEnd",
             HouseError::Stalled => "Stalled",
+            HouseError::NotRunning => "NotRunning",
+        }
+    }
+
+    /// Returns why the house refuses a charge, by why its core does.
+    pub(crate) fn of_charge(error: CoreError) -> HouseError
+        ensures { result ≡ charge_error error }
+    {
+        match error {
+            CoreError::NoSuchServer => HouseError::NoSuchServer,
+            CoreError::NotRunning => HouseError::NotRunning,
+            _ => HouseError::ClockEnd,
         }
     }
 }

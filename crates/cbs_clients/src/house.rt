@@ -8,7 +8,7 @@ use crate::error::HouseError;
 use crate::message::Message;
 use crate::poll::Poll;
 use crate::rings::Rings;
-use cbs_core::{Core, CoreError, LIMIT, Ran, ServerView};
+use cbs_core::{Charges, Core, CoreError, LIMIT, Ran, ServerView};
 use cbs_job::Work;
 use cbs_results::Collector;
 use std::alloc::{Allocator, Global};
@@ -37,7 +37,7 @@ impl<W: Work, A: Allocator> Drop for House<W, A> {
 impl<W: Work, A: Allocator> House<W, A> {
     ghost use Rattle.std.specs.Prelude.{ℕ, ◌≡◌, ◌↔◌, ◌⊎◌, IsTrue, ◌<◌, ◌≤◌, [], ◌++◌, length, IfSome, IfNone, IfOk, IfErr};
     ghost use Rattle.cbs_core.specs.Held.{front_output, held_at, IsClosed};
-    ghost use Rattle.cbs_clients.specs.Calls.{PollOf, RunOf, AdvanceOf, ClockOf, SpanOf, ViewOf, PromiseOf, LooksAtRing};
+    ghost use Rattle.cbs_clients.specs.Calls.{PollOf, RunOf, AdvanceOf, ChargeOf, ChargesLast, ChargesOf, ClockOf, SpanOf, ViewOf, PromiseOf, LooksAtRing};
     ghost use Rattle.cbs_clients.specs.Clients.{server_of, sent_by, IsOpened};
     ghost use Rattle.cbs_clients.specs.Houses.{core_of, rings_of, received, known, KeepsResults, Made, LooksOnly, Polled, CanTake};
 
@@ -194,6 +194,47 @@ impl<W: Work, A: Allocator> House<W, A> {
         }
     }
 
+    /// Charges the server that ran the last unit the ticks that the unit took beyond its first, as [`Core::charge`]: as
+    /// many pass, and the server pays for them from its budgets. So a unit that takes long takes nobody's share.
+    ///
+    /// Round up: a unit that took some of a tick took all of it. Charge after the unit and before the next poll: a job
+    /// that comes between may renew its server, which then pays for the unit from its new budget.
+    ///
+    /// Refuses by [`HouseError::NotRunning`] if there is no such server: nobody ran yet, or a tick has passed since that
+    /// was not charged. Refuses by [`HouseError::ClockEnd`] if the clock would pass [`LIMIT`]. Then nothing changed.
+    pub fn charge(&mut self, ticks: u64) -> Result<(), HouseError>
+        ensures { ChargesLast W.meaning ticks self.old result self.new }
+    {
+        match self.core.running() {
+            Some(server) => self.charge_server(server, ticks),
+            None => Err(HouseError::NotRunning),
+        }
+    }
+
+    /// Charges a server, as [`charge`](House::charge), if it is the one that ran the last unit.
+    ///
+    /// Refuses, in this order: [`HouseError::NoSuchServer`]; [`HouseError::NotRunning`], unless the server ran the last
+    /// unit, and no tick has passed since but what it was charged for it; [`HouseError::ClockEnd`] if the clock would
+    /// pass [`LIMIT`]. Then nothing changed.
+    pub fn charge_server(&mut self, server: u16, ticks: u64) -> Result<(), HouseError>
+        ensures { ChargeOf W.meaning server ticks self.old result self.new }
+    {
+        match self.core.charge(server, ticks) {
+            Ok(()) => Ok(()),
+            Err(error) => Err(HouseError::of_charge(error)),
+        }
+    }
+
+    /// Returns what a server was charged, in all and at most for one unit, or [`HouseError::NoSuchServer`].
+    pub fn charges(&self, server: u16) -> Result<Charges, HouseError>
+        ensures { ChargesOf W.meaning server self.now result }
+    {
+        match self.core.charges(server) {
+            Ok(charges) => Ok(charges),
+            Err(_) => Err(HouseError::NoSuchServer),
+        }
+    }
+
     /// Returns the clock, in ticks: 0 to [`LIMIT`].
     pub fn now(&self) -> u64
         ensures { ClockOf W.meaning self.now result }
@@ -215,8 +256,9 @@ impl<W: Work, A: Allocator> House<W, A> {
     /// Returns the tick by which every job that a server accepted so far is finished, as
     /// [`Core::promised`], or `None` if all are finished or there is no such server.
     ///
-    /// It is kept if all are on time now and no advance to come takes anybody's time. A house is on time
-    /// when it is opened. Each call keeps it so, but an [`advance`](House::advance) while somebody is ready.
+    /// It is kept if all are on time now, and no advance and no charge to come takes anybody's time. A house is on
+    /// time when it is opened. Each call keeps it so, but an [`advance`](House::advance) while somebody is ready, and
+    /// a [`charge`](House::charge).
     pub fn promised(&self, server: u16) -> Option<u128>
         ensures { PromiseOf W.meaning server self.now result }
     {

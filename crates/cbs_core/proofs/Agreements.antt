@@ -1,34 +1,37 @@
 -- What agreement with a history becomes, through each step.
 use Rattle.std.proofs.Common.{◌≡◌, ℕ, ◌+◌, ◌-◌, ◌≤◌, ◌<◌, List, [], ◌∷◌, ◌++◌, length, map, replicate, refl, ap, sym, ◌∙◌, arith, true, false, Bool}
-use Rattle.std.proofs.Common.{leb, ltb, cond, is_some, Option, Some, None}
+use Rattle.std.proofs.Common.{leb, ltb, eqb, cond, is_some, Option, Some, None}
 use Rattle.std.proofs.lemmas.Bool.Decides.{nat_tests}
 use Rattle.std.proofs.lemmas.List.{length-map, get_or_past}
 use Rattle.std.proofs.lemmas.Simd.{map-map}
-use Rattle.std.specs.List.{sum_by}
+use Rattle.std.specs.List.{sum_by, AllZip}
 use Rattle.cbs_job.specs.Work.{Meaning, Lowers}
 use Rattle.cbs_rules.specs.Rules.{clock_end, Terms}
 use Rattle.cbs_lists.specs.Lists.{changed_at}
 use Rattle.cbs_steps.specs.Choice.{chosen_among}
-use Rattle.cbs_steps.specs.Faces.{Face, new_face, face_at, ranks, submit_refusal, close_refusal, with_job, with_unit, with_replenishment, with_close}
-use Rattle.cbs_steps.specs.Accounts.{face_of, new_account, no_account, account_with_job, account_with_unit, account_with_replenishment, account_with_close}
-use Rattle.cbs_steps.specs.History.{World, History, ◌⊕◌, account, faces, chosen, start, after_submit, after_run, after_closing, world_after}
+use Rattle.cbs_steps.specs.Faces.{Face, new_face, face_at, ranks, submit_refusal, close_refusal, with_job, with_unit, with_charge, with_replenishment, with_close}
+use Rattle.cbs_steps.specs.Accounts.{face_of, new_account, no_account, account_with_job, account_with_unit, account_with_charge, account_with_replenishment, account_with_close, account_let_go}
+use Rattle.cbs_steps.specs.History.{World, History, ◌⊕◌, account, faces, chosen, start, after_submit, after_run, after_closing, charge_refusal, let_go, world_after}
 use Rattle.cbs_steps.specs.History.{run_reply, submit_reply, close_reply, reply_in}
 use Rattle.cbs_core.specs.Agreement.{AgreesJobs, AgreesWorld, Agrees}
 use Rattle.cbs_steps.specs.Promises.{promised_by, promised}
 use Rattle.cbs_steps.specs.Replies.{IsAccepted}
-use Rattle.cbs_core.specs.Held.{CoreHeld, ran_of}
+use Rattle.cbs_core.specs.Held.{CoreHeld, is_running, charged_at, ran_of}
+use Rattle.cbs_core.specs.Invariant.{IsLastUnit}
 use Rattle.cbs_queues.specs.Queues.{list_at, jobs_run, result_run}
 use Rattle.cbs_steps.specs.declared.error.CoreError.{CoreError}
+use Rattle.cbs_steps.specs.declared.error.CoreError.TheVariants as error
 use Rattle.cbs_steps.specs.declared.reply.Ran.{Ran}
 use Rattle.cbs_steps.specs.declared.reply.Ran.TheVariants as ran
 use Rattle.cbs_steps.specs.declared.reply.Reply.TheVariants as reply
-use Rattle.cbs_steps.specs.declared.step.Step.TheVariants.{Submit, Run, Advance, Close}
+use Rattle.cbs_steps.specs.declared.step.Step.TheVariants.{Submit, Run, Advance, Close, Charge}
 use Rattle.cbs_core.proofs.Cores.{MayRun}
-use Rattle.cbs_steps.proofs.Histories.{account_face}
+use Rattle.cbs_steps.proofs.Histories.{account_face, let_go_faces}
+use Rattle.cbs_core.proofs.Running.{running_server, none_runs, runs_changed, latest_changed, runs_run, latest_run, advance_jumps, runs_jumped, charge_jumps, charge_none, charge_refused, runs_charged, latest_charged, refused_stranger, refused_idle, refused_late, not_refused}
 use Rattle.cbs_steps.proofs.PaidUnits.{paid_after}
 use Rattle.cbs_lists.proofs.Lists.{map-changed_at, AllZip-length, AllZip-get, AllZip-map, AllZip-replicate, AllZip-changed_at, AllZip-changed_second}
 use Rattle.cbs_core.proofs.HeldJobs.{owed_jobs, unit_jobs, unit_face, unit_ran, job_jobs, job_face}
-use Rattle.cbs_steps.proofs.Ticks.{replenished_faces, ticks_none, ticks_some}
+use Rattle.cbs_steps.proofs.Ticks.{replenished_faces}
 
 -- a choice between two that are the same is that one, whichever way it goes
 cond_same : {X : Type 0} {x : X} (b : Bool) → cond b x x ≡ x
@@ -39,7 +42,7 @@ module _ {W : Type 0} (work : Meaning W) where
   -- a new core, with the faces and empty queues of new servers, agrees with the start
   pub start_agrees : (terms : List Terms) (backlog n : ℕ) (shown : List Face) (queues : List (List W)) (rooms : List ℕ) → shown ≡ map new_face terms
       → n ≡ length shown → queues ≡ replicate n []
-      → AgreesWorld work (record { backlog = backlog; clock = 0; faces = shown; queues = queues; rooms = rooms }) backlog
+      → AgreesWorld work (record { backlog = backlog; clock = 0; last = record { server = 0; advanced_to = 0; charged = 0; charged_to = 0 }; faces = shown; queues = queues; rooms = rooms }) backlog
       (start (record { servers = terms; backlog = backlog }))
   start_agrees terms backlog n shown queues rooms e count empty = record {
     same_backlog = refl;
@@ -48,6 +51,8 @@ module _ {W : Type 0} (work : Meaning W) where
     jobs = let size : n ≡ length terms = count ∙ ap length e ∙ length-map terms new_face in
         let none = AllZip-replicate (AgreesJobs work) [] new_account terms (λ t. record { results = refl; lefts = refl }) in
         rw (empty, size) none;
+    runs = none_runs W terms;
+    latest = λ s running. cc;
   }
 
 module _ {W : Type 0} {work : Meaning W} {core held : CoreHeld W} {M : History W} (view : core ≡ held)
@@ -133,40 +138,58 @@ module _ {W : Type 0} {work : Meaning W} {core held : CoreHeld W} {M : History W
     -- after the unit and the replenishment the core agrees with one run more
     pub unit_agrees : {shown : List Face} {queues : List (List W)} {rooms : List ℕ}
         → shown ≡ map (with_replenishment (core.clock + 1)) (changed_at (with_unit done) core.faces s) → queues ≡ changed_at (jobs_run work) core.queues s
-        → Agrees work (record { backlog = core.backlog; clock = core.clock + 1; faces = shown; queues = queues; rooms = rooms }) (M ⊕ Run)
-    unit_agrees is run = record {
-      world = rw next_early record {
-        same_backlog = agrees.same_backlog;
-        clock = ap (λ n. n + 1) agrees.clock;
-        shown = is ∙ rw (agrees.shown, agrees.clock)
-            (sym (replenished_faces work (w.now + 1) (changed_at account_with_unit w.accounts s)
-            ∙ ap (map (with_replenishment (w.now + 1))) (map-changed_at (face_of work) account_with_unit (with_unit done) w.accounts s
-            no_account (unit_face work (list_at core.queues s) (account w.accounts s) (jobs_are s may.within) law may.active may.unfinished))));
-        jobs = rw run (AllZip-map (AgreesJobs work) (account_with_replenishment (w.now + 1)) (changed_at (jobs_run work) core.queues s)
-            (changed_at account_with_unit w.accounts s)
-            (AllZip-changed_at (AgreesJobs work) core.queues w.accounts s [] no_account (jobs_run work) account_with_unit agrees.jobs may.queue
-            (λ here. unit_jobs work (list_at core.queues s) (account w.accounts s) here law may.active may.unfinished))
-            (λ jobs a here. record { results = here.results; lefts = here.lefts }));
-      };
-    }
+        → Agrees work (record { backlog = core.backlog; clock = core.clock + 1; last = record core.last { server = s }; faces = shown; queues = queues; rooms = rooms }) (M ⊕ Run)
+    unit_agrees is run =
+        let loose = let_go w in
+        let loose_jobs : AllZip (AgreesJobs work) core.queues loose.accounts = AllZip-map (AgreesJobs work) account_let_go core.queues w.accounts agrees.jobs
+        (λ jobs a here. record { results = here.results; lefts = here.lefts }) in
+        let here : AgreesJobs work (list_at core.queues s) (account loose.accounts s) = AllZip-get (AgreesJobs work) core.queues loose.accounts s [] no_account loose_jobs may.queue in
+        let place : s < length w.accounts = let e = ap length agrees.shown in let lt = may.within in omega (arith, length-map w.accounts (face_of work)) in
+        let before = may.last in
+        let moved : eqb core.last.advanced_to (core.clock + 1) ≡ false = let a = before.advanced in grind (arith, nat_tests) in
+        let paid : eqb core.last.charged_to (core.clock + 1) ≡ false = let a = before.charged in grind (arith, nat_tests) in
+        record {
+          world = rw next_early record {
+            same_backlog = agrees.same_backlog;
+            clock = ap (λ n. n + 1) agrees.clock;
+            shown = is ∙ rw (agrees.shown, agrees.clock)
+                (sym (replenished_faces work (w.now + 1) (changed_at account_with_unit loose.accounts s)
+                ∙ ap (map (with_replenishment (w.now + 1))) (map-changed_at (face_of work) account_with_unit (with_unit done) loose.accounts s
+                no_account (unit_face work (list_at core.queues s) (account loose.accounts s) here law may.active may.unfinished)
+                ∙ ap (λ fs. changed_at (with_unit done) fs s) (let_go_faces work w))));
+            jobs = rw run (AllZip-map (AgreesJobs work) (account_with_replenishment (w.now + 1)) (changed_at (jobs_run work) core.queues s)
+                (changed_at account_with_unit loose.accounts s)
+                (AllZip-changed_at (AgreesJobs work) core.queues loose.accounts s [] no_account (jobs_run work) account_with_unit loose_jobs may.queue
+                (λ here. unit_jobs work (list_at core.queues s) (account loose.accounts s) here law may.active may.unfinished))
+                (λ jobs a here. record { results = here.results; lefts = here.lefts }));
+            runs = λ t. runs_run w s t place ∙ sym (rw moved refl);
+            latest = λ t running.
+                let same : s ≡ t = let y : eqb s t ≡ true = rw moved at running in grind (arith, nat_tests) in
+                rw (← same, paid) (latest_run w s place);
+          };
+        }
 
   -- an advance by 0 leaves the world as it is
   pub advance_none : (n : ℕ) → n ≡ 0 → world_after work (M ⊕ Advance n) ≡ w
-  advance_none n none = rw (none, ticks_none w, cond_same (leb (w.now + 0) clock_end))
+  advance_none n none = rw (none, cond_same (leb (w.now + 0) clock_end))
 
   -- after a jump by n ticks that the clock's end allows, the core agrees with one advance more
   pub advance_agrees : (n : ℕ) {shown : List Face} {rooms : List ℕ} → n ≤ clock_end - core.clock → 0 < n
       → shown ≡ map (with_replenishment (core.clock + n)) core.faces
-      → Agrees work (record { backlog = core.backlog; clock = core.clock + n; faces = shown; queues = core.queues; rooms = rooms }) (M ⊕ Advance n)
+      → Agrees work (record { backlog = core.backlog; clock = core.clock + n; last = record core.last { advanced_to = core.clock + n }; faces = shown; queues = core.queues; rooms = rooms }) (M ⊕ Advance n)
   advance_agrees n early some is =
       let t : leb (w.now + n) clock_end ≡ true = let c = agrees.clock in grind (arith, nat_tests) in
       record {
-        world = rw (t, ticks_some n w some) record {
+        world = rw (t, advance_jumps w n some) record {
           same_backlog = agrees.same_backlog;
           clock = ap (λ m. m + n) agrees.clock;
-          shown = is ∙ rw (agrees.shown, agrees.clock) (sym (replenished_faces work (w.now + n) w.accounts));
-          jobs = AllZip-map (AgreesJobs work) (account_with_replenishment (w.now + n)) core.queues w.accounts agrees.jobs
+          shown = is ∙ rw (agrees.shown, agrees.clock) (sym (replenished_faces work (w.now + n) (let_go w).accounts
+              ∙ ap (map (with_replenishment (w.now + n))) (let_go_faces work w)));
+          jobs = AllZip-map (AgreesJobs work) (account_with_replenishment (w.now + n)) core.queues (let_go w).accounts
+              (AllZip-map (AgreesJobs work) account_let_go core.queues w.accounts agrees.jobs (λ jobs a here. record { results = here.results; lefts = here.lefts }))
               (λ jobs a here. record { results = here.results; lefts = here.lefts });
+          runs = λ s. let same : eqb (core.clock + n) (core.clock + n) ≡ true = grind (arith, nat_tests) in rw same (runs_jumped w n s);
+          latest = λ s running. let same : eqb (core.clock + n) (core.clock + n) ≡ true = grind (arith, nat_tests) in let none : false ≡ true = rw same at running in cc;
         };
       }
 
@@ -198,7 +221,7 @@ module _ {W : Type 0} {work : Meaning W} {core held : CoreHeld W} {M : History W
     -- with the job behind the others, the core agrees with one submit more
     pub submit_agrees : {shown : List Face} {queues : List (List W)} {rooms : List ℕ} → s < length core.faces
         → shown ≡ changed_at (with_job core.clock) core.faces s → queues ≡ changed_at (λ jobs. jobs ++ job ∷ []) core.queues s → 0 < work.left job
-        → Agrees work (record { backlog = core.backlog; clock = core.clock; faces = shown; queues = queues; rooms = rooms }) (M ⊕ Submit s job)
+        → Agrees work (record { backlog = core.backlog; clock = core.clock; last = core.last; faces = shown; queues = queues; rooms = rooms }) (M ⊕ Submit s job)
     submit_agrees lt is joined some =
         let paid = paid_after work M.setup M.steps s in
         record {
@@ -211,6 +234,8 @@ module _ {W : Type 0} {work : Meaning W} {core held : CoreHeld W} {M : History W
             jobs = rw joined (AllZip-changed_at (AgreesJobs work) core.queues w.accounts s [] no_account (λ jobs. jobs ++ job ∷ [])
                 (account_with_job work w.now job) agrees.jobs (within_queues s lt)
                 (λ here. job_jobs work (list_at core.queues s) (account w.accounts s) here w.now job paid some));
+            runs = λ t. runs_changed (account_with_job work w.now job) w.accounts s t (λ a. refl) ∙ agrees.runs t;
+            latest = λ t running. latest_changed (account_with_job work w.now job) w.accounts s t (λ a. refl) ∙ agrees.latest t running;
           };
         }
 
@@ -231,7 +256,7 @@ module _ {W : Type 0} {work : Meaning W} {core held : CoreHeld W} {M : History W
   -- with the server closed, the core agrees with one close more
   pub close_agrees : (s : ℕ) {shown : List Face} {rooms : List ℕ} → None ≡ close_refusal core.faces s
       → shown ≡ changed_at with_close core.faces s
-      → Agrees work (record { backlog = core.backlog; clock = core.clock; faces = shown; queues = core.queues; rooms = rooms }) (M ⊕ Close s)
+      → Agrees work (record { backlog = core.backlog; clock = core.clock; last = core.last; faces = shown; queues = core.queues; rooms = rooms }) (M ⊕ Close s)
   close_agrees s e is = record {
     world = rw (close_left s None e) record {
       same_backlog = agrees.same_backlog;
@@ -239,5 +264,70 @@ module _ {W : Type 0} {work : Meaning W} {core held : CoreHeld W} {M : History W
       shown = is ∙ rw agrees.shown (sym (map-changed_at (face_of work) account_with_close with_close w.accounts s no_account refl));
       jobs = AllZip-changed_second (AgreesJobs work) account_with_close core.queues w.accounts s agrees.jobs
           (λ jobs a here. record { results = here.results; lefts = here.lefts });
+      runs = λ t. runs_changed account_with_close w.accounts s t (λ a. refl) ∙ agrees.runs t;
+      latest = λ t running. latest_changed account_with_close w.accounts s t (λ a. refl) ∙ agrees.latest t running;
     };
   }
+
+  -- a charge of n ticks of server s
+  module _ (s n : ℕ) where
+    -- there are as many accounts as servers
+    count_is : length w.accounts ≡ length core.faces
+    count_is = let e = ap length agrees.shown in omega (arith, length-map w.accounts (face_of work))
+
+    -- it is refused if there is no such server
+    pub charge_stranger : length core.faces ≤ s → (reply.Refused error.NoSuchServer ≡ reply_in work M (Charge s n)) × (world_after work (M ⊕ Charge s n) ≡ w)
+    charge_stranger ge = let e = refused_stranger w s n (let c = count_is in omega arith) in rw e (refl, charge_refused w s n error.NoSuchServer)
+
+    -- if the server does not run
+    pub charge_idle : s < length core.faces → is_running core s ≡ false → (reply.Refused error.NotRunning ≡ reply_in work M (Charge s n)) × (world_after work (M ⊕ Charge s n) ≡ w)
+    charge_idle lt idle = let e = refused_idle w s n (let c = count_is in omega arith) (agrees.runs s ∙ idle) in rw e (refl, charge_refused w s n error.NotRunning)
+
+    -- and if the clock would pass its end
+    pub charge_late : s < length core.faces → is_running core s ≡ true → clock_end < core.clock + n
+        → (reply.Refused error.ClockEnd ≡ reply_in work M (Charge s n)) × (world_after work (M ⊕ Charge s n) ≡ w)
+    charge_late lt runs late =
+        let e = refused_late w s n (let c = count_is in omega arith) (agrees.runs s ∙ runs) (let c = agrees.clock in omega arith) in
+        rw e (refl, charge_refused w s n error.ClockEnd)
+
+    module _ (lt : s < length core.faces) (runs : is_running core s ≡ true) (early : core.clock + n ≤ clock_end) where
+      -- else it is accepted
+      accepted : charge_refusal w s n ≡ None
+      accepted = not_refused w s n (let c = count_is in omega arith) (agrees.runs s ∙ runs) (let c = agrees.clock in omega arith)
+
+      pub charge_answered : reply.Charged ≡ reply_in work M (Charge s n)
+      charge_answered = rw accepted refl
+
+      -- one of no tick leaves the world as it is
+      pub charge_still : n ≡ 0 → world_after work (M ⊕ Charge s n) ≡ w
+      charge_still none = rw accepted (charge_none w s n none)
+
+      -- after the charge and the replenishment the core agrees with one charge more
+      pub charge_agrees : {shown : List Face} {rooms : List ℕ} (for_unit : ℕ) → for_unit ≡ charged_at core.clock core.last + n → 0 < n → IsLastUnit core.clock core.faces core.last
+          → shown ≡ map (with_replenishment (core.clock + n)) (changed_at (with_charge n for_unit) core.faces s)
+          → Agrees work (record { backlog = core.backlog; clock = core.clock + n; last = record core.last { charged = for_unit; charged_to = core.clock + n }; faces = shown; queues = core.queues; rooms = rooms })
+          (M ⊕ Charge s n)
+      charge_agrees for_unit so_many some before is =
+          let v : World W = record w { accounts = changed_at (account_with_charge n) w.accounts s } in
+          let place : s < length w.accounts = let c = count_is in omega arith in
+          let latest : (account w.accounts s).latest ≡ charged_at core.clock core.last = agrees.latest s runs in
+          let unit : (account w.accounts s).latest + n ≡ for_unit = ap (λ m. m + n) latest ∙ sym so_many in
+          let face : face_of work (account_with_charge n (account w.accounts s)) ≡ with_charge n for_unit (face_of work (account w.accounts s)) = rw unit refl in
+          let moved : eqb core.last.advanced_to (core.clock + n) ≡ false = let a = before.advanced in grind (arith, nat_tests) in
+          let paid : eqb (core.clock + n) (core.clock + n) ≡ true = grind (arith, nat_tests) in
+          let runner = running_server core s runs in
+          record {
+            world = rw (accepted, charge_jumps w s n some) record {
+              same_backlog = agrees.same_backlog;
+              clock = ap (λ m. m + n) agrees.clock;
+              shown = is ∙ rw (agrees.shown, agrees.clock) (sym (replenished_faces work (w.now + n) v.accounts
+                  ∙ ap (map (with_replenishment (w.now + n))) (map-changed_at (face_of work) (account_with_charge n) (with_charge n for_unit) w.accounts s no_account face)));
+              jobs = AllZip-map (AgreesJobs work) (account_with_replenishment (w.now + n)) core.queues v.accounts
+                  (AllZip-changed_second (AgreesJobs work) (account_with_charge n) core.queues w.accounts s agrees.jobs (λ jobs a here. record { results = here.results; lefts = here.lefts }))
+                  (λ jobs a here. record { results = here.results; lefts = here.lefts });
+              runs = λ t. runs_charged w s n t ∙ agrees.runs t ∙ rw (runner.0, moved) refl;
+              latest = λ t running.
+                  let same : s ≡ t = let y : eqb core.last.server t ≡ true = rw moved at running in let z = runner.1 in grind (arith, nat_tests) in
+                  rw (← same, paid) (latest_charged w s n place ∙ unit);
+            };
+          }

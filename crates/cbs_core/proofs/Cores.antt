@@ -1,5 +1,5 @@
 -- What each core keeps, through each step.
-use Rattle.std.proofs.Common.{◌≡◌, ℕ, ◌+◌, ◌-◌, ◌*◌, ◌≤◌, ◌<◌, ◌^◌, true, List, [], ◌∷◌, ◌++◌, length, map, replicate, refl, ◌∙◌, ap, arith, eqb, inl}
+use Rattle.std.proofs.Common.{◌≡◌, ◌≢◌, ℕ, zero, suc, ◌+◌, ◌-◌, ◌*◌, ◌≤◌, ◌<◌, ◌^◌, true, List, [], ◌∷◌, ◌++◌, length, map, replicate, refl, ◌∙◌, ap, arith, eqb, inl}
 use Rattle.std.proofs.Common.{inr, Some, None, sym, is_some, length-append}
 use Rattle.std.specs.Prelude.{slice_get, Result, IfOk, OnOk}
 use Rattle.std.proofs.lemmas.Bool.{cases_lt, cases_Bool}
@@ -14,18 +14,24 @@ use Rattle.cbs_rules.specs.Rules.{clock_end, latest_deadline}
 use Rattle.cbs_rules.specs.declared.mode.Mode.{Mode}
 use Rattle.cbs_lists.specs.Lists.{changed_at}
 use Rattle.cbs_steps.specs.Choice.{IsChoice}
-use Rattle.cbs_steps.specs.Faces.{Face, new_face, no_face, face_at, is_ready, backlog_of, reservations, ranks, with_job, with_unit}
+use Rattle.cbs_steps.specs.Faces.{Face, new_face, no_face, face_at, is_ready, backlog_of, reservations, ranks, with_job, with_unit, with_charge}
 use Rattle.cbs_steps.specs.Faces.{with_replenishment, with_close, submit_refusal, view_reply}
 use Rattle.cbs_steps.specs.Laws.{IsWithinBudget}
-use Rattle.cbs_core.specs.Held.{KeepsBudgets, CoreHeld, Accepts}
+use Rattle.cbs_core.specs.Held.{KeepsBudgets, CoreHeld, Accepts, is_running, charged_at}
+use Rattle.cbs_core.specs.declared.last_unit.LastUnit.{LastUnit}
+use Rattle.cbs_core.proofs.Running.{running_server}
+use Rattle.cbs_rules.proofs.Deadlines.{begun_after_unit, begun_after_charge, begun_after_replenishment}
+use Rattle.cbs_steps.proofs.LawfulServers.{arrives_in}
+use Rattle.std.proofs.lemmas.Nat.{mul-le}
+use Rattle.std.proofs.lemmas.Bool.Decides.{nat_tests}
 use Rattle.cbs_steps.specs.declared.error.CoreError.{CoreError}
 use Rattle.cbs_steps.specs.declared.view.ServerView.{ServerView}
 use Rattle.cbs_queues.specs.Queues.{list_at, jobs_run, result_run}
 use Rattle.cbs_steps.specs.Setups.{terms_of}
-use Rattle.cbs_core.specs.Invariant.{IsServer, HoldsBacklog, IsCore}
+use Rattle.cbs_core.specs.Invariant.{IsServer, HoldsBacklog, IsCore, IsLastUnit, MayCharge}
 use Rattle.cbs_steps.proofs.Faces.{rank_ready, runnable}
-use Rattle.cbs_core.proofs.FaceSteps.{server_new, server_later, server_replenished, server_closed, server_joined, server_run, budget_some, within_budget}
-use Rattle.cbs_lists.proofs.Lists.{map_kept, changed_kept, AllByRecursion-map, AllByRecursion-weaker, AllByRecursion-get, AllByRecursion-changed_at}
+use Rattle.cbs_core.proofs.FaceSteps.{server_new, server_later, server_replenished, server_closed, server_joined, server_run, server_charged, budget_some, within_budget}
+use Rattle.cbs_lists.proofs.Lists.{map_kept, changed_kept, changed_here, length-changed_at, AllByRecursion-map, AllByRecursion-weaker, AllByRecursion-get, AllByRecursion-changed_at}
 use Rattle.cbs_lists.proofs.Lists.{AllZip-length, AllZip-get, AllZip-map, AllZip-replicate, AllZip-changed_at, AllZip-changed_second}
 use Rattle.cbs_steps.proofs.Plans.{length-faces, new_reservations}
 use Rattle.cbs_queues.proofs.QueueRuns.{unfinished_run}
@@ -48,7 +54,7 @@ module _ {W : Type 0} (work : Meaning W) (backlog : ℕ) where
   pub core_new : (modes : List Mode) (rates : List Rate) (n : ℕ) (faces : List Face) (queues : List (List W)) (rooms : List ℕ)
       → length modes ≡ length rates → length rates ≤ 64 → backlog ≤ 4096
       → AllByRecursion (λ r. IsRate r.budget r.period) rates → total_share rates ≤ all_periods rates → faces ≡ map new_face (terms_of modes rates)
-      → n ≡ length faces → queues ≡ replicate n [] → IsCore work (record { backlog = backlog; clock = 0; faces = faces; queues = queues; rooms = rooms })
+      → n ≡ length faces → queues ≡ replicate n [] → IsCore work (record { backlog = backlog; clock = 0; last = record { server = 0; advanced_to = 0; charged = 0; charged_to = 0 }; faces = faces; queues = queues; rooms = rooms })
   core_new modes rates n faces queues rooms same few small ok one shown count empty =
       let size : n ≡ length (terms_of modes rates) = count ∙ ap length shown ∙ length-map (terms_of modes rates) new_face in
       record {
@@ -59,6 +65,7 @@ module _ {W : Type 0} (work : Meaning W) (backlog : ℕ) where
         each = rw shown (all_new modes rates ok);
         jobs = rw (shown, empty, size)
             (AllZip-replicate (HoldsBacklog work) [] new_face (terms_of modes rates) (λ t. record { counted = refl; unfinished = tt }));
+        last = record { advanced = omega arith; charged = omega arith; few = omega arith; there = λ ne. absurd (ne refl); begun = λ ne. absurd (ne refl) };
       }
 
 -- what a run of server s may rest on
@@ -71,6 +78,42 @@ pub record MayRun {W : Type 0} (work : Meaning W) (core : CoreHeld W) (s : ℕ) 
   pub unfinished : AllByRecursion (λ w. 0 < work.left w) (list_at core.queues s)
   pub budget : 0 < (face_at core.faces s).state.budget
   pub room : (face_at core.faces s).state.deadline ≤ latest_deadline
+  pub begun : 0 < (face_at core.faces s).state.deadline
+  pub last : IsLastUnit core.clock core.faces core.last
+
+-- a change of one server that leaves each begun where it was keeps what is known of the last unit
+last_changed : (clock : ℕ) (f : Face → Face) (faces : List Face) (s : ℕ) (l : LastUnit) → (0 < (face_at faces s).state.deadline → 0 < (f (face_at faces s)).state.deadline)
+    → IsLastUnit clock faces l → IsLastUnit clock (changed_at f faces s) l
+last_changed clock f faces s l keeps is = record {
+  advanced = is.advanced;
+  charged = is.charged;
+  few = is.few;
+  there = λ ne. let lt = is.there ne in omega (arith, length-changed_at f faces s);
+  begun = λ ne. begun_changed f faces s l.server keeps (is.begun ne);
+}
+  where
+    begun_changed : (f : Face → Face) (fs : List Face) (s t : ℕ) → (0 < (face_at fs s).state.deadline → 0 < (f (face_at fs s)).state.deadline)
+        → 0 < (face_at fs t).state.deadline → 0 < (face_at (changed_at f fs s) t).state.deadline
+    begun_changed f [] s t keeps h = h
+    begun_changed f (x ∷ fs) zero zero keeps h = keeps h
+    begun_changed f (x ∷ fs) zero (suc t) keeps h = h
+    begun_changed f (x ∷ fs) (suc s) zero keeps h = h
+    begun_changed f (x ∷ fs) (suc s) (suc t) keeps h = begun_changed f fs s t keeps h
+
+-- so do replenishments
+last_replenished : (clock now : ℕ) (faces : List Face) (l : LastUnit) → IsLastUnit clock faces l → IsLastUnit clock (map (with_replenishment now) faces) l
+last_replenished clock now faces l is = record {
+  advanced = is.advanced;
+  charged = is.charged;
+  few = is.few;
+  there = λ ne. let lt = is.there ne in omega (arith, length-map faces (with_replenishment now));
+  begun = λ ne. begun_replenished faces l.server (is.begun ne);
+}
+  where
+    begun_replenished : (fs : List Face) (t : ℕ) → 0 < (face_at fs t).state.deadline → 0 < (face_at (map (with_replenishment now) fs) t).state.deadline
+    begun_replenished [] t h = h
+    begun_replenished (f ∷ fs) zero h = begun_after_replenishment f.terms.reservation now f.state h
+    begun_replenished (f ∷ fs) (suc t) h = begun_replenished fs t h
 
 module _ {W : Type 0} {work : Meaning W} {core : CoreHeld W} (ok : IsCore work core) where
   -- each server of a core keeps what a server keeps
@@ -132,6 +175,33 @@ module _ {W : Type 0} {work : Meaning W} {core : CoreHeld W} (ok : IsCore work c
         unfinished = held.unfinished;
         budget = budget_some core.backlog core.clock (face_at core.faces s) is ready;
         room = let e = is.early in omega arith;
+        begun = is.begun (let a = (runnable (face_at core.faces s) ready).active in grind (arith, nat_tests));
+        last = ok.last;
+      }
+
+  -- a server that runs is there
+  pub running_there : (s : ℕ) → is_running core s ≡ true → s < length core.faces
+  running_there s runs =
+      let runner = running_server core s runs in
+      let moved : core.last.advanced_to ≢ core.clock = λ q. let y : eqb core.last.advanced_to core.clock ≡ true = grind (arith, nat_tests) in let z = runner.0 in cc in
+      rw runner.1 at (ok.last.there moved)
+
+  -- a server that runs may be charged so many ticks, where the clock allows them
+  pub may_charge : (s n : ℕ) → s < length core.faces → is_running core s ≡ true → 0 < n → core.clock + n ≤ clock_end → MayCharge n (face_at core.faces s)
+  may_charge s n lt runs some early =
+      let is = server_at s lt in
+      let runner = running_server core s runs in
+      let e = is.early in
+      let p = is.lawful.short in
+      let m = mul-le n (face_at core.faces s).terms.reservation.period n 1000000000 (omega arith) p in
+      let moved : core.last.advanced_to ≢ core.clock = λ q. let y : eqb core.last.advanced_to core.clock ≡ true = grind (arith, nat_tests) in let z = runner.0 in cc in
+      record {
+        some = some;
+        few = omega arith;
+        free = is.free;
+        begun = rw runner.1 at (ok.last.begun moved);
+        room = omega arith;
+        counted = let c = is.few_charged in omega arith;
       }
 
   -- another number fits for the jobs of a server
@@ -145,35 +215,41 @@ module _ {W : Type 0} {work : Meaning W} {core : CoreHeld W} (ok : IsCore work c
   counted_run (job ∷ jobs) f some e = elim (cases_Bool (eqb (work.left (work.after job)) 0)) [ inl t ↦ rw t (omega arith) | inr n ↦ rw n (omega arith) ]
 
   -- what each core keeps, from what a step leaves of the servers and of their jobs
-  core_made : (clock : ℕ) (faces : List Face) (queues : List (List W)) (rooms : List ℕ) → clock ≤ clock_end → reservations faces ≡ reservations core.faces
-      → AllByRecursion (IsServer core.backlog clock) faces → AllZip (HoldsBacklog work) queues faces
-      → IsCore work (record { backlog = core.backlog; clock = clock; faces = faces; queues = queues; rooms = rooms })
-  core_made clock faces queues rooms early same each jobs = record {
+  core_made : (clock : ℕ) (last : LastUnit) (faces : List Face) (queues : List (List W)) (rooms : List ℕ) → clock ≤ clock_end → reservations faces ≡ reservations core.faces
+      → AllByRecursion (IsServer core.backlog clock) faces → AllZip (HoldsBacklog work) queues faces → IsLastUnit clock faces last
+      → IsCore work (record { backlog = core.backlog; clock = clock; last = last; faces = faces; queues = queues; rooms = rooms })
+  core_made clock last faces queues rooms early same each jobs known = record {
     few = let n = ap length same in omega (arith, ok.few, length-map faces reservation, length-map core.faces reservation);
     small = ok.small;
     clock = early;
     at_most_one = rw same ok.at_most_one;
     each = each;
     jobs = jobs;
+    last = known;
   }
 
   -- the same where all are then replenished
-  core_replenished : (now : ℕ) (faces : List Face) (queues : List (List W)) (rooms : List ℕ) → now ≤ clock_end → reservations faces ≡ reservations core.faces
-      → AllByRecursion (IsServer core.backlog now) faces → AllZip (HoldsBacklog work) queues faces
-      → IsCore work (record { backlog = core.backlog; clock = now; faces = map (with_replenishment now) faces; queues = queues; rooms = rooms })
-  core_replenished now faces queues rooms early same each jobs = core_made now _ queues rooms early
+  core_replenished : (now : ℕ) (last : LastUnit) (faces : List Face) (queues : List (List W)) (rooms : List ℕ) → now ≤ clock_end → reservations faces ≡ reservations core.faces
+      → AllByRecursion (IsServer core.backlog now) faces → AllZip (HoldsBacklog work) queues faces → IsLastUnit now faces last
+      → IsCore work (record { backlog = core.backlog; clock = now; last = last; faces = map (with_replenishment now) faces; queues = queues; rooms = rooms })
+  core_replenished now last faces queues rooms early same each jobs known = core_made now last _ queues rooms early
       (map_kept reservation (with_replenishment now) faces (λ f. refl) ∙ same)
       (AllByRecursion-map _ _ (with_replenishment now) faces each (server_replenished core.backlog now))
       (AllZip-map _ (with_replenishment now) queues faces jobs (λ jobs f h. record { counted = h.counted; unfinished = h.unfinished }))
+      (last_replenished now now faces last known)
 
   -- a run of server s, by what it does to faces and queues
   pub core_run : {s : ℕ} {faces : List Face} {queues : List (List W)} {rooms : List ℕ} → MayRun work core s
       → faces ≡ map (with_replenishment (core.clock + 1)) (changed_at (with_unit (is_some (result_run work (list_at core.queues s)))) core.faces s)
       → queues ≡ changed_at (jobs_run work) core.queues s
-      → IsCore work (record { backlog = core.backlog; clock = core.clock + 1; faces = faces; queues = queues; rooms = rooms })
+      → IsCore work (record { backlog = core.backlog; clock = core.clock + 1; last = record core.last { server = s }; faces = faces; queues = queues; rooms = rooms })
   core_run {s} {faces} {queues} {rooms} may shown run =
       let done = is_some (result_run work (list_at core.queues s)) in
-      rw (shown, run) (core_replenished (core.clock + 1) (changed_at (with_unit done) core.faces s) _ rooms (let e = may.early in omega arith)
+      let here : face_at (changed_at (with_unit done) core.faces s) s ≡ with_unit done (face_at core.faces s) = changed_here (with_unit done) core.faces s no_face may.within in
+      let a = ok.last.advanced in
+      let b = ok.last.charged in
+      let c = ok.last.few in
+      rw (shown, run) (core_replenished (core.clock + 1) (record core.last { server = s }) (changed_at (with_unit done) core.faces s) _ rooms (let e = may.early in omega arith)
       (changed_kept reservation (with_unit done) core.faces s (λ f. refl))
       (AllByRecursion-changed_at _ _ (with_unit done) core.faces s no_face ok.each
       (λ f is. server_later core.backlog core.clock f is (core.clock + 1) (omega arith))
@@ -182,20 +258,58 @@ module _ {W : Type 0} {work : Meaning W} {core : CoreHeld W} (ok : IsCore work c
       (λ h. record {
         counted = counted_run (list_at core.queues s) (face_at core.faces s) may.active h.counted;
         unfinished = unfinished_run work (list_at core.queues s) h.unfinished;
-      })))
+      }))
+      (record {
+        advanced = omega arith;
+        charged = omega arith;
+        few = omega arith;
+        there = λ ne. let lt = may.within in omega (arith, length-changed_at (with_unit done) core.faces s);
+        begun = λ ne. rw here (begun_after_unit (face_at core.faces s).terms.mode (face_at core.faces s).terms.reservation (face_at core.faces s).state may.begun);
+      }))
 
   -- a jump by n ticks
   pub core_jumped : (n : ℕ) {faces : List Face} {rooms : List ℕ} → n ≤ clock_end - core.clock
       → faces ≡ map (with_replenishment (core.clock + n)) core.faces
-      → IsCore work (record { backlog = core.backlog; clock = core.clock + n; faces = faces; queues = core.queues; rooms = rooms })
-  core_jumped n {faces} {rooms} late shown = rw shown (core_replenished (core.clock + n) core.faces core.queues rooms (let k = ok.clock in omega arith) refl
-      (AllByRecursion-weaker _ _ core.faces ok.each (λ f is. server_later core.backlog core.clock f is (core.clock + n) (omega arith))) ok.jobs)
+      → IsCore work (record { backlog = core.backlog; clock = core.clock + n; last = record core.last { advanced_to = core.clock + n }; faces = faces; queues = core.queues; rooms = rooms })
+  core_jumped n {faces} {rooms} late shown =
+      let b = ok.last.charged in
+      let c = ok.last.few in
+      rw shown (core_replenished (core.clock + n) (record core.last { advanced_to = core.clock + n }) core.faces core.queues rooms (let k = ok.clock in omega arith) refl
+      (AllByRecursion-weaker _ _ core.faces ok.each (λ f is. server_later core.backlog core.clock f is (core.clock + n) (omega arith))) ok.jobs
+      (record { advanced = omega arith; charged = omega arith; few = omega arith; there = λ ne. absurd (ne refl); begun = λ ne. absurd (ne refl) }))
+
+  -- a charge of n ticks of server s, which runs
+  pub core_charged : (s n for_unit : ℕ) {faces : List Face} {rooms : List ℕ} → for_unit ≡ charged_at core.clock core.last + n
+      → s < length core.faces → is_running core s ≡ true → 0 < n → core.clock + n ≤ clock_end
+      → faces ≡ map (with_replenishment (core.clock + n)) (changed_at (with_charge n for_unit) core.faces s)
+      → IsCore work (record { backlog = core.backlog; clock = core.clock + n; last = record core.last { charged = for_unit; charged_to = core.clock + n }; faces = faces; queues = core.queues; rooms = rooms })
+  core_charged s n for_unit {faces} {rooms} so_many lt runs some early shown =
+      let last : LastUnit = record core.last { charged = for_unit; charged_to = core.clock + n } in
+      let is = server_at s lt in
+      let may = may_charge s n lt runs some early in
+      let a = ok.last.advanced in
+      let few : charged_at core.clock core.last ≤ core.clock = let c = ok.last.few in grind (arith, nat_tests) in
+      let here : face_at (changed_at (with_charge n for_unit) core.faces s) s ≡ with_charge n for_unit (face_at core.faces s) = changed_here (with_charge n for_unit) core.faces s no_face lt in
+      let runner = (running_server core s runs).1 in
+      rw shown (core_replenished (core.clock + n) last (changed_at (with_charge n for_unit) core.faces s) core.queues rooms early
+      (changed_kept reservation (with_charge n for_unit) core.faces s (λ f. refl))
+      (AllByRecursion-changed_at _ _ (with_charge n for_unit) core.faces s no_face ok.each
+      (λ f is. server_later core.backlog core.clock f is (core.clock + n) (omega arith))
+      (λ is. server_charged core.backlog core.clock (face_at core.faces s) is n for_unit may))
+      (AllZip-changed_second _ (with_charge n for_unit) core.queues core.faces s ok.jobs (λ jobs f h. record { counted = h.counted; unfinished = h.unfinished }))
+      (record {
+        advanced = omega arith;
+        charged = omega arith;
+        few = omega arith;
+        there = λ ne. omega (arith, length-changed_at (with_charge n for_unit) core.faces s);
+        begun = λ ne. rw (runner, here) (begun_after_charge (face_at core.faces s).terms.mode (face_at core.faces s).terms.reservation n (face_at core.faces s).state may.begun);
+      }))
 
   -- one more job of server s
   pub core_joined : (s : ℕ) (job : W) {faces : List Face} {queues : List (List W)} {rooms : List ℕ} → Accepts core s → 0 < work.left job
       → faces ≡ changed_at (with_job core.clock) core.faces s → queues ≡ changed_at (λ jobs. jobs ++ job ∷ []) core.queues s
-      → IsCore work (record { backlog = core.backlog; clock = core.clock; faces = faces; queues = queues; rooms = rooms })
-  core_joined s job {faces} {queues} {rooms} accepts some shown joined = rw (shown, joined) (core_made core.clock _ _ rooms ok.clock
+      → IsCore work (record { backlog = core.backlog; clock = core.clock; last = core.last; faces = faces; queues = queues; rooms = rooms })
+  core_joined s job {faces} {queues} {rooms} accepts some shown joined = rw (shown, joined) (core_made core.clock core.last _ _ rooms ok.clock
       (changed_kept reservation (with_job core.clock) core.faces s (λ f. refl))
       (AllByRecursion-changed_at _ _ (with_job core.clock) core.faces s no_face ok.each (λ f is. is)
       (λ is. server_joined core.backlog core.clock (face_at core.faces s) is accepts.few))
@@ -205,12 +319,16 @@ module _ {W : Type 0} {work : Meaning W} {core : CoreHeld W} (ok : IsCore work c
         counted = let c = h.counted in let k = (server_at s accepts.is_open.within).counted in omega
             (arith, length-append (list_at core.queues s) (job ∷ []));
         unfinished = AllByRecursion-push (λ w. 0 < work.left w) (list_at core.queues s) job h.unfinished some;
-      })))
+      }))
+      (last_changed core.clock (with_job core.clock) core.faces s core.last
+      (λ h. let is = server_at s accepts.is_open.within in
+      (arrives_in core.clock (face_at core.faces s) is.lawful is.state is.begun (core.clock + (core.clock + 1) * 1000000000) is.early (let p = is.lawful.short in omega arith)).begun) ok.last))
 
   -- server s is closed
   pub core_closed : (s : ℕ) {faces : List Face} {rooms : List ℕ} → s < length core.faces → faces ≡ changed_at with_close core.faces s
-      → IsCore work (record { backlog = core.backlog; clock = core.clock; faces = faces; queues = core.queues; rooms = rooms })
-  core_closed s {faces} {rooms} lt shown = rw shown (core_made core.clock _ core.queues rooms ok.clock
+      → IsCore work (record { backlog = core.backlog; clock = core.clock; last = core.last; faces = faces; queues = core.queues; rooms = rooms })
+  core_closed s {faces} {rooms} lt shown = rw shown (core_made core.clock core.last _ core.queues rooms ok.clock
       (changed_kept reservation with_close core.faces s (λ f. refl))
       (AllByRecursion-changed_at _ _ with_close core.faces s no_face ok.each (λ f is. is) (server_closed core.backlog core.clock (face_at core.faces s)))
-      (AllZip-changed_second _ with_close core.queues core.faces s ok.jobs (λ jobs f h. record { counted = h.counted; unfinished = h.unfinished })))
+      (AllZip-changed_second _ with_close core.queues core.faces s ok.jobs (λ jobs f h. record { counted = h.counted; unfinished = h.unfinished }))
+      (last_changed core.clock with_close core.faces s core.last (λ h. h) ok.last))

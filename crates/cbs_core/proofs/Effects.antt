@@ -6,8 +6,9 @@ use Rattle.std.specs.List.{AllByRecursion}
 use Rattle.cbs_job.specs.Work.{Meaning, Lowers}
 use Rattle.cbs_job.proofs.WholeResults.{whole_kept, output_last}
 use Rattle.cbs_lists.specs.Lists.{changed_at}
-use Rattle.cbs_steps.specs.Faces.{Face, no_face, face_at, with_job, with_unit, with_replenishment, with_close}
+use Rattle.cbs_steps.specs.Faces.{Face, no_face, face_at, with_job, with_unit, with_charge, with_replenishment, with_close}
 use Rattle.cbs_core.specs.Held.{CoreHeld, Held, held_at, SameJobs, TakesJob, RunsJob, ClosesServer, OthersSame, AllSame, DoesRun, ran_of}
+use Rattle.cbs_core.specs.declared.last_unit.LastUnit.{LastUnit}
 use Rattle.cbs_queues.specs.Queues.{list_at, jobs_run, result_run}
 use Rattle.cbs_steps.specs.declared.reply.Ran.{Ran}
 use Rattle.cbs_core.proofs.Cores.{MayRun}
@@ -34,15 +35,30 @@ module _ {W : Type 0} where
   replenished_same now (f ∷ fs) zero jobs = record { jobs = refl; accepted = refl; finished = refl; closed = refl }
   replenished_same now (f ∷ fs) (suc s) jobs = replenished_same now fs s jobs
 
-  module _ {old held : CoreHeld W} (view : old ≡ held) (clock : ℕ) (faces : List Face) (queues : List (List W)) (rooms : List ℕ) where
+  -- so does a charge
+  charge_same : (n for_unit : ℕ) (faces : List Face) (s t : ℕ) (jobs : List W)
+      → SameJobs (record { face = face_at faces t; jobs = jobs }) (record { face = face_at (changed_at (with_charge n for_unit) faces s) t; jobs = jobs })
+  charge_same n for_unit [] s t jobs = record { jobs = refl; accepted = refl; finished = refl; closed = refl }
+  charge_same n for_unit (f ∷ fs) zero zero jobs = record { jobs = refl; accepted = refl; finished = refl; closed = refl }
+  charge_same n for_unit (f ∷ fs) zero (suc t) jobs = record { jobs = refl; accepted = refl; finished = refl; closed = refl }
+  charge_same n for_unit (f ∷ fs) (suc s) zero jobs = record { jobs = refl; accepted = refl; finished = refl; closed = refl }
+  charge_same n for_unit (f ∷ fs) (suc s) (suc t) jobs = charge_same n for_unit fs s t jobs
+
+  module _ {old held : CoreHeld W} (view : old ≡ held) (clock : ℕ) (last : LastUnit) (faces : List Face) (queues : List (List W)) (rooms : List ℕ) where
     abbrev new : CoreHeld W
-    new = record { backlog = old.backlog; clock = clock; faces = faces; queues = queues; rooms = rooms }
+    new = record { backlog = old.backlog; clock = clock; last = last; faces = faces; queues = queues; rooms = rooms }
 
     -- a replenishment of all leaves the jobs of each
     pub jumped_same : (now : ℕ) → faces ≡ map (with_replenishment now) old.faces → queues ≡ old.queues
         → AllSame held new
     jumped_same now shown same =
         rw (← view) (λ t. rw (shown, same) (replenished_same now old.faces t (list_at old.queues t)))
+
+    -- a charge of server s, and a replenishment of all, leave the jobs of each
+    pub charged_same : (now n for_unit s : ℕ) → faces ≡ map (with_replenishment now) (changed_at (with_charge n for_unit) old.faces s) → queues ≡ old.queues
+        → AllSame held new
+    charged_same now n for_unit s shown same = rw (← view) (λ t. rw (shown, same) (same_along (charge_same n for_unit old.faces s t (list_at old.queues t))
+        (replenished_same now (changed_at (with_charge n for_unit) old.faces s) t (list_at old.queues t))))
 
     -- server s alone is changed
     module _ (s : ℕ) (f : Face → Face) (g : List W → List W) (shown : faces ≡ changed_at f old.faces s) (jobs : queues ≡ changed_at g old.queues s) where
@@ -102,18 +118,18 @@ module _ {W : Type 0} where
 
   -- a run of server s, and a replenishment of all
   pub did_run : {work : Meaning W} → Lowers work → {old held : CoreHeld W} → old ≡ held
-      → (clock now : ℕ) (faces : List Face) (queues : List (List W)) (rooms : List ℕ) (s : ℕ) (r : Ran)
+      → (clock now : ℕ) (last : LastUnit) (faces : List Face) (queues : List (List W)) (rooms : List ℕ) (s : ℕ) (r : Ran)
       → MayRun work old s → r ≡ ran_of s (face_at old.faces s).finished (result_run work (list_at old.queues s))
       → faces ≡ map (with_replenishment now) (changed_at (with_unit (is_some (result_run work (list_at old.queues s)))) old.faces s)
       → queues ≡ changed_at (jobs_run work) old.queues s
-      → DoesRun work r held (record { backlog = old.backlog; clock = clock; faces = faces; queues = queues; rooms = rooms })
-  did_run {work} law {old} {held} view clock now faces queues rooms s r may is shown jobs =
-      let new : CoreHeld W = record { backlog = old.backlog; clock = clock; faces = faces; queues = queues; rooms = rooms } in
+      → DoesRun work r held (record { backlog = old.backlog; clock = clock; last = last; faces = faces; queues = queues; rooms = rooms })
+  did_run {work} law {old} {held} view clock now last faces queues rooms s r may is shown jobs =
+      let new : CoreHeld W = record { backlog = old.backlog; clock = clock; last = last; faces = faces; queues = queues; rooms = rooms } in
       let f = with_unit (is_some (result_run work (list_at old.queues s))) in
       let middle = changed_at f old.faces s in
       let late : (t : ℕ) → SameJobs (record { face = face_at middle t; jobs = list_at queues t }) (held_at new t) =
       λ t. rw shown (replenished_same now middle t (list_at queues t)) in
-      let others : OthersSame s old new = λ t ne. same_along (others_same {old = old} refl clock middle queues rooms s f (jobs_run work) refl jobs t ne) (late t) in
+      let others : OthersSame s old new = λ t ne. same_along (others_same {old = old} refl clock last middle queues rooms s f (jobs_run work) refl jobs t ne) (late t) in
       let here : list_at queues s ≡ jobs_run work (list_at old.queues s) = rw jobs (changed_here (jobs_run work) old.queues s [] may.queue) in
       let there : SameJobs (record { face = f (face_at old.faces s); jobs = list_at queues s }) (held_at new s) =
       rw (changed_here f old.faces s no_face may.within) at (late s) in

@@ -1,16 +1,14 @@
 -- What a core holds is lawful: the laws of steps hold of every history with which it agrees.
-use Rattle.std.proofs.Common.{◌≡◌, ℕ, ◌<◌, length, List, [], refl, ◌∙◌, ap, Option, Some, None}
+use Rattle.std.proofs.Common.{◌≡◌, ℕ, length, List, [], refl, ◌∙◌, ap, Option, Some, None}
 use Rattle.cbs_job.specs.Work.{Meaning}
 use Rattle.cbs_rate.specs.Rate.{IsRate, Rate}
 use Rattle.cbs_steps.specs.Faces.{Face, reservations}
-use Rattle.cbs_steps.specs.Accounts.{face_of}
 use Rattle.cbs_core.specs.Invariant.{IsServer, IsCore}
 use Rattle.cbs_steps.specs.History.{History, Setup, ◌⊕◌, faces, reply_in, tick, world_after}
 use Rattle.cbs_core.specs.Held.{CoreHeld, IsCoreOnTime}
 use Rattle.cbs_core.specs.Agreement.{Agrees}
 use Rattle.cbs_steps.specs.Laws.{account_in}
-use Rattle.cbs_core.proofs.Agreements.{face_is}
-use Rattle.cbs_core.proofs.Cores.{server_at, budgets_kept}
+use Rattle.cbs_core.proofs.Cores.{budgets_kept}
 use Rattle.cbs_core.specs.Calls.{Makes}
 use Rattle.cbs_steps.specs.declared.reply.Reply.{Reply}
 use Rattle.std.specs.Prelude.{IfSome}
@@ -21,16 +19,8 @@ use Rattle.cbs_steps.specs.Punctual.{IsPunctual}
 use Rattle.cbs_steps.proofs.OnTime.{IsAdmitted, given, on_time_next, rates_are, rates_after, on_time_start}
 use Rattle.cbs_steps.specs.Promises.{promised, AllFinishedBy}
 use Rattle.cbs_core.proofs.OnTimeCores.{agreed_on_time}
-use Rattle.cbs_steps.proofs.LawfulServers.{IsLawful}
 use Rattle.cbs_steps.proofs.Promised.{tick_kept}
 use Rattle.cbs_steps.proofs.Punctual.{punctual}
-
--- each server of a core keeps it, after each history with which the core agrees
-pub lawful_at : {W : Type 0} {work : Meaning W} {core held : CoreHeld W} {M : History W} → core ≡ held → IsCore work core → Agrees work held M → (s : ℕ)
-    → s < length held.faces → IsLawful work (account_in work M s)
-lawful_at {work = work} {core = core} {M = M} view ok agrees s lt =
-    let is : IsServer core.backlog core.clock (face_of work (account_in work M s)) = rw (face_is view agrees s) (server_at ok s (rw view lt)) in
-    record { rate = is.lawful; state = is.state; begun = is.begun }
 
 module _ {W : Type 0} (work : Meaning W) where
   -- what a core keeps of its servers says that its reservations were admitted

@@ -1,17 +1,18 @@
 -- The list of the ready servers, as servers change.
-use Rattle.std.proofs.Common.{◌≡◌, ◌≢◌, ℕ, ◌<◌, true, eqb, List, [], ◌∷◌, length, map, get_or, set, Some}
+use Rattle.std.proofs.Common.{◌≡◌, ◌≢◌, ℕ, ◌<◌, true, eqb, List, [], ◌∷◌, length, map, get_or, set, Some, None, false}
 use Rattle.std.proofs.Common.{refl, sym, ◌∙◌, subst, inl, inr, arith}
 use Rattle.std.proofs.lemmas.Bool.{cases_Bool}
 use Rattle.std.proofs.lemmas.Bool.Decides.{nat_tests}
 use Rattle.std.proofs.lemmas.List.{get_or_read, get_or-set_same, get_or-set_other}
 use Rattle.cbs_rules.specs.Rules.{Terms}
-use Rattle.cbs_core.specs.declared.entries.Entry.{Entry}
+use Rattle.cbs_ready.specs.declared.entries.Entry.{Entry}
 use Rattle.cbs_steps.specs.Choice.{chosen_among, IsChoice}
 use Rattle.cbs_steps.specs.Faces.{Face, no_face, face_at, new_face, is_ready, ready_by, ranks}
-use Rattle.cbs_core.specs.ReadyList.{listed, first_of, IsOrdered, ListsReady}
+use Rattle.cbs_ready.specs.ReadyList.{listed, first_of, IsOrdered}
+use Rattle.cbs_core.specs.Invariant.{ListsReady}
 use Rattle.cbs_steps.proofs.Choices.{chosen_best}
 use Rattle.cbs_steps.proofs.Faces.{length-ranks, rank_ready, rank_deadline, runs_by, not_ready, ready_within, new_idle}
-use Rattle.cbs_core.proofs.ReadyList.{first_ahead}
+use Rattle.cbs_ready.proofs.Ordered.{first_ahead}
 
 -- the first of the list is the choice
 pub choice_listed : (fs : List Face) (es : List Entry) → ListsReady es fs → IsChoice (ranks fs) (length fs) (first_of es)
@@ -75,6 +76,10 @@ pub lists_same : (fs : List Face) (es : List Entry) (s : ℕ) (f g : Face) → L
 lists_same fs es s f g lists lt read same =
     let here : face_at fs s ≡ f = sym (get_or_read fs s f lt read no_face) in
     lists_set fs es es s g lists lt lists.ordered (rw here at (lists.each s) ∙ sym same) (λ t other. refl)
+
+-- a server that waits is not ready
+pub waits_unready : (f : Face) → f.state.throttled ≡ true → ready_by f ≡ None
+waits_unready f t = let n : is_ready f ≡ false = grind (arith, nat_tests) in rw n refl
 
 -- the empty list lists the ready servers among new ones
 pub lists_new : (ts : List Terms) → ListsReady [] (map new_face ts)

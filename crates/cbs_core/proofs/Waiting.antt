@@ -50,6 +50,10 @@ wake_least (f ∷ fs) (suc i) x lt read = let le = wake_least fs i x (omega arit
 pub wake_ready : (f : Face) → is_ready f ≡ true → wake f ≡ most
 wake_ready f h = rw (runnable f h).free refl
 
+-- nor does one that is not throttled
+pub wake_free : (f : Face) → f.state.throttled ≡ false → wake f ≡ most
+wake_free f h = rw h refl
+
 -- a server with no job does not wait
 pub wake_idle : (f : Face) → is_active f ≡ false → wake f ≡ most
 wake_idle f h = rw (h, and-false f.state.throttled) refl

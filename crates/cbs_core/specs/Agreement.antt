@@ -1,13 +1,13 @@
 -- When a core agrees with a history. A core keeps no history: it agrees with every history that leaves what it holds.
-use Rattle.std.specs.Prelude.{◌≡◌, ℕ, ◌+◌, ◌-◌, List, [], ◌∷◌, map}
+use Rattle.std.specs.Prelude.{◌≡◌, ℕ, ◌+◌, ◌-◌, true, List, [], ◌∷◌, map}
 use Rattle.std.specs.List.{AllZip}
 use Rattle.cbs_job.specs.Work.{Meaning, whole}
 use Rattle.cbs_steps.specs.Accounts.{Account, finished, need, unfinished}
-use Rattle.cbs_steps.specs.History.{World, History, ◌⊕◌, faces, world_after}
+use Rattle.cbs_steps.specs.History.{World, History, ◌⊕◌, account, faces, world_after}
 use Rattle.cbs_steps.specs.Continuations.{◌⊕⊕◌, EachAllowed}
 use Rattle.cbs_steps.specs.OnTime.{IsWorldOnTime}
 use Rattle.cbs_steps.specs.declared.step.Step.{Step}
-use Rattle.cbs_core.specs.Held.{CoreHeld, IsCoreOnTime}
+use Rattle.cbs_core.specs.Held.{CoreHeld, is_running, charged_at, IsCoreOnTime}
 
 -- the list with another first number
 abbrev pub with_first_number : ℕ → List ℕ → List ℕ
@@ -27,6 +27,8 @@ module _ {W : Type 0} where
     pub clock : core.clock ≡ w.now
     pub shown : core.faces ≡ faces work w
     pub jobs : AllZip (AgreesJobs work) core.queues w.accounts
+    pub runs : (s : ℕ) → (account w.accounts s).runs ≡ is_running core s
+    pub latest : (s : ℕ) → is_running core s ≡ true → (account w.accounts s).latest ≡ charged_at core.clock core.last
 
   -- the core agrees with the history
   pub record Agrees (work : Meaning W) (core : CoreHeld W) (M : History W) : Type 0 where

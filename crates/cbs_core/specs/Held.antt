@@ -1,5 +1,5 @@
 -- What a core holds, and what each call does to it.
-use Rattle.std.specs.Prelude.{◌≡◌, ◌≢◌, ℕ, ◌+◌, ◌<◌, ◌≤◌, true, false, List, [], ◌∷◌, ◌++◌, length, map, get_or, Option, Some, None}
+use Rattle.std.specs.Prelude.{◌≡◌, ◌≢◌, ℕ, ◌+◌, ◌<◌, ◌≤◌, Bool, true, false, eqb, if◌then◌else◌, List, [], ◌∷◌, ◌++◌, length, map, get_or, Option, Some, None}
 use Rattle.cbs_job.specs.Work.{Meaning, whole}
 use Rattle.cbs_job.specs.declared.completion.Completion.{Completion}
 use Rattle.cbs_rules.specs.Rules.{clock_end}
@@ -7,16 +7,26 @@ use Rattle.cbs_steps.specs.Faces.{Face, face_at, backlog_of}
 pub use Rattle.cbs_queues.specs.Queues.{room_of, KeepsRoom, front_output}
 use Rattle.cbs_steps.specs.Laws.{IsWithinBudget}
 use Rattle.cbs_steps.specs.OnTime.{IsOnTime}
+use Rattle.cbs_core.specs.declared.last_unit.LastUnit.{LastUnit}
 use Rattle.cbs_steps.specs.declared.error.CoreError.{CoreError}
 use Rattle.cbs_steps.specs.declared.error.CoreError.TheVariants as error
 use Rattle.cbs_steps.specs.declared.reply.Ran.{Ran}
 use Rattle.cbs_steps.specs.declared.reply.Ran.TheVariants as ran
 
--- what a core holds: the greatest backlog, the clock, what each server shows, its unfinished jobs, in order, each as far as
--- it has come, and for each server how many more jobs fit with no allocation
+-- the server of the last unit, if it runs still: the clock stands elsewhere than an advance left it
+abbrev pub runner_at : ℕ → LastUnit → Option ℕ
+runner_at now l = if eqb l.advanced_to now then None else Some l.server
+
+-- what was charged for the last unit
+abbrev pub charged_at : ℕ → LastUnit → ℕ
+charged_at now l = if eqb l.charged_to now then l.charged else 0
+
+-- what a core holds: the greatest backlog, the clock, what is known of the last unit, what each server shows, its unfinished jobs, in
+-- order, each as far as it has come, and for each server how many more jobs fit with no allocation
 pub record CoreHeld (W : Type 0) : Type 0 where
   pub backlog : ℕ
   pub clock : ℕ
+  pub last : LastUnit
   pub faces : List Face
   pub queues : List (List W)
   pub rooms : List ℕ
@@ -26,10 +36,23 @@ pub record Held (W : Type 0) : Type 0 where
   pub face : Face
   pub jobs : List W
 
+-- there is one, and it is this
+abbrev pub is_some_of : Option ℕ → ℕ → Bool
+is_some_of None s = false
+is_some_of (Some t) s = eqb t s
+
 module _ {W : Type 0} where
   -- what is held of server s
   abbrev pub held_at : CoreHeld W → ℕ → Held W
   held_at core s = record { face = face_at core.faces s; jobs = get_or core.queues s [] }
+
+  -- the server that runs, if there is one: it got the last unit, and no tick has passed since but what it was charged for that
+  abbrev pub running : CoreHeld W → Option ℕ
+  running core = runner_at core.clock core.last
+
+  -- server s runs
+  abbrev pub is_running : CoreHeld W → ℕ → Bool
+  is_running core s = is_some_of (running core) s
 
   -- the core holds a job: an accepted job is not finished
   abbrev pub HoldsJob : CoreHeld W → Type 0

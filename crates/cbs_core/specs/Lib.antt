@@ -3,5 +3,4 @@ pub mod Calls
 pub mod Held
 pub mod IdleSpans
 pub mod Invariant
-pub mod ReadyList
 pub mod Waiting

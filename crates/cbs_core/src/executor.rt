@@ -4,9 +4,9 @@ ghost use Rattle.std.specs.Prelude.{◌≡◌, ℕ, ◌+◌, ◌*◌, ◌<◌, �
 ghost use Rattle.cbs_rate.specs.Refusals.{RefusesByOrMemory};
 ghost use Rattle.cbs_steps.specs.Quiet.{IsAtRest, IsIdleSpan};
 ghost use Rattle.cbs_steps.specs.Choice.{IsChoice};
-ghost use Rattle.cbs_steps.specs.Faces.{face_at, ranks, submit_refusal, view_reply};
+ghost use Rattle.cbs_steps.specs.Faces.{face_at, ranks, submit_refusal, view_reply, charges_reply};
 ghost use Rattle.cbs_steps.specs.History.{History, ◌⊕◌, faces, world_after, chosen};
-ghost use Rattle.cbs_steps.specs.Replies.{submitted, advanced, closed, is_lack, grown_by};
+ghost use Rattle.cbs_steps.specs.Replies.{submitted, advanced, closed, charged, is_lack, grown_by};
 ghost use Rattle.cbs_steps.specs.Laws.{account_in, completion_in, completion_of, completions_of, Completes, NoneAfterClose, IsWithinBudget};
 ghost use Rattle.cbs_steps.specs.OnTime.{IsWorldOnTime};
 ghost use Rattle.cbs_steps.specs.Promises.{promised, AllFinishedBy};
@@ -14,15 +14,16 @@ ghost use Rattle.cbs_steps.specs.Punctual.{IsPunctual};
 ghost use Rattle.cbs_steps.specs.Setups.{terms_of, new_refusal};
 ghost use Rattle.cbs_core.specs.Agreement.{Agrees};
 ghost use Rattle.cbs_core.specs.Calls.{Makes, Tries, TriesAll};
-ghost use Rattle.cbs_core.specs.Held.{room_of, KeepsRoom, IsOpen, HasRoom, IsRefusedBy, IsCoreOnTime, front_output, held_at, TakesJob, ClosesServer, OthersSame, AllSame, DoesRun, CountsOn, ran_of};
+ghost use Rattle.cbs_core.specs.Held.{room_of, KeepsRoom, IsOpen, HasRoom, IsRefusedBy, IsCoreOnTime, front_output, held_at, TakesJob, ClosesServer, OthersSame, AllSame, DoesRun, CountsOn, running, is_running, ran_of};
 ghost use Rattle.cbs_rate.specs.Limits.{longest_period, most_servers};
 
+use crate::last_unit::LastUnit;
 use crate::servers::Servers;
 use cbs_job::{Completion, Task, Work};
 use cbs_queues::Queues;
 use cbs_rate::Plan;
 use cbs_rules::{LIMIT, Modes};
-use cbs_steps::{CoreError, Ran, Reply, ServerView, Step, StepsRefused, SubmitRefused};
+use cbs_steps::{Charges, CoreError, Ran, Reply, ServerView, Step, StepsRefused, SubmitRefused};
 use std::alloc::{Allocator, Global};
 use std::marker::Model;
 
@@ -37,6 +38,7 @@ pub struct Core<W: Work, A: Allocator = Global> {
     alloc: A,
     backlog: u64,
     clock: u64,
+    last: LastUnit,
     // In front of the servers, whose list of the ready ones is long.
     queues: Queues<W, A>,
     servers: Servers<A>,
@@ -49,6 +51,7 @@ impl<W: Work, A: Allocator> Drop for Core<W, A> {
             alloc: _,
             backlog: _,
             clock: _,
+            last: _,
             queues: _,
             servers: _,
         } = self;
@@ -61,9 +64,9 @@ impl<W: Work, A: Allocator> Model for Core<W, A> {
 
     ghost Value = { CoreHeld W };
 
-    ghost view = { λ c. record { backlog = c.backlog; clock = c.clock; faces = c.servers; queues = c.queues.lists; rooms = c.queues.rooms } };
+    ghost view = { λ c. record { backlog = c.backlog; clock = c.clock; last = c.last; faces = c.servers; queues = c.queues.lists; rooms = c.queues.rooms } };
 
-    ghost invariant = { λ c. IsCore W.meaning (record { backlog = c.backlog; clock = c.clock; faces = c.servers; queues = c.queues.lists; rooms = c.queues.rooms }) };
+    ghost invariant = { λ c. IsCore W.meaning (record { backlog = c.backlog; clock = c.clock; last = c.last; faces = c.servers; queues = c.queues.lists; rooms = c.queues.rooms }) };
 }
 
 impl<W: Work, A: Allocator + Clone> Core<W, A> {
@@ -94,6 +97,7 @@ impl<W: Work, A: Allocator + Clone> Core<W, A> {
             alloc,
             backlog,
             clock: 0,
+            last: LastUnit::new(),
             servers,
             queues,
         })
@@ -187,6 +191,7 @@ impl<W: Work, A: Allocator> Core<W, A> {
             return Ran::ClockEnd;
         }
         self.clock += 1;
+        self.last.server = server;
         let seq = self.servers.finished(server);
         let result = self.queues.run_first(server);
         self.servers.use_tick(server, result.is_some());
@@ -210,9 +215,54 @@ impl<W: Work, A: Allocator> Core<W, A> {
         }
         if n > 0 {
             self.clock += n;
+            self.last.advanced_to = self.clock;
             self.servers.replenish(self.clock);
         }
         Ok(())
+    }
+
+    /// Charges the server that ran the last unit the ticks that the unit took beyond its first: as many pass, and the
+    /// server pays for them from its budget, and from those to come. So a unit that takes long takes nobody's share. A
+    /// charge of 0 is accepted and changes nothing.
+    ///
+    /// Refuses, in this order: [`CoreError::NoSuchServer`]; [`CoreError::NotRunning`], unless the server ran the last
+    /// unit, and no tick has passed since but what it was charged for it; [`CoreError::ClockEnd`] if the clock would
+    /// pass [`LIMIT`]. Then nothing changed.
+    #[tactic(auto, using(cbs_lists::proofs::Lists::counted, crate::proofs::Cores::budgets_kept))]
+    pub fn charge(&mut self, server: u16, ticks: u64) -> Result<(), CoreError>
+        ensures makes { Makes W.meaning self.old self.new (Step.Charge server ticks) (charged result) }
+        ensures jobs { AllSame self.old self.new }
+        ensures unchanged { OnErr result (self.new ≡ self.old) }
+        ensures kept { KeepsRoom self.old.rooms self.new.rooms }
+    {
+        if server >= self.servers.len() {
+            return Err(CoreError::NoSuchServer);
+        }
+        if !self.last.is_of(server, self.clock) {
+            return Err(CoreError::NotRunning);
+        }
+        if ticks > LIMIT - self.clock {
+            return Err(CoreError::ClockEnd);
+        }
+        if ticks > 0 {
+            self.charge_running(server, ticks);
+        }
+        Ok(())
+    }
+
+    /// Charges the server that runs, which the clock allows.
+    #[tactic(auto, using(cbs_lists::proofs::Lists::counted, crate::proofs::Cores::budgets_kept))]
+    fn charge_running(&mut self, server: u16, ticks: u64)
+        requires running { is_running self.old server ≡ true }
+        requires some { 0 < ticks }
+        requires clock { self.old.clock + ticks ≤ LIMIT }
+        ensures makes { Makes W.meaning self.old self.new (Step.Charge server ticks) Reply.Charged }
+        ensures jobs { AllSame self.old self.new }
+        ensures kept { KeepsRoom self.old.rooms self.new.rooms }
+    {
+        let for_unit = self.last.charge(self.clock, ticks);
+        self.clock += ticks;
+        self.servers.charge(server, ticks, for_unit, self.clock);
     }
 
     /// Closes a server: it accepts no further job. The jobs that it accepted stay, and are run.
@@ -302,15 +352,33 @@ impl<W: Work, A: Allocator> Core<W, A> {
         self.servers.view(server)
     }
 
+    /// Returns the server that runs, which [`charge`](Core::charge) may charge: it ran the last unit, and no tick has
+    /// passed since but what it was charged for that. Returns `None` if there is none.
+    pub fn running(&self) -> Option<u16>
+        ensures held { result ≡ running self.now }
+        ensures running { (M : History W) → Agrees W.meaning self.now M
+            → MatchOption result ((s : ℕ) → (account_in W.meaning M s).runs ≡ false) (λ s. (account_in W.meaning M s).runs ≡ true) }
+    {
+        self.last.running(self.clock)
+    }
+
+    /// Returns what a server was charged, in all and at most for one unit, or [`CoreError::NoSuchServer`].
+    pub fn charges(&self, server: u16) -> Result<Charges, CoreError>
+        ensures held { result ≡ charges_reply (slice_get self.now.faces server) }
+        ensures charges { (M : History W) → Agrees W.meaning self.now M → result ≡ charges_reply (slice_get (faces W.meaning (world_after W.meaning M)) server) }
+    {
+        self.servers.charges(server).ok_or(CoreError::NoSuchServer)
+    }
+
     /// Returns the tick by which every job that a server accepted so far is finished, or `None` if all
     /// are finished or there is no such server.
     ///
-    /// It is kept if all are on time now and no advance to come takes anybody's time. Both hold of a
-    /// core whose advances are all by [`idle_span`](Core::idle_span). After an advance that took
-    /// somebody's time, a server may be late already, and the tick may have passed.
+    /// It is kept if all are on time now, and no advance and no charge to come takes anybody's time. Both hold of
+    /// a core with no charges whose advances are all by [`idle_span`](Core::idle_span). After an advance or a
+    /// charge that took somebody's time, a server may be late already, and the tick may have passed.
     ///
-    /// With c and d the budget and the deadline of the server, Q ticks in every T, and its jobs `owed`
-    /// units, it is `d + ceil((owed - c) / Q) * T`, or d if c suffices. No later step makes it wrong:
+    /// With c, d and o the budget, deadline and overrun of the server, Q ticks in every T, and its jobs `owed`
+    /// units, it is `d + ceil((owed + o - c) / Q) * T`, or d if c suffices. No later step makes it wrong:
     /// it may be told to whoever waits for the job that was submitted last.
     pub fn promised(&self, server: u16) -> Option<u128>
         ensures value { (M : History W) → Agrees W.meaning self.now M → result ≡ promised W.meaning (account_in W.meaning M server) }
@@ -373,7 +441,7 @@ impl<W: Work, A: Allocator> Core<W, A> {
     }
 
     /// Does one step, and answers it: as [`submit`](Core::submit), [`run`](Core::run),
-    /// [`advance`](Core::advance) and [`close`](Core::close) do.
+    /// [`advance`](Core::advance), [`close`](Core::close) and [`charge`](Core::charge) do.
     pub fn step(&mut self, step: Step<W>) -> Reply<W>
         ensures tries { Tries W.meaning self.old self.new step result }
         ensures completes { is_lack result ≡ false → (M : History W) → Agrees W.meaning self.old M → (s : ℕ)
@@ -392,6 +460,7 @@ impl<W: Work, A: Allocator> Core<W, A> {
             Step::Run => Reply::Ran(self.run()),
             Step::Advance(n) => advanced(self.advance(n)),
             Step::Close(server) => closed(self.close(server)),
+            Step::Charge(server, ticks) => charged(self.charge(server, ticks)),
         }
     }
 }
@@ -419,6 +488,15 @@ fn closed<W: Work>(answer: Result<(), CoreError>) -> Reply<W>
 {
     match answer {
         Ok(()) => Reply::Closed,
+        Err(error) => Reply::Refused(error),
+    }
+}
+
+fn charged<W: Work>(answer: Result<(), CoreError>) -> Reply<W>
+    ensures { result ≡ charged answer }
+{
+    match answer {
+        Ok(()) => Reply::Charged,
         Err(error) => Reply::Refused(error),
     }
 }

@@ -2,13 +2,14 @@
 //! by earliest deadline, and the clock.
 #![tactic(auto)]
 
-mod entries;
 mod executor;
-mod ready_list;
+mod last_unit;
 mod server;
 mod servers;
 mod waits;
 
 pub use cbs_rules::LIMIT;
-pub use cbs_steps::{CoreError, Ran, Reply, ServerView, Step, StepsRefused, SubmitRefused};
+pub use cbs_steps::{
+    Charges, CoreError, Ran, Reply, ServerView, Step, StepsRefused, SubmitRefused,
+};
 pub use executor::{Core, MAX_BACKLOG};

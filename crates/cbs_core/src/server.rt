@@ -1,12 +1,12 @@
 //! One server, but for its jobs.
 
-ghost use Rattle.std.specs.Prelude.{◌≡◌, ℕ, ◌+◌, ◌<◌, ◌≤◌, ◌^◌, false, true, Some};
-ghost use Rattle.cbs_steps.specs.Faces.{new_face, is_active, is_ready, ready_by, backlog_of, refuses_close, refuses_submit, view_of, with_job, with_unit, with_replenishment, with_close};
+ghost use Rattle.std.specs.Prelude.{◌≡◌, ℕ, ◌+◌, ◌*◌, ◌<◌, ◌≤◌, ◌^◌, false, true, Some};
+ghost use Rattle.cbs_steps.specs.Faces.{new_face, is_active, is_ready, ready_by, backlog_of, refuses_close, refuses_submit, view_of, with_job, with_unit, with_charge, with_replenishment, with_close};
 ghost use Rattle.cbs_steps.specs.Promises.{promised_by};
 
 use cbs_rate::Reservation;
 use cbs_rules::{LIMIT, MAX_DEADLINE, Mode, ServerState};
-use cbs_steps::{CoreError, ServerView};
+use cbs_steps::{Charges, CoreError, ServerView};
 use std::marker::Model;
 
 /// One server, but for its jobs.
@@ -17,6 +17,8 @@ pub struct Server {
     closed: bool,
     accepted: u64,
     finished: u64,
+    charged: u64,
+    most_charged: u64,
 }
 
 impl Model for Server {
@@ -25,7 +27,7 @@ impl Model for Server {
 
     ghost Value = { Face };
 
-    ghost view = { λ s. record { terms = record { mode = s.mode; reservation = s.state.reservation }; state = s.state.state; closed = s.closed; accepted = s.accepted; finished = s.finished } };
+    ghost view = { λ s. record { terms = record { mode = s.mode; reservation = s.state.reservation }; state = s.state.state; charges = record { total = s.charged; most = s.most_charged }; closed = s.closed; accepted = s.accepted; finished = s.finished } };
 
     ghost invariant = { λ s. s.finished ≤ s.accepted };
 }
@@ -41,6 +43,8 @@ impl Server {
             closed: false,
             accepted: 0,
             finished: 0,
+            charged: 0,
+            most_charged: 0,
         }
     }
 
@@ -109,10 +113,11 @@ impl Server {
             return None;
         }
         let reservation = self.state.reservation();
-        let budgets = units
-            .saturating_sub(self.state.budget())
-            .div_ceil(reservation.budget());
-        Some(self.deadline() + u128::from(budgets) * u128::from(reservation.period()))
+        let owed = u128::from(units) + u128::from(self.state.overrun());
+        let budgets = owed
+            .saturating_sub(u128::from(self.state.budget()))
+            .div_ceil(u128::from(reservation.budget()));
+        Some(self.deadline() + budgets * u128::from(reservation.period()))
     }
 
     /// Why a close is refused, if it is.
@@ -199,6 +204,32 @@ impl Server {
             self.finished += 1;
         }
         more && self.is_active()
+    }
+
+    /// Charges it so many ticks for its last unit, for which it was then charged as many as said.
+    pub fn charge(&mut self, ticks: u64, for_unit: u64)
+        requires some { 0 < ticks }
+        requires few { ticks ≤ LIMIT }
+        requires free { self.old.terms.mode ≡ Mode.Soft → self.old.state.throttled ≡ false }
+        requires begun { 0 < self.old.state.deadline }
+        requires room { self.old.state.deadline + ticks * self.old.terms.reservation.period ≤ MAX_DEADLINE + 1000000000 }
+        requires counted { self.old.charges.total + ticks < 2 ^ 64 }
+        ensures face { self.new ≡ with_charge ticks for_unit self.old }
+        ensures waits { self.old.state.throttled ≡ true → self.new.state.throttled ≡ true }
+    {
+        self.state.charge(self.mode, ticks);
+        self.charged += ticks;
+        self.most_charged = self.most_charged.max(for_unit);
+    }
+
+    /// Returns how many ticks it was charged, in all and at most for one unit.
+    pub fn charges(&self) -> Charges
+        ensures { result ≡ self.now.charges }
+    {
+        Charges {
+            total: self.charged,
+            most: self.most_charged,
+        }
     }
 
     /// Replenishes the server at tick `now`, if that is due.

@@ -1,23 +1,25 @@
 //! All servers, but for their jobs: the choice among them, and what the rules do to them.
 
-ghost use Rattle.std.specs.Prelude.{◌≡◌, ◌≢◌, ℕ, ◌+◌, ◌-◌, ◌<◌, ◌≤◌, ◌^◌, false, Some, IfOk, OnOk, MatchOption, length, map, slice_get};
+ghost use Rattle.std.specs.Prelude.{◌≡◌, ◌≢◌, ℕ, ◌+◌, ◌-◌, ◌<◌, ◌≤◌, ◌^◌, false, true, Some, option_map, IfOk, OnOk, MatchOption, length, map, slice_get};
 ghost use Rattle.cbs_rate.specs.Plan.{IsPlan};
 ghost use Rattle.cbs_lists.specs.Lists.{changed_at};
 ghost use Rattle.cbs_steps.specs.Choice.{chosen_among, IsChoice};
-ghost use Rattle.cbs_steps.specs.Faces.{new_face, face_at, is_active, ready_by, ranks, close_refusal, submit_refusal, view_reply, with_job, with_unit, with_replenishment, with_close};
+ghost use Rattle.cbs_steps.specs.Faces.{new_face, face_at, is_active, ready_by, ranks, close_refusal, submit_refusal, view_reply, with_job, with_unit, with_charge, with_replenishment, with_close};
 ghost use Rattle.cbs_core.specs.IdleSpans.{NoneReady, span_of};
 ghost use Rattle.cbs_steps.specs.Promises.{promised_by};
-ghost use Rattle.cbs_core.specs.ReadyList.{listed, IsOrdered, ListsReady};
+ghost use Rattle.cbs_core.specs.Invariant.{MayCharge};
+ghost use Rattle.cbs_ready.specs.ReadyList.{listed, IsOrdered};
+ghost use Rattle.cbs_core.specs.Invariant.{ListsReady};
 ghost use Rattle.cbs_core.specs.Waiting.{Keeps};
 ghost use Rattle.cbs_steps.specs.Setups.{terms_of};
 ghost use Rattle.cbs_rate.specs.Limits.{most_servers};
 
-use crate::ready_list::ReadyList;
 use crate::server::Server;
 use crate::waits::Waits;
 use cbs_rate::Plan;
+use cbs_ready::ReadyList;
 use cbs_rules::{LIMIT, MAX_DEADLINE, Modes};
-use cbs_steps::{CoreError, ServerView};
+use cbs_steps::{Charges, CoreError, ServerView};
 use std::alloc::{AllocError, Allocator, Global};
 use std::marker::Model;
 
@@ -33,7 +35,8 @@ impl<A: Allocator> Model for Servers<A> {
     ghost use Rattle.cbs_rate.specs.Limits.{most_servers};
     ghost use Rattle.std.specs.Prelude.{List, ◌≤◌, length};
     ghost use Rattle.cbs_steps.specs.Faces.{Face};
-    ghost use Rattle.cbs_core.specs.ReadyList.{ListsReady};
+    ghost use Rattle.cbs_core.specs.Invariant.{MayCharge};
+    ghost use Rattle.cbs_core.specs.Invariant.{ListsReady};
     ghost use Rattle.cbs_core.specs.Waiting.{Keeps};
 
     ghost Value = { List Face };
@@ -200,6 +203,58 @@ impl<A: Allocator> Servers<A> {
         if now >= self.waits.due {
             self.waits = replenish_all(&mut self.servers, &mut self.ready, now);
         }
+    }
+
+    /// Charges a server so many ticks for its last unit, for which it was then charged as many as said; then replenishes
+    /// every server that is due at tick `now`.
+    #[inline(never)]
+    pub fn charge(&mut self, server: u16, ticks: u64, for_unit: u64, now: u64)
+        requires within { server < length self.old }
+        requires may { MayCharge ticks (face_at self.old server) }
+        requires clock { now ≤ LIMIT }
+        ensures { self.new ≡ map (with_replenishment now) (changed_at (with_charge ticks for_unit) self.old server) }
+    {
+        if self.servers[usize::from(server)].is_throttled() {
+            self.charge_throttled(server, ticks, for_unit, now);
+        } else {
+            self.charge_free(server, ticks, for_unit);
+            self.replenish(now);
+        }
+    }
+
+    /// Charges a server that is throttled. It stays so, for a later deadline: how long the servers wait is told anew.
+    #[tactic(auto, using(cbs_lists::proofs::Lists::written))]
+    fn charge_throttled(&mut self, server: u16, ticks: u64, for_unit: u64, now: u64)
+        requires within { server < length self.old }
+        requires may { MayCharge ticks (face_at self.old server) }
+        requires throttled { (face_at self.old server).state.throttled ≡ true }
+        requires clock { now ≤ LIMIT }
+        ensures { self.new ≡ map (with_replenishment now) (changed_at (with_charge ticks for_unit) self.old server) }
+    {
+        self.servers[usize::from(server)].charge(ticks, for_unit);
+        self.waits = replenish_all(&mut self.servers, &mut self.ready, now);
+    }
+
+    /// Charges a server that is not throttled. It may be then, and is ready by another deadline, or no longer.
+    #[tactic(auto, using(cbs_lists::proofs::Lists::written))]
+    fn charge_free(&mut self, server: u16, ticks: u64, for_unit: u64)
+        requires within { server < length self.old }
+        requires may { MayCharge ticks (face_at self.old server) }
+        requires free { (face_at self.old server).state.throttled ≡ false }
+        ensures { self.new ≡ changed_at (with_charge ticks for_unit) self.old server }
+    {
+        let it = &mut self.servers[usize::from(server)];
+        let before = it.ready_by();
+        it.charge(ticks, for_unit);
+        self.ready.follow(server, before, it.ready_by());
+        self.waits.note(it);
+    }
+
+    /// Returns what a server was charged, or `None` if there is no such server.
+    pub fn charges(&self, server: u16) -> Option<Charges>
+        ensures { result ≡ option_map (λ f. f.charges) (slice_get self.now server) }
+    {
+        self.servers.get(usize::from(server)).map(|it| it.charges())
     }
 
     /// Lets a server accept no further job.

@@ -1,10 +1,11 @@
 -- What a call on a handle does to what the handle holds: what the call of the house or of the client does, or a refusal.
 use Rattle.std.specs.Prelude.{ℕ, slice_get, ◌≡◌, ◌+◌, ◌<◌, ◌≤◌, Option, Some, None, Result, Ok, Err, length, map}
 use Rattle.std.specs.Global.{Global}
+use Rattle.cbs_steps.specs.declared.charges.Charges as charges
 use Rattle.cbs_steps.specs.declared.view.ServerView.{ServerView}
 use Rattle.cbs_steps.specs.declared.reply.Ran.{Ran}
 use Rattle.cbs_steps.specs.declared.reply.Ran.TheVariants as ran
-use Rattle.cbs_clients.specs.Calls.{PollOf, RunOf, TurnOf, AdvanceOf, ClockOf, SpanOf, ViewOf, PromiseOf, LooksAtRing, SendOf, EndOf}
+use Rattle.cbs_clients.specs.Calls.{PollOf, RunOf, TurnOf, AdvanceOf, ChargeOf, ChargesOf, ClockOf, SpanOf, ViewOf, PromiseOf, LooksAtRing, SendOf, EndOf}
 use Rattle.cbs_clients.specs.Clients.{free, slots_of}
 use Rattle.cbs_clients.specs.Houses.{core_of, IsHouseOnTime, received, HandsOutResults}
 use Rattle.cbs_clients.specs.Messages.{jobs_among}
@@ -117,6 +118,17 @@ abbrev pub Advances : ℕ → TheHouse → Result (Unit {0}) Refusal → TheHous
 Advances n old (Ok x) new = AdvanceOf counting n old (Ok x) new
 Advances n old (Err (refused.House e)) new = AdvanceOf counting n old (Err e) new
 Advances n old (Err _) new = ⊥
+
+abbrev pub ChargesServer : ℕ → ℕ → TheHouse → Result (Unit {0}) Refusal → TheHouse → Type 0
+ChargesServer s n old (Ok x) new = ChargeOf counting s n old (Ok x) new
+ChargesServer s n old (Err (refused.House e)) new = ChargeOf counting s n old (Err e) new
+ChargesServer s n old (Err _) new = ⊥
+
+-- what server s was charged is told, or that the house has none; the house is the same
+abbrev pub ShowsCharges : ℕ → TheHouse → Result charges.Charges Refusal → TheHouse → Type 0
+ShowsCharges s old (Ok told) new = (new ≡ old) × ChargesOf counting s old (Ok told)
+ShowsCharges s old (Err (refused.House e)) new = (new ≡ old) × ChargesOf counting s old (Err e)
+ShowsCharges s old (Err _) new = ⊥
 
 -- the clock is told, and the house is the same
 abbrev pub TellsClock : TheHouse → Result ℕ Refusal → TheHouse → Type 0

@@ -4,7 +4,7 @@ ghost use Rattle.std.specs.Prelude.{◌≡◌, ◌≤◌, length, IfErr, MatchRe
 ghost use Rattle.cbs_embed.specs.declared.refusal.HandleError.TheVariants as HandleError;
 ghost use Rattle.cbs_embed.specs.declared.refusal.Refusal.{Refusal};
 ghost use Rattle.cbs_embed.specs.declared.refusal.Refusal.TheVariants as refused;
-ghost use Rattle.cbs_embed.specs.Calls.{OnHeld, InHouse, InClient, Drops, Runs, Turns, HasServer, Polls, Advances, TellsClock, Spans, Shows, Promises, Sends, Ends, Waits, NamesToken};
+ghost use Rattle.cbs_embed.specs.Calls.{OnHeld, InHouse, InClient, Drops, Runs, Turns, HasServer, Polls, Advances, ChargesServer, ShowsCharges, TellsClock, Spans, Shows, Promises, Sends, Ends, Waits, NamesToken};
 ghost use Rattle.cbs_clients.specs.Calls.{LooksAtRing};
 ghost use Rattle.cbs_embed.specs.Jobs.{counting};
 ghost use Rattle.cbs_embed.specs.Handles.{held_by};
@@ -14,7 +14,7 @@ ghost use Rattle.cbs_clients.specs.declared.error.HouseError.TheVariants.{NoSuch
 use crate::handle::Handle;
 use crate::job::UnitJob;
 use crate::refusal::{HandleError, Refusal};
-use cbs_core::{Ran, ServerView};
+use cbs_core::{Charges, Ran, ServerView};
 use cbs_house::{Client, House, HouseError, Poll, Turn};
 use cbs_job::Task;
 
@@ -126,6 +126,34 @@ pub fn advance(handle: &mut Handle, ticks: u64) -> Result<(), Refusal>
     ensures { OnHeld (InHouse (Advances ticks)) (held_by handle.old) result (held_by handle.new) }
 {
     advance_house(handle.house_mut()?, ticks)
+}
+
+fn charge_house(house: &mut House<UnitJob>, server: u16, ticks: u64) -> Result<(), Refusal>
+    ensures { ChargesServer server ticks house.old result house.new }
+{
+    house
+        .charge_server(server, ticks)
+        .map_err(|error| Refusal::House(error))
+}
+
+/// Charges a server the ticks that its last unit took beyond the first, as [`House::charge_server`].
+pub fn charge(handle: &mut Handle, server: u16, ticks: u64) -> Result<(), Refusal>
+    ensures { OnHeld (InHouse (ChargesServer server ticks)) (held_by handle.old) result (held_by handle.new) }
+{
+    charge_house(handle.house_mut()?, server, ticks)
+}
+
+fn charges_house(house: &mut House<UnitJob>, server: u16) -> Result<Charges, Refusal>
+    ensures { ShowsCharges server house.old result house.new }
+{
+    house.charges(server).map_err(|error| Refusal::House(error))
+}
+
+/// Returns what a server was charged, as [`House::charges`].
+pub fn charges(handle: &mut Handle, server: u16) -> Result<Charges, Refusal>
+    ensures { OnHeld (InHouse (ShowsCharges server)) (held_by handle.old) result (held_by handle.new) }
+{
+    charges_house(handle.house_mut()?, server)
 }
 
 fn now_house(house: &mut House<UnitJob>) -> Result<u64, Refusal>

@@ -6,7 +6,7 @@ use cbs_job::TaskError;
 use cbs_rate::{AdmitError, RateError};
 
 /// Each refusal with its text: that of its error, as its `Display` writes it.
-static TEXTS: [(Refusal, &str); 22] = [
+static TEXTS: [(Refusal, &str); 23] = [
     (
         Refusal::Rate(RateError::ZeroBudget),
         "the budget is 0: a reservation needs a budget of at least 1 tick",
@@ -55,6 +55,10 @@ static TEXTS: [(Refusal, &str); 22] = [
     (
         Refusal::House(HouseError::Stalled),
         "the clients did not send all in the rounds that they are given",
+    ),
+    (
+        Refusal::House(HouseError::NotRunning),
+        "the server did not run the last unit, or other ticks have passed since",
     ),
     (
         Refusal::Task(TaskError::EmptyJob),

@@ -7,7 +7,7 @@ ghost use Rattle.cbs_file.specs.declared.fault.Place.TheVariants.{Step as AtStep
 ghost use Rattle.cbs_file.specs.Entries.{step_entry};
 ghost use Rattle.cbs_file.specs.Fields.{Gives, seen, each_from};
 ghost use Rattle.cbs_file.specs.Memory.{memory_wanted, usual_bound};
-ghost use Rattle.cbs_file.specs.TaskFiles.{NamesServer};
+ghost use Rattle.cbs_file.specs.TaskFiles.{IsFileStep};
 ghost use Rattle.cbs_file.specs.Spelling.{document, file, faulty, at, admitted_entry, admitted_from, no_memory};
 ghost use Rattle.cbs_rate.specs.Limits.{most_servers};
 ghost use Rattle.cbs_rules.specs.Setups.{no_servers};
@@ -94,7 +94,7 @@ fn steps_of(
     requires { servers ≤ most_servers }
     ensures steps { Gives no_memory (λ v. v.items) result
         (each_from 0 (λ i entry. at (AtStep i) (step_entry format servers entry)) (map view entries.now)) }
-    ensures named { IfOk result (λ v. All (NamesServer servers) v.items) }
+    ensures named { IfOk result (λ v. All (IsFileStep servers) v.items) }
 {
     let mut steps = Vec::new(alloc);
     for (i, entry) in entries.iter().enumerate() {

@@ -6,7 +6,7 @@ use Rattle.cbs_job.specs.Work.{Meaning}
 use Rattle.cbs_job.specs.declared.work.Work.{Ghosts}
 use Rattle.cbs_steps.specs.History.{History, ◌⊕◌}
 use Rattle.cbs_steps.specs.declared.step.Step.{Step}
-use Rattle.cbs_steps.specs.declared.step.Step.TheVariants.{Submit, Run, Advance, Close}
+use Rattle.cbs_steps.specs.declared.step.Step.TheVariants.{Submit, Run, Advance, Close, Charge}
 use Rattle.cbs_clients.specs.declared.house.House.{House}
 use Rattle.cbs_clients.specs.Houses.{core_of, rings_of, Made, ServesOn}
 use Rattle.cbs_clients.specs.Turns.{PollsEach, ArePolls}
@@ -41,6 +41,7 @@ module _ {W : Type 0} where
     allowed_polls first n (Close s ∷ xs) ys M p q = (tt, allowed_polls (s + 1) n xs ys (M ⊕ Close s) p.2 q)
     allowed_polls first n (Run ∷ xs) ys M p q = absurd p
     allowed_polls first n (Advance m ∷ xs) ys M p q = absurd p
+    allowed_polls first n (Charge s m ∷ xs) ys M p q = absurd p
 
     allowed_turns : (n : ℕ) (turns : List (List (Step W))) (M : History W) → AllByRecursion (λ xs. ArePolls 0 n xs) turns
         → EachAllowed (MayServe work) M (steps_in turns)

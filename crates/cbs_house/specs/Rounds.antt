@@ -6,7 +6,7 @@ use Rattle.cbs_rate.specs.Limits.{most_servers}
 use Rattle.cbs_job.specs.Work.{Meaning, whole}
 use Rattle.cbs_job.specs.declared.work.Work.{Ghosts}
 use Rattle.cbs_clients.specs.declared.error.HouseError.{HouseError}
-use Rattle.cbs_clients.specs.declared.error.HouseError.TheVariants.{BadBacklog, BadRing, OutOfMemory, NoSuchServer, ClockEnd, Stalled}
+use Rattle.cbs_clients.specs.declared.error.HouseError.TheVariants.{OutOfMemory, ClockEnd, Stalled}
 use Rattle.cbs_clients.specs.declared.client.Client.{Client}
 use Rattle.cbs_house.specs.declared.feed.Feed.{Feed}
 use Rattle.cbs_clients.specs.declared.house.House.{House}
@@ -87,9 +87,7 @@ module _ {W A : Type 0} {g : Ghosts W} where
   Halts OutOfMemory h = Unit {0}
   Halts ClockEnd h = IsAtEnd (core_of h)
   Halts Stalled h = ⊥
-  Halts BadBacklog h = ⊥
-  Halts BadRing h = ⊥
-  Halts NoSuchServer h = ⊥
+  Halts _ h = ⊥
 
   -- rounds are finished, and yet not all is served: every job received is finished, and all that was sent was received, but not
   -- every feed is done
@@ -103,6 +101,4 @@ module _ {W A : Type 0} {g : Ghosts W} where
   Stops OutOfMemory h fs = Unit {0}
   Stops ClockEnd h fs = IsAtEnd (core_of h)
   Stops Stalled h fs = IsStalled h fs
-  Stops BadBacklog h fs = ⊥
-  Stops BadRing h fs = ⊥
-  Stops NoSuchServer h fs = ⊥
+  Stops _ h fs = ⊥

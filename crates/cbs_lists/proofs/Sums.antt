@@ -57,3 +57,40 @@ pub sum_changed_same : {X : Type 0} (f : X → ℕ) (h : X → X) (xs : List X) 
 sum_changed_same f h [] s e = refl
 sum_changed_same f h (x ∷ xs) zero e = omega (arith, e x, sum_by-cons f (h x) xs, sum_by-cons f x xs)
 sum_changed_same f h (x ∷ xs) (suc s) e = omega (arith, sum_changed_same f h xs s e, sum_by-cons f x (changed_at h xs s), sum_by-cons f x xs)
+
+-- a sum of greater numbers, where a change of one gains something
+pub sum_raised : {X : Type 0} (f g : X → ℕ) (h : X → X) (xs : List X) (s gain : ℕ) (d : X) → s < length xs → ((i : ℕ) → i < length xs → f (get_or xs i d) ≤ g (get_or xs i d))
+    → f (get_or xs s d) + gain ≤ g (h (get_or xs s d)) → sum_by f xs + gain ≤ sum_by g (changed_at h xs s)
+sum_raised f g h [] s gain d lt each here = absurd (omega arith)
+sum_raised f g h (x ∷ xs) zero gain d lt each here =
+    let rest = sum-mono f g xs d (λ i lt. each (suc i) (omega arith)) in
+    omega (arith, sum_by-cons f x xs, sum_by-cons g (h x) xs)
+sum_raised f g h (x ∷ xs) (suc s) gain d lt each here =
+    let first : f x ≤ g x = each 0 (omega arith) in
+    let rest = sum_raised f g h xs s gain d (omega arith) (λ i lt. each (suc i) (omega arith)) here in
+    omega (arith, sum_by-cons f x xs, sum_by-cons g x (changed_at h xs s))
+
+-- where a change of one keeps it greater
+pub sum_raised-le : {X : Type 0} (f g : X → ℕ) (h : X → X) (xs : List X) (s : ℕ) (d : X) → ((i : ℕ) → i < length xs → f (get_or xs i d) ≤ g (get_or xs i d))
+    → (s < length xs → f (get_or xs s d) ≤ g (h (get_or xs s d))) → sum_by f xs ≤ sum_by g (changed_at h xs s)
+sum_raised-le f g h [] s d each here = omega arith
+sum_raised-le f g h (x ∷ xs) zero d each here =
+    let rest = sum-mono f g xs d (λ i lt. each (suc i) (omega arith)) in
+    let one : f x ≤ g (h x) = here (omega arith) in
+    omega (arith, sum_by-cons f x xs, sum_by-cons g (h x) xs)
+sum_raised-le f g h (x ∷ xs) (suc s) d each here =
+    let first : f x ≤ g x = each 0 (omega arith) in
+    let rest = sum_raised-le f g h xs s d (λ i lt. each (suc i) (omega arith)) (λ lt. here (omega arith)) in
+    omega (arith, sum_by-cons f x xs, sum_by-cons g x (changed_at h xs s))
+
+-- a sum of numbers that are no greater, where one is nothing
+pub sum_spared : {X : Type 0} (f g : X → ℕ) (xs : List X) (s : ℕ) (d : X) → s < length xs → ((i : ℕ) → i < length xs → f (get_or xs i d) ≤ g (get_or xs i d))
+    → f (get_or xs s d) ≡ 0 → sum_by f xs + g (get_or xs s d) ≤ sum_by g xs
+sum_spared f g [] s d lt each none = absurd (omega arith)
+sum_spared f g (x ∷ xs) zero d lt each none =
+    let rest = sum-mono f g xs d (λ i lt. each (suc i) (omega arith)) in
+    omega (arith, sum_by-cons f x xs, sum_by-cons g x xs)
+sum_spared f g (x ∷ xs) (suc s) d lt each none =
+    let first : f x ≤ g x = each 0 (omega arith) in
+    let rest = sum_spared f g xs s d (omega arith) (λ i lt. each (suc i) (omega arith)) none in
+    omega (arith, sum_by-cons f x xs, sum_by-cons g x xs)

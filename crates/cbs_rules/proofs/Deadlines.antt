@@ -2,7 +2,7 @@
 use Rattle.std.proofs.Common.{ℕ, ◌+◌, ◌≤◌, ◌<◌, arith}
 use Rattle.std.proofs.lemmas.Bool.Decides.{nat_tests}
 use Rattle.cbs_rate.specs.Rate.{Rate, IsRate}
-use Rattle.cbs_rules.specs.Rules.{State, after_arrival, after_unit, after_replenishment}
+use Rattle.cbs_rules.specs.Rules.{State, after_arrival, after_charge, after_unit, after_replenishment}
 use Rattle.cbs_rules.specs.declared.mode.Mode.{Mode}
 use Rattle.cbs_rules.specs.declared.mode.Mode.TheVariants.{Soft, Throttled}
 
@@ -15,7 +15,12 @@ pub begun_after_unit : (mode : Mode) (r : Rate) (s : State) → 0 < s.deadline �
 begun_after_unit Soft r s begun = grind (arith, nat_tests)
 begun_after_unit Throttled r s begun = grind (arith, nat_tests)
 
--- and so does a replenishment
+-- and so does a charge
+pub begun_after_charge : (mode : Mode) (r : Rate) (n : ℕ) (s : State) → 0 < s.deadline → 0 < (after_charge mode r n s).deadline
+begun_after_charge Soft r n s begun = grind (arith, nat_tests)
+begun_after_charge Throttled r n s begun = grind (arith, nat_tests)
+
+-- and a replenishment
 pub begun_after_replenishment : (r : Rate) (now : ℕ) (s : State) → 0 < s.deadline → 0 < (after_replenishment r now s).deadline
 begun_after_replenishment r now s begun = grind (arith, nat_tests)
 

@@ -1,7 +1,7 @@
--- The rules for one server: where it starts, an arrival, a unit, a replenishment.
+-- The rules for one server: where it starts, an arrival, a unit, a charge, a replenishment.
 -- Soft mode is the Constant Bandwidth Server of Luca Abeni and Giorgio Buttazzo, 'Integrating Multimedia
 -- Applications in Hard Real-Time Systems', RTSS 1998. Throttled mode is this project's own, modelled on Linux's SCHED_DEADLINE.
-use Rattle.std.specs.Prelude.{◌≡◌, ℕ, zero, suc, ◌+◌, ◌-◌, ◌*◌, ◌≤◌, ◌<◌, Bool, true, false, ◌&&◌, ◌||◌, eqb, leb, ltb, if◌then◌else◌}
+use Rattle.std.specs.Prelude.{◌≡◌, ℕ, zero, suc, ◌+◌, ◌-◌, ◌*◌, ◌/◌, ◌%◌, ◌≤◌, ◌<◌, Bool, true, false, ◌&&◌, ◌||◌, eqb, leb, ltb, if◌then◌else◌}
 use Rattle.cbs_rate.specs.Rate.{Rate}
 use Rattle.cbs_rules.specs.declared.mode.Mode.{Mode}
 use Rattle.cbs_rules.specs.declared.mode.Mode.TheVariants.{Soft, Throttled}
@@ -20,15 +20,17 @@ pub record Terms : Type 0 where
   pub mode : Mode
   pub reservation : Rate
 
--- the ticks that a server may still use, by when, and whether it waits to be replenished
+-- the ticks that a server may still use, by when, whether it waits to be replenished, and, if it does, the overrun: the ticks
+-- that were charged to it beyond its budget, which are taken from the next one
 pub record State : Type 0 where
   pub budget : ℕ
   pub deadline : ℕ
   pub throttled : Bool
+  pub overrun : ℕ
 
--- start: no budget, deadline 0, not throttled
+-- start: no budget, deadline 0, not throttled, no overrun
 abbrev pub fresh_state : State
-fresh_state = record { budget = 0; deadline = 0; throttled = false }
+fresh_state = record { budget = 0; deadline = 0; throttled = false; overrun = 0 }
 
 -- whether an arrival at an idle, unthrottled server renews it: its deadline has come, or its budget would be too
 -- much for the time that is left. With c the budget and d the deadline, the soft rule is the 1998 paper's
@@ -39,23 +41,41 @@ is_renewed Throttled r now s = leb s.deadline now || ltb ((s.deadline - now) * r
 
 -- arrival at an idle, unthrottled server: renewed, it gets a whole budget and the deadline one period from now; else it keeps both
 abbrev pub after_arrival : Mode → Rate → ℕ → State → State
-after_arrival mode r now s = if is_renewed mode r now s then record { budget = r.budget; deadline = now + r.period; throttled = s.throttled } else s
+after_arrival mode r now s = if is_renewed mode r now s then record s { budget = r.budget; deadline = now + r.period } else s
 
 -- exhaustion: a soft server gets a whole budget at once and its deadline is postponed by a period (1998); a throttled one waits
 abbrev pub after_exhaustion : Mode → Rate → State → State
-after_exhaustion Soft r s = record { budget = r.budget; deadline = s.deadline + r.period; throttled = s.throttled }
-after_exhaustion Throttled r s = record { budget = s.budget; deadline = s.deadline; throttled = true }
+after_exhaustion Soft r s = record s { budget = r.budget; deadline = s.deadline + r.period }
+after_exhaustion Throttled r s = record s { throttled = true }
 
 -- a unit uses one tick of the budget, and the last one exhausts it
 abbrev pub after_unit : Mode → Rate → State → State
 after_unit mode r s =
-    let spent : State = record { budget = s.budget - 1; deadline = s.deadline; throttled = s.throttled } in
+    let spent : State = record s { budget = s.budget - 1 } in
     if eqb spent.budget 0 then after_exhaustion mode r spent else spent
 
--- replenishment at a time: a throttled server whose deadline has come gets one budget and one period more, and runs again
+-- a charge of more ticks than the budget has, e of them beyond it: a soft server gets at once as many whole budgets as it takes to
+-- have some left, and its deadline is postponed by a period for each; a throttled one waits, its deadline is postponed by a period
+-- for each whole budget beyond, and the rest is its overrun
+abbrev pub after_excess : Mode → Rate → ℕ → State → State
+after_excess Soft r e s = record s { budget = r.budget - e % r.budget; deadline = s.deadline + (e / r.budget + 1) * r.period }
+after_excess Throttled r e s = record { budget = 0; deadline = s.deadline + e / r.budget * r.period; throttled = true; overrun = e % r.budget }
+
+-- a charge of n ticks, at least one, that a unit took beyond its first: they are taken from the budget, and what is wanting from
+-- the budgets to come
+abbrev pub after_charge : Mode → Rate → ℕ → State → State
+after_charge mode r n s = if ltb n s.budget then record s { budget = s.budget - n } else after_excess mode r (s.overrun + n - s.budget) s
+
+-- n charges of one tick each
+abbrev pub after_charges : Mode → Rate → ℕ → State → State
+after_charges mode r zero s = s
+after_charges mode r (suc n) s = after_charges mode r n (after_charge mode r 1 s)
+
+-- replenishment at a time: a throttled server whose deadline has come gets one budget, less its overrun, and one period more, and
+-- runs again
 abbrev pub after_replenishment : Rate → ℕ → State → State
 after_replenishment r now s =
-    if s.throttled && leb s.deadline now then record { budget = s.budget + r.budget; deadline = s.deadline + r.period; throttled = false } else s
+    if s.throttled && leb s.deadline now then record { budget = s.budget + r.budget - s.overrun; deadline = s.deadline + r.period; throttled = false; overrun = 0 } else s
 
 -- n ticks from now: a replenishment at each of them
 abbrev pub after_ticks : Rate → ℕ → ℕ → State → State
@@ -63,13 +83,30 @@ after_ticks r now zero s = s
 after_ticks r now (suc n) s = after_ticks r (now + 1) n (after_replenishment r (now + 1) s)
 
 -- what every server keeps: the budget is within the reservation; a throttled server has none, and one that may run
--- and has a deadline has some; before its first deadline it has no budget and is not throttled
+-- and has a deadline has some; before its first deadline it has no budget and is not throttled; an overrun is less than a
+-- budget, and only a throttled server has one
 pub record IsState (r : Rate) (s : State) : Type 0 where
   pub capped : s.budget ≤ r.budget
   pub spent : s.throttled ≡ true → s.budget ≡ 0
   pub unspent : s.throttled ≡ false → 0 < s.deadline → 0 < s.budget
   pub unbegun : s.deadline ≡ 0 → s.budget ≡ 0
   pub unmarked : s.deadline ≡ 0 → s.throttled ≡ false
+  pub below : s.overrun < r.budget
+  pub clear : s.throttled ≡ false → s.overrun ≡ 0
+
+-- what a server may still take, as if one that waits had been replenished already: so many ticks, by when. A replenishment changes
+-- neither
+abbrev pub funds : Rate → State → ℕ
+funds r s = if s.throttled then r.budget - s.overrun else s.budget
+
+abbrev pub until : Rate → State → ℕ
+until r s = if s.throttled then s.deadline + r.period else s.deadline
+
+-- from s to t it paid n ticks: some budgets came to what it may still take, a period later each, and n ticks went
+pub record IsPaid (r : Rate) (n : ℕ) (s t : State) : Type 0 where
+  pub budgets : ℕ
+  pub paid : funds r t + n ≡ funds r s + budgets * r.budget
+  pub postponed : until r t ≡ until r s + budgets * r.period
 
 -- a server's reservation and state together
 pub record Reserved : Type 0 where

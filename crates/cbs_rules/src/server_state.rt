@@ -1,7 +1,8 @@
 //! Budget and deadline of one server, and the rules that change them.
 
-ghost use Rattle.std.specs.Prelude.{◌≡◌, ◌+◌, ◌≤◌, ◌<◌, ℕ, true, false};
-ghost use Rattle.cbs_rules.specs.Rules.{clock_end, latest_deadline, fresh_state, after_arrival, after_unit, after_replenishment, is_renewed, after_ticks, IsState};
+ghost use Rattle.std.specs.Prelude.{◌≡◌, ◌+◌, ◌*◌, ◌≤◌, ◌<◌, ℕ, true, false};
+ghost use Rattle.cbs_rate.specs.Rate.{IsRate};
+ghost use Rattle.cbs_rules.specs.Rules.{clock_end, latest_deadline, fresh_state, after_arrival, after_unit, after_charge, after_charges, after_replenishment, is_renewed, after_ticks, IsState, IsPaid};
 
 use crate::mode::Mode;
 use cbs_rate::Reservation;
@@ -14,13 +15,14 @@ pub const LIMIT: u64 = 1_000_000_000_000;
 /// of an executor starts from a later one.
 pub const MAX_DEADLINE: u128 = 1_000_000_001_000_000_000_000;
 
-/// Budget, deadline and the mark 'throttled' of one server, with its reservation.
+/// Budget, deadline, the mark 'throttled' and the overrun of one server, with its reservation.
 #[derive(Clone, Copy, Debug, PartialEq, Eq)]
 pub struct ServerState {
     reservation: Reservation,
     budget: u64,
     deadline: u128,
     throttled: bool,
+    overrun: u64,
 }
 
 impl Model for ServerState {
@@ -29,15 +31,15 @@ impl Model for ServerState {
 
     ghost Value = { Reserved };
 
-    ghost view = { λ s. record { reservation = s.reservation; state = record { budget = s.budget; deadline = s.deadline; throttled = s.throttled } } };
+    ghost view = { λ s. record { reservation = s.reservation; state = record { budget = s.budget; deadline = s.deadline; throttled = s.throttled; overrun = s.overrun } } };
 
-    ghost invariant = { λ s. IsState s.reservation (record { budget = s.budget; deadline = s.deadline; throttled = s.throttled }) × (s.deadline ≤ latest_deadline + 1000000000) };
+    ghost invariant = { λ s. IsState s.reservation (record { budget = s.budget; deadline = s.deadline; throttled = s.throttled; overrun = s.overrun }) × (s.deadline ≤ latest_deadline + 1000000000) };
 
-    ghost inverse = { λ v. record { reservation = v.reservation; budget = v.state.budget; deadline = v.state.deadline; throttled = v.state.throttled } };
+    ghost inverse = { λ v. record { reservation = v.reservation; budget = v.state.budget; deadline = v.state.deadline; throttled = v.state.throttled; overrun = v.state.overrun } };
 }
 
 impl ServerState {
-    /// A server at its start: no budget, deadline 0, not throttled.
+    /// A server at its start: no budget, deadline 0, not throttled, no overrun.
     pub fn fresh(reservation: Reservation) -> ServerState
         ensures { result ≡ record { reservation = reservation; state = fresh_state } }
     {
@@ -46,6 +48,7 @@ impl ServerState {
             budget: 0,
             deadline: 0,
             throttled: false,
+            overrun: 0,
         }
     }
 
@@ -107,8 +110,62 @@ impl ServerState {
         }
     }
 
+    /// Charges the server the ticks that a unit of it took beyond its first. They are taken from the budget, and what is
+    /// wanting from the budgets to come: a soft server gets these at once, each for a deadline one period later; a
+    /// throttled one waits, and what is wanting is its overrun, which the next replenishment takes from the new budget.
+    ///
+    /// `ticks` is 1 to [`LIMIT`]. The server must have had its first job, and in soft mode it must not be throttled.
+    /// Its deadline and `ticks` periods must not be beyond [`MAX_DEADLINE`] and the longest period.
+    pub fn charge(&mut self, mode: Mode, ticks: u64)
+        requires some { 0 < ticks }
+        requires few { ticks ≤ clock_end }
+        requires free { mode ≡ Mode.Soft → self.old.state.throttled ≡ false }
+        requires begun { 0 < self.old.state.deadline }
+        requires room { self.old.state.deadline + ticks * self.old.reservation.period ≤ latest_deadline + 1000000000 }
+        ensures rule { self.new ≡ record { reservation = self.old.reservation; state = after_charge mode self.old.reservation ticks self.old.state } }
+        ensures ticks { self.new.state ≡ after_charges mode self.old.reservation ticks self.old.state }
+        ensures paid { IsPaid self.old.reservation ticks self.old.state self.new.state }
+        ensures early { self.new.state.deadline ≤ self.old.state.deadline + ticks * self.old.reservation.period }
+        ensures waits { self.old.state.throttled ≡ true → self.new.state.throttled ≡ true }
+    {
+        self.pay(mode, ticks);
+    }
+
+    /// Takes so many ticks from the budget and from those to come.
+    fn pay(&mut self, mode: Mode, ticks: u64)
+        requires some { 0 < ticks }
+        requires few { ticks ≤ clock_end }
+        requires free { mode ≡ Mode.Soft → self.old.state.throttled ≡ false }
+        requires begun { 0 < self.old.state.deadline }
+        requires room { self.old.state.deadline + ticks * self.old.reservation.period ≤ latest_deadline + 1000000000 }
+        ensures lawful { IsState self.old.reservation self.old.state }
+        ensures rate { IsRate self.old.reservation.budget self.old.reservation.period }
+        ensures rule { self.new ≡ record { reservation = self.old.reservation; state = after_charge mode self.old.reservation ticks self.old.state } }
+    {
+        if ticks < self.budget {
+            self.budget -= ticks;
+            return;
+        }
+        let beyond = self.overrun + ticks - self.budget;
+        let budgets = beyond / self.reservation.budget();
+        let rest = beyond % self.reservation.budget();
+        let period = u128::from(self.reservation.period());
+        match mode {
+            Mode::Soft => {
+                self.budget = self.reservation.budget() - rest;
+                self.deadline += u128::from(budgets + 1) * period;
+            }
+            Mode::Throttled => {
+                self.budget = 0;
+                self.deadline += u128::from(budgets) * period;
+                self.throttled = true;
+                self.overrun = rest;
+            }
+        }
+    }
+
     /// Replenishes the server at tick `now`: if it is throttled and its deadline has come, it gets Q
-    /// ticks more, its deadline is postponed by a period, and it may run again. It is once, even
+    /// ticks more, less its overrun, its deadline is postponed by a period, and it may run again. It is once, even
     /// where the deadline stays in the past; so a jump of the clock by n ticks is the same as n ticks.
     ///
     /// The deadline that is postponed must be at most [`MAX_DEADLINE`].
@@ -126,9 +183,10 @@ impl ServerState {
         ensures { self.new ≡ record { reservation = self.old.reservation; state = after_replenishment self.old.reservation now self.old.state } }
     {
         if self.throttled && self.deadline <= u128::from(now) {
-            self.budget += self.reservation.budget();
+            self.budget += self.reservation.budget() - self.overrun;
             self.deadline += u128::from(self.reservation.period());
             self.throttled = false;
+            self.overrun = 0;
         }
     }
 
@@ -159,5 +217,13 @@ impl ServerState {
         ensures { result ≡ self.now.state.throttled }
     {
         self.throttled
+    }
+
+    /// Returns the ticks that were charged to it beyond its budget, which its next replenishment takes: less than Q, and
+    /// none unless it is throttled.
+    pub fn overrun(&self) -> u64
+        ensures { result ≡ self.now.state.overrun }
+    {
+        self.overrun
     }
 }

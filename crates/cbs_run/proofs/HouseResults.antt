@@ -83,6 +83,7 @@ module _ {A : Type 0} {g : Ghosts FileJob} (f : File) where
   stops_short a b fs house.BadBacklog agrees on s = s
   stops_short a b fs house.BadRing agrees on s = s
   stops_short a b fs house.NoSuchServer agrees on s = s
+  stops_short a b fs house.NotRunning agrees on s = s
 
 -- the lists of jobs, and the results of each server
 pub jobs_are : (f : File) (n : ℕ) (steps : List (Step FileJob)) → n ≡ length f.plan.rates → steps ≡ f.steps

@@ -5,15 +5,13 @@ use Rattle.cbs_job.specs.FileJobs.{of_files}
 use Rattle.cbs_job.specs.Work.{whole}
 use Rattle.cbs_job.specs.declared.file.FileJob.{FileJob}
 use Rattle.cbs_steps.specs.declared.step.Step.{Step}
-use Rattle.cbs_steps.specs.declared.step.Step.TheVariants.{Submit, Run, Advance, Close}
+use Rattle.cbs_steps.specs.declared.step.Step.TheVariants.{Submit}
 use Rattle.cbs_file.specs.TaskFiles.{File}
 
 -- the job of a step that submits one to server s
 abbrev pub job_for : ℕ → Step FileJob → Option FileJob
 job_for s (Submit server job) = if server == s then Some job else None
-job_for s Run = None
-job_for s (Advance ticks) = None
-job_for s (Close server) = None
+job_for s _ = None
 
 -- the jobs that the steps submit to server s, in order
 abbrev pub jobs_for : ℕ → List (Step FileJob) → List FileJob

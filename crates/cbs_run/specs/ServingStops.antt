@@ -29,18 +29,14 @@ abbrev pub HouseStops : File → HouseError → Type 0
 HouseStops f house.OutOfMemory = Unit {0}
 HouseStops f house.ClockEnd = ComesTo f IsAtEnd
 HouseStops f house.Stalled = ComesTo f HoldsNoJob
-HouseStops f house.BadBacklog = ⊥
-HouseStops f house.BadRing = ⊥
-HouseStops f house.NoSuchServer = ⊥
+HouseStops f _ = ⊥
 
 -- the run fault that an error of the house is, if it is one
 abbrev pub fault_of : HouseError → Option RunError
 fault_of house.OutOfMemory = Some run.OutOfMemory
 fault_of house.ClockEnd = Some run.ClockEnd
 fault_of house.Stalled = Some run.Stalled
-fault_of house.BadBacklog = None
-fault_of house.BadRing = None
-fault_of house.NoSuchServer = None
+fault_of _ = None
 
 -- how serving stops: where a call failed a front of the results was written, and else nothing
 abbrev pub ServeStops : File → RunError → Writer → Writer → Type 0

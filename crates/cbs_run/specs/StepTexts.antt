@@ -14,7 +14,7 @@ use Rattle.cbs_file.specs.TaskFiles.{File}
 use Rattle.cbs_run.specs.Writers.{Writer, Writes}
 use Rattle.cbs_run.specs.Writes.{AppendsFront}
 use Rattle.cbs_run.specs.declared.call.Call.{Call}
-use Rattle.cbs_run.specs.declared.call.Call.TheVariants.{Submit, Run, Advance, Close}
+use Rattle.cbs_run.specs.declared.call.Call.TheVariants.{Submit, Run, Advance, Close, Charge}
 
 -- the call that a step makes
 abbrev pub call_of : Step FileJob → Call
@@ -22,6 +22,7 @@ call_of (step.Submit server job) = Submit server
 call_of step.Run = Run
 call_of (step.Advance ticks) = Advance ticks
 call_of (step.Close server) = Close server
+call_of (step.Charge server ticks) = Charge server ticks
 
 -- what is written of a step, by its call, its reply, and the world that it left
 abbrev pub StepText : Type 0

@@ -20,6 +20,8 @@ pub enum Call {
     Advance(u64),
     /// No further job for this server.
     Close(u16),
+    /// So many ticks more for the last unit of this server.
+    Charge(u16, u64),
 }
 
 impl Call {
@@ -32,6 +34,10 @@ impl Call {
             Call::Run => text.push_str("run"),
             Call::Advance(ticks) => append_pair(text, "advance ", ticks),
             Call::Close(server) => append_pair(text, "close ", u64::from(server)),
+            Call::Charge(server, ticks) => {
+                append_pair(text, "charge ", u64::from(server))?;
+                append_pair(text, " ", ticks)
+            }
         }
     }
 }
@@ -45,5 +51,6 @@ pub fn call_of(step: &Step<FileJob>) -> Call
         Step::Run => Call::Run,
         Step::Advance(ticks) => Call::Advance(*ticks),
         Step::Close(server) => Call::Close(*server),
+        Step::Charge(server, ticks) => Call::Charge(*server, *ticks),
     }
 }

@@ -4,7 +4,7 @@ ghost use Rattle.std.specs.Prelude.{◌≡◌, ℕ, [], ◌∷◌, ◌++◌, All
 ghost use Rattle.std.specs.List.{range_with_len};
 ghost use Rattle.cbs_run.specs.ResultLines.{jobs_for};
 ghost use Rattle.cbs_run.specs.JobsByServer.{listed};
-ghost use Rattle.cbs_file.specs.TaskFiles.{NamesServer};
+ghost use Rattle.cbs_file.specs.TaskFiles.{IsFileStep};
 
 use cbs_core::Step;
 use cbs_job::{FileJob, Task};
@@ -23,7 +23,7 @@ fn empty_lists(alloc: Global, servers: u16) -> Result<Vec<Vec<Task<FileJob>>>, A
 
 /// Puts the job of a submit at the end of its server's list. Other steps have no job.
 fn add_job(lists: &mut Vec<Vec<Task<FileJob>>>, step: Step<FileJob>) -> Result<(), AllocError>
-    requires { NamesServer (length lists.old.items) step }
+    requires { IsFileStep (length lists.old.items) step }
     ensures len { length lists.new.items ≡ length lists.old.items }
     ensures jobs { OnOk result ((s : ℕ) → listed lists.new.items s ≡ listed lists.old.items s ++ jobs_for s (step ∷ [])) }
 {
@@ -41,7 +41,7 @@ pub fn jobs_by_server(
     servers: u16,
     steps: Vec<Step<FileJob>>,
 ) -> Result<Vec<Vec<Task<FileJob>>>, AllocError>
-    requires { All (NamesServer servers) steps.items }
+    requires { All (IsFileStep servers) steps.items }
     ensures { IfOk result (λ lists. map (λ jobs. jobs.items) lists.items ≡ map (λ s. jobs_for s steps.items) (range_with_len 0 servers)) }
 {
     let mut lists = empty_lists(alloc, servers)?;

@@ -47,7 +47,7 @@ fn append_reply(text: &mut String, reply: &Reply<FileJob>) -> Result<(), AllocEr
         }
         Reply::NotAccepted(refused) => append_error(text, refused.error),
         Reply::Ran(ran) => append_ran(text, *ran),
-        Reply::Advanced | Reply::Closed => Ok(()),
+        Reply::Advanced | Reply::Closed | Reply::Charged => Ok(()),
         Reply::Refused(error) => append_error(text, *error),
     }
 }
@@ -67,12 +67,13 @@ fn append_state(text: &mut String, server: Option<ServerView>) -> Result<(), All
     Ok(())
 }
 
-/// Returns the server whose state a line shows: the one that accepted a job, or ran.
+/// Returns the server whose state a line shows: the one that accepted a job, ran, or was charged.
 pub fn shown_server(call: Call, reply: &Reply<FileJob>) -> Option<u16>
     ensures { result ≡ shown_server call reply.now }
 {
     match (call, reply) {
         (Call::Submit(server), Reply::Accepted(_)) => Some(server),
+        (Call::Charge(server, _), Reply::Charged) => Some(server),
         (_, Reply::Ran(Ran::Unit { server, .. })) => Some(*server),
         (_, Reply::Ran(Ran::Done(done))) => Some(done.server),
         _ => None,

@@ -35,7 +35,10 @@ fn fault_of(error: HouseError) -> Option<RunError>
         HouseError::OutOfMemory => Some(RunError::OutOfMemory),
         HouseError::ClockEnd => Some(RunError::ClockEnd),
         HouseError::Stalled => Some(RunError::Stalled),
-        HouseError::BadBacklog | HouseError::BadRing | HouseError::NoSuchServer => None,
+        HouseError::BadBacklog
+        | HouseError::BadRing
+        | HouseError::NoSuchServer
+        | HouseError::NotRunning => None,
     }
 }
 

@@ -5,7 +5,7 @@ use Rattle.std.proofs.lemmas.Bool.Decides.{nat_tests}
 use Rattle.cbs_job.specs.Work.{Meaning}
 use Rattle.cbs_steps.specs.Faces.{Face, face_at, submit_refusal, close_refusal}
 use Rattle.cbs_steps.specs.Accounts.{Account, face_of}
-use Rattle.cbs_steps.specs.History.{History, ◌⊕◌, World, account, faces, world_after, submit_reply, close_reply, after_closing, reply_in}
+use Rattle.cbs_steps.specs.History.{History, ◌⊕◌, World, account, faces, world_after, submit_reply, close_reply, charge_reply, charge_refusal, after_closing, reply_in}
 use Rattle.cbs_steps.specs.Replies.{is_lack, IsAccepted, HandsBack, grown, Answers, AnswersAll}
 use Rattle.cbs_steps.specs.Laws.{account_in, replies_after, NoneAfterClose}
 use Rattle.cbs_steps.specs.Errors.{is_out_of_memory}
@@ -15,7 +15,7 @@ use Rattle.cbs_steps.proofs.SubmitRefusals.{refusal_named}
 use Rattle.cbs_steps.specs.declared.error.CoreError.{CoreError}
 use Rattle.cbs_steps.specs.declared.error.CoreError.TheVariants as error
 use Rattle.cbs_steps.specs.declared.step.Step.{Step}
-use Rattle.cbs_steps.specs.declared.step.Step.TheVariants.{Submit, Run, Advance, Close}
+use Rattle.cbs_steps.specs.declared.step.Step.TheVariants.{Submit, Run, Advance, Close, Charge}
 use Rattle.cbs_steps.specs.declared.reply.Reply.{Reply}
 use Rattle.cbs_steps.specs.declared.reply.Reply.TheVariants as reply
 use Rattle.cbs_steps.proofs.Histories.{account_face, holds_grown}
@@ -24,7 +24,7 @@ module _ {W : Type 0} (work : Meaning W) where
   -- a closed server stays closed by every step
   closed_grown : (M : History W) (x : Step W) (r : Reply W) (s : ℕ) → (account_in work M s).closed ≡ true → (account_in work (grown M x r) s).closed ≡ true
   closed_grown M x r s h =
-      holds_grown work (λ now a. a.closed ≡ true) (λ now a ready k. k) (λ now a k. k) (λ now a k. refl) (λ now j a k. k) M x r s h
+      holds_grown work (λ now a. a.closed ≡ true) (λ now a ready k. k) (λ now a k. k) (λ now a k. refl) (λ now a k. k) (λ now j a k. k) (λ now n a some runs k. k) M x r s h
 
   -- a closed server refuses
   closed_refuses : (backlog : ℕ) (fs : List Face) (s : ℕ) → (face_at fs s).closed ≡ true → (e : CoreError) × (submit_refusal backlog fs s ≡ Some e)
@@ -96,6 +96,10 @@ module _ {W : Type 0} (work : Meaning W) where
   no_lack-close None = refl
   no_lack-close (Some e) = refl
 
+  no_lack-charge : (o : Option CoreError) → is_lack {W = W} (charge_reply o) ≡ false
+  no_lack-charge None = refl
+  no_lack-charge (Some e) = refl
+
   -- the rules alone never answer by want of memory
   sure : (M : History W) (x : Step W) → is_lack (reply_in work M x) ≡ false
   sure M (Submit s job) =
@@ -104,6 +108,7 @@ module _ {W : Type 0} (work : Meaning W) where
   sure M Run = refl
   sure M (Advance n) = elim (cases_Bool (leb ((world_after work M).now + n) clock_end)) [ inl t ↦ rw t refl | inr f ↦ rw f refl ]
   sure M (Close s) = no_lack-close (close_refusal (faces work (world_after work M)) s)
+  sure M (Charge s n) = no_lack-charge (charge_refusal (world_after work M) s n)
 
   -- the replies that the rules give answer the list
   all_answered : (M : History W) (xs : List (Step W)) → AnswersAll work M xs (replies_after work M xs)

@@ -9,14 +9,14 @@ use Rattle.cbs_job.specs.Work.{Meaning, whole}
 use Rattle.cbs_job.specs.declared.completion.Completion.{Completion}
 use Rattle.cbs_steps.specs.Faces.{is_ready, submit_refusal, close_refusal}
 use Rattle.cbs_steps.specs.Accounts.{Account, finished, need, face_of}
-use Rattle.cbs_steps.specs.History.{World, History, ◌⊕◌, account, faces, chosen, world_after, run_reply, unit_reply, submit_reply, close_reply, reply_in}
+use Rattle.cbs_steps.specs.History.{World, History, ◌⊕◌, account, faces, chosen, world_after, run_reply, unit_reply, submit_reply, close_reply, charge_reply, charge_refusal, reply_in}
 use Rattle.cbs_steps.specs.Replies.{is_lack, grown, grown_by, Answers, AnswersAll}
 use Rattle.cbs_steps.specs.Laws.{account_in, completion_ran, completion_in, completion_of, completions_of, replies_after, Completes}
 use Rattle.cbs_steps.specs.Continuations.{◌⊕⊕◌}
 use Rattle.cbs_rules.specs.Rules.{clock_end}
 use Rattle.cbs_steps.specs.declared.error.CoreError.{CoreError}
 use Rattle.cbs_steps.specs.declared.step.Step.{Step}
-use Rattle.cbs_steps.specs.declared.step.Step.TheVariants.{Submit, Run, Advance, Close}
+use Rattle.cbs_steps.specs.declared.step.Step.TheVariants.{Submit, Run, Advance, Close, Charge}
 use Rattle.cbs_steps.specs.declared.reply.Reply.{Reply}
 use Rattle.cbs_steps.specs.declared.reply.Reply.TheVariants as reply
 use Rattle.cbs_steps.proofs.FinishedJobs.{count_done-le}
@@ -84,8 +84,9 @@ module _ {W : Type 0} (work : Meaning W) where
   accepted_grown M x r s =
       let before = (account_in work M s).accepted in
       holds_grown work (λ now a. (more : List W) × (a.accepted ≡ before ++ more))
-      (λ now a ready h. h) (λ now a h. h) (λ now a h. h)
+      (λ now a ready h. h) (λ now a h. h) (λ now a h. h) (λ now a h. h)
       (λ now j a h. (h.0 ++ j ∷ [], ap (λ xs. xs ++ j ∷ []) h.1 ∙ append_assoc before h.0 (j ∷ [])))
+      (λ now n a some runs h. h)
       M x r s ([], sym (append-nil before))
 
   -- a completion tells the whole result of the accepted job of its number
@@ -131,6 +132,11 @@ module _ {W : Type 0} (work : Meaning W) where
   close_none None = refl
   close_none (Some e) = refl
 
+  -- nor by the answer to a charge
+  charge_none : (o : Option CoreError) → completion_in {W = W} (charge_reply o) ≡ None
+  charge_none None = refl
+  charge_none (Some e) = refl
+
   -- a reply that the rules give tells a job's whole result, since a run alone completes a job
   reply_tells : (M : History W) (x : Step W) (c : Completion) → Some c ≡ completion_in (reply_in work M x) → Tells (account_in work M c.server) c
   reply_tells M (Submit s job) c e = let n = submit_none (world_after work M) s job (submit_refusal M.setup.backlog (faces work (world_after work M)) s) in cc
@@ -138,6 +144,7 @@ module _ {W : Type 0} (work : Meaning W) where
   reply_tells M (Advance n) c e = elim (cases_Bool (leb ((world_after work M).now + n) clock_end))
       [ inl t ↦ let k : Some c ≡ None = rw t at e in cc | inr f ↦ let k : Some c ≡ None = rw f at e in cc ]
   reply_tells M (Close s) c e = let n = close_none (close_refusal (faces work (world_after work M)) s) in cc
+  reply_tells M (Charge s n) c e = let n = charge_none (charge_refusal (world_after work M) s n) in cc
 
   -- no completion is told by a reply that says that memory refused a submit
   lack_none : (r : Reply W) → is_lack r ≡ true → completion_in r ≡ None

@@ -1,6 +1,6 @@
 -- The arithmetic of demands, over plain numbers: P parts of a tick, a server of q ticks in every t, where t * p is P, so that
 -- q * p parts of each tick are its share; budget c, deadline d.
-use Rattle.std.proofs.Common.{◌≡◌, ℕ, ◌+◌, ◌-◌, ◌*◌, ◌≤◌, ◌<◌, ltb, arith, inl, inr}
+use Rattle.std.proofs.Common.{◌≡◌, ℕ, ◌+◌, ◌-◌, ◌*◌, ◌≤◌, ◌<◌, ltb, arith, inl, inr, ap}
 use Rattle.std.specs.Prelude.{if◌then◌else◌}
 use Rattle.std.proofs.lemmas.Bool.{cases_lt}
 use Rattle.std.proofs.lemmas.Bool.Decides.{nat_tests}
@@ -37,13 +37,6 @@ asked_renewed P p q t b x e = elim (cases_lt x (b + t)) [
       omega arith
 ]
 
--- no budget asks for no more than the share of the time behind the deadline
-pub asked_spent : (P u d x : ℕ) → asked P u 0 d x ≤ (x - d) * u
-asked_spent P u d x = elim (cases_lt x d) [
-  | inl lt ↦ omega (arith, asked_before P u 0 d x lt)
-  | inr ge ↦ omega (arith, asked_from P u 0 d x ge)
-]
-
 -- a budget that an arrival leaves stays below the share of the time from now on
 pub asked_kept : (P p q t c d now x : ℕ) → t * p ≡ P → now ≤ d → c * t ≤ (d - now) * q → asked P (q * p) c d x ≤ (x - now) * (q * p)
 asked_kept P p q t c d now x e le h = elim (cases_lt x d) [
@@ -66,7 +59,7 @@ line_past P u c d now x le h =
     omega arith
 
 -- a budget that is too much for the time until its deadline is one for less than a period
-within_period : (q t c k : ℕ) → 0 < q → c ≤ q → k * q ≤ c * t → k ≤ t
+pub within_period : (q t c k : ℕ) → 0 < q → c ≤ q → k * q ≤ c * t → k ≤ t
 within_period q t c k some capped h = elim (cases_lt t k) [
   | inl lt ↦
       let a = mul-le c t q t capped (omega arith) in
@@ -105,27 +98,23 @@ renewed_past P p q t c d now x e early le =
     let b = line_past P (q * p) c d now x le early in
     omega arith
 
--- a tick less of the budget asks for a tick less, from the deadline on
-pub asked_less : (P u c k d x : ℕ) → c ≡ k + 1 → d ≤ x → asked P u k d x + P ≤ asked P u c d x
-asked_less P u c k d x e h =
-    let f = asked_from P u c d x h in
-    let g = asked_from P u k d x h in
-    let m : c * P ≡ k * P + P = rw e (omega arith) in
+-- what is paid is asked for no more, from the later deadline on
+pub asked_paid : (P p q t c e d k n x : ℕ) → t * p ≡ P → e + n ≡ c + k * q → d + k * t ≤ x → asked P (q * p) e (d + k * t) x + n * P ≤ asked P (q * p) c d x
+asked_paid P p q t c e d k n x eq paid h =
+    let f = asked_from P (q * p) c d x (omega arith) in
+    let g = asked_from P (q * p) e (d + k * t) x h in
+    let s = split (q * p) x d (k * t) h in
+    let a : (e + n) * P ≡ (c + k * q) * P = ap (λ (v : ℕ). v * P) paid in
+    let b : k * q * P ≡ k * t * (q * p) = rw (← eq) (omega arith) in
     omega arith
 
--- so does the last tick, with a whole budget for a period later in its place
-pub asked_postponed : (P p q t d x : ℕ) → t * p ≡ P → d ≤ x → asked P (q * p) q (d + t) x + P ≤ asked P (q * p) 1 d x
-asked_postponed P p q t d x e h =
-    let f = asked_from P (q * p) 1 d x h in
-    let g = asked_renewed P p q t d x e in
-    omega arith
-
--- a replenishment asks for no more than before
-pub asked_replenished : (P p q t d x : ℕ) → t * p ≡ P → asked P (q * p) q (d + t) x ≤ asked P (q * p) 0 d x
-asked_replenished P p q t d x e = elim (cases_lt x d) [
-  | inl lt ↦ omega (arith, asked_before P (q * p) q (d + t) x (omega arith))
-  | inr ge ↦
-      let f = asked_from P (q * p) 0 d x ge in
-      let g = asked_renewed P p q t d x e in
-      omega arith
+-- a smaller budget asks for no more
+pub asked_mono : (P u c e d x : ℕ) → c ≤ e → asked P u c d x ≤ asked P u e d x
+asked_mono P u c e d x h = elim (cases_lt x d) [
+  | inl lt ↦ omega (arith, asked_before P u c d x lt)
+  | inr ge ↦ let m = mul-le c P e P h (omega arith) in omega (arith, asked_from P u c d x ge, asked_from P u e d x ge)
 ]
+
+-- some budget asks for a tick at least, from the deadline on
+pub asked_some : (P u c d x : ℕ) → 0 < c → d ≤ x → P ≤ asked P u c d x
+asked_some P u c d x some h = let m = mul-le 1 P c P some (omega arith) in omega (arith, asked_from P u c d x h)

@@ -15,7 +15,7 @@ use Rattle.cbs_steps.specs.History.{Setup, History, account, faces, after}
 use Rattle.cbs_steps.specs.Promises.{due, due_from, due_submitted}
 use Rattle.cbs_steps.specs.declared.error.CoreError.{CoreError}
 use Rattle.cbs_steps.specs.declared.step.Step.{Step}
-use Rattle.cbs_steps.specs.declared.step.Step.TheVariants.{Submit, Run, Advance, Close}
+use Rattle.cbs_steps.specs.declared.step.Step.TheVariants.{Submit, Run, Advance, Close, Charge}
 use Rattle.cbs_steps.proofs.Dues.{due_kept}
 use Rattle.cbs_lists.proofs.Lists.{AllByRecursion-get}
 use Rattle.cbs_steps.proofs.OnTime.{IsAdmitted, given, sound_after}
@@ -59,6 +59,7 @@ module _ {W : Type 0} (work : Meaning W) (setup : Setup) (ok : IsAdmitted (given
   due-slot (Run ∷ M) h = due-slot M h.0
   due-slot (Advance n ∷ M) h = due-slot M h.0
   due-slot (Close t ∷ M) h = due-slot M h.0
+  due-slot (Charge t n ∷ M) h = due-slot M h.0
 
 module _ {W : Type 0} (work : Meaning W) where
   -- every history keeps its hard tasks

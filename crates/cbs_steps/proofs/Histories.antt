@@ -2,22 +2,28 @@
 use Rattle.std.proofs.Common.{◌≡◌, ℕ, zero, suc, ◌+◌, List, [], ◌∷◌, ◌++◌, length, map, refl, ap, sym, ◌∙◌, true, leb, ltb, Option, Some, None, inl, inr}
 use Rattle.std.proofs.Math.ListN.{get_or-map}
 use Rattle.std.proofs.lemmas.Bool.{cases_Bool}
+use Rattle.std.proofs.lemmas.Simd.{map-map}
 use Rattle.cbs_job.specs.Work.{Meaning}
 use Rattle.cbs_rules.specs.Rules.{clock_end}
 use Rattle.cbs_lists.specs.Lists.{changed_at}
 use Rattle.cbs_steps.specs.Choice.{IsChoice}
 use Rattle.cbs_steps.specs.Continuations.{◌⊕⊕◌}
 use Rattle.cbs_steps.specs.Faces.{face_at, is_ready, ranks, submit_refusal, close_refusal}
-use Rattle.cbs_steps.specs.Accounts.{Account, face_of, no_account, account_with_job, account_with_unit, account_with_replenishment, account_with_close}
+use Rattle.cbs_steps.specs.Accounts.{Account, face_of, no_account, account_with_job, account_with_unit, account_with_charge, account_with_replenishment, account_with_close, account_let_go}
 use Rattle.cbs_steps.specs.History.{World, Setup, History, ◌⊕◌, account, faces, chosen, tick, ticks, start, runner, after_submit, after_run}
-use Rattle.cbs_steps.specs.History.{after_closing, next, after, world_after}
+use Rattle.cbs_steps.specs.History.{after_closing, after_advance, after_charging, charge_refusal, let_go, next, after, world_after}
 use Rattle.cbs_steps.proofs.Choices.{choice_is}
 use Rattle.cbs_steps.proofs.Faces.{rank_ready}
+use Rattle.cbs_steps.specs.Promises.{AllQuiet}
+use Rattle.cbs_steps.specs.Quiet.{IsQuietStep, AreQuiet}
 use Rattle.cbs_steps.specs.Replies.{is_lack, grown, grown_by}
 use Rattle.cbs_steps.specs.declared.error.CoreError.{CoreError}
+use Rattle.cbs_steps.specs.declared.error.CoreError.TheVariants as error
+use Rattle.std.proofs.lemmas.Bool.Decides.{nat_tests}
+use Rattle.std.proofs.Common.{arith, ◌<◌}
 use Rattle.cbs_steps.specs.declared.reply.Reply.{Reply}
 use Rattle.cbs_steps.specs.declared.step.Step.{Step}
-use Rattle.cbs_steps.specs.declared.step.Step.TheVariants.{Submit, Run, Advance, Close}
+use Rattle.cbs_steps.specs.declared.step.Step.TheVariants.{Submit, Run, Advance, Close, Charge}
 
 module _ {W : Type 0} (work : Meaning W) where
   -- what a server shows is what its account shows
@@ -38,10 +44,46 @@ module _ {W : Type 0} (work : Meaning W) where
     | inr f ↦ let g : None ≡ Some s = rw f at e in cc
   ]
 
+  -- a server is ready still where all are let go
+  pub loose_ready : (w : World W) (t : ℕ) → is_ready (face_of work (account w.accounts t)) ≡ true → is_ready (face_of work (account (let_go w).accounts t)) ≡ true
+  loose_ready w t ready = rw (get_or-map account_let_go w.accounts t no_account) ready
+
+  -- all show what they showed
+  pub let_go_faces : (w : World W) → faces work (let_go w) ≡ faces work w
+  let_go_faces w = map-map (face_of work) account_let_go w.accounts
+
+  -- a tick, and n ticks, where all are let go
+  let_go_tick : (w : World W) → tick (let_go w) ≡ let_go (tick w)
+  let_go_tick w = ap (λ (xs : List (Account W)). record { now = w.now + 1; accounts = xs })
+      (map-map (account_with_replenishment (w.now + 1)) account_let_go w.accounts ∙ sym (map-map account_let_go (account_with_replenishment (w.now + 1)) w.accounts))
+
+  pub let_go_ticks : (n : ℕ) (w : World W) → ticks n (let_go w) ≡ let_go (ticks n w)
+  unfolding ticks
+  let_go_ticks zero w = refl
+  let_go_ticks (suc n) w = ap (ticks n) (let_go_tick w) ∙ let_go_ticks n (tick w)
+
+  -- a server that is charged is there
+  pub charged_there : (w : World W) (t n : ℕ) → charge_refusal w t n ≡ None → t < length w.accounts
+  charged_there w t n e = elim (cases_Bool (leb (length w.accounts) t)) [
+    | inl y ↦ let g : Some error.NoSuchServer ≡ None = rw y at e in cc
+    | inr f ↦ grind (arith, nat_tests)
+  ]
+
+  -- it runs
+  pub charged_runs : (w : World W) (t n : ℕ) → charge_refusal w t n ≡ None → (account w.accounts t).runs ≡ true
+  charged_runs w t n e = elim (cases_Bool (account w.accounts t).runs) [
+    | inl y ↦ y
+    | inr f ↦ elim (cases_Bool (leb (length w.accounts) t)) [
+      | inl y ↦ let g : Some error.NoSuchServer ≡ None = rw y at e in cc
+      | inr h ↦ let g : Some error.NotRunning ≡ None = rw (h, f) at e in cc
+    ]
+  ]
+
   module _ (P : ℕ → Account W → Type 0)
       (unit : (now : ℕ) (a : Account W) → is_ready (face_of work a) ≡ true → P now a → P now (account_with_unit a))
       (replenishment : (now : ℕ) (a : Account W) → P now a → P (now + 1) (account_with_replenishment (now + 1) a))
-      (close : (now : ℕ) (a : Account W) → P now a → P now (account_with_close a)) where
+      (close : (now : ℕ) (a : Account W) → P now a → P now (account_with_close a))
+      (loose : (now : ℕ) (a : Account W) → P now a → P now (account_let_go a)) where
     -- P of server s, at the clock of the world
     abbrev Holds : World W → ℕ → Type 0
     Holds w s = P w.now (account w.accounts s)
@@ -67,10 +109,19 @@ module _ {W : Type 0} (work : Meaning W) where
     holds_tick w s h = holds_map w.now w.accounts s h
 
     -- so do n ticks
-    holds_ticks : (n : ℕ) (w : World W) (s : ℕ) → Holds w s → Holds (ticks n w) s
+    pub holds_ticks : (n : ℕ) (w : World W) (s : ℕ) → Holds w s → Holds (ticks n w) s
     unfolding ticks
     holds_ticks zero w s h = h
     holds_ticks (suc n) w s h = holds_ticks n (tick w) s (holds_tick w s h)
+
+    -- where letting go keeps P of every account, P still holds of each of which it held
+    holds_let_go : (w : World W) (s : ℕ) → Holds w s → Holds (let_go w) s
+    holds_let_go w s h = go w.accounts s h
+      where
+        go : (accounts : List (Account W)) (s : ℕ) → P w.now (account accounts s) → P w.now (account (map account_let_go accounts) s)
+        go [] s h = h
+        go (a ∷ accounts) zero h = loose w.now a h
+        go (a ∷ accounts) (suc s) h = go accounts s h
 
     -- so does a close, refused or not
     holds_close : (w : World W) (t s : ℕ) (o : Option CoreError) → Holds w s → Holds (after_closing w t o) s
@@ -82,8 +133,9 @@ module _ {W : Type 0} (work : Meaning W) where
         → Holds (after_run w o) s
     holds_run w s None ready h = h
     holds_run w s (Some t) ready h =
-        holds_tick (record w { accounts = changed_at account_with_unit w.accounts t }) s
-        (holds_changed w.now account_with_unit w.accounts t s (unit w.now (account w.accounts t) (ready t refl)) h)
+        holds_tick (record w { accounts = changed_at account_with_unit (let_go w).accounts t }) s
+        (holds_changed w.now account_with_unit (let_go w).accounts t s (unit w.now (account (let_go w).accounts t) (loose_ready w t (ready t refl)))
+        (holds_let_go w s h))
 
     -- so does each step that is no submit: a run
     pub holds_run_step : (backlog : ℕ) (w : World W) (s : ℕ) → Holds w s → Holds (next work backlog w Run) s
@@ -91,7 +143,11 @@ module _ {W : Type 0} (work : Meaning W) where
 
     -- an advance
     pub holds_advance_step : (backlog : ℕ) (w : World W) (n s : ℕ) → Holds w s → Holds (next work backlog w (Advance n)) s
-    holds_advance_step backlog w n s h = elim (cases_Bool (leb (w.now + n) clock_end)) [ inl t ↦ rw t (holds_ticks n w s h) | inr f ↦ rw f h ]
+    holds_advance_step backlog w n s h = elim (cases_Bool (leb (w.now + n) clock_end)) [ inl t ↦ rw t (go n) | inr f ↦ rw f h ]
+      where
+        go : (n : ℕ) → Holds (after_advance w n) s
+        go zero = h
+        go (suc n) = holds_ticks (suc n) (let_go w) s (holds_let_go w s h)
 
     -- and a close
     pub holds_close_step : (backlog : ℕ) (w : World W) (t s : ℕ) → Holds w s → Holds (next work backlog w (Close t)) s
@@ -103,12 +159,51 @@ module _ {W : Type 0} (work : Meaning W) where
       holds_submit w t s j None h = holds_changed w.now (account_with_job work w.now j) w.accounts t s (job w.now j (account w.accounts t)) h
       holds_submit w t s j (Some e) h = h
 
+      -- one step more that takes nobody's time
+      holds_quiet_next : (backlog : ℕ) (w : World W) (x : Step W) (s : ℕ) → IsQuietStep work w x → Holds w s → Holds (next work backlog w x) s
+      holds_quiet_next backlog w (Submit t j) s q h = holds_submit w t s j (submit_refusal backlog (faces work w) t) h
+      holds_quiet_next backlog w Run s q h = holds_run_step backlog w s h
+      holds_quiet_next backlog w (Advance n) s q h = holds_advance_step backlog w n s h
+      holds_quiet_next backlog w (Close t) s q h = holds_close_step backlog w t s h
+      holds_quiet_next backlog w (Charge t n) s q h = go n (charge_refusal w t n) q
+        where
+          go : (n : ℕ) (o : Option CoreError) → (o ≡ None → n ≡ 0) → Holds (after_charging w t n o) s
+          go zero None q = h
+          go (suc n) None q = let z = q refl in absurd (omega arith)
+          go zero (Some e) q = h
+          go (suc n) (Some e) q = h
+
+      -- a whole history of such steps
+      pub holds_quiet_after : (setup : Setup) (M : List (Step W)) (s : ℕ) → AreQuiet work setup M → Holds (start setup) s → Holds (after work setup M) s
+      holds_quiet_after setup [] s quiet h = h
+      holds_quiet_after setup (x ∷ M) s quiet h = holds_quiet_next setup.backlog (after work setup M) x s quiet.1 (holds_quiet_after setup M s quiet.0 h)
+
+      -- more such steps, in order
+      pub holds_quiet_on : (M : History W) (xs : List (Step W)) (s : ℕ) → AllQuiet work M xs → Holds (world_after work M) s → Holds (world_after work (M ⊕⊕ xs)) s
+      holds_quiet_on M [] s quiet h = h
+      holds_quiet_on M (x ∷ xs) s quiet h = holds_quiet_on (M ⊕ x) xs s quiet.1 (holds_quiet_next M.setup.backlog (world_after work M) x s quiet.0 h)
+
+    module _ (charge : (now n : ℕ) (a : Account W) → 0 < n → a.runs ≡ true → P now a → P now (account_with_charge n a)) where
+      -- a charge, refused or not
+      holds_charging : (w : World W) (t n s : ℕ) (o : Option CoreError) → (o ≡ None → (account w.accounts t).runs ≡ true) → Holds w s → Holds (after_charging w t n o) s
+      holds_charging w t zero s None runs h = h
+      holds_charging w t (suc n) s None runs h = holds_ticks (suc n) (record w { accounts = changed_at (account_with_charge (suc n)) w.accounts t }) s
+          (holds_changed w.now (account_with_charge (suc n)) w.accounts t s (charge w.now (suc n) (account w.accounts t) (omega arith) (runs refl)) h)
+      holds_charging w t zero s (Some e) runs h = h
+      holds_charging w t (suc n) s (Some e) runs h = h
+
+      pub holds_charge_step : (backlog : ℕ) (w : World W) (t n s : ℕ) → Holds w s → Holds (next work backlog w (Charge t n)) s
+      holds_charge_step backlog w t n s h = holds_charging w t n s (charge_refusal w t n) (charged_runs w t n) h
+
+    module _ (job : (now : ℕ) (j : W) (a : Account W) → P now a → P now (account_with_job work now j a))
+        (charge : (now n : ℕ) (a : Account W) → 0 < n → a.runs ≡ true → P now a → P now (account_with_charge n a)) where
       -- one step more
       pub holds_next : (backlog : ℕ) (w : World W) (x : Step W) (s : ℕ) → Holds w s → Holds (next work backlog w x) s
-      holds_next backlog w (Submit t j) s h = holds_submit w t s j (submit_refusal backlog (faces work w) t) h
+      holds_next backlog w (Submit t j) s h = holds_submit job w t s j (submit_refusal backlog (faces work w) t) h
       holds_next backlog w Run s h = holds_run_step backlog w s h
       holds_next backlog w (Advance n) s h = holds_advance_step backlog w n s h
       holds_next backlog w (Close t) s h = holds_close_step backlog w t s h
+      holds_next backlog w (Charge t n) s h = holds_charge_step charge backlog w t n s h
 
       -- one step more, as it was answered
       pub holds_grown : (M : History W) (x : Step W) (r : Reply W) (s : ℕ) → Holds (world_after work M) s → Holds (world_after work (grown M x r)) s
@@ -138,3 +233,9 @@ module _ {W : Type 0} (work : Meaning W) where
       pub holds_on : (M : History W) (xs : List (Step W)) (s : ℕ) → Holds (world_after work M) s → Holds (world_after work (M ⊕⊕ xs)) s
       holds_on M [] s h = h
       holds_on M (x ∷ xs) s h = holds_on (M ⊕ x) xs s (holds_next M.setup.backlog (world_after work M) x s h)
+
+  -- after more steps a server keeps its terms
+  pub terms_behind : (setup : Setup) (K M : List (Step W)) (s : ℕ)
+      → (account (after work setup (K ++ M)).accounts s).terms ≡ (account (after work setup M).accounts s).terms
+  terms_behind setup K M s = let t = (account (after work setup M).accounts s).terms in holds_behind (λ now a. a.terms ≡ t)
+      (λ now a ready h. h) (λ now a h. h) (λ now a h. h) (λ now a h. h) (λ now j a h. h) (λ now n a some runs h. h) setup K M s refl

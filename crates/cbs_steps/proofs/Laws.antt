@@ -9,7 +9,7 @@ use Rattle.cbs_rules.specs.Rules.{clock_end}
 use Rattle.cbs_rules.specs.declared.mode.Mode.{Mode}
 use Rattle.cbs_steps.specs.Choice.{rank_at}
 use Rattle.cbs_steps.specs.Faces.{Face, is_ready, ranks}
-use Rattle.cbs_steps.specs.History.{World, History, ◌⊕◌, faces, chosen, tick, ticks, after_run, next}
+use Rattle.cbs_steps.specs.History.{World, History, ◌⊕◌, faces, chosen, tick, ticks, after_run, after_advance, let_go, next}
 use Rattle.cbs_steps.specs.Quiet.{IsAtRest, IsQuiet, IsIdleSpan}
 use Rattle.cbs_steps.specs.Setups.{terms_of}
 use Rattle.cbs_steps.specs.Punctual.{IsPunctual}
@@ -60,8 +60,11 @@ module _ {W : Type 0} (work : Meaning W) where
       let some = span.greatest 1 (omega arith) (quiet_one w span.at_rest) in
       let within = span.within in
       let t : leb (w.now + n) clock_end ≡ true = grind (arith, nat_tests) in
-      let e = ticks-now n w in
-      rw t (omega arith)
+      rw t (later n some)
+    where
+      later : (n : ℕ) → 0 < n → w.now < (after_advance w n).now
+      later zero some = absurd (omega arith)
+      later (suc n) some = let e = ticks-now (suc n) (let_go w) in omega arith
 
 module _ {W : Type 0} where
   -- two lists of steps, one behind the other

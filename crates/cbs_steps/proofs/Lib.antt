@@ -1,3 +1,4 @@
+mod ChargeExamples
 pub mod Choices
 pub mod ClosedServers
 pub mod Completions
@@ -10,11 +11,13 @@ pub mod FinishedJobs
 pub mod HardTasks
 pub mod Histories
 pub mod JobsLeft
+pub mod Lateness
 pub mod LawfulServers
 pub mod Laws
 pub mod OnTime
 pub mod OnTimeLists
 pub mod OnTimeSteps
+pub mod Paced
 pub mod PaidUnits
 pub mod Plans
 pub mod Promised
@@ -25,4 +28,5 @@ pub mod StepLists
 pub mod SubmitRefusals
 pub mod Supplies
 pub mod Ticks
+pub mod Uncharged
 pub mod Windows

@@ -22,9 +22,9 @@ use Rattle.cbs_lists.specs.Lists.{changed_at}
 use Rattle.cbs_steps.specs.declared.view.ServerView.{ServerView}
 use Rattle.cbs_steps.proofs.Histories.{account_face}
 use Rattle.cbs_steps.specs.Faces.{Face, no_face, is_ready, reservations, view_reply, submit_refusal, close_refusal}
-use Rattle.cbs_steps.specs.Accounts.{Account, face_of, new_account, no_account, account_with_job, account_with_unit, account_with_replenishment}
+use Rattle.cbs_steps.specs.Accounts.{Account, face_of, new_account, no_account, account_with_job, account_with_unit, account_with_charge, account_with_replenishment, account_let_go}
 use Rattle.cbs_steps.specs.Accounts.{account_with_close}
-use Rattle.cbs_steps.specs.History.{World, Setup, History, account, faces, tick, ticks, start, runner, after_submit, after_run, after_closing, next}
+use Rattle.cbs_steps.specs.History.{World, Setup, History, account, faces, tick, ticks, start, runner, after_submit, after_run, after_closing, after_advance, after_charging, charge_refusal, let_go, next}
 use Rattle.cbs_steps.specs.History.{after, world_after}
 use Rattle.cbs_steps.specs.OnTime.{demand, IsAhead, IsOnTimeIn, is_late, IsNobodyLate, IsWorldOnTime, NeverLate, KeepsTime, KeepsTimeAll}
 use Rattle.cbs_steps.specs.Quiet.{IsQuietStep, AreQuiet}
@@ -32,7 +32,7 @@ use Rattle.cbs_steps.specs.Replies.{is_lack, grown}
 use Rattle.cbs_steps.specs.declared.error.CoreError.{CoreError}
 use Rattle.cbs_steps.specs.declared.reply.Reply.{Reply}
 use Rattle.cbs_steps.specs.declared.step.Step.{Step}
-use Rattle.cbs_steps.specs.declared.step.Step.TheVariants.{Submit, Run, Advance, Close}
+use Rattle.cbs_steps.specs.declared.step.Step.TheVariants.{Submit, Run, Advance, Close, Charge}
 use Rattle.cbs_lists.proofs.Lists.{map_kept, changed_kept, AllByRecursion-map, AllByRecursion-mapped, AllByRecursion-make}
 use Rattle.cbs_steps.proofs.OnTimeSteps.{IsSound, AllSound, IsTimely, sound_next, timely_next, not_late}
 use Rattle.cbs_lists.proofs.Sums.{sum_map, sum_times}
@@ -61,6 +61,10 @@ module _ {W : Type 0} (work : Meaning W) where
   rates_ticks zero w = refl
   rates_ticks (suc n) w = rates_ticks n (tick w) ∙ rates_tick w
 
+  -- nor that all are let go
+  rates_let_go : (w : World W) → map reservation (let_go w).accounts ≡ map reservation w.accounts
+  rates_let_go w = map_kept reservation account_let_go w.accounts (λ a. refl)
+
   -- nor does a submit
   rates_submit : (w : World W) (s : ℕ) (job : W) (o : Option CoreError) → map reservation (after_submit work w s job o).accounts ≡ map reservation w.accounts
   rates_submit w s job None = changed_kept reservation (account_with_job work w.now job) w.accounts s (λ a. refl)
@@ -69,8 +73,21 @@ module _ {W : Type 0} (work : Meaning W) where
   -- nor does a run
   rates_run : (w : World W) (o : Option ℕ) → map reservation (after_run w o).accounts ≡ map reservation w.accounts
   rates_run w None = refl
-  rates_run w (Some s) = rates_tick (record w { accounts = changed_at account_with_unit w.accounts s })
-      ∙ changed_kept reservation account_with_unit w.accounts s (λ a. refl)
+  rates_run w (Some s) = rates_tick (record w { accounts = changed_at account_with_unit (let_go w).accounts s })
+      ∙ changed_kept reservation account_with_unit (let_go w).accounts s (λ a. refl) ∙ rates_let_go w
+
+  -- nor does an advance
+  rates_advance : (w : World W) (n : ℕ) → map reservation (after_advance w n).accounts ≡ map reservation w.accounts
+  rates_advance w zero = refl
+  rates_advance w (suc n) = rates_ticks (suc n) (let_go w) ∙ rates_let_go w
+
+  -- nor does a charge
+  rates_charge : (w : World W) (s n : ℕ) (o : Option CoreError) → map reservation (after_charging w s n o).accounts ≡ map reservation w.accounts
+  rates_charge w s zero None = refl
+  rates_charge w s (suc n) None = rates_ticks (suc n) (record w { accounts = changed_at (account_with_charge (suc n)) w.accounts s })
+      ∙ changed_kept reservation (account_with_charge (suc n)) w.accounts s (λ a. refl)
+  rates_charge w s zero (Some e) = refl
+  rates_charge w s (suc n) (Some e) = refl
 
   -- nor does a close
   rates_close : (w : World W) (s : ℕ) (o : Option CoreError) → map reservation (after_closing w s o).accounts ≡ map reservation w.accounts
@@ -81,8 +98,9 @@ module _ {W : Type 0} (work : Meaning W) where
   rates_next : (backlog : ℕ) (w : World W) (x : Step W) → map reservation (next work backlog w x).accounts ≡ map reservation w.accounts
   rates_next backlog w (Submit s job) = rates_submit w s job (submit_refusal backlog (faces work w) s)
   rates_next backlog w Run = rates_run w (runner work w)
-  rates_next backlog w (Advance n) = elim (cases_Bool (leb (w.now + n) clock_end)) [ inl t ↦ rw t (rates_ticks n w) | inr f ↦ rw f ]
+  rates_next backlog w (Advance n) = elim (cases_Bool (leb (w.now + n) clock_end)) [ inl t ↦ rw t (rates_advance w n) | inr f ↦ rw f ]
   rates_next backlog w (Close s) = rates_close w s (close_refusal (faces work w) s)
+  rates_next backlog w (Charge s n) = rates_charge w s n (charge_refusal w s n)
 
   -- the reservations that an executor was given
   abbrev pub given : Setup → List Rate
@@ -99,7 +117,7 @@ module _ {W : Type 0} (work : Meaning W) where
   sound_new P [] all common = tt
   sound_new P (t ∷ ts) all common = (
     record {
-      lawful = record { rate = all.0; state = IsState-fresh_state t.reservation; begun = λ active. cc };
+      lawful = record { rate = all.0; state = IsState-fresh_state t.reservation all.0; free = λ soft. refl; begun = λ active. cc; ran = λ runs. cc; within = omega arith };
       divides = mul-div_cancel' t.reservation.period {m = P} (dvd_of_mod-eq-zero t.reservation.period common.0);
     },
     sound_new P ts all.1 common.1,
@@ -132,7 +150,7 @@ module _ {W : Type 0} (work : Meaning W) where
   new_ahead (t ∷ ts) = (λ marked. cc, new_ahead ts)
 
   -- so the start is on time
-  timely_start : (setup : Setup) → IsAdmitted (given setup) → IsTimely work (all_periods (given setup)) (start setup)
+  pub timely_start : (setup : Setup) → IsAdmitted (given setup) → IsTimely work (all_periods (given setup)) (start setup)
   timely_start setup ok =
       let P = all_periods (given setup) in
       record {

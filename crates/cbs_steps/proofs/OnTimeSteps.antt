@@ -14,19 +14,19 @@ use Rattle.cbs_rules.specs.Rules.{Terms, clock_end}
 use Rattle.cbs_lists.specs.Lists.{changed_at}
 use Rattle.cbs_steps.specs.Choice.{Rank, rank_at, is_before, IsEarliest}
 use Rattle.cbs_steps.specs.Faces.{Face, face_at, no_face, is_active, is_ready, arrived, ranks, submit_refusal, close_refusal}
-use Rattle.cbs_steps.specs.Accounts.{Account, face_of, no_account, account_with_job, account_with_unit, account_with_replenishment, account_with_close}
-use Rattle.cbs_steps.specs.History.{World, account, faces, chosen, tick, ticks, runner, after_submit, after_run, after_closing, next}
+use Rattle.cbs_steps.specs.Accounts.{Account, face_of, no_account, account_with_job, account_with_unit, account_with_charge, account_with_replenishment, account_with_close, account_let_go}
+use Rattle.cbs_steps.specs.History.{World, account, faces, chosen, tick, ticks, runner, after_submit, after_run, after_closing, after_advance, after_charging, charge_refusal, let_go, next}
 use Rattle.cbs_steps.specs.OnTime.{full_demand, share_until, demand, IsAhead}
 use Rattle.cbs_steps.specs.Quiet.{IsAtRest, IsQuiet, IsQuietStep}
 use Rattle.cbs_steps.specs.declared.error.CoreError.{CoreError}
 use Rattle.cbs_steps.specs.declared.step.Step.{Step}
-use Rattle.cbs_steps.specs.declared.step.Step.TheVariants.{Submit, Run, Advance, Close}
+use Rattle.cbs_steps.specs.declared.step.Step.TheVariants.{Submit, Run, Advance, Close, Charge}
 use Rattle.cbs_steps.proofs.Choices.{choice_is}
 use Rattle.cbs_steps.proofs.DemandLines.{split, asked_from}
 use Rattle.cbs_steps.proofs.Demands.{replenished_ahead, demand_busy, job-le, tick-le, rest_line, tick_before, run_less, run_before}
 use Rattle.cbs_steps.proofs.Faces.{rank_ready, runnable}
-use Rattle.cbs_steps.proofs.Histories.{account_face, chosen_is_ready}
-use Rattle.cbs_steps.proofs.LawfulServers.{IsLawful, lawful_job, lawful_unit, lawful_replenishment, lawful_close, ready_budget}
+use Rattle.cbs_steps.proofs.Histories.{account_face, chosen_is_ready, charged_runs, loose_ready, let_go_faces, let_go_ticks}
+use Rattle.cbs_steps.proofs.LawfulServers.{IsLawful, lawful_job, lawful_unit, lawful_replenishment, lawful_close, lawful_charge, lawful_let_go, ready_begun, ready_budget}
 use Rattle.cbs_lists.proofs.Lists.{AllByRecursion-map, AllByRecursion-mapped, AllByRecursion-get, AllByRecursion-changed_at}
 use Rattle.cbs_lists.proofs.Sums.{sum_map, sum_times, sum-mono, sum_changed, sum_changed-le, sum_changed_same}
 
@@ -54,7 +54,7 @@ rank_deadline : (fs : List Face) (s : ℕ) → (rank_at (ranks fs) s).deadline �
 rank_deadline fs s = ap (λ (r : Rank). r.deadline) (get_or-map (λ (f : Face). record { ready = is_ready f; deadline = f.state.deadline }) fs s no_face)
 
 -- a job that comes in leaves a throttled server its deadline
-ahead_arrived : (now : ℕ) (f : Face) → IsAhead now f → IsAhead now (record f { state = arrived now f; accepted = f.accepted + 1 })
+pub ahead_arrived : (now : ℕ) (f : Face) → IsAhead now f → IsAhead now (record f { state = arrived now f; accepted = f.accepted + 1 })
 ahead_arrived now f h = grind (arith, nat_tests)
 
 module _ {W : Type 0} (work : Meaning W) (P : ℕ) where
@@ -74,16 +74,16 @@ module _ {W : Type 0} (work : Meaning W) (P : ℕ) where
 
     -- so does a tick
     asks_tick : asks (now + 1) x (account_with_replenishment (now + 1) a) ≤ asks now x a
-    asks_tick = tick-le P a.terms.reservation ok.divides now x (is_active (face_of work a)) a.state ok.lawful.state.spent
+    asks_tick = tick-le P a.terms.reservation ok.divides now x (is_active (face_of work a)) a.state ok.lawful.state
 
     -- after it a server that was not ready stays below its share
     asks_rest : is_ready (face_of work a) ≡ false → IsAhead now (face_of work a)
         → asks (now + 1) x (account_with_replenishment (now + 1) a) ≤ share_until P a.terms.reservation (now + 1) x
-    asks_rest rest ahead = rest_line P a.terms.reservation ok.divides now x (is_active (face_of work a)) a.state ok.lawful.state.spent rest ahead
+    asks_rest rest ahead = rest_line P a.terms.reservation ok.divides now x (is_active (face_of work a)) a.state ok.lawful.state rest ahead
 
     -- and nothing is asked for before the deadline
     asks_before : x < a.state.deadline → asks (now + 1) x (account_with_replenishment (now + 1) a) ≡ 0
-    asks_before h = tick_before P a.terms.reservation ok.divides now x (is_active (face_of work a)) a.state ok.lawful.state.spent h
+    asks_before h = tick_before P a.terms.reservation ok.divides now x (is_active (face_of work a)) a.state ok.lawful.state h
 
     module _ (ready : is_ready (face_of work a) ≡ true) where
       -- a ready server asks for all
@@ -93,16 +93,17 @@ module _ {W : Type 0} (work : Meaning W) (P : ℕ) where
       -- a unit and a tick ask for a tick less, from the deadline on
       asks_run : a.state.deadline ≤ x → asks (now + 1) x (account_with_replenishment (now + 1) (account_with_unit a)) + P ≤ asks now x a
       asks_run far = rw asks_ready
-          (run_less P a.terms.reservation ok.divides a.terms.mode now x (is_active (face_of work (account_with_unit a))) a.state
-          (runnable (face_of work a) ready).free (ready_budget work a ready ok.lawful) far)
+          (run_less P a.terms.reservation ok.divides ok.lawful.rate a.terms.mode now x (is_active (face_of work (account_with_unit a))) a.state
+          ok.lawful.state (runnable (face_of work a) ready).free (ready_begun work a ready ok.lawful) far)
 
       -- and for nothing before
       asks_run_before : x < a.state.deadline → asks (now + 1) x (account_with_replenishment (now + 1) (account_with_unit a)) ≡ 0
-      asks_run_before near = run_before P a.terms.reservation ok.divides a.terms.mode now x
-          (is_active (face_of work (account_with_unit a))) a.state (runnable (face_of work a) ready).free near
+      asks_run_before near = run_before P a.terms.reservation ok.divides ok.lawful.rate a.terms.mode now x
+          (is_active (face_of work (account_with_unit a))) a.state ok.lawful.state (runnable (face_of work a) ready).free
+          (ready_begun work a ready ok.lawful) near
 
   -- a tick keeps a world sound
-  sound_tick : (w : World W) → AllSound work P w → AllSound work P (tick w)
+  pub sound_tick : (w : World W) → AllSound work P w → AllSound work P (tick w)
   sound_tick w ok = record {
     each = AllByRecursion-map (IsSound work P) (IsSound work P) (account_with_replenishment (w.now + 1)) w.accounts ok.each
         (λ a h. record { lawful = lawful_replenishment work (w.now + 1) a h.lawful; divides = h.divides });
@@ -110,7 +111,7 @@ module _ {W : Type 0} (work : Meaning W) (P : ℕ) where
   }
 
   -- so do n ticks
-  sound_ticks : (n : ℕ) (w : World W) → AllSound work P w → AllSound work P (ticks n w)
+  pub sound_ticks : (n : ℕ) (w : World W) → AllSound work P w → AllSound work P (ticks n w)
   unfolding ticks
   sound_ticks zero w ok = ok
   sound_ticks (suc n) w ok = sound_ticks n (tick w) (sound_tick w ok)
@@ -136,30 +137,58 @@ module _ {W : Type 0} (work : Meaning W) (P : ℕ) where
       (λ h. record { lawful = lawful_close work (account w.accounts s) h.lawful; divides = h.divides }) ok
   sound_close w s (Some e) ok = ok
 
+  -- so does it that all are let go
+  pub sound_let_go : (w : World W) → AllSound work P w → AllSound work P (let_go w)
+  sound_let_go w ok = record {
+    each = AllByRecursion-map (IsSound work P) (IsSound work P) account_let_go w.accounts ok.each (λ a h. record { lawful = lawful_let_go work a h.lawful; divides = h.divides });
+    fits = rw (sum_map shares account_let_go w.accounts) ok.fits;
+  }
+
+  -- so does an advance
+  sound_advance : (w : World W) (n : ℕ) → AllSound work P w → AllSound work P (after_advance w n)
+  sound_advance w zero ok = ok
+  sound_advance w (suc n) ok = sound_ticks (suc n) (let_go w) (sound_let_go w ok)
+
+  -- so does what a server that runs is charged
+  pub sound_charged : (w : World W) (s n : ℕ) → (account w.accounts s).runs ≡ true → AllSound work P w
+      → AllSound work P (record w { accounts = changed_at (account_with_charge n) w.accounts s })
+  sound_charged w s n runs ok = sound_changed w (account_with_charge n) s (λ a. refl)
+      (λ h. record { lawful = lawful_charge work n (account w.accounts s) runs h.lawful; divides = h.divides }) ok
+
+  -- so does a charge, accepted or refused
+  sound_charge : (w : World W) (s n : ℕ) (o : Option CoreError) → (o ≡ None → (account w.accounts s).runs ≡ true) → AllSound work P w → AllSound work P (after_charging w s n o)
+  sound_charge w s zero None runs ok = ok
+  sound_charge w s (suc n) None runs ok = sound_ticks (suc n) (record w { accounts = changed_at (account_with_charge (suc n)) w.accounts s })
+      (sound_charged w s (suc n) (runs refl) ok)
+  sound_charge w s zero (Some e) runs ok = ok
+  sound_charge w s (suc n) (Some e) runs ok = ok
+
   -- so does a run of the chosen server
   sound_run : (w : World W) (o : Option ℕ) → ((s : ℕ) → o ≡ Some s → chosen work w ≡ Some s) → AllSound work P w → AllSound work P (after_run w o)
   sound_run w None chose ok = ok
-  sound_run w (Some s) chose ok = sound_tick (record w { accounts = changed_at account_with_unit w.accounts s })
-      (sound_changed w account_with_unit s (λ a. refl)
-      (λ h. record { lawful = lawful_unit work (account w.accounts s) (chosen_is_ready work w s (chose s refl)) h.lawful; divides = h.divides }) ok)
+  sound_run w (Some s) chose ok = sound_tick (record w { accounts = changed_at account_with_unit (let_go w).accounts s })
+      (sound_changed (let_go w) account_with_unit s (λ a. refl)
+      (λ h. record { lawful = lawful_unit work (account (let_go w).accounts s) (loose_ready work w s (chosen_is_ready work w s (chose s refl))) h.lawful; divides = h.divides })
+      (sound_let_go w ok))
 
   -- the server of a Run that runs is the chosen one
-  runner_chosen : (w : World W) (s : ℕ) → runner work w ≡ Some s → chosen work w ≡ Some s
+  pub runner_chosen : (w : World W) (s : ℕ) → runner work w ≡ Some s → chosen work w ≡ Some s
   runner_chosen w s e = elim (cases_Bool (ltb w.now clock_end)) [ inl t ↦ rw t at e | inr f ↦ let g : None ≡ Some s = rw f at e in cc ]
 
   -- each step keeps a world sound
   pub sound_next : (backlog : ℕ) (w : World W) (x : Step W) → AllSound work P w → AllSound work P (next work backlog w x)
   sound_next backlog w (Submit s job) ok = sound_submit w s job (submit_refusal backlog (faces work w) s) ok
   sound_next backlog w Run ok = sound_run w (runner work w) (runner_chosen w) ok
-  sound_next backlog w (Advance n) ok = elim (cases_Bool (leb (w.now + n) clock_end)) [ inl t ↦ rw t (sound_ticks n w ok) | inr f ↦ rw f ok ]
+  sound_next backlog w (Advance n) ok = elim (cases_Bool (leb (w.now + n) clock_end)) [ inl t ↦ rw t (sound_advance w n ok) | inr f ↦ rw f ok ]
   sound_next backlog w (Close s) ok = sound_close w s (close_refusal (faces work w) s) ok
+  sound_next backlog w (Charge s n) ok = sound_charge w s n (charge_refusal w s n) (charged_runs work w s n) ok
 
   -- one account of a sound world
-  sound_at : (w : World W) → AllSound work P w → (i : ℕ) → i < length w.accounts → IsSound work P (account w.accounts i)
+  pub sound_at : (w : World W) → AllSound work P w → (i : ℕ) → i < length w.accounts → IsSound work P (account w.accounts i)
   sound_at w ok i lt = AllByRecursion-get (IsSound work P) w.accounts i no_account ok.each lt
 
   -- all shares of k ticks fit into them
-  lines_fit : (w : World W) (k : ℕ) → AllSound work P w → sum_by (λ a. k * shares a) w.accounts ≤ k * P
+  pub lines_fit : (w : World W) (k : ℕ) → AllSound work P w → sum_by (λ a. k * shares a) w.accounts ≤ k * P
   lines_fit w k ok =
       let e = sum_times shares k w.accounts in
       let f = ok.fits in
@@ -189,7 +218,7 @@ module _ {W : Type 0} (work : Meaning W) (P : ℕ) where
   timely_close w s (Some e) on = on
 
   -- after a tick each throttled server waits for a later deadline
-  all_ahead : (now : ℕ) (accounts : List (Account W)) → AllByRecursion (λ a. IsAhead now (face_of work a)) (map (account_with_replenishment now) accounts)
+  pub all_ahead : (now : ℕ) (accounts : List (Account W)) → AllByRecursion (λ a. IsAhead now (face_of work a)) (map (account_with_replenishment now) accounts)
   all_ahead now [] = tt
   all_ahead now (a ∷ accounts) = (replenished_ahead a.terms.reservation now a.state, all_ahead now accounts)
 
@@ -210,13 +239,13 @@ module _ {W : Type 0} (work : Meaning W) (P : ℕ) where
       }
 
   -- the chosen server is there, and of the ready servers none has an earlier deadline
-  record IsLeast (w : World W) (s : ℕ) : Type 0 where
-    place : s < length w.accounts
-    least : (r : ℕ) → r < length w.accounts → is_ready (face_of work (account w.accounts r)) ≡ true
+  pub record IsLeast (w : World W) (s : ℕ) : Type 0 where
+    pub place : s < length w.accounts
+    pub least : (r : ℕ) → r < length w.accounts → is_ready (face_of work (account w.accounts r)) ≡ true
         → (account w.accounts s).state.deadline ≤ (account w.accounts r).state.deadline
 
   -- so it is of the choice
-  chosen_least : (w : World W) (s : ℕ) → chosen work w ≡ Some s → IsLeast w s
+  pub chosen_least : (w : World W) (s : ℕ) → chosen work w ≡ Some s → IsLeast w s
   chosen_least w s e =
       let fs = faces work w in
       let rs = ranks fs in
@@ -269,14 +298,23 @@ module _ {W : Type 0} (work : Meaning W) (P : ℕ) where
         ahead = all_ahead (w.now + 1) (changed_at account_with_unit w.accounts s);
       }
 
+  -- so does it that all are let go
+  timely_let_go : (w : World W) → IsTimely work P w → IsTimely work P (let_go w)
+  timely_let_go w on = record {
+    within = λ x early. rw (sum_map (asks w.now x) account_let_go w.accounts) (on.within x early);
+    ahead = AllByRecursion-map (λ a. IsAhead w.now (face_of work a)) (λ a. IsAhead w.now (face_of work a)) account_let_go w.accounts on.ahead (λ a h. h);
+  }
+
   -- so does a run, where a server runs or none
   timely_run : (w : World W) (o : Option ℕ) → ((s : ℕ) → o ≡ Some s → chosen work w ≡ Some s) → AllSound work P w → IsTimely work P w
       → IsTimely work P (after_run w o)
   timely_run w None chose ok on = on
-  timely_run w (Some s) chose ok on = timely_run_one w s (chose s refl) ok on
+  timely_run w (Some s) chose ok on =
+      let same : chosen work (let_go w) ≡ chosen work w = rw (let_go_faces work w) refl in
+      timely_run_one (let_go w) s (same ∙ chose s refl) (sound_let_go w ok) (timely_let_go w on)
 
   -- what is left of a quiet advance behind its first tick is quiet
-  quiet_more : (w : World W) (n : ℕ) → IsQuiet work w (suc n) → IsQuiet work (tick w) n
+  pub quiet_more : (w : World W) (n : ℕ) → IsQuiet work w (suc n) → IsQuiet work (tick w) n
   unfolding ticks
   quiet_more w n q = λ m lt. q (suc m) (omega arith)
 
@@ -286,16 +324,33 @@ module _ {W : Type 0} (work : Meaning W) (P : ℕ) where
   timely_ticks zero w ok on q = on
   timely_ticks (suc n) w ok on q = timely_ticks n (tick w) (sound_tick w ok) (timely_tick w ok on (q 0 (omega arith))) (quiet_more w n q)
 
+  -- what is quiet is so where all are let go
+  pub quiet_let_go : (w : World W) (n : ℕ) → IsQuiet work w n → IsQuiet work (let_go w) n
+  quiet_let_go w n q = λ m lt. let r = q m lt in rw (let_go_ticks work m w, let_go_faces work (ticks m w)) r
+
+  -- so does an advance
+  timely_advance : (w : World W) (n : ℕ) → AllSound work P w → IsTimely work P w → IsQuiet work w n → IsTimely work P (after_advance w n)
+  timely_advance w zero ok on q = on
+  timely_advance w (suc n) ok on q = timely_ticks (suc n) (let_go w) (sound_let_go w ok) (timely_let_go w on) (quiet_let_go w (suc n) q)
+
+  -- and a charge of nothing
+  timely_charge : (w : World W) (s n : ℕ) (o : Option CoreError) → (o ≡ None → n ≡ 0) → IsTimely work P w → IsTimely work P (after_charging w s n o)
+  timely_charge w s zero None q on = on
+  timely_charge w s (suc n) None q on = let z = q refl in absurd (omega arith)
+  timely_charge w s zero (Some e) q on = on
+  timely_charge w s (suc n) (Some e) q on = on
+
   -- each step that takes nobody's time keeps a world on time
   pub timely_next : (backlog : ℕ) (w : World W) (x : Step W) → AllSound work P w → IsQuietStep work w x → IsTimely work P w
       → IsTimely work P (next work backlog w x)
   timely_next backlog w (Submit s job) ok q on = timely_submit w s job (submit_refusal backlog (faces work w) s) ok on
   timely_next backlog w Run ok q on = timely_run w (runner work w) (runner_chosen w) ok on
   timely_next backlog w (Advance n) ok q on = elim (cases_Bool (leb (w.now + n) clock_end)) [
-    | inl t ↦ let le : w.now + n ≤ clock_end = grind (arith, nat_tests) in rw t (timely_ticks n w ok on (q le))
+    | inl t ↦ let le : w.now + n ≤ clock_end = grind (arith, nat_tests) in rw t (timely_advance w n ok on (q le))
     | inr f ↦ rw f on
   ]
   timely_next backlog w (Close s) ok q on = timely_close w s (close_refusal (faces work w) s) on
+  timely_next backlog w (Charge s n) ok q on = timely_charge w s n (charge_refusal w s n) q on
 
   -- in a world on time a ready server's deadline has not come
   pub not_late : (w : World W) → 0 < P → AllSound work P w → IsTimely work P w → (s : ℕ) → s < length w.accounts
@@ -310,9 +365,10 @@ module _ {W : Type 0} (work : Meaning W) (P : ℕ) where
         let b : sum_by (asks w.now w.now) w.accounts ≤ (w.now - w.now) * P = on.within w.now (omega arith) in
         let c : asks w.now w.now a ≤ sum_by (asks w.now w.now) w.accounts = get_or-le-sum_by (asks w.now w.now) w.accounts s no_account lt in
         let d : asks w.now w.now a ≡ full_demand P a.terms.reservation a.state w.now = asks_ready w.now w.now a law ready in
+        let free : a.state.throttled ≡ false = (runnable (face_of work a) ready).free in
         let e : full_demand P a.terms.reservation a.state w.now ≡ a.state.budget * P
         + (w.now - a.state.deadline) * share P a.terms.reservation =
-        asked_from P (share P a.terms.reservation) a.state.budget a.state.deadline w.now late in
+        rw free (asked_from P (share P a.terms.reservation) a.state.budget a.state.deadline w.now late) in
         let f = ready_budget work a ready law.lawful in
         let g = mul-le 1 P a.state.budget P f (omega arith) in
         let h : 0 < full_demand P a.terms.reservation a.state w.now = omega arith in

@@ -42,4 +42,4 @@ module _ {W : Type 0} (work : Meaning W) where
 
   -- after every history
   pub paid_after : (setup : Setup) (M : List (Step W)) (s : ℕ) → IsPaid (account (after work setup M).accounts s)
-  paid_after setup M s = holds_after work (λ now. IsPaid) (λ now. paid_unit) (λ now a h. h) (λ now a h. h) paid_job setup M s (paid_opened setup.servers s)
+  paid_after setup M s = holds_after work (λ now. IsPaid) (λ now. paid_unit) (λ now a h. h) (λ now a h. h) (λ now a h. h) paid_job (λ now n a some runs h. h) setup M s (paid_opened setup.servers s)

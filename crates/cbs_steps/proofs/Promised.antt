@@ -1,5 +1,5 @@
 -- What is promised of all accepted jobs is kept.
-use Rattle.std.proofs.Common.{◌≡◌, ℕ, suc, ◌+◌, ◌-◌, ◌<◌, eqb, List, [], ◌∷◌, ◌++◌, length, arith, refl, inl, inr, ap, ◌∙◌, length-append, Option, Some, None}
+use Rattle.std.proofs.Common.{◌≡◌, ℕ, ◌+◌, ◌-◌, ◌<◌, true, eqb, List, [], ◌∷◌, ◌++◌, length, arith, refl, inl, inr, ap, ◌∙◌, length-append, Option, Some, None}
 use Rattle.std.specs.Prelude.{IfSome}
 use Rattle.std.specs.Int.{div_ceil}
 use Rattle.std.specs.List.{sum_by}
@@ -10,18 +10,23 @@ use Rattle.std.proofs.lemmas.List.{get_or_past}
 use Rattle.std.proofs.lemmas.List.Sums.{sum_by-append}
 use Rattle.cbs_job.specs.Work.{Meaning}
 use Rattle.cbs_rate.specs.Plan.{all_periods}
-use Rattle.cbs_steps.specs.Accounts.{Account, no_account}
+use Rattle.cbs_steps.specs.Accounts.{Account, face_of, no_account, taken}
 use Rattle.cbs_steps.specs.Continuations.{◌⊕⊕◌}
 use Rattle.cbs_steps.specs.History.{History, ◌⊕◌, account, world_after}
 use Rattle.cbs_steps.specs.Laws.{account_in}
 use Rattle.cbs_steps.specs.OnTime.{IsWorldOnTime}
 use Rattle.cbs_steps.specs.Promises.{promised_tick, owed, promised, AllQuiet, AllFinishedBy}
 use Rattle.cbs_steps.specs.declared.step.Step.{Step}
-use Rattle.cbs_steps.proofs.Histories.{holds_on}
+use Rattle.cbs_steps.proofs.Covers.{covered_from}
+use Rattle.cbs_steps.proofs.Histories.{holds_quiet_on}
+use Rattle.cbs_rate.specs.Rate.{Rate}
+use Rattle.cbs_rules.specs.Rules.{until}
+use Rattle.cbs_steps.specs.OnTime.{IsAhead}
+use Rattle.cbs_steps.specs.Faces.{is_active}
 use Rattle.cbs_lists.proofs.Lists.{AllByRecursion-get}
-use Rattle.cbs_steps.proofs.OnTime.{IsAdmitted, given, sound_after, known_on_time, on_time_next}
+use Rattle.cbs_steps.proofs.OnTime.{IsAdmitted, given, sound_after, known_on_time, on_time_next, ready_early}
 use Rattle.cbs_steps.proofs.OnTimeSteps.{IsSound}
-use Rattle.cbs_steps.proofs.Promises.{IsAwaited, awaited_job, awaited_unit, awaited_replenishment, awaited_close, awaited_finished, count_after}
+use Rattle.cbs_steps.proofs.Promises.{IsAwaited, awaited_job, awaited_unit, awaited_replenishment, awaited_close, awaited_let_go, awaited_finished, count_after}
 
 -- a list as its last element and those before it
 record HasLast {X : Type 0} (xs : List X) : Type 0 where
@@ -59,6 +64,26 @@ module _ {W : Type 0} (work : Meaning W) where
         rw none at some in absurd (omega arith)
   ]
 
+  -- in a world on time an active server is due no earlier than the clock
+  due_on_time : (N : History W) (s : ℕ) → IsAdmitted (given work N.setup) → IsWorldOnTime work (world_after work N) → s < length (world_after work N).accounts
+      → is_active (face_of work (account_in work N s)) ≡ true
+      → (world_after work N).now < until (account_in work N s).terms.reservation (account_in work N s).state
+  due_on_time N s ok on lt active =
+      let w = world_after work N in
+      let a = account_in work N s in
+      let r = a.terms.reservation in
+      let timely = known_on_time work N.setup N.steps on in
+      elim (cases_Bool a.state.throttled) [
+        | inl t ↦
+            let l = AllByRecursion-get (λ b. IsAhead w.now (face_of work b)) w.accounts s no_account timely.ahead lt t in
+            let u : until r a.state ≡ a.state.deadline + r.period = rw t refl in
+            omega arith
+        | inr f ↦
+            let l = ready_early work N.setup N.steps ok timely s lt (rw (active, f)) in
+            let u : until r a.state ≡ a.state.deadline = rw f refl in
+            omega arith
+      ]
+
   -- what is owed is paid by the tick that is promised for it
   module _ (M : History W) (s : ℕ) (ok : IsAdmitted (given work M.setup)) (on : IsWorldOnTime work (world_after work M))
       (some : 0 < owed work (account_in work M s)) where
@@ -73,28 +98,29 @@ module _ {W : Type 0} (work : Meaning W) where
         let lt = owed_there (world_after work M).accounts s some in
         let law = (AllByRecursion-get (IsSound work (all_periods (given work M.setup))) (world_after work M).accounts s no_account
         (sound_after work M.setup M.steps ok).each lt).lawful in
+        let r = a.terms.reservation in
         let e = last_of work.left a.accepted (omega arith) in
-        let n : sum_by work.left a.accepted ≡ sum_by work.left e.before + work.left e.last =
+        let all_left : sum_by work.left a.accepted ≡ sum_by work.left e.before + work.left e.last =
         ap (sum_by work.left) e.split ∙ omega (arith, sum_by-append work.left e.before (e.last ∷ [])) in
-        let budgets = div_ceil_times (owed work a - a.state.budget) a.terms.reservation.budget law.rate.some in
-        let start : IsAwaited work e.before e.last tick a = record {
+        let budgets = div_ceil_times (owed work a + a.state.overrun - a.state.budget) r.budget law.rate.some in
+        let n = λ (r : Rate) (t : ℕ). sum_by work.left e.before + work.left e.last + t in
+        let b = λ (r : Rate) (t : ℕ). tick in
+        let start : IsAwaited work e.before e.last n b a = record {
           lawful = law;
           behind = [];
           jobs = e.split;
-          pending = λ owes. record {
-            periods = suc (div_ceil (owed work a - a.state.budget) a.terms.reservation.budget);
-            units = omega arith;
-            by = omega arith;
-          };
+          pending = λ owes few. covered_from r (sum_by work.left e.before + work.left e.last + a.charges.total)
+              (div_ceil (owed work a + a.state.overrun - a.state.budget) r.budget) (taken a) a.state law.state (omega arith);
         } in
         let N = M ⊕⊕ xs in
         let going = going_on M xs s quiet (record { ok = ok; on = on; there = omega (arith, count_after work M.setup M.steps) }) in
-        let h : IsAwaited work e.before e.last tick (account_in work N s) =
-        holds_on work (λ now. IsAwaited work e.before e.last tick) (λ now. awaited_unit work e.before e.last tick)
-        (λ now. awaited_replenishment work e.before e.last tick (now + 1))
-        (λ now. awaited_close work e.before e.last tick) (awaited_job work e.before e.last tick) M xs s start in
-        let last = awaited_finished work e.before e.last tick N.setup N.steps s going.ok (known_on_time work N.setup N.steps going.on)
-        (let there = going.there in omega (arith, count_after work N.setup N.steps)) h late in
+        let c = account_in work N s in
+        let h : IsAwaited work e.before e.last n b c =
+        holds_quiet_on work (λ now. IsAwaited work e.before e.last n b) (λ now. awaited_unit work e.before e.last n b)
+        (λ now. awaited_replenishment work e.before e.last n b (now + 1))
+        (λ now. awaited_close work e.before e.last n b) (λ now. awaited_let_go work e.before e.last n b) (awaited_job work e.before e.last n b) M xs s quiet start in
+        let soon = due_on_time N s going.ok going.on (let there = going.there in omega (arith, count_after work N.setup N.steps)) in
+        let last = awaited_finished work e.before e.last n b (world_after work N).now 0 c h (λ active. let q = soon active in omega arith) (omega arith) (λ owes. omega arith) in
         let count = ap length e.split ∙ length-append e.before (e.last ∷ []) in
         omega arith
 

@@ -9,11 +9,12 @@ use Rattle.cbs_rate.specs.Rate.{Rate}
 use Rattle.cbs_rules.specs.declared.mode.Mode.{Mode}
 use Rattle.cbs_steps.specs.Accounts.{new_account}
 use Rattle.cbs_steps.specs.Setups.{terms_of}
-use Rattle.cbs_steps.proofs.Dues.{due_kept}
+use Rattle.cbs_steps.proofs.Dues.{due_kept, charged_due_kept}
 use Rattle.cbs_steps.proofs.HardTasks.{hard_kept}
+use Rattle.cbs_steps.proofs.Lateness.{lateness_kept}
 use Rattle.cbs_steps.proofs.OnTime.{IsAdmitted, reservation, given, on_time_after, never_late}
-use Rattle.cbs_steps.proofs.Promises.{promise_kept, bound_kept}
-use Rattle.cbs_steps.proofs.Supplies.{supply_kept}
+use Rattle.cbs_steps.proofs.Promises.{promise_kept, bound_kept, charged_promise_kept}
+use Rattle.cbs_steps.proofs.Supplies.{supply_kept, charged_supply_kept}
 use Rattle.cbs_steps.proofs.Windows.{share_kept, cap_kept}
 
 module _ {W : Type 0} (work : Meaning W) where
@@ -28,6 +29,10 @@ module _ {W : Type 0} (work : Meaning W) where
     supply = supply_kept work N ok;
     share = share_kept work N ok;
     cap = cap_kept work N ok;
+    late_by = lateness_kept work N ok;
+    charged_supply = charged_supply_kept work N ok;
+    charged_promise = charged_promise_kept work N ok;
+    charged_due = charged_due_kept work N ok;
   }
 
   -- new servers have the reservations that they were given

@@ -1,5 +1,5 @@
 -- While a server stays active it gets its budget by its deadline, and one budget more by each period after.
-use Rattle.std.proofs.Common.{◌≡◌, ◌≢◌, ℕ, suc, ◌+◌, ◌*◌, ◌≤◌, ◌<◌, true, false, eqb, List, [], ◌∷◌, ◌++◌, length, arith, inl, inr, sym, subst}
+use Rattle.std.proofs.Common.{◌≡◌, ◌≢◌, ℕ, ◌+◌, ◌-◌, ◌*◌, ◌≤◌, ◌<◌, true, false, eqb, List, [], ◌∷◌, ◌++◌, length, arith, inl, inr, sym, subst}
 use Rattle.std.proofs.Common.{Option, Some, None}
 use Rattle.std.proofs.lemmas.Bool.{cases_Bool, cases_lt}
 use Rattle.std.proofs.lemmas.Bool.Decides.{nat_tests}
@@ -8,39 +8,63 @@ use Rattle.cbs_job.specs.Work.{Meaning}
 use Rattle.cbs_rate.specs.Plan.{all_periods}
 use Rattle.cbs_lists.specs.Lists.{changed_at}
 use Rattle.cbs_steps.specs.Faces.{is_active, is_ready, submit_refusal}
-use Rattle.cbs_steps.specs.Accounts.{Account, face_of, no_account, account_with_job, account_with_unit, account_with_replenishment, account_with_close}
+use Rattle.cbs_steps.specs.Accounts.{Account, face_of, no_account, account_with_job, account_with_unit, account_with_charge, account_with_replenishment, account_with_close, account_let_go, taken}
 use Rattle.cbs_steps.specs.History.{World, Setup, History, account, faces, after_submit, next, after}
-use Rattle.cbs_steps.specs.Quiet.{AreQuiet}
+use Rattle.cbs_steps.specs.Charged.{others_charges, KeepsChargedSupply}
+use Rattle.cbs_steps.specs.Quiet.{AdvanceQuietly}
 use Rattle.cbs_steps.specs.Supplies.{StaysActive, KeepsSupply}
 use Rattle.cbs_steps.specs.declared.error.CoreError.{CoreError}
 use Rattle.cbs_steps.specs.declared.step.Step.{Step}
-use Rattle.cbs_steps.specs.declared.step.Step.TheVariants.{Submit, Run, Advance, Close}
-use Rattle.cbs_steps.proofs.Covers.{IsCovered, covered_unit, covered_replenishment}
-use Rattle.cbs_steps.proofs.Histories.{holds_run_step, holds_advance_step, holds_close_step}
-use Rattle.cbs_steps.proofs.LawfulServers.{IsLawful, lawful_job, lawful_unit, lawful_replenishment, lawful_close}
+use Rattle.cbs_steps.specs.declared.step.Step.TheVariants.{Submit, Run, Advance, Close, Charge}
+use Rattle.cbs_steps.proofs.Covers.{IsCovered, covered_from, covered_paid, covered_taken, covered_unit, covered_replenishment}
+use Rattle.cbs_steps.proofs.Histories.{holds_run_step, holds_advance_step, holds_close_step, holds_charge_step}
+use Rattle.cbs_steps.proofs.Faces.{runnable}
+use Rattle.cbs_steps.proofs.LawfulServers.{IsLawful, lawful_job, lawful_unit, lawful_charge, lawful_let_go, lawful_replenishment, lawful_close, ready_begun}
 use Rattle.cbs_lists.proofs.Lists.{changed_here, changed_elsewhere, AllByRecursion-get}
-use Rattle.cbs_steps.proofs.OnTime.{IsAdmitted, given, sound_after, timely_after}
+use Rattle.cbs_steps.proofs.OnTime.{IsAdmitted, given, sound_after}
 use Rattle.cbs_steps.proofs.OnTimeSteps.{IsSound}
-use Rattle.cbs_steps.proofs.Promises.{covered_got}
+use Rattle.cbs_steps.proofs.Lateness.{due_late, quiet_advances, quiet_front, others_uncharged}
+use Rattle.cbs_steps.proofs.Uncharged.{uncharged_after}
+use Rattle.cbs_rules.proofs.Paid.{charge_paid}
 
 module _ {W : Type 0} (work : Meaning W) (n b : ℕ) where
-  -- until n units are got they are covered by tick b
+  -- until n ticks are taken they are covered by tick b
   record IsSupplied (a : Account W) : Type 0 where
     lawful : IsLawful work a
-    pending : a.got < n → IsCovered a.terms.reservation n b a.got a.state
+    pending : taken a < n → IsCovered a.terms.reservation n b (taken a) a.state
 
   -- a unit keeps it
   supplied_unit : (a : Account W) → is_ready (face_of work a) ≡ true → IsSupplied a → IsSupplied (account_with_unit a)
   supplied_unit a ready h = record {
     lawful = lawful_unit work a ready h.lawful;
-    pending = λ owes. covered_unit a.terms.reservation n b a.got a.state a.terms.mode h.lawful.state.capped (omega arith) (h.pending (omega arith));
+    pending = λ owes.
+        let e : taken (account_with_unit a) ≡ taken a + 1 = omega arith in
+        rw e (covered_unit a.terms.reservation n b (taken a) a.state a.terms.mode h.lawful.rate h.lawful.state
+        (runnable (face_of work a) ready).free (ready_begun work a ready h.lawful) (omega arith) (h.pending (omega arith)));
   }
+
+  -- so does a charge
+  supplied_charge : (m : ℕ) (a : Account W) → a.runs ≡ true → IsSupplied a → IsSupplied (account_with_charge m a)
+  supplied_charge m a runs h =
+      let r = a.terms.reservation in
+      let law = h.lawful in
+      let is = lawful_charge work m a runs law in
+      let e : taken (account_with_charge m a) ≡ taken a + m = omega arith in
+      record {
+        lawful = is;
+        pending = λ owes. rw e (covered_paid r n b (taken a) m a.state (account_with_charge m a).state law.rate.some is.state (omega arith)
+            (charge_paid a.terms.mode r m a.state law.rate.some law.state law.free) (h.pending (omega arith)));
+      }
+
+  -- so does it that the server is let go
+  supplied_let_go : (a : Account W) → IsSupplied a → IsSupplied (account_let_go a)
+  supplied_let_go a h = record { lawful = lawful_let_go work a h.lawful; pending = h.pending }
 
   -- so does a replenishment
   supplied_replenishment : (now : ℕ) (a : Account W) → IsSupplied a → IsSupplied (account_with_replenishment now a)
   supplied_replenishment now a h = record {
     lawful = lawful_replenishment work now a h.lawful;
-    pending = λ owes. covered_replenishment a.terms.reservation n b a.got a.state now h.lawful.rate.some (omega arith) h.lawful.state.spent (h.pending owes);
+    pending = λ owes. covered_replenishment a.terms.reservation n b (taken a) a.state now h.lawful.state (h.pending owes);
   }
 
   -- and a close
@@ -78,11 +102,13 @@ module _ {W : Type 0} (work : Meaning W) (n b : ℕ) where
         → IsSupplied (account w.accounts s) → IsSupplied (account (next work backlog w x).accounts s)
     supplied_next backlog w (Submit t job) lt active h = supplied_submit w t job (submit_refusal backlog (faces work w) t) lt active h
     supplied_next backlog w Run lt active h = holds_run_step work (λ now. IsSupplied) (λ now. supplied_unit)
-        (λ now. supplied_replenishment (now + 1)) (λ now. supplied_close) backlog w s h
+        (λ now. supplied_replenishment (now + 1)) (λ now. supplied_close) (λ now. supplied_let_go) backlog w s h
     supplied_next backlog w (Advance m) lt active h = holds_advance_step work (λ now. IsSupplied) (λ now. supplied_unit)
-        (λ now. supplied_replenishment (now + 1)) (λ now. supplied_close) backlog w m s h
+        (λ now. supplied_replenishment (now + 1)) (λ now. supplied_close) (λ now. supplied_let_go) backlog w m s h
     supplied_next backlog w (Close t) lt active h = holds_close_step work (λ now. IsSupplied) (λ now. supplied_unit)
-        (λ now. supplied_replenishment (now + 1)) (λ now. supplied_close) backlog w t s h
+        (λ now. supplied_replenishment (now + 1)) (λ now. supplied_close) (λ now. supplied_let_go) backlog w t s h
+    supplied_next backlog w (Charge t m) lt active h = holds_charge_step work (λ now. IsSupplied) (λ now. supplied_unit)
+        (λ now. supplied_replenishment (now + 1)) (λ now. supplied_close) (λ now. supplied_let_go) (λ now m a some runs k. supplied_charge m a runs k) backlog w t m s h
 
     -- the server is active at last
     active_last : (setup : Setup) (K M : List (Step W)) → StaysActive work setup s M K
@@ -113,28 +139,53 @@ module _ {W : Type 0} (work : Meaning W) (n b : ℕ) where
         (supplied_after setup K M busy.0 h)
 
 module _ {W : Type 0} (work : Meaning W) where
-  -- behind M, while the server stays active through K
-  supply : (setup : Setup) (K M : List (Step W)) (s j : ℕ) → IsAdmitted (given work setup) → AreQuiet work setup (K ++ M) → StaysActive work setup s M K
+  -- after M, while the server stays active through K
+  supply : (setup : Setup) (K M : List (Step W)) (s j : ℕ) → IsAdmitted (given work setup) → AdvanceQuietly work setup (K ++ M) → StaysActive work setup s M K
       → (let a = account (after work setup M).accounts s in
-      a.state.deadline + j * a.terms.reservation.period ≤ (after work setup (K ++ M)).now → a.got + a.state.budget
-      + j * a.terms.reservation.budget ≤ (account (after work setup (K ++ M)).accounts s).got)
+      let v = after work setup (K ++ M) in
+      a.state.deadline + j * a.terms.reservation.period + others_charges v.accounts s ≤ v.now → taken a + a.state.budget
+      + j * a.terms.reservation.budget ≤ taken (account v.accounts s) + a.state.overrun)
   supply setup K M s j ok quiet busy late =
       let w = after work setup M in
       let a = account w.accounts s in
-      let n = a.got + a.state.budget + j * a.terms.reservation.budget in
+      let n = taken a + a.state.budget + j * a.terms.reservation.budget - a.state.overrun in
       let b = a.state.deadline + j * a.terms.reservation.period in
       let there = active_there work n b s w.accounts (active_first work n b s setup K M busy) in
       let law = (AllByRecursion-get (IsSound work (all_periods (given work setup))) w.accounts s no_account (sound_after work setup M ok).each there).lawful in
-      let h = supplied_after work n b s setup K M busy (record
-      { lawful = law; pending = λ owes. record { periods = suc j; units = omega arith; by = omega arith } }) in
-      let active = active_last work n b s setup K M busy in
-      covered_got work setup (K ++ M) s n b ok (timely_after work setup (K ++ M) ok quiet)
-      (active_there work n b s (after work setup (K ++ M)).accounts active) (λ owes. active) h.lawful.state.capped h.pending late
+      elim (cases_lt (taken a + a.state.budget + j * a.terms.reservation.budget) a.state.overrun) [
+        | inl few ↦ omega arith
+        | inr enough ↦
+            let h = supplied_after work n b s setup K M busy (record
+            { lawful = law; pending = λ owes. covered_from a.terms.reservation n j (taken a) a.state law.state (omega arith) }) in
+            let active = active_last work n b s setup K M busy in
+            let v = after work setup (K ++ M) in
+            let c = account v.accounts s in
+            let soon = due_late work setup (K ++ M) ok quiet s (active_there work n b s v.accounts active) active in
+            elim (cases_lt (taken c) n) [
+              | inl owes ↦
+                  let all = covered_taken c.terms.reservation n b (taken c) v.now (others_charges v.accounts s) c.state h.lawful.state (h.pending owes) soon late in
+                  omega arith
+              | inr done ↦ omega arith
+            ]
+      ]
 
-  -- every history keeps its supplies
-  pub supply_kept : (N : History W) → IsAdmitted (given work N.setup) → KeepsSupply work N
-  supply_kept N ok = λ quiet K M s j e busy.
-      subst (λ L. AreQuiet work N.setup L → (let a = account (after work N.setup M).accounts s in
-      a.state.deadline + j * a.terms.reservation.period ≤ (after work N.setup L).now → a.got + a.state.budget
-      + j * a.terms.reservation.budget ≤ (account (after work N.setup L).accounts s).got))
+  -- every history keeps its supplies, with what is charged counted
+  pub charged_supply_kept : (N : History W) → IsAdmitted (given work N.setup) → KeepsChargedSupply work N
+  charged_supply_kept N ok = λ quiet K M s j e busy.
+      subst (λ L. AdvanceQuietly work N.setup L → (let a = account (after work N.setup M).accounts s in
+      let v = after work N.setup L in
+      a.state.deadline + j * a.terms.reservation.period + others_charges v.accounts s ≤ v.now → taken a + a.state.budget
+      + j * a.terms.reservation.budget ≤ taken (account v.accounts s) + a.state.overrun))
       (sym e) (λ quiet late. supply N.setup K M s j ok quiet busy late) quiet
+
+  -- so it keeps those of lists without charges
+  pub supply_kept : (N : History W) → IsAdmitted (given work N.setup) → KeepsSupply work N
+  supply_kept N ok = λ quiet K M s j e busy late.
+      let a = uncharged_after work N.setup M s (quiet_front work N.setup K M (rw e at quiet)) in
+      let c = uncharged_after work N.setup N.steps s quiet in
+      let o = others_uncharged work N.setup N.steps s quiet in
+      let f = a.total in
+      let g = a.overrun in
+      let h = c.total in
+      let k = charged_supply_kept N ok (quiet_advances work N.setup N.steps quiet) K M s j e busy (omega arith) in
+      omega arith

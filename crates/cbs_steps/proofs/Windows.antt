@@ -31,4 +31,4 @@ module _ {W : Type 0} (work : Meaning W) where
 
   -- and the caps
   pub cap_kept : (N : History W) → IsAdmitted (given work N.setup) → KeepsCap work N
-  cap_kept N ok = λ L K M s e lt. cap_behind work N K M s (lawful_behind N.setup M s ok lt)
+  cap_kept N ok = λ L K M s e lt. cap_behind work N K M s (lawful_behind N.setup [] s ok lt) (lawful_behind N.setup M s ok lt)

@@ -2,17 +2,22 @@
 use Rattle.std.specs.Prelude.{ℕ, ◌+◌, Bool, true, false, leb, List, [], ◌∷◌, ◌++◌, length, take, drop}
 use Rattle.std.specs.List.{sum_by}
 use Rattle.cbs_job.specs.Work.{Meaning}
-use Rattle.cbs_rules.specs.Rules.{State, Terms, fresh_state, after_unit, after_replenishment}
+use Rattle.cbs_rules.specs.Rules.{State, Terms, fresh_state, after_unit, after_charge, after_replenishment}
 use Rattle.cbs_steps.specs.Searches.{greatest}
-use Rattle.cbs_steps.specs.Faces.{Face, no_face, arrived}
+use Rattle.cbs_steps.specs.declared.charges.Charges.{Charges}
+use Rattle.cbs_steps.specs.Faces.{Face, no_charges, add_charge, no_face, arrived}
 
 -- the mode and reservation that the server was given, the jobs accepted for it, in order, the units that it got,
--- its budget, deadline and mark, and whether it was closed
+-- its budget, deadline, mark and overrun, what it was charged, in all and for its last unit, whether it runs (it got the last unit of
+-- all, and no tick has passed since but what it was charged for that), and whether it was closed
 pub record Account (W : Type 0) : Type 0 where
   pub terms : Terms
   pub accepted : List W
   pub got : ℕ
   pub state : State
+  pub charges : Charges
+  pub latest : ℕ
+  pub runs : Bool
   pub closed : Bool
 
 module _ {W : Type 0} where
@@ -28,25 +33,41 @@ module _ {W : Type 0} where
   abbrev pub unfinished : Meaning W → Account W → List W
   unfinished work a = drop (finished work a) a.accepted
 
+  -- the ticks that it took: its units, and what it was charged
+  abbrev pub taken : Account W → ℕ
+  taken a = a.got + a.charges.total
+
   -- what the server shows beside its jobs
   abbrev pub face_of : Meaning W → Account W → Face
-  face_of work a = record { terms = a.terms; state = a.state; closed = a.closed; accepted = length a.accepted; finished = finished work a }
+  face_of work a = record { terms = a.terms; state = a.state; charges = a.charges; closed = a.closed; accepted = length a.accepted; finished = finished work a }
 
   -- a server at the start
   abbrev pub new_account : Terms → Account W
-  new_account terms = record { terms = terms; accepted = []; got = 0; state = fresh_state; closed = false }
+  new_account terms = record { terms = terms; accepted = []; got = 0; state = fresh_state; charges = no_charges; latest = 0; runs = false; closed = false }
 
   -- what is known where there is no such server
   abbrev pub no_account : Account W
-  no_account = record { terms = no_face.terms; accepted = []; got = 0; state = fresh_state; closed = true }
+  no_account = record { terms = no_face.terms; accepted = []; got = 0; state = fresh_state; charges = no_charges; latest = 0; runs = false; closed = true }
 
   -- one more job is accepted
   abbrev pub account_with_job : Meaning W → ℕ → W → Account W → Account W
   account_with_job work now job a = record a { accepted = a.accepted ++ job ∷ []; state = arrived now (face_of work a) }
 
-  -- one more unit is got, by the unit rule
+  -- one more unit is got, by the unit rule: it runs, and is charged nothing yet for this unit
   abbrev pub account_with_unit : Account W → Account W
-  account_with_unit a = record a { got = a.got + 1; state = after_unit a.terms.mode a.terms.reservation a.state }
+  account_with_unit a = record a { got = a.got + 1; state = after_unit a.terms.mode a.terms.reservation a.state; latest = 0; runs = true }
+
+  -- it is charged n ticks for its last unit, by the rule of charges
+  abbrev pub account_with_charge : ℕ → Account W → Account W
+  account_with_charge n a = record a {
+    state = after_charge a.terms.mode a.terms.reservation n a.state;
+    charges = add_charge n (a.latest + n) a.charges;
+    latest = a.latest + n;
+  }
+
+  -- it runs no more, so that nothing more is charged for its last unit
+  abbrev pub account_let_go : Account W → Account W
+  account_let_go a = record a { runs = false }
 
   -- replenished, if a replenishment is due
   abbrev pub account_with_replenishment : ℕ → Account W → Account W

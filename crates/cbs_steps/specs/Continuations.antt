@@ -6,7 +6,7 @@ use Rattle.cbs_steps.specs.Faces.{face_at, is_active}
 use Rattle.cbs_steps.specs.History.{World, History, ◌⊕◌, faces, world_after}
 use Rattle.cbs_steps.specs.Quiet.{IsAtRest, IsIdleSpan}
 use Rattle.cbs_steps.specs.declared.step.Step.{Step}
-use Rattle.cbs_steps.specs.declared.step.Step.TheVariants.{Submit, Run, Advance, Close}
+use Rattle.cbs_steps.specs.declared.step.Step.TheVariants.{Submit, Run, Advance, Close, Charge}
 
 module _ {W : Type 0} where
   infixl 60 ◌⊕⊕◌
@@ -42,3 +42,4 @@ module _ {W : Type 0} where
   MayDrain work M Run = IsUseful work (world_after work M)
   MayDrain work M (Advance n) = IsNeeded work (world_after work M) n
   MayDrain work M (Close s) = ⊥
+  MayDrain work M (Charge s n) = ⊥

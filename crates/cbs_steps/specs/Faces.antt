@@ -1,32 +1,43 @@
 -- What a server shows beside its jobs, what is read off it, and what each step does to it.
-use Rattle.std.specs.Prelude.{ℕ, ◌+◌, ◌-◌, Bool, true, false, not, ◌&&◌, ◌||◌, leb, ltb, if◌then◌else◌, List, map, get_or, slice_get, Option, Some}
+use Rattle.std.specs.Prelude.{ℕ, ◌+◌, ◌-◌, Bool, true, false, not, ◌&&◌, ◌||◌, leb, ltb, max, if◌then◌else◌, List, map, get_or, slice_get, Option, Some}
 use Rattle.std.specs.Prelude.{None, Result, Ok, Err}
 use Rattle.cbs_rate.specs.Rate.{Rate}
-use Rattle.cbs_rules.specs.Rules.{State, Terms, fresh_state, after_arrival, after_unit, after_replenishment}
+use Rattle.cbs_rules.specs.Rules.{State, Terms, fresh_state, after_arrival, after_unit, after_charge, after_replenishment}
 use Rattle.cbs_rules.specs.declared.mode.Mode.TheVariants.{Soft}
 use Rattle.cbs_steps.specs.Choice.{Rank}
+use Rattle.cbs_steps.specs.declared.charges.Charges.{Charges}
 use Rattle.cbs_steps.specs.declared.error.CoreError.{CoreError}
 use Rattle.cbs_steps.specs.declared.error.CoreError.TheVariants as error
 use Rattle.cbs_steps.specs.declared.view.ServerView.{ServerView}
 
--- the mode and the reservation that the server was given, its budget, deadline and mark, whether it was closed, and how many
--- jobs it accepted and finished
+-- nothing was charged
+abbrev pub no_charges : Charges
+no_charges = record { total = 0; most = 0 }
+
+-- n ticks more, so that for one unit they are as many as said
+abbrev pub add_charge : ℕ → ℕ → Charges → Charges
+add_charge n for_unit c = record { total = c.total + n; most = max c.most for_unit }
+
+-- the mode and the reservation that the server was given, its budget, deadline, mark and overrun, what it was charged, whether it
+-- was closed, and how many jobs it accepted and finished
 pub record Face : Type 0 where
   pub terms : Terms
   pub state : State
+  pub charges : Charges
   pub closed : Bool
   pub accepted : ℕ
   pub finished : ℕ
 
 -- a server at the start
 abbrev pub new_face : Terms → Face
-new_face terms = record { terms = terms; state = fresh_state; closed = false; accepted = 0; finished = 0 }
+new_face terms = record { terms = terms; state = fresh_state; charges = no_charges; closed = false; accepted = 0; finished = 0 }
 
 -- what stands where there is no such server
 abbrev pub no_face : Face
 no_face = record {
   terms = record { mode = Soft; reservation = record { budget = 0; period = 0 } };
   state = fresh_state;
+  charges = no_charges;
   closed = true;
   accepted = 0;
   finished = 0;
@@ -93,6 +104,11 @@ abbrev pub view_reply : Option Face → Result ServerView CoreError
 view_reply None = Err error.NoSuchServer
 view_reply (Some f) = Ok (view_of f)
 
+-- what is answered of what a server was charged
+abbrev pub charges_reply : Option Face → Result Charges CoreError
+charges_reply None = Err error.NoSuchServer
+charges_reply (Some f) = Ok f.charges
+
 -- the budget, deadline and mark after a job came in: the arrival rule applies where the server was idle and not throttled
 abbrev pub arrived : ℕ → Face → State
 arrived now f = if is_active f || f.state.throttled then f.state else after_arrival f.terms.mode f.terms.reservation now f.state
@@ -104,6 +120,10 @@ with_job now f = record f { state = arrived now f; accepted = f.accepted + 1 }
 -- after a unit, which finished a job or did not
 abbrev pub with_unit : Bool → Face → Face
 with_unit done f = record f { state = after_unit f.terms.mode f.terms.reservation f.state; finished = if done then f.finished + 1 else f.finished }
+
+-- after a charge of n ticks for its last unit, for which it was then charged as many as said
+abbrev pub with_charge : ℕ → ℕ → Face → Face
+with_charge n for_unit f = record f { state = after_charge f.terms.mode f.terms.reservation n f.state; charges = add_charge n for_unit f.charges }
 
 -- after a replenishment, if one is due
 abbrev pub with_replenishment : ℕ → Face → Face

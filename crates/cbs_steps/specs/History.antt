@@ -1,11 +1,11 @@
 -- What a list of steps leaves, and what each step is answered.
-use Rattle.std.specs.Prelude.{ℕ, zero, suc, ◌+◌, eqb, leb, ltb, if◌then◌else◌, List, [], ◌∷◌, length, map, get_or, Option, Some, None}
+use Rattle.std.specs.Prelude.{ℕ, zero, suc, ◌+◌, eqb, leb, ltb, not, if◌then◌else◌, List, [], ◌∷◌, length, map, get_or, Option, Some, None}
 use Rattle.cbs_job.specs.Work.{Meaning, whole}
 use Rattle.cbs_rules.specs.Rules.{clock_end, Terms}
 use Rattle.cbs_steps.specs.declared.error.CoreError.{CoreError}
 use Rattle.cbs_steps.specs.declared.error.CoreError.TheVariants as error
 use Rattle.cbs_steps.specs.declared.step.Step.{Step}
-use Rattle.cbs_steps.specs.declared.step.Step.TheVariants.{Submit, Run, Advance, Close}
+use Rattle.cbs_steps.specs.declared.step.Step.TheVariants.{Submit, Run, Advance, Close, Charge}
 use Rattle.cbs_steps.specs.declared.reply.Ran.{Ran}
 use Rattle.cbs_steps.specs.declared.reply.Ran.TheVariants as ran
 use Rattle.cbs_steps.specs.declared.reply.Reply.{Reply}
@@ -14,7 +14,7 @@ use Rattle.cbs_lists.specs.Lists.{changed_at}
 use Rattle.cbs_steps.specs.Choice.{chosen_among}
 use Rattle.cbs_steps.specs.Faces.{Face, ranks, submit_refusal, close_refusal}
 use Rattle.cbs_steps.specs.Accounts.{Account, need, finished, face_of, new_account, no_account, account_with_job, account_with_unit}
-use Rattle.cbs_steps.specs.Accounts.{account_with_replenishment, account_with_close}
+use Rattle.cbs_steps.specs.Accounts.{account_with_charge, account_with_replenishment, account_with_close, account_let_go}
 
 -- the clock, and what is known of each server
 pub record World (W : Type 0) : Type 0 where
@@ -61,10 +61,33 @@ module _ {W : Type 0} where
   after_submit work w s job None = record w { accounts = changed_at (account_with_job work w.now job) w.accounts s }
   after_submit work w s job (Some e) = w
 
+  -- nobody runs any more, so that nobody is charged
+  abbrev pub let_go : World W → World W
+  let_go w = record w { accounts = map account_let_go w.accounts }
+
   -- what a Run leaves, by the server that runs: one unit, which takes one tick
   abbrev pub after_run : World W → Option ℕ → World W
   after_run w None = w
-  after_run w (Some s) = tick (record w { accounts = changed_at account_with_unit w.accounts s })
+  after_run w (Some s) = tick (record w { accounts = changed_at account_with_unit (let_go w).accounts s })
+
+  -- what an Advance by n ticks leaves
+  abbrev pub after_advance : World W → ℕ → World W
+  after_advance w zero = w
+  after_advance w (suc n) = ticks (suc n) (let_go w)
+
+  -- why a charge of n ticks to server s is refused, if it is: it has to run, and the clock may not pass its end
+  abbrev pub charge_refusal : World W → ℕ → ℕ → Option CoreError
+  charge_refusal w s n =
+      if leb (length w.accounts) s then Some error.NoSuchServer
+      else if not (account w.accounts s).runs then Some error.NotRunning
+      else if ltb clock_end (w.now + n) then Some error.ClockEnd
+      else None
+
+  -- what a Charge of n ticks to s leaves, by why it is refused: as many ticks pass. One of 0 ticks changes nothing
+  abbrev pub after_charging : World W → ℕ → ℕ → Option CoreError → World W
+  after_charging w s zero None = w
+  after_charging w s (suc n) None = ticks (suc n) (record w { accounts = changed_at (account_with_charge (suc n)) w.accounts s })
+  after_charging w s n (Some e) = w
 
   -- what a Close of s leaves, by why it is refused
   abbrev pub after_closing : World W → ℕ → Option CoreError → World W
@@ -75,8 +98,9 @@ module _ {W : Type 0} where
   abbrev pub next : Meaning W → ℕ → World W → Step W → World W
   next work backlog w (Submit s job) = after_submit work w s job (submit_refusal backlog (faces work w) s)
   next work backlog w Run = after_run w (runner work w)
-  next work backlog w (Advance n) = if leb (w.now + n) clock_end then ticks n w else w
+  next work backlog w (Advance n) = if leb (w.now + n) clock_end then after_advance w n else w
   next work backlog w (Close s) = after_closing w s (close_refusal (faces work w) s)
+  next work backlog w (Charge s n) = after_charging w s n (charge_refusal w s n)
 
   -- what a unit of server s is answered: the job at the front got it, and is done where it was the last that it needs
   abbrev pub unit_reply : Meaning W → Account W → ℕ → Ran
@@ -101,12 +125,18 @@ module _ {W : Type 0} where
   close_reply None = reply.Closed
   close_reply (Some e) = reply.Refused e
 
+  -- what a Charge is answered, by why it is refused
+  abbrev pub charge_reply : Option CoreError → Reply W
+  charge_reply None = reply.Charged
+  charge_reply (Some e) = reply.Refused e
+
   -- what a step is answered
   abbrev pub reply_to : Meaning W → ℕ → World W → Step W → Reply W
   reply_to work backlog w (Submit s job) = submit_reply w s job (submit_refusal backlog (faces work w) s)
   reply_to work backlog w Run = reply.Ran (run_reply work w (chosen work w))
   reply_to work backlog w (Advance n) = if leb (w.now + n) clock_end then reply.Advanced else reply.Refused error.ClockEnd
   reply_to work backlog w (Close s) = close_reply (close_refusal (faces work w) s)
+  reply_to work backlog w (Charge s n) = charge_reply (charge_refusal w s n)
 
   -- what a list of steps leaves, the newest step first
   abbrev pub after : Meaning W → Setup → List (Step W) → World W

@@ -6,7 +6,7 @@ use Rattle.cbs_job.specs.Work.{Meaning, whole}
 use Rattle.cbs_job.specs.declared.completion.Completion.{Completion}
 use Rattle.cbs_rules.specs.declared.mode.Mode.TheVariants.{Throttled}
 use Rattle.cbs_steps.specs.Faces.{Face, is_ready}
-use Rattle.cbs_steps.specs.Accounts.{Account, finished}
+use Rattle.cbs_steps.specs.Accounts.{Account, finished, taken}
 use Rattle.cbs_steps.specs.History.{History, ◌⊕◌, account, world_after, reply_in}
 use Rattle.cbs_steps.specs.Replies.{IsAccepted}
 use Rattle.cbs_steps.specs.declared.step.Step.{Step}
@@ -64,23 +64,26 @@ module _ {W : Type 0} where
   NoneAfterClose s closed (x ∷ xs) (r ∷ rs) = NoneAfterClose s closed xs rs
 
   -- No server takes more than its share of the time that its deadline goes over. From what was known of it to what is known
-  -- later, with Q ticks in every T: (units got since) + (budget) - (budget before) <= Q / T * (deadline - deadline before), both
-  -- sides taken T times, and each subtracted number on the other side. It is the bandwidth lemma of Abeni and Buttazzo 1998.
+  -- later, with Q ticks in every T: (ticks taken since) + (budget - overrun) - (budget - overrun before) <= Q / T * (deadline - deadline
+  -- before), both sides taken T times, and each subtracted number on the other side. It is the bandwidth lemma of Abeni and
+  -- Buttazzo 1998, with what was charged counted as taken.
   abbrev pub IsWithinShare : Account W → Account W → Type 0
   IsWithinShare before after =
-      (after.got + after.state.budget) * before.terms.reservation.period + before.state.deadline * before.terms.reservation.budget
-      ≤ (before.got + before.state.budget) * before.terms.reservation.period + after.state.deadline * before.terms.reservation.budget
+      let r = before.terms.reservation in
+      (taken after + after.state.budget + before.state.overrun) * r.period + before.state.deadline * r.budget
+      ≤ (taken before + before.state.budget + after.state.overrun) * r.period + after.state.deadline * r.budget
 
-  -- In any window a throttled server gets no more than the budget that it opens with, its share of the ticks of the window, and
-  -- one budget: from M to N, where M leaves its deadline not past, with Q ticks in every T,
-  -- (units got since) <= (budget before) + Q / T * (ticks from M to N) + Q, written as above.
+  -- In any window a throttled server takes no more than the budget that it opens with, its share of the ticks of the window, one
+  -- budget, and the most that it was charged for one unit: from M to N, where M leaves its deadline not past, with Q ticks in every T,
+  -- (ticks taken since) <= (budget before) + Q / T * (ticks from M to N) + Q + (most charged for one unit), written as above.
   abbrev pub IsWithinCap : Meaning W → History W → History W → ℕ → Type 0
   IsWithinCap work M N s =
       let before = account_in work M s in
+      let after = account_in work N s in
       let r = before.terms.reservation in
       before.terms.mode ≡ Throttled → (world_after work M).now ≤ before.state.deadline
-      → (account_in work N s).got * r.period + (world_after work M).now * r.budget
-      ≤ (before.got + before.state.budget) * r.period + ((world_after work N).now + r.period) * r.budget
+      → taken after * r.period + (world_after work M).now * r.budget
+      ≤ (taken before + before.state.budget + after.charges.most) * r.period + ((world_after work N).now + r.period) * r.budget
 
 -- the budget of a server: never more than its reservation's; some while it is ready, and none while it is throttled
 pub record IsWithinBudget (f : Face) : Type 0 where

@@ -1,10 +1,12 @@
 pub mod Accounts
+pub mod Charged
 pub mod Choice
 pub mod Continuations
 pub mod Errors
 pub mod Faces
 pub mod HardTasks
 pub mod History
+pub mod Lateness
 pub mod Laws
 pub mod OnTime
 pub mod Promises

@@ -5,7 +5,7 @@ use Rattle.std.specs.List.{sum_by, AllByRecursion}
 use Rattle.cbs_job.specs.Work.{Meaning}
 use Rattle.cbs_rate.specs.Rate.{Rate}
 use Rattle.cbs_rate.specs.Plan.{share, all_periods}
-use Rattle.cbs_rules.specs.Rules.{State}
+use Rattle.cbs_rules.specs.Rules.{State, funds, until}
 use Rattle.cbs_steps.specs.Faces.{Face, is_active, is_ready, reservations}
 use Rattle.cbs_steps.specs.History.{World, Setup, History, ◌⊕◌, faces, after, world_after}
 use Rattle.cbs_steps.specs.Quiet.{IsQuietStep, AreQuiet, EachQuiet}
@@ -16,10 +16,10 @@ use Rattle.cbs_steps.specs.declared.step.Step.{Step}
 -- Demands are counted in parts of a tick, so that nothing is rounded: of `parts` parts, a number that every period divides, a
 -- server takes `share parts r` in each tick.
 
--- what a server of this reservation may ask for up to tick x: nothing before its deadline, from then on its budget, and its
--- share of each tick behind the deadline
+-- What a server of this reservation may ask for up to tick x: nothing before its deadline, from then on its budget, and its
+-- share of each tick after the deadline. Of a throttled one they are the budget that it will have, and the deadline.
 abbrev pub full_demand : ℕ → Rate → State → ℕ → ℕ
-full_demand parts r s x = if ltb x s.deadline then 0 else s.budget * parts + (x - s.deadline) * share parts r
+full_demand parts r s x = if ltb x (until r s) then 0 else funds r s * parts + (x - until r s) * share parts r
 
 -- its share of the ticks from now to x
 abbrev pub share_until : ℕ → Rate → ℕ → ℕ → ℕ

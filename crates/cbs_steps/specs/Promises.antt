@@ -77,10 +77,10 @@ module _ {W : Type 0} where
   KeepsDue work N = AreQuiet work N.setup N.steps → (K M : List (Step W)) (s : ℕ) (job : W) → IsJobOf work N K M s job
       → due work N.setup s (Submit s job ∷ M) ≤ (world_after work N).now → IsFinished work N M s
 
--- the tick by which a server gets so many units: its deadline, and a period later for each budget that they need beyond the
--- one it has
+-- the tick by which a server gets so many units: its deadline, and a period later for each budget that they and its overrun need
+-- beyond the one it has
 abbrev pub promised_tick : Rate → State → ℕ → ℕ
-promised_tick r s units = s.deadline + div_ceil (units - s.budget) r.budget * r.period
+promised_tick r s units = s.deadline + div_ceil (units + s.overrun - s.budget) r.budget * r.period
 
 -- the same where some are owed, and no tick where none are
 abbrev pub promised_by : Rate → State → ℕ → Option ℕ

@@ -5,6 +5,8 @@ use Rattle.cbs_steps.specs.OnTime.{KeepsOnTime, KeepsDeadlines}
 use Rattle.cbs_steps.specs.Promises.{KeepsPromise, KeepsBound, KeepsDue}
 use Rattle.cbs_steps.specs.HardTasks.{KeepsHard}
 use Rattle.cbs_steps.specs.Supplies.{KeepsSupply}
+use Rattle.cbs_steps.specs.Lateness.{KeepsLateness}
+use Rattle.cbs_steps.specs.Charged.{KeepsChargedSupply, KeepsChargedPromise, KeepsChargedDue}
 use Rattle.cbs_steps.specs.Windows.{KeepsShare, KeepsCap}
 
 -- punctual: the laws on time hold of the history, and no server took more than its share
@@ -18,3 +20,7 @@ pub record IsPunctual {W : Type 0} (work : Meaning W) (N : History W) : Type 0 w
   pub supply : KeepsSupply work N
   pub share : KeepsShare work N
   pub cap : KeepsCap work N
+  pub late_by : KeepsLateness work N
+  pub charged_supply : KeepsChargedSupply work N
+  pub charged_promise : KeepsChargedPromise work N
+  pub charged_due : KeepsChargedDue work N

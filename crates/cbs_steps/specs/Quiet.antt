@@ -1,14 +1,14 @@
--- When an advance of the clock takes nobody's time.
-use Rattle.std.specs.Prelude.{◌≡◌, ℕ, ◌+◌, ◌-◌, ◌≤◌, ◌<◌, false, List, [], ◌∷◌}
+-- When a step takes nobody's time.
+use Rattle.std.specs.Prelude.{◌≡◌, ℕ, ◌+◌, ◌-◌, ◌≤◌, ◌<◌, false, List, [], ◌∷◌, None}
 use Rattle.std.specs.List.{AllByRecursion}
 use Rattle.cbs_job.specs.Work.{Meaning}
 use Rattle.cbs_rules.specs.Rules.{clock_end}
 use Rattle.cbs_steps.specs.Faces.{is_ready}
-use Rattle.cbs_steps.specs.History.{World, Setup, History, faces, ticks, after, world_after}
+use Rattle.cbs_steps.specs.History.{World, Setup, History, faces, ticks, after, world_after, charge_refusal}
 use Rattle.cbs_steps.specs.Replies.{grown}
 use Rattle.cbs_steps.specs.declared.reply.Reply.{Reply}
 use Rattle.cbs_steps.specs.declared.step.Step.{Step}
-use Rattle.cbs_steps.specs.declared.step.Step.TheVariants.{Advance}
+use Rattle.cbs_steps.specs.declared.step.Step.TheVariants.{Advance, Charge}
 
 module _ {W : Type 0} where
   -- nobody is ready
@@ -26,10 +26,15 @@ module _ {W : Type 0} where
     pub quiet : IsQuiet work w n
     pub greatest : (k : ℕ) → k ≤ clock_end - w.now → IsQuiet work w k → k ≤ n
 
-  -- a step that takes nobody's time: it is no advance, or one that is refused, or a quiet one
+  -- a step that advances quietly: it is no advance, or one that is refused, or a quiet one
+  abbrev pub IsQuietAdvance : Meaning W → World W → Step W → Type 0
+  IsQuietAdvance work w (Advance n) = w.now + n ≤ clock_end → IsQuiet work w n
+  IsQuietAdvance work w _ = Unit {0}
+
+  -- a step that takes nobody's time: it advances quietly, and charges nothing
   abbrev pub IsQuietStep : Meaning W → World W → Step W → Type 0
-  IsQuietStep work w (Advance n) = w.now + n ≤ clock_end → IsQuiet work w n
-  IsQuietStep work w _ = Unit {0}
+  IsQuietStep work w (Charge s n) = charge_refusal w s n ≡ None → n ≡ 0
+  IsQuietStep work w x = IsQuietAdvance work w x
 
   -- a step that takes nobody's time where it comes next after M
   abbrev pub IsQuietAfter : Meaning W → History W → Step W → Type 0
@@ -39,6 +44,11 @@ module _ {W : Type 0} where
   abbrev pub AreQuiet : Meaning W → Setup → List (Step W) → Type 0
   AreQuiet work setup [] = Unit {0}
   AreQuiet work setup (x ∷ M) = AreQuiet work setup M × IsQuietStep work (after work setup M) x
+
+  -- each step of a list, the newest first, advanced quietly where it stands
+  abbrev pub AdvanceQuietly : Meaning W → Setup → List (Step W) → Type 0
+  AdvanceQuietly work setup [] = Unit {0}
+  AdvanceQuietly work setup (x ∷ M) = AdvanceQuietly work setup M × IsQuietAdvance work (after work setup M) x
 
   -- each of the steps, made after M and those before it and answered so, takes nobody's time where it stands
   abbrev pub EachQuiet : Meaning W → History W → List (Step W) → List (Reply W) → Type 0

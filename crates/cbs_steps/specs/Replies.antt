@@ -28,6 +28,11 @@ module _ {W : Type 0} where
   closed (Ok _) = reply.Closed
   closed (Err e) = reply.Refused e
 
+  -- the reply that a charge's result is
+  abbrev pub charged : Result (Unit {0}) CoreError → Reply W
+  charged (Ok _) = reply.Charged
+  charged (Err e) = reply.Refused e
+
   -- the reply accepts a submit
   abbrev pub IsAccepted : Reply W → Type 0
   IsAccepted r = (q : ℕ) × (r ≡ reply.Accepted q)

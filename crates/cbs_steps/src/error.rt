@@ -25,6 +25,9 @@ pub enum CoreError {
     /// The clock would pass [`LIMIT`](cbs_rules::LIMIT).
     #[error("the clock would pass 1000000000000 ticks")]
     ClockEnd = 6,
+    /// The server did not run the last unit, or a tick has passed since that it was not charged.
+    #[error("the server did not run the last unit, or other ticks have passed since")]
+    NotRunning = 7,
 }
 
 impl CoreError {
@@ -48,6 +51,7 @@ impl CoreError {
             CoreError::Closed => "Closed",
             CoreError::BacklogFull => "BacklogFull",
             CoreError::ClockEnd => "ClockEnd",
+            CoreError::NotRunning => "NotRunning",
         }
     }
 }

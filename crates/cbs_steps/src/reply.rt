@@ -43,6 +43,8 @@ pub enum Reply<W: Work> {
     Advanced,
     /// The server is closed from here on.
     Closed,
-    /// The advance or the close was refused.
+    /// The server was charged, and the ticks passed.
+    Charged,
+    /// The advance, the close or the charge was refused.
     Refused(CoreError),
 }

@@ -14,6 +14,8 @@ pub enum Step<W: Work> {
     Advance(u64),
     /// Closes a server: it accepts no further job.
     Close(u16),
+    /// Charges a server the ticks that its last unit took beyond the first: as many pass.
+    Charge(u16, u64),
 }
 
 /// Steps that were refused for want of memory, handed back.

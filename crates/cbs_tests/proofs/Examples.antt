@@ -44,11 +44,11 @@ rows setup M (x ∷ xs) = row setup M x.0 x.1 ∷ rows setup (x.0 ∷ M) xs
 
 -- a state with this budget and deadline
 abbrev at : ℕ → ℕ → State
-at c d = record { budget = c; deadline = d; throttled = false }
+at c d = record { budget = c; deadline = d; throttled = false; overrun = 0 }
 
 -- the same of a throttled server
 abbrev throttled : ℕ → ℕ → State
-throttled c d = record { budget = c; deadline = d; throttled = true }
+throttled c d = record { budget = c; deadline = d; throttled = true; overrun = 0 }
 
 -- the job that adds these numbers up
 abbrev sum_of : List ℕ → FileJob

@@ -8,7 +8,7 @@ use std::process::Abort;
 const NO_STATUS: &str = "no such status";
 
 /// Each status, and its text.
-const TEXTS: [(u32, &str); 24] = [
+const TEXTS: [(u32, &str); 25] = [
     (0, "no error"),
     (
         0x101,
@@ -37,6 +37,10 @@ const TEXTS: [(u32, &str); 24] = [
     (
         0x306,
         "the clients did not send all in the rounds that they are given",
+    ),
+    (
+        0x307,
+        "the server did not run the last unit, or other ticks have passed since",
     ),
     (0x401, "the job is empty: a job has at least 1 unit"),
     (

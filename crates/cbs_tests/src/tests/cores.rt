@@ -1,6 +1,7 @@
 //! The core and the crates below it, run on worked examples.
 
 mod calls;
+mod charges;
 mod errors;
 mod in_time;
 mod jobs;

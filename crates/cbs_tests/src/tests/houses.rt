@@ -1,6 +1,7 @@
 //! The house and its clients, run on worked examples.
 
 mod calls;
+mod charges;
 mod closing;
 mod collecting;
 mod errors;

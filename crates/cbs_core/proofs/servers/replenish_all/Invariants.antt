@@ -1,6 +1,6 @@
 use Rattle.std.proofs.Common.{◌≡◌, ◌++◌, map, take, drop}
 use Rattle.cbs_steps.specs.Faces.{with_replenishment}
-use Rattle.cbs_core.specs.ReadyList.{ListsReady}
+use Rattle.cbs_core.specs.Invariant.{ListsReady}
 use Rattle.cbs_core.specs.Waiting.{Keeps}
 use Rattle.cbs_core.proofs.servers.replenish_all.Given as goal
 

@@ -5,7 +5,7 @@ use Rattle.std.proofs.lemmas.List.FromFn.{fill_by_all}
 use Rattle.std.specs.Vec.Iter.{into_iter_items}
 use Rattle.cbs_run.specs.ResultLines.{jobs_for}
 use Rattle.cbs_run.specs.JobsByServer.{listed}
-use Rattle.cbs_file.specs.TaskFiles.{NamesServer}
+use Rattle.cbs_file.specs.TaskFiles.{IsFileStep}
 use Rattle.cbs_run.proofs.JobLists.{none_listed, lists_on}
 use Rattle.cbs_run.proofs.jobs_by_server.jobs_by_server.Goals as goal
 
@@ -27,7 +27,7 @@ loop-step-preserved c = record {
   can = tt;
   finite = tt;
   count = omega (arith, ap length c.in-Some.ensures.steps.0, c.in-Some.ensures.steps.1, c.loop-step.invariant.count);
-  named = All-tail (NamesServer c.args.servers) c.in-Some.step _ (rw c.in-Some.ensures.steps.0 at c.loop-step.invariant.named);
+  named = All-tail (IsFileStep c.args.servers) c.in-Some.step _ (rw c.in-Some.ensures.steps.0 at c.loop-step.invariant.named);
   lists = c.add_job.ensures.len ∙ c.loop-step.invariant.lists;
   so_far = λ s. lists_on s _ _ _ c.in-Some.step _ _ c.in-Some.ensures.steps.0 (c.in_ok-add_job.ensures.jobs s) (c.loop-step.invariant.so_far s);
 }

@@ -26,4 +26,6 @@ fn errors_say_what_is_wrong(rt: HostRuntime) {
     is_told(&rt, alloc, CoreError::BacklogFull, 5, "BacklogFull", text);
     let text = "the clock would pass 1000000000000 ticks";
     is_told(&rt, alloc, CoreError::ClockEnd, 6, "ClockEnd", text);
+    let text = "the server did not run the last unit, or other ticks have passed since";
+    is_told(&rt, alloc, CoreError::NotRunning, 7, "NotRunning", text);
 }

@@ -16,6 +16,7 @@ enum Asked {
     Run,
     Advance(u64),
     Close(u16),
+    Charge(u16, u64),
 }
 
 /// A reply, with no job in it.
@@ -26,6 +27,7 @@ enum Told {
     Ran(Ran),
     Advanced,
     Closed,
+    Charged,
     Refused(CoreError),
 }
 
@@ -36,6 +38,7 @@ fn step_of(rt: &impl Abort, alloc: Global, asked: Asked) -> Step<SumJob> {
         Asked::Run => Step::Run,
         Asked::Advance(n) => Step::Advance(n),
         Asked::Close(server) => Step::Close(server),
+        Asked::Charge(server, ticks) => Step::Charge(server, ticks),
     }
 }
 
@@ -62,6 +65,7 @@ fn without_job(reply: &Reply<SumJob>) -> Told {
         Reply::Ran(ran) => Told::Ran(*ran),
         Reply::Advanced => Told::Advanced,
         Reply::Closed => Told::Closed,
+        Reply::Charged => Told::Charged,
         Reply::Refused(error) => Told::Refused(*error),
     }
 }
@@ -128,6 +132,50 @@ fn each_step_has_its_reply(rt: HostRuntime) {
         Told::Ran(Ran::ClockEnd),
     ];
     answers(&rt, &mut core, steps_of(&rt, alloc, alloc, &asked), &wanted);
+}
+
+/// Jobs of one unit, of which the first two are charged.
+const CHARGED: [Asked; 10] = [
+    Asked::Charge(0, 1),
+    Asked::Submit(0, 7),
+    Asked::Submit(1, 9),
+    Asked::Run,
+    Asked::Charge(0, 3),
+    Asked::Charge(1, 1),
+    Asked::Run,
+    Asked::Charge(1, 0),
+    Asked::Charge(1, LIMIT),
+    Asked::Charge(2, 1),
+];
+
+#[test]
+fn charges_are_steps(rt: HostRuntime) {
+    let alloc = rt.alloc();
+    let mut core = core_of(&rt, alloc, Mode::Soft, &[(2, 5), (2, 5)], 4);
+    let wanted = [
+        Told::Refused(CoreError::NotRunning),
+        Told::Accepted(0),
+        Told::Accepted(0),
+        Told::Ran(done(0, 0, 7)),
+        Told::Charged,
+        Told::Refused(CoreError::NotRunning),
+        Told::Ran(done(1, 0, 9)),
+        Told::Charged,
+        Told::Refused(CoreError::ClockEnd),
+        Told::Refused(CoreError::NoSuchServer),
+    ];
+    let steps = steps_of(&rt, alloc, alloc, &CHARGED);
+    answers(&rt, &mut core, steps, &wanted);
+    let behind = [
+        Row::Now(5),
+        // 4 ticks were two budgets.
+        Row::State(0, 2, 15, false),
+        Row::Charges(0, Ok((3, 3))),
+        Row::State(1, 1, 5, false),
+        Row::Charges(1, Ok((0, 0))),
+        Row::Running(Some(1)),
+    ];
+    plays(&rt, alloc, "behind the steps", &mut core, &behind);
 }
 
 /// Submits sums of 1 to the first server until memory is refused.

@@ -52,7 +52,7 @@ fn jobs_of_any_kind_run_in_any_memory(rt: HostRuntime) {
 }
 
 /// What a core of two servers does while no memory is found: there is room for one job.
-const WITHOUT_MEMORY: [Row; 12] = [
+const WITHOUT_MEMORY: [Row; 15] = [
     Row::Close(0, Ok(())),
     Row::Run(Ran::Idle),
     Row::Submit(1, &[1, 2, 3], 0),
@@ -65,6 +65,10 @@ const WITHOUT_MEMORY: [Row; 12] = [
     Row::State(1, 2, 10, false),
     Row::Done(1, 0, 6),
     Row::Now(10),
+    // Just as much as the budget, and past the deadline.
+    Row::Charge(1, 1, Ok(())),
+    Row::State(1, 2, 15, false),
+    Row::Now(11),
 ];
 
 #[test]

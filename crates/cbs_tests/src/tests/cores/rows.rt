@@ -18,6 +18,8 @@ pub enum Row {
     MakeRoom(u16, Result<(), CoreError>),
     Close(u16, Result<(), CoreError>),
     Advance(u64, Result<(), CoreError>),
+    /// A charge of a server: its number, and the ticks.
+    Charge(u16, u64, Result<(), CoreError>),
     Run(Ran),
     /// A run of a unit that is not the last of a server's first job.
     Unit(u16),
@@ -27,6 +29,10 @@ pub enum Row {
     Now(u64),
     /// The server that would run.
     Ready(Option<u16>),
+    /// The server that runs.
+    Running(Option<u16>),
+    /// What a server was charged, in all and at most for one unit.
+    Charges(u16, Result<(u64, u64), CoreError>),
     IdleSpan(Option<u64>),
     Promised(u16, Option<u128>),
     /// A server's budget, deadline and mark.
@@ -116,6 +122,9 @@ pub fn does<W: Work, A: Allocator>(
         Row::Advance(ticks, wanted) => {
             same_at(rt, at, "advance", core.advance(ticks), wanted);
         }
+        Row::Charge(server, ticks, wanted) => {
+            same_at(rt, at, "charge", core.charge(server, ticks), wanted);
+        }
         Row::Run(wanted) => same_at(rt, at, "run", core.run(), wanted),
         Row::Unit(server) => {
             let unit = Ran::Unit { server, seq: 0 };
@@ -133,6 +142,11 @@ fn looks<W: Work, A: Allocator>(rt: &impl Abort, at: (&str, usize), core: &Core<
     match row {
         Row::Now(wanted) => same_at(rt, at, "now", core.now(), wanted),
         Row::Ready(wanted) => same_at(rt, at, "ready", core.ready(), wanted),
+        Row::Running(wanted) => same_at(rt, at, "running", core.running(), wanted),
+        Row::Charges(server, wanted) => {
+            let charges = core.charges(server).map(|it| (it.total, it.most));
+            same_at(rt, at, "charges", charges, wanted);
+        }
         Row::IdleSpan(wanted) => same_at(rt, at, "idle_span", core.idle_span(), wanted),
         Row::Promised(server, wanted) => {
             same_at(rt, at, "promised", core.promised(server), wanted);

@@ -38,6 +38,10 @@ pub enum Row {
     /// A run that finishes a job of server 0: its number and output.
     Done(u64, u64),
     Advance(u64, Result<(), HouseError>),
+    /// A charge of the server that runs.
+    Charge(u64, Result<(), HouseError>),
+    /// A charge of a server: its number, and the ticks.
+    ChargeServer(u16, u64, Result<(), HouseError>),
     Drain(Result<(), HouseError>),
     /// A turn that takes so many messages, runs nothing, and advances by so many ticks.
     Turn(u64, u64),
@@ -49,6 +53,10 @@ pub enum Row {
     Now(u64),
     IdleSpan(Option<u64>),
     View(u16, Result<ServerView, HouseError>),
+    /// A server's budget, deadline and mark.
+    State(u16, u64, u128, bool),
+    /// What a server was charged, in all and at most for one unit.
+    Charges(u16, Result<(u64, u64), HouseError>),
     /// The results of a server.
     Results(u16, Result<&'static [u64], HouseError>),
     /// The results of a server, to have them.
@@ -185,6 +193,13 @@ fn does<A: Allocator + Clone>(
         Row::Advance(ticks, wanted) => {
             same_at(rt, at, "advance", house.advance(ticks), wanted);
         }
+        Row::Charge(ticks, wanted) => {
+            same_at(rt, at, "charge", house.charge(ticks), wanted);
+        }
+        Row::ChargeServer(server, ticks, wanted) => {
+            let answer = house.charge_server(server, ticks);
+            same_at(rt, at, "charge_server", answer, wanted);
+        }
         Row::Drain(wanted) => same_at(rt, at, "drain", house.drain(), wanted),
         Row::Turn(took, advanced) => turns(rt, at, house, (took, Ran::Idle, advanced)),
         Row::DoneTurn(took, seq, output) => turns(rt, at, house, (took, done(seq, output), 0)),
@@ -243,6 +258,15 @@ fn looks<A: Allocator>(rt: &impl Abort, at: (&str, usize), house: &House<SumJob,
         Row::Now(wanted) => same_at(rt, at, "now", house.now(), wanted),
         Row::IdleSpan(wanted) => same_at(rt, at, "idle_span", house.idle_span(), wanted),
         Row::View(server, wanted) => same_at(rt, at, "view", house.view(server), wanted),
+        Row::State(server, budget, deadline, throttled) => {
+            let view = house.view(server).expect(rt, "a server");
+            let state = (view.budget, view.deadline, view.throttled);
+            same_at(rt, at, "state", state, (budget, deadline, throttled));
+        }
+        Row::Charges(server, wanted) => {
+            let charges = house.charges(server).map(|it| (it.total, it.most));
+            same_at(rt, at, "charges", charges, wanted);
+        }
         Row::Results(server, wanted) => {
             same_at(rt, at, "results", house.results(server), wanted);
         }

@@ -33,6 +33,7 @@ struct Held {
     /// The ticks of all advances.
     ticks: u64,
     closes: u64,
+    charges: u64,
 }
 
 /// One server, and no step.
@@ -43,6 +44,7 @@ const NONE: Held = Held {
     runs: 0,
     ticks: 0,
     closes: 0,
+    charges: 0,
 };
 
 /// A file that has a piece many times.
@@ -211,6 +213,7 @@ fn held_by(file: &TaskFile) -> Held {
             Step::Run => held.runs = held.runs.saturating_add(1),
             Step::Advance(ticks) => held.ticks = held.ticks.saturating_add(*ticks),
             Step::Close(_) => held.closes = held.closes.saturating_add(1),
+            Step::Charge(..) => held.charges = held.charges.saturating_add(1),
         }
     }
     held

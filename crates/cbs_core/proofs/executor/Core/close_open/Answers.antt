@@ -14,7 +14,7 @@ invariant_of-self g c =
 
 pub returns-clause-closed : goal.returns-clause-closed
 returns-clause-closed g c =
-    closed_server c.self.view_is c.self.inside.clock c.close.new.self c.self.inside.queues.lists c.self.inside.queues.rooms
+    closed_server c.self.view_is c.self.inside.clock c.self.inside.last c.close.new.self c.self.inside.queues.lists c.self.inside.queues.rooms
     c.args.server (rw (← c.self.view_is) at c.requires).within c.close.ensures refl
 
 pub returns-clause-makes : goal.returns-clause-makes

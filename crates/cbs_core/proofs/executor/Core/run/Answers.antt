@@ -37,7 +37,7 @@ pub returns-clause-job : goal.returns-clause-job
 returns-clause-job g c =
     let may = may_run c.self.invariant c.in-Some.ensures.choice c.if-self-ge-LIMIT.false in
     let queues = c.run_first-result.new.self in
-    did_run g.met.W.Work.lowers c.self.view_is (c.self.inside.clock + 1) _ c.replenish.new.self queues.lists queues.rooms
+    did_run g.met.W.Work.lowers c.self.view_is (c.self.inside.clock + 1) _ _ c.replenish.new.self queues.lists queues.rooms
     c.in-Some.server c.ran_from.result may (ran g c) (shown g c) c.run_first-result.ensures.lists
 
 pub returns-then-self-ge-LIMIT-clause-makes : goal.returns-then-self-ge-LIMIT-clause-makes

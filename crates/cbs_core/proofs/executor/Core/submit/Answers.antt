@@ -4,6 +4,7 @@ use Rattle.cbs_core.proofs.Agreements.{submit_replied, submit_left, submit_accep
 use Rattle.cbs_core.proofs.Cores.{queue_there, budgets_kept}
 use Rattle.cbs_core.proofs.Refusals.{free_accepts, accepts_free, refusal_named}
 use Rattle.cbs_steps.specs.declared.step.Step.TheVariants as step
+use Rattle.cbs_core.proofs.Calls.{makes_same}
 use Rattle.cbs_core.proofs.LawfulCores.{makes_still}
 use Rattle.cbs_core.proofs.executor.Core.submit.Goals as goal
 
@@ -34,3 +35,6 @@ returns-then-is_err-clause-tries g c = record {
   same = search (rules, common_steps);
   budgets = budgets_kept c.self.invariant;
 }
+
+pub returns-clause-tries : goal.returns-clause-tries
+returns-clause-tries g c = makes_same _ _ _ _ _ _ (search (rules, common_steps)) c.submit_reserved.ensures.makes

@@ -24,7 +24,7 @@ returns-clause-job g c =
     let is = rw (← c.self.view_is) at c.requires in
     let free = accepts_free c.self.view_is c.args.server c.requires.accepts in
     let queue = queue_there c.self.invariant c.args.server free in
-    took_job c.self.view_is c.self.inside.clock c.accept.new.self c.push.new.self.lists c.push.new.self.rooms
+    took_job c.self.view_is c.self.inside.clock c.self.inside.last c.accept.new.self c.push.new.self.lists c.push.new.self.rooms
     c.args.server c.accept.result c.args.task is.accepts.is_open.within queue c.accept.ensures.number c.accept.ensures.servers c.push.ensures.lists
 
 pub returns-clause-makes : goal.returns-clause-makes

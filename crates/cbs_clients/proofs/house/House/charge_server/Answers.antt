@@ -1,0 +1,41 @@
+use Rattle.std.proofs.Common.{◌∷◌, [], refl, arith}
+use Rattle.cbs_steps.specs.declared.step.Step.TheVariants.{Charge}
+use Rattle.cbs_clients.proofs.Charged.{charge_made, charge_refused}
+use Rattle.cbs_clients.proofs.HouseInvariant.{housed_all, same_shelf}
+use Rattle.cbs_clients.proofs.MadeSteps.{made_time}
+use Rattle.cbs_clients.proofs.house.House.charge_server.Goals as goal
+
+pub invariant_of-self : goal.invariant_of-self
+invariant_of-self g c =
+    let work = g.W.Work.meaning in
+    let old = c.args.self.now in
+    let a = c.charge.ensures in
+    record {
+      housed = housed_all work old.core c.charge.new.self old.rings old.rings old.collector old.collector old.housed refl refl a.makes.count
+          (Charge c.args.server c.args.ticks ∷ []) a.makes.state a.jobs (λ s. refl) (λ s. same_shelf _);
+    }
+
+pub returns-in-Err : goal.returns-in-Err
+returns-in-Err g c = record {
+  made = tt;
+  rings = refl;
+  results = λ s. refl;
+  same = record {
+    core = c.in-Err.ensures.unchanged;
+    rings = refl;
+    seats = λ s. refl;
+  };
+  refusal = λ M agrees. rw c.of_charge.ensures (charge_refused c.in-Err.error _ (c.in-Err.ensures.makes.reply M agrees));
+}
+
+pub returns-in-Ok : goal.returns-in-Ok
+returns-in-Ok g c =
+    let old = c.args.self.now in
+    let a = c.charge.ensures in
+    record {
+      made = made_time g.W.Work.meaning old _ (Charge c.args.server c.args.ticks) (λ s. refl) a.makes.state a.makes.on_time refl (λ s. refl);
+      rings = refl;
+      results = λ s. refl;
+      same = tt;
+      refusal = λ M agrees. charge_made _ (c.in-Ok.ensures.makes.reply M agrees);
+    }

@@ -1,6 +1,0 @@
-use Rattle.std.proofs.Common.{sym}
-use Rattle.std.proofs.lemmas.List.{drop-drop}
-use Rattle.cbs_core.proofs.entries.Entries.remove_first.Goals as goal
-
-pub returns : goal.returns
-returns c = rw (← c.self.view_is) (sym (drop-drop 1 c.self.inside.first c.self.inside.slots.items))

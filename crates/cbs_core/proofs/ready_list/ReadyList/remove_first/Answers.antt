@@ -1,5 +1,0 @@
-use Rattle.cbs_core.proofs.ReadyList.{rest_here}
-use Rattle.cbs_core.proofs.ready_list.ReadyList.remove_first.Goals as goal
-
-pub returns-clause-gone : goal.returns-clause-gone
-returns-clause-gone c = λ s first. rw c.remove_first.ensures (rest_here s c.self.inside.entries c.self.invariant.0 (rw (← c.self.view_is) at first))

@@ -1,0 +1,68 @@
+//! Who ran last, and what was charged for it.
+
+ghost use Rattle.std.specs.Prelude.{◌≡◌, ◌+◌, ◌<◌, ◌^◌};
+ghost use Rattle.cbs_core.specs.Held.{is_some_of, runner_at, charged_at};
+
+/// The server of the last unit, and what was charged for that.
+///
+/// A run writes the server alone: that it runs still is told by the clock, which stands elsewhere than an advance left it.
+#[derive(Clone, Copy, Debug)]
+pub struct LastUnit {
+    /// The server of the last unit, if there was one.
+    pub server: u16,
+    /// The clock after the last advance, 0 before the first.
+    pub advanced_to: u64,
+    /// The ticks that the last charge made, with those before it for the same unit.
+    pub charged: u64,
+    /// The clock after the last charge, 0 before the first.
+    pub charged_to: u64,
+}
+
+impl LastUnit {
+    /// Nobody ran.
+    pub fn new() -> LastUnit
+        ensures { result ≡ record { server = 0; advanced_to = 0; charged = 0; charged_to = 0 } }
+    {
+        LastUnit {
+            server: 0,
+            advanced_to: 0,
+            charged: 0,
+            charged_to: 0,
+        }
+    }
+
+    /// Returns the server that runs at tick `now`, if there is one.
+    pub fn running(&self, now: u64) -> Option<u16>
+        ensures { result ≡ runner_at now self.now }
+    {
+        if self.advanced_to == now {
+            None
+        } else {
+            Some(self.server)
+        }
+    }
+
+    /// Returns whether a server runs at tick `now`.
+    pub fn is_of(&self, server: u16, now: u64) -> bool
+        ensures { result ≡ is_some_of (runner_at now self.now) server }
+    {
+        self.advanced_to != now && self.server == server
+    }
+
+    /// Takes in a charge of so many ticks at tick `now`. Returns how many were charged for the unit.
+    pub fn charge(&mut self, now: u64, ticks: u64) -> u64
+        requires clock { now + ticks < 2 ^ 63 }
+        requires few { self.old.charged < 2 ^ 63 }
+        ensures charged { result ≡ charged_at now self.old + ticks }
+        ensures kept { self.new ≡ record self.old { charged = charged_at now self.old + ticks; charged_to = now + ticks } }
+    {
+        let before = if self.charged_to == now {
+            self.charged
+        } else {
+            0
+        };
+        self.charged = before + ticks;
+        self.charged_to = now + ticks;
+        self.charged
+    }
+}

@@ -1,0 +1,11 @@
+use Rattle.std.proofs.Common.{◌≡◌, ◌<◌, length, ◌∙◌, arith}
+use Rattle.std.proofs.lemmas.Grind.{common_steps}
+use Rattle.cbs_ready.proofs.Slots.{alone_again}
+use Rattle.cbs_ready.proofs.entries.Entries.insert.Goals as goal
+
+pub returns-then-self-len : goal.returns-then-self-len
+returns-then-self-len c =
+    let inside = c.self.inside in
+    let some : 0 < inside.first = grind (arith, common_steps) in
+    let all : inside.first ≡ length inside.slots.items = grind (arith, common_steps) in
+    rw (← c.self.view_is) (c.set_first.ensures ∙ alone_again inside.first inside.slots.items c.args.entry some all)

@@ -1,0 +1,82 @@
+-- By when a server gets its ticks, and its jobs are finished, if units are charged. What the server itself is charged counts as units;
+-- what the others are charged delays it by no more than the most for one unit of each.
+use Rattle.std.specs.Prelude.{◌≡◌, ℕ, ◌+◌, ◌-◌, ◌*◌, ◌≤◌, max, eqb, if◌then◌else◌, List, [], ◌∷◌, ◌++◌, Option, Some, None}
+use Rattle.std.specs.Int.{div_ceil}
+use Rattle.std.specs.List.{sum_by}
+use Rattle.cbs_job.specs.Work.{Meaning}
+use Rattle.cbs_rate.specs.Rate.{Rate}
+use Rattle.cbs_steps.specs.Faces.{submit_refusal}
+use Rattle.cbs_steps.specs.Accounts.{Account, taken}
+use Rattle.cbs_steps.specs.History.{World, Setup, History, account, faces, after, world_after, charge_refusal}
+use Rattle.cbs_steps.specs.Laws.{account_in}
+use Rattle.cbs_steps.specs.Promises.{when, IsJobOf, IsFinished}
+use Rattle.cbs_steps.specs.Quiet.{AdvanceQuietly}
+use Rattle.cbs_steps.specs.Supplies.{StaysActive}
+use Rattle.cbs_steps.specs.declared.error.CoreError.{CoreError}
+use Rattle.cbs_steps.specs.declared.step.Step.{Step}
+use Rattle.cbs_steps.specs.declared.step.Step.TheVariants.{Submit, Charge}
+
+-- when a job is due: so many units, counted from a tick
+pub record Due : Type 0 where
+  pub from : ℕ
+  pub units : ℕ
+
+-- as many periods later as the units need budgets
+abbrev pub due_tick : Rate → Due → ℕ
+due_tick r d = d.from + div_ceil d.units r.budget * r.period
+
+-- of a submit, by why it is refused: from when the job came, or from when the job before it is due, if that is later
+abbrev pub due_of_submit : Rate → Due → ℕ → ℕ → Option CoreError → Due
+due_of_submit r before now units None = record { from = max (due_tick r before) now; units = units }
+due_of_submit r before now units (Some e) = before
+
+-- of a charge, by why it is refused: the ticks count as units of the last job
+abbrev pub due_of_charge : Due → ℕ → Option CoreError → Due
+due_of_charge before n None = record before { units = before.units + n }
+due_of_charge before n (Some e) = before
+
+module _ {W : Type 0} where
+  -- the most that each server but s was charged for one unit, all together
+  abbrev pub others_charges : List (Account W) → ℕ → ℕ
+  others_charges accounts s = sum_by (λ a. a.charges.most) accounts - (account accounts s).charges.most
+
+  -- While it stays active, a server gets its budget, less its overrun, by its deadline, and one budget more by each period after, and
+  -- later by no more than what the others are charged.
+  abbrev pub KeepsChargedSupply : Meaning W → History W → Type 0
+  KeepsChargedSupply work N = AdvanceQuietly work N.setup N.steps → (K M : List (Step W)) (s j : ℕ) → N.steps ≡ K ++ M → StaysActive work N.setup s M K
+      → (let a = account_in work (when N M) s in
+      let w = world_after work N in
+      a.state.deadline + j * a.terms.reservation.period + others_charges w.accounts s ≤ w.now
+      → taken a + a.state.budget + j * a.terms.reservation.budget ≤ taken (account_in work N s) + a.state.overrun)
+
+  -- Each job is finished by the tick that can be told when it is accepted: with c, d and o the budget, deadline and overrun that its submit
+  -- leaves, if all that the server then owes, and all that it is charged from then on, is at most c - o + j * Q ticks, by d + j * T
+  -- and what the others are charged.
+  abbrev pub KeepsChargedPromise : Meaning W → History W → Type 0
+  KeepsChargedPromise work N = AdvanceQuietly work N.setup N.steps → (K M : List (Step W)) (s : ℕ) (job : W) (j : ℕ) → IsJobOf work N K M s job
+      → (let a = account_in work (when N (Submit s job ∷ M)) s in
+      let w = world_after work N in
+      sum_by work.left a.accepted + (account_in work N s).charges.total + a.state.overrun ≤ taken a + a.state.budget + j * a.terms.reservation.budget
+      → a.state.deadline + j * a.terms.reservation.period + others_charges w.accounts s ≤ w.now → IsFinished work N M s)
+
+  -- by one more step: only an accepted submit to s makes s's last job another, and only a charge of s counts as units of it
+  abbrev pub due_after : Meaning W → ℕ → World W → ℕ → Due → Step W → Due
+  due_after work backlog w s before (Submit t job) =
+      if eqb t s then due_of_submit (account w.accounts t).terms.reservation before w.now (work.left job) (submit_refusal backlog (faces work w) t) else before
+  due_after work backlog w s before (Charge t n) = if eqb t s then due_of_charge before n (charge_refusal w t n) else before
+  due_after work backlog w s before _ = before
+
+  -- when the last job that server s accepted is due, by its own submits and when they came, and by what it was charged
+  abbrev pub charged_due : Meaning W → Setup → ℕ → List (Step W) → Due
+  charged_due work setup s [] = record { from = 0; units = 0 }
+  charged_due work setup s (x ∷ M) = due_after work setup.backlog (after work setup M) s (charged_due work setup s M) x
+
+  -- Each job is finished when it is due, with what its server was charged from its submit on counted as units of it, and what the
+  -- others are charged.
+  abbrev pub KeepsChargedDue : Meaning W → History W → Type 0
+  KeepsChargedDue work N = AdvanceQuietly work N.setup N.steps → (K M : List (Step W)) (s : ℕ) (job : W) → IsJobOf work N K M s job
+      → (let a = account_in work (when N (Submit s job ∷ M)) s in
+      let w = world_after work N in
+      let due = charged_due work N.setup s (Submit s job ∷ M) in
+      let behind : Due = record due { units = due.units + ((account_in work N s).charges.total - a.charges.total) } in
+      due_tick a.terms.reservation behind + others_charges w.accounts s ≤ w.now → IsFinished work N M s)
