@@ -134,6 +134,8 @@ fn tell_reply(rt: &impl Print, reply: &Reply<WideJob>) {
         Reply::Accepted(number) => tell(rt, "accepted", *number),
         Reply::NotAccepted(refused) => tell(rt, "not accepted", refused.error),
         Reply::Ran(ran) => tell(rt, "ran", *ran),
-        Reply::Advanced | Reply::Closed | Reply::Refused(_) => tell(rt, "another reply", ()),
+        Reply::Advanced | Reply::Closed | Reply::Charged | Reply::Refused(_) => {
+            tell(rt, "another reply", ())
+        }
     }
 }
