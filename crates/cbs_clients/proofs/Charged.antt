@@ -1,5 +1,5 @@
 -- What a charge is answered by the house, from what the core answers.
-use Rattle.std.proofs.Common.{◌≡◌, Option, Some, None, Result, Ok, Err, refl, ap}
+use Rattle.std.proofs.Common.{◌≡◌, Option, Some, None, Ok, Err, refl, ap}
 use Rattle.cbs_steps.specs.Replies.{charged}
 use Rattle.cbs_steps.specs.History.{charge_reply}
 use Rattle.cbs_steps.specs.declared.error.CoreError.{CoreError}

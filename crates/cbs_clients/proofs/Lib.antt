@@ -8,7 +8,9 @@ pub mod Beside
 pub mod ClosedServers
 pub mod MadeSteps
 pub mod Charged
+pub mod Metered
 pub mod Moves
+pub mod MeteredRuns
 pub mod PolledServers
 pub mod Turns
 pub mod NamedJobs

@@ -3,21 +3,25 @@ use Rattle.std.proofs.Common.{◌≡◌, ℕ, ◌+◌, List, [], ◌∷◌, ◌+
 use Rattle.std.proofs.lemmas.List.{append-nil}
 use Rattle.cbs_job.specs.Work.{Meaning}
 use Rattle.cbs_job.specs.declared.work.Work.{Ghosts}
-use Rattle.cbs_core.specs.Agreement.{Agrees, HasHistory, Follows, AllAllowed}
+use Rattle.cbs_core.specs.Agreement.{Agrees, HasHistory, Follows}
 use Rattle.cbs_core.specs.Held.{CoreHeld, IsCoreOnTime}
-use Rattle.cbs_steps.specs.History.{History}
+use Rattle.cbs_steps.specs.History.{History, reply_in}
 use Rattle.cbs_steps.specs.OnTime.{KeepsTime}
 use Rattle.cbs_steps.specs.Quiet.{IsQuietAfter}
+use Rattle.cbs_steps.specs.declared.reply.Ran.{Ran}
+use Rattle.cbs_steps.specs.declared.reply.Reply.TheVariants as reply
 use Rattle.cbs_steps.specs.declared.step.Step.{Step}
 use Rattle.cbs_steps.specs.declared.step.Step.TheVariants.{Submit, Run, Advance, Close, Charge}
 use Rattle.cbs_clients.specs.declared.house.House.{House}
 use Rattle.cbs_clients.specs.declared.poll.Poll.{Poll}
 use Rattle.cbs_clients.specs.declared.poll.Poll.TheVariants.{Nothing, Took, Closed, Full, OutOfMemory, NoSuchServer}
-use Rattle.cbs_clients.specs.Houses.{core_of, rings_of, received, handed_of, IsHouseOnTime, Made, Moves, LooksOnly, Polled, ServesOn}
+use Rattle.cbs_clients.specs.Houses.{core_of, rings_of, received, handed_of, IsHouseOnTime, Made, Moves, MovesBy, LooksOnly, Polled, ServesOn, ServesBy}
+use Rattle.cbs_clients.specs.Meters.{NothingBeyond, NeverCharges, IsPaidFor, OrCharges}
 use Rattle.cbs_clients.specs.Steps.{messages_of, pops_of, pops, MayServe}
 use Rattle.cbs_steps.specs.Continuations.{MayDrain}
 use Rattle.cbs_clients.proofs.MadeSteps.{made_both, made_nothing, made_look}
 use Rattle.cbs_clients.proofs.StepMessages.{pops-append}
+use Rattle.cbs_clients.proofs.Metered.{paid_stands, paid_pops, never_charge}
 use Rattle.cbs_core.proofs.Laws.{allowed_both, allowed_weaker}
 use Rattle.cbs_core.proofs.OnTimeCores.{all_on_time, on_time_on}
 
@@ -34,65 +38,97 @@ abbrev pub TakesNoTime : {W : Type 0} → Meaning W → (History W → Step W �
 TakesNoTime {W} work P = (N : History W) (x : Step W) → P N x → IsQuietAfter work N x
 
 module _ {W A : Type 0} {g : Ghosts W} (work : Meaning W) (P : History W → Step W → Type 0) where
-  -- moves by steps, each of which may stand where it stands
-  pub moves_by : (a b : House W A g) (xs : List (Step W)) (n : ℕ) → TakesNoTime work P → Made work a b xs → AllAllowed work P (core_of a) xs → pops xs ≡ n
-      → Moves work P a b n
-  moves_by a b xs n quiet made each count =
-      let still = allowed_weaker work P (IsQuietAfter work) (core_of a) xs quiet each in
-      record { steps = xs; made = made; each = each; quiet = still; on_time = all_on_time work (core_of a) xs made.keeps_time still; count = count }
-
-  -- no step
-  pub moves_nothing : (a : House W A g) → Moves work P a a 0
-  moves_nothing a =
-      record { steps = []; made = made_nothing work a; each = λ M agrees. tt; quiet = λ M agrees. tt; on_time = λ on M agrees. tt; count = refl }
-
-  -- steps one after another
-  pub moves_both : (a b c : House W A g) (m n : ℕ) → Moves work P a b m → Moves work P b c n → Moves work P a c (m + n)
-  moves_both a b c m n p q =
-      let made = made_both work a b c p.steps q.steps p.made q.made in
-      let quiet = allowed_both work (IsQuietAfter work) (core_of a) (core_of b) p.steps q.steps p.made.steps p.quiet q.quiet in
-      record {
-        steps = p.steps ++ q.steps;
-        made = made;
-        each = allowed_both work P (core_of a) (core_of b) p.steps q.steps p.made.steps p.each q.each;
-        quiet = quiet;
-        on_time = all_on_time work (core_of a) (p.steps ++ q.steps) made.keeps_time quiet;
-        count = pops-append p.steps q.steps ∙ ap₂ ◌+◌ p.count q.count;
-      }
-
-  -- one step
-  pub moves_step : (a b : House W A g) (x : Step W) → TakesNoTime work P → Made work a b (x ∷ []) → ((M : History W) → Agrees work (core_of a) M → P M x)
-      → Moves work P a b (pops_of x)
-  moves_step a b x quiet m p = moves_by a b (x ∷ []) (pops_of x) quiet m (λ M agrees. (p M agrees, tt)) (omega arith)
-
-  -- what takes no message receives none
-  pub moves_none : (a b : House W A g) → Moves work P a b 0 → (s : ℕ) → received b s ≡ received a s
-  moves_none a b m s = (m.made.seats s).received ∙ rw (none_taken s m.steps m.count) (append-nil (received a s))
-
-  -- what makes no step
-  pub moves_made : (a b : House W A g) → Made work a b [] → Moves work P a b 0
-  moves_made a b m = record { steps = []; made = m; each = λ M agrees. tt; quiet = λ M agrees. tt; on_time = λ on M agrees. tt; count = refl }
-
   -- steps hand nothing out
-  pub moves_handed : (a b : House W A g) (n : ℕ) → Moves work P a b n → (s : ℕ) → handed_of b s ≡ handed_of a s
+  moves_handed : (a b : House W A g) (n : ℕ) → Moves work P a b n → (s : ℕ) → handed_of b s ≡ handed_of a s
   moves_handed a b n m s = (m.made.seats s).handed
 
   -- and keep the rings
-  pub moves_rings : (a b : House W A g) (n : ℕ) → Moves work P a b n → rings_of b ≡ rings_of a
+  moves_rings : (a b : House W A g) (n : ℕ) → Moves work P a b n → rings_of b ≡ rings_of a
   moves_rings a b n m = m.made.rings
 
-module _ {W A : Type 0} {g : Ghosts W} (work : Meaning W) (P Q : History W → Step W → Type 0) where
-  -- what one rule allows, a weaker one allows
-  pub moves_weaker : (a b : House W A g) (n : ℕ) → ((N : History W) (x : Step W) → P N x → Q N x) → Moves work P a b n → Moves work Q a b n
-  moves_weaker a b n w p =
+  -- a house that is on time is so after moves that take nobody's time
+  pub moves_on_time : (a b : House W A g) (n : ℕ) → HasHistory work (core_of a) → Moves work P a b n → IsHouseOnTime a → IsHouseOnTime b
+  moves_on_time a b n history m = on_time_on work (core_of a) (core_of b) m.steps history m.made.steps m.made.keeps_time m.quiet
+
+module _ {W : Type 0} (work : Meaning W) (may : ℕ → Type 0) (P : History W → Step W → Type 0) where
+  -- a step that is allowed, or a charge of a meter that never charges, is allowed
+  never_or : NeverCharges may → (N : History W) (x : Step W) → OrCharges work may P N x → P N x
+  never_or never N (Submit t job) p = p
+  never_or never N Run p = p
+  never_or never N (Advance n) p = p
+  never_or never N (Close t) p = p
+  never_or never N (Charge t n) p = absurd (never_charge work may N t n never p)
+
+module _ {W : Type 0} (work : Meaning W) (may : ℕ → Type 0) (P Q : History W → Step W → Type 0) where
+  -- what one rule allows beside charges, a weaker one does
+  or_weaker : ((N : History W) (x : Step W) → P N x → Q N x) → (N : History W) (x : Step W) → OrCharges work may P N x → OrCharges work may Q N x
+  or_weaker w N (Submit t job) p = w N (Submit t job) p
+  or_weaker w N Run p = w N Run p
+  or_weaker w N (Advance n) p = w N (Advance n) p
+  or_weaker w N (Close t) p = w N (Close t) p
+  or_weaker w N (Charge t n) p = p
+
+module _ {W A : Type 0} {g : Ghosts W} (work : Meaning W) (may : ℕ → Type 0) (P : History W → Step W → Type 0) where
+  -- no step
+  pub by_nothing : (a : House W A g) → MovesBy work may P a a 0
+  by_nothing a = record { steps = []; made = made_nothing work a; each = λ M agrees. tt; count = refl }
+
+  -- steps one after another
+  pub by_both : (a b c : House W A g) (m n : ℕ) → MovesBy work may P a b m → MovesBy work may P b c n → MovesBy work may P a c (m + n)
+  by_both a b c m n p q = record {
+    steps = p.steps ++ q.steps;
+    made = made_both work a b c p.steps q.steps p.made q.made;
+    each = allowed_both work (OrCharges work may P) (core_of a) (core_of b) p.steps q.steps p.made.steps p.each q.each;
+    count = pops-append p.steps q.steps ∙ ap₂ ◌+◌ p.count q.count;
+  }
+
+  -- one step
+  pub by_step : (a b : House W A g) (x : Step W) → Made work a b (x ∷ []) → ((M : History W) → Agrees work (core_of a) M → OrCharges work may P M x)
+      → MovesBy work may P a b (pops_of x)
+  by_step a b x m p = record { steps = x ∷ []; made = m; each = λ M agrees. (p M agrees, tt); count = omega arith }
+
+  -- one run, and what is paid for it
+  pub by_run : (a b : House W A g) (told : Ran) (paid : List (Step W)) → IsPaidFor may (core_of a).clock told paid → Made work a b (Run ∷ paid)
+      → ((M : History W) → Agrees work (core_of a) M → reply.Ran told ≡ reply_in work M Run) → ((M : History W) → Agrees work (core_of a) M → P M Run)
+      → MovesBy work may P a b 0
+  by_run a b told paid pays made answer p = record {
+    steps = Run ∷ paid;
+    made = made;
+    each = λ M agrees. (p M agrees, paid_stands work may P M told paid (answer M agrees) (rw agrees.world.clock at pays));
+    count = let none = paid_pops may (core_of a).clock told paid pays in omega (arith, none);
+  }
+
+  -- what takes no message receives none
+  pub by_none : (a b : House W A g) → MovesBy work may P a b 0 → (s : ℕ) → received b s ≡ received a s
+  by_none a b m s = (m.made.seats s).received ∙ rw (none_taken s m.steps m.count) (append-nil (received a s))
+
+  -- what makes no step
+  by_made : (a b : House W A g) → Made work a b [] → MovesBy work may P a b 0
+  by_made a b m = record { steps = []; made = m; each = λ M agrees. tt; count = refl }
+
+  -- where a meter never charges, moves with it are moves without it
+  pub by_never : (a b : House W A g) (n : ℕ) → NeverCharges may → TakesNoTime work P → MovesBy work may P a b n → Moves work P a b n
+  by_never a b n never quiet m =
+      let each = allowed_weaker work (OrCharges work may P) P (core_of a) m.steps (never_or work may P never) m.each in
+      let still = allowed_weaker work P (IsQuietAfter work) (core_of a) m.steps quiet each in
       record {
-        steps = p.steps;
-        made = p.made;
-        each = allowed_weaker work P Q (core_of a) p.steps w p.each;
-        quiet = p.quiet;
-        on_time = p.on_time;
-        count = p.count;
+        steps = m.steps;
+        made = m.made;
+        each = each;
+        quiet = still;
+        on_time = all_on_time work (core_of a) m.steps m.made.keeps_time still;
+        count = m.count;
       }
+
+module _ {W A : Type 0} {g : Ghosts W} (work : Meaning W) (may : ℕ → Type 0) (P Q : History W → Step W → Type 0) where
+  -- what one rule allows, a weaker one allows
+  by_weaker : (a b : House W A g) (n : ℕ) → ((N : History W) (x : Step W) → P N x → Q N x) → MovesBy work may P a b n → MovesBy work may Q a b n
+  by_weaker a b n w p = record {
+    steps = p.steps;
+    made = p.made;
+    each = allowed_weaker work (OrCharges work may P) (OrCharges work may Q) (core_of a) p.steps (or_weaker work may P Q w) p.each;
+    count = p.count;
+  }
 
 module _ {W : Type 0} (work : Meaning W) where
   drain_serves : (N : History W) (x : Step W) → MayDrain work N x → MayServe work N x
@@ -114,41 +150,6 @@ module _ {W : Type 0} (work : Meaning W) where
   drain_quiet N x p = serve_quiet N x (drain_serves N x p)
 
 module _ {W A : Type 0} {g : Ghosts W} (work : Meaning W) where
-  serves_made : (a b : House W A g) → Made work a b [] → ServesOn work a b
-  serves_made a b m = record { moves = (0, moves_made work (MayServe work) a b m) }
-
-  -- steps of serving, one list after another
-  pub serves_none : (a : House W A g) → ServesOn work a a
-  serves_none a = record { moves = (0, moves_nothing work (MayServe work) a) }
-
-  -- serving, and more of it
-  pub serves_then : (a b c : House W A g) → ServesOn work a b → ServesOn work b c → ServesOn work a c
-  serves_then a b c p q = record { moves = (p.moves.0 + q.moves.0, moves_both work (MayServe work) a b c p.moves.0 q.moves.0 p.moves.1 q.moves.1) }
-
-  -- a drain serves
-  pub serves_drain : (a b : House W A g) (n : ℕ) → Moves work (MayDrain work) a b n → ServesOn work a b
-  serves_drain a b n m = record { moves = (n, moves_weaker work (MayDrain work) (MayServe work) a b n (drain_serves work) m) }
-
-  -- so does a poll
-  pub serves_poll : (a b : House W A g) (s : ℕ) (p : Poll) → Polled work a s p b → ServesOn work a b
-  serves_poll a b s Nothing k = serves_made a b k.0
-  serves_poll a b s Full k = serves_made a b k.0
-  serves_poll a b s OutOfMemory k = serves_made a b k.0
-  serves_poll a b s NoSuchServer k = serves_made a b k.0
-  serves_poll a b s (Took q) k = record { moves = (1, moves_step work (MayServe work) a b (Submit s k.0) (serve_quiet work) k.1 (λ M agrees. tt)) }
-  serves_poll a b s Closed k = record { moves = (1, moves_step work (MayServe work) a b (Close s) (serve_quiet work) k.0 (λ M agrees. tt)) }
-
-  -- and a look at the rings
-  pub serves_look : (a b : House W A g) → LooksOnly a b → ServesOn work a b
-  serves_look a b l = record { moves = (0, moves_made work (MayServe work) a b (made_look work a b l)) }
-
-  -- a drain behind what was taken, and a look behind that
-  pub serves_drained : (a b c : House W A g) → ServesOn work a b → Moves work (MayDrain work) b c 0 → ServesOn work a c
-  serves_drained a b c taken drained = serves_then a b c taken (serves_drain b c 0 drained)
-
-  pub serves_looked : (a b c : House W A g) → ServesOn work a b → LooksOnly b c → ServesOn work a c
-  serves_looked a b c done looked = serves_then a b c done (serves_look b c looked)
-
   -- serving hands nothing out
   pub serves_handed : (a b : House W A g) → ServesOn work a b → (s : ℕ) → handed_of b s ≡ handed_of a s
   serves_handed a b m = moves_handed work (MayServe work) a b m.moves.0 m.moves.1
@@ -157,19 +158,67 @@ module _ {W A : Type 0} {g : Ghosts W} (work : Meaning W) where
   pub serves_rings : (a b : House W A g) → ServesOn work a b → rings_of b ≡ rings_of a
   serves_rings a b m = moves_rings work (MayServe work) a b m.moves.0 m.moves.1
 
-module _ {W A : Type 0} {g : Ghosts W} (work : Meaning W) (P : History W → Step W → Type 0) where
-  -- a house that is on time is so after such moves
-  pub moves_on_time : (a b : House W A g) (n : ℕ) → HasHistory work (core_of a) → Moves work P a b n → IsHouseOnTime a → IsHouseOnTime b
-  moves_on_time a b n history m = on_time_on work (core_of a) (core_of b) m.steps history m.made.steps m.made.keeps_time m.quiet
+module _ {W A : Type 0} {g : Ghosts W} (work : Meaning W) (may : ℕ → Type 0) where
+  serves_made : (a b : House W A g) → Made work a b [] → ServesBy work may a b
+  serves_made a b m = record { moves = (0, by_made work may (MayServe work) a b m) }
+
+  -- steps of serving, one list after another
+  pub serves_none : (a : House W A g) → ServesBy work may a a
+  serves_none a = record { moves = (0, by_nothing work may (MayServe work) a) }
+
+  -- serving, and more of it
+  pub serves_then : (a b c : House W A g) → ServesBy work may a b → ServesBy work may b c → ServesBy work may a c
+  serves_then a b c p q = record { moves = (p.moves.0 + q.moves.0, by_both work may (MayServe work) a b c p.moves.0 q.moves.0 p.moves.1 q.moves.1) }
+
+  -- a drain serves
+  pub serves_drain : (a b : House W A g) (n : ℕ) → MovesBy work may (MayDrain work) a b n → ServesBy work may a b
+  serves_drain a b n m = record { moves = (n, by_weaker work may (MayDrain work) (MayServe work) a b n (drain_serves work) m) }
+
+  -- so does a poll
+  pub serves_poll : (a b : House W A g) (s : ℕ) (p : Poll) → Polled work a s p b → ServesBy work may a b
+  serves_poll a b s Nothing k = serves_made a b k.0
+  serves_poll a b s Full k = serves_made a b k.0
+  serves_poll a b s OutOfMemory k = serves_made a b k.0
+  serves_poll a b s NoSuchServer k = serves_made a b k.0
+  serves_poll a b s (Took q) k = record { moves = (1, by_step work may (MayServe work) a b (Submit s k.0) k.1 (λ M agrees. tt)) }
+  serves_poll a b s Closed k = record { moves = (1, by_step work may (MayServe work) a b (Close s) k.0 (λ M agrees. tt)) }
+
+  -- and a look at the rings
+  pub serves_look : (a b : House W A g) → LooksOnly a b → ServesBy work may a b
+  serves_look a b l = record { moves = (0, by_made work may (MayServe work) a b (made_look work a b l)) }
+
+  -- a drain behind what was taken, and a look behind that
+  pub serves_drained : (a b c : House W A g) → ServesBy work may a b → MovesBy work may (MayDrain work) b c 0 → ServesBy work may a c
+  serves_drained a b c taken drained = serves_then a b c taken (serves_drain b c 0 drained)
+
+  pub serves_looked : (a b c : House W A g) → ServesBy work may a b → LooksOnly b c → ServesBy work may a c
+  serves_looked a b c done looked = serves_then a b c done (serves_look b c looked)
+
+  -- serving with a meter hands nothing out
+  pub by_handed : (a b : House W A g) → ServesBy work may a b → (s : ℕ) → handed_of b s ≡ handed_of a s
+  by_handed a b m s = (m.moves.1.made.seats s).handed
+
+  -- and keeps the rings
+  pub by_rings : (a b : House W A g) → ServesBy work may a b → rings_of b ≡ rings_of a
+  by_rings a b m = m.moves.1.made.rings
+
+  -- where the meter never charges, it is serving without it
+  pub serves_never : (a b : House W A g) → NeverCharges may → ServesBy work may a b → ServesOn work a b
+  serves_never a b never s = record { moves = (s.moves.0, by_never work may (MayServe work) a b s.moves.0 never (serve_quiet work) s.moves.1) }
+
+  -- and a house that is on time is so after it
+  pub serves_on_time : (a b : House W A g) → NeverCharges may → HasHistory work (core_of a) → ServesBy work may a b → IsHouseOnTime a → IsHouseOnTime b
+  serves_on_time a b never history s =
+      moves_on_time work (MayServe work) a b s.moves.0 history (by_never work may (MayServe work) a b s.moves.0 never (serve_quiet work) s.moves.1)
+
+-- of a meter that tells of nothing beyond a unit's first tick
+pub never_beyond : NeverCharges NothingBeyond
+never_beyond n e = e
 
 module _ {W A : Type 0} {g : Ghosts W} (work : Meaning W) where
-  -- and after serving
-  pub serves_on_time : (a b : House W A g) → HasHistory work (core_of a) → ServesOn work a b → IsHouseOnTime a → IsHouseOnTime b
-  serves_on_time a b history s = moves_on_time work (MayServe work) a b s.moves.0 history s.moves.1
-
-  -- and after a poll
+  -- a house that is on time is so after a poll
   pub polled_on_time : (a b : House W A g) (s : ℕ) (p : Poll) → HasHistory work (core_of a) → Polled work a s p b → IsHouseOnTime a → IsHouseOnTime b
-  polled_on_time a b s p history k = serves_on_time a b history (serves_poll work a b s p k)
+  polled_on_time a b s p history k = serves_on_time work NothingBeyond a b never_beyond history (serves_poll work NothingBeyond a b s p k)
 
 module _ {W : Type 0} (work : Meaning W) where
   -- a core that is on time is so after a step that takes nobody's time

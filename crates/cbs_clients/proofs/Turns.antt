@@ -10,7 +10,7 @@ use Rattle.cbs_job.specs.Work.{Meaning}
 use Rattle.cbs_job.specs.declared.completion.Completion.{Completion}
 use Rattle.cbs_job.specs.declared.work.Work.{Ghosts}
 use Rattle.cbs_steps.specs.Accounts.{face_of, finished}
-use Rattle.cbs_core.specs.Agreement.{Agrees}
+use Rattle.cbs_core.specs.Agreement.{Agrees, Follows}
 use Rattle.cbs_steps.specs.Continuations.{◌⊕⊕◌, MayDrain}
 use Rattle.cbs_steps.specs.Faces.{face_at, no_face, submit_refusal, close_refusal}
 use Rattle.cbs_core.specs.Held.{HoldsNoJob, IsAtEnd}
@@ -32,11 +32,12 @@ use Rattle.cbs_clients.specs.declared.poll.Poll.TheVariants.{Nothing, Took, Clos
 use Rattle.cbs_clients.specs.declared.turn.Turn.{Turn}
 use Rattle.cbs_results.specs.Collected.{shelf_at, no_shelf}
 use Rattle.cbs_clients.specs.HouseInvariant.{Housed}
-use Rattle.cbs_clients.specs.Houses.{core_of, results_of, handed_of, result_count, Collects, ServesOn, Moves}
-use Rattle.cbs_clients.specs.Turns.{GoesOn, StaysBy, IsNumbered, TakesOwnTurn, lacks_memory, Answered, PollsEach, ArePolls}
+use Rattle.cbs_clients.specs.Houses.{core_of, results_of, handed_of, result_count, Collects, ServesBy, MovesBy}
+use Rattle.cbs_clients.specs.Turns.{GoesOn, GoesOnEach, StaysBy, IsNumbered, TakesOwnTurn, lacks_memory, Answered, PollsEach, ArePolls}
 use Rattle.cbs_clients.specs.UntilClosed.{meets_end, turn_stop, LackedMemory, RunStops}
 use Rattle.cbs_clients.specs.Steps.{MayServe}
-use Rattle.cbs_clients.proofs.Moves.{moves_step, serve_quiet, serves_none, serves_then, serves_poll, drain_quiet}
+use Rattle.cbs_clients.proofs.Metered.{paid_is, unit_later}
+use Rattle.cbs_clients.proofs.Moves.{by_step, by_run, serves_none, serves_then, serves_poll}
 
 module _ {W A : Type 0} {g : Ghosts W} where
   -- what a run did to the results, behind what left them
@@ -136,81 +137,91 @@ module _ {W A : Type 0} {g : Ghosts W} (work : Meaning W) where
     | inr ne ↦ absurd (housed.history (λ M agrees. ne ((h.made.steps M agrees).world.clock ∙ (polls_now work M 0 n h.polls h.each ∙ sym agrees.world.clock))))
   ]
 
+module _ {W A : Type 0} {g : Ghosts W} (work : Meaning W) (may : ℕ → Type 0) where
   -- polls, one after another, are steps of serving
-  serves_answered : (s : ℕ) (a b : House W A g) (ps : List Poll) → Answered work s a ps b → ServesOn work a b
-  serves_answered s a b [] h = rw h (serves_none work a)
-  serves_answered s a b (p ∷ ps) h = serves_then work a h.0 b (serves_poll work a h.0 s p h.1) (serves_answered (s + 1) h.0 b ps h.2)
+  serves_answered : (s : ℕ) (a b : House W A g) (ps : List Poll) → Answered work s a ps b → ServesBy work may a b
+  serves_answered s a b [] h = rw h (serves_none work may a)
+  serves_answered s a b (p ∷ ps) h = serves_then work may a h.0 b (serves_poll work may a h.0 s p h.1) (serves_answered (s + 1) h.0 b ps h.2)
 
   -- what a turn does behind its polls are steps of serving
-  serves_on : (a b : House W A g) (r : Ran) (n : ℕ) → GoesOn work a b r n → ServesOn work a b
-  serves_on a b r n (inl k) = record { moves = (0, moves_step work (MayServe work) a b Run (serve_quiet work) k.0.made (λ M agrees. tt)) }
-  serves_on a b r n (inr (inl k)) = record { moves = (0, moves_step work (MayServe work) a b (Advance n) (serve_quiet work) k.0.made k.0.needed) }
-  serves_on a b r n (inr (inr k)) = rw k.0 (serves_none work a)
+  serves_on : (a b : House W A g) (r : Ran) (n : ℕ) → GoesOn work may a b r n → ServesBy work may a b
+  serves_on a b r n (inl k) = record { moves = (0, by_run work may (MayServe work) a b r k.0.paid k.0.pays k.0.made k.0.answer (λ M agrees. tt)) }
+  serves_on a b r n (inr (inl k)) = record { moves = (0, by_step work may (MayServe work) a b (Advance n) k.0.made k.0.needed) }
+  serves_on a b r n (inr (inr k)) = rw k.0 (serves_none work may a)
 
   -- what a turn does after its polls is a step of a drain, if the clock is later
-  pub drained_on : (a b : House W A g) (r : Ran) (n : ℕ) → GoesOn work a b r n → (core_of a).clock < (core_of b).clock → Moves work (MayDrain work) a b 0
-  drained_on a b r n (inl k) later = moves_step work (MayDrain work) a b Run (drain_quiet work) k.0.made k.0.useful
-  drained_on a b r n (inr (inl k)) later = moves_step work (MayDrain work) a b (Advance n) (drain_quiet work) k.0.made k.0.needed
+  pub drained_on : (a b : House W A g) (r : Ran) (n : ℕ) → GoesOn work may a b r n → (core_of a).clock < (core_of b).clock
+      → MovesBy work may (MayDrain work) a b 0
+  drained_on a b r n (inl k) later = by_run work may (MayDrain work) a b r k.0.paid k.0.pays k.0.made k.0.answer k.0.useful
+  drained_on a b r n (inr (inl k)) later = by_step work may (MayDrain work) a b (Advance n) k.0.made k.0.needed
   drained_on a b r n (inr (inr k)) later =
       let e : (core_of b).clock ≡ (core_of a).clock = ap (λ (x : House W A g). (core_of x).clock) k.0 in absurd (omega (arith, later, e))
 
+  -- one more, behind others
+  pub went_more : (a b c : House W A g) (ts : List (Ran × ℕ)) (t : Ran × ℕ) → GoesOnEach work may a ts b → GoesOn work may b c t.0 t.1
+      → GoesOnEach work may a (ts ++ t ∷ []) c
+  went_more a b c [] t h k = (c, subst (λ x. GoesOn work may x c t.0 t.1) h k, refl)
+  went_more a b c (u ∷ ts) t h k = (h.0, h.1, went_more h.0 b c ts t h.2 k)
+
   -- polls, and what a turn does after them, are steps of serving
-  pub polls_serve : (a b c : House W A g) (n k j : ℕ) (m : Bool) (r : Ran) → PollsEach work n a b k m → GoesOn work b c r j → ServesOn work a c
-  polls_serve a b c n k j m r h on = serves_then work a b c (serves_answered 0 a b h.answers h.answered) (serves_on b c r j on)
+  pub polls_serve : (a b c : House W A g) (n k j : ℕ) (m : Bool) (r : Ran) → PollsEach work n a b k m → GoesOn work may b c r j → ServesBy work may a c
+  polls_serve a b c n k j m r h on = serves_then work may a b c (serves_answered 0 a b h.answers h.answered) (serves_on b c r j on)
 
   -- a turn makes steps of serving
-  pub turn_serves : (a b : House W A g) (t : Turn) → TakesOwnTurn work a b t → ServesOn work a b
-  turn_serves a b t h = serves_then work a h.between b (serves_answered 0 a h.between h.polled.answers h.polled.answered)
+  pub turn_serves : (a b : House W A g) (t : Turn) → TakesOwnTurn work may a b t → ServesBy work may a b
+  turn_serves a b t h = serves_then work may a h.between b (serves_answered 0 a h.between h.polled.answers h.polled.answered)
       (serves_on h.between b t.ran t.advanced h.goes_on)
 
   -- what leads to a poll without memory, and on from it
-  pub lacked_behind : (a b c : House W A g) → ServesOn work a b → LackedMemory work b c → LackedMemory work a c
+  pub lacked_behind : (a b c : House W A g) → ServesBy work may a b → LackedMemory work may b c → LackedMemory work may a c
   lacked_behind a b c h k = record {
     before = k.before;
     after = k.after;
     server = k.server;
-    first = serves_then work a b k.before h k.first;
+    first = serves_then work may a b k.before h k.first;
     polled = k.polled;
     rest = k.rest;
   }
 
-  lacked_before : (a b c : House W A g) → LackedMemory work a b → ServesOn work b c → LackedMemory work a c
+  lacked_before : (a b c : House W A g) → LackedMemory work may a b → ServesBy work may b c → LackedMemory work may a c
   lacked_before a b c k h = record {
     before = k.before;
     after = k.after;
     server = k.server;
     first = k.first;
     polled = k.polled;
-    rest = serves_then work k.after b c k.rest h;
+    rest = serves_then work may k.after b c k.rest h;
   }
 
-  lacked : (s : ℕ) (a b : House W A g) (ps : List Poll) → Answered work s a ps b → list_any lacks_memory ps ≡ true → LackedMemory work a b
+  lacked : (s : ℕ) (a b : House W A g) (ps : List Poll) → Answered work s a ps b → list_any lacks_memory ps ≡ true → LackedMemory work may a b
   lacked s a b [] h e = absurd (false≢true e)
   lacked s a b (OutOfMemory ∷ ps) h e = record {
     before = a;
     after = h.0;
     server = s;
-    first = serves_none work a;
+    first = serves_none work may a;
     polled = h.1;
     rest = serves_answered (s + 1) h.0 b ps h.2;
   }
-  lacked s a b (Nothing ∷ ps) h e = lacked_behind a h.0 b (serves_poll work a h.0 s Nothing h.1) (lacked (s + 1) h.0 b ps h.2 e)
-  lacked s a b (Took q ∷ ps) h e = lacked_behind a h.0 b (serves_poll work a h.0 s (Took q) h.1) (lacked (s + 1) h.0 b ps h.2 e)
-  lacked s a b (Closed ∷ ps) h e = lacked_behind a h.0 b (serves_poll work a h.0 s Closed h.1) (lacked (s + 1) h.0 b ps h.2 e)
-  lacked s a b (Full ∷ ps) h e = lacked_behind a h.0 b (serves_poll work a h.0 s Full h.1) (lacked (s + 1) h.0 b ps h.2 e)
-  lacked s a b (NoSuchServer ∷ ps) h e = lacked_behind a h.0 b (serves_poll work a h.0 s NoSuchServer h.1) (lacked (s + 1) h.0 b ps h.2 e)
+  lacked s a b (Nothing ∷ ps) h e = lacked_behind a h.0 b (serves_poll work may a h.0 s Nothing h.1) (lacked (s + 1) h.0 b ps h.2 e)
+  lacked s a b (Took q ∷ ps) h e = lacked_behind a h.0 b (serves_poll work may a h.0 s (Took q) h.1) (lacked (s + 1) h.0 b ps h.2 e)
+  lacked s a b (Closed ∷ ps) h e = lacked_behind a h.0 b (serves_poll work may a h.0 s Closed h.1) (lacked (s + 1) h.0 b ps h.2 e)
+  lacked s a b (Full ∷ ps) h e = lacked_behind a h.0 b (serves_poll work may a h.0 s Full h.1) (lacked (s + 1) h.0 b ps h.2 e)
+  lacked s a b (NoSuchServer ∷ ps) h e = lacked_behind a h.0 b (serves_poll work may a h.0 s NoSuchServer h.1) (lacked (s + 1) h.0 b ps h.2 e)
 
   -- where a turn tells of want of memory, one of its polls found none
-  turn_lacked : (a b : House W A g) (t : Turn) → TakesOwnTurn work a b t → t.out_of_memory ≡ true → LackedMemory work a b
+  turn_lacked : (a b : House W A g) (t : Turn) → TakesOwnTurn work may a b t → t.out_of_memory ≡ true → LackedMemory work may a b
   turn_lacked a b t h e =
       lacked_before a h.between b (lacked 0 a h.between h.polled.answers h.polled.answered (sym h.polled.memory ∙ e))
       (serves_on h.between b t.ran t.advanced h.goes_on)
 
   -- a unit, or an advance, moves the clock
-  later_on : (a b : House W A g) (r : Ran) (n : ℕ) → Housed work a.core a.rings a.collector → GoesOn work a b r n
+  later_on : (a b : House W A g) (r : Ran) (n : ℕ) → Housed work a.core a.rings a.collector → GoesOn work may a b r n
       → ((core_of a).clock < (core_of b).clock) ⊎ ((b ≡ a) × StaysBy r a)
   later_on a b r n housed (inl k) =
-      inl (later_by work a.core b.core Run housed.history k.0.made.steps
+      let is = paid_is may (core_of a).clock r k.0.paid k.0.pays in
+      inl (unit_later work a.core b.core is.0 is.1 housed.history
+      (subst (λ (xs : List (Step W)). Follows work a.core b.core (Run ∷ xs)) is.2 k.0.made.steps)
       (λ M agrees. let u = k.0.useful M agrees in run_later work M.setup.backlog (world_after work M) u.ready u.early))
   later_on a b r n housed (inr (inl k)) =
       inl (later_by work a.core b.core (Advance n) housed.history k.0.made.steps
@@ -224,7 +235,7 @@ module _ {W A : Type 0} {g : Ghosts W} (work : Meaning W) where
   stays_idle (ran.Done c) h n k = absurd k
 
   -- a turn that tells of the clock's end stands there, with a job unfinished
-  at_end : (a b : House W A g) (n : ℕ) → Housed work a.core a.rings a.collector → GoesOn work a b ran.ClockEnd n → IsAtEnd (core_of b)
+  at_end : (a b : House W A g) (n : ℕ) → Housed work a.core a.rings a.collector → GoesOn work may a b ran.ClockEnd n → IsAtEnd (core_of b)
   at_end a b n housed (inl k) =
       absurd (housed.history (λ M agrees.
       let told : ran.ClockEnd ≡ run_reply work (world_after work M) (chosen work (world_after work M)) = let e = k.0.answer M agrees in cc in
@@ -259,7 +270,7 @@ stopped_by t error why = elim (cases_Bool t.out_of_memory) [
   ]
 ]
 
-module _ {W A : Type 0} {g : Ghosts W} (a b : House W A g) (t : Turn) (h : TakesOwnTurn g.meaning a b t) where
+module _ {W A : Type 0} {g : Ghosts W} (may : ℕ → Type 0) (a b : House W A g) (t : Turn) (h : TakesOwnTurn g.meaning may a b t) where
   -- the polls of a turn leave the clock
   polls_stand : (core_of h.between).clock ≡ (core_of a).clock
   polls_stand = polled_clock g.meaning a h.between (length (core_of a).faces) t.took t.out_of_memory a.housed h.polled
@@ -268,7 +279,7 @@ module _ {W A : Type 0} {g : Ghosts W} (a b : House W A g) (t : Turn) (h : Takes
   pub turn_on : (core_of a).clock ≤ (core_of b).clock
   turn_on =
       let e = polls_stand in
-      elim (later_on g.meaning h.between b t.ran t.advanced h.between.housed h.goes_on) [
+      elim (later_on g.meaning may h.between b t.ran t.advanced h.between.housed h.goes_on) [
         | inl lt ↦ omega (arith, e, lt)
         | inr stays ↦ let f : (core_of b).clock ≡ (core_of h.between).clock = ap (λ (x : House W A g). (core_of x).clock) stays.0 in omega (arith, e, f)
       ]
@@ -277,18 +288,18 @@ module _ {W A : Type 0} {g : Ghosts W} (a b : House W A g) (t : Turn) (h : Takes
   pub turn_idle : turn_stop t ≡ None → ((core_of a).clock < (core_of b).clock) ⊎ HoldsNoJob (core_of b)
   turn_idle none =
       let e = polls_stand in
-      elim (later_on g.meaning h.between b t.ran t.advanced h.between.housed h.goes_on) [
+      elim (later_on g.meaning may h.between b t.ran t.advanced h.between.housed h.goes_on) [
         | inl lt ↦ inl (omega (arith, e, lt))
-        | inr stays ↦ inr (rw stays.0 (stays_idle g.meaning t.ran h.between (λ end. early_turn t none end) stays.1))
+        | inr stays ↦ inr (rw stays.0 (stays_idle g.meaning may t.ran h.between (λ end. early_turn t none end) stays.1))
       ]
 
   -- why a turn stops a run
-  turn_stops : (error : HouseError) → turn_stop t ≡ Some error → RunStops g.meaning error a b
+  turn_stops : (error : HouseError) → turn_stop t ≡ Some error → RunStops g.meaning may error a b
   turn_stops error why = elim (stopped_by t error why) [
-    | inl memory ↦ rw memory.0 (turn_lacked g.meaning a b t h memory.1)
-    | inr end ↦ rw end.0 (at_end g.meaning h.between b t.advanced h.between.housed (subst (λ r. GoesOn g.meaning h.between b r t.advanced) end.1 h.goes_on))
+    | inl memory ↦ rw memory.0 (turn_lacked g.meaning may a b t h memory.1)
+    | inr end ↦ rw end.0 (at_end g.meaning may h.between b t.advanced h.between.housed (subst (λ r. GoesOn g.meaning may h.between b r t.advanced) end.1 h.goes_on))
   ]
 
-  pub told_stops : {T : Type 0} (r : Result T HouseError) → IfErr r (λ error. turn_stop t ≡ Some error) → IfErr r (λ error. RunStops g.meaning error a b)
+  pub told_stops : {T : Type 0} (r : Result T HouseError) → IfErr r (λ error. turn_stop t ≡ Some error) → IfErr r (λ error. RunStops g.meaning may error a b)
   told_stops (Ok x) why = tt
   told_stops (Err e) why = turn_stops e why

@@ -19,12 +19,13 @@ use Rattle.cbs_steps.specs.declared.step.Step.TheVariants as step
 use Rattle.cbs_steps.specs.declared.charges.Charges.{Charges}
 use Rattle.cbs_steps.specs.declared.view.ServerView.{ServerView}
 use Rattle.cbs_core.specs.Agreement.{Agrees}
-use Rattle.cbs_core.specs.Held.{running}
+use Rattle.cbs_core.specs.Held.{running, AllSame}
 use Rattle.cbs_clients.specs.Errors.{charge_answer}
 use Rattle.cbs_clients.specs.Clients.{sent_by, free, most_jobs, SameClient}
 use Rattle.cbs_clients.specs.Houses.{core_of, rings_of, seat_at, new_seat, IsHouseOnTime, KeepsResults, told_answer, Made, SameHouse, Polled}
-use Rattle.cbs_clients.specs.Houses.{ServesOn, Collects, NamesJob}
+use Rattle.cbs_clients.specs.Houses.{ServesOn, ServesBy, Collects, NamesJob}
 use Rattle.cbs_clients.specs.Messages.{jobs_among, has_end}
+use Rattle.cbs_clients.specs.Meters.{NothingBeyond, NeverCharges, IsPaidFor}
 use Rattle.cbs_clients.specs.Turns.{IsNumbered, TakesOwnTurn}
 use Rattle.cbs_clients.specs.declared.client.Client.{Client}
 use Rattle.cbs_clients.specs.declared.client.SendRefused.{SendRefused}
@@ -61,6 +62,17 @@ module _ {W A : Type 0} {g : Ghosts W} where
     pub collects : Collects told old new
     pub job : NamesJob work told new
 
+  -- A run with a meter that may tell so: it answers what the rules give, makes that one step, pays for a unit, and collects a
+  -- completion.
+  pub record RunBy (work : Meaning W) (may : ℕ → Type 0) (old : House W A g) (told : Ran) (new : House W A g) : Type 0 where
+    pub reply : (M : History W) → Agrees work (core_of old) M → reply.Ran told ≡ reply_in work M step.Run
+    pub paid : List (Step W)
+    pub pays : IsPaidFor may (core_of old).clock told paid
+    pub made : Made work old new (step.Run ∷ paid)
+    pub on_time : NeverCharges may → IsHouseOnTime old → IsHouseOnTime new
+    pub collects : Collects told old new
+    pub job : NamesJob work told new
+
   -- an advance by n: it makes that one step, and keeps a house on time so if it takes nobody's time; or the clock would pass its
   -- end, and nothing changed
   pub record AdvanceOf (work : Meaning W) (n : ℕ) (old : House W A g) (answer : Result (Unit {0}) HouseError) (new : House W A g) : Type 0 where
@@ -72,11 +84,12 @@ module _ {W A : Type 0} {g : Ghosts W} where
     pub end : (M : History W) → Agrees work (core_of old) M
         → MatchResult answer (λ _. (world_after work M).now + n ≤ clock_end) (λ _. clock_end < (world_after work M).now + n)
 
-  -- a charge of a server: it makes that one step; or it is refused as the core refuses it, and nothing changed
+  -- a charge of a server: it makes that one step, which leaves every job; or it is refused as the core refuses it, and nothing changed
   pub record ChargeOf (work : Meaning W) (server ticks : ℕ) (old : House W A g) (answer : Result (Unit {0}) HouseError) (new : House W A g) : Type 0 where
     pub made : OnOk answer (Made work old new (step.Charge server ticks ∷ []))
     pub rings : rings_of new ≡ rings_of old
     pub results : KeepsResults old new
+    pub jobs : AllSame (core_of old) (core_of new)
     pub same : OnErr answer (SameHouse old new)
     pub refusal : (M : History W) → Agrees work (core_of old) M
         → answer ≡ charge_answer (charge_refusal (world_after work M) server ticks)
@@ -88,9 +101,20 @@ module _ {W A : Type 0} {g : Ghosts W} where
 
   -- a turn of a house by itself, which told this
   pub record TurnOf (work : Meaning W) (old : House W A g) (told : Turn) (new : House W A g) : Type 0 where
-    pub turn : TakesOwnTurn work old new told
+    pub turn : TakesOwnTurn work NothingBeyond old new told
     pub steps : ServesOn work old new
     pub on_time : IsHouseOnTime old → IsHouseOnTime new
+    pub few : told.took ≤ length (core_of old).faces
+    pub rings : rings_of new ≡ rings_of old
+    pub collects : Collects told.ran old new
+    pub numbered : IsNumbered told.ran old
+    pub job : NamesJob work told.ran new
+
+  -- the same with a meter that may tell so
+  pub record TurnBy (work : Meaning W) (may : ℕ → Type 0) (old : House W A g) (told : Turn) (new : House W A g) : Type 0 where
+    pub turn : TakesOwnTurn work may old new told
+    pub steps : ServesBy work may old new
+    pub on_time : NeverCharges may → IsHouseOnTime old → IsHouseOnTime new
     pub few : told.took ≤ length (core_of old).faces
     pub rings : rings_of new ≡ rings_of old
     pub collects : Collects told.ran old new

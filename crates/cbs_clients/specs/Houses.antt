@@ -13,7 +13,6 @@ use Rattle.cbs_steps.specs.declared.reply.Ran.{Ran}
 use Rattle.cbs_steps.specs.declared.reply.Ran.TheVariants as ran
 use Rattle.cbs_steps.specs.declared.step.Step.{Step}
 use Rattle.cbs_steps.specs.declared.step.Step.TheVariants as step
-use Rattle.cbs_steps.specs.declared.view.ServerView.{ServerView}
 use Rattle.cbs_clients.specs.declared.error.HouseError.{HouseError}
 use Rattle.cbs_clients.specs.declared.error.HouseError.TheVariants as house_error
 use Rattle.cbs_clients.specs.declared.house.House.{House}
@@ -22,6 +21,7 @@ use Rattle.cbs_clients.specs.declared.poll.Poll.{Poll}
 use Rattle.cbs_clients.specs.declared.poll.Poll.TheVariants.{Nothing, Took, Closed, Full, OutOfMemory, NoSuchServer}
 use Rattle.cbs_results.specs.Collected.{shelf_at}
 use Rattle.cbs_clients.specs.Messages.{jobs_among}
+use Rattle.cbs_clients.specs.Meters.{OrCharges}
 use Rattle.cbs_clients.specs.Rings.{rings_in, received_in, known_in, Ring}
 use Rattle.cbs_clients.specs.Steps.{messages_of, pops, MayServe}
 use Rattle.cbs_core.specs.Agreement.{Follows, AllAllowed, AllOnTime}
@@ -146,9 +146,21 @@ module _ {W A : Type 0} {g : Ghosts W} where
     pub on_time : AllOnTime work (core_of old) steps
     pub count : pops steps ≡ n
 
+  -- The same with a meter that may tell so: the house made some steps, each of which is allowed at its place, or is the charge of the
+  -- unit right before it; and they took n messages.
+  pub record MovesBy (work : Meaning W) (may : ℕ → Type 0) (allowed : History W → Step W → Type 0) (old new : House W A g) (n : ℕ) : Type 0 where
+    pub steps : List (Step W)
+    pub made : Made work old new steps
+    pub each : AllAllowed work (OrCharges work may allowed) (core_of old) steps
+    pub count : pops steps ≡ n
+
   -- the house made some steps of serving
   pub record ServesOn (work : Meaning W) (old new : House W A g) : Type 0 where
     pub moves : (n : ℕ) × Moves work (MayServe work) old new n
+
+  -- the same with a meter
+  pub record ServesBy (work : Meaning W) (may : ℕ → Type 0) (old new : House W A g) : Type 0 where
+    pub moves : (n : ℕ) × MovesBy work may (MayServe work) old new n
 
   -- What a poll of server s did, by its answer. The first four pop nothing: nothing is seen or the server is closed; a message
   -- is seen, and the backlog is full; a message is seen, and the backlog is not full, but there is no memory; there is no such

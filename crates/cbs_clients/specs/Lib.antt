@@ -2,6 +2,7 @@ pub mod Messages
 pub mod Rings
 pub mod Clients
 pub mod Steps
+pub mod Meters
 pub mod HouseInvariant
 pub mod Houses
 pub mod Turns

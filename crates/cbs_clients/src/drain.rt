@@ -2,15 +2,20 @@
 
 use crate::error::HouseError;
 use crate::house::House;
+use crate::meter::{Meter, NoMeter};
 use cbs_core::LIMIT;
 use cbs_job::Work;
 use std::alloc::Allocator;
 
 impl<W: Work, A: Allocator> House<W, A> {
     ghost use Rattle.std.specs.Prelude.{ℕ, ◌≡◌, true, false, OnOk, IfErr};
-    ghost use Rattle.cbs_clients.specs.Houses.{core_of, rings_of, received, IsHouseOnTime, AllFinished, Moves};
+    ghost use Rattle.std.specs.Prelude.{List};
+    ghost use Rattle.cbs_clients.specs.Houses.{core_of, rings_of, received, IsHouseOnTime, AllFinished, Moves, MovesBy};
+    ghost use Rattle.cbs_clients.specs.Meters.{NeverCharges};
+    ghost use Rattle.cbs_clients.specs.Turns.{GoesOnEach};
     ghost use Rattle.cbs_core.specs.Held.{HoldsJob, HoldsNoJob, IsAtEnd};
     ghost use Rattle.cbs_steps.specs.Continuations.{MayDrain};
+    ghost use Rattle.cbs_steps.specs.declared.reply.Ran.{Ran};
 
     /// Runs until no accepted job is unfinished. If nobody is ready it advances the clock by the idle span, so
     /// that no time is lost; it takes no message. At `Ok` the results of each server, after those that were
@@ -27,11 +32,28 @@ impl<W: Work, A: Allocator> House<W, A> {
         ensures finished { OnOk result (AllFinished W.meaning self.new) }
         ensures end { IfErr result (λ error. (error ≡ HouseError.ClockEnd) × IsAtEnd (core_of self.new)) }
     {
+        self.drain_metered(&mut NoMeter)
+    }
+
+    /// Runs until no accepted job is unfinished, as [`drain`](House::drain), with a meter: after each unit its server is
+    /// charged the ticks that the unit took beyond its first, as by [`run_metered`](House::run_metered).
+    ///
+    /// Refuses as [`drain`](House::drain).
+    pub fn drain_metered<M: Meter>(&mut self, meter: &mut M) -> Result<(), HouseError>
+        ensures moves { MovesBy W.meaning M.may_tell (MayDrain W.meaning) self.old self.new 0 }
+        ensures goes_on { (told : List (Ran × ℕ)) × GoesOnEach W.meaning M.may_tell self.old told self.new }
+        ensures on_time { NeverCharges M.may_tell → IsHouseOnTime self.old → IsHouseOnTime self.new }
+        ensures received { (s : ℕ) → received self.new s ≡ received self.old s }
+        ensures rings { rings_of self.new ≡ rings_of self.old }
+        ensures ok { OnOk result (HoldsNoJob (core_of self.new)) }
+        ensures finished { OnOk result (AllFinished W.meaning self.new) }
+        ensures end { IfErr result (λ error. (error ≡ HouseError.ClockEnd) × IsAtEnd (core_of self.new)) }
+    {
         while self.is_busy() {
             if self.now() == LIMIT {
                 return Err(HouseError::ClockEnd);
             }
-            self.go_on();
+            self.go_on(meter);
         }
         Ok(())
     }

@@ -6,6 +6,7 @@ ghost use Rattle.cbs_rate.specs.Limits.{most_servers};
 use crate::client::Client;
 use crate::error::HouseError;
 use crate::message::Message;
+use crate::meter::Meter;
 use crate::poll::Poll;
 use crate::rings::Rings;
 use cbs_core::{Charges, Core, CoreError, LIMIT, Ran, ServerView};
@@ -35,11 +36,12 @@ impl<W: Work, A: Allocator> Drop for House<W, A> {
 }
 
 impl<W: Work, A: Allocator> House<W, A> {
-    ghost use Rattle.std.specs.Prelude.{ℕ, ◌≡◌, ◌↔◌, ◌⊎◌, IsTrue, ◌<◌, ◌≤◌, [], ◌++◌, length, IfSome, IfNone, IfOk, IfErr};
-    ghost use Rattle.cbs_core.specs.Held.{front_output, held_at, IsClosed};
-    ghost use Rattle.cbs_clients.specs.Calls.{PollOf, RunOf, AdvanceOf, ChargeOf, ChargesLast, ChargesOf, ClockOf, SpanOf, ViewOf, PromiseOf, LooksAtRing};
+    ghost use Rattle.std.specs.Prelude.{ℕ, ◌≡◌, ◌↔◌, ◌⊎◌, IsTrue, ◌<◌, ◌≤◌, ◌-◌, min, true, [], ◌++◌, length, IfSome, IfNone, IfOk, IfErr};
+    ghost use Rattle.cbs_core.specs.Held.{front_output, held_at, is_running, AllSame, IsClosed};
+    ghost use Rattle.cbs_clients.specs.Calls.{PollOf, RunOf, RunBy, AdvanceOf, ChargeOf, ChargesLast, ChargesOf, ClockOf, SpanOf, ViewOf, PromiseOf, LooksAtRing};
     ghost use Rattle.cbs_clients.specs.Clients.{server_of, sent_by, IsOpened};
     ghost use Rattle.cbs_clients.specs.Houses.{core_of, rings_of, received, known, KeepsResults, Made, LooksOnly, Polled, CanTake};
+    ghost use Rattle.cbs_clients.specs.Meters.{charge_steps};
 
     /// Returns how many servers there are, at most 64. Their numbers are those below it.
     pub fn servers(&self) -> u16
@@ -179,6 +181,35 @@ impl<W: Work, A: Allocator> House<W, A> {
             self.collector.take_expected(done);
         }
         ran
+    }
+
+    /// Runs one unit, as [`run`](House::run), with a meter: if a unit ran, its server is charged the ticks that the unit took
+    /// beyond its first, as the meter tells them, as by [`charge`](House::charge). It is charged as many as the clock can
+    /// hold, which then is at [`LIMIT`].
+    pub fn run_metered<M: Meter>(&mut self, meter: &mut M) -> Ran
+        ensures { RunBy W.meaning M.may_tell self.old result self.new }
+    {
+        meter.begin();
+        let ran = self.run();
+        match ran {
+            Ran::Unit { server, .. } => self.pay(server, meter.beyond()),
+            Ran::Done(done) => self.pay(done.server, meter.beyond()),
+            Ran::Idle | Ran::ClockEnd => {}
+        }
+        ran
+    }
+
+    /// Charges the server that runs so many ticks, or as many as the clock can hold. For 0 ticks nothing is done.
+    fn pay(&mut self, server: u16, beyond: u64)
+        requires { is_running (core_of self.old) server ≡ true }
+        ensures made { Made W.meaning self.old self.new (charge_steps server (min beyond (LIMIT - (core_of self.old).clock))) }
+        ensures results { KeepsResults self.old self.new }
+        ensures jobs { AllSame (core_of self.old) (core_of self.new) }
+    {
+        let ticks = beyond.min(LIMIT - self.now());
+        if ticks > 0 {
+            self.charge_server(server, ticks).unwrap();
+        }
     }
 
     /// Lets `n` ticks pass, by one jump, as [`Core::advance`].

@@ -7,6 +7,7 @@ ghost use Rattle.cbs_rate.specs.Limits.{most_servers};
 
 use crate::gate::{Gate, OpenGate};
 use crate::house::House;
+use crate::meter::{Meter, NoMeter};
 use crate::poll::Poll;
 use cbs_core::{LIMIT, Ran};
 use cbs_job::Work;
@@ -81,7 +82,7 @@ impl<W: Work, A: Allocator> House<W, A> {
     ghost use Rattle.std.specs.Prelude.{ℕ, ◌≡◌, ◌<◌, ◌≤◌, length};
     ghost use Rattle.cbs_clients.specs.Houses.{core_of, rings_of, Collects, NamesJob};
     ghost use Rattle.cbs_clients.specs.Turns.{GoesOn, IsNumbered};
-    ghost use Rattle.cbs_clients.specs.Calls.{TurnOf};
+    ghost use Rattle.cbs_clients.specs.Calls.{TurnOf, TurnBy};
     ghost use Rattle.cbs_core.specs.Held.{HoldsJob};
 
     /// Takes one turn: polls each server once, in the order of their numbers, and then runs one unit, as
@@ -93,8 +94,16 @@ impl<W: Work, A: Allocator> House<W, A> {
     pub fn turn(&mut self) -> Turn
         ensures { TurnOf W.meaning self.old result self.new }
     {
+        self.turn_metered(&mut NoMeter)
+    }
+
+    /// Takes one turn, as [`turn`](House::turn), with a meter: if a unit ran, its server is charged the ticks that the unit
+    /// took beyond its first, as by [`run_metered`](House::run_metered). They are not counted in [`Turn::advanced`].
+    pub fn turn_metered<M: Meter>(&mut self, meter: &mut M) -> Turn
+        ensures { TurnBy W.meaning M.may_tell self.old result self.new }
+    {
         let polls = poll_each(&OpenGate, self);
-        let (ran, advanced) = self.go_on_if_busy();
+        let (ran, advanced) = self.go_on_if_busy(meter);
         Turn {
             took: polls.took,
             out_of_memory: polls.out_of_memory,
@@ -105,8 +114,8 @@ impl<W: Work, A: Allocator> House<W, A> {
 
     /// Goes on if a job is held and the clock is not at its end. Returns what ran, and by how many ticks the clock was
     /// advanced.
-    fn go_on_if_busy(&mut self) -> (Ran, u64)
-        ensures goes_on { GoesOn W.meaning self.old self.new result.0 result.1 }
+    fn go_on_if_busy<M: Meter>(&mut self, meter: &mut M) -> (Ran, u64)
+        ensures goes_on { GoesOn W.meaning M.may_tell self.old self.new result.0 result.1 }
         ensures rings { rings_of self.new ≡ rings_of self.old }
         ensures collects { Collects result.0 self.old self.new }
         ensures numbered { IsNumbered result.0 self.old }
@@ -118,15 +127,15 @@ impl<W: Work, A: Allocator> House<W, A> {
         if self.now() == LIMIT {
             return (Ran::ClockEnd, 0);
         }
-        self.go_on()
+        self.go_on(meter)
     }
 
-    /// Runs one unit if somebody is ready, and else advances by the idle span, so the clock is later. Returns what ran,
-    /// and by how many ticks the clock was advanced.
-    pub(crate) fn go_on(&mut self) -> (Ran, u64)
+    /// Runs one unit if somebody is ready, and pays for it; else advances by the idle span. So the clock is later. Returns
+    /// what ran, and by how many ticks the clock was advanced.
+    pub(crate) fn go_on<M: Meter>(&mut self, meter: &mut M) -> (Ran, u64)
         requires busy { HoldsJob (core_of self.old) }
         requires early { (core_of self.old).clock < LIMIT }
-        ensures goes_on { GoesOn W.meaning self.old self.new result.0 result.1 }
+        ensures goes_on { GoesOn W.meaning M.may_tell self.old self.new result.0 result.1 }
         ensures later { (core_of self.old).clock < (core_of self.new).clock }
         ensures rings { rings_of self.new ≡ rings_of self.old }
         ensures collects { Collects result.0 self.old self.new }
@@ -134,7 +143,7 @@ impl<W: Work, A: Allocator> House<W, A> {
         ensures job { NamesJob W.meaning result.0 self.new }
     {
         match self.idle_span() {
-            None => (self.run(), 0),
+            None => (self.run_metered(meter), 0),
             Some(span) => {
                 self.advance(span).unwrap();
                 (Ran::Idle, span)

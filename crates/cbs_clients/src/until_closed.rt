@@ -7,6 +7,7 @@ ghost use Rattle.cbs_rate.specs.Limits.{most_servers};
 
 use crate::error::HouseError;
 use crate::house::House;
+use crate::meter::{Meter, NoMeter};
 use crate::pause::Pause;
 use crate::sink::Sink;
 use crate::turn::Turn;
@@ -18,7 +19,8 @@ use std::time::Clock;
 impl<W: Work, A: Allocator> House<W, A> {
     ghost use Rattle.std.specs.Prelude.{◌≡◌, ◌≤◌, ◌↔◌, max, true, false, IsTrue, OnOk, IfOk, IfErr};
     ghost use Rattle.cbs_core.specs.Held.{HoldsNoJob};
-    ghost use Rattle.cbs_clients.specs.Houses.{core_of, rings_of, IsHouseOnTime, AllFinished, ServesOn};
+    ghost use Rattle.cbs_clients.specs.Houses.{core_of, rings_of, IsHouseOnTime, AllFinished, ServesOn, ServesBy};
+    ghost use Rattle.cbs_clients.specs.Meters.{NothingBeyond, NeverCharges};
     ghost use Rattle.cbs_clients.specs.UntilClosed.{open_servers, IsOver, RunEnds, RunsTelling, IsWaiting, RunStops, TakesTurnOfRun};
     ghost use Rattle.cbs_clients.specs.Sinks.{Tells};
 
@@ -37,13 +39,36 @@ impl<W: Work, A: Allocator> House<W, A> {
         sink: &mut S,
         idle_turns: u64,
     ) -> Result<(), HouseError>
-        ensures ends { RunEnds W.meaning (max idle_turns 1) self.old result self.new }
+        ensures ends { RunEnds W.meaning NothingBeyond (max idle_turns 1) self.old result self.new }
         ensures steps { ServesOn W.meaning self.old self.new }
         ensures on_time { IsHouseOnTime self.old → IsHouseOnTime self.new }
         ensures rings { rings_of self.new ≡ rings_of self.old }
         ensures told { Tells S.hears self.old self.new sink.old sink.new }
         ensures finished { OnOk result (AllFinished W.meaning self.new) }
-        ensures stops { IfErr result (λ error. RunStops W.meaning error self.old self.new) }
+        ensures stops { IfErr result (λ error. RunStops W.meaning NothingBeyond error self.old self.new) }
+    {
+        self.run_until_closed_metered(rt, sink, &mut NoMeter, idle_turns)
+    }
+
+    /// Takes turns until every server is closed and every job is finished, as
+    /// [`run_until_closed`](House::run_until_closed), with a meter: after each unit its server is charged the ticks that the
+    /// unit took beyond its first, as by [`run_metered`](House::run_metered).
+    ///
+    /// Refuses as [`run_until_closed`](House::run_until_closed).
+    pub fn run_until_closed_metered<R: Clock, S: Sink, M: Meter>(
+        &mut self,
+        rt: &R,
+        sink: &mut S,
+        meter: &mut M,
+        idle_turns: u64,
+    ) -> Result<(), HouseError>
+        ensures ends { RunEnds W.meaning M.may_tell (max idle_turns 1) self.old result self.new }
+        ensures steps { ServesBy W.meaning M.may_tell self.old self.new }
+        ensures on_time { NeverCharges M.may_tell → IsHouseOnTime self.old → IsHouseOnTime self.new }
+        ensures rings { rings_of self.new ≡ rings_of self.old }
+        ensures told { Tells S.hears self.old self.new sink.old sink.new }
+        ensures finished { OnOk result (AllFinished W.meaning self.new) }
+        ensures stops { IfErr result (λ error. RunStops W.meaning M.may_tell error self.old self.new) }
     {
         let most = idle_turns.max(1);
         let mut unclosed = self.open_servers();
@@ -53,7 +78,7 @@ impl<W: Work, A: Allocator> House<W, A> {
             if idle == most {
                 return Err(HouseError::Stalled);
             }
-            if self.move_on(sink, &mut unclosed)? {
+            if self.move_on(sink, meter, &mut unclosed)? {
                 idle = 0;
                 pause = Pause::new();
             } else {
@@ -89,18 +114,23 @@ impl<W: Work, A: Allocator> House<W, A> {
 
     /// Takes a turn, and tells the sink of a completion. Returns whether the clock moved or a server was
     /// closed. `unclosed` is how many servers are open, before and after.
-    fn move_on<S: Sink>(&mut self, sink: &mut S, unclosed: &mut u16) -> Result<bool, HouseError>
+    fn move_on<S: Sink, M: Meter>(
+        &mut self,
+        sink: &mut S,
+        meter: &mut M,
+        unclosed: &mut u16,
+    ) -> Result<bool, HouseError>
         requires unclosed { (unclosed.old ≡ open_servers (core_of self.old)) × (unclosed.old ≤ most_servers) }
-        ensures turn { TakesTurnOfRun W.meaning self.old self.new result }
-        ensures run { RunsTelling W.meaning S.hears self.old self.new sink.old sink.new }
+        ensures turn { TakesTurnOfRun W.meaning M.may_tell self.old self.new result }
+        ensures run { RunsTelling W.meaning M.may_tell S.hears self.old self.new sink.old sink.new }
         ensures on { ((core_of self.old).clock ≤ (core_of self.new).clock) × (open_servers (core_of self.new) ≤ open_servers (core_of self.old)) }
         ensures few { OnOk result (((core_of self.new).clock ≤ LIMIT) × (unclosed.new ≤ most_servers)) }
         ensures unclosed { OnOk result (unclosed.new ≡ open_servers (core_of self.new)) }
         ensures idle { IfOk result (λ moved. moved ≡ false → HoldsNoJob (core_of self.new)) }
-        ensures stops { IfErr result (λ error. RunStops W.meaning error self.old self.new) }
+        ensures stops { IfErr result (λ error. RunStops W.meaning M.may_tell error self.old self.new) }
     {
         let tick = self.now();
-        let turn = self.turn();
+        let turn = self.turn_metered(meter);
         tell(sink, turn.ran);
         stopped_by(turn)?;
         let before = *unclosed;

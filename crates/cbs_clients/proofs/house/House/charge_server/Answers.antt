@@ -1,4 +1,4 @@
-use Rattle.std.proofs.Common.{◌∷◌, [], refl, arith}
+use Rattle.std.proofs.Common.{◌∷◌, [], refl}
 use Rattle.cbs_steps.specs.declared.step.Step.TheVariants.{Charge}
 use Rattle.cbs_clients.proofs.Charged.{charge_made, charge_refused}
 use Rattle.cbs_clients.proofs.HouseInvariant.{housed_all, same_shelf}
@@ -20,6 +20,7 @@ returns-in-Err g c = record {
   made = tt;
   rings = refl;
   results = λ s. refl;
+  jobs = c.charge.ensures.jobs;
   same = record {
     core = c.in-Err.ensures.unchanged;
     rings = refl;
@@ -36,6 +37,7 @@ returns-in-Ok g c =
       made = made_time g.W.Work.meaning old _ (Charge c.args.server c.args.ticks) (λ s. refl) a.makes.state a.makes.on_time refl (λ s. refl);
       rings = refl;
       results = λ s. refl;
+      jobs = a.jobs;
       same = tt;
       refusal = λ M agrees. charge_made _ (c.in-Ok.ensures.makes.reply M agrees);
     }

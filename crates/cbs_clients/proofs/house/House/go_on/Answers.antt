@@ -1,8 +1,11 @@
-use Rattle.std.proofs.Common.{refl, inl, inr}
+use Rattle.std.proofs.Common.{List, ◌∷◌, refl, subst, inl, inr}
 use Rattle.cbs_steps.specs.History.{world_after}
 use Rattle.cbs_steps.specs.declared.step.Step.TheVariants.{Run, Advance}
+use Rattle.cbs_steps.specs.declared.step.Step.{Step}
+use Rattle.cbs_core.specs.Agreement.{Follows}
 use Rattle.cbs_core.proofs.Laws.{run_later, advance_later, busy_by, later_by}
 use Rattle.cbs_clients.proofs.MadeSteps.{on_ok, span_granted}
+use Rattle.cbs_clients.proofs.Metered.{paid_is, unit_later}
 use Rattle.cbs_clients.proofs.Turns.{numbered}
 use Rattle.cbs_clients.proofs.house.House.go_on.Goals as goal
 
@@ -10,15 +13,18 @@ pub returns-in-None-clause-goes_on : goal.returns-in-None-clause-goes_on
 returns-in-None-clause-goes_on g c =
     let work = g.W.Work.meaning in
     let core = c.args.self.now.core in
+    let r = c.run_metered.ensures in
     inl (
       record {
-        made = c.run.ensures.made;
+        paid = r.paid;
+        pays = r.pays;
+        made = r.made;
         useful = λ M agrees. record {
           busy = busy_by work core M agrees c.requires.busy;
           early = rw agrees.world.clock at c.requires.early;
           ready = c.in-None.ensures M agrees;
         };
-        answer = c.run.ensures.reply;
+        answer = r.reply;
       },
       refl,
     )
@@ -27,11 +33,15 @@ pub returns-in-None-clause-later : goal.returns-in-None-clause-later
 returns-in-None-clause-later g c =
     let work = g.W.Work.meaning in
     let old = c.args.self.now in
-    later_by work old.core c.run.new.self.core Run old.housed.history c.run.ensures.made.steps
+    let new = c.run_metered.new.self in
+    let r = c.run_metered.ensures in
+    let is = paid_is g.M.Meter.may_tell old.core.clock c.run_metered.result r.paid r.pays in
+    unit_later work old.core new.core is.0 is.1 old.housed.history
+    (subst (λ (xs : List (Step g.row.W.Denot)). Follows work old.core new.core (Run ∷ xs)) is.2 r.made.steps)
     (λ M agrees. run_later work M.setup.backlog (world_after work M) (c.in-None.ensures M agrees) (rw agrees.world.clock at c.requires.early))
 
 pub returns-in-None-clause-numbered : goal.returns-in-None-clause-numbered
-returns-in-None-clause-numbered g c = numbered g.W.Work.meaning c.args.self.now c.args.self.now.housed c.run.result c.run.ensures.reply
+returns-in-None-clause-numbered g c = numbered g.W.Work.meaning c.args.self.now c.args.self.now.housed c.run_metered.result c.run_metered.ensures.reply
 
 pub returns-in-Some-clause-goes_on : goal.returns-in-Some-clause-goes_on
 returns-in-Some-clause-goes_on g c =

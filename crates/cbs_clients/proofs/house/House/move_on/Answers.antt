@@ -9,7 +9,7 @@ use Rattle.cbs_clients.proofs.house.House.move_on.Goals as goal
 
 pub returns-in_err-stopped_by-clause-run : goal.returns-in_err-stopped_by-clause-run
 returns-in_err-stopped_by-clause-run g c =
-    let t = c.turn-turn in
+    let t = c.turn_metered-turn in
     record {
       steps = t.ensures.steps;
       told = tells_run g.S.Sink.hears t.result.ran c.args.self.now t.new.self c.args.sink.now c.tell.new.sink t.ensures.collects
@@ -18,17 +18,17 @@ returns-in_err-stopped_by-clause-run g c =
 
 pub returns-in_err-stopped_by-clause-on : goal.returns-in_err-stopped_by-clause-on
 returns-in_err-stopped_by-clause-on g c =
-    let t = c.turn-turn in
-    let a = c.args.self.now in (turn_on a t.new.self t.result t.ensures.turn, serves_open a t.new.self t.ensures.steps)
+    let t = c.turn_metered-turn in
+    let a = c.args.self.now in (turn_on g.M.Meter.may_tell a t.new.self t.result t.ensures.turn, serves_open g.M.Meter.may_tell a t.new.self t.ensures.steps)
 
 pub returns-in_err-stopped_by-clause-stops : goal.returns-in_err-stopped_by-clause-stops
 returns-in_err-stopped_by-clause-stops g c =
-    let t = c.turn-turn in
-    told_stops c.args.self.now t.new.self t.result t.ensures.turn c.from_residual.result (search rules)
+    let t = c.turn_metered-turn in
+    told_stops g.M.Meter.may_tell c.args.self.now t.new.self t.result t.ensures.turn c.from_residual.result (search rules)
 
 pub returns-clause-run : goal.returns-clause-run
 returns-clause-run g c =
-    let t = c.turn-turn in
+    let t = c.turn_metered-turn in
     record {
       steps = t.ensures.steps;
       told = tells_run g.S.Sink.hears t.result.ran c.args.self.now t.new.self c.args.sink.now c.tell.new.sink t.ensures.collects
@@ -37,20 +37,20 @@ returns-clause-run g c =
 
 pub returns-clause-on : goal.returns-clause-on
 returns-clause-on g c =
-    let t = c.turn-turn in
-    let a = c.args.self.now in (turn_on a t.new.self t.result t.ensures.turn, serves_open a t.new.self t.ensures.steps)
+    let t = c.turn_metered-turn in
+    let a = c.args.self.now in (turn_on g.M.Meter.may_tell a t.new.self t.result t.ensures.turn, serves_open g.M.Meter.may_tell a t.new.self t.ensures.steps)
 
 pub returns-clause-idle : goal.returns-clause-idle
 returns-clause-idle g c = λ still.
-    let t = c.turn-turn in
+    let t = c.turn_metered-turn in
     let a = c.args.self.now in
     let same : moves_on (core_of a) (core_of t.new.self) ≡ false = search rules in
-    elim (turn_idle a t.new.self t.result t.ensures.turn c.in_ok-stopped_by.ensures) [
+    elim (turn_idle g.M.Meter.may_tell a t.new.self t.result t.ensures.turn c.in_ok-stopped_by.ensures) [
       | inl lt ↦ absurd (false≢true (sym same ∙ moves_later (core_of a) (core_of t.new.self) lt))
       | inr none ↦ none
     ]
 
 pub open_after-requires-clause-still : goal.open_after-requires-clause-still
 open_after-requires-clause-still g c = λ none.
-    let t = c.turn-turn in
-    c.requires.unclosed.0 ∙ sym (still_open c.args.self.now t.new.self t.result t.ensures.turn t.ensures.steps none)
+    let t = c.turn_metered-turn in
+    c.requires.unclosed.0 ∙ sym (still_open g.M.Meter.may_tell c.args.self.now t.new.self t.result t.ensures.turn t.ensures.steps none)

@@ -1,0 +1,206 @@
+-- What a unit is charged, and what its charge leaves.
+use Rattle.std.proofs.Common.{◌≡◌, ℕ, zero, suc, ◌+◌, ◌<◌, ◌≤◌, Bool, true, false, leb, ltb, List, [], ◌∷◌, length, Option, Some, None, Result, Ok, Err, IsOk}
+use Rattle.std.proofs.Common.{refl, ap, sym, ◌∙◌, subst, arith, inl, inr}
+use Rattle.std.specs.Prelude.{if◌then◌else◌}
+use Rattle.std.proofs.lemmas.Bool.{cases_Bool, cases_eq, cases_lt, false≢true}
+use Rattle.std.proofs.lemmas.Bool.Decides.{nat_tests}
+use Rattle.std.proofs.lemmas.List.{get_or_past}
+use Rattle.cbs_job.specs.Work.{Meaning}
+use Rattle.cbs_job.specs.declared.completion.Completion.{Completion}
+use Rattle.cbs_rules.specs.Rules.{clock_end}
+use Rattle.cbs_lists.specs.Lists.{changed_at}
+use Rattle.cbs_steps.specs.Accounts.{Account, face_of, no_account, account_with_charge}
+use Rattle.cbs_steps.specs.Continuations.{◌⊕⊕◌, EachAllowed}
+use Rattle.cbs_steps.specs.Faces.{is_ready}
+use Rattle.cbs_steps.specs.History.{World, History, ◌⊕◌, account, chosen, runner, tick, ticks, after_run, after_charging, charge_refusal, next, run_reply, world_after, reply_in}
+use Rattle.cbs_steps.specs.declared.error.CoreError.{CoreError}
+use Rattle.cbs_steps.specs.declared.reply.Ran.{Ran}
+use Rattle.cbs_steps.specs.declared.reply.Ran.TheVariants as ran
+use Rattle.cbs_steps.specs.declared.reply.Reply.TheVariants as reply
+use Rattle.cbs_steps.specs.declared.step.Step.{Step}
+use Rattle.cbs_steps.specs.declared.step.Step.TheVariants.{Run, Charge}
+use Rattle.cbs_steps.proofs.Histories.{chosen_is_ready}
+use Rattle.cbs_core.specs.Agreement.{Agrees, HasHistory, Follows}
+use Rattle.cbs_core.specs.Held.{CoreHeld, is_running}
+use Rattle.cbs_core.proofs.Running.{runs_run}
+use Rattle.cbs_clients.specs.Errors.{charge_answer}
+use Rattle.cbs_clients.specs.Meters.{NeverCharges, ticks_charged, charge_steps, IsPaid, IsPaidFor, MayCharge, OrCharges}
+use Rattle.cbs_clients.specs.Steps.{messages_of, pops}
+use Rattle.cbs_clients.specs.declared.error.HouseError.{HouseError}
+
+module _ {W : Type 0} where
+  -- a charge takes no message
+  pub charge_messages : (s t n : ℕ) → messages_of {W = W} s (charge_steps t n) ≡ []
+  charge_messages s t zero = refl
+  charge_messages s t (suc n) = refl
+
+  charge_pops : (xs : List (Step W)) (s n : ℕ) → xs ≡ charge_steps s n → pops xs ≡ 0
+  charge_pops xs s zero e = ap pops e
+  charge_pops xs s (suc n) e = ap pops e
+
+  -- what is paid for a run is the charge of some ticks to some server, or of 0 ticks
+  pub paid_is : (may : ℕ → Type 0) (start : ℕ) (told : Ran) (paid : List (Step W)) → IsPaidFor may start told paid
+      → (s : ℕ) × (n : ℕ) × (paid ≡ charge_steps s n)
+  paid_is may start ran.Idle paid p = (0, 0, p)
+  paid_is may start ran.ClockEnd paid p = (0, 0, p)
+  paid_is may start (ran.Unit s q) paid p = (s, ticks_charged start p.beyond, p.charged)
+  paid_is may start (ran.Done c) paid p = (c.server, ticks_charged start p.beyond, p.charged)
+
+  pub paid_messages : (may : ℕ → Type 0) (start : ℕ) (told : Ran) (paid : List (Step W)) (s : ℕ) → IsPaidFor may start told paid → messages_of s paid ≡ []
+  paid_messages may start told paid s p = let is = paid_is may start told paid p in ap (messages_of s) is.2 ∙ charge_messages s is.0 is.1
+
+  pub paid_pops : (may : ℕ → Type 0) (start : ℕ) (told : Ran) (paid : List (Step W)) → IsPaidFor may start told paid → pops paid ≡ 0
+  paid_pops may start told paid p = let is = paid_is may start told paid p in charge_pops paid is.0 is.1 is.2
+
+  -- where a meter never charges, nothing is paid
+  never_unit : (may : ℕ → Type 0) (start s : ℕ) (paid : List (Step W)) → NeverCharges may → IsPaid may start s paid → paid ≡ []
+  never_unit may start s paid never p =
+      let none = never p.beyond p.told in
+      let e : ticks_charged start p.beyond ≡ 0 = omega (arith, none) in
+      p.charged ∙ ap (charge_steps s) e
+
+  pub never_paid : (may : ℕ → Type 0) (start : ℕ) (told : Ran) (paid : List (Step W)) → NeverCharges may → IsPaidFor may start told paid → paid ≡ []
+  never_paid may start ran.Idle paid never p = p
+  never_paid may start ran.ClockEnd paid never p = p
+  never_paid may start (ran.Unit s q) paid never p = never_unit may start s paid never p
+  never_paid may start (ran.Done c) paid never p = never_unit may start c.server paid never p
+
+  -- and no charge is made
+  pub never_charge : (work : Meaning W) (may : ℕ → Type 0) (M : History W) (s n : ℕ) → NeverCharges may → MayCharge work may M s n → ⊥
+  never_charge work may M s n never c =
+      let none = never_paid may (world_after work c.before).now c.told (Charge s n ∷ []) never c.paid in let l = ap length none in omega (arith, l)
+
+  module _ (work : Meaning W) (may : ℕ → Type 0) (P : History W → Step W → Type 0) where
+    -- a charge stands right after its unit
+    unit_stands : (N : History W) (s n : ℕ) (told : Ran) → reply.Ran told ≡ reply_in work N Run
+        → IsPaidFor {W = W} may (world_after work N).now told (charge_steps s n) → EachAllowed (OrCharges work may P) (N ⊕ Run) (charge_steps s n)
+    unit_stands N s zero told answer p = tt
+    unit_stands N s (suc n) told answer p = (record { before = N; told = told; newest = refl; answer = answer; paid = p }, tt)
+
+    pub paid_stands : (N : History W) (told : Ran) (paid : List (Step W)) → reply.Ran told ≡ reply_in work N Run
+        → IsPaidFor may (world_after work N).now told paid → EachAllowed (OrCharges work may P) (N ⊕ Run) paid
+    paid_stands N told paid answer p =
+        let is = paid_is may (world_after work N).now told paid p in
+        subst (EachAllowed (OrCharges work may P) (N ⊕ Run)) (sym is.2)
+        (unit_stands N is.0 is.1 told answer (subst (IsPaidFor may (world_after work N).now told) is.2 p))
+
+-- a run gave a unit to server s, by what it told
+abbrev pub GaveUnit : Ran → ℕ → Type 0
+GaveUnit ran.Idle s = ⊥
+GaveUnit ran.ClockEnd s = ⊥
+GaveUnit (ran.Unit t q) s = t ≡ s
+GaveUnit (ran.Done c) s = c.server ≡ s
+
+gave : (stopped last : Bool) (d : Completion) (t q s : ℕ) (told : Ran) → d.server ≡ t → GaveUnit told s
+    → told ≡ (if stopped then ran.ClockEnd else (if last then ran.Done d else ran.Unit t q)) → (stopped ≡ false) × (t ≡ s)
+gave true last d t q s told e u is = absurd (subst (λ r. GaveUnit r s) is u)
+gave false true d t q s told e u is = (refl, sym e ∙ subst (λ r. GaveUnit r s) is u)
+gave false false d t q s told e u is = (refl, subst (λ r. GaveUnit r s) is u)
+
+module _ {W : Type 0} (work : Meaning W) where
+  -- then it was the chosen one, and the clock was not at its end
+  unit_ran : (w : World W) (o : Option ℕ) (s : ℕ) (told : Ran) → GaveUnit told s → told ≡ run_reply work w o → (o ≡ Some s) × (w.now < clock_end)
+  unit_ran w None s told u is = absurd (subst (λ r. GaveUnit r s) is u)
+  unit_ran w (Some t) s told u is =
+      let k = gave (leb clock_end w.now) _ _ t _ s told refl u is in
+      let f : leb clock_end w.now ≡ false = k.0 in
+      (ap Some k.1, grind (arith, nat_tests))
+
+  -- so the run left what a unit of it leaves
+  unit_next : (backlog : ℕ) (w : World W) (s : ℕ) (told : Ran) → GaveUnit told s → told ≡ run_reply work w (chosen work w)
+      → next work backlog w Run ≡ after_run w (Some s)
+  unit_next backlog w s told u is =
+      let k = unit_ran w (chosen work w) s told u is in
+      let early = k.1 in
+      let t : ltb w.now clock_end ≡ true = grind (arith, nat_tests) in
+      let e : runner work w ≡ Some s = rw t k.0 in
+      ap (after_run w) e
+
+  -- and it is there
+  unit_there : (w : World W) (s : ℕ) (told : Ran) → GaveUnit told s → told ≡ run_reply work w (chosen work w) → s < length w.accounts
+  unit_there w s told u is =
+      let k = unit_ran w (chosen work w) s told u is in
+      elim (cases_lt s (length w.accounts)) [
+        | inl lt ↦ lt
+        | inr ge ↦
+            let none : account w.accounts s ≡ no_account = get_or_past w.accounts s no_account ge in
+            let ready : is_ready (face_of work no_account) ≡ true =
+            sym (ap (λ a. is_ready (face_of work a)) none) ∙ chosen_is_ready work w s k.0 in
+            absurd (false≢true ready)
+      ]
+
+  -- a unit takes one tick, and its server runs then
+  pub unit_takes : (N : History W) (s : ℕ) (told : Ran) → GaveUnit told s → reply.Ran told ≡ reply_in work N Run
+      → ((world_after work (N ⊕ Run)).now ≡ (world_after work N).now + 1) × ((account (world_after work (N ⊕ Run)).accounts s).runs ≡ true)
+  unit_takes N s told u answer =
+      let w = world_after work N in
+      let is : told ≡ run_reply work w (chosen work w) = cc in
+      let e = unit_next N.setup.backlog w s told u is in
+      let one = runs_run w s s (unit_there w s told u is) in
+      (ap (λ (v : World W). v.now) e, ap (λ (v : World W). (account v.accounts s).runs) e ∙ (one ∙ grind (arith, nat_tests)))
+
+module _ {W : Type 0} (work : Meaning W) (old mid : CoreHeld W) (told : Ran) (s : ℕ) (history : HasHistory work old) (follows : Follows work old mid (Run ∷ []))
+    (answer : (M : History W) → Agrees work old M → reply.Ran told ≡ reply_in work M Run) (unit : GaveUnit told s) where
+  -- the same of what cores hold
+  pub unit_clock : mid.clock ≡ old.clock + 1
+  unit_clock = elim (cases_eq mid.clock (old.clock + 1)) [
+    | inl e ↦ e
+    | inr ne ↦ absurd (history (λ M agrees.
+        let now = (unit_takes work M s told unit (answer M agrees)).0 in
+        let a = agrees.world.clock in let b = (follows M agrees).world.clock in ne (omega (arith, now, a, b))))
+  ]
+
+  pub unit_runs : is_running mid s ≡ true
+  unit_runs = elim (cases_Bool (is_running mid s)) [
+    | inl e ↦ e
+    | inr idle ↦ absurd (history (λ M agrees.
+        let runs = (unit_takes work M s told unit (answer M agrees)).1 in false≢true (sym idle ∙ (sym ((follows M agrees).world.runs s) ∙ runs))))
+  ]
+
+module _ {W : Type 0} (work : Meaning W) where
+  -- a charge of the server that runs is granted, if the clock can hold it
+  not_refused : (w : World W) (s n : ℕ) → (account w.accounts s).runs ≡ true → w.now + n ≤ clock_end → charge_refusal w s n ≡ None
+  not_refused w s n runs within = elim (cases_lt s (length w.accounts)) [
+    | inl lt ↦
+        let there : leb (length w.accounts) s ≡ false = grind (arith, nat_tests) in
+        let early : ltb clock_end (w.now + n) ≡ false = grind (arith, nat_tests) in
+        rw (there, runs, early) refl
+    | inr ge ↦
+        let none : account w.accounts s ≡ no_account = get_or_past w.accounts s no_account ge in
+        absurd (false≢true (sym (ap (λ (a : Account W). a.runs) none) ∙ runs))
+  ]
+
+  pub charge_granted : (core : CoreHeld W) (r : Result (Unit {0}) HouseError) (s n : ℕ) → HasHistory work core → is_running core s ≡ true
+      → core.clock + n ≤ clock_end
+      → ((M : History W) → Agrees work core M → r ≡ charge_answer (charge_refusal (world_after work M) s n)) → IsOk r
+  charge_granted core (Ok x) s n history runs within refusal = refl
+  charge_granted core (Err e) s n history runs within refusal = absurd (history (λ M agrees.
+      let w = world_after work M in
+      let clock = agrees.world.clock in
+      let none = not_refused w s n (agrees.world.runs s ∙ runs) (omega (arith, clock, within)) in
+      let is : Err e ≡ charge_answer None = refusal M agrees ∙ ap charge_answer none in cc))
+
+  -- ticks, and charges, move the clock on
+  ticks_now : (n : ℕ) (w : World W) → (ticks n w).now ≡ w.now + n
+  unfolding ticks
+  ticks_now zero w = omega arith
+  ticks_now (suc n) w = let h = ticks_now n (tick w) in omega (arith, h)
+
+  charging_now : (w : World W) (s n : ℕ) (o : Option CoreError) → w.now ≤ (after_charging w s n o).now
+  charging_now w s zero None = omega arith
+  charging_now w s (suc n) None = let e = ticks_now (suc n) (record w { accounts = changed_at (account_with_charge (suc n)) w.accounts s }) in omega (arith, e)
+  charging_now w s n (Some e) = omega arith
+
+  pub paid_now : (N : History W) (s n : ℕ) → (world_after work N).now ≤ (world_after work (N ⊕⊕ charge_steps s n)).now
+  paid_now N s zero = omega arith
+  paid_now N s (suc n) = charging_now (world_after work N) s (suc n) (charge_refusal (world_after work N) s (suc n))
+
+  -- so a unit and its charge move it on
+  pub unit_later : (old new : CoreHeld W) (s n : ℕ) → HasHistory work old → Follows work old new (Run ∷ charge_steps s n)
+      → ((M : History W) → Agrees work old M → (world_after work M).now < (world_after work (M ⊕ Run)).now) → old.clock < new.clock
+  unit_later old new s n history follows later = elim (cases_lt old.clock new.clock) [
+    | inl lt ↦ lt
+    | inr ge ↦ absurd (history (λ M agrees.
+        let a = agrees.world.clock in
+        let b = (follows M agrees).world.clock in let l = later M agrees in let m = paid_now (M ⊕ Run) s n in absurd (omega (arith, a, b, l, m, ge))))
+  ]
