@@ -149,6 +149,10 @@ module _ {W : Type 0} (work : Meaning W) where
   pub drain_quiet : TakesNoTime work (MayDrain work)
   drain_quiet N x p = serve_quiet N x (drain_serves N x p)
 
+  -- serving with a meter that never charges takes nobody's time
+  pub serve_by_quiet : (may : ℕ → Type 0) → NeverCharges may → TakesNoTime work (OrCharges work may (MayServe work))
+  serve_by_quiet may never N x p = serve_quiet N x (never_or work may (MayServe work) never N x p)
+
 module _ {W A : Type 0} {g : Ghosts W} (work : Meaning W) where
   -- serving hands nothing out
   pub serves_handed : (a b : House W A g) → ServesOn work a b → (s : ℕ) → handed_of b s ≡ handed_of a s
@@ -226,5 +230,3 @@ module _ {W : Type 0} (work : Meaning W) where
       → ((M : History W) → Agrees work a M → IsQuietAfter work M x) → IsCoreOnTime a → IsCoreOnTime b
   step_on_time a b x history follows keep quiet = on_time_on work a b (x ∷ []) history follows (λ M agrees. (keep M agrees, tt))
       (λ M agrees. (quiet M agrees, tt))
-
-pub ruleset serving = (serves_none, serves_then, serves_drain, serves_poll, serves_look)

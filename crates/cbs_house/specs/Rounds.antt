@@ -15,44 +15,79 @@ use Rattle.cbs_clients.specs.Clients.{server_of, sent_by, AreOpened}
 use Rattle.cbs_house.specs.Feeds.{client_of, IsDone, all_jobs}
 use Rattle.cbs_clients.specs.Houses.{core_of, rings_of, received, known, results_of, handed_of, Made}
 use Rattle.cbs_core.specs.Held.{HoldsNoJob, IsAtEnd, IsClosed}
+use Rattle.cbs_clients.specs.Meters.{NeverCharges, IsPaidFor}
 use Rattle.cbs_clients.specs.Steps.{pops}
-use Rattle.cbs_core.specs.Agreement.{AllAllowed, AllOnTime}
+use Rattle.cbs_core.specs.Agreement.{Agrees, AllAllowed, AllOnTime}
+use Rattle.cbs_steps.specs.Continuations.{◌⊕⊕◌}
+use Rattle.cbs_steps.specs.History.{History, world_after, reply_in}
 use Rattle.cbs_steps.specs.Quiet.{IsQuietAfter}
+use Rattle.cbs_steps.specs.declared.reply.Ran.{Ran}
+use Rattle.cbs_steps.specs.declared.reply.Reply.TheVariants as reply
 use Rattle.cbs_steps.specs.declared.step.Step.{Step}
 use Rattle.cbs_steps.specs.declared.step.Step.TheVariants.{Run}
 use Rattle.cbs_clients.specs.Turns.{ArePolls}
 
+-- one turn of a round: the messages that its polls took, when its run began, what that told, and the steps that paid for it
+pub record RoundTurn (W : Type 0) : Type 0 where
+  pub polls : List (Step W)
+  pub start : ℕ
+  pub told : Ran
+  pub paid : List (Step W)
+
 module _ {W : Type 0} where
-  -- the steps of turns with these polls: after the polls of each turn, one run
-  abbrev pub steps_in : List (List (Step W)) → List (Step W)
+  -- the steps of a turn: those of its polls, and then one run, which is paid for
+  abbrev pub turn_steps : RoundTurn W → List (Step W)
+  turn_steps t = t.polls ++ Run ∷ t.paid
+
+  -- the steps of turns, one after another
+  abbrev pub steps_in : List (RoundTurn W) → List (Step W)
   steps_in [] = []
-  steps_in (polls ∷ turns) = polls ++ Run ∷ steps_in turns
+  steps_in (t ∷ ts) = turn_steps t ++ steps_in ts
+
+  -- a turn of so many servers with a meter that may tell so: each server was polled once, in the order of their numbers, and the
+  -- unit that ran then was paid for, if one ran
+  pub record IsTurn (may : ℕ → Type 0) (servers : ℕ) (t : RoundTurn W) : Type 0 where
+    pub polls : ArePolls 0 servers t.polls
+    pub pays : IsPaidFor may t.start t.told t.paid
+
+  -- the run of a turn that was taken after M began at that tick, and told what the rules give
+  pub record RunsAfter (work : Meaning W) (M : History W) (t : RoundTurn W) : Type 0 where
+    pub start : t.start ≡ (world_after work (M ⊕⊕ t.polls)).now
+    pub answer : reply.Ran t.told ≡ reply_in work (M ⊕⊕ t.polls) Run
+
+  -- so did the runs of turns that were taken one after another
+  abbrev pub EachRuns : Meaning W → History W → List (RoundTurn W) → Type 0
+  EachRuns work M [] = Unit {0}
+  EachRuns work M (t ∷ ts) = RunsAfter work M t × EachRuns work (M ⊕⊕ turn_steps t) ts
 
 module _ {W A : Type 0} {g : Ghosts W} where
-  -- the house took one turn, which took n messages: it polled each server once, in the order of their numbers, and then ran
-  pub record TakesTurn (work : Meaning W) (old new : House W A g) (n : ℕ) : Type 0 where
-    pub polls : List (Step W)
-    pub each : ArePolls 0 (length (core_of old).faces) polls
-    pub made : Made work old new (polls ++ Run ∷ [])
-    pub count : pops polls ≡ n
+  -- the house took one turn with a meter that may tell so; the turn took n messages
+  pub record TakesTurn (work : Meaning W) (may : ℕ → Type 0) (old new : House W A g) (n : ℕ) : Type 0 where
+    pub turn : RoundTurn W
+    pub is : IsTurn may (length (core_of old).faces) turn
+    pub runs : (M : History W) → Agrees work (core_of old) M → RunsAfter work M turn
+    pub made : Made work old new (turn_steps turn)
+    pub count : pops turn.polls ≡ n
 
   -- the house took this many turns, one after another, which took n messages
-  pub record TakesExactly (work : Meaning W) (exactly : ℕ) (old new : House W A g) (n : ℕ) : Type 0 where
-    pub polls : List (List (Step W))
-    pub each : AllByRecursion (λ xs. ArePolls 0 (length (core_of old).faces) xs) polls
-    pub made : Made work old new (steps_in polls)
-    pub turns : length polls ≡ exactly
-    pub count : pops (steps_in polls) ≡ n
+  pub record TakesExactly (work : Meaning W) (may : ℕ → Type 0) (exactly : ℕ) (old new : House W A g) (n : ℕ) : Type 0 where
+    pub turns : List (RoundTurn W)
+    pub each : AllByRecursion (IsTurn may (length (core_of old).faces)) turns
+    pub runs : (M : History W) → Agrees work (core_of old) M → EachRuns work M turns
+    pub made : Made work old new (steps_in turns)
+    pub number : length turns ≡ exactly
+    pub count : pops (steps_in turns) ≡ n
 
   -- The house took turns, which took n messages: at most so many turns, and fewer only where all these servers are closed. They
-  -- make no advance, so from a house that is on time each step of theirs leaves all on time.
-  pub record TakesTurns (work : Meaning W) (most : ℕ) (servers : List ℕ) (old new : House W A g) (n : ℕ) : Type 0 where
+  -- make no advance, so if the meter never charges, no step of theirs takes anybody's time, and from a house that is on time each
+  -- leaves all on time.
+  pub record TakesTurns (work : Meaning W) (may : ℕ → Type 0) (most : ℕ) (servers : List ℕ) (old new : House W A g) (n : ℕ) : Type 0 where
     pub turns : ℕ
     pub within : turns ≤ most
     pub fewer : turns < most → All (IsClosed (core_of new)) servers
-    pub taken : TakesExactly work turns old new n
-    pub quiet : AllAllowed work (IsQuietAfter work) (core_of old) (steps_in taken.polls)
-    pub on_time : AllOnTime work (core_of old) (steps_in taken.polls)
+    pub taken : TakesExactly work may turns old new n
+    pub quiet : NeverCharges may → AllAllowed work (IsQuietAfter work) (core_of old) (steps_in taken.turns)
+    pub on_time : NeverCharges may → AllOnTime work (core_of old) (steps_in taken.turns)
 
 module _ {W A : Type 0} {g : Ghosts W} where
   -- feeds that may be served by the house: at most 64, each with a client that was opened with the house

@@ -9,11 +9,11 @@ mod senders;
 mod service;
 
 pub use cbs_clients::{
-    Client, Gate, House, HouseError, MAX_RING, Message, NoSink, OpenGate, Poll, SendError,
-    SendRefused, Sink, Turn, open_house,
+    Client, ClockMeter, Gate, House, HouseError, MAX_RING, Message, Meter, NoMeter, NoSink,
+    OpenGate, Poll, SendError, SendRefused, Sink, Turn, open_house,
 };
 pub use cbs_results::{CollectError, Collector};
 pub use feed::{Feed, FeedsRefused, feeds_of};
 pub use open::{OpenRefused, open_feeds};
-pub use round::{Round, serve_round};
-pub use service::serve;
+pub use round::{Round, serve_round, serve_round_metered};
+pub use service::{serve, serve_metered};

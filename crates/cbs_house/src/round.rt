@@ -5,6 +5,7 @@ ghost use Rattle.std.specs.List.{All};
 ghost use Rattle.std.specs.Thread.{IsSync, IsSend};
 ghost use Rattle.cbs_house.specs.Feeds.{KeepsFeeds, EachSendsAtMost, SendsFeeds, servers_of, all_sent};
 ghost use Rattle.cbs_clients.specs.Houses.{core_of, IsHouseOnTime};
+ghost use Rattle.cbs_clients.specs.Meters.{NothingBeyond, NeverCharges};
 ghost use Rattle.cbs_core.specs.Held.{IsClosed};
 ghost use Rattle.cbs_house.specs.Rounds.{Ready, TakesTurn, TakesTurns};
 ghost use Rattle.cbs_rate.specs.Limits.{most_servers};
@@ -12,7 +13,7 @@ ghost use Rattle.cbs_rate.specs.Limits.{most_servers};
 use crate::at_work::AtWork;
 use crate::feed::Feed;
 use crate::senders::send_all;
-use cbs_clients::{Gate, House, Pause, poll_each};
+use cbs_clients::{Gate, House, Meter, NoMeter, Pause, poll_each};
 use cbs_job::Work;
 use std::thread::{Threads, join_mut};
 use std::time::Clock;
@@ -54,14 +55,41 @@ pub fn serve_round<R: Threads + Clock + Sync, G: Gate + Sync, W: Work + Send>(
     ensures each { EachSendsAtMost turns feeds.old feeds.new }
     ensures sent { all_sent feeds.new ≡ all_sent feeds.old + result.sent }
     ensures most { result.sent ≤ turns * length feeds.old }
-    ensures took { TakesTurns W.meaning turns (servers_of feeds.old) house.old house.new result.took }
+    ensures took { TakesTurns W.meaning NothingBeyond turns (servers_of feeds.old) house.old house.new result.took }
     ensures on_time { IsHouseOnTime house.old → IsHouseOnTime house.new }
+    ensures few { result.took ≤ turns * length (core_of house.old).faces }
+{
+    serve_round_metered(rt, house, feeds, turns, gate, &mut NoMeter)
+}
+
+/// Lets the senders of all feeds and the house take turns, all at once, as [`serve_round`], with a meter: after each unit
+/// its server is charged the ticks that the unit took beyond its first, as by [`House::run_metered`].
+///
+/// The meter is asked on the thread that calls. There are at most 64 feeds, each with a client that was opened with this
+/// house; `turns` is at most 1000000000.
+pub fn serve_round_metered<R: Threads + Clock + Sync, G: Gate + Sync, W: Work + Send, M: Meter>(
+    rt: &R,
+    house: &mut House<W>,
+    feeds: &mut [Feed<W>],
+    turns: u64,
+    gate: &G,
+    meter: &mut M,
+) -> Round
+    requires ready { Ready house.old feeds.old }
+    requires turns { turns ≤ 1000000000 }
+    ensures ready { Ready house.new feeds.new }
+    ensures feeds { KeepsFeeds feeds.old feeds.new }
+    ensures each { EachSendsAtMost turns feeds.old feeds.new }
+    ensures sent { all_sent feeds.new ≡ all_sent feeds.old + result.sent }
+    ensures most { result.sent ≤ turns * length feeds.old }
+    ensures took { TakesTurns W.meaning M.may_tell turns (servers_of feeds.old) house.old house.new result.took }
+    ensures on_time { NeverCharges M.may_tell → IsHouseOnTime house.old → IsHouseOnTime house.new }
     ensures few { result.took ≤ turns * length (core_of house.old).faces }
 {
     let mut servers = [0u16; 64];
     let wanted = servers_of(feeds, &mut servers);
     let at_work = AtWork::all(feeds.len() as u64);
-    let (sent, took) = both_sides(rt, gate, turns, wanted, &at_work, feeds, house);
+    let (sent, took) = both_sides(rt, gate, turns, wanted, &at_work, feeds, house, meter);
     Round { sent, took }
 }
 
@@ -78,7 +106,7 @@ fn servers_of<'a, W: Work>(feeds: &[Feed<W>], servers: &'a mut [u16; 64]) -> &'a
 
 // The two sides at once: the senders, and the house. A function of its own, so that what its
 // closures require is what it is given.
-fn both_sides<R: Threads + Clock + Sync, G: Gate + Sync, W: Work + Send>(
+fn both_sides<R: Threads + Clock + Sync, G: Gate + Sync, W: Work + Send, M: Meter>(
     rt: &R,
     gate: &G,
     turns: u64,
@@ -86,13 +114,14 @@ fn both_sides<R: Threads + Clock + Sync, G: Gate + Sync, W: Work + Send>(
     at_work: &AtWork,
     feeds: &mut [Feed<W>],
     house: &mut House<W>,
+    meter: &mut M,
 ) -> (u64, u64)
     requires few { length feeds.old ≤ most_servers }
     requires turns { turns ≤ 1000000000 }
     ensures sends { SendsFeeds turns feeds.old feeds.new }
     ensures sent { all_sent feeds.new ≡ all_sent feeds.old + result.0 }
     ensures most { result.0 ≤ turns * length feeds.old }
-    ensures took { TakesTurns W.meaning turns wanted.now house.old house.new result.1 }
+    ensures took { TakesTurns W.meaning M.may_tell turns wanted.now house.old house.new result.1 }
     ensures few { result.1 ≤ turns * length (core_of house.old).faces }
 {
     join_mut(
@@ -103,9 +132,9 @@ fn both_sides<R: Threads + Clock + Sync, G: Gate + Sync, W: Work + Send>(
         { send_all(rt, gate, turns, at_work, feeds) },
         &mut || -> u64
             requires { turns ≤ 1000000000 }
-            ensures { TakesTurns W.meaning turns wanted.entry.now house.entry.now house.exit.now result × (result ≤ turns * length (core_of house.entry.now).faces) }
+            ensures { TakesTurns W.meaning M.may_tell turns wanted.entry.now house.entry.now house.exit.now result × (result ≤ turns * length (core_of house.entry.now).faces) }
         {
-            let took = house_turns(rt, gate, turns, wanted, at_work, house);
+            let took = house_turns(rt, gate, turns, wanted, at_work, house, meter);
             at_work.house_leaves();
             took
         },
@@ -114,16 +143,17 @@ fn both_sides<R: Threads + Clock + Sync, G: Gate + Sync, W: Work + Send>(
 
 /// The turns of the house, until the wanted servers are closed. After those that take no message it rests, while a
 /// sender is at work. Returns how many messages it took.
-fn house_turns<R: Clock, G: Gate, W: Work>(
+fn house_turns<R: Clock, G: Gate, W: Work, M: Meter>(
     rt: &R,
     gate: &G,
     turns: u64,
     wanted: &[u16],
     at_work: &AtWork,
     house: &mut House<W>,
+    meter: &mut M,
 ) -> u64
     requires { turns ≤ 1000000000 }
-    ensures turns { TakesTurns W.meaning turns wanted.now house.old house.new result }
+    ensures turns { TakesTurns W.meaning M.may_tell turns wanted.now house.old house.new result }
     ensures few { result ≤ turns * length (core_of house.old).faces }
 {
     let mut took = 0;
@@ -133,7 +163,7 @@ fn house_turns<R: Clock, G: Gate, W: Work>(
             break;
         }
         let tick = house.now();
-        let taken = house_turn(gate, house);
+        let taken = house_turn(gate, house, meter);
         took += taken;
         if taken > 0 {
             pause.moved();
@@ -153,13 +183,13 @@ fn all_closed<W: Work>(house: &House<W>, servers: &[u16]) -> bool
     servers.iter().all(|server| house.is_closed(*server))
 }
 
-/// One turn of the house: it polls each server once, and runs once. How many messages it took.
-fn house_turn<G: Gate, W: Work>(gate: &G, house: &mut House<W>) -> u64
-    ensures turn { TakesTurn W.meaning house.old house.new result }
+/// One turn of the house: it polls each server once, and runs once, and pays for the unit. How many messages it took.
+fn house_turn<G: Gate, W: Work, M: Meter>(gate: &G, house: &mut House<W>, meter: &mut M) -> u64
+    ensures turn { TakesTurn W.meaning M.may_tell house.old house.new result }
     ensures few { result ≤ length (core_of house.old).faces }
     ensures most { result ≤ most_servers }
 {
     let polls = poll_each(gate, house);
-    house.run();
+    house.run_metered(meter);
     polls.took
 }

@@ -3,15 +3,16 @@
 ghost use Rattle.std.specs.Prelude.{ℕ, suc, ◌≡◌, ◌≢◌, ◌+◌, ◌≤◌, ◌↔◌, true, length, IsTrue, IfOk, OnOk, IfErr, MatchResult};
 ghost use Rattle.std.specs.List.{All};
 ghost use Rattle.cbs_house.specs.Feeds.{IsDone, KeepsFeed, KeepsFeeds, all_unsent};
-ghost use Rattle.cbs_clients.specs.Houses.{core_of, rings_of, IsHouseOnTime, LooksOnly, ServesOn};
+ghost use Rattle.cbs_clients.specs.Houses.{core_of, rings_of, IsHouseOnTime, LooksOnly, ServesOn, ServesBy};
+ghost use Rattle.cbs_clients.specs.Meters.{NeverCharges};
 ghost use Rattle.cbs_core.specs.Held.{HoldsNoJob};
 ghost use Rattle.cbs_clients.specs.Clients.{IsOpened};
 ghost use Rattle.cbs_house.specs.Rounds.{Ready, Standing, IsTaken, IsSettled, IsServed, Halts, Stops};
 ghost use Rattle.cbs_rate.specs.Limits.{most_servers};
 
 use crate::feed::Feed;
-use crate::round::serve_round;
-use cbs_clients::{Client, Gate, House, HouseError, Poll};
+use crate::round::serve_round_metered;
+use cbs_clients::{Client, Gate, House, HouseError, Meter, NoMeter, Poll};
 use cbs_job::Work;
 use std::thread::Threads;
 use std::time::Clock;
@@ -49,9 +50,33 @@ pub fn serve<R: Threads + Clock + Sync, G: Gate + Sync, W: Work + Send>(
     ensures drained { OnOk result (HoldsNoJob (core_of house.new)) }
     ensures stops { IfErr result (λ error. Stops error house.new feeds.new) }
 {
+    serve_metered(rt, house, feeds, gate, &mut NoMeter)
+}
+
+/// Serves the feeds until each is done and all its jobs are finished, as [`serve`], with a meter: after each unit its
+/// server is charged the ticks that the unit took beyond its first, as by [`House::run_metered`].
+///
+/// The meter is asked on the thread that calls. Refuses as [`serve`]. There are at most 64 feeds, each with a client that
+/// was opened with this house.
+pub fn serve_metered<R: Threads + Clock + Sync, G: Gate + Sync, W: Work + Send, M: Meter>(
+    rt: &R,
+    house: &mut House<W>,
+    feeds: &mut [Feed<W>],
+    gate: &G,
+    meter: &mut M,
+) -> Result<(), HouseError>
+    requires ready { Ready house.old feeds.old }
+    ensures ready { Ready house.new feeds.new }
+    ensures feeds { KeepsFeeds feeds.old feeds.new }
+    ensures steps { ServesBy W.meaning M.may_tell house.old house.new }
+    ensures on_time { NeverCharges M.may_tell → IsHouseOnTime house.old → IsHouseOnTime house.new }
+    ensures served { OnOk result (All (IsServed W.meaning house.new) feeds.new) }
+    ensures drained { OnOk result (HoldsNoJob (core_of house.new)) }
+    ensures stops { IfErr result (λ error. Stops error house.new feeds.new) }
+{
     for _ in 0..rounds_for(feeds) {
-        serve_round(rt, house, feeds, TURNS, gate);
-        if finish_round(house, feeds)? {
+        serve_round_metered(rt, house, feeds, TURNS, gate, meter);
+        if finish_round(house, feeds, meter)? {
             return Ok(());
         }
     }
@@ -74,63 +99,78 @@ fn rounds_for<W: Work>(feeds: &[Feed<W>]) -> u128
 }
 
 /// Takes and finishes what a round left. Whether all is served.
-fn finish_round<W: Work>(house: &mut House<W>, feeds: &mut [Feed<W>]) -> Result<bool, HouseError>
+fn finish_round<W: Work, M: Meter>(
+    house: &mut House<W>,
+    feeds: &mut [Feed<W>],
+    meter: &mut M,
+) -> Result<bool, HouseError>
     requires ready { Ready house.old feeds.old }
     ensures ready { Ready house.new feeds.new }
     ensures feeds { KeepsFeeds feeds.old feeds.new }
-    ensures steps { ServesOn W.meaning house.old house.new }
+    ensures steps { ServesBy W.meaning M.may_tell house.old house.new }
     ensures drained { OnOk result (HoldsNoJob (core_of house.new)) }
     ensures settled { OnOk result (All (IsSettled house.new) feeds.new) }
     ensures done { IfOk result (λ all. IsTrue all ↔ All IsDone feeds.new) }
     ensures halts { IfErr result (λ error. Halts error house.new) }
 {
-    take_rest(house, feeds)?;
-    house.drain()?;
+    take_rest(house, feeds, meter)?;
+    house.drain_metered(meter)?;
     settle_all(house, feeds);
     Ok(all_done(feeds))
 }
 
 /// Takes what stands in the rings of the feeds.
-fn take_rest<W: Work>(house: &mut House<W>, feeds: &mut [Feed<W>]) -> Result<(), HouseError>
+fn take_rest<W: Work, M: Meter>(
+    house: &mut House<W>,
+    feeds: &mut [Feed<W>],
+    meter: &mut M,
+) -> Result<(), HouseError>
     requires ready { Ready house.old feeds.old }
     ensures ready { Ready house.new feeds.new }
     ensures feeds { KeepsFeeds feeds.old feeds.new }
-    ensures steps { ServesOn W.meaning house.old house.new }
+    ensures steps { ServesBy W.meaning M.may_tell house.old house.new }
     ensures taken { OnOk result (All (IsTaken house.new) feeds.new) }
     ensures halts { IfErr result (λ error. Halts error house.new) }
 {
     for index in 0..feeds.len() {
-        take_ring(house, &mut feeds[index])?;
+        take_ring(house, &mut feeds[index], meter)?;
     }
     Ok(())
 }
 
 /// Takes what stands in the ring of one feed.
-fn take_ring<W: Work>(house: &mut House<W>, feed: &mut Feed<W>) -> Result<(), HouseError>
+fn take_ring<W: Work, M: Meter>(
+    house: &mut House<W>,
+    feed: &mut Feed<W>,
+    meter: &mut M,
+) -> Result<(), HouseError>
     requires opened { IsOpened (rings_of house.old) feed.old.client }
     ensures feed { KeepsFeed feed.old feed.new }
-    ensures steps { ServesOn W.meaning house.old house.new }
+    ensures steps { ServesBy W.meaning M.may_tell house.old house.new }
     ensures taken { OnOk result (IsTaken house.new feed.new) }
     ensures halts { IfErr result (λ error. Halts error house.new) }
 {
     for _ in 0..settle_feed(house, feed) {
-        take_message(house, &feed.client)?;
+        take_message(house, &feed.client, meter)?;
     }
     Ok(())
 }
 
 /// Takes the next message of a client, and drains first where the backlog of its server is full.
-#[tactic(auto, using(cbs_clients::proofs::Moves::serving))]
-fn take_message<W: Work>(house: &mut House<W>, client: &Client<W>) -> Result<(), HouseError>
+fn take_message<W: Work, M: Meter>(
+    house: &mut House<W>,
+    client: &Client<W>,
+    meter: &mut M,
+) -> Result<(), HouseError>
     requires opened { IsOpened (rings_of house.old) client.now }
-    ensures steps { ServesOn W.meaning house.old house.new }
+    ensures steps { ServesBy W.meaning M.may_tell house.old house.new }
     ensures taken { OnOk result ((n : ℕ) → Standing house.old client.now (suc n) → Standing house.new client.now n) }
     ensures halts { IfErr result (λ error. Halts error house.new) }
 {
     let server = client.server();
     match house.poll(server) {
         Poll::Full => {
-            house.drain()?;
+            house.drain_metered(meter)?;
             memory_for(house.poll(server))
         }
         poll => memory_for(poll),

@@ -4,7 +4,7 @@ use Rattle.cbs_clients.proofs.PolledServers.{same_servers}
 use Rattle.cbs_house.proofs.round.house_turns.Goals as goal
 
 pub loop-init : goal.loop-init
-loop-init g c = record { taken = turns_none g.W.Work.meaning c.args.house.now; few = omega arith; most = omega arith }
+loop-init g c = record { taken = turns_none g.W.Work.meaning g.M.Meter.may_tell c.args.house.now; few = omega arith; most = omega arith }
 
 pub loop-preserved : goal.loop-preserved
 loop-preserved g c =
@@ -14,7 +14,7 @@ loop-preserved g c =
     let t = c.house_turn-taken in
     let same = same_servers work old l.house old.housed l.house.housed l.invariant.taken.made.rings in
     record {
-      taken = turns_next work old l.house t.new.house l.counter l.took t.result same l.invariant.taken t.ensures.turn;
+      taken = turns_next work g.M.Meter.may_tell old l.house t.new.house l.counter l.took t.result same l.invariant.taken t.ensures.turn;
       few = omega (arith, l.invariant.few, t.ensures.few, same);
       most = omega (arith, l.invariant.most, t.ensures.most);
     }
@@ -22,11 +22,11 @@ loop-preserved g c =
 pub returns-then-all_closed-clause-turns : goal.returns-then-all_closed-clause-turns
 returns-then-all_closed-clause-turns g c =
     let l = c.loop in
-    turns_within g.W.Work.meaning c.args.turns l.counter c.args.wanted.now c.args.house.now l.house l.took (omega arith)
+    turns_within g.W.Work.meaning g.M.Meter.may_tell c.args.turns l.counter c.args.wanted.now c.args.house.now l.house l.took (omega arith)
     (λ fewer. c.all_closed.ensures.0 c.if-all_closed.true) l.invariant.taken
 
 pub returns-after-loop-clause-turns : goal.returns-after-loop-clause-turns
 returns-after-loop-clause-turns g c =
     let l = c.loop in
-    turns_within g.W.Work.meaning c.args.turns l.counter c.args.wanted.now c.args.house.now l.house l.took (omega arith)
+    turns_within g.W.Work.meaning g.M.Meter.may_tell c.args.turns l.counter c.args.wanted.now c.args.house.now l.house l.took (omega arith)
     (λ fewer. absurd (omega (arith, fewer))) l.invariant.taken

@@ -6,7 +6,7 @@ use Rattle.cbs_house.proofs.round.house_turns.Given as goal
 abbrev pub invariant-loop : goal.invariant-loop
 invariant-loop g l =
     record {
-      taken : TakesExactly g.W.Work.meaning l.counter l.initial.house l.house l.took;
+      taken : TakesExactly g.W.Work.meaning g.M.Meter.may_tell l.counter l.initial.house l.house l.took;
       few : l.took ≤ l.counter * length (core_of l.initial.house).faces;
       most : l.took ≤ 64 * l.counter;
     }

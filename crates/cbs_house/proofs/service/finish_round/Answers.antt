@@ -5,20 +5,20 @@ use Rattle.cbs_clients.proofs.Moves.{serves_drained, serves_looked}
 use Rattle.cbs_house.proofs.StandingMessages.{all_taken_after}
 use Rattle.cbs_house.proofs.service.finish_round.Goals as goal
 
-pub returns-in_err-drain-clause-steps : goal.returns-in_err-drain-clause-steps
-returns-in_err-drain-clause-steps g c = serves_drained g.W.Work.meaning c.args.house.now c.take_rest.new.house c.drain.new.self
-    c.take_rest.ensures.steps c.drain.ensures.moves
+pub returns-in_err-drain_metered-clause-steps : goal.returns-in_err-drain_metered-clause-steps
+returns-in_err-drain_metered-clause-steps g c = serves_drained g.W.Work.meaning g.M.Meter.may_tell c.args.house.now c.take_rest.new.house c.drain_metered.new.self
+    c.take_rest.ensures.steps c.drain_metered.ensures.moves
 
 pub settle_all-requires-clause-taken : goal.settle_all-requires-clause-taken
 settle_all-requires-clause-taken g c =
     let a = c.take_rest.new.house in
-    let b = c.drain.new.self in
-    all_taken_after a b c.take_rest.new.feeds (λ s. prefix_same (received a s) (received b s) (c.drain.ensures.received s)) c.in_ok-take_rest.ensures.taken
+    let b = c.drain_metered.new.self in
+    all_taken_after a b c.take_rest.new.feeds (λ s. prefix_same (received a s) (received b s) (c.drain_metered.ensures.received s)) c.in_ok-take_rest.ensures.taken
 
 pub returns-clause-steps : goal.returns-clause-steps
 returns-clause-steps g c =
-    let drained = serves_drained g.W.Work.meaning c.args.house.now c.take_rest.new.house c.drain.new.self c.take_rest.ensures.steps c.drain.ensures.moves in
-    serves_looked g.W.Work.meaning c.args.house.now c.drain.new.self c.settle_all.new.house drained c.settle_all.ensures.looked
+    let drained = serves_drained g.W.Work.meaning g.M.Meter.may_tell c.args.house.now c.take_rest.new.house c.drain_metered.new.self c.take_rest.ensures.steps c.drain_metered.ensures.moves in
+    serves_looked g.W.Work.meaning g.M.Meter.may_tell c.args.house.now c.drain_metered.new.self c.settle_all.new.house drained c.settle_all.ensures.looked
 
 pub returns-clause-feeds : goal.returns-clause-feeds
 returns-clause-feeds g c = feeds_on c.args.feeds.now c.take_rest.new.feeds c.settle_all.new.feeds c.take_rest.ensures.feeds c.settle_all.ensures.feeds

@@ -6,45 +6,53 @@ use Rattle.cbs_clients.proofs.Moves.{serves_then, serves_poll, serves_drain}
 use Rattle.cbs_house.proofs.StandingMessages.{answered_ok, poll_takes, not_full, standing_looked, standing_moved}
 use Rattle.cbs_house.proofs.service.take_message.Goals as goal
 
-pub returns-in_err-drain-in-Full-clause-steps : goal.returns-in_err-drain-in-Full-clause-steps
-returns-in_err-drain-in-Full-clause-steps g c =
+pub returns-in_err-drain_metered-in-Full-clause-steps : goal.returns-in_err-drain_metered-in-Full-clause-steps
+returns-in_err-drain_metered-in-Full-clause-steps g c =
     let work = g.W.Work.meaning in
+    let may = g.M.Meter.may_tell in
     let h = c.args.house.now in
-    serves_then work h c.poll.new.self c.drain.new.self (serves_poll work h c.poll.new.self c.server-server.result c.poll.result c.poll.ensures.polled)
-    (serves_drain work c.poll.new.self c.drain.new.self 0 c.drain.ensures.moves)
+    serves_then work may h c.poll.new.self c.drain_metered.new.self (serves_poll work may h c.poll.new.self c.server-server.result c.poll.result c.poll.ensures.polled)
+    (serves_drain work may c.poll.new.self c.drain_metered.new.self 0 c.drain_metered.ensures.moves)
 
-pub returns-in_ok-drain-in-Full-clause-steps : goal.returns-in_ok-drain-in-Full-clause-steps
-returns-in_ok-drain-in-Full-clause-steps g c =
+pub returns-in_ok-drain_metered-in-Full-clause-steps : goal.returns-in_ok-drain_metered-in-Full-clause-steps
+returns-in_ok-drain_metered-in-Full-clause-steps g c =
     let work = g.W.Work.meaning in
+    let may = g.M.Meter.may_tell in
     let h = c.args.house.now in
     let s = c.server-server.result in
     let p = c.poll-in-Full in
-    serves_then work h c.drain.new.self p.new.self
-    (serves_then work h c.poll.new.self c.drain.new.self (serves_poll work h c.poll.new.self s c.poll.result c.poll.ensures.polled)
-    (serves_drain work c.poll.new.self c.drain.new.self 0 c.drain.ensures.moves))
-    (serves_poll work c.drain.new.self p.new.self s p.result p.ensures.polled)
+    serves_then work may h c.drain_metered.new.self p.new.self
+    (serves_then work may h c.poll.new.self c.drain_metered.new.self (serves_poll work may h c.poll.new.self s c.poll.result c.poll.ensures.polled)
+    (serves_drain work may c.poll.new.self c.drain_metered.new.self 0 c.drain_metered.ensures.moves))
+    (serves_poll work may c.drain_metered.new.self p.new.self s p.result p.ensures.polled)
+
+pub returns-in_default-clause-steps : goal.returns-in_default-clause-steps
+returns-in_default-clause-steps g c =
+    serves_poll g.W.Work.meaning g.M.Meter.may_tell c.args.house.now c.poll.new.self c.server-server.result c.poll.result c.poll.ensures.polled
 
 -- the first poll found the backlog full; behind the drain the second takes the message
-pub returns-in_ok-drain-in-Full-clause-taken : goal.returns-in_ok-drain-in-Full-clause-taken
-returns-in_ok-drain-in-Full-clause-taken g c =
+pub returns-in_ok-drain_metered-in-Full-clause-taken : goal.returns-in_ok-drain_metered-in-Full-clause-taken
+returns-in_ok-drain_metered-in-Full-clause-taken g c =
     let work = g.W.Work.meaning in
+    let may = g.M.Meter.may_tell in
     let h = c.args.house.now in
     let client = c.args.client.now in
     let a = c.poll.new.self in
-    let b = c.drain.new.self in
+    let b = c.drain_metered.new.self in
     let p = c.poll-in-Full in
     let polled = subst (λ s. Polled work b s p.result p.new.self) c.server-server.ensures p.ensures.polled in
-    let opened = opened_moved h b client (c.drain.ensures.rings ∙ c.poll.ensures.rings) c.requires.opened in
+    let opened = opened_moved h b client (c.drain_metered.ensures.rings ∙ c.poll.ensures.rings) c.requires.opened in
     answered_ok c.memory_for.result _ _ c.memory_for.ensures
     (λ memory n standing.
     poll_takes work b p.new.self client p.result b.housed client.last opened polled memory
-    (not_full work b p.new.self c.server-server.result p.result b.housed c.in_ok-drain-in-Full.ensures.ok p.ensures.polled) n
-    (standing_moved work (MayDrain work) a b client (suc n) c.drain.ensures.moves
+    (not_full work b p.new.self c.server-server.result p.result b.housed c.in_ok-drain_metered-in-Full.ensures.ok p.ensures.polled) n
+    (standing_moved work may (MayDrain work) a b client (suc n) c.drain_metered.ensures.moves
     (standing_looked work h a client (suc n) c.in-Full.ensures.polled.0 standing)))
 
 pub returns-in_default-clause-taken : goal.returns-in_default-clause-taken
 returns-in_default-clause-taken g c =
     let work = g.W.Work.meaning in
+    let may = g.M.Meter.may_tell in
     let h = c.args.house.now in
     let client = c.args.client.now in
     let p = c.poll in

@@ -1,6 +1,6 @@
 use Rattle.std.proofs.Common.{◌<◌, length, arith}
 use Rattle.cbs_house.proofs.Feeds.{feeds_same, feeds_on, feeds_set, ready_set, ready_at}
-use Rattle.cbs_clients.proofs.Moves.{serves_none, serves_then, serves_rings}
+use Rattle.cbs_clients.proofs.Moves.{serves_none, serves_then, by_rings}
 use Rattle.cbs_house.proofs.StandingMessages.{received_more, taken_more}
 use Rattle.cbs_house.proofs.service.take_rest.Goals as goal
 
@@ -8,7 +8,7 @@ pub loop-index-init : goal.loop-index-init
 loop-index-init g c = record {
   ready = c.requires.ready;
   feeds = feeds_same c.args.feeds.now;
-  steps = serves_none g.W.Work.meaning c.args.house.now;
+  steps = serves_none g.W.Work.meaning g.M.Meter.may_tell c.args.house.now;
   taken = λ k d p q. absurd (omega (arith, q));
 }
 
@@ -20,7 +20,7 @@ returns-in_err-take_ring-clause-feeds g c =
     (omega (arith, c.loop-index-test.true)) t.ensures.feed)
 
 pub returns-in_err-take_ring-clause-steps : goal.returns-in_err-take_ring-clause-steps
-returns-in_err-take_ring-clause-steps g c = serves_then g.W.Work.meaning c.args.house.now c.loop-index.house c.take_ring.new.house
+returns-in_err-take_ring-clause-steps g c = serves_then g.W.Work.meaning g.M.Meter.may_tell c.args.house.now c.loop-index.house c.take_ring.new.house
     c.loop-index.invariant.steps c.take_ring.ensures.steps
 
 pub loop-index-preserved : goal.loop-index-preserved
@@ -31,10 +31,10 @@ loop-index-preserved g c =
     let within : l.index < length l.feeds = omega (arith, c.loop-index-test.true) in
     record {
       ready = ready_set l.house t.new.house l.feeds l.index t.new.feed c.index-feeds-index.result
-          (serves_rings work l.house t.new.house t.ensures.steps) within t.ensures.feed l.invariant.ready;
+          (by_rings work g.M.Meter.may_tell l.house t.new.house t.ensures.steps) within t.ensures.feed l.invariant.ready;
       feeds = feeds_on c.args.feeds.now l.feeds _ l.invariant.feeds (feeds_set l.feeds l.index t.new.feed c.index-feeds-index.result within t.ensures.feed);
-      steps = serves_then work c.args.house.now l.house t.new.house l.invariant.steps t.ensures.steps;
-      taken = taken_more l.house t.new.house l.feeds l.index t.new.feed within (received_more work l.house t.new.house t.ensures.steps)
+      steps = serves_then work g.M.Meter.may_tell c.args.house.now l.house t.new.house l.invariant.steps t.ensures.steps;
+      taken = taken_more l.house t.new.house l.feeds l.index t.new.feed within (received_more work g.M.Meter.may_tell l.house t.new.house t.ensures.steps)
           l.invariant.taken c.in_ok-take_ring.ensures.taken;
     }
 
@@ -48,4 +48,4 @@ returns-in_err-take_ring-clause-ready g c =
     let l = c.loop-index in
     let t = c.take_ring in
     ready_set l.house t.new.house l.feeds l.index t.new.feed c.index-feeds-index.result
-    (serves_rings g.W.Work.meaning l.house t.new.house t.ensures.steps) (omega (arith, c.loop-index-test.true)) t.ensures.feed l.invariant.ready
+    (by_rings g.W.Work.meaning g.M.Meter.may_tell l.house t.new.house t.ensures.steps) (omega (arith, c.loop-index-test.true)) t.ensures.feed l.invariant.ready

@@ -1,14 +1,14 @@
 use Rattle.std.proofs.Common.{◌<◌}
 use Rattle.cbs_house.specs.Feeds.{KeepsFeeds}
 use Rattle.cbs_house.specs.Rounds.{Ready, IsStalled}
-use Rattle.cbs_clients.specs.Houses.{ServesOn}
-use Rattle.cbs_house.proofs.service.serve.Given as goal
+use Rattle.cbs_clients.specs.Houses.{ServesBy}
+use Rattle.cbs_house.proofs.service.serve_metered.Given as goal
 
 abbrev pub invariant-loop : goal.invariant-loop
 invariant-loop g l =
     record {
       ready : Ready l.house l.feeds;
       feeds : KeepsFeeds l.initial.feeds l.feeds;
-      steps : ServesOn g.W.Work.meaning l.initial.house l.house;
+      steps : ServesBy g.W.Work.meaning g.M.Meter.may_tell l.initial.house l.house;
       stalled : 0 < l.counter → IsStalled l.house l.feeds;
     }

@@ -1,0 +1,79 @@
+use Rattle.std.proofs.Common.{sym, ◌∙◌, arith, rules}
+use Rattle.std.proofs.lemmas.Bool.{false≢true}
+use Rattle.cbs_house.specs.Feeds.{servers_of}
+use Rattle.cbs_house.proofs.Feeds.{feeds_same, feeds_on}
+use Rattle.cbs_clients.proofs.Moves.{serves_none, serves_on_time}
+use Rattle.cbs_house.proofs.ServedFeeds.{all_served}
+use Rattle.cbs_house.proofs.Rounds.{serves_round}
+use Rattle.cbs_house.proofs.service.serve_metered.Goals as goal
+
+pub loop-init : goal.loop-init
+loop-init g c = record {
+  ready = c.requires.ready;
+  feeds = feeds_same c.args.feeds.now;
+  steps = serves_none g.W.Work.meaning g.M.Meter.may_tell c.args.house.now;
+  stalled = λ p. absurd (omega (arith, p));
+}
+
+pub returns-in_err-finish_round-clause-feeds : goal.returns-in_err-finish_round-clause-feeds
+returns-in_err-finish_round-clause-feeds g c =
+    let r = c.serve_round_metered in
+    feeds_on c.args.feeds.now r.new.feeds c.finish_round.new.feeds
+    (feeds_on c.args.feeds.now c.loop.feeds r.new.feeds c.loop.invariant.feeds r.ensures.feeds) c.finish_round.ensures.feeds
+
+pub returns-then-branch-clause-feeds : goal.returns-then-branch-clause-feeds
+returns-then-branch-clause-feeds g c =
+    let r = c.serve_round_metered in
+    feeds_on c.args.feeds.now r.new.feeds c.finish_round.new.feeds
+    (feeds_on c.args.feeds.now c.loop.feeds r.new.feeds c.loop.invariant.feeds r.ensures.feeds) c.finish_round.ensures.feeds
+
+pub returns-in_err-finish_round-clause-steps : goal.returns-in_err-finish_round-clause-steps
+returns-in_err-finish_round-clause-steps g c =
+    let r = c.serve_round_metered in
+    serves_round g.W.Work.meaning g.M.Meter.may_tell 10000 (servers_of c.loop.feeds) c.args.house.now c.loop.house r.new.house c.finish_round.new.house
+    r.result.took c.loop.invariant.steps r.ensures.took c.finish_round.ensures.steps
+
+pub returns-then-branch-clause-steps : goal.returns-then-branch-clause-steps
+returns-then-branch-clause-steps g c =
+    let r = c.serve_round_metered in
+    serves_round g.W.Work.meaning g.M.Meter.may_tell 10000 (servers_of c.loop.feeds) c.args.house.now c.loop.house r.new.house c.finish_round.new.house
+    r.result.took c.loop.invariant.steps r.ensures.took c.finish_round.ensures.steps
+
+pub returns-then-branch-clause-served : goal.returns-then-branch-clause-served
+returns-then-branch-clause-served g c =
+    let f = c.in_ok-finish_round.ensures in
+    let h = c.finish_round.new.house in
+    all_served g.W.Work.meaning h h.housed c.finish_round.new.feeds f.drained f.ready (f.done.0 c.if-branch.true) f.settled
+
+pub loop-preserved : goal.loop-preserved
+loop-preserved g c =
+    let l = c.loop in
+    let r = c.serve_round_metered in
+    let f = c.finish_round in
+    let ok = c.in_ok-finish_round.ensures in
+    record {
+      ready = f.ensures.ready;
+      feeds = feeds_on c.args.feeds.now r.new.feeds f.new.feeds
+          (feeds_on c.args.feeds.now l.feeds r.new.feeds l.invariant.feeds r.ensures.feeds) f.ensures.feeds;
+      steps = serves_round g.W.Work.meaning g.M.Meter.may_tell 10000 (servers_of l.feeds) c.args.house.now l.house r.new.house f.new.house r.result.took
+          l.invariant.steps r.ensures.took f.ensures.steps;
+      stalled = λ p. record { drained = ok.drained; settled = ok.settled; undone = λ done. false≢true (sym c.if-branch.false ∙ ok.done.1 done) };
+    }
+
+pub returns-then-branch-clause-stops : goal.returns-then-branch-clause-stops
+returns-then-branch-clause-stops g c = search rules
+
+pub returns-in_err-finish_round-clause-on_time : goal.returns-in_err-finish_round-clause-on_time
+returns-in_err-finish_round-clause-on_time g c = λ never.
+    let a = c.args.house.now in
+    serves_on_time g.W.Work.meaning g.M.Meter.may_tell a c.finish_round.new.house never a.housed.history (returns-in_err-finish_round-clause-steps g c)
+
+pub returns-then-branch-clause-on_time : goal.returns-then-branch-clause-on_time
+returns-then-branch-clause-on_time g c = λ never.
+    let a = c.args.house.now in
+    serves_on_time g.W.Work.meaning g.M.Meter.may_tell a c.finish_round.new.house never a.housed.history (returns-then-branch-clause-steps g c)
+
+pub returns-clause-on_time : goal.returns-clause-on_time
+returns-clause-on_time g c = λ never.
+    let a = c.args.house.now in
+    serves_on_time g.W.Work.meaning g.M.Meter.may_tell a c.loop.house never a.housed.history c.loop.invariant.steps
