@@ -39,38 +39,38 @@ module _ {W : Type 0} where
   charge_pops xs s (suc n) e = ap pops e
 
   -- what is paid for a run is the charge of some ticks to some server, or of 0 ticks
-  pub paid_is : (may : ℕ → Type 0) (start : ℕ) (told : Ran) (paid : List (Step W)) → IsPaidFor may start told paid
+  pub paid_is : (may : ℕ → ℕ → Type 0) (start : ℕ) (told : Ran) (paid : List (Step W)) → IsPaidFor may start told paid
       → (s : ℕ) × (n : ℕ) × (paid ≡ charge_steps s n)
   paid_is may start ran.Idle paid p = (0, 0, p)
   paid_is may start ran.ClockEnd paid p = (0, 0, p)
   paid_is may start (ran.Unit s q) paid p = (s, ticks_charged start p.beyond, p.charged)
   paid_is may start (ran.Done c) paid p = (c.server, ticks_charged start p.beyond, p.charged)
 
-  pub paid_messages : (may : ℕ → Type 0) (start : ℕ) (told : Ran) (paid : List (Step W)) (s : ℕ) → IsPaidFor may start told paid → messages_of s paid ≡ []
+  pub paid_messages : (may : ℕ → ℕ → Type 0) (start : ℕ) (told : Ran) (paid : List (Step W)) (s : ℕ) → IsPaidFor may start told paid → messages_of s paid ≡ []
   paid_messages may start told paid s p = let is = paid_is may start told paid p in ap (messages_of s) is.2 ∙ charge_messages s is.0 is.1
 
-  pub paid_pops : (may : ℕ → Type 0) (start : ℕ) (told : Ran) (paid : List (Step W)) → IsPaidFor may start told paid → pops paid ≡ 0
+  pub paid_pops : (may : ℕ → ℕ → Type 0) (start : ℕ) (told : Ran) (paid : List (Step W)) → IsPaidFor may start told paid → pops paid ≡ 0
   paid_pops may start told paid p = let is = paid_is may start told paid p in charge_pops paid is.0 is.1 is.2
 
   -- where a meter never charges, nothing is paid
-  never_unit : (may : ℕ → Type 0) (start s : ℕ) (paid : List (Step W)) → NeverCharges may → IsPaid may start s paid → paid ≡ []
+  never_unit : (may : ℕ → ℕ → Type 0) (start s : ℕ) (paid : List (Step W)) → NeverCharges may → IsPaid may start s paid → paid ≡ []
   never_unit may start s paid never p =
-      let none = never p.beyond p.told in
+      let none = never s p.beyond p.told in
       let e : ticks_charged start p.beyond ≡ 0 = omega (arith, none) in
       p.charged ∙ ap (charge_steps s) e
 
-  pub never_paid : (may : ℕ → Type 0) (start : ℕ) (told : Ran) (paid : List (Step W)) → NeverCharges may → IsPaidFor may start told paid → paid ≡ []
+  pub never_paid : (may : ℕ → ℕ → Type 0) (start : ℕ) (told : Ran) (paid : List (Step W)) → NeverCharges may → IsPaidFor may start told paid → paid ≡ []
   never_paid may start ran.Idle paid never p = p
   never_paid may start ran.ClockEnd paid never p = p
   never_paid may start (ran.Unit s q) paid never p = never_unit may start s paid never p
   never_paid may start (ran.Done c) paid never p = never_unit may start c.server paid never p
 
   -- and no charge is made
-  pub never_charge : (work : Meaning W) (may : ℕ → Type 0) (M : History W) (s n : ℕ) → NeverCharges may → MayCharge work may M s n → ⊥
+  pub never_charge : (work : Meaning W) (may : ℕ → ℕ → Type 0) (M : History W) (s n : ℕ) → NeverCharges may → MayCharge work may M s n → ⊥
   never_charge work may M s n never c =
       let none = never_paid may (world_after work c.before).now c.told (Charge s n ∷ []) never c.paid in let l = ap length none in omega (arith, l)
 
-  module _ (work : Meaning W) (may : ℕ → Type 0) (P : History W → Step W → Type 0) where
+  module _ (work : Meaning W) (may : ℕ → ℕ → Type 0) (P : History W → Step W → Type 0) where
     -- a charge stands right after its unit
     unit_stands : (N : History W) (s n : ℕ) (told : Ran) → reply.Ran told ≡ reply_in work N Run
         → IsPaidFor {W = W} may (world_after work N).now told (charge_steps s n) → EachAllowed (OrCharges work may P) (N ⊕ Run) (charge_steps s n)

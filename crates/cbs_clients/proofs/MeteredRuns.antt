@@ -20,7 +20,7 @@ use Rattle.cbs_clients.proofs.Moves.{step_on_time}
 
 module _ {W : Type 0} where
   -- the unit of a run that gave one is paid for
-  pays_unit : (may : ℕ → Type 0) (start s : ℕ) (told : Ran) (paid : List (Step W)) → GaveUnit told s → IsPaid may start s paid → IsPaidFor may start told paid
+  pays_unit : (may : ℕ → ℕ → Type 0) (start s : ℕ) (told : Ran) (paid : List (Step W)) → GaveUnit told s → IsPaid may start s paid → IsPaidFor may start told paid
   pays_unit may start s ran.Idle paid unit p = absurd unit
   pays_unit may start s ran.ClockEnd paid unit p = absurd unit
   pays_unit may start s (ran.Unit t q) paid unit p = subst (λ v. IsPaid may start v paid) (sym unit) p
@@ -45,8 +45,8 @@ module _ {W A : Type 0} {g : Ghosts W} where
   names_on work (ran.Unit s q) a b same jobs k = (k.0, k.1, (jobs s).jobs ∙ k.2, comes_on work a b s q (whole work k.0) (same s) k.3)
   names_on work (ran.Done c) a b same jobs k = comes_on work a b c.server c.seq c.result (same c.server) k
 
-module _ {W A : Type 0} {g : Ghosts W} (work : Meaning W) (may : ℕ → Type 0) (a b c : House W A g) (told : Ran) (s beyond : ℕ)
-    (history : HasHistory work (core_of a)) (runs : RunOf work a told b) (unit : GaveUnit told s) (tells : may beyond)
+module _ {W A : Type 0} {g : Ghosts W} (work : Meaning W) (may : ℕ → ℕ → Type 0) (a b c : House W A g) (told : Ran) (s beyond : ℕ)
+    (history : HasHistory work (core_of a)) (runs : RunOf work a told b) (unit : GaveUnit told s) (tells : may s beyond)
     (charged : Made work b c (charge_steps s (min beyond (clock_end - (core_of b).clock)))) where
   charged_so : Made work b c (charge_steps s (ticks_charged (core_of a).clock beyond))
   charged_so =

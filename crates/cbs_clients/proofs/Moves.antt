@@ -50,7 +50,7 @@ module _ {W A : Type 0} {g : Ghosts W} (work : Meaning W) (P : History W → Ste
   pub moves_on_time : (a b : House W A g) (n : ℕ) → HasHistory work (core_of a) → Moves work P a b n → IsHouseOnTime a → IsHouseOnTime b
   moves_on_time a b n history m = on_time_on work (core_of a) (core_of b) m.steps history m.made.steps m.made.keeps_time m.quiet
 
-module _ {W : Type 0} (work : Meaning W) (may : ℕ → Type 0) (P : History W → Step W → Type 0) where
+module _ {W : Type 0} (work : Meaning W) (may : ℕ → ℕ → Type 0) (P : History W → Step W → Type 0) where
   -- a step that is allowed, or a charge of a meter that never charges, is allowed
   never_or : NeverCharges may → (N : History W) (x : Step W) → OrCharges work may P N x → P N x
   never_or never N (Submit t job) p = p
@@ -59,7 +59,7 @@ module _ {W : Type 0} (work : Meaning W) (may : ℕ → Type 0) (P : History W �
   never_or never N (Close t) p = p
   never_or never N (Charge t n) p = absurd (never_charge work may N t n never p)
 
-module _ {W : Type 0} (work : Meaning W) (may : ℕ → Type 0) (P Q : History W → Step W → Type 0) where
+module _ {W : Type 0} (work : Meaning W) (may : ℕ → ℕ → Type 0) (P Q : History W → Step W → Type 0) where
   -- what one rule allows beside charges, a weaker one does
   or_weaker : ((N : History W) (x : Step W) → P N x → Q N x) → (N : History W) (x : Step W) → OrCharges work may P N x → OrCharges work may Q N x
   or_weaker w N (Submit t job) p = w N (Submit t job) p
@@ -68,7 +68,7 @@ module _ {W : Type 0} (work : Meaning W) (may : ℕ → Type 0) (P Q : History W
   or_weaker w N (Close t) p = w N (Close t) p
   or_weaker w N (Charge t n) p = p
 
-module _ {W A : Type 0} {g : Ghosts W} (work : Meaning W) (may : ℕ → Type 0) (P : History W → Step W → Type 0) where
+module _ {W A : Type 0} {g : Ghosts W} (work : Meaning W) (may : ℕ → ℕ → Type 0) (P : History W → Step W → Type 0) where
   -- no step
   pub by_nothing : (a : House W A g) → MovesBy work may P a a 0
   by_nothing a = record { steps = []; made = made_nothing work a; each = λ M agrees. tt; count = refl }
@@ -120,7 +120,7 @@ module _ {W A : Type 0} {g : Ghosts W} (work : Meaning W) (may : ℕ → Type 0)
         count = m.count;
       }
 
-module _ {W A : Type 0} {g : Ghosts W} (work : Meaning W) (may : ℕ → Type 0) (P Q : History W → Step W → Type 0) where
+module _ {W A : Type 0} {g : Ghosts W} (work : Meaning W) (may : ℕ → ℕ → Type 0) (P Q : History W → Step W → Type 0) where
   -- what one rule allows, a weaker one allows
   by_weaker : (a b : House W A g) (n : ℕ) → ((N : History W) (x : Step W) → P N x → Q N x) → MovesBy work may P a b n → MovesBy work may Q a b n
   by_weaker a b n w p = record {
@@ -150,7 +150,7 @@ module _ {W : Type 0} (work : Meaning W) where
   drain_quiet N x p = serve_quiet N x (drain_serves N x p)
 
   -- serving with a meter that never charges takes nobody's time
-  pub serve_by_quiet : (may : ℕ → Type 0) → NeverCharges may → TakesNoTime work (OrCharges work may (MayServe work))
+  pub serve_by_quiet : (may : ℕ → ℕ → Type 0) → NeverCharges may → TakesNoTime work (OrCharges work may (MayServe work))
   serve_by_quiet may never N x p = serve_quiet N x (never_or work may (MayServe work) never N x p)
 
 module _ {W A : Type 0} {g : Ghosts W} (work : Meaning W) where
@@ -162,7 +162,7 @@ module _ {W A : Type 0} {g : Ghosts W} (work : Meaning W) where
   pub serves_rings : (a b : House W A g) → ServesOn work a b → rings_of b ≡ rings_of a
   serves_rings a b m = moves_rings work (MayServe work) a b m.moves.0 m.moves.1
 
-module _ {W A : Type 0} {g : Ghosts W} (work : Meaning W) (may : ℕ → Type 0) where
+module _ {W A : Type 0} {g : Ghosts W} (work : Meaning W) (may : ℕ → ℕ → Type 0) where
   serves_made : (a b : House W A g) → Made work a b [] → ServesBy work may a b
   serves_made a b m = record { moves = (0, by_made work may (MayServe work) a b m) }
 
@@ -217,7 +217,7 @@ module _ {W A : Type 0} {g : Ghosts W} (work : Meaning W) (may : ℕ → Type 0)
 
 -- of a meter that tells of nothing beyond a unit's first tick
 pub never_beyond : NeverCharges NothingBeyond
-never_beyond n e = e
+never_beyond s n e = e
 
 module _ {W A : Type 0} {g : Ghosts W} (work : Meaning W) where
   -- a house that is on time is so after a poll

@@ -29,7 +29,7 @@ use Rattle.std.proofs.lemmas.List.{append-nil}
 use Rattle.cbs_clients.specs.Messages.{has_end}
 use Rattle.cbs_steps.specs.declared.reply.Ran.{Ran}
 
-module _ {W A S : Type 0} {g : Ghosts W} (work : Meaning W) (may : ℕ → Type 0) (hears : S → Completion → S → Type 0) where
+module _ {W A S : Type 0} {g : Ghosts W} (work : Meaning W) (may : ℕ → ℕ → Type 0) (hears : S → Completion → S → Type 0) where
   pub run_none : (a : House W A g) (u : S) → RunsTelling work may hears a a u u
   run_none a u = record { steps = serves_none work may a; told = tells_none hears a a u (λ s. refl) }
 
@@ -39,7 +39,7 @@ module _ {W A S : Type 0} {g : Ghosts W} (work : Meaning W) (may : ℕ → Type 
     told = tells_both hears a b c u v w (by_handed work may a b h.steps) h.told k.told;
   }
 
-module _ {W A : Type 0} {g : Ghosts W} (work : Meaning W) (may : ℕ → Type 0) where
+module _ {W A : Type 0} {g : Ghosts W} (work : Meaning W) (may : ℕ → ℕ → Type 0) where
   -- a run that stops behind another run stops the two
   stops_behind : (a b c : House W A g) (e : HouseError) → ServesBy work may a b → RunStops work may e b c → RunStops work may e a c
   stops_behind a b c OutOfMemory h k = lacked_behind work may a b c h k
@@ -56,7 +56,7 @@ module _ {W A : Type 0} {g : Ghosts W} (work : Meaning W) (may : ℕ → Type 0)
   result_behind a b c (Err e) h k = stops_behind a b c e h k
 
 -- one more turn, where one is due, after others
-module _ {W A : Type 0} {g : Ghosts W} (work : Meaning W) (may : ℕ → Type 0) (most : ℕ) where
+module _ {W A : Type 0} {g : Ghosts W} (work : Meaning W) (may : ℕ → ℕ → Type 0) (most : ℕ) where
   due_more : (k m : ℕ) (a b c : House W A g) (ts : List Turn) (t : Turn) → TakesDueTurns work may most k a ts b m → IsDue most m (core_of b)
       → TakesOwnTurn work may b c t → turn_stop t ≡ None
       → TakesDueTurns work may most k a (ts ++ t ∷ []) c (idle_after m (core_of b) (core_of c))
@@ -73,7 +73,7 @@ module _ {W A : Type 0} {g : Ghosts W} (work : Meaning W) (may : ℕ → Type 0)
       → RunsOn work may most a c (idle_after m (core_of b) (core_of c))
   run_goes_on a b c m t h due taken well = record { turns = h.turns ++ t ∷ []; taken = due_more 0 m a b c h.turns t h.taken due taken well }
 
-module _ {W A : Type 0} {g : Ghosts W} (work : Meaning W) (may : ℕ → Type 0) (most m : ℕ) (a b c : House W A g) (t : Turn) (run : RunsOn work may most a b m)
+module _ {W A : Type 0} {g : Ghosts W} (work : Meaning W) (may : ℕ → ℕ → Type 0) (most m : ℕ) (a b c : House W A g) (t : Turn) (run : RunsOn work may most a b m)
     (due : IsDue most m (core_of b)) (taken : TakesOwnTurn work may b c t) where
   stopped : (error : HouseError) → turn_stop t ≡ Some error → IsStoppedBy work may most error a c
   stopped error why = record { before = b; idle = m; run = run; due = due; turn = t; taken = taken; why = why }
@@ -124,7 +124,7 @@ pub fewer_turns : (most idle left less : ℕ) → less < left → less * (most +
 fewer_turns most idle left less lt = omega (arith, mul-le (less + 1) (most + 1) left (most + 1) (omega (arith, lt)) (omega arith))
 
 -- what a turn does after its polls receives nothing
-went_on : {W A : Type 0} {g : Ghosts W} (work : Meaning W) (may : ℕ → Type 0) (a b : House W A g) (r : Ran) (n : ℕ) → GoesOn work may a b r n → (s : ℕ)
+went_on : {W A : Type 0} {g : Ghosts W} (work : Meaning W) (may : ℕ → ℕ → Type 0) (a b : House W A g) (r : Ran) (n : ℕ) → GoesOn work may a b r n → (s : ℕ)
     → received b s ≡ received a s
 went_on work may a b r n (inl k) s =
     let none = paid_messages may (core_of a).clock r k.0.paid s k.0.pays in
@@ -132,7 +132,7 @@ went_on work may a b r n (inl k) s =
 went_on work may a b r n (inr (inl k)) s = (k.0.made.seats s).received ∙ append-nil (received a s)
 went_on work may a b r n (inr (inr k)) s = ap (λ x. received x s) k.0
 
-module _ {W A : Type 0} {g : Ghosts W} (may : ℕ → Type 0) (a b : House W A g) where
+module _ {W A : Type 0} {g : Ghosts W} (may : ℕ → ℕ → Type 0) (a b : House W A g) where
   -- serving leaves no more servers open
   pub serves_open : ServesBy g.meaning may a b → open_servers (core_of b) ≤ open_servers (core_of a)
   serves_open s =

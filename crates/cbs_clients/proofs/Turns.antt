@@ -137,7 +137,7 @@ module _ {W A : Type 0} {g : Ghosts W} (work : Meaning W) where
     | inr ne ↦ absurd (housed.history (λ M agrees. ne ((h.made.steps M agrees).world.clock ∙ (polls_now work M 0 n h.polls h.each ∙ sym agrees.world.clock))))
   ]
 
-module _ {W A : Type 0} {g : Ghosts W} (work : Meaning W) (may : ℕ → Type 0) where
+module _ {W A : Type 0} {g : Ghosts W} (work : Meaning W) (may : ℕ → ℕ → Type 0) where
   -- polls, one after another, are steps of serving
   serves_answered : (s : ℕ) (a b : House W A g) (ps : List Poll) → Answered work s a ps b → ServesBy work may a b
   serves_answered s a b [] h = rw h (serves_none work may a)
@@ -270,7 +270,7 @@ stopped_by t error why = elim (cases_Bool t.out_of_memory) [
   ]
 ]
 
-module _ {W A : Type 0} {g : Ghosts W} (may : ℕ → Type 0) (a b : House W A g) (t : Turn) (h : TakesOwnTurn g.meaning may a b t) where
+module _ {W A : Type 0} {g : Ghosts W} (may : ℕ → ℕ → Type 0) (a b : House W A g) (t : Turn) (h : TakesOwnTurn g.meaning may a b t) where
   -- the polls of a turn leave the clock
   polls_stand : (core_of h.between).clock ≡ (core_of a).clock
   polls_stand = polled_clock g.meaning a h.between (length (core_of a).faces) t.took t.out_of_memory a.housed h.polled

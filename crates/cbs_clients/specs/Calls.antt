@@ -64,7 +64,7 @@ module _ {W A : Type 0} {g : Ghosts W} where
 
   -- A run with a meter that may tell so: it answers what the rules give, makes that one step, pays for a unit, and collects a
   -- completion.
-  pub record RunBy (work : Meaning W) (may : ℕ → Type 0) (old : House W A g) (told : Ran) (new : House W A g) : Type 0 where
+  pub record RunBy (work : Meaning W) (may : ℕ → ℕ → Type 0) (old : House W A g) (told : Ran) (new : House W A g) : Type 0 where
     pub reply : (M : History W) → Agrees work (core_of old) M → reply.Ran told ≡ reply_in work M step.Run
     pub paid : List (Step W)
     pub pays : IsPaidFor may (core_of old).clock told paid
@@ -111,7 +111,7 @@ module _ {W A : Type 0} {g : Ghosts W} where
     pub job : NamesJob work told.ran new
 
   -- the same with a meter that may tell so
-  pub record TurnBy (work : Meaning W) (may : ℕ → Type 0) (old : House W A g) (told : Turn) (new : House W A g) : Type 0 where
+  pub record TurnBy (work : Meaning W) (may : ℕ → ℕ → Type 0) (old : House W A g) (told : Turn) (new : House W A g) : Type 0 where
     pub turn : TakesOwnTurn work may old new told
     pub steps : ServesBy work may old new
     pub on_time : NeverCharges may → IsHouseOnTime old → IsHouseOnTime new

@@ -148,7 +148,7 @@ module _ {W A : Type 0} {g : Ghosts W} where
 
   -- The same with a meter that may tell so: the house made some steps, each of which is allowed at its place, or is the charge of the
   -- unit right before it; and they took n messages.
-  pub record MovesBy (work : Meaning W) (may : ℕ → Type 0) (allowed : History W → Step W → Type 0) (old new : House W A g) (n : ℕ) : Type 0 where
+  pub record MovesBy (work : Meaning W) (may : ℕ → ℕ → Type 0) (allowed : History W → Step W → Type 0) (old new : House W A g) (n : ℕ) : Type 0 where
     pub steps : List (Step W)
     pub made : Made work old new steps
     pub each : AllAllowed work (OrCharges work may allowed) (core_of old) steps
@@ -159,7 +159,7 @@ module _ {W A : Type 0} {g : Ghosts W} where
     pub moves : (n : ℕ) × Moves work (MayServe work) old new n
 
   -- the same with a meter
-  pub record ServesBy (work : Meaning W) (may : ℕ → Type 0) (old new : House W A g) : Type 0 where
+  pub record ServesBy (work : Meaning W) (may : ℕ → ℕ → Type 0) (old new : House W A g) : Type 0 where
     pub moves : (n : ℕ) × MovesBy work may (MayServe work) old new n
 
   -- What a poll of server s did, by its answer. The first four pop nothing: nothing is seen or the server is closed; a message

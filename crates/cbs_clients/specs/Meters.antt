@@ -9,13 +9,13 @@ use Rattle.cbs_steps.specs.declared.reply.Reply.TheVariants as reply
 use Rattle.cbs_steps.specs.declared.step.Step.{Step}
 use Rattle.cbs_steps.specs.declared.step.Step.TheVariants.{Submit, Run, Advance, Close, Charge}
 
--- What a meter may tell is a set of numbers: how many ticks a unit took beyond its first. A meter that tells of none:
-abbrev pub NothingBeyond : ℕ → Type 0
-NothingBeyond n = n ≡ 0
+-- What a meter may tell of a unit of server s: that it took n ticks beyond its first. A meter that tells of none:
+abbrev pub NothingBeyond : ℕ → ℕ → Type 0
+NothingBeyond s n = n ≡ 0
 
 -- a meter that may tell of none alone, so that nobody is ever charged
-abbrev pub NeverCharges : (ℕ → Type 0) → Type 0
-NeverCharges may = (n : ℕ) → may n → n ≡ 0
+abbrev pub NeverCharges : (ℕ → ℕ → Type 0) → Type 0
+NeverCharges may = (s n : ℕ) → may s n → n ≡ 0
 
 -- how many ticks of `took` nanoseconds lie beyond the first, if a tick has so many; a tick that was begun counts whole, and as
 -- many are told as 64 bits can hold
@@ -33,20 +33,20 @@ module _ {W : Type 0} where
   charge_steps s (suc n) = Charge s (suc n) ∷ []
 
   -- a unit of server s that began at tick `start` was paid for: by a charge of what the meter told of it
-  pub record IsPaid (may : ℕ → Type 0) (start s : ℕ) (paid : List (Step W)) : Type 0 where
+  pub record IsPaid (may : ℕ → ℕ → Type 0) (start s : ℕ) (paid : List (Step W)) : Type 0 where
     pub beyond : ℕ
-    pub told : may beyond
+    pub told : may s beyond
     pub charged : paid ≡ charge_steps s (ticks_charged start beyond)
 
   -- the same of what a run told, which began at tick `start`: a unit is paid for; where none ran, nothing is paid
-  abbrev pub IsPaidFor : (ℕ → Type 0) → ℕ → Ran → List (Step W) → Type 0
+  abbrev pub IsPaidFor : (ℕ → ℕ → Type 0) → ℕ → Ran → List (Step W) → Type 0
   IsPaidFor may start ran.Idle paid = paid ≡ []
   IsPaidFor may start ran.ClockEnd paid = paid ≡ []
   IsPaidFor may start (ran.Unit s q) paid = IsPaid may start s paid
   IsPaidFor may start (ran.Done c) paid = IsPaid may start c.server paid
 
   -- where a house with such a meter makes a charge: right after the unit that is paid for by it
-  pub record MayCharge (work : Meaning W) (may : ℕ → Type 0) (M : History W) (s n : ℕ) : Type 0 where
+  pub record MayCharge (work : Meaning W) (may : ℕ → ℕ → Type 0) (M : History W) (s n : ℕ) : Type 0 where
     pub before : History W
     pub told : Ran
     pub newest : M ≡ before ⊕ Run
@@ -54,7 +54,7 @@ module _ {W : Type 0} where
     pub paid : IsPaidFor may (world_after work before).now told (Charge s n ∷ [])
 
   -- where a house with such a meter makes a step: as a rule allows it, and a charge as above
-  abbrev pub OrCharges : Meaning W → (ℕ → Type 0) → (History W → Step W → Type 0) → History W → Step W → Type 0
+  abbrev pub OrCharges : Meaning W → (ℕ → ℕ → Type 0) → (History W → Step W → Type 0) → History W → Step W → Type 0
   OrCharges work may allowed M (Submit s job) = allowed M (Submit s job)
   OrCharges work may allowed M Run = allowed M Run
   OrCharges work may allowed M (Advance n) = allowed M (Advance n)

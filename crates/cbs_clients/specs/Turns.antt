@@ -69,7 +69,7 @@ module _ {W A : Type 0} {g : Ghosts W} where
 
 module _ {W A : Type 0} {g : Ghosts W} where
   -- somebody was ready, and the house ran one unit, which was answered so and paid for by a meter that may tell so
-  pub record RunsOne (work : Meaning W) (may : ℕ → Type 0) (old new : House W A g) (told : Ran) : Type 0 where
+  pub record RunsOne (work : Meaning W) (may : ℕ → ℕ → Type 0) (old new : House W A g) (told : Ran) : Type 0 where
     pub paid : List (Step W)
     pub pays : IsPaidFor may (core_of old).clock told paid
     pub made : Made work old new (Run ∷ paid)
@@ -89,12 +89,12 @@ module _ {W A : Type 0} {g : Ghosts W} where
   StaysBy (ran.Done c) h = ⊥
 
   -- what a turn does after its polls, by what it tells: it runs one unit, and pays for it; or it advances by n ticks; or it does nothing
-  abbrev pub GoesOn : Meaning W → (ℕ → Type 0) → House W A g → House W A g → Ran → ℕ → Type 0
+  abbrev pub GoesOn : Meaning W → (ℕ → ℕ → Type 0) → House W A g → House W A g → Ran → ℕ → Type 0
   GoesOn work may old new told n =
       (RunsOne work may old new told × (n ≡ 0)) ⊎ (Advances work old new n × (told ≡ ran.Idle)) ⊎ ((new ≡ old) × StaysBy told old × (n ≡ 0))
 
   -- the house went on, once for each of these, one after another, and told them: what ran, and by how many ticks it advanced
-  abbrev pub GoesOnEach : Meaning W → (ℕ → Type 0) → House W A g → List (Ran × ℕ) → House W A g → Type 0
+  abbrev pub GoesOnEach : Meaning W → (ℕ → ℕ → Type 0) → House W A g → List (Ran × ℕ) → House W A g → Type 0
   GoesOnEach work may old [] new = new ≡ old
   GoesOnEach work may old (t ∷ ts) new = (next : House W A g) × GoesOn work may old next t.0 t.1 × GoesOnEach work may next ts new
 
@@ -106,7 +106,7 @@ module _ {W A : Type 0} {g : Ghosts W} where
   IsNumbered (ran.Done c) h = c.seq ≡ result_count h c.server
 
   -- the house took a turn and told this of it: it polled each server once, in the order of their numbers, and then went on
-  pub record TakesOwnTurn (work : Meaning W) (may : ℕ → Type 0) (old new : House W A g) (turn : Turn) : Type 0 where
+  pub record TakesOwnTurn (work : Meaning W) (may : ℕ → ℕ → Type 0) (old new : House W A g) (turn : Turn) : Type 0 where
     pub between : House W A g
     pub polled : PollsEach work (length (core_of old).faces) old between turn.took turn.out_of_memory
     pub goes_on : GoesOn work may between new turn.ran turn.advanced

@@ -56,19 +56,19 @@ pub record IsDue {W : Type 0} (most idle : ℕ) (core : CoreHeld W) : Type 0 whe
 module _ {W A : Type 0} {g : Ghosts W} where
   -- The house took these turns, one after another, each when one was due, and none of them stopped it. Before them `idle` turns in
   -- a row were idle, and after them `later`.
-  abbrev pub TakesDueTurns : Meaning W → (ℕ → Type 0) → ℕ → ℕ → House W A g → List Turn → House W A g → ℕ → Type 0
+  abbrev pub TakesDueTurns : Meaning W → (ℕ → ℕ → Type 0) → ℕ → ℕ → House W A g → List Turn → House W A g → ℕ → Type 0
   TakesDueTurns work may most idle old [] new later = (new ≡ old) × (later ≡ idle)
   TakesDueTurns work may most idle old (t ∷ ts) new later =
       (next : House W A g) × IsDue most idle (core_of old) × TakesOwnTurn work may old next t × (turn_stop t ≡ None)
       × TakesDueTurns work may most (idle_after idle (core_of old) (core_of next)) next ts new later
 
   -- the house took turns when they were due, of which the last so many in a row were idle
-  pub record RunsOn (work : Meaning W) (may : ℕ → Type 0) (most : ℕ) (old new : House W A g) (idle : ℕ) : Type 0 where
+  pub record RunsOn (work : Meaning W) (may : ℕ → ℕ → Type 0) (most : ℕ) (old new : House W A g) (idle : ℕ) : Type 0 where
     pub turns : List Turn
     pub taken : TakesDueTurns work may most 0 old turns new idle
 
   -- the house took turns when they were due, the last of which stopped it
-  pub record IsStoppedBy (work : Meaning W) (may : ℕ → Type 0) (most : ℕ) (error : HouseError) (old new : House W A g) : Type 0 where
+  pub record IsStoppedBy (work : Meaning W) (may : ℕ → ℕ → Type 0) (most : ℕ) (error : HouseError) (old new : House W A g) : Type 0 where
     pub before : House W A g
     pub idle : ℕ
     pub run : RunsOn work may most old before idle
@@ -79,7 +79,7 @@ module _ {W A : Type 0} {g : Ghosts W} where
 
   -- When a run ends, by its answer: when all is over; when `most` turns in a row were idle, and not all is over; or when a turn
   -- stopped it.
-  abbrev pub RunEnds : Meaning W → (ℕ → Type 0) → ℕ → House W A g → Result (Unit {0}) HouseError → House W A g → Type 0
+  abbrev pub RunEnds : Meaning W → (ℕ → ℕ → Type 0) → ℕ → House W A g → Result (Unit {0}) HouseError → House W A g → Type 0
   RunEnds work may most old (Ok x) new = ((idle : ℕ) × RunsOn work may most old new idle) × IsOver (core_of new)
   RunEnds work may most old (Err Stalled) new = RunsOn work may most old new most × (¬ IsOver (core_of new))
   RunEnds work may most old (Err OutOfMemory) new = IsStoppedBy work may most OutOfMemory old new
@@ -87,7 +87,7 @@ module _ {W A : Type 0} {g : Ghosts W} where
   RunEnds work may most old (Err _) new = ⊥
 
   -- among the steps of serving that led here there was a poll that saw a message for which there was no memory
-  pub record LackedMemory (work : Meaning W) (may : ℕ → Type 0) (old new : House W A g) : Type 0 where
+  pub record LackedMemory (work : Meaning W) (may : ℕ → ℕ → Type 0) (old new : House W A g) : Type 0 where
     pub before : House W A g
     pub after : House W A g
     pub server : ℕ
@@ -96,7 +96,7 @@ module _ {W A : Type 0} {g : Ghosts W} where
     pub rest : ServesBy work may after new
 
   -- the house made steps of serving, and a sink was told of what they finished
-  pub record RunsTelling {S : Type 0} (work : Meaning W) (may : ℕ → Type 0) (hears : S → Completion → S → Type 0) (old_house new_house : House W A g) (old new : S) : Type 0 where
+  pub record RunsTelling {S : Type 0} (work : Meaning W) (may : ℕ → ℕ → Type 0) (hears : S → Completion → S → Type 0) (old_house new_house : House W A g) (old new : S) : Type 0 where
     pub steps : ServesBy work may old_house new_house
     pub told : Tells hears old_house new_house old new
 
@@ -107,7 +107,7 @@ module _ {W A : Type 0} {g : Ghosts W} where
 
   -- how a run stops early: a poll found no memory; the clock is at its end with a job unfinished; or nothing is left to do, and
   -- yet some server is open
-  abbrev pub RunStops : Meaning W → (ℕ → Type 0) → HouseError → House W A g → House W A g → Type 0
+  abbrev pub RunStops : Meaning W → (ℕ → ℕ → Type 0) → HouseError → House W A g → House W A g → Type 0
   RunStops work may OutOfMemory old new = LackedMemory work may old new
   RunStops work may ClockEnd old new = IsAtEnd (core_of new)
   RunStops work may Stalled old new = IsWaiting new
@@ -120,7 +120,7 @@ IsToldOf turn (Err error) old new = turn_stop turn ≡ Some error
 
 module _ {W A : Type 0} {g : Ghosts W} where
   -- a turn of a run was taken, and this is told of it
-  pub record TakesTurnOfRun (work : Meaning W) (may : ℕ → Type 0) (old new : House W A g) (told : Result Bool HouseError) : Type 0 where
+  pub record TakesTurnOfRun (work : Meaning W) (may : ℕ → ℕ → Type 0) (old new : House W A g) (told : Result Bool HouseError) : Type 0 where
     pub turn : Turn
     pub taken : TakesOwnTurn work may old new turn
     pub is : IsToldOf turn told (core_of old) (core_of new)

@@ -192,8 +192,8 @@ impl<W: Work, A: Allocator> House<W, A> {
         meter.begin();
         let ran = self.run();
         match ran {
-            Ran::Unit { server, .. } => self.pay(server, meter.beyond()),
-            Ran::Done(done) => self.pay(done.server, meter.beyond()),
+            Ran::Unit { server, .. } => self.pay(server, meter.beyond(server)),
+            Ran::Done(done) => self.pay(done.server, meter.beyond(done.server)),
             Ran::Idle | Ran::ClockEnd => {}
         }
         ran

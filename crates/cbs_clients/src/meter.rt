@@ -9,17 +9,17 @@ use std::time::{Clock, Duration};
 /// Is asked after each unit for how long it ran, on the house's thread. The server that got the unit is charged so many
 /// ticks, as by [`House::charge`](crate::House::charge).
 pub trait Meter {
-    /// What it may tell. Of a meter that does not say otherwise it may be any number of ticks.
-    ghost may_tell: { ℕ → Type 0 } = { λ _. Unit {0} };
+    /// That it may tell of so many ticks of a unit of server `s`. Of a meter that does not say otherwise it may be any number.
+    ghost may_tell: { ℕ → ℕ → Type 0 } = { λ s n. Unit {0} };
 
     /// Told that a unit is about to run, or nothing, if nobody is ready.
     fn begin(&mut self);
 
-    /// Returns how many ticks the unit that just ran took beyond its first. It is asked once, and only if a unit ran.
+    /// Returns how many ticks the unit that `server` just got took beyond its first. It is asked once after each unit.
     ///
     /// Round up: a unit that took some of a tick took all of it.
-    fn beyond(&mut self) -> u64
-        ensures { may_tell result };
+    fn beyond(&mut self, server: u16) -> u64
+        ensures { may_tell server result };
 }
 
 /// The meter that never charges: each unit takes one tick, however long that is.
@@ -33,8 +33,8 @@ impl Meter for NoMeter {
     fn begin(&mut self) {}
 
     #[inline(always)]
-    fn beyond(&mut self) -> u64
-        ensures { NothingBeyond result }
+    fn beyond(&mut self, _server: u16) -> u64
+        ensures { result ≡ 0 }
     {
         0
     }
@@ -73,7 +73,7 @@ impl<'a, R: Clock> Meter for ClockMeter<'a, R> {
         self.begun = self.rt.monotonic().ok();
     }
 
-    fn beyond(&mut self) -> u64 {
+    fn beyond(&mut self, _server: u16) -> u64 {
         match (self.begun, self.rt.monotonic()) {
             (Some(begun), Ok(now)) => beyond_first(now.saturating_sub(begun), self.tick),
             (None, _) | (_, Err(_)) => 0,

@@ -33,19 +33,19 @@ module _ {W : Type 0} where
   steps_in-append (u ∷ turns) t = ap (λ (ys : List (Step W)). turn_steps u ++ ys) (steps_in-append turns t)
       ∙ sym (append_assoc (turn_steps u) (steps_in turns) (turn_steps t))
 
-  each-append : (may : ℕ → Type 0) (n : ℕ) (turns : List (RoundTurn W)) (t : RoundTurn W) → AllByRecursion (IsTurn may n) turns → IsTurn may n t
+  each-append : (may : ℕ → ℕ → Type 0) (n : ℕ) (turns : List (RoundTurn W)) (t : RoundTurn W) → AllByRecursion (IsTurn may n) turns → IsTurn may n t
       → AllByRecursion (IsTurn may n) (turns ++ t ∷ [])
   each-append may n [] t p q = (q, tt)
   each-append may n (u ∷ turns) t p q = (p.0, each-append may n turns t p.1 q)
 
   -- a turn takes the messages of its polls
-  turn_pops : (may : ℕ → Type 0) (n : ℕ) (t : RoundTurn W) → IsTurn may n t → pops (turn_steps t) ≡ pops t.polls
+  turn_pops : (may : ℕ → ℕ → Type 0) (n : ℕ) (t : RoundTurn W) → IsTurn may n t → pops (turn_steps t) ≡ pops t.polls
   turn_pops may n t is =
       let none = paid_pops may t.start t.told t.paid is.pays in
       let some = pops-append t.polls (Run ∷ t.paid) in
       omega (arith, none, some)
 
-  module _ (work : Meaning W) (may : ℕ → Type 0) where
+  module _ (work : Meaning W) (may : ℕ → ℕ → Type 0) where
     runs-append : (M : History W) (turns : List (RoundTurn W)) (t : RoundTurn W) → EachRuns work M turns → RunsAfter work (M ⊕⊕ steps_in turns) t
         → EachRuns work M (turns ++ t ∷ [])
     runs-append M [] t h k = (k, tt)
@@ -80,7 +80,7 @@ module _ {W : Type 0} where
     allowed_turns n (t ∷ turns) M each runs = allowed-append (OrCharges work may (MayServe work)) M (turn_steps t) (steps_in turns)
         (allowed_turn n t M each.0 runs.0) (allowed_turns n turns (M ⊕⊕ turn_steps t) each.1 runs.1)
 
-module _ {W A : Type 0} {g : Ghosts W} (work : Meaning W) (may : ℕ → Type 0) where
+module _ {W A : Type 0} {g : Ghosts W} (work : Meaning W) (may : ℕ → ℕ → Type 0) where
   -- all servers are polled, and then the house runs
   pub turn_taken : (a b c : House W A g) (k : ℕ) (m : Bool) (told : Ran) → PollsEach work (length (core_of a).faces) a b k m → RunBy work may b told c
       → TakesTurn work may a c k

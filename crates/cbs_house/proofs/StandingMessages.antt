@@ -79,7 +79,7 @@ module _ {W A : Type 0} {g : Ghosts W} where
   pub standing_looked : (work : Meaning W) (a b : House W A g) (c : Client W A g) (n : ℕ) → Made work a b [] → Standing a c n → Standing b c n
   standing_looked work a b c n m h = standing_made work a b c n [] m refl h
 
-  pub standing_moved : (work : Meaning W) (may : ℕ → Type 0) (P : History W → Step W → Type 0) (a b : House W A g) (c : Client W A g) (n : ℕ)
+  pub standing_moved : (work : Meaning W) (may : ℕ → ℕ → Type 0) (P : History W → Step W → Type 0) (a b : House W A g) (c : Client W A g) (n : ℕ)
       → MovesBy work may P a b 0
       → Standing a c n → Standing b c n
   standing_moved work may P a b c n m h = standing_made work a b c n m.steps m.made (none_taken (server_of c) m.steps m.count) h
@@ -147,7 +147,7 @@ module _ {W A : Type 0} {g : Ghosts W} where
   taken_looked a b fs l h = all_taken_after a b fs (λ s. prefix_same (received a s) (received b s) (looks_received a b l s)) h
 
   -- steps receive more
-  pub received_more : (work : Meaning W) (may : ℕ → Type 0) (a b : House W A g) → ServesBy work may a b → (s : ℕ) → IsPrefix (received a s) (received b s)
+  pub received_more : (work : Meaning W) (may : ℕ → ℕ → Type 0) (a b : House W A g) → ServesBy work may a b → (s : ℕ) → IsPrefix (received a s) (received b s)
   received_more work may a b m s = let x = m.moves.1 in (messages_of s x.steps, sym (x.made.seats s).received)
 
   pub taken_set : (a : House W A g) (fs : List (Feed W A g)) (i : ℕ) (f : Feed W A g) → All (IsTaken a) fs → IsTaken a f → All (IsTaken a) (set fs i f)

@@ -46,7 +46,7 @@ module _ {W : Type 0} where
 
   -- a turn of so many servers with a meter that may tell so: each server was polled once, in the order of their numbers, and the
   -- unit that ran then was paid for, if one ran
-  pub record IsTurn (may : ℕ → Type 0) (servers : ℕ) (t : RoundTurn W) : Type 0 where
+  pub record IsTurn (may : ℕ → ℕ → Type 0) (servers : ℕ) (t : RoundTurn W) : Type 0 where
     pub polls : ArePolls 0 servers t.polls
     pub pays : IsPaidFor may t.start t.told t.paid
 
@@ -62,7 +62,7 @@ module _ {W : Type 0} where
 
 module _ {W A : Type 0} {g : Ghosts W} where
   -- the house took one turn with a meter that may tell so; the turn took n messages
-  pub record TakesTurn (work : Meaning W) (may : ℕ → Type 0) (old new : House W A g) (n : ℕ) : Type 0 where
+  pub record TakesTurn (work : Meaning W) (may : ℕ → ℕ → Type 0) (old new : House W A g) (n : ℕ) : Type 0 where
     pub turn : RoundTurn W
     pub is : IsTurn may (length (core_of old).faces) turn
     pub runs : (M : History W) → Agrees work (core_of old) M → RunsAfter work M turn
@@ -70,7 +70,7 @@ module _ {W A : Type 0} {g : Ghosts W} where
     pub count : pops turn.polls ≡ n
 
   -- the house took this many turns, one after another, which took n messages
-  pub record TakesExactly (work : Meaning W) (may : ℕ → Type 0) (exactly : ℕ) (old new : House W A g) (n : ℕ) : Type 0 where
+  pub record TakesExactly (work : Meaning W) (may : ℕ → ℕ → Type 0) (exactly : ℕ) (old new : House W A g) (n : ℕ) : Type 0 where
     pub turns : List (RoundTurn W)
     pub each : AllByRecursion (IsTurn may (length (core_of old).faces)) turns
     pub runs : (M : History W) → Agrees work (core_of old) M → EachRuns work M turns
@@ -81,7 +81,7 @@ module _ {W A : Type 0} {g : Ghosts W} where
   -- The house took turns, which took n messages: at most so many turns, and fewer only where all these servers are closed. They
   -- make no advance, so if the meter never charges, no step of theirs takes anybody's time, and from a house that is on time each
   -- leaves all on time.
-  pub record TakesTurns (work : Meaning W) (may : ℕ → Type 0) (most : ℕ) (servers : List ℕ) (old new : House W A g) (n : ℕ) : Type 0 where
+  pub record TakesTurns (work : Meaning W) (may : ℕ → ℕ → Type 0) (most : ℕ) (servers : List ℕ) (old new : House W A g) (n : ℕ) : Type 0 where
     pub turns : ℕ
     pub within : turns ≤ most
     pub fewer : turns < most → All (IsClosed (core_of new)) servers
