@@ -10,6 +10,7 @@ mod handles;
 mod in_time;
 mod leaving;
 mod meeting;
+mod metering;
 mod memory;
 mod patience;
 mod polling;

@@ -17,7 +17,7 @@ use std::thread::Threads;
 use std::time::Clock;
 
 /// A house of servers with these reservations, and for each a feed of the sums at its place.
-fn opened<R: Abort>(
+pub fn opened<R: Abort>(
     rt: &R,
     alloc: Global,
     rates: &[(u64, u64)],
