@@ -1,10 +1,10 @@
 -- What a unit is charged, and what its charge leaves.
-use Rattle.std.proofs.Common.{◌≡◌, ℕ, zero, suc, ◌+◌, ◌<◌, ◌≤◌, Bool, true, false, leb, ltb, List, [], ◌∷◌, length, Option, Some, None, Result, Ok, Err, IsOk}
+use Rattle.std.proofs.Common.{◌≡◌, ℕ, zero, suc, ◌+◌, ◌<◌, ◌≤◌, Bool, true, false, leb, ltb, List, [], ◌∷◌, ◌++◌, length, Option, Some, None, Result, Ok, Err, IsOk}
 use Rattle.std.proofs.Common.{refl, ap, sym, ◌∙◌, subst, arith, inl, inr}
 use Rattle.std.specs.Prelude.{if◌then◌else◌}
 use Rattle.std.proofs.lemmas.Bool.{cases_Bool, cases_eq, cases_lt, false≢true}
 use Rattle.std.proofs.lemmas.Bool.Decides.{nat_tests}
-use Rattle.std.proofs.lemmas.List.{get_or_past}
+use Rattle.std.proofs.lemmas.List.{get_or_past, append_assoc}
 use Rattle.cbs_job.specs.Work.{Meaning}
 use Rattle.cbs_job.specs.declared.completion.Completion.{Completion}
 use Rattle.cbs_rules.specs.Rules.{clock_end}
@@ -18,13 +18,14 @@ use Rattle.cbs_steps.specs.declared.reply.Ran.{Ran}
 use Rattle.cbs_steps.specs.declared.reply.Ran.TheVariants as ran
 use Rattle.cbs_steps.specs.declared.reply.Reply.TheVariants as reply
 use Rattle.cbs_steps.specs.declared.step.Step.{Step}
-use Rattle.cbs_steps.specs.declared.step.Step.TheVariants.{Run, Charge}
+use Rattle.cbs_steps.specs.declared.step.Step.TheVariants.{Submit, Run, Advance, Close, Charge}
 use Rattle.cbs_steps.proofs.Histories.{chosen_is_ready}
+use Rattle.cbs_steps.proofs.Laws.{after-append, allowed-append}
 use Rattle.cbs_core.specs.Agreement.{Agrees, HasHistory, Follows}
 use Rattle.cbs_core.specs.Held.{CoreHeld, is_running}
 use Rattle.cbs_core.proofs.Running.{runs_run}
 use Rattle.cbs_clients.specs.Errors.{charge_answer}
-use Rattle.cbs_clients.specs.Meters.{NeverCharges, ticks_charged, charge_steps, IsPaid, IsPaidFor, MayCharge, OrCharges}
+use Rattle.cbs_clients.specs.Meters.{NeverCharges, ticks_charged, charge_steps, IsUnitPaid, IsRunPaid, IsMove, AreMoves, all_steps}
 use Rattle.cbs_clients.specs.Steps.{messages_of, pops}
 use Rattle.cbs_clients.specs.declared.error.HouseError.{HouseError}
 
@@ -39,50 +40,74 @@ module _ {W : Type 0} where
   charge_pops xs s (suc n) e = ap pops e
 
   -- what is paid for a run is the charge of some ticks to some server, or of 0 ticks
-  pub paid_is : (may : ℕ → ℕ → Type 0) (start : ℕ) (told : Ran) (paid : List (Step W)) → IsPaidFor may start told paid
+  pub paid_is : (may : ℕ → ℕ → Type 0) (start : ℕ) (told : Ran) (paid : List (Step W)) → IsRunPaid may start told paid
       → (s : ℕ) × (n : ℕ) × (paid ≡ charge_steps s n)
   paid_is may start ran.Idle paid p = (0, 0, p)
   paid_is may start ran.ClockEnd paid p = (0, 0, p)
   paid_is may start (ran.Unit s q) paid p = (s, ticks_charged start p.beyond, p.charged)
   paid_is may start (ran.Done c) paid p = (c.server, ticks_charged start p.beyond, p.charged)
 
-  pub paid_messages : (may : ℕ → ℕ → Type 0) (start : ℕ) (told : Ran) (paid : List (Step W)) (s : ℕ) → IsPaidFor may start told paid → messages_of s paid ≡ []
+  pub paid_messages : (may : ℕ → ℕ → Type 0) (start : ℕ) (told : Ran) (paid : List (Step W)) (s : ℕ) → IsRunPaid may start told paid → messages_of s paid ≡ []
   paid_messages may start told paid s p = let is = paid_is may start told paid p in ap (messages_of s) is.2 ∙ charge_messages s is.0 is.1
 
-  pub paid_pops : (may : ℕ → ℕ → Type 0) (start : ℕ) (told : Ran) (paid : List (Step W)) → IsPaidFor may start told paid → pops paid ≡ 0
+  pub paid_pops : (may : ℕ → ℕ → Type 0) (start : ℕ) (told : Ran) (paid : List (Step W)) → IsRunPaid may start told paid → pops paid ≡ 0
   paid_pops may start told paid p = let is = paid_is may start told paid p in charge_pops paid is.0 is.1 is.2
 
   -- where a meter never charges, nothing is paid
-  never_unit : (may : ℕ → ℕ → Type 0) (start s : ℕ) (paid : List (Step W)) → NeverCharges may → IsPaid may start s paid → paid ≡ []
+  never_unit : (may : ℕ → ℕ → Type 0) (start s : ℕ) (paid : List (Step W)) → NeverCharges may → IsUnitPaid may start s paid → paid ≡ []
   never_unit may start s paid never p =
       let none = never s p.beyond p.told in
       let e : ticks_charged start p.beyond ≡ 0 = omega (arith, none) in
       p.charged ∙ ap (charge_steps s) e
 
-  pub never_paid : (may : ℕ → ℕ → Type 0) (start : ℕ) (told : Ran) (paid : List (Step W)) → NeverCharges may → IsPaidFor may start told paid → paid ≡ []
+  pub never_paid : (may : ℕ → ℕ → Type 0) (start : ℕ) (told : Ran) (paid : List (Step W)) → NeverCharges may → IsRunPaid may start told paid → paid ≡ []
   never_paid may start ran.Idle paid never p = p
   never_paid may start ran.ClockEnd paid never p = p
   never_paid may start (ran.Unit s q) paid never p = never_unit may start s paid never p
   never_paid may start (ran.Done c) paid never p = never_unit may start c.server paid never p
 
-  -- and no charge is made
-  pub never_charge : (work : Meaning W) (may : ℕ → ℕ → Type 0) (M : History W) (s n : ℕ) → NeverCharges may → MayCharge work may M s n → ⊥
-  never_charge work may M s n never c =
-      let none = never_paid may (world_after work c.before).now c.told (Charge s n ∷ []) never c.paid in let l = ap length none in omega (arith, l)
+module _ {W : Type 0} where
+  -- the steps of moves, and of more
+  pub all_steps-append : (ms ns : List (List (Step W))) → all_steps (ms ++ ns) ≡ all_steps ms ++ all_steps ns
+  all_steps-append [] ns = refl
+  all_steps-append (m ∷ ms) ns = ap (λ (xs : List (Step W)). m ++ xs) (all_steps-append ms ns) ∙ sym (append_assoc m (all_steps ms) (all_steps ns))
 
   module _ (work : Meaning W) (may : ℕ → ℕ → Type 0) (P : History W → Step W → Type 0) where
-    -- a charge stands right after its unit
-    unit_stands : (N : History W) (s n : ℕ) (told : Ran) → reply.Ran told ≡ reply_in work N Run
-        → IsPaidFor {W = W} may (world_after work N).now told (charge_steps s n) → EachAllowed (OrCharges work may P) (N ⊕ Run) (charge_steps s n)
-    unit_stands N s zero told answer p = tt
-    unit_stands N s (suc n) told answer p = (record { before = N; told = told; newest = refl; answer = answer; paid = p }, tt)
+    -- moves, and more of them
+    pub moves-append : (M : History W) (ms ns : List (List (Step W))) → AreMoves work may P M ms → AreMoves work may P (M ⊕⊕ all_steps ms) ns
+        → AreMoves work may P M (ms ++ ns)
+    moves-append M [] ns p q = q
+    moves-append M (m ∷ ms) ns p q = (
+      p.0,
+      moves-append (M ⊕⊕ m) ms ns p.1 (subst (λ (N : History W). AreMoves work may P N ns) (after-append M m (all_steps ms)) q),
+    )
 
-    pub paid_stands : (N : History W) (told : Ran) (paid : List (Step W)) → reply.Ran told ≡ reply_in work N Run
-        → IsPaidFor may (world_after work N).now told paid → EachAllowed (OrCharges work may P) (N ⊕ Run) paid
-    paid_stands N told paid answer p =
-        let is = paid_is may (world_after work N).now told paid p in
-        subst (EachAllowed (OrCharges work may P) (N ⊕ Run)) (sym is.2)
-        (unit_stands N is.0 is.1 told answer (subst (IsPaidFor may (world_after work N).now told) is.2 p))
+    -- where a meter never charges, a move is one step that is allowed
+    never_move : NeverCharges may → (M : History W) (m : List (Step W)) → IsMove work may P M m → EachAllowed P M m
+    never_move never M [] p = absurd p
+    never_move never M (Submit s job ∷ xs) p = (p.0, subst (EachAllowed P (M ⊕ Submit s job)) (sym p.1) tt)
+    never_move never M (Run ∷ paid) p = (p.0, subst (EachAllowed P (M ⊕ Run)) (sym (never_paid may (world_after work M).now p.1.told paid never p.1.pays)) tt)
+    never_move never M (Advance n ∷ xs) p = (p.0, subst (EachAllowed P (M ⊕ Advance n)) (sym p.1) tt)
+    never_move never M (Close s ∷ xs) p = (p.0, subst (EachAllowed P (M ⊕ Close s)) (sym p.1) tt)
+    never_move never M (Charge s n ∷ xs) p = absurd p
+
+    pub never_moves : NeverCharges may → (M : History W) (ms : List (List (Step W))) → AreMoves work may P M ms → EachAllowed P M (all_steps ms)
+    never_moves never M [] p = tt
+    never_moves never M (m ∷ ms) p = allowed-append P M m (all_steps ms) (never_move never M m p.0) (never_moves never (M ⊕⊕ m) ms p.1)
+
+  module _ (work : Meaning W) (may : ℕ → ℕ → Type 0) (P Q : History W → Step W → Type 0) (w : (N : History W) (x : Step W) → P N x → Q N x) where
+    -- moves that one rule allows, a weaker one does
+    weaker_move : (M : History W) (m : List (Step W)) → IsMove work may P M m → IsMove work may Q M m
+    weaker_move M [] p = p
+    weaker_move M (Submit s job ∷ xs) p = (w M (Submit s job) p.0, p.1)
+    weaker_move M (Run ∷ paid) p = (w M Run p.0, p.1)
+    weaker_move M (Advance n ∷ xs) p = (w M (Advance n) p.0, p.1)
+    weaker_move M (Close s ∷ xs) p = (w M (Close s) p.0, p.1)
+    weaker_move M (Charge s n ∷ xs) p = p
+
+    pub weaker_moves : (M : History W) (ms : List (List (Step W))) → AreMoves work may P M ms → AreMoves work may Q M ms
+    weaker_moves M [] p = tt
+    weaker_moves M (m ∷ ms) p = (weaker_move M m p.0, weaker_moves (M ⊕⊕ m) ms p.1)
 
 -- a run gave a unit to server s, by what it told
 abbrev pub GaveUnit : Ran → ℕ → Type 0

@@ -12,7 +12,7 @@ use Rattle.cbs_steps.specs.declared.step.Step.{Step}
 use Rattle.cbs_steps.specs.declared.step.Step.TheVariants.{Run}
 use Rattle.cbs_clients.specs.Calls.{RunOf, RunBy}
 use Rattle.cbs_clients.specs.Houses.{core_of, received, IsHouseOnTime, KeepsResults, Made, Collects, ComesTo, NamesJob}
-use Rattle.cbs_clients.specs.Meters.{NeverCharges, ticks_charged, charge_steps, IsPaid, IsPaidFor}
+use Rattle.cbs_clients.specs.Meters.{NeverCharges, ticks_charged, charge_steps, IsUnitPaid, IsRunPaid}
 use Rattle.cbs_clients.specs.declared.house.House.{House}
 use Rattle.cbs_clients.proofs.MadeSteps.{made_both}
 use Rattle.cbs_clients.proofs.Metered.{GaveUnit, unit_clock, charge_messages, never_paid}
@@ -20,11 +20,11 @@ use Rattle.cbs_clients.proofs.Moves.{step_on_time}
 
 module _ {W : Type 0} where
   -- the unit of a run that gave one is paid for
-  pays_unit : (may : ℕ → ℕ → Type 0) (start s : ℕ) (told : Ran) (paid : List (Step W)) → GaveUnit told s → IsPaid may start s paid → IsPaidFor may start told paid
+  pays_unit : (may : ℕ → ℕ → Type 0) (start s : ℕ) (told : Ran) (paid : List (Step W)) → GaveUnit told s → IsUnitPaid may start s paid → IsRunPaid may start told paid
   pays_unit may start s ran.Idle paid unit p = absurd unit
   pays_unit may start s ran.ClockEnd paid unit p = absurd unit
-  pays_unit may start s (ran.Unit t q) paid unit p = subst (λ v. IsPaid may start v paid) (sym unit) p
-  pays_unit may start s (ran.Done c) paid unit p = subst (λ v. IsPaid may start v paid) (sym unit) p
+  pays_unit may start s (ran.Unit t q) paid unit p = subst (λ v. IsUnitPaid may start v paid) (sym unit) p
+  pays_unit may start s (ran.Done c) paid unit p = subst (λ v. IsUnitPaid may start v paid) (sym unit) p
 
 module _ {W A : Type 0} {g : Ghosts W} where
   -- what is collected stays so where the results stay
@@ -57,7 +57,7 @@ module _ {W A : Type 0} {g : Ghosts W} (work : Meaning W) (may : ℕ → ℕ →
   run_paid : Made work a c (Run ∷ charge_steps s (ticks_charged (core_of a).clock beyond))
   run_paid = made_both work a b c (Run ∷ []) (charge_steps s (ticks_charged (core_of a).clock beyond)) runs.made charged_so
 
-  pays : IsPaidFor may (core_of a).clock told (charge_steps {W = W} s (ticks_charged (core_of a).clock beyond))
+  pays : IsRunPaid may (core_of a).clock told (charge_steps {W = W} s (ticks_charged (core_of a).clock beyond))
   pays = pays_unit may (core_of a).clock s told _ unit (record { beyond = beyond; told = tells; charged = refl })
 
   paid_on_time : NeverCharges may → IsHouseOnTime a → IsHouseOnTime c

@@ -3,7 +3,7 @@ use Rattle.std.proofs.Common.{◌≡◌, ℕ, ◌+◌, List, [], ◌∷◌, ◌+
 use Rattle.std.proofs.lemmas.List.{append-nil}
 use Rattle.cbs_job.specs.Work.{Meaning}
 use Rattle.cbs_job.specs.declared.work.Work.{Ghosts}
-use Rattle.cbs_core.specs.Agreement.{Agrees, HasHistory, Follows}
+use Rattle.cbs_core.specs.Agreement.{Agrees, HasHistory, Follows, AllAllowed}
 use Rattle.cbs_core.specs.Held.{CoreHeld, IsCoreOnTime}
 use Rattle.cbs_steps.specs.History.{History, reply_in}
 use Rattle.cbs_steps.specs.OnTime.{KeepsTime}
@@ -16,13 +16,13 @@ use Rattle.cbs_clients.specs.declared.house.House.{House}
 use Rattle.cbs_clients.specs.declared.poll.Poll.{Poll}
 use Rattle.cbs_clients.specs.declared.poll.Poll.TheVariants.{Nothing, Took, Closed, Full, OutOfMemory, NoSuchServer}
 use Rattle.cbs_clients.specs.Houses.{core_of, rings_of, received, handed_of, IsHouseOnTime, Made, Moves, MovesBy, LooksOnly, Polled, ServesOn, ServesBy}
-use Rattle.cbs_clients.specs.Meters.{NothingBeyond, NeverCharges, IsPaidFor, OrCharges}
+use Rattle.cbs_clients.specs.Meters.{NothingBeyond, NeverCharges, IsRunPaid, IsMove, all_steps}
 use Rattle.cbs_clients.specs.Steps.{messages_of, pops_of, pops, MayServe}
-use Rattle.cbs_steps.specs.Continuations.{MayDrain}
+use Rattle.cbs_steps.specs.Continuations.{◌⊕⊕◌, MayDrain}
 use Rattle.cbs_clients.proofs.MadeSteps.{made_both, made_nothing, made_look}
 use Rattle.cbs_clients.proofs.StepMessages.{pops-append}
-use Rattle.cbs_clients.proofs.Metered.{paid_stands, paid_pops, never_charge}
-use Rattle.cbs_core.proofs.Laws.{allowed_both, allowed_weaker}
+use Rattle.cbs_clients.proofs.Metered.{all_steps-append, moves-append, never_moves, weaker_moves, paid_pops}
+use Rattle.cbs_core.proofs.Laws.{allowed_weaker}
 use Rattle.cbs_core.proofs.OnTimeCores.{all_on_time, on_time_on}
 
 pub none_taken : {W : Type 0} (s : ℕ) (xs : List (Step W)) → pops xs ≡ 0 → messages_of s xs ≡ []
@@ -50,73 +50,60 @@ module _ {W A : Type 0} {g : Ghosts W} (work : Meaning W) (P : History W → Ste
   pub moves_on_time : (a b : House W A g) (n : ℕ) → HasHistory work (core_of a) → Moves work P a b n → IsHouseOnTime a → IsHouseOnTime b
   moves_on_time a b n history m = on_time_on work (core_of a) (core_of b) m.steps history m.made.steps m.made.keeps_time m.quiet
 
-module _ {W : Type 0} (work : Meaning W) (may : ℕ → ℕ → Type 0) (P : History W → Step W → Type 0) where
-  -- a step that is allowed, or a charge of a meter that never charges, is allowed
-  never_or : NeverCharges may → (N : History W) (x : Step W) → OrCharges work may P N x → P N x
-  never_or never N (Submit t job) p = p
-  never_or never N Run p = p
-  never_or never N (Advance n) p = p
-  never_or never N (Close t) p = p
-  never_or never N (Charge t n) p = absurd (never_charge work may N t n never p)
-
-module _ {W : Type 0} (work : Meaning W) (may : ℕ → ℕ → Type 0) (P Q : History W → Step W → Type 0) where
-  -- what one rule allows beside charges, a weaker one does
-  or_weaker : ((N : History W) (x : Step W) → P N x → Q N x) → (N : History W) (x : Step W) → OrCharges work may P N x → OrCharges work may Q N x
-  or_weaker w N (Submit t job) p = w N (Submit t job) p
-  or_weaker w N Run p = w N Run p
-  or_weaker w N (Advance n) p = w N (Advance n) p
-  or_weaker w N (Close t) p = w N (Close t) p
-  or_weaker w N (Charge t n) p = p
-
 module _ {W A : Type 0} {g : Ghosts W} (work : Meaning W) (may : ℕ → ℕ → Type 0) (P : History W → Step W → Type 0) where
   -- no step
   pub by_nothing : (a : House W A g) → MovesBy work may P a a 0
-  by_nothing a = record { steps = []; made = made_nothing work a; each = λ M agrees. tt; count = refl }
+  by_nothing a = record { moves = []; made = made_nothing work a; each = λ M agrees. tt; count = refl }
 
-  -- steps one after another
+  -- moves one after another
   pub by_both : (a b c : House W A g) (m n : ℕ) → MovesBy work may P a b m → MovesBy work may P b c n → MovesBy work may P a c (m + n)
-  by_both a b c m n p q = record {
-    steps = p.steps ++ q.steps;
-    made = made_both work a b c p.steps q.steps p.made q.made;
-    each = allowed_both work (OrCharges work may P) (core_of a) (core_of b) p.steps q.steps p.made.steps p.each q.each;
-    count = pops-append p.steps q.steps ∙ ap₂ ◌+◌ p.count q.count;
-  }
+  by_both a b c m n p q =
+      let xs = all_steps p.moves in
+      let ys = all_steps q.moves in
+      let all = all_steps-append p.moves q.moves in
+      record {
+        moves = p.moves ++ q.moves;
+        made = rw all (made_both work a b c xs ys p.made q.made);
+        each = λ M agrees. moves-append work may P M p.moves q.moves (p.each M agrees) (q.each (M ⊕⊕ xs) (p.made.steps M agrees));
+        count = rw all (pops-append xs ys ∙ ap₂ ◌+◌ p.count q.count);
+      }
 
   -- one step
-  pub by_step : (a b : House W A g) (x : Step W) → Made work a b (x ∷ []) → ((M : History W) → Agrees work (core_of a) M → OrCharges work may P M x)
-      → MovesBy work may P a b (pops_of x)
-  by_step a b x m p = record { steps = x ∷ []; made = m; each = λ M agrees. (p M agrees, tt); count = omega arith }
+  pub by_step : (a b : House W A g) (x : Step W) → Made work a b (x ∷ [])
+      → ((M : History W) → Agrees work (core_of a) M → IsMove work may P M (x ∷ [])) → MovesBy work may P a b (pops_of x)
+  by_step a b x m p = record { moves = (x ∷ []) ∷ []; made = m; each = λ M agrees. (p M agrees, tt); count = omega arith }
 
   -- one run, and what is paid for it
-  pub by_run : (a b : House W A g) (told : Ran) (paid : List (Step W)) → IsPaidFor may (core_of a).clock told paid → Made work a b (Run ∷ paid)
+  pub by_run : (a b : House W A g) (told : Ran) (paid : List (Step W)) → IsRunPaid may (core_of a).clock told paid → Made work a b (Run ∷ paid)
       → ((M : History W) → Agrees work (core_of a) M → reply.Ran told ≡ reply_in work M Run) → ((M : History W) → Agrees work (core_of a) M → P M Run)
       → MovesBy work may P a b 0
   by_run a b told paid pays made answer p = record {
-    steps = Run ∷ paid;
-    made = made;
-    each = λ M agrees. (p M agrees, paid_stands work may P M told paid (answer M agrees) (rw agrees.world.clock at pays));
-    count = let none = paid_pops may (core_of a).clock told paid pays in omega (arith, none);
+    moves = (Run ∷ paid) ∷ [];
+    made = rw (append-nil paid) made;
+    each = λ M agrees. ((p M agrees, record { told = told; answer = answer M agrees; pays = rw agrees.world.clock at pays }), tt);
+    count = let none = paid_pops may (core_of a).clock told paid pays in rw (append-nil paid) (omega (arith, none));
   }
 
   -- what takes no message receives none
   pub by_none : (a b : House W A g) → MovesBy work may P a b 0 → (s : ℕ) → received b s ≡ received a s
-  by_none a b m s = (m.made.seats s).received ∙ rw (none_taken s m.steps m.count) (append-nil (received a s))
+  by_none a b m s = (m.made.seats s).received ∙ rw (none_taken s (all_steps m.moves) m.count) (append-nil (received a s))
 
   -- what makes no step
   by_made : (a b : House W A g) → Made work a b [] → MovesBy work may P a b 0
-  by_made a b m = record { steps = []; made = m; each = λ M agrees. tt; count = refl }
+  by_made a b m = record { moves = []; made = m; each = λ M agrees. tt; count = refl }
 
   -- where a meter never charges, moves with it are moves without it
   pub by_never : (a b : House W A g) (n : ℕ) → NeverCharges may → TakesNoTime work P → MovesBy work may P a b n → Moves work P a b n
   by_never a b n never quiet m =
-      let each = allowed_weaker work (OrCharges work may P) P (core_of a) m.steps (never_or work may P never) m.each in
-      let still = allowed_weaker work P (IsQuietAfter work) (core_of a) m.steps quiet each in
+      let xs = all_steps m.moves in
+      let each : AllAllowed work P (core_of a) xs = λ M agrees. never_moves work may P never M m.moves (m.each M agrees) in
+      let still = allowed_weaker work P (IsQuietAfter work) (core_of a) xs quiet each in
       record {
-        steps = m.steps;
+        steps = xs;
         made = m.made;
         each = each;
         quiet = still;
-        on_time = all_on_time work (core_of a) m.steps m.made.keeps_time still;
+        on_time = all_on_time work (core_of a) xs m.made.keeps_time still;
         count = m.count;
       }
 
@@ -124,9 +111,9 @@ module _ {W A : Type 0} {g : Ghosts W} (work : Meaning W) (may : ℕ → ℕ →
   -- what one rule allows, a weaker one allows
   by_weaker : (a b : House W A g) (n : ℕ) → ((N : History W) (x : Step W) → P N x → Q N x) → MovesBy work may P a b n → MovesBy work may Q a b n
   by_weaker a b n w p = record {
-    steps = p.steps;
+    moves = p.moves;
     made = p.made;
-    each = allowed_weaker work (OrCharges work may P) (OrCharges work may Q) (core_of a) p.steps (or_weaker work may P Q w) p.each;
+    each = λ M agrees. weaker_moves work may P Q w M p.moves (p.each M agrees);
     count = p.count;
   }
 
@@ -148,10 +135,6 @@ module _ {W : Type 0} (work : Meaning W) where
 
   pub drain_quiet : TakesNoTime work (MayDrain work)
   drain_quiet N x p = serve_quiet N x (drain_serves N x p)
-
-  -- serving with a meter that never charges takes nobody's time
-  pub serve_by_quiet : (may : ℕ → ℕ → Type 0) → NeverCharges may → TakesNoTime work (OrCharges work may (MayServe work))
-  serve_by_quiet may never N x p = serve_quiet N x (never_or work may (MayServe work) never N x p)
 
 module _ {W A : Type 0} {g : Ghosts W} (work : Meaning W) where
   -- serving hands nothing out
@@ -184,8 +167,8 @@ module _ {W A : Type 0} {g : Ghosts W} (work : Meaning W) (may : ℕ → ℕ →
   serves_poll a b s Full k = serves_made a b k.0
   serves_poll a b s OutOfMemory k = serves_made a b k.0
   serves_poll a b s NoSuchServer k = serves_made a b k.0
-  serves_poll a b s (Took q) k = record { moves = (1, by_step work may (MayServe work) a b (Submit s k.0) k.1 (λ M agrees. tt)) }
-  serves_poll a b s Closed k = record { moves = (1, by_step work may (MayServe work) a b (Close s) k.0 (λ M agrees. tt)) }
+  serves_poll a b s (Took q) k = record { moves = (1, by_step work may (MayServe work) a b (Submit s k.0) k.1 (λ M agrees. (tt, refl))) }
+  serves_poll a b s Closed k = record { moves = (1, by_step work may (MayServe work) a b (Close s) k.0 (λ M agrees. (tt, refl))) }
 
   -- and a look at the rings
   pub serves_look : (a b : House W A g) → LooksOnly a b → ServesBy work may a b

@@ -22,6 +22,7 @@ use Rattle.cbs_core.specs.Held.{CoreHeld}
 use Rattle.cbs_clients.specs.UntilClosed.{open_servers, moves_on, IsDue, idle_after, turn_stop, TakesDueTurns, RunsOn, IsStoppedBy, RunEnds, RunsTelling}
 use Rattle.cbs_clients.specs.UntilClosed.{RunStops}
 use Rattle.cbs_clients.proofs.Moves.{serves_none, serves_then, by_handed, none_taken}
+use Rattle.cbs_clients.specs.Meters.{all_steps}
 use Rattle.cbs_clients.proofs.Metered.{paid_messages}
 use Rattle.cbs_clients.proofs.Turns.{lacked_behind, stopped_by}
 use Rattle.cbs_clients.proofs.Tells.{tells_none, tells_both}
@@ -137,7 +138,7 @@ module _ {W A : Type 0} {g : Ghosts W} (may : ℕ → ℕ → Type 0) (a b : Hou
   pub serves_open : ServesBy g.meaning may a b → open_servers (core_of b) ≤ open_servers (core_of a)
   serves_open s =
       let m = s.moves.1 in
-      opens_none g.meaning (core_of a) (core_of b) m.steps a.housed.history m.made.steps (same_servers g.meaning a b a.housed b.housed m.made.rings)
+      opens_none g.meaning (core_of a) (core_of b) (all_steps m.moves) a.housed.history m.made.steps (same_servers g.meaning a b a.housed b.housed m.made.rings)
 
   -- a turn that takes no message receives none
   none_received : (t : Turn) → TakesOwnTurn g.meaning may a b t → t.took ≡ 0 → (s : ℕ) → received b s ≡ received a s

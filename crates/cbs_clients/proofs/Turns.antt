@@ -33,7 +33,7 @@ use Rattle.cbs_clients.specs.declared.turn.Turn.{Turn}
 use Rattle.cbs_results.specs.Collected.{shelf_at, no_shelf}
 use Rattle.cbs_clients.specs.HouseInvariant.{Housed}
 use Rattle.cbs_clients.specs.Houses.{core_of, results_of, handed_of, result_count, Collects, ServesBy, MovesBy}
-use Rattle.cbs_clients.specs.Turns.{GoesOn, GoesOnEach, StaysBy, IsNumbered, TakesOwnTurn, lacks_memory, Answered, PollsEach, ArePolls}
+use Rattle.cbs_clients.specs.Turns.{GoesOn, StaysBy, IsNumbered, TakesOwnTurn, lacks_memory, Answered, PollsEach, ArePolls}
 use Rattle.cbs_clients.specs.UntilClosed.{meets_end, turn_stop, LackedMemory, RunStops}
 use Rattle.cbs_clients.specs.Steps.{MayServe}
 use Rattle.cbs_clients.proofs.Metered.{paid_is, unit_later}
@@ -146,22 +146,16 @@ module _ {W A : Type 0} {g : Ghosts W} (work : Meaning W) (may : ℕ → ℕ →
   -- what a turn does behind its polls are steps of serving
   serves_on : (a b : House W A g) (r : Ran) (n : ℕ) → GoesOn work may a b r n → ServesBy work may a b
   serves_on a b r n (inl k) = record { moves = (0, by_run work may (MayServe work) a b r k.0.paid k.0.pays k.0.made k.0.answer (λ M agrees. tt)) }
-  serves_on a b r n (inr (inl k)) = record { moves = (0, by_step work may (MayServe work) a b (Advance n) k.0.made k.0.needed) }
+  serves_on a b r n (inr (inl k)) = record { moves = (0, by_step work may (MayServe work) a b (Advance n) k.0.made (λ M agrees. (k.0.needed M agrees, refl))) }
   serves_on a b r n (inr (inr k)) = rw k.0 (serves_none work may a)
 
   -- what a turn does after its polls is a step of a drain, if the clock is later
   pub drained_on : (a b : House W A g) (r : Ran) (n : ℕ) → GoesOn work may a b r n → (core_of a).clock < (core_of b).clock
       → MovesBy work may (MayDrain work) a b 0
   drained_on a b r n (inl k) later = by_run work may (MayDrain work) a b r k.0.paid k.0.pays k.0.made k.0.answer k.0.useful
-  drained_on a b r n (inr (inl k)) later = by_step work may (MayDrain work) a b (Advance n) k.0.made k.0.needed
+  drained_on a b r n (inr (inl k)) later = by_step work may (MayDrain work) a b (Advance n) k.0.made (λ M agrees. (k.0.needed M agrees, refl))
   drained_on a b r n (inr (inr k)) later =
       let e : (core_of b).clock ≡ (core_of a).clock = ap (λ (x : House W A g). (core_of x).clock) k.0 in absurd (omega (arith, later, e))
-
-  -- one more, behind others
-  pub went_more : (a b c : House W A g) (ts : List (Ran × ℕ)) (t : Ran × ℕ) → GoesOnEach work may a ts b → GoesOn work may b c t.0 t.1
-      → GoesOnEach work may a (ts ++ t ∷ []) c
-  went_more a b c [] t h k = (c, subst (λ x. GoesOn work may x c t.0 t.1) h k, refl)
-  went_more a b c (u ∷ ts) t h k = (h.0, h.1, went_more h.0 b c ts t h.2 k)
 
   -- polls, and what a turn does after them, are steps of serving
   pub polls_serve : (a b c : House W A g) (n k j : ℕ) (m : Bool) (r : Ran) → PollsEach work n a b k m → GoesOn work may b c r j → ServesBy work may a c

@@ -25,7 +25,7 @@ use Rattle.cbs_clients.specs.Clients.{sent_by, free, most_jobs, SameClient}
 use Rattle.cbs_clients.specs.Houses.{core_of, rings_of, seat_at, new_seat, IsHouseOnTime, KeepsResults, told_answer, Made, SameHouse, Polled}
 use Rattle.cbs_clients.specs.Houses.{ServesOn, ServesBy, Collects, NamesJob}
 use Rattle.cbs_clients.specs.Messages.{jobs_among, has_end}
-use Rattle.cbs_clients.specs.Meters.{NothingBeyond, NeverCharges, IsPaidFor}
+use Rattle.cbs_clients.specs.Meters.{NothingBeyond, NeverCharges, IsRunPaid}
 use Rattle.cbs_clients.specs.Turns.{IsNumbered, TakesOwnTurn}
 use Rattle.cbs_clients.specs.declared.client.Client.{Client}
 use Rattle.cbs_clients.specs.declared.client.SendRefused.{SendRefused}
@@ -67,7 +67,7 @@ module _ {W A : Type 0} {g : Ghosts W} where
   pub record RunBy (work : Meaning W) (may : ℕ → ℕ → Type 0) (old : House W A g) (told : Ran) (new : House W A g) : Type 0 where
     pub reply : (M : History W) → Agrees work (core_of old) M → reply.Ran told ≡ reply_in work M step.Run
     pub paid : List (Step W)
-    pub pays : IsPaidFor may (core_of old).clock told paid
+    pub pays : IsRunPaid may (core_of old).clock told paid
     pub made : Made work old new (step.Run ∷ paid)
     pub on_time : NeverCharges may → IsHouseOnTime old → IsHouseOnTime new
     pub collects : Collects told old new

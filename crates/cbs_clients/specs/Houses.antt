@@ -21,10 +21,10 @@ use Rattle.cbs_clients.specs.declared.poll.Poll.{Poll}
 use Rattle.cbs_clients.specs.declared.poll.Poll.TheVariants.{Nothing, Took, Closed, Full, OutOfMemory, NoSuchServer}
 use Rattle.cbs_results.specs.Collected.{shelf_at}
 use Rattle.cbs_clients.specs.Messages.{jobs_among}
-use Rattle.cbs_clients.specs.Meters.{OrCharges}
+use Rattle.cbs_clients.specs.Meters.{AreMoves, all_steps}
 use Rattle.cbs_clients.specs.Rings.{rings_in, received_in, known_in, Ring}
 use Rattle.cbs_clients.specs.Steps.{messages_of, pops, MayServe}
-use Rattle.cbs_core.specs.Agreement.{Follows, AllAllowed, AllOnTime}
+use Rattle.cbs_core.specs.Agreement.{Agrees, Follows, AllAllowed, AllOnTime}
 
 -- What a house has of one server: the messages received, oldest first; those that it knows to wait in the ring, oldest first; how many
 -- results were handed out; and the results that are kept, in order.
@@ -146,13 +146,13 @@ module _ {W A : Type 0} {g : Ghosts W} where
     pub on_time : AllOnTime work (core_of old) steps
     pub count : pops steps ≡ n
 
-  -- The same with a meter that may tell so: the house made some steps, each of which is allowed at its place, or is the charge of the
-  -- unit right before it; and they took n messages.
+  -- The same with a meter that may tell so: the house made some steps, each of which is allowed at its place; right after each unit it
+  -- was charged what the meter told of it, and nothing else was charged; and the steps took n messages.
   pub record MovesBy (work : Meaning W) (may : ℕ → ℕ → Type 0) (allowed : History W → Step W → Type 0) (old new : House W A g) (n : ℕ) : Type 0 where
-    pub steps : List (Step W)
-    pub made : Made work old new steps
-    pub each : AllAllowed work (OrCharges work may allowed) (core_of old) steps
-    pub count : pops steps ≡ n
+    pub moves : List (List (Step W))
+    pub made : Made work old new (all_steps moves)
+    pub each : (M : History W) → Agrees work (core_of old) M → AreMoves work may allowed M moves
+    pub count : pops (all_steps moves) ≡ n
 
   -- the house made some steps of serving
   pub record ServesOn (work : Meaning W) (old new : House W A g) : Type 0 where

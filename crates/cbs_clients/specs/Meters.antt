@@ -1,8 +1,9 @@
 -- What a meter tells of a unit, and what the unit is charged for it.
-use Rattle.std.specs.Prelude.{ℕ, zero, suc, ◌≡◌, ◌+◌, ◌-◌, ◌/◌, ◌^◌, min, List, [], ◌∷◌}
+use Rattle.std.specs.Prelude.{ℕ, zero, suc, ◌≡◌, ◌+◌, ◌-◌, ◌/◌, ◌^◌, min, List, [], ◌∷◌, ◌++◌}
 use Rattle.cbs_job.specs.Work.{Meaning}
 use Rattle.cbs_rules.specs.Rules.{clock_end}
-use Rattle.cbs_steps.specs.History.{History, ◌⊕◌, world_after, reply_in}
+use Rattle.cbs_steps.specs.Continuations.{◌⊕⊕◌}
+use Rattle.cbs_steps.specs.History.{History, world_after, reply_in}
 use Rattle.cbs_steps.specs.declared.reply.Ran.{Ran}
 use Rattle.cbs_steps.specs.declared.reply.Ran.TheVariants as ran
 use Rattle.cbs_steps.specs.declared.reply.Reply.TheVariants as reply
@@ -33,30 +34,39 @@ module _ {W : Type 0} where
   charge_steps s (suc n) = Charge s (suc n) ∷ []
 
   -- a unit of server s that began at tick `start` was paid for: by a charge of what the meter told of it
-  pub record IsPaid (may : ℕ → ℕ → Type 0) (start s : ℕ) (paid : List (Step W)) : Type 0 where
+  pub record IsUnitPaid (may : ℕ → ℕ → Type 0) (start s : ℕ) (paid : List (Step W)) : Type 0 where
     pub beyond : ℕ
     pub told : may s beyond
     pub charged : paid ≡ charge_steps s (ticks_charged start beyond)
 
   -- the same of what a run told, which began at tick `start`: a unit is paid for; where none ran, nothing is paid
-  abbrev pub IsPaidFor : (ℕ → ℕ → Type 0) → ℕ → Ran → List (Step W) → Type 0
-  IsPaidFor may start ran.Idle paid = paid ≡ []
-  IsPaidFor may start ran.ClockEnd paid = paid ≡ []
-  IsPaidFor may start (ran.Unit s q) paid = IsPaid may start s paid
-  IsPaidFor may start (ran.Done c) paid = IsPaid may start c.server paid
+  abbrev pub IsRunPaid : (ℕ → ℕ → Type 0) → ℕ → Ran → List (Step W) → Type 0
+  IsRunPaid may start ran.Idle paid = paid ≡ []
+  IsRunPaid may start ran.ClockEnd paid = paid ≡ []
+  IsRunPaid may start (ran.Unit s q) paid = IsUnitPaid may start s paid
+  IsRunPaid may start (ran.Done c) paid = IsUnitPaid may start c.server paid
 
-  -- where a house with such a meter makes a charge: right after the unit that is paid for by it
-  pub record MayCharge (work : Meaning W) (may : ℕ → ℕ → Type 0) (M : History W) (s n : ℕ) : Type 0 where
-    pub before : History W
+  -- the next run after M told something, and was paid for by these steps
+  pub record IsPaidAfter (work : Meaning W) (may : ℕ → ℕ → Type 0) (M : History W) (paid : List (Step W)) : Type 0 where
     pub told : Ran
-    pub newest : M ≡ before ⊕ Run
-    pub answer : reply.Ran told ≡ reply_in work before Run
-    pub paid : IsPaidFor may (world_after work before).now told (Charge s n ∷ [])
+    pub answer : reply.Ran told ≡ reply_in work M Run
+    pub pays : IsRunPaid may (world_after work M).now told paid
 
-  -- where a house with such a meter makes a step: as a rule allows it, and a charge as above
-  abbrev pub OrCharges : Meaning W → (ℕ → ℕ → Type 0) → (History W → Step W → Type 0) → History W → Step W → Type 0
-  OrCharges work may allowed M (Submit s job) = allowed M (Submit s job)
-  OrCharges work may allowed M Run = allowed M Run
-  OrCharges work may allowed M (Advance n) = allowed M (Advance n)
-  OrCharges work may allowed M (Close s) = allowed M (Close s)
-  OrCharges work may allowed M (Charge s n) = MayCharge work may M s n
+  -- a move after M of a house with such a meter: one step that a rule allows there, and right after a run the steps that pay for it
+  abbrev pub IsMove : Meaning W → (ℕ → ℕ → Type 0) → (History W → Step W → Type 0) → History W → List (Step W) → Type 0
+  IsMove work may allowed M [] = ⊥
+  IsMove work may allowed M (Submit s job ∷ xs) = allowed M (Submit s job) × (xs ≡ [])
+  IsMove work may allowed M (Run ∷ paid) = allowed M Run × IsPaidAfter work may M paid
+  IsMove work may allowed M (Advance n ∷ xs) = allowed M (Advance n) × (xs ≡ [])
+  IsMove work may allowed M (Close s ∷ xs) = allowed M (Close s) × (xs ≡ [])
+  IsMove work may allowed M (Charge s n ∷ xs) = ⊥
+
+  -- moves after M, one after another
+  abbrev pub AreMoves : Meaning W → (ℕ → ℕ → Type 0) → (History W → Step W → Type 0) → History W → List (List (Step W)) → Type 0
+  AreMoves work may allowed M [] = Unit {0}
+  AreMoves work may allowed M (m ∷ ms) = IsMove work may allowed M m × AreMoves work may allowed (M ⊕⊕ m) ms
+
+  -- the steps of moves, in order
+  abbrev pub all_steps : List (List (Step W)) → List (Step W)
+  all_steps [] = []
+  all_steps (m ∷ ms) = m ++ all_steps ms

@@ -8,7 +8,7 @@ use Rattle.cbs_clients.specs.declared.house.House.{House}
 use Rattle.cbs_clients.specs.declared.poll.Poll.{Poll}
 use Rattle.cbs_clients.specs.declared.poll.Poll.TheVariants as poll
 use Rattle.cbs_clients.specs.Houses.{Made, Polled, core_of, result_count}
-use Rattle.cbs_clients.specs.Meters.{IsPaidFor}
+use Rattle.cbs_clients.specs.Meters.{IsRunPaid}
 use Rattle.cbs_clients.specs.Steps.{pops}
 use Rattle.cbs_core.specs.Agreement.{Agrees}
 use Rattle.cbs_steps.specs.Continuations.{IsNeeded, IsUseful}
@@ -71,7 +71,7 @@ module _ {W A : Type 0} {g : Ghosts W} where
   -- somebody was ready, and the house ran one unit, which was answered so and paid for by a meter that may tell so
   pub record RunsOne (work : Meaning W) (may : ℕ → ℕ → Type 0) (old new : House W A g) (told : Ran) : Type 0 where
     pub paid : List (Step W)
-    pub pays : IsPaidFor may (core_of old).clock told paid
+    pub pays : IsRunPaid may (core_of old).clock told paid
     pub made : Made work old new (Run ∷ paid)
     pub useful : (M : History W) → Agrees work (core_of old) M → IsUseful work (world_after work M)
     pub answer : (M : History W) → Agrees work (core_of old) M → reply.Ran told ≡ reply_in work M Run
@@ -92,11 +92,6 @@ module _ {W A : Type 0} {g : Ghosts W} where
   abbrev pub GoesOn : Meaning W → (ℕ → ℕ → Type 0) → House W A g → House W A g → Ran → ℕ → Type 0
   GoesOn work may old new told n =
       (RunsOne work may old new told × (n ≡ 0)) ⊎ (Advances work old new n × (told ≡ ran.Idle)) ⊎ ((new ≡ old) × StaysBy told old × (n ≡ 0))
-
-  -- the house went on, once for each of these, one after another, and told them: what ran, and by how many ticks it advanced
-  abbrev pub GoesOnEach : Meaning W → (ℕ → ℕ → Type 0) → House W A g → List (Ran × ℕ) → House W A g → Type 0
-  GoesOnEach work may old [] new = new ≡ old
-  GoesOnEach work may old (t ∷ ts) new = (next : House W A g) × GoesOn work may old next t.0 t.1 × GoesOnEach work may next ts new
 
   -- a completion has the number of its place among the results of its server, of which it is the next
   abbrev pub IsNumbered : Ran → House W A g → Type 0

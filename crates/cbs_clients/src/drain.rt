@@ -9,13 +9,10 @@ use std::alloc::Allocator;
 
 impl<W: Work, A: Allocator> House<W, A> {
     ghost use Rattle.std.specs.Prelude.{ℕ, ◌≡◌, true, false, OnOk, IfErr};
-    ghost use Rattle.std.specs.Prelude.{List};
     ghost use Rattle.cbs_clients.specs.Houses.{core_of, rings_of, received, IsHouseOnTime, AllFinished, Moves, MovesBy};
     ghost use Rattle.cbs_clients.specs.Meters.{NeverCharges};
-    ghost use Rattle.cbs_clients.specs.Turns.{GoesOnEach};
     ghost use Rattle.cbs_core.specs.Held.{HoldsJob, HoldsNoJob, IsAtEnd};
     ghost use Rattle.cbs_steps.specs.Continuations.{MayDrain};
-    ghost use Rattle.cbs_steps.specs.declared.reply.Ran.{Ran};
 
     /// Runs until no accepted job is unfinished. If nobody is ready it advances the clock by the idle span, so
     /// that no time is lost; it takes no message. At `Ok` the results of each server, after those that were
@@ -41,7 +38,6 @@ impl<W: Work, A: Allocator> House<W, A> {
     /// Refuses as [`drain`](House::drain).
     pub fn drain_metered<M: Meter>(&mut self, meter: &mut M) -> Result<(), HouseError>
         ensures moves { MovesBy W.meaning M.may_tell (MayDrain W.meaning) self.old self.new 0 }
-        ensures goes_on { (told : List (Ran × ℕ)) × GoesOnEach W.meaning M.may_tell self.old told self.new }
         ensures on_time { NeverCharges M.may_tell → IsHouseOnTime self.old → IsHouseOnTime self.new }
         ensures received { (s : ℕ) → received self.new s ≡ received self.old s }
         ensures rings { rings_of self.new ≡ rings_of self.old }

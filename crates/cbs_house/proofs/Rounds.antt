@@ -11,18 +11,18 @@ use Rattle.cbs_steps.specs.declared.step.Step.TheVariants.{Submit, Run, Advance,
 use Rattle.cbs_clients.specs.declared.house.House.{House}
 use Rattle.cbs_clients.specs.Calls.{RunBy}
 use Rattle.cbs_clients.specs.Houses.{core_of, rings_of, ServesBy}
-use Rattle.cbs_clients.specs.Meters.{NeverCharges, IsPaidFor, OrCharges}
+use Rattle.cbs_clients.specs.Meters.{NeverCharges, IsRunPaid, IsMove, AreMoves, all_steps}
 use Rattle.cbs_clients.specs.Turns.{PollsEach, ArePolls}
 use Rattle.cbs_clients.specs.Steps.{pops, MayServe}
 use Rattle.cbs_steps.specs.Continuations.{◌⊕⊕◌, EachAllowed}
-use Rattle.cbs_core.specs.Agreement.{AllAllowed}
+use Rattle.cbs_core.specs.Agreement.{Agrees, AllAllowed}
 use Rattle.cbs_core.specs.Held.{IsClosed}
 use Rattle.cbs_steps.specs.Quiet.{IsQuietAfter}
 use Rattle.cbs_house.specs.Rounds.{RoundTurn, turn_steps, steps_in, IsTurn, RunsAfter, EachRuns, TakesTurn, TakesExactly, TakesTurns}
 use Rattle.cbs_clients.proofs.MadeSteps.{made_nothing, made_both}
-use Rattle.cbs_clients.proofs.Metered.{paid_stands, paid_pops}
-use Rattle.cbs_clients.proofs.Moves.{serves_then, serve_by_quiet}
-use Rattle.cbs_steps.proofs.Laws.{after-append, allowed-append}
+use Rattle.cbs_clients.proofs.Metered.{all_steps-append, moves-append, never_moves, paid_pops}
+use Rattle.cbs_clients.proofs.Moves.{serves_then, serve_quiet}
+use Rattle.cbs_steps.proofs.Laws.{after-append}
 use Rattle.cbs_core.proofs.Laws.{allowed_weaker}
 use Rattle.cbs_core.proofs.OnTimeCores.{all_on_time}
 use Rattle.cbs_clients.proofs.StepMessages.{pops-append}
@@ -45,6 +45,30 @@ module _ {W : Type 0} where
       let some = pops-append t.polls (Run ∷ t.paid) in
       omega (arith, none, some)
 
+  -- each step as a move
+  abbrev alone : List (Step W) → List (List (Step W))
+  alone [] = []
+  alone (x ∷ xs) = (x ∷ []) ∷ alone xs
+
+  alone_steps : (xs : List (Step W)) → all_steps (alone xs) ≡ xs
+  alone_steps [] = refl
+  alone_steps (x ∷ xs) = ap (λ (ys : List (Step W)). x ∷ ys) (alone_steps xs)
+
+  -- the moves of a turn, and of turns
+  abbrev moves_of : RoundTurn W → List (List (Step W))
+  moves_of t = alone t.polls ++ (Run ∷ t.paid) ∷ []
+
+  abbrev moves_in : List (RoundTurn W) → List (List (Step W))
+  moves_in [] = []
+  moves_in (t ∷ ts) = moves_of t ++ moves_in ts
+
+  turn_all : (t : RoundTurn W) → all_steps (moves_of t) ≡ turn_steps t
+  turn_all t = all_steps-append (alone t.polls) ((Run ∷ t.paid) ∷ []) ∙ rw (alone_steps t.polls, append-nil t.paid) refl
+
+  moves_all : (ts : List (RoundTurn W)) → all_steps (moves_in ts) ≡ steps_in ts
+  moves_all [] = refl
+  moves_all (t ∷ ts) = all_steps-append (moves_of t) (moves_in ts) ∙ rw (turn_all t, moves_all ts) refl
+
   module _ (work : Meaning W) (may : ℕ → ℕ → Type 0) where
     runs-append : (M : History W) (turns : List (RoundTurn W)) (t : RoundTurn W) → EachRuns work M turns → RunsAfter work (M ⊕⊕ steps_in turns) t
         → EachRuns work M (turns ++ t ∷ [])
@@ -54,31 +78,31 @@ module _ {W : Type 0} where
       runs-append (M ⊕⊕ turn_steps u) turns t h.1 (subst (λ (N : History W). RunsAfter work N t) (after-append M (turn_steps u) (steps_in turns)) k),
     )
 
-    -- polls may be made anywhere
-    allowed_polls : (first n : ℕ) (xs ys : List (Step W)) (M : History W) → ArePolls first n xs
-        → EachAllowed (OrCharges work may (MayServe work)) (M ⊕⊕ xs) ys → EachAllowed (OrCharges work may (MayServe work)) M (xs ++ ys)
-    allowed_polls first n [] ys M p q = q
-    allowed_polls first n (Submit s job ∷ xs) ys M p q = (tt, allowed_polls (s + 1) n xs ys (M ⊕ Submit s job) p.2 q)
-    allowed_polls first n (Close s ∷ xs) ys M p q = (tt, allowed_polls (s + 1) n xs ys (M ⊕ Close s) p.2 q)
-    allowed_polls first n (Run ∷ xs) ys M p q = absurd p
-    allowed_polls first n (Advance m ∷ xs) ys M p q = absurd p
-    allowed_polls first n (Charge s m ∷ xs) ys M p q = absurd p
+    -- polls are moves
+    polls_move : (first n : ℕ) (xs : List (Step W)) (M : History W) → ArePolls first n xs → AreMoves work may (MayServe work) M (alone xs)
+    polls_move first n [] M p = tt
+    polls_move first n (Submit s job ∷ xs) M p = ((tt, refl), polls_move (s + 1) n xs (M ⊕ Submit s job) p.2)
+    polls_move first n (Close s ∷ xs) M p = ((tt, refl), polls_move (s + 1) n xs (M ⊕ Close s) p.2)
+    polls_move first n (Run ∷ xs) M p = absurd p
+    polls_move first n (Advance m ∷ xs) M p = absurd p
+    polls_move first n (Charge s m ∷ xs) M p = absurd p
 
-    -- so may a run, and what is paid for it right after it
-    allowed_turn : (n : ℕ) (t : RoundTurn W) (M : History W) → IsTurn may n t → RunsAfter work M t
-        → EachAllowed (OrCharges work may (MayServe work)) M (turn_steps t)
-    allowed_turn n t M is runs =
-        allowed_polls 0 n t.polls (Run ∷ t.paid) M is.polls (
+    -- so is a run with what is paid for it
+    turn_moves : (n : ℕ) (t : RoundTurn W) (M : History W) → IsTurn may n t → RunsAfter work M t → AreMoves work may (MayServe work) M (moves_of t)
+    turn_moves n t M is runs =
+        let run : IsMove work may (MayServe work) (M ⊕⊕ t.polls) (Run ∷ t.paid) = (
           tt,
-          paid_stands work may (MayServe work) (M ⊕⊕ t.polls) t.told t.paid runs.answer
-              (subst (λ start. IsPaidFor may start t.told t.paid) runs.start is.pays),
-        )
+          record { told = t.told; answer = runs.answer; pays = subst (λ start. IsRunPaid may start t.told t.paid) runs.start is.pays },
+        ) in
+        moves-append work may (MayServe work) M (alone t.polls) ((Run ∷ t.paid) ∷ []) (polls_move 0 n t.polls M is.polls)
+        (subst (λ (xs : List (Step W)). AreMoves work may (MayServe work) (M ⊕⊕ xs) ((Run ∷ t.paid) ∷ [])) (sym (alone_steps t.polls)) (run, tt))
 
-    allowed_turns : (n : ℕ) (turns : List (RoundTurn W)) (M : History W) → AllByRecursion (IsTurn may n) turns → EachRuns work M turns
-        → EachAllowed (OrCharges work may (MayServe work)) M (steps_in turns)
-    allowed_turns n [] M each runs = tt
-    allowed_turns n (t ∷ turns) M each runs = allowed-append (OrCharges work may (MayServe work)) M (turn_steps t) (steps_in turns)
-        (allowed_turn n t M each.0 runs.0) (allowed_turns n turns (M ⊕⊕ turn_steps t) each.1 runs.1)
+    each_moves : (n : ℕ) (turns : List (RoundTurn W)) (M : History W) → AllByRecursion (IsTurn may n) turns → EachRuns work M turns
+        → AreMoves work may (MayServe work) M (moves_in turns)
+    each_moves n [] M each runs = tt
+    each_moves n (t ∷ turns) M each runs = moves-append work may (MayServe work) M (moves_of t) (moves_in turns) (turn_moves n t M each.0 runs.0)
+        (subst (λ (xs : List (Step W)). AreMoves work may (MayServe work) (M ⊕⊕ xs) (moves_in turns)) (sym (turn_all t))
+        (each_moves n turns (M ⊕⊕ turn_steps t) each.1 runs.1))
 
 module _ {W A : Type 0} {g : Ghosts W} (work : Meaning W) (may : ℕ → ℕ → Type 0) where
   -- all servers are polled, and then the house runs
@@ -113,18 +137,20 @@ module _ {W A : Type 0} {g : Ghosts W} (work : Meaning W) (may : ℕ → ℕ →
             rw (steps_in-append h.turns t.turn) (omega (arith, pops-append (steps_in h.turns) (turn_steps t.turn), turn_pops may servers t.turn is, i, j));
       }
 
-  allowed_all : (exactly n : ℕ) (a b : House W A g) (k : TakesExactly work may exactly a b n)
-      → AllAllowed work (OrCharges work may (MayServe work)) (core_of a) (steps_in k.turns)
-  allowed_all exactly n a b k = λ M agrees. allowed_turns work may (length (core_of a).faces) k.turns M k.each (k.runs M agrees)
+  all_move : (exactly n : ℕ) (a b : House W A g) (k : TakesExactly work may exactly a b n) (M : History W) → Agrees work (core_of a) M
+      → AreMoves work may (MayServe work) M (moves_in k.turns)
+  all_move exactly n a b k M agrees = each_moves work may (length (core_of a).faces) k.turns M k.each (k.runs M agrees)
 
   -- turns that are at most so many, and fewer only where these servers are closed
   pub turns_within : (most turns : ℕ) (servers : List ℕ) (a b : House W A g) (n : ℕ) → turns ≤ most → (turns < most → All (IsClosed (core_of b)) servers)
       → TakesExactly work may turns a b n → TakesTurns work may most servers a b n
   turns_within most turns servers a b n within fewer k =
       let xs = steps_in k.turns in
+      let each : NeverCharges may → AllAllowed work (MayServe work) (core_of a) xs =
+      λ never M agrees. subst (EachAllowed (MayServe work) M) (moves_all k.turns)
+      (never_moves work may (MayServe work) never M (moves_in k.turns) (all_move turns n a b k M agrees)) in
       let quiet : NeverCharges may → AllAllowed work (IsQuietAfter work) (core_of a) xs =
-      λ never. allowed_weaker work (OrCharges work may (MayServe work)) (IsQuietAfter work) (core_of a) xs (serve_by_quiet work may never)
-      (allowed_all turns n a b k) in
+      λ never. allowed_weaker work (MayServe work) (IsQuietAfter work) (core_of a) xs (serve_quiet work) (each never) in
       record {
         turns = turns;
         within = within;
@@ -141,7 +167,10 @@ module _ {W A : Type 0} {g : Ghosts W} (work : Meaning W) (may : ℕ → ℕ →
   pub serves_turns : (most : ℕ) (servers : List ℕ) (a b : House W A g) (n : ℕ) → TakesTurns work may most servers a b n → ServesBy work may a b
   serves_turns most servers a b n t =
       let k = t.taken in
-      record { moves = (n, record { steps = steps_in k.turns; made = k.made; each = allowed_all t.turns n a b k; count = k.count }) }
+      let all = moves_all k.turns in
+      record {
+        moves = (n, record { moves = moves_in k.turns; made = rw all k.made; each = all_move t.turns n a b k; count = rw all k.count });
+      }
 
   -- a round, and what is done behind it
   pub serves_round : (most : ℕ) (servers : List ℕ) (a b c d : House W A g) (n : ℕ) → ServesBy work may a b → TakesTurns work may most servers b c n

@@ -26,6 +26,7 @@ use Rattle.cbs_core.specs.Held.{HoldsNoJob, held_at}
 use Rattle.cbs_results.specs.Collected.{shelf_at}
 use Rattle.cbs_clients.proofs.HouseInvariant.{counts}
 use Rattle.cbs_clients.specs.Messages.{has_end, end_is_last}
+use Rattle.cbs_clients.specs.Meters.{all_steps}
 use Rattle.cbs_house.specs.Rounds.{Standing, IsTaken, IsSettled}
 use Rattle.cbs_clients.specs.Steps.{messages_of}
 use Rattle.cbs_clients.proofs.RingLooks.{prefix_along, prefix_same, opened_within}
@@ -82,7 +83,7 @@ module _ {W A : Type 0} {g : Ghosts W} where
   pub standing_moved : (work : Meaning W) (may : ℕ → ℕ → Type 0) (P : History W → Step W → Type 0) (a b : House W A g) (c : Client W A g) (n : ℕ)
       → MovesBy work may P a b 0
       → Standing a c n → Standing b c n
-  standing_moved work may P a b c n m h = standing_made work a b c n m.steps m.made (none_taken (server_of c) m.steps m.count) h
+  standing_moved work may P a b c n m h = standing_made work a b c n (all_steps m.moves) m.made (none_taken (server_of c) (all_steps m.moves) m.count) h
 
   -- the first of them is taken
   taken_first : (a b : House W A g) (c : Client W A g) (n : ℕ) (m : Message W) (rest : List (Message W))
@@ -148,7 +149,7 @@ module _ {W A : Type 0} {g : Ghosts W} where
 
   -- steps receive more
   pub received_more : (work : Meaning W) (may : ℕ → ℕ → Type 0) (a b : House W A g) → ServesBy work may a b → (s : ℕ) → IsPrefix (received a s) (received b s)
-  received_more work may a b m s = let x = m.moves.1 in (messages_of s x.steps, sym (x.made.seats s).received)
+  received_more work may a b m s = let x = m.moves.1 in (messages_of s (all_steps x.moves), sym (x.made.seats s).received)
 
   pub taken_set : (a : House W A g) (fs : List (Feed W A g)) (i : ℕ) (f : Feed W A g) → All (IsTaken a) fs → IsTaken a f → All (IsTaken a) (set fs i f)
   taken_set a fs i f h k = All-set (IsTaken a) fs i f k h

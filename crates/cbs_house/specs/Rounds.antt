@@ -15,7 +15,7 @@ use Rattle.cbs_clients.specs.Clients.{server_of, sent_by, AreOpened}
 use Rattle.cbs_house.specs.Feeds.{client_of, IsDone, all_jobs}
 use Rattle.cbs_clients.specs.Houses.{core_of, rings_of, received, known, results_of, handed_of, Made}
 use Rattle.cbs_core.specs.Held.{HoldsNoJob, IsAtEnd, IsClosed}
-use Rattle.cbs_clients.specs.Meters.{NeverCharges, IsPaidFor}
+use Rattle.cbs_clients.specs.Meters.{NeverCharges, IsRunPaid}
 use Rattle.cbs_clients.specs.Steps.{pops}
 use Rattle.cbs_core.specs.Agreement.{Agrees, AllAllowed, AllOnTime}
 use Rattle.cbs_steps.specs.Continuations.{◌⊕⊕◌}
@@ -48,7 +48,7 @@ module _ {W : Type 0} where
   -- unit that ran then was paid for, if one ran
   pub record IsTurn (may : ℕ → ℕ → Type 0) (servers : ℕ) (t : RoundTurn W) : Type 0 where
     pub polls : ArePolls 0 servers t.polls
-    pub pays : IsPaidFor may t.start t.told t.paid
+    pub pays : IsRunPaid may t.start t.told t.paid
 
   -- the run of a turn that was taken after M began at that tick, and told what the rules give
   pub record RunsAfter (work : Meaning W) (M : History W) (t : RoundTurn W) : Type 0 where

@@ -143,7 +143,10 @@ fn units_are_charged_what_a_meter_tells(rt: HostRuntime) {
     same(&rt, "told and asked", meter, four_runs);
     turns(&rt, alloc, &mut meter, &LONG);
     drains(&rt, alloc, &mut meter, &LONG);
-    let ten_runs = TwoBeyond { begun: 10, asked: 9 };
+    let ten_runs = TwoBeyond {
+        begun: 10,
+        asked: 9,
+    };
     same(&rt, "told and asked", meter, ten_runs);
 }
 
@@ -171,10 +174,7 @@ fn no_meter_charges_nothing(rt: HostRuntime) {
 #[test]
 fn a_unit_is_charged_what_the_clock_can_hold(rt: HostRuntime) {
     let (mut house, client) = one_job(&rt, rt.alloc());
-    let before = [
-        Row::Advance(LIMIT - 2, Ok(())),
-        Row::Poll(0, Poll::Took(0)),
-    ];
+    let before = [Row::Advance(LIMIT - 2, Ok(())), Row::Poll(0, Poll::Took(0))];
     does_all(&rt, "before", &mut house, &before);
     let ran = house.run_metered(&mut TwoBeyond::NEW);
     same(&rt, "run_metered", ran, Ran::Unit { server: 0, seq: 0 });
@@ -230,7 +230,13 @@ fn a_clock_meter_charges_each_further_tick_that_was_begun(rt: HostRuntime) {
         house.run_metered(&mut meter);
         let charges = house.charges(0).map(|it| it.total);
         same_at(&rt, ("took", place), "charges", charges, Ok(wanted));
-        same_at(&rt, ("took", place), "now", house.now(), wanted.saturating_add(1));
+        same_at(
+            &rt,
+            ("took", place),
+            "now",
+            house.now(),
+            wanted.saturating_add(1),
+        );
         drop(client);
     }
 }

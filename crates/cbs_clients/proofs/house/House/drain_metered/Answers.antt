@@ -1,46 +1,35 @@
-use Rattle.std.proofs.Common.{◌∷◌, [], ◌++◌, refl, rules}
+use Rattle.std.proofs.Common.{rules}
 use Rattle.cbs_steps.specs.Continuations.{MayDrain}
 use Rattle.cbs_clients.proofs.Moves.{by_nothing, by_both, by_none, serves_drain, serves_on_time}
 use Rattle.cbs_clients.proofs.HouseInvariant.{none_held}
-use Rattle.cbs_clients.proofs.Turns.{drained_on, went_more}
+use Rattle.cbs_clients.proofs.Turns.{drained_on}
 use Rattle.cbs_clients.proofs.house.House.drain_metered.Goals as goal
 
 pub loop-self-init : goal.loop-self-init
-loop-self-init g c = record {
-  moves = by_nothing g.W.Work.meaning g.M.Meter.may_tell (MayDrain g.W.Work.meaning) c.args.self.now;
-  told = ([], refl);
-}
+loop-self-init g c = by_nothing g.W.Work.meaning g.M.Meter.may_tell (MayDrain g.W.Work.meaning) c.args.self.now
 
 pub loop-self-preserved : goal.loop-self-preserved
 loop-self-preserved g c =
     let work = g.W.Work.meaning in
     let may = g.M.Meter.may_tell in
-    let a = c.args.self.now in
     let l = c.loop-self in
     let on = c.go_on in
-    let told = l.invariant.told in
-    record {
-      moves = by_both work may (MayDrain work) a l.self on.new.self 0 0 l.invariant.moves
-          (drained_on work may l.self on.new.self on.result.0 on.result.1 on.ensures.goes_on on.ensures.later);
-      told = (
-        told.0 ++ (on.result.0, on.result.1) ∷ [],
-        went_more work may a l.self on.new.self told.0 (on.result.0, on.result.1) told.1 on.ensures.goes_on,
-      );
-    }
+    by_both work may (MayDrain work) c.args.self.now l.self on.new.self 0 0 l.invariant
+    (drained_on work may l.self on.new.self on.result.0 on.result.1 on.ensures.goes_on on.ensures.later)
 
 pub returns-then-now-eq-LIMIT-clause-received : goal.returns-then-now-eq-LIMIT-clause-received
 returns-then-now-eq-LIMIT-clause-received g c =
-    by_none g.W.Work.meaning g.M.Meter.may_tell (MayDrain g.W.Work.meaning) c.args.self.now c.loop-self.self c.loop-self.invariant.moves
+    by_none g.W.Work.meaning g.M.Meter.may_tell (MayDrain g.W.Work.meaning) c.args.self.now c.loop-self.self c.loop-self.invariant
 
 pub returns-clause-received : goal.returns-clause-received
 returns-clause-received g c =
-    by_none g.W.Work.meaning g.M.Meter.may_tell (MayDrain g.W.Work.meaning) c.args.self.now c.loop-self.self c.loop-self.invariant.moves
+    by_none g.W.Work.meaning g.M.Meter.may_tell (MayDrain g.W.Work.meaning) c.args.self.now c.loop-self.self c.loop-self.invariant
 
 pub returns-then-now-eq-LIMIT-clause-rings : goal.returns-then-now-eq-LIMIT-clause-rings
-returns-then-now-eq-LIMIT-clause-rings g c = c.loop-self.invariant.moves.made.rings
+returns-then-now-eq-LIMIT-clause-rings g c = c.loop-self.invariant.made.rings
 
 pub returns-clause-rings : goal.returns-clause-rings
-returns-clause-rings g c = c.loop-self.invariant.moves.made.rings
+returns-clause-rings g c = c.loop-self.invariant.made.rings
 
 pub returns-clause-finished : goal.returns-clause-finished
 returns-clause-finished g c = none_held g.W.Work.meaning c.loop-self.self c.loop-self.self.housed (c.is_busy.ensures.none (search rules))
@@ -51,7 +40,7 @@ returns-then-now-eq-LIMIT-clause-on_time g c = λ never.
     let may = g.M.Meter.may_tell in
     let a = c.args.self.now in
     let b = c.loop-self.self in
-    serves_on_time work may a b never a.housed.history (serves_drain work may a b 0 c.loop-self.invariant.moves)
+    serves_on_time work may a b never a.housed.history (serves_drain work may a b 0 c.loop-self.invariant)
 
 pub returns-clause-on_time : goal.returns-clause-on_time
 returns-clause-on_time g c = λ never.
@@ -59,4 +48,4 @@ returns-clause-on_time g c = λ never.
     let may = g.M.Meter.may_tell in
     let a = c.args.self.now in
     let b = c.loop-self.self in
-    serves_on_time work may a b never a.housed.history (serves_drain work may a b 0 c.loop-self.invariant.moves)
+    serves_on_time work may a b never a.housed.history (serves_drain work may a b 0 c.loop-self.invariant)
