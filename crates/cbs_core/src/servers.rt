@@ -27,7 +27,7 @@ use std::marker::Model;
 #[derive(Drop)]
 pub struct Servers<A: Allocator = Global> {
     servers: Vec<Server, A>,
-    ready: ReadyList,
+    ready: ReadyList<A>,
     waits: Waits,
 }
 
@@ -61,7 +61,7 @@ impl<A: Allocator + Clone> Servers<A> {
         }
         Ok(Servers {
             servers,
-            ready: ReadyList::new(),
+            ready: ReadyList::new(alloc.clone()?)?,
             waits: Waits::new(),
         })
     }
@@ -270,7 +270,7 @@ impl<A: Allocator> Servers<A> {
 /// Replenishes every server that is due at tick `now`, and lists those that are then ready. What is
 /// then kept of those that wait.
 #[inline(never)]
-fn replenish_all(servers: &mut [Server], ready: &mut ReadyList, now: u64) -> Waits
+fn replenish_all<A: Allocator>(servers: &mut [Server], ready: &mut ReadyList<A>, now: u64) -> Waits
     requires clock { now ≤ LIMIT }
     requires few { length servers.old ≤ most_servers }
     requires listed { ListsReady ready.old servers.old }
@@ -288,7 +288,7 @@ fn replenish_all(servers: &mut [Server], ready: &mut ReadyList, now: u64) -> Wai
 }
 
 /// Replenishes one server if it is due at tick `now`, and lists it if it is then ready.
-fn replenish_one(it: &mut Server, number: u16, ready: &mut ReadyList, now: u64)
+fn replenish_one<A: Allocator>(it: &mut Server, number: u16, ready: &mut ReadyList<A>, now: u64)
     requires clock { now ≤ LIMIT }
     requires known { number < most_servers }
     requires ordered { IsOrdered ready.old }

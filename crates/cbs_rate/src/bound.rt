@@ -14,8 +14,8 @@ pub const MAX_DENOMINATOR: u64 = 1_000_000;
 /// `1 <= N <= D <= MAX_DENOMINATOR`.
 #[derive(Clone, Copy, Debug, PartialEq, Eq)]
 pub struct Bound {
-    num: u64,
-    den: u64,
+    num: u32,
+    den: u32,
 }
 
 impl Model for Bound {
@@ -40,7 +40,10 @@ impl Bound {
         if num == 0 || num > den || den > MAX_DENOMINATOR {
             return Err(RateError::BadBound);
         }
-        Ok(Bound { num, den })
+        Ok(Bound {
+            num: num as u32,
+            den: den as u32,
+        })
     }
 
     /// Whether `taken` of `ticks` is at most this bound, exactly: the products are compared, and

@@ -16,8 +16,9 @@ pub const MAX_PERIOD: u64 = 1_000_000_000;
 /// whoever holds it may run for Q ticks in every T.
 #[derive(Clone, Copy, Debug, PartialEq, Eq)]
 pub struct Reservation {
-    budget: u64,
-    period: u64,
+    // 32 bits hold a period, so a plan of 64 servers takes half a kilobyte
+    budget: u32,
+    period: u32,
 }
 
 impl Model for Reservation {
@@ -50,7 +51,10 @@ impl Reservation {
         if budget > period {
             return Err(RateError::BudgetOverPeriod);
         }
-        Ok(Reservation { budget, period })
+        Ok(Reservation {
+            budget: budget as u32,
+            period: period as u32,
+        })
     }
 
     /// The budget, in ticks.
@@ -58,7 +62,7 @@ impl Reservation {
         ensures value { result ≡ self.now.budget }
         ensures lawful { IsRate self.now.budget self.now.period }
     {
-        self.budget
+        u64::from(self.budget)
     }
 
     /// The period, in ticks.
@@ -66,7 +70,7 @@ impl Reservation {
         ensures value { result ≡ self.now.period }
         ensures lawful { IsRate self.now.budget self.now.period }
     {
-        self.period
+        u64::from(self.period)
     }
 
     /// Whether this bandwidth, the budget over the period, is at most that of `other`, exactly: this budget

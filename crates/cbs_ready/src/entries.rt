@@ -1,11 +1,14 @@
 //! Entries of ready servers, of which the first leaves with no move of the others.
 
-ghost use Rattle.std.specs.Prelude.{◌≡◌, ◌-◌, ◌<◌, ◌≤◌, [], ◌∷◌, length, drop, take};
+ghost use Rattle.std.specs.Prelude.{◌≡◌, ◌-◌, ◌<◌, ◌≤◌, [], ◌∷◌, length, drop, take, vec_len, vec_capacity, IfOk};
 ghost use Rattle.cbs_ready.specs.ReadyList.{is_ahead, entered, without, IsMoved, IsOrdered, IsPlaceOf};
 ghost use Rattle.cbs_rate.specs.Limits.{most_servers};
 
-use arrayvec::ArrayVec;
+use std::alloc::{AllocError, Allocator, Global};
 use std::marker::Model;
+
+/// How many slots there are.
+const SLOTS: usize = 128;
 
 /// A ready server, with its deadline.
 #[derive(Clone, Copy, Default)]
@@ -29,32 +32,33 @@ impl Entry {
 /// Its slots are twice as many, so that the first leaves with no move: its slot lies idle until the last
 /// is taken, and then all move to the front.
 #[derive(Drop)]
-pub struct Entries {
-    slots: ArrayVec<Entry, 128>,
+pub struct Entries<A: Allocator = Global> {
+    // All its memory is there from the start, since no entry may be refused.
+    slots: Vec<Entry, A>,
     // Those before it have left.
     first: usize,
 }
 
-impl Model for Entries {
-    ghost use Rattle.std.specs.Prelude.{List, ◌≤◌, length, drop};
+impl<A: Allocator> Model for Entries<A> {
+    ghost use Rattle.std.specs.Prelude.{List, ◌≤◌, drop, vec_len, vec_capacity};
     ghost use Rattle.cbs_ready.specs.declared.entries.Entry.{Entry};
 
     ghost Value = { List Entry };
 
     ghost view = { λ e. drop e.first e.slots.items };
 
-    ghost invariant = { λ e. (e.first ≤ length e.slots.items) × (length e.slots.items ≤ 128) };
+    ghost invariant = { λ e. (e.first ≤ vec_len e.slots) × (vec_len e.slots ≤ 128) × (128 ≤ vec_capacity e.slots) };
 }
 
-impl Entries {
-    /// No entry.
-    pub fn new() -> Self
-        ensures { result ≡ [] }
+impl<A: Allocator> Entries<A> {
+    /// Returns a list with no entry, and memory for all that will come.
+    pub fn new(alloc: A) -> Result<Self, AllocError>
+        ensures { IfOk result (λ entries. entries ≡ []) }
     {
-        Entries {
-            slots: ArrayVec::new(),
+        Ok(Entries {
+            slots: Vec::with_capacity(alloc, SLOTS)?,
             first: 0,
-        }
+        })
     }
 
     /// All entries, in order.
@@ -109,11 +113,11 @@ impl Entries {
             self.set_first(entry);
             return;
         }
-        if self.slots.is_full() {
+        if self.slots.len() == SLOTS {
             move_to_the_front(&mut self.slots, self.first);
             self.first = 0;
         }
-        self.slots.push(Entry::default());
+        self.slots.push_reserved(Entry::default());
         put(&mut self.slots[self.first..], entry);
     }
 }
@@ -131,9 +135,10 @@ fn place_of(entries: &[Entry], server: u16) -> usize
 
 /// Moves those from `first` on to the front.
 #[inline(never)]
-fn move_to_the_front(slots: &mut ArrayVec<Entry, 128>, first: usize)
-    requires { first ≤ length slots.old.items }
-    ensures { slots.new.items ≡ drop first slots.old.items }
+fn move_to_the_front<A: Allocator>(slots: &mut Vec<Entry, A>, first: usize)
+    requires { first ≤ vec_len slots.old }
+    ensures items { slots.new.items ≡ drop first slots.old.items }
+    ensures capacity { vec_capacity slots.new ≡ vec_capacity slots.old }
 {
     let len = slots.len() - first;
     slots.copy_within(first.., 0);

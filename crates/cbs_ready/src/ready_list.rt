@@ -1,20 +1,21 @@
 //! The ready servers, in the order of the choice.
 
-ghost use Rattle.std.specs.Prelude.{◌≡◌, ◌≢◌, ◌-◌, ◌<◌, ◌≤◌, ℕ, true, false, [], length, drop, take, Some, None};
+ghost use Rattle.std.specs.Prelude.{◌≡◌, ◌≢◌, ◌-◌, ◌<◌, ◌≤◌, ℕ, true, false, [], length, drop, take, Some, None, IfOk};
 ghost use Rattle.cbs_ready.specs.ReadyList.{listed, first_of, IsOrdered};
 ghost use Rattle.cbs_rate.specs.Limits.{most_servers};
 
 use crate::entries::{Entries, Entry};
+use std::alloc::{AllocError, Allocator, Global};
 use std::marker::Model;
 
 /// The ready servers with their deadlines, each once, in the order of the choice: by deadline, and of
 /// equal deadlines by number. Servers are numbered below 64.
 #[derive(Drop)]
-pub struct ReadyList {
-    entries: Entries,
+pub struct ReadyList<A: Allocator = Global> {
+    entries: Entries<A>,
 }
 
-impl Model for ReadyList {
+impl<A: Allocator> Model for ReadyList<A> {
     ghost use Rattle.cbs_rate.specs.Limits.{most_servers};
     ghost use Rattle.std.specs.Prelude.{List, ◌<◌};
     ghost use Rattle.std.specs.List.{AllByRecursion};
@@ -28,14 +29,14 @@ impl Model for ReadyList {
     ghost invariant = { λ r. IsOrdered r.entries × AllByRecursion (λ e. e.server < most_servers) r.entries };
 }
 
-impl ReadyList {
-    /// Nobody is ready.
-    pub fn new() -> Self
-        ensures { result ≡ [] }
+impl<A: Allocator> ReadyList<A> {
+    /// Returns a list with nobody ready. It has all its memory from the start: no other call takes any.
+    pub fn new(alloc: A) -> Result<Self, AllocError>
+        ensures { IfOk result (λ list. list ≡ []) }
     {
-        ReadyList {
-            entries: Entries::new(),
-        }
+        Ok(ReadyList {
+            entries: Entries::new(alloc)?,
+        })
     }
 
     /// The server that comes first.

@@ -7,7 +7,7 @@ use Rattle.cbs_core.proofs.Waiting.{keeps_more}
 use Rattle.cbs_core.proofs.servers.replenish_all.Goals as goal
 
 pub loop-index-preserved : goal.loop-index-preserved
-loop-index-preserved c =
+loop-index-preserved g c =
     let l = c.loop-index in
     let x = c.index-servers-index.result in
     let one = c.replenish_one.ensures in

@@ -5,7 +5,7 @@ use Rattle.cbs_core.specs.Waiting.{Keeps}
 use Rattle.cbs_core.proofs.servers.replenish_all.Given as goal
 
 abbrev pub invariant-loop-index : goal.invariant-loop-index
-invariant-loop-index l = record {
+invariant-loop-index g l = record {
   servers : l.servers ≡ map (with_replenishment l.now) (take l.index l.initial.servers) ++ drop l.index l.initial.servers;
   listed : ListsReady l.ready l.servers;
   waits : Keeps l.waits (take l.index l.servers);

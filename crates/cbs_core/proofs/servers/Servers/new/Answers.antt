@@ -43,4 +43,5 @@ invariant_of-result g c =
     let faces : c.loop-server.servers.items ≡ map new_face terms = returns-clause-servers g c in
     let few = c.len.ensures.lawful.few in
     let count = length-faces modes c.args.plan.now.rates c.requires in
-    (rw faces (omega arith), rw (c.new-2.ensures, faces) (lists_new terms), rw (c.new-3.ensures, faces) (keeps_new terms))
+    let empty : c.in_ok-new.field-0 ≡ [] = search (rules, common_steps) in
+    (rw faces (omega arith), rw (empty, faces) (lists_new terms), rw (c.new-3.ensures, faces) (keeps_new terms))

@@ -4,7 +4,7 @@ use Rattle.cbs_ready.proofs.Slots.{alone_again}
 use Rattle.cbs_ready.proofs.entries.Entries.insert.Goals as goal
 
 pub returns-then-self-len : goal.returns-then-self-len
-returns-then-self-len c =
+returns-then-self-len g c =
     let inside = c.self.inside in
     let some : 0 < inside.first = grind (arith, common_steps) in
     let all : inside.first ≡ length inside.slots.items = grind (arith, common_steps) in

@@ -3,7 +3,7 @@ use Rattle.cbs_ready.proofs.Ordered.{drop-removed}
 use Rattle.cbs_ready.proofs.entries.Entries.remove.Goals as goal
 
 pub returns-then-place-len : goal.returns-then-place-len
-returns-then-place-len c =
+returns-then-place-len g c =
     let slots = c.self.inside.slots.items in
     let first = c.self.inside.first in
     let here : drop first slots ≡ c.args.self.now = c.self.view_is in

@@ -4,12 +4,12 @@ use Rattle.cbs_ready.proofs.Ordered.{listed-here, listed-other, place_for, order
 use Rattle.cbs_ready.proofs.ready_list.ReadyList.insert.Goals as goal
 
 pub insert-requires-clause-room : goal.insert-requires-clause-room
-insert-requires-clause-room c =
+insert-requires-clause-room g c =
     let x : Entry = record { deadline = c.args.deadline; server = c.args.server } in
     place_for 64 x c.self.inside.entries c.self.invariant.0 c.self.invariant.1 (rw (← c.self.view_is) at c.requires.absent) c.requires.known
 
 pub invariant_of-self : goal.invariant_of-self
-invariant_of-self c =
+invariant_of-self g c =
     let x : Entry = record { deadline = c.args.deadline; server = c.args.server } in
     let es = c.self.inside.entries in
     rw c.insert.ensures (
@@ -18,14 +18,14 @@ invariant_of-self c =
     )
 
 pub returns-clause-here : goal.returns-clause-here
-returns-clause-here c =
+returns-clause-here g c =
     let x : Entry = record { deadline = c.args.deadline; server = c.args.server } in
     rw c.insert.ensures (listed-here x c.self.inside.entries (rw (← c.self.view_is) at c.requires.absent))
 
 pub returns-clause-others : goal.returns-clause-others
-returns-clause-others c = λ t ne.
+returns-clause-others g c = λ t ne.
     let x : Entry = record { deadline = c.args.deadline; server = c.args.server } in
     rw (← c.self.view_is, c.insert.ensures) (listed-other x c.self.inside.entries t ne)
 
 pub returns-clause-ordered : goal.returns-clause-ordered
-returns-clause-ordered c = (invariant_of-self c).0
+returns-clause-ordered g c = (invariant_of-self g c).0
