@@ -90,7 +90,7 @@ impl<W: Work, A: Allocator> House<W, A> {
         if index >= self.rings.len() {
             return Poll::NoSuchServer;
         }
-        if self.rings.look(index) == 0 {
+        if self.rings.is_empty(index) {
             return Poll::Nothing;
         }
         self.take_seen(server)

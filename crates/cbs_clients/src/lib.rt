@@ -24,7 +24,7 @@ pub use gate::{Gate, OpenGate};
 pub use house::House;
 pub use message::Message;
 pub use meter::{ClockMeter, Meter, NoMeter};
-pub use open::open_house;
+pub use open::{open_house, open_house_of};
 pub use pause::Pause;
 pub use poll::Poll;
 pub use sink::{NoSink, Sink};

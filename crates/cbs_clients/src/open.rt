@@ -1,13 +1,15 @@
 //! Opening a house with its clients.
 
-ghost use Rattle.std.specs.Prelude.{◌≡◌, ◌≤◌, length, map, IfOk};
+ghost use Rattle.std.specs.Prelude.{◌≡◌, ◌<◌, ◌≤◌, [], length, map, IfOk, IfErr};
 ghost use Rattle.std.specs.List.{All, range_with_len};
+ghost use Rattle.cbs_core.specs.Agreement.{Agrees};
+ghost use Rattle.cbs_steps.specs.History.{Setup};
 ghost use Rattle.cbs_steps.specs.Setups.{terms_of};
 ghost use Rattle.cbs_rate.specs.Refusals.{RefusesByOrMemory};
 ghost use Rattle.cbs_clients.specs.Calls.{IsNewHouse};
 ghost use Rattle.cbs_clients.specs.Clients.{server_of, ring_of, IsOpened, AreOpened, EachOpened};
 ghost use Rattle.cbs_clients.specs.Houses.{rings_of};
-ghost use Rattle.cbs_clients.specs.Opened.{open_refusal, IsNewEnd, IsUnused};
+ghost use Rattle.cbs_clients.specs.Opened.{open_refusal, IsNewEnd, IsUnused, HousesCore};
 ghost use Rattle.cbs_clients.specs.Rings.{rings_in};
 ghost use Rattle.cbs_rate.specs.Limits.{most_ring, most_servers};
 
@@ -53,20 +55,61 @@ pub fn open_house<W: Work, A: Allocator + Copy>(
     ensures each { IfOk result (λ r. EachOpened (rings_of r.0) r.1.items) }
     ensures refusal { RefusesByOrMemory HouseError.OutOfMemory result (open_refusal backlog ring) }
 {
+    open_house_of(alloc, &plan, &modes, backlog, ring)
+}
+
+/// Opens a house with its clients as [`open_house`], of a plan and modes that stay where they are: each of them is up to
+/// half a kilobyte, which a move would copy.
+// Neither this nor the next is inlined, so that no frame has all copies of a house on its way.
+#[inline(never)]
+pub fn open_house_of<W: Work, A: Allocator + Copy>(
+    alloc: A,
+    plan: &Plan,
+    modes: &Modes,
+    backlog: u64,
+    ring: u64,
+) -> Result<(House<W, A>, Vec<Client<W, A>, A>), HouseError>
+    requires { length modes.now ≡ length plan.now.rates }
+    ensures new { IfOk result (λ r. IsNewHouse W.meaning (record { servers = terms_of modes.now plan.now.rates; backlog = backlog }) r.0) }
+    ensures clients { IfOk result (λ r. map server_of r.1.items ≡ range_with_len 0 (length plan.now.rates)) }
+    ensures count { IfOk result (λ r. length r.1.items ≡ length plan.now.rates) }
+    ensures few { IfOk result (λ r. length r.1.items ≤ most_servers) }
+    ensures unused { IfOk result (λ r. All (IsUnused ring) r.1.items) }
+    ensures opened { IfOk result (λ r. All (IsOpened (rings_of r.0)) r.1.items) }
+    ensures together { IfOk result (λ r. AreOpened (rings_of r.0) r.1.items) }
+    ensures each { IfOk result (λ r. EachOpened (rings_of r.0) r.1.items) }
+    ensures refusal { RefusesByOrMemory HouseError.OutOfMemory result (open_refusal backlog ring) }
+{
     if backlog == 0 || backlog > MAX_BACKLOG {
         return Err(HouseError::BadBacklog);
     }
     if ring == 0 || ring > MAX_RING {
         return Err(HouseError::BadRing);
     }
-    let servers = plan.len() as u16;
-    let Ok(core) = Core::new(alloc, plan, modes, backlog) else {
+    let Ok(core) = Core::of(alloc, plan, modes, backlog) else {
         return Err(HouseError::OutOfMemory);
     };
+    house_of(alloc, core, ring as usize)
+}
+
+/// Returns a house of this core, which has made no step, and one client for each server. Refuses by
+/// [`HouseError::OutOfMemory`].
+#[inline(never)]
+fn house_of<W: Work, A: Allocator + Copy>(
+    alloc: A,
+    core: Core<W, A>,
+    ring: usize,
+) -> Result<(House<W, A>, Vec<Client<W, A>, A>), HouseError>
+    requires new { (setup : Setup) × Agrees W.meaning core (record { setup = setup; steps = [] }) × (0 < setup.backlog) }
+    requires ring { ring ≤ most_ring }
+    ensures made { IfOk result (λ r. HousesCore core ring r.0 r.1.items) }
+    ensures refusal { IfErr result (λ error. error ≡ HouseError.OutOfMemory) }
+{
+    let servers = core.servers();
     let Ok(collector) = Collector::new(alloc, servers) else {
         return Err(HouseError::OutOfMemory);
     };
-    let Ok((rings, clients)) = open_rings(alloc, servers, ring as usize) else {
+    let Ok((rings, clients)) = open_rings(alloc, servers, ring) else {
         return Err(HouseError::OutOfMemory);
     };
     let house = House {

@@ -14,7 +14,7 @@ const YIELDS: u64 = 64;
 const TURNS_A_SLEEP: u64 = 128;
 
 /// By how much each sleep of a row is longer than the one before it, in microseconds.
-const GROWTH: u64 = 200;
+const GROWTH: u64 = 20;
 
 /// The longest sleep of a side that has done nothing in its round, in microseconds.
 const LONGEST: u64 = 2_000;

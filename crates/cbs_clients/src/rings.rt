@@ -13,7 +13,7 @@ pub struct Rings<W: Work, A: Allocator = Global> {
 }
 
 impl<W: Work, A: Allocator> Rings<W, A> {
-    ghost use Rattle.std.specs.Prelude.{ℕ, ◌≡◌, ◌≢◌, ◌<◌, ◌≤◌, ◌+◌, [], ◌∷◌, ◌++◌, length, slice_get, Some};
+    ghost use Rattle.std.specs.Prelude.{ℕ, ◌≡◌, ◌≢◌, ◌<◌, ◌≤◌, ◌+◌, [], ◌∷◌, ◌++◌, length, slice_get, Some, IsTrue, ◌↔◌};
     ghost use Rattle.rtrb.specs.Ring.{sent, ProducerLooked};
     ghost use Rattle.cbs_clients.specs.Rings.{producer_ring, rings_in, received_in, known_in, Looked};
     ghost use Rattle.cbs_clients.specs.Clients.{server_of, sent_by, free, SameClient, IsOpened};
@@ -25,15 +25,16 @@ impl<W: Work, A: Allocator> Rings<W, A> {
         self.ends.len()
     }
 
-    /// Returns how many messages are seen in a server's ring.
+    /// Returns whether no message is seen in a server's ring. It looks anew only if those that were seen before are taken,
+    /// since each look takes a line of the cache from the sender.
     #[tactic(auto, using(crate::proofs::RingLooks::ringed))]
-    pub fn look(&mut self, server: usize) -> usize
+    pub fn is_empty(&mut self, server: usize) -> bool
         requires { server < length (rings_in self.old) }
         ensures looked { Looked self.old self.new }
-        ensures value { result ≡ length (known_in self.new server) }
+        ensures value { IsTrue result ↔ (length (known_in self.new server) ≡ 0) }
     {
         let end = &mut self.ends[server];
-        end.slots()
+        end.is_empty()
     }
 
     /// Pops the next message of a server. One must have been seen.

@@ -70,13 +70,13 @@ impl<W: Work, A: Allocator> Model for Core<W, A> {
 }
 
 impl<W: Work, A: Allocator + Clone> Core<W, A> {
-    /// A core whose servers have the reservations of the plan and, by number, these modes, each with
+    /// Returns a core whose servers have the reservations of the plan and, by number, these modes, each with
     /// at most `backlog` unfinished jobs. The clock stands at 0, and nobody has a job.
     ///
     /// There must be a mode for each server of the plan.
     ///
-    /// Refuses a backlog outside 1 to [`MAX_BACKLOG`] by [`CoreError::BadBacklog`], and answers
-    /// [`CoreError::OutOfMemory`] where an allocation is refused.
+    /// Refuses a backlog outside 1 to [`MAX_BACKLOG`] by [`CoreError::BadBacklog`], and by
+    /// [`CoreError::OutOfMemory`] if an allocation is refused.
     pub fn new(alloc: A, plan: Plan, modes: Modes, backlog: u64) -> Result<Self, CoreError>
         requires { length modes ≡ length plan.rates }
         ensures start { IfOk result (λ core. Agrees W.meaning core (record { setup = record { servers = terms_of modes plan.rates; backlog = backlog }; steps = [] })) }
@@ -84,10 +84,22 @@ impl<W: Work, A: Allocator + Clone> Core<W, A> {
         ensures punctual { OnOk result ((steps : List (Step W)) → IsPunctual W.meaning (record { setup = record { servers = terms_of modes plan.rates; backlog = backlog }; steps = steps })) }
         ensures refusal { RefusesByOrMemory CoreError.OutOfMemory result (new_refusal backlog) }
     {
+        Core::of(alloc, &plan, &modes, backlog)
+    }
+
+    /// Returns a core as [`new`](Core::new), of a plan and modes that stay where they are: each of them is up to half a
+    /// kilobyte, which a move would copy.
+    pub fn of(alloc: A, plan: &Plan, modes: &Modes, backlog: u64) -> Result<Self, CoreError>
+        requires { length modes.now ≡ length plan.now.rates }
+        ensures start { IfOk result (λ core. Agrees W.meaning core (record { setup = record { servers = terms_of modes.now plan.now.rates; backlog = backlog }; steps = [] })) }
+        ensures on_time { IfOk result (λ core. IsCoreOnTime core) }
+        ensures punctual { OnOk result ((steps : List (Step W)) → IsPunctual W.meaning (record { setup = record { servers = terms_of modes.now plan.now.rates; backlog = backlog }; steps = steps })) }
+        ensures refusal { RefusesByOrMemory CoreError.OutOfMemory result (new_refusal backlog) }
+    {
         if backlog == 0 || backlog > MAX_BACKLOG {
             return Err(CoreError::BadBacklog);
         }
-        let Ok(servers) = Servers::new(&alloc, &plan, &modes) else {
+        let Ok(servers) = Servers::new(&alloc, plan, modes) else {
             return Err(CoreError::OutOfMemory);
         };
         let Ok(queues) = Queues::new(&alloc, servers.len()) else {

@@ -19,7 +19,7 @@ pub use handle::Handle;
 pub use held::Held;
 pub use job::UnitJob;
 pub use opening::open;
-pub use planning::{admit, greatest_budget, mode_of, setup_of};
+pub use planning::{admit, greatest_budget, mode_of, take_all, whole_processor};
 pub use refusal::{HandleError, Refusal};
 pub use server::Server;
 pub use texts::text_of;

@@ -10,10 +10,10 @@ ghost use Rattle.cbs_embed.specs.declared.held.Held.TheVariants as held;
 use crate::handle::Handle;
 use crate::held::Held;
 use crate::job::UnitJob;
-use crate::planning::setup_of;
+use crate::planning::{take_all, whole_processor};
 use crate::refusal::{HandleError, Refusal};
 use crate::server::Server;
-use cbs_house::{Client, HouseError, open_house};
+use cbs_house::{Client, House, HouseError, open_house_of};
 use cbs_rules::Setup;
 use std::alloc::{AllocError, Global};
 use std::collections::VecDeque;
@@ -22,8 +22,8 @@ use std::collections::VecDeque;
 /// servers.
 ///
 /// What the handles held is dropped, at success alone. Refuses by the first server that does not fit, as
-/// [`setup_of`]; by [`HandleError::WrongCount`]; and as [`open_house`]. All handles are then as they were.
-// A house on its way into its box takes some kilobytes of stack, which the caller's frame is not to have.
+/// [`take_all`]; by [`HandleError::WrongCount`]; and as [`open_house_of`]. All handles are then as they were.
+// Here and below: a plan takes half a kilobyte of stack, which the caller's frame is not to have.
 #[inline(never)]
 pub fn open(
     alloc: Global,
@@ -35,11 +35,12 @@ pub fn open(
 ) -> Result<(), Refusal>
     ensures { OpenOf servers.now backlog ring house.old house.new clients.old clients.new result }
 {
-    let setup = setup_of(servers)?;
+    let mut setup = whole_processor();
+    take_all(&mut setup, servers)?;
     if clients.len() != setup.plan().len() {
         return Err(Refusal::Handle(HandleError::WrongCount));
     }
-    match open_boxes(alloc, setup, backlog, ring) {
+    match open_boxes(alloc, &setup, backlog, ring) {
         Ok((held, ends)) => {
             fill(clients, ends);
             house.put(held);
@@ -50,27 +51,42 @@ pub fn open(
 }
 
 /// Opens a house with its clients, each in a box.
+#[inline(never)]
 fn open_boxes(
     alloc: Global,
-    setup: Setup,
+    setup: &Setup,
     backlog: u64,
     ring: u64,
 ) -> Result<(Box<Held>, Vec<Box<Held>>), HouseError>
-    ensures ok { IfOk result (λ r. Opens setup.modes setup.plan.rates backlog ring (Some r.0.value) (map (λ b. Some b.value) r.1.items)) }
+    ensures ok { IfOk result (λ r. Opens setup.now.modes setup.now.plan.rates backlog ring (Some r.0.value) (map (λ b. Some b.value) r.1.items)) }
     ensures refusal { RefusesByOrMemory HouseError.OutOfMemory result (open_refusal backlog ring) }
 {
-    let (plan, modes) = setup.into_parts();
-    let (house, clients) = open_house(alloc, plan, modes, backlog, ring)?;
+    let (house, clients) = open_house_of(alloc, setup.plan(), setup.modes(), backlog, ring)?;
+    match box_both(alloc, house, clients) {
+        Ok(boxes) => Ok(boxes),
+        Err(_) => Err(HouseError::OutOfMemory),
+    }
+}
+
+/// Returns the house and each client in a box.
+#[inline(never)]
+fn box_both(
+    alloc: Global,
+    house: House<UnitJob>,
+    clients: Vec<Client<UnitJob>>,
+) -> Result<(Box<Held>, Vec<Box<Held>>), AllocError>
+    ensures house { IfOk result (λ r. r.0.value ≡ held.House house) }
+    ensures clients { IfOk result (λ r. map (λ b. Some b.value) r.1.items ≡ map (λ c. Some (held.Client c)) clients.items) }
+{
     let Ok(held) = Box::new(alloc, Held::House(house)) else {
-        return Err(HouseError::OutOfMemory);
+        return Err(AllocError);
     };
-    let Ok(ends) = box_all(alloc, clients) else {
-        return Err(HouseError::OutOfMemory);
-    };
+    let ends = box_all(alloc, clients)?;
     Ok((held, ends))
 }
 
 /// Returns each client in a box.
+#[inline(never)]
 fn box_all(alloc: Global, clients: Vec<Client<UnitJob>>) -> Result<Vec<Box<Held>>, AllocError>
     ensures { IfOk result (λ boxes. map (λ b. Some b.value) boxes.items ≡ map (λ c. Some (held.Client c)) clients.items) }
 {

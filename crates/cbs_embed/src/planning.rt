@@ -1,7 +1,6 @@
 //! Which servers make a setup.
 
 ghost use Rattle.std.specs.Prelude.{◌≡◌, OnOk, MatchResult, Option, Some, None};
-ghost use Rattle.cbs_rate.specs.Refusals.{AnswersBy};
 ghost use Rattle.cbs_embed.specs.Plans.{server_refusal, with_server, mode_from, setup_refusal, setup_with, IsGreatestBudget, fits_plan, whole_processor};
 ghost use Rattle.cbs_embed.specs.declared.refusal.HandleError.TheVariants as HandleError;
 ghost use Rattle.cbs_embed.specs.declared.refusal.Refusal.{Refusal};
@@ -9,33 +8,40 @@ ghost use Rattle.cbs_embed.specs.declared.refusal.Refusal.TheVariants as refused
 
 use crate::refusal::{HandleError, Refusal};
 use crate::server::Server;
-use cbs_rate::{Bound, MAX_PERIOD, Plan, Reservation};
+use cbs_rate::{Bound, MAX_PERIOD, Reservation};
 use cbs_rules::{Mode, Setup};
 
-/// The plan of these servers, within the whole processor, with their modes.
-///
-/// Refuses by the first server that does not fit: by its reservation, then its admission, then its mode.
-pub fn setup_of(servers: &[Server]) -> Result<Setup, Refusal>
-    ensures { AnswersBy result (setup_refusal whole_processor servers.now) (setup_with whole_processor servers.now) }
+/// Returns a setup of no server, within the whole processor.
+pub fn whole_processor() -> Setup
+    ensures { result ≡ whole_processor }
 {
     let Ok(bound) = Bound::new(1, 1) else {
         unreachable!()
     };
-    let mut setup = Setup::new(bound);
-    for server in servers.iter() {
-        take_in(&mut setup, *server)?;
-    }
-    Ok(setup)
+    Setup::new(bound)
 }
 
-/// Returns whether these servers make a plan: refuses as [`setup_of`].
-// Here and below: a plan takes a kilobyte of stack, which the caller's frame is not to have.
+/// Takes these servers in, one after another.
+///
+/// Refuses by the first server that does not fit: by its reservation, then its admission, then its mode. The setup is
+/// of no use then.
+pub fn take_all(setup: &mut Setup, servers: &[Server]) -> Result<(), Refusal>
+    ensures answer { MatchResult result (λ _. setup_refusal setup.old servers.now ≡ None) (λ error. setup_refusal setup.old servers.now ≡ Some error) }
+    ensures setup { OnOk result (setup.new ≡ setup_with setup.old servers.now) }
+{
+    for server in servers.iter() {
+        take_in(setup, *server)?;
+    }
+    Ok(())
+}
+
+/// Returns whether these servers make a plan within the whole processor: refuses as [`take_all`].
+// Here and below: a plan takes half a kilobyte of stack, which the caller's frame is not to have.
 #[inline(never)]
 pub fn admit(servers: &[Server]) -> Result<(), Refusal>
     ensures { MatchResult result (λ _. setup_refusal whole_processor servers.now ≡ None) (λ error. setup_refusal whole_processor servers.now ≡ Some error) }
 {
-    setup_of(servers)?;
-    Ok(())
+    take_all(&mut whole_processor(), servers)
 }
 
 /// Takes one more server in. If it refuses, the setup is of no use any more.
@@ -58,7 +64,7 @@ fn take_in(setup: &mut Setup, server: Server) -> Result<(), Refusal>
     Ok(())
 }
 
-/// The mode of this number, or [`HandleError::BadMode`].
+/// Returns the mode of this number, or [`HandleError::BadMode`].
 pub fn mode_of(mode: u32) -> Result<Mode, Refusal>
     ensures { MatchResult result (λ found. mode_from mode ≡ Some found) (λ error. (mode_from mode ≡ None) × (error ≡ refused.Handle HandleError.BadMode)) }
 {
@@ -69,11 +75,10 @@ pub fn mode_of(mode: u32) -> Result<Mode, Refusal>
     }
 }
 
-/// The greatest budget with which a server of this period would be admitted behind these servers; 0 where
+/// Returns the greatest budget with which a server of this period would be admitted beside these servers, or 0 if
 /// none would.
 ///
-/// Refuses exactly where these servers are refused themselves, as [`setup_of`].
-#[inline(never)]
+/// Refuses exactly if these servers are refused themselves, as [`take_all`].
 pub fn greatest_budget(servers: &[Server], period: u64) -> Result<u64, Refusal>
     ensures { MatchResult result
         (λ budget. (setup_refusal whole_processor servers.now ≡ None) × IsGreatestBudget (setup_with whole_processor servers.now).plan period budget)
@@ -84,8 +89,7 @@ pub fn greatest_budget(servers: &[Server], period: u64) -> Result<u64, Refusal>
     let mut refused = if period > MAX_PERIOD { 1 } else { period + 1 };
     while refused - admitted > 1 {
         let budget = admitted + (refused - admitted) / 2;
-        let (mut plan, _) = setup_of(servers)?.into_parts();
-        if admits(&mut plan, budget, period) {
+        if fits(servers, budget, period)? {
             admitted = budget;
         } else {
             refused = budget;
@@ -94,12 +98,17 @@ pub fn greatest_budget(servers: &[Server], period: u64) -> Result<u64, Refusal>
     Ok(admitted)
 }
 
-/// Whether the plan admits this server; it then has it.
-fn admits(plan: &mut Plan, budget: u64, period: u64) -> bool
-    ensures { result ≡ fits_plan plan.old budget period }
+/// Returns whether a server of this budget and period would be admitted beside these servers. Refuses as [`take_all`].
+#[inline(never)]
+fn fits(servers: &[Server], budget: u64, period: u64) -> Result<bool, Refusal>
+    ensures { MatchResult result
+        (λ fits. fits ≡ fits_plan (setup_with whole_processor servers.now).plan budget period)
+        (λ error. setup_refusal whole_processor servers.now ≡ Some error) }
 {
+    let mut setup = whole_processor();
+    take_all(&mut setup, servers)?;
     match Reservation::new(budget, period) {
-        Ok(reservation) => plan.admit(reservation).is_ok(),
-        Err(_) => false,
+        Ok(reservation) => Ok(setup.admit(reservation, Mode::Soft).is_ok()),
+        Err(_) => Ok(false),
     }
 }

@@ -10,7 +10,7 @@ mod service;
 
 pub use cbs_clients::{
     Client, ClockMeter, Gate, House, HouseError, MAX_RING, Message, Meter, NoMeter, NoSink,
-    OpenGate, Poll, SendError, SendRefused, Sink, Turn, open_house,
+    OpenGate, Poll, SendError, SendRefused, Sink, Turn, open_house, open_house_of,
 };
 pub use cbs_results::{CollectError, Collector};
 pub use feed::{Feed, FeedsRefused, feeds_of};

@@ -19,33 +19,36 @@ fill-requires c =
 
 pub returns-then-clients-len : goal.returns-then-clients-len
 returns-then-clients-len c =
-    let same = ap (λ p. length p.rates) c.plan.ensures.value ∙ ap (λ s. length s.plan.rates) c.in_ok-setup.ensures.1 in
+    let taken = rw c.whole_processor-setup.ensures at c.in_ok-take_all.ensures in
+    let same = ap (λ p. length p.rates) c.plan.ensures.value ∙ ap (λ s. length s.plan.rates) taken.setup in
     let each = planned_each whole_processor c.args.servers.now in
     record {
       ok = search rules;
       err = search rules;
-      refusal = inr (c.in_ok-setup.ensures.0, inl ((λ e. absurd (omega (arith, e, each, same, c.len.ensures.value, c.if-clients-len.true))), refl));
+      refusal = inr (taken.answer, inl ((λ e. absurd (omega (arith, e, each, same, c.len.ensures.value, c.if-clients-len.true))), refl));
     }
 
 pub returns-in-Ok : goal.returns-in-Ok
 returns-in-Ok c =
-    let same = ap (λ p. length p.rates) c.plan.ensures.value ∙ ap (λ s. length s.plan.rates) c.in_ok-setup.ensures.1 in
+    let taken = rw c.whole_processor-setup.ensures at c.in_ok-take_all.ensures in
+    let same = ap (λ p. length p.rates) c.plan.ensures.value ∙ ap (λ s. length s.plan.rates) taken.setup in
     let each = planned_each whole_processor c.args.servers.now in
     record {
       ok = search rules;
       err = search rules;
-      refusal = (c.in_ok-setup.ensures.0, omega (arith, each, same, c.len.ensures.value, c.if-clients-len.false), c.in-Ok.ensures.refusal);
+      refusal = (taken.answer, omega (arith, each, same, c.len.ensures.value, c.if-clients-len.false), c.in-Ok.ensures.refusal);
     }
 
 pub returns-in-Err : goal.returns-in-Err
 returns-in-Err c =
-    let same = ap (λ p. length p.rates) c.plan.ensures.value ∙ ap (λ s. length s.plan.rates) c.in_ok-setup.ensures.1 in
+    let taken = rw c.whole_processor-setup.ensures at c.in_ok-take_all.ensures in
+    let same = ap (λ p. length p.rates) c.plan.ensures.value ∙ ap (λ s. length s.plan.rates) taken.setup in
     let each = planned_each whole_processor c.args.servers.now in
     record {
       ok = search rules;
       err = search rules;
       refusal = inr (
-        c.in_ok-setup.ensures.0,
+        taken.answer,
         inr (
           omega (arith, each, same, c.len.ensures.value, c.if-clients-len.false),
           (c.in-Err.error, refl, c.in-Err.ensures.refusal),

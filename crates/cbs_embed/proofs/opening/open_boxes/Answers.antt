@@ -1,14 +1,15 @@
-use Rattle.std.proofs.Common.{rules}
+use Rattle.std.proofs.Common.{rules, ap, Some}
 use Rattle.cbs_embed.proofs.opening.open_boxes.Goals as goal
 
-pub returns-clause-ok : goal.returns-clause-ok
-returns-clause-ok c =
+pub returns-in-Ok-clause-ok : goal.returns-in-Ok-clause-ok
+returns-in-Ok-clause-ok c =
     let opened = c.in_ok-house.ensures in
-    rw (← c.into_parts-plan.ensures.plan, ← c.into_parts-plan.ensures.modes) (record {
+    let boxed = c.in-Ok.ensures in
+    rw (← c.plan.ensures.value, ← c.modes.ensures.value) (record {
       house = c.in_ok-house.house;
       clients = c.in_ok-house.clients.items;
-      holds = search rules;
-      hold = c.in-Ok-box_all.ensures;
+      holds = ap (λ h. Some h) boxed.house;
+      hold = boxed.clients;
       new = opened.new;
       servers = opened.clients;
       unused = opened.unused;

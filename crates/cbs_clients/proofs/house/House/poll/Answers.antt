@@ -1,4 +1,4 @@
-use Rattle.std.proofs.Common.{refl, sym, ◌∙◌, inr, arith}
+use Rattle.std.proofs.Common.{refl, ◌∙◌, inr, arith}
 use Rattle.std.proofs.lemmas.List.{nil_from_length}
 use Rattle.cbs_clients.proofs.HouseInvariant.{same_shelf}
 use Rattle.cbs_clients.proofs.MadeSteps.{made_nothing, made_room, polled_after}
@@ -10,18 +10,18 @@ returns-then-index-len g c =
     let rings = c.args.self.now.housed.ring_count in
     record { polled = (made_nothing g.W.Work.meaning _, omega arith); on_time = λ on. on; rings = refl; results = λ s. refl }
 
-pub returns-then-look-eq0 : goal.returns-then-look-eq0
-returns-then-look-eq0 g c =
+pub returns-then-is_empty : goal.returns-then-is_empty
+returns-then-is_empty g c =
     let rings = c.args.self.now.housed.ring_count in
-    let seen = rw c.from-index.ensures at c.look.ensures.value in
+    let none = rw c.from-index.ensures at (c.is_empty.ensures.value.0 c.if-is_empty.true) in
     record {
       polled = (
-        made_room g.W.Work.meaning _ _ c.look.ensures.looked (λ M agrees. agrees) (λ s. same_shelf _),
+        made_room g.W.Work.meaning _ _ c.is_empty.ensures.looked (λ M agrees. agrees) (λ s. same_shelf _),
         omega arith,
-        inr (nil_from_length _ (sym seen ∙ c.if-look-eq0.true)),
+        inr (nil_from_length _ none),
       );
       on_time = λ on. on;
-      rings = c.look.ensures.looked.rings;
+      rings = c.is_empty.ensures.looked.rings;
       results = λ s. refl;
     }
 
@@ -30,11 +30,11 @@ returns g c =
     let work = g.W.Work.meaning in
     let a = c.args.self.now in
     let t = c.take_seen in
-    let made = made_room work a _ c.look.ensures.looked (λ M agrees. agrees) (λ s. same_shelf _) in
+    let made = made_room work a _ c.is_empty.ensures.looked (λ M agrees. agrees) (λ s. same_shelf _) in
     let polled = polled_after work a _ t.new.self c.args.server t.result made refl t.ensures.polled in
     record {
       polled = polled;
       on_time = polled_on_time work a t.new.self c.args.server t.result a.housed.history polled;
-      rings = t.ensures.rings ∙ c.look.ensures.looked.rings;
+      rings = t.ensures.rings ∙ c.is_empty.ensures.looked.rings;
       results = t.ensures.results;
     }

@@ -2,11 +2,11 @@ use Rattle.std.proofs.Common.{arith}
 use Rattle.std.proofs.lemmas.List.{length-map}
 use Rattle.cbs_clients.specs.Rings.{consumer_ring}
 use Rattle.cbs_clients.proofs.RingLooks.{looked_at}
-use Rattle.cbs_clients.proofs.rings.Rings.look.Goals as goal
+use Rattle.cbs_clients.proofs.rings.Rings.is_empty.Goals as goal
 
 pub returns-clause-looked : goal.returns-clause-looked
 returns-clause-looked g c =
     let ends = c.args.self.now.ends.items in
-    let p = looked_at ends c.args.server c.slots.new.self c.index_mut-end.result.now
-    (omega (arith, length-map ends consumer_ring, c.requires)) c.index_mut-end.ensures.value c.slots.ensures.looked in
+    let p = looked_at ends c.args.server c.is_empty.new.self c.index_mut-end.result.now
+    (omega (arith, length-map ends consumer_ring, c.requires)) c.index_mut-end.ensures.value c.is_empty.ensures.looked in
     record { rings = p.rings; received = p.received; known = p.known }

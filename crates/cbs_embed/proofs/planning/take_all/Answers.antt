@@ -4,10 +4,10 @@ use Rattle.std.proofs.lemmas.Result.{err_from_is_err_and}
 use Rattle.std.specs.Prelude.{drop}
 use Rattle.cbs_embed.specs.Plans.{setup_refusal, setup_with}
 use Rattle.cbs_embed.proofs.Admissions.{refusal_goes_on, with_goes_on, refusal_stops, refusal_none, with_none}
-use Rattle.cbs_embed.proofs.planning.setup_of.Goals as goal
+use Rattle.cbs_embed.proofs.planning.take_all.Goals as goal
 
-pub returns-in_err-take_in : goal.returns-in_err-take_in
-returns-in_err-take_in c =
+pub returns-in_err-take_in-clause-answer : goal.returns-in_err-take_in-clause-answer
+returns-in_err-take_in-clause-answer c =
     let p = err_from_is_err_and c.from_residual.result c.from_residual.ensures.1 in
     rw (p.1, p.2) (c.loop-server.invariant.0 ∙ refusal_stops c.loop-server.setup c.args.servers.now c.loop-server.server-index _
     c.loop-server-test.true c.in_err-take_in.ensures.answer)
@@ -26,7 +26,7 @@ pub returns : goal.returns
 returns c =
     let setup = c.loop-server.setup in
     let over : drop c.loop-server.server-index c.args.servers.now ≡ [] =
-    drop_all c.loop-server.server-index c.args.servers.now c.loop-server-test.false in (
-      c.loop-server.invariant.0 ∙ ap (setup_refusal setup) over ∙ refusal_none setup,
-      sym (c.loop-server.invariant.1 ∙ ap (setup_with setup) over ∙ with_none setup),
-    )
+    drop_all c.loop-server.server-index c.args.servers.now c.loop-server-test.false in record {
+      answer = c.loop-server.invariant.0 ∙ ap (setup_refusal setup) over ∙ refusal_none setup;
+      setup = sym (c.loop-server.invariant.1 ∙ ap (setup_with setup) over ∙ with_none setup);
+    }
