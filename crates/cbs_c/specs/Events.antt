@@ -4,8 +4,8 @@ use Rattle.std.specs.Option.{unwrap_or}
 use Rattle.cbs_steps.specs.declared.reply.Ran.{Ran}
 use Rattle.cbs_steps.specs.declared.reply.Ran.TheVariants.{Idle, ClockEnd, Unit, Done}
 use Rattle.cbs_steps.specs.declared.view.ServerView.{ServerView}
-use Rattle.cbs_clients.specs.declared.poll.Poll.{Poll}
-use Rattle.cbs_clients.specs.declared.poll.Poll.TheVariants as poll
+use Rattle.cbs_host.specs.declared.poll.Poll.{Poll}
+use Rattle.cbs_host.specs.declared.poll.Poll.TheVariants as poll
 use Rattle.cbs_embed.specs.declared.calls.Ticked.{Ticked}
 use Rattle.cbs_embed.specs.declared.calls.Turned.{Turned}
 use Rattle.cbs_c.specs.declared.events.Event.{Event}

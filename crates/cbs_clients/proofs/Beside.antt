@@ -10,8 +10,8 @@ use Rattle.cbs_steps.specs.Faces.{face_at, backlog_of}
 use Rattle.cbs_steps.specs.declared.step.Step.TheVariants.{Submit, Close}
 use Rattle.cbs_clients.specs.declared.house.House.{House}
 use Rattle.cbs_clients.specs.declared.message.Message.{Message}
-use Rattle.cbs_clients.specs.declared.poll.Poll.{Poll}
-use Rattle.cbs_clients.specs.declared.poll.Poll.TheVariants.{Nothing, Took, Closed, Full, OutOfMemory, NoSuchServer}
+use Rattle.cbs_host.specs.declared.poll.Poll.{Poll}
+use Rattle.cbs_host.specs.declared.poll.Poll.TheVariants.{Nothing, Took, Closed, Full, OutOfMemory, NoSuchServer}
 use Rattle.cbs_clients.specs.declared.client.Client.{Client}
 use Rattle.cbs_clients.specs.Clients.{server_of, sent_by, SameClient}
 use Rattle.cbs_clients.specs.Houses.{core_of, received, known, LooksOnly, Polled}

@@ -22,8 +22,8 @@ use Rattle.cbs_steps.specs.declared.step.Step.TheVariants as step
 use Rattle.cbs_clients.specs.declared.house.House.{House}
 use Rattle.cbs_clients.specs.declared.message.Message.{Message}
 use Rattle.cbs_clients.specs.declared.message.Message.TheVariants.{Job, End}
-use Rattle.cbs_clients.specs.declared.poll.Poll.{Poll}
-use Rattle.cbs_clients.specs.declared.poll.Poll.TheVariants.{Nothing, Took, Closed, Full, OutOfMemory, NoSuchServer}
+use Rattle.cbs_host.specs.declared.poll.Poll.{Poll}
+use Rattle.cbs_host.specs.declared.poll.Poll.TheVariants.{Nothing, Took, Closed, Full, OutOfMemory, NoSuchServer}
 use Rattle.cbs_results.specs.Collected.{AllShelvesSame}
 use Rattle.cbs_clients.specs.Rings.{Looked}
 use Rattle.cbs_clients.specs.Houses.{Seat, core_of, rings_of, received, known, results_of, handed_of, Made, LooksOnly, Collects, Polled}

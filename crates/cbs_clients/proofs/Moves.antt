@@ -13,10 +13,11 @@ use Rattle.cbs_steps.specs.declared.reply.Reply.TheVariants as reply
 use Rattle.cbs_steps.specs.declared.step.Step.{Step}
 use Rattle.cbs_steps.specs.declared.step.Step.TheVariants.{Submit, Run, Advance, Close, Charge}
 use Rattle.cbs_clients.specs.declared.house.House.{House}
-use Rattle.cbs_clients.specs.declared.poll.Poll.{Poll}
-use Rattle.cbs_clients.specs.declared.poll.Poll.TheVariants.{Nothing, Took, Closed, Full, OutOfMemory, NoSuchServer}
+use Rattle.cbs_host.specs.declared.poll.Poll.{Poll}
+use Rattle.cbs_host.specs.declared.poll.Poll.TheVariants.{Nothing, Took, Closed, Full, OutOfMemory, NoSuchServer}
 use Rattle.cbs_clients.specs.Houses.{core_of, rings_of, received, handed_of, IsHouseOnTime, Made, Moves, MovesBy, LooksOnly, Polled, ServesOn, ServesBy}
-use Rattle.cbs_clients.specs.Meters.{NothingBeyond, NeverCharges, IsRunPaid, IsMove, all_steps}
+use Rattle.cbs_host.specs.Meters.{NothingBeyond, NeverCharges}
+use Rattle.cbs_clients.specs.Meters.{IsRunPaid, IsMove, all_steps}
 use Rattle.cbs_clients.specs.Steps.{messages_of, pops_of, pops, MayServe}
 use Rattle.cbs_steps.specs.Continuations.{◌⊕⊕◌, MayDrain}
 use Rattle.cbs_clients.proofs.MadeSteps.{made_both, made_nothing, made_look}

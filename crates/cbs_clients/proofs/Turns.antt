@@ -27,8 +27,8 @@ use Rattle.cbs_rules.specs.Rules.{clock_end}
 use Rattle.cbs_clients.specs.declared.error.HouseError.{HouseError}
 use Rattle.cbs_clients.specs.declared.error.HouseError.TheVariants as house_error
 use Rattle.cbs_clients.specs.declared.house.House.{House}
-use Rattle.cbs_clients.specs.declared.poll.Poll.{Poll}
-use Rattle.cbs_clients.specs.declared.poll.Poll.TheVariants.{Nothing, Took, Closed, Full, OutOfMemory, NoSuchServer}
+use Rattle.cbs_host.specs.declared.poll.Poll.{Poll}
+use Rattle.cbs_host.specs.declared.poll.Poll.TheVariants.{Nothing, Took, Closed, Full, OutOfMemory, NoSuchServer}
 use Rattle.cbs_clients.specs.declared.turn.Turn.{Turn}
 use Rattle.cbs_results.specs.Collected.{shelf_at, no_shelf}
 use Rattle.cbs_clients.specs.HouseInvariant.{Housed}

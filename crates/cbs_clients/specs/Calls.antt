@@ -25,7 +25,8 @@ use Rattle.cbs_clients.specs.Clients.{sent_by, free, most_jobs, SameClient}
 use Rattle.cbs_clients.specs.Houses.{core_of, rings_of, seat_at, new_seat, IsHouseOnTime, KeepsResults, told_answer, Made, SameHouse, Polled}
 use Rattle.cbs_clients.specs.Houses.{ServesOn, ServesBy, Collects, NamesJob}
 use Rattle.cbs_clients.specs.Messages.{jobs_among, has_end}
-use Rattle.cbs_clients.specs.Meters.{NothingBeyond, NeverCharges, IsRunPaid}
+use Rattle.cbs_host.specs.Meters.{NothingBeyond, NeverCharges}
+use Rattle.cbs_clients.specs.Meters.{IsRunPaid}
 use Rattle.cbs_clients.specs.Turns.{IsNumbered, TakesOwnTurn}
 use Rattle.cbs_clients.specs.declared.client.Client.{Client}
 use Rattle.cbs_clients.specs.declared.client.SendRefused.{SendRefused}
@@ -35,7 +36,7 @@ use Rattle.cbs_clients.specs.declared.error.SendError.{SendError}
 use Rattle.cbs_clients.specs.declared.error.SendError.TheVariants.{Ended, RingFull}
 use Rattle.cbs_clients.specs.declared.house.House.{House}
 use Rattle.cbs_clients.specs.declared.message.Message.TheVariants.{Job, End}
-use Rattle.cbs_clients.specs.declared.poll.Poll.{Poll}
+use Rattle.cbs_host.specs.declared.poll.Poll.{Poll}
 use Rattle.cbs_clients.specs.declared.turn.Turn.{Turn}
 
 module _ {W A : Type 0} {g : Ghosts W} where

@@ -17,8 +17,8 @@ use Rattle.cbs_clients.specs.declared.error.HouseError.{HouseError}
 use Rattle.cbs_clients.specs.declared.error.HouseError.TheVariants as house_error
 use Rattle.cbs_clients.specs.declared.house.House.{House}
 use Rattle.cbs_clients.specs.declared.message.Message.{Message}
-use Rattle.cbs_clients.specs.declared.poll.Poll.{Poll}
-use Rattle.cbs_clients.specs.declared.poll.Poll.TheVariants.{Nothing, Took, Closed, Full, OutOfMemory, NoSuchServer}
+use Rattle.cbs_host.specs.declared.poll.Poll.{Poll}
+use Rattle.cbs_host.specs.declared.poll.Poll.TheVariants.{Nothing, Took, Closed, Full, OutOfMemory, NoSuchServer}
 use Rattle.cbs_results.specs.Collected.{shelf_at}
 use Rattle.cbs_clients.specs.Messages.{jobs_among}
 use Rattle.cbs_clients.specs.Meters.{AreMoves, all_steps}

@@ -8,7 +8,6 @@ pub mod Houses
 pub mod Turns
 pub mod Sinks
 pub mod UntilClosed
-pub mod Pauses
 pub mod Opened
 pub mod Errors
 pub mod Calls

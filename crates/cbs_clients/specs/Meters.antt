@@ -1,5 +1,5 @@
--- What a meter tells of a unit, and what the unit is charged for it.
-use Rattle.std.specs.Prelude.{ℕ, zero, suc, ◌≡◌, ◌+◌, ◌-◌, ◌/◌, ◌^◌, min, List, [], ◌∷◌, ◌++◌}
+-- What a unit is charged for what a meter tells of it.
+use Rattle.std.specs.Prelude.{ℕ, zero, suc, ◌≡◌, ◌+◌, ◌-◌, min, List, [], ◌∷◌, ◌++◌}
 use Rattle.cbs_job.specs.Work.{Meaning}
 use Rattle.cbs_rules.specs.Rules.{clock_end}
 use Rattle.cbs_steps.specs.Continuations.{◌⊕⊕◌}
@@ -9,19 +9,6 @@ use Rattle.cbs_steps.specs.declared.reply.Ran.TheVariants as ran
 use Rattle.cbs_steps.specs.declared.reply.Reply.TheVariants as reply
 use Rattle.cbs_steps.specs.declared.step.Step.{Step}
 use Rattle.cbs_steps.specs.declared.step.Step.TheVariants.{Submit, Run, Advance, Close, Charge}
-
--- What a meter may tell of a unit of server s: that it took n ticks beyond its first. A meter that tells of none:
-abbrev pub NothingBeyond : ℕ → ℕ → Type 0
-NothingBeyond s n = n ≡ 0
-
--- a meter that may tell of none alone, so that nobody is ever charged
-abbrev pub NeverCharges : (ℕ → ℕ → Type 0) → Type 0
-NeverCharges may = (s n : ℕ) → may s n → n ≡ 0
-
--- how many ticks of `took` nanoseconds lie beyond the first, if a tick has so many; a tick that was begun counts whole, and as
--- many are told as 64 bits can hold
-abbrev pub ticks_beyond : ℕ → ℕ → ℕ
-ticks_beyond took tick = min ((took - 1) / tick) (2 ^ 64 - 1)
 
 -- how many ticks a unit is charged that began at tick `start` and took so many beyond its first: as many as the clock can hold
 abbrev pub ticks_charged : ℕ → ℕ → ℕ

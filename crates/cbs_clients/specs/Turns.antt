@@ -5,8 +5,8 @@ use Rattle.cbs_job.specs.Work.{Meaning}
 use Rattle.cbs_job.specs.declared.work.Work.{Ghosts}
 use Rattle.cbs_steps.specs.declared.step.Step.{Step}
 use Rattle.cbs_clients.specs.declared.house.House.{House}
-use Rattle.cbs_clients.specs.declared.poll.Poll.{Poll}
-use Rattle.cbs_clients.specs.declared.poll.Poll.TheVariants as poll
+use Rattle.cbs_host.specs.declared.poll.Poll.{Poll}
+use Rattle.cbs_host.specs.declared.poll.Poll.TheVariants as poll
 use Rattle.cbs_clients.specs.Houses.{Made, Polled, core_of, result_count}
 use Rattle.cbs_clients.specs.Meters.{IsRunPaid}
 use Rattle.cbs_clients.specs.Steps.{pops}

@@ -10,7 +10,7 @@ use Rattle.cbs_steps.specs.declared.reply.Ran.TheVariants as ran
 use Rattle.cbs_clients.specs.declared.error.HouseError.{HouseError}
 use Rattle.cbs_clients.specs.declared.error.HouseError.TheVariants.{OutOfMemory, ClockEnd, Stalled}
 use Rattle.cbs_clients.specs.declared.house.House.{House}
-use Rattle.cbs_clients.specs.declared.poll.Poll.TheVariants as poll
+use Rattle.cbs_host.specs.declared.poll.Poll.TheVariants as poll
 use Rattle.cbs_clients.specs.declared.turn.Turn.{Turn}
 use Rattle.cbs_clients.specs.Houses.{core_of, Polled, ServesBy}
 use Rattle.cbs_clients.specs.Turns.{TakesOwnTurn}

@@ -7,7 +7,7 @@ ghost use Rattle.cbs_clients.specs.declared.message.Message.TheVariants.{End};
 
 use crate::error::SendError;
 use crate::message::Message;
-use crate::pause::Pause;
+use cbs_host::Pause;
 use cbs_job::{Task, Work};
 use rtrb::Producer;
 use std::alloc::{Allocator, Global};

@@ -2,15 +2,15 @@
 
 use crate::error::HouseError;
 use crate::house::House;
-use crate::meter::{Meter, NoMeter};
 use cbs_core::LIMIT;
+use cbs_host::{Meter, NoMeter};
 use cbs_job::Work;
 use std::alloc::Allocator;
 
 impl<W: Work, A: Allocator> House<W, A> {
     ghost use Rattle.std.specs.Prelude.{ℕ, ◌≡◌, true, false, OnOk, IfErr};
     ghost use Rattle.cbs_clients.specs.Houses.{core_of, rings_of, received, IsHouseOnTime, AllFinished, Moves, MovesBy};
-    ghost use Rattle.cbs_clients.specs.Meters.{NeverCharges};
+    ghost use Rattle.cbs_host.specs.Meters.{NeverCharges};
     ghost use Rattle.cbs_core.specs.Held.{HoldsJob, HoldsNoJob, IsAtEnd};
     ghost use Rattle.cbs_steps.specs.Continuations.{MayDrain};
 

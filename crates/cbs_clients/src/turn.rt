@@ -5,11 +5,9 @@ ghost use Rattle.cbs_clients.specs.Houses.{core_of, KeepsResults};
 ghost use Rattle.cbs_clients.specs.Turns.{lacks_memory, PollsEach, popped_by};
 ghost use Rattle.cbs_rate.specs.Limits.{most_servers};
 
-use crate::gate::{Gate, OpenGate};
 use crate::house::House;
-use crate::meter::{Meter, NoMeter};
-use crate::poll::Poll;
 use cbs_core::{LIMIT, Ran};
+use cbs_host::{Gate, Meter, NoMeter, OpenGate, Poll};
 use cbs_job::Work;
 use std::alloc::Allocator;
 

@@ -7,11 +7,9 @@ ghost use Rattle.cbs_rate.specs.Limits.{most_servers};
 
 use crate::error::HouseError;
 use crate::house::House;
-use crate::meter::{Meter, NoMeter};
-use crate::pause::Pause;
-use crate::sink::Sink;
 use crate::turn::Turn;
 use cbs_core::{LIMIT, Ran};
+use cbs_host::{Meter, NoMeter, Pause, Sink};
 use cbs_job::Work;
 use std::alloc::Allocator;
 use std::time::Clock;
@@ -20,7 +18,7 @@ impl<W: Work, A: Allocator> House<W, A> {
     ghost use Rattle.std.specs.Prelude.{◌≡◌, ◌≤◌, ◌↔◌, max, true, false, IsTrue, OnOk, IfOk, IfErr};
     ghost use Rattle.cbs_core.specs.Held.{HoldsNoJob};
     ghost use Rattle.cbs_clients.specs.Houses.{core_of, rings_of, IsHouseOnTime, AllFinished, ServesOn, ServesBy};
-    ghost use Rattle.cbs_clients.specs.Meters.{NothingBeyond, NeverCharges};
+    ghost use Rattle.cbs_host.specs.Meters.{NothingBeyond, NeverCharges};
     ghost use Rattle.cbs_clients.specs.UntilClosed.{open_servers, IsOver, RunEnds, RunsTelling, IsWaiting, RunStops, TakesTurnOfRun};
     ghost use Rattle.cbs_clients.specs.Sinks.{Tells};
 

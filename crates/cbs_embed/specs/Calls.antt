@@ -12,7 +12,7 @@ use Rattle.cbs_clients.specs.Messages.{jobs_among}
 use Rattle.cbs_clients.specs.declared.client.Client as client
 use Rattle.cbs_clients.specs.declared.error.HouseError.TheVariants.{NoSuchServer}
 use Rattle.cbs_clients.specs.declared.house.House as house
-use Rattle.cbs_clients.specs.declared.poll.Poll.{Poll}
+use Rattle.cbs_host.specs.declared.poll.Poll.{Poll}
 use Rattle.cbs_clients.specs.declared.turn.Turn.{Turn}
 use Rattle.cbs_job.specs.Tasks.{task_refusal}
 use Rattle.cbs_embed.specs.Jobs.{counting}

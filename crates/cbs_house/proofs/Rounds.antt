@@ -11,7 +11,8 @@ use Rattle.cbs_steps.specs.declared.step.Step.TheVariants.{Submit, Run, Advance,
 use Rattle.cbs_clients.specs.declared.house.House.{House}
 use Rattle.cbs_clients.specs.Calls.{RunBy}
 use Rattle.cbs_clients.specs.Houses.{core_of, rings_of, ServesBy}
-use Rattle.cbs_clients.specs.Meters.{NeverCharges, IsRunPaid, IsMove, AreMoves, all_steps}
+use Rattle.cbs_host.specs.Meters.{NeverCharges}
+use Rattle.cbs_clients.specs.Meters.{IsRunPaid, IsMove, AreMoves, all_steps}
 use Rattle.cbs_clients.specs.Turns.{PollsEach, ArePolls}
 use Rattle.cbs_clients.specs.Steps.{pops, MayServe}
 use Rattle.cbs_steps.specs.Continuations.{◌⊕⊕◌, EachAllowed}

@@ -15,7 +15,8 @@ use Rattle.cbs_clients.specs.Clients.{server_of, sent_by, AreOpened}
 use Rattle.cbs_house.specs.Feeds.{client_of, IsDone, all_jobs}
 use Rattle.cbs_clients.specs.Houses.{core_of, rings_of, received, known, results_of, handed_of, Made}
 use Rattle.cbs_core.specs.Held.{HoldsNoJob, IsAtEnd, IsClosed}
-use Rattle.cbs_clients.specs.Meters.{NeverCharges, IsRunPaid}
+use Rattle.cbs_host.specs.Meters.{NeverCharges}
+use Rattle.cbs_clients.specs.Meters.{IsRunPaid}
 use Rattle.cbs_clients.specs.Steps.{pops}
 use Rattle.cbs_core.specs.Agreement.{Agrees, AllAllowed, AllOnTime}
 use Rattle.cbs_steps.specs.Continuations.{◌⊕⊕◌}

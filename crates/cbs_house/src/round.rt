@@ -5,7 +5,7 @@ ghost use Rattle.std.specs.List.{All};
 ghost use Rattle.std.specs.Thread.{IsSync, IsSend};
 ghost use Rattle.cbs_house.specs.Feeds.{KeepsFeeds, EachSendsAtMost, SendsFeeds, servers_of, all_sent};
 ghost use Rattle.cbs_clients.specs.Houses.{core_of, IsHouseOnTime};
-ghost use Rattle.cbs_clients.specs.Meters.{NothingBeyond, NeverCharges};
+ghost use Rattle.cbs_host.specs.Meters.{NothingBeyond, NeverCharges};
 ghost use Rattle.cbs_core.specs.Held.{IsClosed};
 ghost use Rattle.cbs_house.specs.Rounds.{Ready, TakesTurn, TakesTurns};
 ghost use Rattle.cbs_rate.specs.Limits.{most_servers};

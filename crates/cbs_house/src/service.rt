@@ -4,7 +4,7 @@ ghost use Rattle.std.specs.Prelude.{ℕ, suc, ◌≡◌, ◌≢◌, ◌+◌, ◌
 ghost use Rattle.std.specs.List.{All};
 ghost use Rattle.cbs_house.specs.Feeds.{IsDone, KeepsFeed, KeepsFeeds, all_unsent};
 ghost use Rattle.cbs_clients.specs.Houses.{core_of, rings_of, IsHouseOnTime, LooksOnly, ServesOn, ServesBy};
-ghost use Rattle.cbs_clients.specs.Meters.{NeverCharges};
+ghost use Rattle.cbs_host.specs.Meters.{NeverCharges};
 ghost use Rattle.cbs_core.specs.Held.{HoldsNoJob};
 ghost use Rattle.cbs_clients.specs.Clients.{IsOpened};
 ghost use Rattle.cbs_house.specs.Rounds.{Ready, Standing, IsTaken, IsSettled, IsServed, Halts, Stops};

@@ -1,4 +1,4 @@
-use Rattle.cbs_clients.specs.Meters.{NothingBeyond}
+use Rattle.cbs_host.specs.Meters.{NothingBeyond}
 use Rattle.cbs_clients.proofs.Moves.{never_beyond, serves_never}
 use Rattle.cbs_house.proofs.service.serve.Goals as goal
 

@@ -1,5 +1,5 @@
 use Rattle.cbs_steps.specs.Continuations.{MayDrain}
-use Rattle.cbs_clients.specs.Meters.{NothingBeyond}
+use Rattle.cbs_host.specs.Meters.{NothingBeyond}
 use Rattle.cbs_clients.proofs.Moves.{never_beyond, by_never, drain_quiet}
 use Rattle.cbs_clients.proofs.house.House.drain.Goals as goal
 

@@ -1,5 +1,5 @@
 use Rattle.cbs_clients.proofs.MadeSteps.{looks_results}
-use Rattle.cbs_clients.specs.declared.poll.Poll.TheVariants.{Nothing}
+use Rattle.cbs_host.specs.declared.poll.Poll.TheVariants.{Nothing}
 use Rattle.std.proofs.Common.{◌<◌, length, refl, subst, sym, ◌∙◌, arith, inl, inr}
 use Rattle.cbs_core.specs.Held.{IsClosed}
 use Rattle.cbs_clients.proofs.Beside.{Shown, shown, all_taken, nothing_polled, none_shown, polled_behind, nothing_seen, closed_polled}

@@ -57,7 +57,7 @@ pub struct Pause {
 
 impl Pause {
     ghost use Rattle.std.specs.Prelude.{◌≤◌};
-    ghost use Rattle.cbs_clients.specs.Pauses.{slept};
+    ghost use Rattle.cbs_host.specs.Pauses.{slept};
 
     /// The pauses of a side that has taken no turn.
     pub fn new() -> Pause {

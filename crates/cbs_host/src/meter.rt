@@ -2,12 +2,12 @@
 
 ghost use Rattle.std.specs.Prelude.{ℕ, ◌≡◌, ◌<◌, ◌↔◌, IsSome};
 ghost use Rattle.std.specs.Duration.{as_nanos};
-ghost use Rattle.cbs_clients.specs.Meters.{NothingBeyond, ticks_beyond};
+ghost use Rattle.cbs_host.specs.Meters.{NothingBeyond, ticks_beyond};
 
 use std::time::{Clock, Duration};
 
 /// Is asked after each unit for how long it ran, on the house's thread. The server that got the unit is charged so many
-/// ticks, as by [`House::charge`](crate::House::charge).
+/// ticks, as by `House::charge`.
 pub trait Meter {
     /// That it may tell of so many ticks of a unit of server `s`. Of a meter that does not say otherwise it may be any number.
     ghost may_tell: { ℕ → ℕ → Type 0 } = { λ s n. Unit {0} };
