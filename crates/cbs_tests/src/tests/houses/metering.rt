@@ -1,18 +1,20 @@
 //! Meters: what a server is charged whose units take longer than a tick.
 
+ghost use Rattle.std.specs.Prelude.{◌-◌, refl};
+
 use super::calls::{ends, polls, sends};
 use super::meeting::Shut;
 use super::polling::one_client;
 use super::rows::{Row, does_all};
 use super::serving::opened;
-use super::{same, same_at, sum_of};
+use super::{plan_of, same, same_at, sum_of};
 use cbs_core::Ran;
 use cbs_house::{
-    Client, ClockMeter, Feed, House, Meter, NoMeter, NoSink, OpenGate, Poll, serve_metered,
-    serve_round_metered,
+    Client, ClockMeter, Feed, House, Meter, NoMeter, NoSink, OpenGate, Poll, open_house,
+    serve_metered, serve_round_metered,
 };
-use cbs_job::SumJob;
-use cbs_rules::{LIMIT, Mode};
+use cbs_job::{SumJob, Task, Work};
+use cbs_rules::{LIMIT, Mode, Modes};
 use std::alloc::Global;
 use std::io;
 use std::process::Abort;
@@ -254,4 +256,73 @@ fn a_unit_that_takes_no_time_is_charged_nothing(rt: HostRuntime) {
     closes(&rt, alloc, &mut meter, &SHORT);
     let none = ClockMeter::new(&clock, Duration::ZERO).is_none();
     same(&rt, "a tick of no length is refused", none, true);
+}
+
+/// A clock that stands, unless a unit moves it.
+#[derive(Drop)]
+struct Wall {
+    nanos: AtomicU64,
+}
+
+impl Clock for Wall {
+    fn monotonic(&self) -> io::Result<Duration> {
+        Ok(Duration::from_nanos(self.nanos.load(Ordering::SeqCst)))
+    }
+
+    fn since_1970(&self) -> io::Result<Duration> {
+        Ok(Duration::ZERO)
+    }
+}
+
+/// A job whose units take 25 microseconds of a clock each.
+#[derive(Drop)]
+struct SlowJob<'a> {
+    units: u32,
+    wall: &'a Wall,
+}
+
+impl<'a> Work for SlowJob<'a> {
+    ghost meaning = { record { left = λ j. j.units; output = λ j. 0; after = λ j. record j { units = j.units - 1 } } };
+
+    ghost lowers = { λ j some. refl };
+
+    fn left(&self) -> u32 {
+        self.units
+    }
+
+    fn step(&mut self) {
+        self.units -= 1;
+        self.wall.nanos.fetch_add(25_000, Ordering::SeqCst);
+    }
+
+    fn output(&self) -> u64 {
+        0
+    }
+}
+
+#[test]
+fn a_clock_meter_takes_the_time_of_the_unit(rt: HostRuntime) {
+    let wall = Wall {
+        nanos: AtomicU64::new(7),
+    };
+    let plan = plan_of(&rt, &[(2, 5)]);
+    let modes = Modes::uniform(Mode::Soft, plan.len() as u16);
+    let opened = open_house(rt.alloc(), plan, modes, 4, 4);
+    let (mut house, mut clients) = opened.ok().expect(&rt, "a house");
+    let mut client = clients.pop().expect(&rt, "a client");
+    let job = SlowJob {
+        units: 2,
+        wall: &wall,
+    };
+    let task = Task::new(job).ok().expect(&rt, "a task");
+    same(&rt, "send", client.send(task).is_ok(), true);
+    let mut meter = ClockMeter::new(&wall, Duration::from_micros(10)).expect(&rt, "a meter");
+    // A turn each: a unit of 25 microseconds is one of three ticks.
+    for now in [3, 6] {
+        house.turn_metered(&mut meter);
+        same(&rt, "now", house.now(), now);
+    }
+    let charges = house.charges(0).map(|it| (it.total, it.most));
+    same(&rt, "charges", charges, Ok((4, 2)));
+    drop(client);
 }
