@@ -1,7 +1,7 @@
 //! Entries of ready servers, of which the first leaves with no move of the others.
 
-ghost use Rattle.std.specs.Prelude.{◌≡◌, ◌-◌, ◌<◌, ◌≤◌, [], ◌∷◌, length, drop, take, vec_len, vec_capacity, IfOk};
-ghost use Rattle.cbs_ready.specs.ReadyList.{is_ahead, entered, without, IsMoved, IsOrdered, IsPlaceOf};
+ghost use Rattle.std.specs.Prelude.{ℕ, ◌≡◌, ◌-◌, ◌<◌, ◌≤◌, [], ◌∷◌, length, drop, take, vec_len, vec_capacity, IfOk, Some};
+ghost use Rattle.cbs_ready.specs.ReadyList.{is_ahead, first_of, entered, without, IsMoved, IsOrdered, IsPlaceOf};
 ghost use Rattle.cbs_rate.specs.Limits.{most_servers};
 
 use std::alloc::{AllocError, Allocator, Global};
@@ -81,6 +81,14 @@ impl<A: Allocator> Entries<A> {
         ensures { self.new ≡ entry ∷ drop 1 self.old }
     {
         write(&mut self.slots[self.first], entry);
+    }
+
+    /// Gives the first entry another deadline.
+    pub fn postpone_first(&mut self, deadline: u128)
+        requires { 0 < length self.old }
+        ensures { (s : ℕ) → first_of self.old ≡ Some s → self.new ≡ (record { deadline = deadline; server = s }) ∷ drop 1 self.old }
+    {
+        self.slots[self.first].deadline = deadline;
     }
 
     /// Takes the first entry away.

@@ -132,7 +132,7 @@ impl<A: Allocator> ReadyList<A> {
         ensures others { (t : ℕ) → t ≢ server → listed self.new t ≡ listed self.old t }
     {
         if self.entries.len() == 1 {
-            self.entries.set_first(Entry { deadline, server });
+            self.entries.postpone_first(deadline);
         } else {
             self.move_first(server, deadline);
         }
