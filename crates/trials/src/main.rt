@@ -1,12 +1,13 @@
-//! What is tried from outside: calls that scripts refuse memory to, loads that are served with random delays, and
-//! how long calls take.
+//! What is tried from outside: calls that scripts refuse memory to, loads that are served with random delays, how
+//! long calls take, and what a client gets whose units overrun.
 //!
-//! `growth CALL` makes the call of that word, `soak` serves the load on standard input, and `bench` prints the
-//! table of times. With no word, all calls are made in turn, the load is served, and the cases of the table are
-//! made shortly.
+//! `growth CALL` makes the call of that word, `soak` serves the load on standard input, `bench` prints the
+//! table of times, and `overruns MILLISECONDS` runs each trial of overruns for so long. With no word, all calls are
+//! made in turn, the load is served, and the cases of the table and the trials of overruns are made shortly.
 #![tactic(auto)]
 
 mod growths;
+mod overruns;
 mod setup;
 mod soak;
 mod times;
@@ -23,7 +24,9 @@ fn try_all<R: Print + Threads + Clock + Sync>(rt: &R, alloc: Global, load: &str)
     println!(rt; "== soak")?;
     soak::serve_load(rt, alloc, load)?;
     println!(rt; "== bench")?;
-    times::print_table(rt, alloc, true)
+    times::print_table(rt, alloc, true)?;
+    println!(rt; "== overruns")?;
+    overruns::print_lateness(rt, alloc)
 }
 
 /// The load on standard input.
@@ -44,6 +47,10 @@ fn main(rt: HostRuntime) -> Result<()> {
         }
         "soak" => soak::serve_load(&rt, alloc, load_given(&rt)?.as_str()),
         "bench" => times::print_table(&rt, alloc, false),
-        _ => bail!("usage: [growth CALL | soak | bench]"),
+        "overruns" => {
+            let millis = words.next().context("usage: overruns MILLISECONDS")?;
+            overruns::print_all(&rt, alloc, millis.as_str().parse::<u64>()?)
+        }
+        _ => bail!("usage: [growth CALL | soak | bench | overruns MILLISECONDS]"),
     }
 }

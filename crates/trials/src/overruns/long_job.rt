@@ -1,0 +1,67 @@
+//! A job whose units take so long.
+
+ghost use Rattle.std.specs.Prelude.{◌-◌, refl};
+
+use anyhow::{Context, Result};
+use cbs_job::{Task, Work};
+use std::time::{Clock, Duration};
+
+/// A job whose units keep the processor busy for so long by a clock.
+pub struct LongJob<'a, R: Clock> {
+    rt: &'a R,
+    units: u32,
+    length: Duration,
+}
+
+// By hand, so that it asks nothing of the runtime.
+impl<'a, R: Clock> Drop for LongJob<'a, R> {
+    fn drop(self) {
+        let LongJob {
+            rt: _,
+            units: _,
+            length: _,
+        } = self;
+    }
+}
+
+impl<'a, R: Clock> Work for LongJob<'a, R> {
+    ghost meaning = { record { left = λ j. j.units; output = λ j. 0; after = λ j. record j { units = j.units - 1 } } };
+
+    ghost lowers = { λ j some. refl };
+
+    fn left(&self) -> u32 {
+        self.units
+    }
+
+    fn step(&mut self) {
+        self.units -= 1;
+        spend(self.rt, self.length);
+    }
+
+    fn output(&self) -> u64 {
+        0
+    }
+}
+
+/// Returns a job of one unit that takes so long.
+pub fn one_unit<'a, R: Clock>(rt: &'a R, length: Duration) -> Result<Task<LongJob<'a, R>>> {
+    let job = LongJob {
+        rt,
+        units: 1,
+        length,
+    };
+    Task::new(job).ok().context("no such job")
+}
+
+/// Keeps the processor busy for so long, or until the clock cannot be read.
+fn spend(rt: &impl Clock, length: Duration) {
+    let Ok(begun) = rt.monotonic() else {
+        return;
+    };
+    for _look in 0..u64::MAX {
+        match rt.monotonic() {
+            Ok(now) if now.saturating_sub(begun) < length => {}
+            _ => return,
+        }
+    }
+}
