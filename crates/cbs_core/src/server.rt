@@ -194,15 +194,14 @@ impl Server {
         ensures face { self.new ≡ with_unit done self.old }
         ensures stays { result ≡ true → (is_ready self.new ≡ true) × (self.new.state.deadline ≡ self.old.state.deadline) }
     {
-        let more = self.state.budget() > 1;
+        // A budget that may be used is no 0, so this is known once it is used.
+        let more = self.state.budget() != 1;
         self.state.consume(self.mode);
         // Most units end here.
-        if more && !done {
-            return true;
+        if !done {
+            return more;
         }
-        if done {
-            self.finished += 1;
-        }
+        self.finished += 1;
         more && self.is_active()
     }
 

@@ -190,8 +190,11 @@ impl<A: Allocator> Servers<A> {
         if it.use_tick(done) {
             return;
         }
-        self.ready.follow_first(server, it.ready_by());
-        self.waits.note(it);
+        let ready_by = it.ready_by();
+        self.ready.follow_first(server, ready_by);
+        if ready_by.is_none() {
+            self.waits.note(it);
+        }
     }
 
     /// Replenishes every server that is due at tick `now`.

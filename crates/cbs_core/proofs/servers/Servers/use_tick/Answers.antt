@@ -1,5 +1,6 @@
-use Rattle.std.proofs.Common.{◌∙◌, rules}
-use Rattle.cbs_steps.specs.Faces.{with_unit}
+use Rattle.std.proofs.Common.{◌≡◌, ◌∙◌, true, rules, arith}
+use Rattle.std.proofs.lemmas.Grind.{common_steps}
+use Rattle.cbs_steps.specs.Faces.{with_unit, is_ready}
 use Rattle.cbs_lists.proofs.Lists.{written}
 use Rattle.cbs_core.proofs.ReadyServers.{chosen_first, lists_same, lists_set}
 use Rattle.cbs_core.proofs.Waiting.{wake_ready, keeps_noted, keeps_ready}
@@ -34,18 +35,35 @@ follow_first-requires g c =
     let first = chosen_first _ _ _ _ c.self.invariant.1 (rw (← c.self.view_is) at c.requires.chosen) read in
     first.first
 
-pub invariant_of-self-2 : goal.invariant_of-self-2
-invariant_of-self-2 g c =
+pub invariant_of-self-then-is_none : goal.invariant_of-self-then-is_none
+invariant_of-self-then-is_none g c =
     let f = c.follow_first.ensures in
     let read = rw c.from.ensures at c.index_mut-it.ensures.value in
     let first = chosen_first _ _ _ _ c.self.invariant.1 (rw (← c.self.view_is) at c.requires.chosen) read in (
       search rules,
-      rw c.from.ensures (lists_set _ _ _ _ _ c.self.invariant.1 first.within f.ordered (f.here ∙ c.ready_by.ensures) f.others),
+      rw c.from.ensures (lists_set _ _ _ _ _ c.self.invariant.1 first.within f.ordered (f.here ∙ c.ready_by-ready_by.ensures) f.others),
       rw c.from.ensures (keeps_noted _ _ _ _ _ _ c.self.invariant.2 first.within read (wake_ready c.index_mut-it.result.now first.ready) c.note.ensures),
     )
 
-pub returns : goal.returns
-returns g c =
+pub invariant_of-self-else-is_none : goal.invariant_of-self-else-is_none
+invariant_of-self-else-is_none g c =
+    let f = c.follow_first.ensures in
+    let read = rw c.from.ensures at c.index_mut-it.ensures.value in
+    let first = chosen_first _ _ _ _ c.self.invariant.1 (rw (← c.self.view_is) at c.requires.chosen) read in
+    let is : is_ready c.use_tick.new.self ≡ true = grind (arith, common_steps) in (
+      search rules,
+      rw c.from.ensures (lists_set _ _ _ _ _ c.self.invariant.1 first.within f.ordered (f.here ∙ c.ready_by-ready_by.ensures) f.others),
+      rw c.from.ensures (keeps_ready _ _ _ _ _ c.self.invariant.2 first.within read first.ready is),
+    )
+
+pub returns-then-is_none : goal.returns-then-is_none
+returns-then-is_none g c =
+    let read = rw c.from.ensures at c.index_mut-it.ensures.value in
+    let first = chosen_first _ _ _ _ c.self.invariant.1 (rw (← c.self.view_is) at c.requires.chosen) read in
+    rw (← c.self.view_is) (written (with_unit c.args.done) _ _ _ _ _ c.from.ensures first.within c.index_mut-it.ensures.value c.use_tick.ensures.face)
+
+pub returns-else-is_none : goal.returns-else-is_none
+returns-else-is_none g c =
     let read = rw c.from.ensures at c.index_mut-it.ensures.value in
     let first = chosen_first _ _ _ _ c.self.invariant.1 (rw (← c.self.view_is) at c.requires.chosen) read in
     rw (← c.self.view_is) (written (with_unit c.args.done) _ _ _ _ _ c.from.ensures first.within c.index_mut-it.ensures.value c.use_tick.ensures.face)
