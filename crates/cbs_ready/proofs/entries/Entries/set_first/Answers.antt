@@ -1,4 +1,4 @@
-use Rattle.std.proofs.Common.{◌≡◌, ◌<◌, length, drop, length-drop, arith}
+use Rattle.std.proofs.Common.{◌<◌, length, length-drop, arith}
 use Rattle.std.proofs.lemmas.List.{drop-set, drop-drop}
 use Rattle.cbs_ready.proofs.entries.Entries.set_first.Goals as goal
 
