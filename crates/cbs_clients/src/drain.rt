@@ -32,10 +32,10 @@ impl<W: Work, A: Allocator> House<W, A> {
         self.drain_metered(&mut NoMeter)
     }
 
-    /// Runs until no accepted job is unfinished, as [`drain`](House::drain), with a meter: after each unit its server is
-    /// charged the ticks that the unit took beyond its first, as by [`run_metered`](House::run_metered).
+    /// Runs until no accepted job is unfinished, as [`drain`](House::drain), with a meter. After each unit its server is
+    /// charged what the meter tells, as by [`run_metered`](House::run_metered).
     ///
-    /// Refuses as [`drain`](House::drain).
+    /// Refuses by [`HouseError::ClockEnd`] when [`drain`](House::drain) does: the clock is at [`LIMIT`] with a job unfinished.
     pub fn drain_metered<M: Meter>(&mut self, meter: &mut M) -> Result<(), HouseError>
         ensures moves { MovesBy W.meaning M.may_tell (MayDrain W.meaning) self.old self.new 0 }
         ensures on_time { NeverCharges M.may_tell → IsHouseOnTime self.old → IsHouseOnTime self.new }

@@ -182,9 +182,8 @@ impl<W: Work, A: Allocator> House<W, A> {
         ran
     }
 
-    /// Runs one unit, as [`run`](House::run), with a meter: if a unit ran, its server is charged the ticks that the unit took
-    /// beyond its first, as the meter tells them, as by [`charge`](House::charge). It is charged as many as the clock can
-    /// hold, which then is at [`LIMIT`].
+    /// Runs one unit, as [`run`](House::run), with a meter. If a unit ran, its server is charged the ticks that the meter
+    /// tells, as by [`charge`](House::charge). What the clock cannot hold is not charged, so the clock stops at [`LIMIT`].
     pub fn run_metered<M: Meter>(&mut self, meter: &mut M) -> Ran
         ensures { RunBy W.meaning M.may_tell self.old result self.new }
     {
@@ -288,7 +287,7 @@ impl<W: Work, A: Allocator> House<W, A> {
     ///
     /// It is kept if all are on time now, and no advance and no charge to come takes anybody's time. A house is on
     /// time when it is opened. Each call keeps it so, but an [`advance`](House::advance) while somebody is ready, and
-    /// a [`charge`](House::charge).
+    /// a [`charge`](House::charge). Calls with a meter make charges.
     pub fn promised(&self, server: u16) -> Option<u128>
         ensures { PromiseOf W.meaning server self.now result }
     {

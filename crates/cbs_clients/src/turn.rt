@@ -95,8 +95,8 @@ impl<W: Work, A: Allocator> House<W, A> {
         self.turn_metered(&mut NoMeter)
     }
 
-    /// Takes one turn, as [`turn`](House::turn), with a meter: if a unit ran, its server is charged the ticks that the unit
-    /// took beyond its first, as by [`run_metered`](House::run_metered). They are not counted in [`Turn::advanced`].
+    /// Takes one turn, as [`turn`](House::turn), with a meter. If a unit ran, its server is charged what the meter tells, as
+    /// by [`run_metered`](House::run_metered). These ticks are not counted in [`Turn::advanced`].
     pub fn turn_metered<M: Meter>(&mut self, meter: &mut M) -> Turn
         ensures { TurnBy W.meaning M.may_tell self.old result self.new }
     {

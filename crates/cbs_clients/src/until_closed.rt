@@ -49,10 +49,10 @@ impl<W: Work, A: Allocator> House<W, A> {
     }
 
     /// Takes turns until every server is closed and every job is finished, as
-    /// [`run_until_closed`](House::run_until_closed), with a meter: after each unit its server is charged the ticks that the
-    /// unit took beyond its first, as by [`run_metered`](House::run_metered).
+    /// [`run_until_closed`](House::run_until_closed), with a meter. After each unit its server is charged what the meter
+    /// tells, as by [`run_metered`](House::run_metered).
     ///
-    /// Refuses as [`run_until_closed`](House::run_until_closed).
+    /// Refuses by the errors of [`run_until_closed`](House::run_until_closed), and when it does.
     pub fn run_until_closed_metered<R: Clock, S: Sink, M: Meter>(
         &mut self,
         rt: &R,

@@ -9,7 +9,8 @@ use std::time::{Clock, Duration};
 /// Is asked after each unit for how long it ran, on the house's thread. The server that got the unit is charged so many
 /// ticks, as by `House::charge`.
 pub trait Meter {
-    /// That it may tell of so many ticks of a unit of server `s`. Of a meter that does not say otherwise it may be any number.
+    /// That it may tell of `n` ticks beyond the first of a unit of server `s`. If a meter does not say otherwise, it may tell
+    /// of any number.
     ghost may_tell: { ℕ → ℕ → Type 0 } = { λ s n. Unit {0} };
 
     /// Told that a unit is about to run, or nothing, if nobody is ready.

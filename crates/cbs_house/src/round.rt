@@ -62,8 +62,8 @@ pub fn serve_round<R: Threads + Clock + Sync, G: Gate + Sync, W: Work + Send>(
     serve_round_metered(rt, house, feeds, turns, gate, &mut NoMeter)
 }
 
-/// Lets the senders of all feeds and the house take turns, all at once, as [`serve_round`], with a meter: after each unit
-/// its server is charged the ticks that the unit took beyond its first, as by [`House::run_metered`].
+/// Lets the senders of all feeds and the house take turns, all at once, as [`serve_round`], with a meter. After each unit
+/// its server is charged what the meter tells, as by [`House::run_metered`].
 ///
 /// The meter is asked on the thread that calls. There are at most 64 feeds, each with a client that was opened with this
 /// house; `turns` is at most 1000000000.

@@ -53,11 +53,12 @@ pub fn serve<R: Threads + Clock + Sync, G: Gate + Sync, W: Work + Send>(
     serve_metered(rt, house, feeds, gate, &mut NoMeter)
 }
 
-/// Serves the feeds until each is done and all its jobs are finished, as [`serve`], with a meter: after each unit its
-/// server is charged the ticks that the unit took beyond its first, as by [`House::run_metered`].
+/// Serves the feeds until each is done and all its jobs are finished, as [`serve`], with a meter. After each unit its
+/// server is charged what the meter tells, as by [`House::run_metered`].
 ///
-/// The meter is asked on the thread that calls. Refuses as [`serve`]. There are at most 64 feeds, each with a client that
-/// was opened with this house.
+/// The meter is asked on the thread that calls. Refuses by the errors of [`serve`], and when it does.
+///
+/// There are at most 64 feeds, each with a client that was opened with this house.
 pub fn serve_metered<R: Threads + Clock + Sync, G: Gate + Sync, W: Work + Send, M: Meter>(
     rt: &R,
     house: &mut House<W>,

@@ -1,6 +1,8 @@
 //! Meters: what a server is charged whose units take longer than a tick.
 
 ghost use Rattle.std.specs.Prelude.{◌-◌, refl};
+ghost use Rattle.cbs_clients.specs.Clients.{IsOpened};
+ghost use Rattle.cbs_clients.specs.Houses.{rings_of};
 
 use super::calls::{ends, polls, sends};
 use super::meeting::Shut;
@@ -46,7 +48,9 @@ impl Meter for TwoBeyond {
 }
 
 /// A house of a soft server with 2 ticks in every 5, whose client sent a job of three units.
-fn one_job(rt: &impl Abort, alloc: Global) -> (House<SumJob>, Client<SumJob>) {
+fn one_job(rt: &impl Abort, alloc: Global) -> (House<SumJob>, Client<SumJob>)
+    ensures { IsOpened (rings_of result.0) result.1 }
+{
     let (house, mut client) = one_client(rt, alloc, Mode::Soft, (2, 5), (4, 4));
     sends(rt, &mut client, sum_of(rt, alloc, &[1, 1, 1]), 0);
     (house, client)
