@@ -89,7 +89,7 @@ const WITH_ROOM: [Row; 11] = [
 #[test]
 fn each_call_on_a_core_with_one_server(rt: HostRuntime) {
     let alloc = rt.alloc();
-    let heap = LocalHeap::new(alloc, 1 << 12).expect(&rt, "a heap");
+    let heap = LocalHeap::new(alloc, 1 << 13).expect(&rt, "a heap");
     let mut core = core_of(&rt, &heap, Mode::Soft, &[(2, 5)], 1);
     same(&rt, "make_room", core.make_room(0), Ok(()));
     // From here on no memory is found, and none is wanted.

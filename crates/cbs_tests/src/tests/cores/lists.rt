@@ -192,7 +192,7 @@ fn takes_all_room(rt: &impl Abort, alloc: Global, core: &mut Core<SumJob, &Local
 #[test]
 fn a_step_that_finds_no_memory_is_marked(rt: HostRuntime) {
     let alloc = rt.alloc();
-    let heap = LocalHeap::new(alloc, 1 << 13).expect(&rt, "a heap");
+    let heap = LocalHeap::new(alloc, 1 << 14).expect(&rt, "a heap");
     let mut core = core_of(&rt, &heap, Mode::Soft, &[(2, 5), (2, 5)], 64);
     let asked = [
         Asked::Submit(1, 2),

@@ -47,7 +47,7 @@ fn all_come_to<A: Allocator + Clone + Copy>(rt: &impl Abort, global: Global, all
 fn jobs_of_any_kind_run_in_any_memory(rt: HostRuntime) {
     let alloc = rt.alloc();
     all_come_to(&rt, alloc, alloc);
-    let heap = LocalHeap::new(alloc, 1 << 12).expect(&rt, "a heap");
+    let heap = LocalHeap::new(alloc, 1 << 13).expect(&rt, "a heap");
     all_come_to(&rt, alloc, &heap);
 }
 
@@ -74,7 +74,7 @@ const WITHOUT_MEMORY: [Row; 15] = [
 #[test]
 fn room_is_enough_for_the_next_job(rt: HostRuntime) {
     let alloc = rt.alloc();
-    let heap = LocalHeap::new(alloc, 1 << 12).expect(&rt, "a heap");
+    let heap = LocalHeap::new(alloc, 1 << 13).expect(&rt, "a heap");
     let mut core = core_of(&rt, &heap, Mode::Throttled, &[(2, 5), (2, 5)], 4);
     let ballast = filled(&rt, alloc, &heap);
     let refused = Err(CoreError::OutOfMemory);

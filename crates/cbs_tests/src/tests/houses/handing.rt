@@ -91,7 +91,7 @@ const FINISHED: [Row; 3] = [
 #[test]
 fn jobs_held_keep_the_places_of_their_results(rt: HostRuntime) {
     let alloc = rt.alloc();
-    let heap = LocalHeap::new(alloc, 1 << 13).expect(&rt, "a heap");
+    let heap = LocalHeap::new(alloc, 1 << 14).expect(&rt, "a heap");
     let mut opened = Opened::new(&rt, &heap, Mode::Soft, (2, 5), (4, 4));
     opened.plays(&rt, alloc, "jobs are held", &HELD);
     let ballast = filled(&rt, alloc, &heap);
@@ -146,7 +146,7 @@ fn serves_two<A: Allocator + Clone>(
 #[test]
 fn a_service_goes_on_in_bounded_memory(rt: HostRuntime) {
     let alloc = rt.alloc();
-    let heap = LocalHeap::new(alloc, 1 << 13).expect(&rt, "a heap");
+    let heap = LocalHeap::new(alloc, 1 << 14).expect(&rt, "a heap");
     let (mut house, mut client) = one_client(&rt, &heap, Mode::Soft, (2, 5), (4, 4));
     // The results of all rounds are 16000 bytes, twice as many as the heap has.
     for round in 0..1000 {

@@ -40,7 +40,7 @@ const WITH_MEMORY: [Row; 4] = [
 #[test]
 fn what_is_taken_is_done_without_memory(rt: HostRuntime) {
     let alloc = rt.alloc();
-    let heap = LocalHeap::new(alloc, 1 << 13).expect(&rt, "a heap");
+    let heap = LocalHeap::new(alloc, 1 << 14).expect(&rt, "a heap");
     let mut opened = Opened::new(&rt, &heap, Mode::Throttled, (2, 5), (4, 4));
     let ballast = filled(&rt, alloc, &heap);
     opened.plays(&rt, alloc, "no memory is found for a job", &REFUSED);

@@ -98,16 +98,17 @@ impl Gate for Counted {
 }
 
 /// For how many idle turns a house waits, and then how often it slept, its longest sleep, and all its sleep,
-/// in microseconds. It yields in the first 64, and sleeps in each 128th after those: for 200 microseconds
+/// in microseconds. It yields in the first 64, and sleeps in each 128th after those: for 20 microseconds
 /// more each time, and for 2000 at most.
-const WAITS: [(u64, (u64, u64, u64)); 7] = [
+const WAITS: [(u64, (u64, u64, u64)); 8] = [
     (0, (0, 0, 0)),
     (1, (0, 0, 0)),
     (191, (0, 0, 0)),
-    (192, (1, 200, 200)),
-    (447, (2, 400, 600)),
-    (448, (3, 600, 1200)),
-    (1600, (12, 2000, 15000)),
+    (192, (1, 20, 20)),
+    (447, (2, 40, 60)),
+    (448, (3, 60, 120)),
+    (1600, (12, 240, 1560)),
+    (12992, (101, 2000, 103000)),
 ];
 
 #[test]
@@ -179,7 +180,7 @@ fn each_side_of_a_round_takes_all_its_turns(rt: HostRuntime) {
 #[test]
 fn a_run_stops_at_the_first_poll_without_memory(rt: HostRuntime) {
     let alloc = rt.alloc();
-    let heap = LocalHeap::new(alloc, 1 << 13).expect(&rt, "a heap");
+    let heap = LocalHeap::new(alloc, 1 << 14).expect(&rt, "a heap");
     let (mut house, mut client) = one_client(&rt, &heap, Mode::Soft, (2, 5), (4, 4));
     same(
         &rt,
@@ -212,7 +213,7 @@ const TRIES: [(u64, (u64, u64, u64)); 4] = [
     (0, (0, 0, 0)),
     (1, (0, 0, 0)),
     (192, (0, 0, 0)),
-    (193, (1, 200, 200)),
+    (193, (1, 20, 20)),
 ];
 
 #[test]

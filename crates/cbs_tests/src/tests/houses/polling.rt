@@ -82,7 +82,7 @@ const DRAINED: [Row; 10] = [
 #[test]
 fn messages_are_taken_in_order(rt: HostRuntime) {
     let alloc = rt.alloc();
-    let heap = LocalHeap::new(alloc, 1 << 13).expect(&rt, "a heap");
+    let heap = LocalHeap::new(alloc, 1 << 14).expect(&rt, "a heap");
     let mut opened = Opened::new(&rt, &heap, Mode::Soft, (2, 5), (4, 4));
     // The polls that take a message alone want memory.
     let ballast = filled(&rt, alloc, &heap);
