@@ -23,7 +23,7 @@ use Rattle.cbs_steps.proofs.Histories.{chosen_is_ready}
 use Rattle.cbs_steps.proofs.Laws.{after-append, allowed-append}
 use Rattle.cbs_core.specs.Agreement.{Agrees, HasHistory, Follows}
 use Rattle.cbs_core.specs.Held.{CoreHeld, is_running}
-use Rattle.cbs_core.proofs.Running.{runs_run}
+use Rattle.cbs_steps.proofs.Running.{runs_run}
 use Rattle.cbs_clients.specs.Errors.{charge_answer}
 use Rattle.cbs_host.specs.Meters.{NeverCharges}
 use Rattle.cbs_clients.specs.Meters.{ticks_charged, charge_steps, IsUnitPaid, IsRunPaid, IsMove, AreMoves, all_steps}

@@ -55,7 +55,7 @@ module _ {W A : Type 0} {g : Ghosts W} where
     pub rings : rings_of new ≡ rings_of old
     pub results : KeepsResults old new
 
-  -- a run: it answers what the rules give, makes that one step, and collects a completion
+  -- a run: its answer is what the rules give; it makes that one step, and collects a completion
   pub record RunOf (work : Meaning W) (old : House W A g) (told : Ran) (new : House W A g) : Type 0 where
     pub reply : (M : History W) → Agrees work (core_of old) M → reply.Ran told ≡ reply_in work M step.Run
     pub made : Made work old new (step.Run ∷ [])
@@ -63,7 +63,7 @@ module _ {W A : Type 0} {g : Ghosts W} where
     pub collects : Collects told old new
     pub job : NamesJob work told new
 
-  -- A run with a meter that may tell so: it answers what the rules give, makes that one step, pays for a unit, and collects a
+  -- A run with a meter that may tell so: its answer is what the rules give; it makes that one step, pays for a unit, and collects a
   -- completion.
   pub record RunBy (work : Meaning W) (may : ℕ → ℕ → Type 0) (old : House W A g) (told : Ran) (new : House W A g) : Type 0 where
     pub reply : (M : History W) → Agrees work (core_of old) M → reply.Ran told ≡ reply_in work M step.Run

@@ -27,7 +27,8 @@ use Rattle.cbs_steps.specs.declared.reply.Reply.TheVariants as reply
 use Rattle.cbs_steps.specs.declared.step.Step.TheVariants.{Submit, Run, Advance, Close, Charge}
 use Rattle.cbs_core.proofs.Cores.{MayRun}
 use Rattle.cbs_steps.proofs.Histories.{account_face, let_go_faces}
-use Rattle.cbs_core.proofs.Running.{running_server, none_runs, runs_changed, latest_changed, runs_run, latest_run, advance_jumps, runs_jumped, charge_jumps, charge_none, charge_refused, runs_charged, latest_charged, refused_stranger, refused_idle, refused_late, not_refused}
+use Rattle.cbs_core.proofs.Running.{running_server}
+use Rattle.cbs_steps.proofs.Running.{none_runs, runs_changed, latest_changed, runs_run, latest_run, advance_jumps, runs_jumped, charge_jumps, charge_none, charge_refused, runs_charged, latest_charged, refused_stranger, refused_idle, refused_late, not_refused}
 use Rattle.cbs_steps.proofs.PaidUnits.{paid_after}
 use Rattle.cbs_lists.proofs.Lists.{map-changed_at, AllZip-length, AllZip-get, AllZip-map, AllZip-replicate, AllZip-changed_at, AllZip-changed_second}
 use Rattle.cbs_core.proofs.HeldJobs.{owed_jobs, unit_jobs, unit_face, unit_ran, job_jobs, job_face}

@@ -28,9 +28,10 @@ use Rattle.cbs_steps.specs.declared.error.CoreError.{CoreError}
 use Rattle.cbs_steps.specs.declared.view.ServerView.{ServerView}
 use Rattle.cbs_queues.specs.Queues.{list_at, jobs_run, result_run}
 use Rattle.cbs_steps.specs.Setups.{terms_of}
-use Rattle.cbs_core.specs.Invariant.{IsServer, HoldsBacklog, IsCore, IsLastUnit, MayCharge}
+use Rattle.cbs_core.specs.Invariant.{HoldsBacklog, IsCore, IsLastUnit}
+use Rattle.cbs_steps.specs.Servers.{IsServer, MayCharge}
 use Rattle.cbs_steps.proofs.Faces.{rank_ready, runnable}
-use Rattle.cbs_core.proofs.FaceSteps.{server_new, server_later, server_replenished, server_closed, server_joined, server_run, server_charged, budget_some, within_budget}
+use Rattle.cbs_steps.proofs.FaceSteps.{server_new, server_later, server_replenished, server_closed, server_joined, server_run, server_charged, budget_some, within_budget}
 use Rattle.cbs_lists.proofs.Lists.{map_kept, changed_kept, changed_here, length-changed_at, AllByRecursion-map, AllByRecursion-weaker, AllByRecursion-get, AllByRecursion-changed_at}
 use Rattle.cbs_lists.proofs.Lists.{AllZip-length, AllZip-get, AllZip-map, AllZip-replicate, AllZip-changed_at, AllZip-changed_second}
 use Rattle.cbs_steps.proofs.Plans.{length-faces, new_reservations}

@@ -3,7 +3,8 @@ use Rattle.std.proofs.Common.{◌≡◌, ℕ, length, List, [], refl, ◌∙◌,
 use Rattle.cbs_job.specs.Work.{Meaning}
 use Rattle.cbs_rate.specs.Rate.{IsRate, Rate}
 use Rattle.cbs_steps.specs.Faces.{Face, reservations}
-use Rattle.cbs_core.specs.Invariant.{IsServer, IsCore}
+use Rattle.cbs_core.specs.Invariant.{IsCore}
+use Rattle.cbs_steps.specs.Servers.{IsServer}
 use Rattle.cbs_steps.specs.History.{History, Setup, ◌⊕◌, faces, reply_in, tick, world_after}
 use Rattle.cbs_core.specs.Held.{CoreHeld, IsCoreOnTime}
 use Rattle.cbs_core.specs.Agreement.{Agrees}

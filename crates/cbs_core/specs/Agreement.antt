@@ -34,6 +34,10 @@ module _ {W : Type 0} where
   pub record Agrees (work : Meaning W) (core : CoreHeld W) (M : History W) : Type 0 where
     pub world : AgreesWorld work core M.setup.backlog (world_after work M)
 
+  -- this holds of what the steps left, whatever list of steps the core agrees with
+  abbrev pub TellsOf : Meaning W → CoreHeld W → (World W → Type 0) → Type 0
+  TellsOf work core told = (M : History W) → Agrees work core M → told (world_after work M)
+
   -- the core agrees with some history: it is not so that it agrees with none
   abbrev pub HasHistory : Meaning W → CoreHeld W → Type 0
   HasHistory work core = ¬ ((M : History W) → ¬ Agrees work core M)

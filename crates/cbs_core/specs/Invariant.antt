@@ -1,29 +1,16 @@
 -- What every core keeps. Private words of this crate: public clauses speak of agreement.
-use Rattle.std.specs.Prelude.{◌≡◌, ◌≢◌, ℕ, ◌+◌, ◌*◌, ◌≤◌, ◌<◌, true, false, List, length}
+use Rattle.std.specs.Prelude.{◌≡◌, ◌≢◌, ℕ, ◌≤◌, ◌<◌, List, length}
 use Rattle.std.specs.List.{AllByRecursion, AllZip}
-use Rattle.cbs_rate.specs.Limits.{longest_period, most_backlog, most_servers}
+use Rattle.cbs_rate.specs.Limits.{most_backlog, most_servers}
 use Rattle.cbs_job.specs.Work.{Meaning}
 use Rattle.cbs_rate.specs.Plan.{total_share, all_periods}
-use Rattle.cbs_rate.specs.Rate.{IsRate}
-use Rattle.cbs_rules.specs.Rules.{clock_end, latest_deadline, IsState}
-use Rattle.cbs_rules.specs.declared.mode.Mode.TheVariants.{Soft}
+use Rattle.cbs_rules.specs.Rules.{clock_end}
 use Rattle.cbs_ready.specs.ReadyList.{listed, IsOrdered}
 use Rattle.cbs_ready.specs.declared.entries.Entry.{Entry}
-use Rattle.cbs_steps.specs.Faces.{Face, face_at, is_active, ready_by, backlog_of, reservations}
+use Rattle.cbs_steps.specs.Faces.{Face, face_at, ready_by, backlog_of, reservations}
+use Rattle.cbs_steps.specs.Servers.{IsServer}
 use Rattle.cbs_core.specs.declared.last_unit.LastUnit.{LastUnit}
 use Rattle.cbs_core.specs.Held.{CoreHeld}
-
--- what each server keeps, against the backlog that it may have and the clock
-pub record IsServer (backlog now : ℕ) (f : Face) : Type 0 where
-  pub lawful : IsRate f.terms.reservation.budget f.terms.reservation.period
-  pub state : IsState f.terms.reservation f.state
-  pub free : f.terms.mode ≡ Soft → f.state.throttled ≡ false
-  pub begun : is_active f ≡ true → 0 < f.state.deadline
-  pub early : f.state.deadline ≤ now + (now + 1) * longest_period
-  pub counted : f.finished ≤ f.accepted
-  pub few_done : f.finished ≤ now
-  pub few_charged : f.charges.total ≤ now
-  pub few_jobs : backlog_of f ≤ backlog
 
 -- the list is in order, and has each ready server with its deadline, and nobody else
 pub record ListsReady (es : List Entry) (faces : List Face) : Type 0 where
@@ -34,15 +21,6 @@ pub record ListsReady (es : List Entry) (faces : List Face) : Type 0 where
 pub record HoldsBacklog {W : Type 0} (work : Meaning W) (jobs : List W) (f : Face) : Type 0 where
   pub counted : length jobs ≡ backlog_of f
   pub unfinished : AllByRecursion (λ w. 0 < work.left w) jobs
-
--- what a charge of so many ticks of a server may rest on
-pub record MayCharge (ticks : ℕ) (f : Face) : Type 0 where
-  pub some : 0 < ticks
-  pub few : ticks ≤ clock_end
-  pub free : f.terms.mode ≡ Soft → f.state.throttled ≡ false
-  pub begun : 0 < f.state.deadline
-  pub room : f.state.deadline + ticks * f.terms.reservation.period ≤ latest_deadline + longest_period
-  pub counted : f.charges.total + ticks ≤ clock_end
 
 -- what is known of the last unit is of no later tick, and a server that runs is there and has had its first deadline
 pub record IsLastUnit (clock : ℕ) (faces : List Face) (l : LastUnit) : Type 0 where

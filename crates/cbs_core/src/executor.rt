@@ -5,14 +5,14 @@ ghost use Rattle.cbs_rate.specs.Refusals.{RefusesByOrMemory};
 ghost use Rattle.cbs_steps.specs.Quiet.{IsAtRest, IsIdleSpan};
 ghost use Rattle.cbs_steps.specs.Choice.{IsChoice};
 ghost use Rattle.cbs_steps.specs.Faces.{face_at, ranks, submit_refusal, view_reply, charges_reply};
-ghost use Rattle.cbs_steps.specs.History.{History, ◌⊕◌, faces, world_after, chosen};
+ghost use Rattle.cbs_steps.specs.History.{History, ◌⊕◌, account, faces, world_after, chosen};
 ghost use Rattle.cbs_steps.specs.Replies.{submitted, advanced, closed, charged, is_lack, grown_by};
 ghost use Rattle.cbs_steps.specs.Laws.{account_in, completion_in, completion_of, completions_of, Completes, NoneAfterClose, IsWithinBudget};
 ghost use Rattle.cbs_steps.specs.OnTime.{IsWorldOnTime};
 ghost use Rattle.cbs_steps.specs.Promises.{promised, AllFinishedBy};
 ghost use Rattle.cbs_steps.specs.Punctual.{IsPunctual};
 ghost use Rattle.cbs_steps.specs.Setups.{terms_of, new_refusal};
-ghost use Rattle.cbs_core.specs.Agreement.{Agrees};
+ghost use Rattle.cbs_core.specs.Agreement.{Agrees, TellsOf};
 ghost use Rattle.cbs_core.specs.Calls.{Makes, Tries, TriesAll};
 ghost use Rattle.cbs_core.specs.Held.{room_of, KeepsRoom, IsOpen, HasRoom, IsRefusedBy, IsCoreOnTime, front_output, held_at, TakesJob, ClosesServer, OthersSame, AllSame, DoesRun, CountsOn, running, is_running, ran_of};
 ghost use Rattle.cbs_rate.specs.Limits.{longest_period, most_servers};
@@ -311,7 +311,7 @@ impl<W: Work, A: Allocator> Core<W, A> {
 
     /// The clock, in ticks: 0 to [`LIMIT`].
     pub fn now(&self) -> u64
-        ensures now { (M : History W) → Agrees W.meaning self.now M → result ≡ (world_after W.meaning M).now }
+        ensures now { TellsOf W.meaning self.now (λ w. result ≡ w.now) }
         ensures clock { result ≡ self.now.clock }
         ensures most { result ≤ LIMIT }
     {
@@ -321,9 +321,8 @@ impl<W: Work, A: Allocator> Core<W, A> {
     /// The chosen server: the ready one with the least deadline, of equal deadlines the lower
     /// number; `None` where nobody is ready.
     pub fn ready(&self) -> Option<u16>
-        ensures chosen { (M : History W) → Agrees W.meaning self.now M → result ≡ chosen W.meaning (world_after W.meaning M) }
-        ensures earliest { (M : History W) → Agrees W.meaning self.now M
-            → IsChoice (ranks (faces W.meaning (world_after W.meaning M))) (length (faces W.meaning (world_after W.meaning M))) result }
+        ensures chosen { TellsOf W.meaning self.now (λ w. result ≡ chosen W.meaning w) }
+        ensures earliest { TellsOf W.meaning self.now (λ w. IsChoice (ranks (faces W.meaning w)) (length (faces W.meaning w)) result) }
     {
         self.servers.choose()
     }
@@ -344,8 +343,7 @@ impl<W: Work, A: Allocator> Core<W, A> {
     /// submitted. Whoever waits for submits must not advance by it then, since nothing can run once the
     /// clock stands at its end.
     pub fn idle_span(&self) -> Option<u64>
-        ensures { (M : History W) → Agrees W.meaning self.now M
-            → MatchOption result (¬ IsAtRest W.meaning (world_after W.meaning M)) (IsIdleSpan W.meaning (world_after W.meaning M)) }
+        ensures { TellsOf W.meaning self.now (λ w. MatchOption result (¬ IsAtRest W.meaning w) (IsIdleSpan W.meaning w)) }
     {
         self.servers.idle_span(self.clock)
     }
@@ -353,13 +351,11 @@ impl<W: Work, A: Allocator> Core<W, A> {
     /// What a server shows, or [`CoreError::NoSuchServer`].
     pub fn view(&self, server: u16) -> Result<ServerView, CoreError>
         ensures held { result ≡ view_reply (slice_get self.now.faces server) }
-        ensures view { (M : History W) → Agrees W.meaning self.now M → result ≡ view_reply (slice_get (faces W.meaning (world_after W.meaning M)) server) }
-        ensures early { (M : History W) → Agrees W.meaning self.now M
-            → IfOk result (λ view. let now = (world_after W.meaning M).now in view.deadline ≤ now + (now + 1) * longest_period) }
-        ensures budget { (M : History W) → Agrees W.meaning self.now M
-            → OnOk result (IsWithinBudget (face_at (faces W.meaning (world_after W.meaning M)) server)) }
-        ensures in_time { (M : History W) → Agrees W.meaning self.now M → IsWorldOnTime W.meaning (world_after W.meaning M)
-            → IfOk result (λ view. view.finished < view.accepted → view.throttled ≡ false → (world_after W.meaning M).now < view.deadline) }
+        ensures view { TellsOf W.meaning self.now (λ w. result ≡ view_reply (slice_get (faces W.meaning w) server)) }
+        ensures early { TellsOf W.meaning self.now (λ w. IfOk result (λ view. view.deadline ≤ w.now + (w.now + 1) * longest_period)) }
+        ensures budget { TellsOf W.meaning self.now (λ w. OnOk result (IsWithinBudget (face_at (faces W.meaning w) server))) }
+        ensures in_time { TellsOf W.meaning self.now (λ w. IsWorldOnTime W.meaning w
+            → IfOk result (λ view. view.finished < view.accepted → view.throttled ≡ false → w.now < view.deadline)) }
     {
         self.servers.view(server)
     }
@@ -368,8 +364,7 @@ impl<W: Work, A: Allocator> Core<W, A> {
     /// passed since but what it was charged for that. Returns `None` if there is none.
     pub fn running(&self) -> Option<u16>
         ensures held { result ≡ running self.now }
-        ensures running { (M : History W) → Agrees W.meaning self.now M
-            → MatchOption result ((s : ℕ) → (account_in W.meaning M s).runs ≡ false) (λ s. (account_in W.meaning M s).runs ≡ true) }
+        ensures running { TellsOf W.meaning self.now (λ w. MatchOption result ((s : ℕ) → (account w.accounts s).runs ≡ false) (λ s. (account w.accounts s).runs ≡ true)) }
     {
         self.last.running(self.clock)
     }
@@ -377,7 +372,7 @@ impl<W: Work, A: Allocator> Core<W, A> {
     /// Returns what a server was charged, in all and at most for one unit, or [`CoreError::NoSuchServer`].
     pub fn charges(&self, server: u16) -> Result<Charges, CoreError>
         ensures held { result ≡ charges_reply (slice_get self.now.faces server) }
-        ensures charges { (M : History W) → Agrees W.meaning self.now M → result ≡ charges_reply (slice_get (faces W.meaning (world_after W.meaning M)) server) }
+        ensures charges { TellsOf W.meaning self.now (λ w. result ≡ charges_reply (slice_get (faces W.meaning w) server)) }
     {
         self.servers.charges(server).ok_or(CoreError::NoSuchServer)
     }
@@ -393,7 +388,7 @@ impl<W: Work, A: Allocator> Core<W, A> {
     /// units, it is `d + ceil((owed + o - c) / Q) * T`, or d if c suffices. No later step makes it wrong:
     /// it may be told to whoever waits for the job that was submitted last.
     pub fn promised(&self, server: u16) -> Option<u128>
-        ensures value { (M : History W) → Agrees W.meaning self.now M → result ≡ promised W.meaning (account_in W.meaning M server) }
+        ensures value { TellsOf W.meaning self.now (λ w. result ≡ promised W.meaning (account w.accounts server)) }
         ensures kept { IsCoreOnTime self.now → IfSome result (λ tick. (M : History W) → Agrees W.meaning self.now M → AllFinishedBy W.meaning M server tick) }
     {
         if server >= self.servers.len() {

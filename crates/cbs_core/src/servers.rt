@@ -5,9 +5,9 @@ ghost use Rattle.cbs_rate.specs.Plan.{IsPlan};
 ghost use Rattle.cbs_lists.specs.Lists.{changed_at};
 ghost use Rattle.cbs_steps.specs.Choice.{chosen_among, IsChoice};
 ghost use Rattle.cbs_steps.specs.Faces.{new_face, face_at, is_active, ready_by, ranks, close_refusal, submit_refusal, view_reply, with_job, with_unit, with_charge, with_replenishment, with_close};
-ghost use Rattle.cbs_core.specs.IdleSpans.{NoneReady, span_of};
+ghost use Rattle.cbs_steps.specs.Waiting.{NoneReady, span_of};
 ghost use Rattle.cbs_steps.specs.Promises.{promised_by};
-ghost use Rattle.cbs_core.specs.Invariant.{MayCharge};
+ghost use Rattle.cbs_steps.specs.Servers.{MayCharge};
 ghost use Rattle.cbs_ready.specs.ReadyList.{listed, IsOrdered};
 ghost use Rattle.cbs_core.specs.Invariant.{ListsReady};
 ghost use Rattle.cbs_core.specs.Waiting.{Keeps};
@@ -35,7 +35,6 @@ impl<A: Allocator> Model for Servers<A> {
     ghost use Rattle.cbs_rate.specs.Limits.{most_servers};
     ghost use Rattle.std.specs.Prelude.{List, ◌≤◌, length};
     ghost use Rattle.cbs_steps.specs.Faces.{Face};
-    ghost use Rattle.cbs_core.specs.Invariant.{MayCharge};
     ghost use Rattle.cbs_core.specs.Invariant.{ListsReady};
     ghost use Rattle.cbs_core.specs.Waiting.{Keeps};
 

@@ -1,7 +1,8 @@
 //! What is kept of the servers that wait to be replenished.
 
 ghost use Rattle.std.specs.Prelude.{◌≡◌};
-ghost use Rattle.cbs_core.specs.Waiting.{most, IsNoted};
+ghost use Rattle.cbs_core.specs.Waiting.{IsNoted};
+ghost use Rattle.cbs_steps.specs.Waiting.{most};
 
 use crate::server::Server;
 

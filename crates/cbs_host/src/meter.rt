@@ -1,4 +1,4 @@
-//! What tells how long units take.
+//! Meters: by how many ticks a unit took more than its first.
 
 ghost use Rattle.std.specs.Prelude.{ℕ, ◌≡◌, ◌<◌, ◌↔◌, IsSome};
 ghost use Rattle.std.specs.Duration.{as_nanos};

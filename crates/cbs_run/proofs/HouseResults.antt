@@ -90,5 +90,6 @@ pub jobs_are : (f : File) (n : ℕ) (steps : List (Step FileJob)) → n ≡ leng
     → map (λ s. jobs_for s steps) (range_with_len 0 n) ≡ map (λ s. jobs_for s f.steps) (range_with_len 0 (length f.plan.rates))
 jobs_are f n steps servers same = rw (servers, same) refl
 
+-- the whole results of the jobs, server by server, are those of the file
 pub by_server : (f : File) → map (map (whole of_files)) (map (λ s. jobs_for s f.steps) (range_with_len 0 (length f.plan.rates))) ≡ results_by_server f
 by_server f = map-map (map (whole of_files)) (λ s. jobs_for s f.steps) (range_with_len 0 (length f.plan.rates))

@@ -30,6 +30,7 @@ abbrev lines_from : ℕ → List (List ℕ) → List ℕ
 lines_from s [] = []
 lines_from s (results ∷ others) = server_line s results ++ lines_from (s + 1) others
 
+-- they are the lines of the servers, one after another
 lines_are : (f : ℕ → List ℕ) (s n : ℕ) → lines_from s (map f (range_with_len s n)) ≡ flat_map (λ k. server_line k (f k)) (range_with_len s n)
 lines_are f s zero = refl
 lines_are f s (suc n) = ap (λ t. server_line s (f s) ++ t) (lines_are f (s + 1) n)

@@ -19,6 +19,7 @@ use Rattle.cbs_run.specs.declared.run_error.RunError.{RunError}
 use Rattle.cbs_run.specs.declared.run_error.RunError.TheVariants.{OutOfMemory, WriteFault, ClockEnd, Stalled}
 use Rattle.cbs_run.proofs.WrittenText.{Appends-nothing, all_waits, waits_too, all_but_then, front_more, part_ends, part_done}
 
+-- what always holds holds of a result
 pub on_ok_always : {T E : Type 0} {P : Type 0} (r : Result T E) → P → OnOk r P
 on_ok_always (Ok x) p = p
 on_ok_always (Err e) p = tt
@@ -45,6 +46,7 @@ module _ (text : StepText) where
       ap (λ t. text_after text M x ++ t) (texts_after-append (M ⊕ x) xs ys)
       ∙ sym (append_assoc (text_after text M x) (texts_after text (M ⊕ x) xs) (texts_after text ((M ⊕ x) ⊕⊕ xs) ys))
 
+  -- and of one step more
   texts_after-push : (M : History FileJob) (xs : List (Step FileJob)) (x : Step FileJob)
       → texts_after text M (xs ++ x ∷ []) ≡ texts_after text M xs ++ text_after text (M ⊕⊕ xs) x
   unfolding texts_after
@@ -65,11 +67,13 @@ nothing_written text M steps w =
     let nothing = Appends-nothing w.written in
     record { done = []; rest = steps; all = refl; written = (nothing, refl); front = ([], texts_after text M steps, nothing, refl) }
 
+-- so it stops before the first step
 pub no_step_made : (text : StepText) (M : History FileJob) (steps : List (Step FileJob)) (core : CoreHeld FileJob) (w : Writer) → Agrees of_files core M
     → StopsAtStep text M steps core w w
 unfolding nothing_written
 no_step_made text M steps core w agrees = record { writes = nothing_written text M steps w; made = inl agrees }
 
+-- before the first step, all steps are left
 pub begins : (text : StepText) (M : History FileJob) (steps : List (Step FileJob)) (old : Option (List ℕ)) (core : CoreHeld FileJob)
     → Agrees of_files core M → SoFar text M steps old old [] core steps
 unfolding texts_after
@@ -88,11 +92,12 @@ module _ {text : StepText} {M : History FileJob} {steps : List (Step FileJob)} {
       → texts_after text M steps ≡ texts_after text M so_far.done ++ texts_after text (M ⊕⊕ so_far.done) left
   texts_are so_far = ap (texts_after text M) (sym so_far.all) ∙ texts_after-append text M so_far.done left
 
-  -- what waited is written, or a front of it
+  -- what waited is written
   flushed : (new : Option (List ℕ)) (so_far : SoFar text M steps old now waiting core left) → Appends now new waiting
       → Appends old new (texts_after text M so_far.done)
   flushed new so_far wrote = part_done old new [] _ refl (all_but_then old now new waiting [] _ so_far.lines (waiting, wrote, append-nil waiting))
 
+  -- and if only a prefix of it is written, so is only a prefix of all
   pub flushed_front : (new : Option (List ℕ)) → SoFar text M steps old now waiting core left → AppendsFront now new waiting
       → AppendsFront old new (texts_after text M steps)
   flushed_front new so_far wrote = rw (texts_are so_far) (front_more old new _ _

@@ -2,8 +2,8 @@
 
 ghost use Rattle.std.specs.Prelude.{ℕ, ◌≡◌, ◌⊎◌, ◌-◌, ◌<◌, ◌^◌, OnOk, OnErr, string_bytes};
 ghost use Rattle.cbs_job.specs.FileJobs.{of_files};
-ghost use Rattle.cbs_core.specs.Agreement.{Agrees};
-ghost use Rattle.cbs_steps.specs.History.{History, ◌⊕◌, world_after, reply_in};
+ghost use Rattle.cbs_core.specs.Agreement.{Agrees, TellsOf};
+ghost use Rattle.cbs_steps.specs.History.{History, ◌⊕◌, reply_in};
 ghost use Rattle.cbs_steps.specs.Laws.{account_in, completion_in, completion_of, Completes};
 ghost use Rattle.cbs_steps.specs.Replies.{is_lack};
 ghost use Rattle.cbs_run.specs.Writers.{Leaves, StopsWriting};
@@ -33,8 +33,7 @@ pub trait StepView {
         reply: &Reply<FileJob>,
         core: &Core<FileJob>,
     ) -> Result<(), AllocError>
-        ensures { OnOk result ((M : History FileJob) → Agrees of_files core.now M
-            → string_bytes text.new ≡ text_of call reply.now (world_after of_files M)) };
+        ensures { OnOk result (TellsOf of_files core.now (λ w. string_bytes text.new ≡ text_of call reply.now w)) };
 }
 
 /// Whether memory refused a submit.
@@ -74,7 +73,7 @@ fn take_step<V: StepView>(
 ///
 /// Refuses with [`RunError::OutOfMemory`] at the first step for which there is no memory: then the text
 /// of each step before it is written, and the core has made those, and at most that one. Refuses with
-/// [`RunError::WriteFault`] where a write fails or takes no byte: then a front of the whole is written.
+/// [`RunError::WriteFault`] if a write fails or takes no byte: then a prefix of the whole is written.
 fn write_steps<V: StepView, O: ByteOutput>(
     view: &V,
     alloc: Global,

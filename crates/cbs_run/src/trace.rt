@@ -2,8 +2,7 @@
 
 ghost use Rattle.std.specs.Prelude.{◌≡◌, ◌-◌, ◌<◌, ◌^◌, OnOk};
 ghost use Rattle.cbs_job.specs.FileJobs.{of_files};
-ghost use Rattle.cbs_core.specs.Agreement.{Agrees};
-ghost use Rattle.cbs_steps.specs.History.{History, world_after};
+ghost use Rattle.cbs_core.specs.Agreement.{TellsOf};
 ghost use Rattle.cbs_run.specs.FileLaws.{KeepsLaws};
 ghost use Rattle.cbs_run.specs.Writers.{Leaves};
 ghost use Rattle.cbs_run.specs.Lines.{shown_server};
@@ -38,7 +37,7 @@ impl StepView for Lines {
 
 /// Returns what a line shows of a server, after a call that was answered so.
 fn shown(core: &Core<FileJob>, call: Call, reply: &Reply<FileJob>) -> Option<ServerView>
-    ensures { (M : History FileJob) → Agrees of_files core.now M → result ≡ shown (world_after of_files M) (shown_server call reply.now) }
+    ensures { TellsOf of_files core.now (λ w. result ≡ shown w (shown_server call reply.now)) }
 {
     match shown_server(call, reply) {
         Some(server) => core.view(server).ok(),

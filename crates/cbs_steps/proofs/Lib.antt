@@ -6,10 +6,12 @@ pub mod Covers
 pub mod DemandLines
 pub mod Demands
 pub mod Dues
+pub mod FaceSteps
 pub mod Faces
 pub mod FinishedJobs
 pub mod HardTasks
 pub mod Histories
+pub mod IdleSpans
 pub mod JobsLeft
 pub mod Lateness
 pub mod LawfulServers
@@ -23,10 +25,12 @@ pub mod Plans
 pub mod Promised
 pub mod Promises
 pub mod Punctual
+pub mod Running
 pub mod Shares
 pub mod StepLists
 pub mod SubmitRefusals
 pub mod Supplies
 pub mod Ticks
 pub mod Uncharged
+pub mod Waiting
 pub mod Windows

@@ -14,6 +14,8 @@ pub mod Punctual
 pub mod Quiet
 pub mod Replies
 pub mod Searches
+pub mod Servers
 pub mod Setups
 pub mod Supplies
+pub mod Waiting
 pub mod Windows

@@ -1,5 +1,5 @@
 use Rattle.cbs_steps.specs.History.{world_after}
-use Rattle.cbs_core.proofs.IdleSpans.{span_is}
+use Rattle.cbs_steps.proofs.IdleSpans.{span_is}
 use Rattle.cbs_core.proofs.executor.Core.idle_span.Goals as goal
 
 pub returns : goal.returns

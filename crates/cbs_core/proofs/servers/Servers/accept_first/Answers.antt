@@ -2,7 +2,8 @@ use Rattle.std.proofs.Common.{◌≡◌, false, sym, ◌∙◌, rules}
 use Rattle.std.proofs.lemmas.List.{get_or_read}
 use Rattle.cbs_steps.specs.Faces.{no_face, face_at, is_active}
 use Rattle.cbs_core.proofs.ReadyServers.{lists_set}
-use Rattle.cbs_core.proofs.Waiting.{wake_idle, keeps_noted}
+use Rattle.cbs_core.proofs.Waiting.{keeps_noted}
+use Rattle.cbs_steps.proofs.Waiting.{wake_idle}
 use Rattle.cbs_core.proofs.servers.Servers.accept_first.Goals as goal
 
 pub invariant_of-self : goal.invariant_of-self

@@ -3,7 +3,8 @@ use Rattle.std.proofs.lemmas.List.{get_or_read}
 use Rattle.cbs_steps.specs.Faces.{no_face, face_at, ready_by, with_charge}
 use Rattle.cbs_lists.proofs.Lists.{written}
 use Rattle.cbs_core.proofs.ReadyServers.{lists_set}
-use Rattle.cbs_core.proofs.Waiting.{wake_free, keeps_noted}
+use Rattle.cbs_core.proofs.Waiting.{keeps_noted}
+use Rattle.cbs_steps.proofs.Waiting.{wake_free}
 use Rattle.cbs_core.proofs.servers.Servers.charge_free.Given.{Over}
 use Rattle.cbs_core.proofs.servers.Servers.charge_free.Goals as goal
 

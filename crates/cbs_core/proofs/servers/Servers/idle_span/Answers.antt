@@ -1,6 +1,6 @@
 use Rattle.std.proofs.Common.{◌≡◌, sym, ◌∙◌, arith}
-use Rattle.cbs_core.proofs.IdleSpans.{somebody, nobody}
-use Rattle.cbs_core.specs.Waiting.{wake_of}
+use Rattle.cbs_steps.proofs.IdleSpans.{somebody, nobody}
+use Rattle.cbs_steps.specs.Waiting.{wake_of}
 use Rattle.cbs_core.proofs.servers.Servers.idle_span.Goals as goal
 
 pub returns-then-is_some : goal.returns-then-is_some

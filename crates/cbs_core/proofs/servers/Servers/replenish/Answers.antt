@@ -1,5 +1,5 @@
 use Rattle.std.proofs.Common.{sym, arith}
-use Rattle.cbs_core.proofs.Waiting.{none_replenished}
+use Rattle.cbs_steps.proofs.Waiting.{none_replenished}
 use Rattle.cbs_core.proofs.servers.Servers.replenish.Goals as goal
 
 pub returns-else-now-self : goal.returns-else-now-self

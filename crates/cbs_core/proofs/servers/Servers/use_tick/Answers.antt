@@ -3,7 +3,8 @@ use Rattle.std.proofs.lemmas.Grind.{common_steps}
 use Rattle.cbs_steps.specs.Faces.{with_unit, is_ready}
 use Rattle.cbs_lists.proofs.Lists.{written}
 use Rattle.cbs_core.proofs.ReadyServers.{chosen_first, lists_same, lists_set}
-use Rattle.cbs_core.proofs.Waiting.{wake_ready, keeps_noted, keeps_ready}
+use Rattle.cbs_core.proofs.Waiting.{keeps_noted, keeps_ready}
+use Rattle.cbs_steps.proofs.Waiting.{wake_ready}
 use Rattle.cbs_core.proofs.servers.Servers.use_tick.Goals as goal
 
 pub use_tick-requires-clause-ready : goal.use_tick-requires-clause-ready

@@ -12,9 +12,9 @@ use Rattle.cbs_steps.specs.History.{World, faces, ticks}
 use Rattle.cbs_steps.specs.Quiet.{IsAtRest, IsIdleSpan}
 use Rattle.cbs_steps.proofs.Faces.{rank_ready}
 use Rattle.cbs_steps.proofs.Ticks.{ticks_none, ticks_some, replenished_faces}
-use Rattle.cbs_core.specs.IdleSpans.{NoneReady, span_of}
-use Rattle.cbs_core.specs.Waiting.{most, wake, wake_of}
-use Rattle.cbs_core.proofs.Waiting.{wake_idle}
+use Rattle.cbs_steps.specs.Waiting.{NoneReady, span_of}
+use Rattle.cbs_steps.specs.Waiting.{most, wake, wake_of}
+use Rattle.cbs_steps.proofs.Waiting.{wake_idle}
 
 -- where a server is chosen, somebody is ready
 pub somebody : (fs : List Face) (o : Option ℕ) → IsChoice (ranks fs) (length fs) o → is_some o ≡ true → NoneReady fs → ⊥

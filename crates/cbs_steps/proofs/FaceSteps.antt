@@ -9,11 +9,11 @@ use Rattle.cbs_steps.proofs.LawfulServers.{arrives_in, soft_arrived}
 use Rattle.cbs_rules.proofs.States.{IsState-fresh_state, IsState-after_unit, IsState-after_charge, IsState-after_replenishment, soft_after_unit, soft_after_charge, soft_after_replenishment}
 use Rattle.cbs_rules.proofs.Charges.{charge_early}
 use Rattle.cbs_rules.specs.declared.mode.Mode.TheVariants.{Soft}
-use Rattle.cbs_core.specs.Invariant.{MayCharge}
+use Rattle.cbs_steps.specs.Servers.{MayCharge}
 use Rattle.cbs_rules.proofs.Deadlines.{begun_after_unit, begun_after_charge, begun_after_replenishment, deadline-consumed-le}
 use Rattle.cbs_rules.proofs.Deadlines.{deadline-replenished-le}
 use Rattle.cbs_steps.specs.Faces.{Face, new_face, is_active, is_ready, backlog_of, with_job, with_unit, with_charge, with_replenishment, with_close}
-use Rattle.cbs_core.specs.Invariant.{IsServer}
+use Rattle.cbs_steps.specs.Servers.{IsServer}
 use Rattle.cbs_steps.specs.Laws.{IsWithinBudget}
 use Rattle.cbs_steps.proofs.Faces.{runnable}
 
