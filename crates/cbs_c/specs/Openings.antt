@@ -1,7 +1,8 @@
 -- What C is told of opening a house, and of planning one.
 use Rattle.std.specs.Prelude.{ℕ, ◌≡◌, MatchResult, Some, None, Result, List}
 use Rattle.cbs_embed.specs.Openings.{OpenOf}
-use Rattle.cbs_embed.specs.Plans.{setup_refusal, setup_with, whole_processor, IsGreatestBudget}
+use Rattle.cbs_embed.specs.Plans.{setup_refusal, setup_with, whole_processor}
+use Rattle.cbs_rate.specs.Plan.{IsGreatestBudget}
 use Rattle.cbs_embed.specs.declared.handle.Handle.{Handle}
 use Rattle.cbs_embed.specs.declared.refusal.Refusal.{Refusal}
 use Rattle.cbs_embed.specs.declared.server.Server.{Server}

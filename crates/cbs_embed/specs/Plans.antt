@@ -1,6 +1,6 @@
 -- Which servers make a setup.
-use Rattle.std.specs.Prelude.{ℕ, ◌≡◌, ◌+◌, ◌<◌, ◌&&◌, Bool, true, false, zero, suc, List, [], ◌∷◌, Option, Some, None}
-use Rattle.std.specs.Option.{unwrap_or, is_none}
+use Rattle.std.specs.Prelude.{ℕ, zero, suc, List, [], ◌∷◌, Option, Some, None}
+use Rattle.std.specs.Option.{unwrap_or}
 use Rattle.cbs_rate.specs.Plan.{Planned, admit_refusal}
 use Rattle.cbs_rate.specs.Rate.{rate_refusal}
 use Rattle.cbs_rate.specs.declared.error.RateError.{RateError}
@@ -53,12 +53,3 @@ setup_refusal s (r ∷ rs) = server_refusal s.plan r (setup_refusal (with_server
 unfoldable pub setup_with : ModedPlan → List Server → ModedPlan
 setup_with s [] = s
 setup_with s (r ∷ rs) = setup_with (with_server s r) rs
-
--- whether the plan takes one more server of this budget and period
-abbrev pub fits_plan : Planned → ℕ → ℕ → Bool
-fits_plan p budget period = is_none (rate_refusal budget period) && is_none (admit_refusal p (record { budget = budget; period = period }))
-
--- the plan takes a server of this budget, or the budget is 0; and it takes none with one tick more
-pub record IsGreatestBudget (p : Planned) (period budget : ℕ) : Type 0 where
-  pub fits : 0 < budget → fits_plan p budget period ≡ true
-  pub greatest : fits_plan p (budget + 1) period ≡ false

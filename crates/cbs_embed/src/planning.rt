@@ -1,14 +1,15 @@
 //! Which servers make a setup.
 
 ghost use Rattle.std.specs.Prelude.{◌≡◌, OnOk, MatchResult, Option, Some, None};
-ghost use Rattle.cbs_embed.specs.Plans.{server_refusal, with_server, mode_from, setup_refusal, setup_with, IsGreatestBudget, fits_plan, whole_processor};
+ghost use Rattle.cbs_rate.specs.Plan.{IsGreatestBudget};
+ghost use Rattle.cbs_embed.specs.Plans.{server_refusal, with_server, mode_from, setup_refusal, setup_with, whole_processor};
 ghost use Rattle.cbs_embed.specs.declared.refusal.HandleError.TheVariants as HandleError;
 ghost use Rattle.cbs_embed.specs.declared.refusal.Refusal.{Refusal};
 ghost use Rattle.cbs_embed.specs.declared.refusal.Refusal.TheVariants as refused;
 
 use crate::refusal::{HandleError, Refusal};
 use crate::server::Server;
-use cbs_rate::{Bound, MAX_PERIOD, Reservation};
+use cbs_rate::{Bound, Reservation};
 use cbs_rules::{Mode, Setup};
 
 /// Returns a setup of no server, within the whole processor.
@@ -75,40 +76,17 @@ pub fn mode_of(mode: u32) -> Result<Mode, Refusal>
     }
 }
 
-/// Returns the greatest budget with which a server of this period would be admitted beside these servers, or 0 if
+/// Returns the greatest budget with which a server of this period would be admitted after these servers, or 0 if
 /// none would.
 ///
 /// Refuses exactly if these servers are refused themselves, as [`take_all`].
+#[inline(never)]
 pub fn greatest_budget(servers: &[Server], period: u64) -> Result<u64, Refusal>
     ensures { MatchResult result
         (λ budget. (setup_refusal whole_processor servers.now ≡ None) × IsGreatestBudget (setup_with whole_processor servers.now).plan period budget)
         (λ error. setup_refusal whole_processor servers.now ≡ Some error) }
 {
-    admit(servers)?;
-    let mut admitted = 0;
-    let mut refused = if period > MAX_PERIOD { 1 } else { period + 1 };
-    while refused - admitted > 1 {
-        let budget = admitted + (refused - admitted) / 2;
-        if fits(servers, budget, period)? {
-            admitted = budget;
-        } else {
-            refused = budget;
-        }
-    }
-    Ok(admitted)
-}
-
-/// Returns whether a server of this budget and period would be admitted beside these servers. Refuses as [`take_all`].
-#[inline(never)]
-fn fits(servers: &[Server], budget: u64, period: u64) -> Result<bool, Refusal>
-    ensures { MatchResult result
-        (λ fits. fits ≡ fits_plan (setup_with whole_processor servers.now).plan budget period)
-        (λ error. setup_refusal whole_processor servers.now ≡ Some error) }
-{
     let mut setup = whole_processor();
     take_all(&mut setup, servers)?;
-    match Reservation::new(budget, period) {
-        Ok(reservation) => Ok(setup.admit(reservation, Mode::Soft).is_ok()),
-        Err(_) => Ok(false),
-    }
+    Ok(setup.plan().greatest_budget(period))
 }

@@ -2,3 +2,4 @@ pub mod Lists
 pub mod Multiples
 pub mod Shares
 pub mod Plans
+pub mod Budgets

@@ -46,7 +46,7 @@ pub record IsAsked (p : Inside) (r : Rate) (budget period next : ℕ) : Type 0 w
 module _ {p : Inside} (r : Rate) (summed : IsSummed p) (ok : IsRate r.budget r.period) where
   -- the reservations with one more are lawful
   lawful_next : AllLawful (p.rates.items ++ r ∷ [])
-  lawful_next = AllByRecursion-push (λ x. IsRate x.budget x.period) p.rates.items r summed.plan.lawful ok
+  lawful_next = AllByRecursion-push (λ x. IsRate x.budget x.period) p.rates.items r summed.lawful.lawful ok
 
   -- the common multiple with one more is the least
   pub least_next : IsLeastCommonMultiple (common_multiple (p.rates.items ++ r ∷ [])) (p.rates.items ++ r ∷ [])
@@ -54,7 +54,7 @@ module _ {p : Inside} (r : Rate) (summed : IsSummed p) (ok : IsRate r.budget r.p
 
   -- the common multiple is not 0
   pub common_some : 0 < p.common
-  common_some = rw summed.common ((common_multiple-least p.rates.items summed.plan.lawful).some)
+  common_some = rw summed.common ((common_multiple-least p.rates.items summed.lawful.lawful).some)
 
   -- the least common multiple, by way of the greatest common divisor
   pub asked_of : {budget period next : ℕ} {full : Bool} → budget ≡ r.budget → period ≡ r.period
@@ -67,24 +67,24 @@ module _ {p : Inside} (r : Rate) (summed : IsSummed p) (ok : IsRate r.budget r.p
     period_is = period_is;
     next_is =
         let q = rw (period_is, summed.common) at quotient in
-        q.2 ∙ common_multiple-push p.rates.items r q.0 summed.plan.lawful ok q.1;
-    room = room_left (length p.rates.items) full full_is free summed.plan.few;
+        q.2 ∙ common_multiple-push p.rates.items r q.0 summed.lawful.lawful ok q.1;
+    room = room_left (length p.rates.items) full full_is free summed.lawful.few;
   }
 
 module _ {p : Inside} {r : Rate} {budget period next : ℕ} (asked : IsAsked p r budget period next) where
   -- what is taken stays within the common multiple
   pub taken-le : p.taken * (next / p.common) ≤ next
   taken-le = rw (asked.summed.taken, asked.summed.common, asked.next_is)
-      (old_share-le p.rates.items r asked.summed.plan.lawful asked.ok asked.summed.plan.at_most_one)
+      (old_share-le p.rates.items r asked.summed.lawful.lawful asked.ok asked.summed.lawful.at_most_one)
 
   -- so does what is added
   pub added-le : budget * (next / period) ≤ next
-  added-le = rw (asked.budget_is, asked.period_is, asked.next_is) (new_share-le p.rates.items r asked.summed.plan.lawful asked.ok)
+  added-le = rw (asked.budget_is, asked.period_is, asked.next_is) (new_share-le p.rates.items r asked.summed.lawful.lawful asked.ok)
 
   -- the sum over the new least common multiple
   taken_next : p.taken * (next / p.common) + budget * (next / period) ≡ sum_by (share next) (p.rates.items ++ r ∷ [])
   taken_next =
-      rw (asked.budget_is, asked.period_is, asked.summed.taken, asked.summed.common, asked.next_is) (sum_next p.rates.items r asked.summed.plan.lawful asked.ok)
+      rw (asked.budget_is, asked.period_is, asked.summed.taken, asked.summed.common, asked.next_is) (sum_next p.rates.items r asked.summed.lawful.lawful asked.ok)
 
   -- over the product of all periods as over the least common multiple
   fits_next : (p.bound.den * total_share (p.rates.items ++ r ∷ []) ≤ p.bound.num * all_periods (p.rates.items ++ r ∷ []))
@@ -129,7 +129,7 @@ module _ {p : Inside} {r : Rate} {budget period next : ℕ} (asked : IsAsked p r
           taken = p.taken * (next / p.common) + budget * (next / period);
         })
     summed_next bounded = record {
-      plan =
+      lawful =
           let fitting = fits_next.1 within in
           let few = asked.room in
           record {

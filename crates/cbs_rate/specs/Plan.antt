@@ -1,10 +1,11 @@
 -- What a plan is: rates whose sum stays within a bound, and when it takes one more.
 use Rattle.std.specs.Prelude.{◌≡◌, ℕ, zero, suc, ◌+◌, ◌*◌, ◌/◌, ◌%◌, ◌≤◌, ◌<◌, Bool, true, false, eqb, leb, ltb, if◌then◌else◌, List, [], ◌∷◌, ◌++◌}
-use Rattle.std.specs.Prelude.{length, sum_by, IsTrue, Option, Some, None}
+use Rattle.std.specs.Prelude.{◌&&◌, length, sum_by, IsTrue, Option, Some, None}
+use Rattle.std.specs.Option.{is_none}
 use Rattle.std.specs.List.{list_all, AllByRecursion}
 use Rattle.cbs_rate.specs.Limits.{greatest_common_multiple, most_servers}
 use Rattle.cbs_rate.specs.Bound.{Fraction}
-use Rattle.cbs_rate.specs.Rate.{Rate, IsRate}
+use Rattle.cbs_rate.specs.Rate.{Rate, IsRate, rate_refusal}
 use Rattle.cbs_rate.specs.declared.error.AdmitError.{AdmitError}
 use Rattle.cbs_rate.specs.declared.error.AdmitError.TheVariants.{TooManyServers, PeriodsTooFine, OverBound}
 
@@ -69,3 +70,16 @@ admit_refusal plan r =
     else if ltb greatest_common_multiple (common_multiple (plan.rates ++ r ∷ [])) then Some PeriodsTooFine
     else if fits plan.bound (plan.rates ++ r ∷ []) then None
     else Some OverBound
+
+-- the plan with one more rate
+abbrev pub with_rate : Planned → Rate → Planned
+with_rate plan r = record plan { rates = plan.rates ++ r ∷ [] }
+
+-- whether the plan takes one more server of this budget and period
+abbrev pub takes : Planned → ℕ → ℕ → Bool
+takes plan budget period = is_none (rate_refusal budget period) && is_none (admit_refusal plan (record { budget = budget; period = period }))
+
+-- the plan takes a server of this budget, or the budget is 0; and it takes none with a greater budget
+pub record IsGreatestBudget (plan : Planned) (period budget : ℕ) : Type 0 where
+  pub fits : 0 < budget → takes plan budget period ≡ true
+  pub greatest : (more : ℕ) → budget < more → takes plan more period ≡ false

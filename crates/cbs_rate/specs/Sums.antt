@@ -1,14 +1,18 @@
 -- What a plan keeps beside its rates, so that one more is taken without a look at the others.
-use Rattle.std.specs.Prelude.{◌≡◌, sum_by}
+use Rattle.std.specs.Prelude.{◌≡◌, ℕ, sum_by}
 use Rattle.cbs_rate.specs.declared.plan.Plan.TheInside.{Inside}
 use Rattle.cbs_rate.specs.Plan.{Planned, IsPlan, share, common_multiple}
+
+-- the least common multiple of all periods of a plan, and the ticks that all servers together may run in as many
+pub record AreSums (plan : Planned) (multiple ticks : ℕ) : Type 0 where
+  pub lawful : IsPlan plan
+  pub common : multiple ≡ common_multiple plan.rates
+  pub taken : ticks ≡ sum_by (share multiple) plan.rates
 
 -- the bound and the rates, without the sums that are kept beside them
 abbrev pub planned : Inside → Planned
 planned p = record { bound = p.bound; rates = p.rates.items }
 
--- the least common multiple of all periods, and the ticks that all servers together may run in as many
-pub record IsSummed (p : Inside) : Type 0 where
-  pub plan : IsPlan (planned p)
-  pub common : p.common ≡ common_multiple p.rates.items
-  pub taken : p.taken ≡ sum_by (share p.common) p.rates.items
+-- the sums that are kept are those of the plan
+abbrev pub IsSummed : Inside → Type 0
+IsSummed p = AreSums (planned p) p.common p.taken

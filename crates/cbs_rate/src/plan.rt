@@ -1,13 +1,14 @@
 //! A plan: the reservations of all servers, within one bound.
 
-ghost use Rattle.std.specs.Prelude.{◌≡◌, ◌↔◌, [], ◌∷◌, ◌++◌, length, slice_get, IsTrue, OnOk, OnErr};
-ghost use Rattle.cbs_rate.specs.Plan.{IsPlan, IsLeastCommonMultiple, common_multiple, admit_refusal};
+ghost use Rattle.std.specs.Prelude.{◌≡◌, ◌↔◌, [], ◌∷◌, ◌++◌, length, slice_get, IsTrue, OnOk, OnErr, MatchResult, Some, None};
+ghost use Rattle.cbs_rate.specs.Plan.{IsPlan, IsLeastCommonMultiple, IsGreatestBudget, common_multiple, admit_refusal, with_rate, takes};
+ghost use Rattle.cbs_rate.specs.Sums.{AreSums};
 ghost use Rattle.cbs_rate.specs.Refusals.{AnswersBy};
 
 use crate::bound::Bound;
 use crate::error::AdmitError;
 use crate::multiple::least_common_multiple;
-use crate::reservation::Reservation;
+use crate::reservation::{MAX_PERIOD, Reservation};
 use arrayvec::ArrayVec;
 use std::marker::Model;
 
@@ -25,6 +26,15 @@ pub const MAX_COMMON_MULTIPLE: u64 = 1_000_000_000_000_000_000;
 pub struct Plan {
     bound: Bound,
     rates: ArrayVec<Reservation, MAX_SERVERS>,
+    // the least common multiple of all periods
+    common: u64,
+    // what all servers together may run in as many ticks
+    taken: u64,
+}
+
+/// What is kept of all servers of a plan.
+#[derive(Clone, Copy)]
+struct Sums {
     // the least common multiple of all periods
     common: u64,
     // what all servers together may run in as many ticks
@@ -96,6 +106,48 @@ impl Plan {
         ensures least { let rates = self.old.rates ++ reservation ∷ [] in
             IsLeastCommonMultiple (common_multiple rates) rates }
     {
+        let sums = self.sums_with(reservation)?;
+        let server = self.rates.len() as u16;
+        self.rates.push(reservation);
+        self.common = sums.common;
+        self.taken = sums.taken;
+        Ok(server)
+    }
+
+    /// Returns the greatest budget with which a server of this period would be admitted, or 0 if none would.
+    pub fn greatest_budget(&self, period: u64) -> u64
+        ensures { IsGreatestBudget self.now period result }
+    {
+        let mut admitted = 0;
+        let mut refused = if period > MAX_PERIOD { 1 } else { period + 1 };
+        while refused - admitted > 1 {
+            let budget = admitted + (refused - admitted) / 2;
+            if self.takes(budget, period) {
+                admitted = budget;
+            } else {
+                refused = budget;
+            }
+        }
+        admitted
+    }
+
+    /// Returns whether a server of this budget and period would be admitted.
+    fn takes(&self, budget: u64, period: u64) -> bool
+        ensures { result ≡ takes self.now budget period }
+    {
+        match Reservation::new(budget, period) {
+            Ok(reservation) => self.sums_with(reservation).is_ok(),
+            Err(_) => false,
+        }
+    }
+
+    /// Returns the sums with one more server, or why the plan does not take it.
+    fn sums_with(&self, reservation: Reservation) -> Result<Sums, AdmitError>
+        ensures answer { MatchResult result
+            (λ sums. (admit_refusal self.now reservation ≡ None) × AreSums (with_rate self.now reservation) sums.common sums.taken)
+            (λ error. admit_refusal self.now reservation ≡ Some error) }
+        ensures least { IsLeastCommonMultiple (common_multiple (with_rate self.now reservation).rates) (with_rate self.now reservation).rates }
+    {
         let period = reservation.period();
         if self.rates.is_full() {
             return Err(AdmitError::TooManyServers);
@@ -109,10 +161,6 @@ impl Plan {
         if !self.bound.allows(taken, common) {
             return Err(AdmitError::OverBound);
         }
-        let server = self.rates.len() as u16;
-        self.rates.push(reservation);
-        self.common = common;
-        self.taken = taken;
-        Ok(server)
+        Ok(Sums { common, taken })
     }
 }

@@ -5,7 +5,7 @@ use Rattle.cbs_rate.proofs.plan.Plan.new.Goals as goal
 
 pub invariant_of-result : goal.invariant_of-result
 invariant_of-result c = rw c.new.ensures (record {
-  plan = plan_empty c.args.bound;
+  lawful = plan_empty c.args.bound;
   common = sym common_multiple-nil;
   taken = refl;
 })

@@ -1,6 +1,6 @@
 use Rattle.std.proofs.Common.{arith, refl}
 use Rattle.cbs_rate.proofs.Plans.{common_some, least_next, asked_of, taken-le, added-le, refusal_fine, refusal_over, refusal_none, summed_next}
-use Rattle.cbs_rate.proofs.plan.Plan.admit.Goals as goal
+use Rattle.cbs_rate.proofs.plan.Plan.sums_with.Goals as goal
 
 pub least_common_multiple-common-requires : goal.least_common_multiple-common-requires
 least_common_multiple-common-requires c =
@@ -54,16 +54,5 @@ pub returns-clause-answer : goal.returns-clause-answer
 returns-clause-answer c =
     let asked = asked_of c.args.reservation c.self.invariant c.period-period.ensures.lawful c.budget.ensures.value c.period-period.ensures.value
     c.least_common_multiple-common.ensures c.is_full.ensures.value c.if-is_full.false in
-    rw (← c.self.view_is) (refusal_none asked (omega arith) (c.allows.ensures.value.0 c.if-not-allows.false), c.len-server.ensures.value)
-
-pub returns-clause-lawful : goal.returns-clause-lawful
-returns-clause-lawful c =
-    let asked = asked_of c.args.reservation c.self.invariant c.period-period.ensures.lawful c.budget.ensures.value c.period-period.ensures.value
-    c.least_common_multiple-common.ensures c.is_full.ensures.value c.if-is_full.false in
-    rw c.push.ensures.items ((summed_next asked (omega arith) (c.allows.ensures.value.0 c.if-not-allows.false) c.allows.ensures.lawful).plan)
-
-pub invariant_of-self : goal.invariant_of-self
-invariant_of-self c =
-    let asked = asked_of c.args.reservation c.self.invariant c.period-period.ensures.lawful c.budget.ensures.value c.period-period.ensures.value
-    c.least_common_multiple-common.ensures c.is_full.ensures.value c.if-is_full.false in
-    rw c.push.ensures.items (summed_next asked (omega arith) (c.allows.ensures.value.0 c.if-not-allows.false) c.allows.ensures.lawful)
+    let within = c.allows.ensures.value.0 c.if-not-allows.false in
+    rw (← c.self.view_is) (refusal_none asked (omega arith) within, summed_next asked (omega arith) within c.allows.ensures.lawful)
