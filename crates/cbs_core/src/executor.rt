@@ -14,7 +14,7 @@ ghost use Rattle.cbs_steps.specs.Punctual.{IsPunctual};
 ghost use Rattle.cbs_steps.specs.Setups.{terms_of, new_refusal};
 ghost use Rattle.cbs_core.specs.Agreement.{Agrees, TellsOf};
 ghost use Rattle.cbs_core.specs.Calls.{Makes, Tries, TriesAll};
-ghost use Rattle.cbs_core.specs.Held.{room_of, KeepsRoom, IsOpen, HasRoom, IsRefusedBy, IsCoreOnTime, front_output, held_at, TakesJob, ClosesServer, OthersSame, AllSame, DoesRun, CountsOn, running, is_running, ran_of};
+ghost use Rattle.cbs_core.specs.Held.{room_of, KeepsRoom, IsOpen, HasRoom, IsRefusedBy, IsCoreOnTime, front_output, held_at, TakesJob, ClosesServer, OthersSame, AllSame, DoesRun, CountsOn, running, is_running};
 ghost use Rattle.cbs_rate.specs.Limits.{longest_period, most_servers};
 
 use crate::last_unit::LastUnit;
@@ -204,11 +204,20 @@ impl<W: Work, A: Allocator> Core<W, A> {
         }
         self.clock += 1;
         self.last.server = server;
+        let output = self.queues.run_first(server);
+        // Read after the unit, over which it would have to be kept.
         let seq = self.servers.finished(server);
-        let result = self.queues.run_first(server);
-        self.servers.use_tick(server, result.is_some());
-        self.servers.replenish(self.clock);
-        ran_from(server, seq, result)
+        // Each case passes the tick for itself, so that most units test once whether a job is finished.
+        let Some(result) = output else {
+            self.servers.pass_tick(server, false, self.clock);
+            return Ran::Unit { server, seq };
+        };
+        self.servers.pass_tick(server, true, self.clock);
+        Ran::Done(Completion {
+            server,
+            seq,
+            result,
+        })
     }
 
     /// Lets `n` ticks pass, by one jump.
@@ -505,19 +514,5 @@ fn charged<W: Work>(answer: Result<(), CoreError>) -> Reply<W>
     match answer {
         Ok(()) => Reply::Charged,
         Err(error) => Reply::Refused(error),
-    }
-}
-
-/// What a Run is answered after a unit of a job, by the output that the unit found if it was the last.
-fn ran_from(server: u16, seq: u64, output: Option<u64>) -> Ran
-    ensures { result ≡ ran_of server seq output }
-{
-    match output {
-        None => Ran::Unit { server, seq },
-        Some(result) => Ran::Done(Completion {
-            server,
-            seq,
-            result,
-        }),
     }
 }

@@ -176,9 +176,24 @@ impl<A: Allocator> Servers<A> {
         number
     }
 
+    /// The chosen server uses the tick that ends at `now`, for a unit that finished a job or did not; then every server
+    /// that is due is replenished.
+    // Always inlined, since each caller says by a constant whether a job is finished.
+    #[inline(always)]
+    pub fn pass_tick(&mut self, server: u16, done: bool, now: u64)
+        requires chosen { chosen_among (ranks self.old) ≡ Some server }
+        requires some { 0 < (face_at self.old server).state.budget }
+        requires room { (face_at self.old server).state.deadline ≤ MAX_DEADLINE }
+        requires clock { now ≤ LIMIT }
+        ensures { self.new ≡ map (with_replenishment now) (changed_at (with_unit done) self.old server) }
+    {
+        self.use_tick(server, done);
+        self.replenish(now);
+    }
+
     /// The chosen server uses one tick of its budget, for a unit that finished a job or did not.
     #[inline]
-    pub fn use_tick(&mut self, server: u16, done: bool)
+    fn use_tick(&mut self, server: u16, done: bool)
         requires chosen { chosen_among (ranks self.old) ≡ Some server }
         requires some { 0 < (face_at self.old server).state.budget }
         requires room { (face_at self.old server).state.deadline ≤ MAX_DEADLINE }
