@@ -1,15 +1,11 @@
 -- What is kept of the servers that wait to be replenished, as servers change.
-use Rattle.std.proofs.Common.{◌≡◌, ℕ, zero, suc, ◌<◌, ◌≤◌, ◌&&◌, true, false, leb, List, [], ◌∷◌, length, map, get_or, set, take, refl, sym, ◌∙◌, ap, ap₂, inl, inr, arith}
+use Rattle.std.proofs.Common.{◌≡◌, ℕ, suc, ◌<◌, ◌≤◌, true, List, [], ◌∷◌, length, map, get_or, set, take, refl, sym, ◌∙◌, ap, arith}
 use Rattle.std.specs.Prelude.{min}
-use Rattle.std.proofs.lemmas.Bool.{cases_Bool}
-use Rattle.std.proofs.lemmas.Bool.Decides.{nat_tests}
-use Rattle.std.proofs.Math.Bool.{and-false}
 use Rattle.cbs_rules.specs.Rules.{Terms}
-use Rattle.cbs_lists.proofs.Lists.{AllByRecursion-get, AllByRecursion-set, AllByRecursion-take_set, AllByRecursion-weaker}
-use Rattle.cbs_steps.proofs.Faces.{runnable}
-use Rattle.cbs_steps.specs.Faces.{Face, new_face, is_active, is_ready, with_replenishment}
+use Rattle.cbs_lists.proofs.Lists.{AllByRecursion-get, AllByRecursion-set, AllByRecursion-take_set}
+use Rattle.cbs_steps.specs.Faces.{Face, new_face, is_active, is_ready}
 use Rattle.cbs_core.specs.Waiting.{Keeps, IsNoted}
-use Rattle.cbs_steps.specs.Waiting.{most, IsNotDueBefore, NoneDueBefore, wake, wake_of}
+use Rattle.cbs_steps.specs.Waiting.{most, IsNotDueBefore, wake}
 use Rattle.cbs_steps.proofs.Waiting.{due_earlier, due_ready, wake_most, wakes_most, wake_least, wake_ready, wake_set, wake_more}
 use Rattle.cbs_core.specs.declared.waits.Waits.{Waits}
 

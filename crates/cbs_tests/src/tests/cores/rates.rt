@@ -69,6 +69,36 @@ fn refuses_the_sixty_fifth_server(rt: HostRuntime) {
     same(&rt, "len", plan.len(), 64);
 }
 
+/// Looks at the greatest budget that a plan of these servers, a budget and a period each, has left for each period.
+fn leaves(rt: &impl Abort, servers: &[(u64, u64)], rows: &[(u64, u64)]) {
+    let mut plan = Plan::new(Bound::new(9, 10).expect(rt, "a bound"));
+    for &(budget, period) in servers {
+        assert!(rt; plan.admit(reserved(rt, budget, period)).is_ok());
+    }
+    for &(period, budget) in rows {
+        let left = (period, plan.greatest_budget(period));
+        same(rt, "greatest budget", left, (period, budget));
+    }
+}
+
+#[test]
+fn tells_the_greatest_budget(rt: HostRuntime) {
+    leaves(&rt, &[], &[(0, 0), (1, 0), (10, 9), (1_000_000_001, 0)]);
+    // half of the processor is reserved, and two fifths are left
+    let rows = [
+        (2, 0),
+        (5, 2),
+        (7, 2),
+        (10, 4),
+        (1_000_000_000, 400_000_000),
+    ];
+    leaves(&rt, &[(1, 5), (6, 20)], &rows);
+    // the common multiple would be too great
+    let fine = [(1, 999_999_999), (1, 999_999_998)];
+    leaves(&rt, &fine, &[(999_999_997, 0), (999_999_998, 899_999_996)]);
+    leaves(&rt, &[(1, 1000); 64], &[(1000, 0)]);
+}
+
 #[test]
 fn refuses_numbers_outside_the_limits(rt: HostRuntime) {
     let reservations = [
