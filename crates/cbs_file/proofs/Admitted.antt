@@ -5,9 +5,10 @@ use Rattle.std.proofs.Math.ListN.{drop_of_length-le}
 use Rattle.toml.specs.Data.{Data}
 use Rattle.cbs_rules.specs.declared.mode.Mode.{Mode}
 use Rattle.cbs_rules.specs.Setups.{ModedPlan}
-use Rattle.cbs_file.specs.declared.fault.FileFault.{FileFault}
-use Rattle.cbs_file.specs.declared.fault.Place.TheVariants.{Server}
-use Rattle.cbs_file.specs.Spelling.{at, admitted_from, admitted_entry}
+use Rattle.cbs_tables.specs.declared.fault.FileFault.{FileFault}
+use Rattle.cbs_tables.specs.declared.fault.Place.TheVariants.{Server}
+use Rattle.cbs_file.specs.Spelling.{admitted_from, admitted_entry}
+use Rattle.cbs_tables.specs.Documents.{at}
 
 module _ {V : Type 0} (view : V → Data) (mode : Option Mode) where
   -- the next entry is admitted

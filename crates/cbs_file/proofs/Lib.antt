@@ -1,4 +1,1 @@
-pub mod Each
-pub mod Places
 pub mod Admitted
-pub mod Tables

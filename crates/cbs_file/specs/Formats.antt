@@ -3,24 +3,17 @@ use Rattle.std.specs.Prelude.{ℕ, ℤ, codes, bytes_eq, eqb, if◌then◌else�
 use Rattle.cbs_rules.specs.Rules.{clock_end}
 use Rattle.cbs_rules.specs.declared.mode.Mode.{Mode}
 use Rattle.cbs_rules.specs.declared.mode.Mode.TheVariants.{Soft, Throttled}
-use Rattle.cbs_file.specs.declared.fault.FileKind.{FileKind}
-use Rattle.cbs_file.specs.declared.fault.FileKind.TheVariants.{OutOfRange}
+use Rattle.cbs_tables.specs.declared.fault.FileKind.{FileKind}
+use Rattle.cbs_tables.specs.declared.fault.FileKind.TheVariants.{OutOfRange}
 use Rattle.cbs_file.specs.declared.format.Format.{Format}
 use Rattle.cbs_file.specs.declared.format.Format.TheVariants.{One, Two}
-use Rattle.cbs_file.specs.Fields.{◌>>=◌, within}
+use Rattle.cbs_tables.specs.Fields.{◌>>=◌, within}
 
 -- the format of this number
 abbrev pub format_of : ℤ → Result Format FileKind
 format_of format_number = do
   number ← within 1 2 format_number
   Ok (if eqb number 1 then One else Two)
-
--- the mode that a word names
-abbrev pub mode_of : List ℕ → Result Mode FileKind
-mode_of word =
-    if bytes_eq word (codes "soft") then Ok Soft
-    else if bytes_eq word (codes "throttled") then Ok Throttled
-    else Err OutOfRange
 
 -- the longest advance of one step, in ticks
 abbrev pub longest_advance : Format → ℕ

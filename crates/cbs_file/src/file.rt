@@ -2,62 +2,28 @@
 
 ghost use Rattle.std.specs.Prelude.{◌≡◌, ◌<◌, ◌≤◌, map, Ok, Err, IfOk, All};
 ghost use Rattle.toml.specs.View.{view, table_view};
-ghost use Rattle.cbs_file.specs.declared.fault.FileKind.TheVariants.{OutOfMemory};
-ghost use Rattle.cbs_file.specs.declared.fault.Place.TheVariants.{Step as AtStep};
+ghost use Rattle.cbs_tables.specs.declared.fault.FileKind.TheVariants.{OutOfMemory};
+ghost use Rattle.cbs_tables.specs.declared.fault.Place.TheVariants.{Step as AtStep};
 ghost use Rattle.cbs_file.specs.Entries.{step_entry};
-ghost use Rattle.cbs_file.specs.Fields.{Gives, seen, each_from};
-ghost use Rattle.cbs_file.specs.Memory.{memory_wanted, usual_bound};
+ghost use Rattle.cbs_tables.specs.Fields.{Gives, seen, each_from};
+ghost use Rattle.cbs_tables.specs.Memory.{memory_wanted, usual_bound};
 ghost use Rattle.cbs_file.specs.TaskFiles.{IsFileStep};
-ghost use Rattle.cbs_file.specs.Spelling.{document, file, faulty, at, admitted_entry, admitted_from, no_memory};
+ghost use Rattle.cbs_file.specs.Spelling.{file, admitted_entry, admitted_from};
+ghost use Rattle.cbs_tables.specs.Documents.{document, faulty, at, no_memory};
 ghost use Rattle.cbs_rate.specs.Limits.{most_servers};
 ghost use Rattle.cbs_rules.specs.Setups.{no_servers};
 
 use crate::entries::{server_entry, step_entry};
-use crate::fault::{FileFault, FileKind, Place};
 use crate::format::Format;
-use crate::memory::{MEMORY, wants_within};
 use crate::task_file::TaskFile;
 use crate::top::top_table;
 use cbs_core::Step;
 use cbs_job::FileJob;
 use cbs_rate::Bound;
 use cbs_rules::{Mode, Setup};
+use cbs_tables::{FileFault, FileKind, MEMORY, Place, at, document, faulty, wants_within};
 use std::alloc::Global;
-use toml::{Table, Value};
-
-/// The top table of a TOML document.
-fn document(alloc: Global, bytes: &[u8]) -> Result<Table, FileKind>
-    ensures { Gives OutOfMemory table_view result (document bytes.now) }
-{
-    match toml::table_from_slice(alloc, bytes) {
-        Ok(table) => Ok(table),
-        Err(error) if error.is_memory() => Err(FileKind::OutOfMemory),
-        Err(_) => Err(FileKind::NotToml),
-    }
-}
-
-/// The fault at its place; want of memory stands at the top.
-fn faulty(place: Place, kind: FileKind) -> FileFault
-    ensures { result ≡ faulty place kind }
-{
-    match kind {
-        FileKind::OutOfMemory => FileFault {
-            kind: FileKind::OutOfMemory,
-            place: Place::Top,
-        },
-        kind => FileFault { kind, place },
-    }
-}
-
-/// What was read of the table at this place.
-fn at<T>(place: Place, read: Result<T, FileKind>) -> Result<T, FileFault>
-    ensures { result ≡ at place read }
-{
-    match read {
-        Ok(value) => Ok(value),
-        Err(kind) => Err(faulty(place, kind)),
-    }
-}
+use toml::Value;
 
 /// Admits the server of one entry, where all servers may have a mode already.
 fn admit_entry(setup: &mut Setup, mode: Option<Mode>, entry: &Value) -> Result<(), FileKind>

@@ -1,11 +1,11 @@
 //! Which format a task file has, and what that decides.
 
 ghost use Rattle.std.specs.Prelude.{◌≡◌, ◌≤◌};
-ghost use Rattle.cbs_file.specs.Formats.{format_of, mode_of, longest_advance};
+ghost use Rattle.cbs_file.specs.Formats.{format_of, longest_advance};
+ghost use Rattle.cbs_tables.specs.Plans.{mode_of};
 
-use crate::fault::FileKind;
-use crate::fields::within;
-use cbs_rules::{LIMIT, Mode};
+use cbs_rules::LIMIT;
+use cbs_tables::{FileKind, within};
 
 /// The format of a task file.
 #[derive(Clone, Copy, Debug, PartialEq, Eq)]
@@ -39,15 +39,4 @@ pub fn format_of(number: i64) -> Result<Format, FileKind>
     } else {
         Format::Two
     })
-}
-
-/// The mode that a word names.
-pub fn mode_of(word: &str) -> Result<Mode, FileKind>
-    ensures { result ≡ mode_of word.now }
-{
-    match word {
-        "soft" => Ok(Mode::Soft),
-        "throttled" => Ok(Mode::Throttled),
-        _ => Err(FileKind::OutOfRange),
-    }
 }

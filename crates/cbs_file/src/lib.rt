@@ -3,15 +3,11 @@
 #![tactic(auto)]
 
 mod entries;
-mod fault;
-mod fields;
 mod file;
 mod format;
-mod memory;
 mod task_file;
 mod top;
 
-pub use fault::{FileFault, FileKind, Place};
+pub use cbs_tables::{FileFault, FileKind, MEMORY, Place, wants_within};
 pub use file::{read_file, read_file_within};
-pub use memory::{MEMORY, wants_within};
 pub use task_file::{Parts, TaskFile};

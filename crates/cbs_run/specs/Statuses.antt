@@ -1,8 +1,9 @@
 -- What a run leaves, by its status.
 use Rattle.std.specs.Prelude.{◌≡◌, ◌⊎◌, ℕ, List, Ok, Err}
-use Rattle.cbs_file.specs.Spelling.{file, no_memory}
+use Rattle.cbs_file.specs.Spelling.{file}
+use Rattle.cbs_tables.specs.Documents.{no_memory}
 use Rattle.cbs_file.specs.TaskFiles.{File}
-use Rattle.cbs_file.specs.declared.fault.FileFault.{FileFault}
+use Rattle.cbs_tables.specs.declared.fault.FileFault.{FileFault}
 use Rattle.cbs_run.specs.FaultLines.{file_line, run_line}
 use Rattle.cbs_run.specs.Verbs.{output_of, StopsShort}
 use Rattle.cbs_run.specs.Writers.{Writer, IsUntouched, Writes, TriesToWrite}

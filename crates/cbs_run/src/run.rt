@@ -1,7 +1,7 @@
 //! One run: from the bytes of a file to a status.
 
 ghost use Rattle.std.specs.Prelude.{◌+◌, ◌-◌, ◌<◌, ◌^◌};
-ghost use Rattle.cbs_file.specs.Memory.{memory_wanted, usual_bound};
+ghost use Rattle.cbs_tables.specs.Memory.{memory_wanted, usual_bound};
 ghost use Rattle.cbs_run.specs.Statuses.{Ends, LacksMemory};
 ghost use Rattle.cbs_run.specs.Verbs.{output_of, StopsShort};
 ghost use Rattle.cbs_run.specs.Writers.{Leaves};

@@ -1,10 +1,10 @@
 use Rattle.std.proofs.Common.{sym, ◌∙◌}
 use Rattle.std.proofs.lemmas.Result.{err_from_is_err_and}
 use Rattle.toml.specs.View.{view}
-use Rattle.cbs_file.specs.declared.fault.Place.TheVariants.{Server}
+use Rattle.cbs_tables.specs.declared.fault.Place.TheVariants.{Server}
 use Rattle.cbs_file.specs.Spelling.{admitted_entry}
 use Rattle.cbs_file.proofs.Admitted.{admitted_on, admitted_ends, admitted_done}
-use Rattle.cbs_file.proofs.Places.{seen_at, seen_at_err}
+use Rattle.cbs_tables.proofs.Places.{seen_at, seen_at_err}
 use Rattle.cbs_file.proofs.file.setup_of.Goals as goal
 
 pub returns-in_err-at : goal.returns-in_err-at

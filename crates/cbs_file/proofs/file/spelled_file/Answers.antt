@@ -1,12 +1,13 @@
 use Rattle.std.proofs.Common.{◌≡◌, rules, Ok, map, sym, ◌∙◌, length, refl}
 use Rattle.toml.specs.View.{view, table_view}
-use Rattle.cbs_file.specs.declared.fault.Place.TheVariants.{Top, Step as AtStep}
+use Rattle.cbs_tables.specs.declared.fault.Place.TheVariants.{Top, Step as AtStep}
 use Rattle.cbs_file.specs.Entries.{step_entry}
-use Rattle.cbs_file.specs.Fields.{each_from}
-use Rattle.cbs_file.specs.Spelling.{file, at, document, admitted_from, no_memory}
+use Rattle.cbs_tables.specs.Fields.{each_from}
+use Rattle.cbs_file.specs.Spelling.{file, admitted_from}
+use Rattle.cbs_tables.specs.Documents.{at, document, no_memory}
 use Rattle.cbs_file.specs.TopTables.{top_table, top_view}
 use Rattle.cbs_rules.specs.Setups.{no_servers}
-use Rattle.cbs_file.proofs.Places.{Gives-at, gives_ok}
+use Rattle.cbs_tables.proofs.Places.{Gives-at, gives_ok}
 use Rattle.cbs_file.proofs.file.spelled_file.Goals as goal
 
 pub returns : goal.returns

@@ -1,8 +1,8 @@
 use Rattle.std.proofs.Common.{◌≡◌, true, false, map, sym, ◌∙◌}
 use Rattle.toml.specs.View.{table_view}
-use Rattle.cbs_file.specs.Fields.{has_only}
-use Rattle.cbs_file.proofs.Tables.{has_only-view}
-use Rattle.cbs_file.proofs.fields.only_keys.Goals as goal
+use Rattle.cbs_tables.specs.Fields.{has_only}
+use Rattle.cbs_tables.proofs.Tables.{has_only-view}
+use Rattle.cbs_tables.proofs.fields.only_keys.Goals as goal
 
 pub returns-then-are_listed : goal.returns-then-are_listed
 returns-then-are_listed c =

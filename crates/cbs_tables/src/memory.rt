@@ -1,7 +1,7 @@
 //! What the bytes of a file may take of memory when they are read, told before they are parsed.
 
 ghost use Rattle.std.specs.Prelude.{◌≡◌, ◌≤◌, ◌↔◌, IsTrue};
-ghost use Rattle.cbs_file.specs.Memory.{byte_wants, memory_wanted};
+ghost use Rattle.cbs_tables.specs.Memory.{byte_wants, memory_wanted};
 
 /// How much memory a file may want where no bound is named, in bytes: 2 GiB.
 pub const MEMORY: u64 = 2_147_483_648;

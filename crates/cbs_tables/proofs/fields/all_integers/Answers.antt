@@ -2,8 +2,8 @@ use Rattle.std.proofs.Common.{◌≡◌, true, false, map, is_some, sym, ◌∙�
 use Rattle.std.specs.List.{list_all}
 use Rattle.toml.specs.Data.{as_integer}
 use Rattle.toml.specs.View.{view}
-use Rattle.cbs_file.proofs.Tables.{list_all-view}
-use Rattle.cbs_file.proofs.fields.all_integers.Goals as goal
+use Rattle.cbs_tables.proofs.Tables.{list_all-view}
+use Rattle.cbs_tables.proofs.fields.all_integers.Goals as goal
 
 pub returns-then-are_integers : goal.returns-then-are_integers
 returns-then-are_integers c =

@@ -1,8 +1,8 @@
 //! Why a task file is refused, and where the fault stands.
 
 ghost use Rattle.std.specs.Prelude.{◌≡◌};
-ghost use Rattle.cbs_file.specs.Faults.{file_kind_number, file_kind_name};
-ghost use Rattle.cbs_file.specs.declared.fault.FileKind.TheVariants.{OutOfMemory};
+ghost use Rattle.cbs_tables.specs.Faults.{file_kind_number, file_kind_name};
+ghost use Rattle.cbs_tables.specs.declared.fault.FileKind.TheVariants.{OutOfMemory};
 
 use std::alloc::{AllocError, AllocFailed};
 use std::fmt;
@@ -87,7 +87,7 @@ pub enum Place {
 
 impl fmt::Display for Place {
     ghost use Rattle.std.specs.Prelude.{Some};
-    ghost use Rattle.cbs_file.specs.Faults.{place_text};
+    ghost use Rattle.cbs_tables.specs.Faults.{place_text};
 
     ghost output = { λ p. Some (place_text p) };
 

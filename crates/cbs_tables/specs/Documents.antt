@@ -1,0 +1,33 @@
+-- The top table of a TOML document, and faults with the place where they stand.
+use Rattle.std.specs.Prelude.{ℕ, if◌then◌else◌, List, Option, Some, None, Result, Ok, Err}
+use Rattle.std.specs.Str.{is_utf8}
+use Rattle.toml.specs.Data.{Members}
+use Rattle.toml.specs.Parse.{parse_document}
+use Rattle.cbs_tables.specs.declared.fault.FileKind.{FileKind}
+use Rattle.cbs_tables.specs.declared.fault.FileKind.TheVariants.{NotToml, OutOfMemory}
+use Rattle.cbs_tables.specs.declared.fault.FileFault.{FileFault}
+use Rattle.cbs_tables.specs.declared.fault.Place.{Place}
+use Rattle.cbs_tables.specs.declared.fault.Place.TheVariants.{Top}
+
+-- memory was refused while reading
+abbrev pub no_memory : FileFault
+no_memory = record { kind = OutOfMemory; place = Top }
+
+-- the fault of this kind at its place; want of memory stands at the top
+abbrev pub faulty : Place → FileKind → FileFault
+faulty place OutOfMemory = no_memory
+faulty place kind = record { kind = kind; place = place }
+
+-- a result whose fault stands at this place
+abbrev pub at : {A : Type 0} → Place → Result A FileKind → Result A FileFault
+at place (Ok x) = Ok x
+at place (Err kind) = Err (faulty place kind)
+
+-- the members of the document's top table
+abbrev pub or_not_toml : Option Members → Result Members FileKind
+or_not_toml (Some table) = Ok table
+or_not_toml None = Err NotToml
+
+-- the top table, where the bytes are UTF-8 and TOML
+abbrev pub document : List ℕ → Result Members FileKind
+document bytes = if is_utf8 bytes then or_not_toml (parse_document bytes) else Err NotToml

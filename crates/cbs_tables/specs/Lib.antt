@@ -1,0 +1,5 @@
+pub mod Documents
+pub mod Faults
+pub mod Fields
+pub mod Memory
+pub mod Plans

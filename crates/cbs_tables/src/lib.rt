@@ -1,0 +1,17 @@
+//! The tables of a TOML document: the tests of their keys and values, what they spell of a plan, and faults with their place.
+#![tactic(auto)]
+
+mod documents;
+mod fault;
+mod fields;
+mod memory;
+mod plans;
+
+pub use documents::{at, document, faulty};
+pub use fault::{FileFault, FileKind, Place};
+pub use fields::{
+    all_integers, below, integer, items, members, natural, number, only_keys, pair, present, sized,
+    text, units, within,
+};
+pub use memory::{MEMORY, wants_within};
+pub use plans::{bound_of, mode_of, reservation};
