@@ -1,0 +1,12 @@
+pub mod AloneLaws
+pub mod Clocks
+pub mod Goes
+pub mod Loads
+pub mod Loop
+pub mod Merging
+pub mod MoveSteps
+pub mod Owing
+pub mod Simulations
+pub mod Sources
+pub mod Spans
+pub mod Uncharged

@@ -1,0 +1,63 @@
+-- Numbers drawn by a generator, and what a source releases by them.
+use Rattle.std.specs.Prelude.{ℕ, zero, suc, ◌+◌, ◌-◌, ◌*◌, ◌/◌, ◌^◌, ◌<◌, ◌≤◌, ltb, if◌then◌else◌, List, [], ◌∷◌, unwrap_or}
+use Rattle.cbs_rate.specs.Limits.{most_units}
+use Rattle.cbs_rules.specs.Rules.{clock_end}
+use Rattle.rand_pcg.specs.Lcg.{Lcg, started, increment_of}
+use Rattle.rand_pcg.specs.Pcg.{pcg64, multiplier_128}
+use Rattle.cbs_simulate.specs.Bounds.{Bounds}
+use Rattle.cbs_simulate.specs.declared.release.Release.{Release}
+use Rattle.cbs_simulate.specs.declared.terms.SourceTerms.{SourceTerms}
+
+-- a number of a range, and the generator after it: a word of 64 bits, times the count of numbers, over 2^64, on the least. Of one
+-- number nothing is drawn
+abbrev pub drawn : Bounds → Lcg → ℕ × Lcg
+drawn r g = if ltb r.least r.greatest then (r.least + (pcg64 g).0 * (r.greatest - r.least + 1) / 2 ^ 64, (pcg64 g).1) else (r.least, g)
+
+-- terms within their limits: 1 to 1000000 units, and 1 to 10^12 ticks from one release to the next
+pub record IsLawful (t : SourceTerms) : Type 0 where
+  pub some_units : 0 < t.units.least
+  pub few_units : t.units.greatest ≤ most_units
+  pub some_ticks : 0 < t.every.least
+  pub few_ticks : t.every.greatest ≤ clock_end
+
+-- the release of a source at a place, at a tick
+abbrev pub release_of : ℕ → SourceTerms → ℕ → ℕ → ℕ → Release
+release_of place t tick units overrun = record { tick = tick; source = place; server = t.server; units = units; overrun = overrun }
+
+-- at most k releases, the first at a tick, all before `until`. For each the units are drawn, then the overrun, and then the ticks
+-- to the next
+abbrev pub released : ℕ → SourceTerms → ℕ → ℕ → ℕ → Lcg → List Release
+released place t until zero tick g = []
+released place t until (suc k) tick g =
+    let u = drawn t.units g in
+    let o = drawn t.overrun u.1 in
+    let e = drawn t.every o.1 in
+    if ltb tick until then release_of place t tick u.0 o.0 ∷ released place t until k (tick + e.0) e.1 else []
+
+-- what a source releases: its generator has the seed as state and the place as stream. Without a count of jobs there may be as
+-- many as ticks to `until`, since a tick at least is between two
+abbrev pub released_by : ℕ → SourceTerms → ℕ → ℕ → List Release
+released_by place t until seed = released place t until (unwrap_or t.jobs until) t.first (started 128 multiplier_128 seed (increment_of 128 place))
+
+-- where a source stands: how many jobs are left, when the next comes, its units and its overrun, and by which generator all that
+-- follows is drawn
+pub record Cursor : Type 0 where
+  pub place : ℕ
+  pub terms : SourceTerms
+  pub until : ℕ
+  pub left : ℕ
+  pub tick : ℕ
+  pub units : ℕ
+  pub overrun : ℕ
+  pub draws : Lcg
+
+-- what it releases yet, if k jobs are left
+abbrev pub pending_from : ℕ → Cursor → List Release
+pending_from zero c = []
+pending_from (suc k) c =
+    let e = drawn c.terms.every c.draws in
+    if ltb c.tick c.until then release_of c.place c.terms c.tick c.units c.overrun ∷ released c.place c.terms c.until k (c.tick + e.0) e.1 else []
+
+-- what it releases yet
+abbrev pub pending : Cursor → List Release
+pending c = pending_from c.left c

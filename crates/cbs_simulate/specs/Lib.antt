@@ -1,0 +1,11 @@
+pub mod Bounds
+pub mod Drawing
+pub mod Loading
+pub mod Merging
+pub mod MoveLaws
+pub mod Moves
+pub mod Ordering
+pub mod Releases
+pub mod Shown
+pub mod Simulating
+pub mod SourceOrder

@@ -1,0 +1,18 @@
+-- What a job of a load means.
+use Rattle.std.specs.Prelude.{◌-◌}
+use Rattle.std.proofs.Common.{refl}
+use Rattle.cbs_job.specs.Work.{Meaning, Lowers}
+use Rattle.cbs_simulate.specs.declared.load_job.LoadJob.{LoadJob}
+use Rattle.cbs_simulate.specs.declared.release.Release.{Release}
+
+-- a unit lowers the count, and the output is the overrun throughout
+abbrev pub loading : Meaning LoadJob
+loading = record { left = λ j. j.left; output = λ j. j.overrun; after = λ j. record j { left = j.left - 1 } }
+
+-- it keeps the law of work
+pub loading_lowers : Lowers loading
+loading_lowers j some = refl
+
+-- the job of a release
+abbrev pub job_of : Release → LoadJob
+job_of r = record { left = r.units; overrun = r.overrun }

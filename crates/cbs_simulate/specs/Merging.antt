@@ -1,0 +1,37 @@
+-- The releases of several sources, in the order of their ticks, and at one tick in the order of the sources.
+use Rattle.std.specs.Prelude.{◌≡◌, ℕ, ◌+◌, ◌<◌, leb, if◌then◌else◌, List, [], ◌∷◌, length, drop, slice_get, get_or, Option, Some, None}
+use Rattle.cbs_lists.specs.Lists.{changed_at}
+use Rattle.cbs_simulate.specs.declared.release.Release.{Release}
+
+-- a release in front of the first whose tick is not earlier
+abbrev pub put : Release → List Release → List Release
+put r [] = r ∷ []
+put r (q ∷ qs) = if leb r.tick q.tick then r ∷ q ∷ qs else q ∷ put r qs
+
+-- each release of a source in its place among others, in front of those at the same tick
+abbrev pub put_all : List Release → List Release → List Release
+put_all [] rest = rest
+put_all (r ∷ rs) rest = put r (put_all rs rest)
+
+-- all releases of the sources
+abbrev pub merged : List (List Release) → List Release
+merged [] = []
+merged (rs ∷ rss) = put_all rs (merged rss)
+
+-- the first of all releases is r, which is the first of source i
+pub record IsFirst (rss : List (List Release)) (i : ℕ) (r : Release) : Type 0 where
+  pub within : i < length rss
+  pub head : slice_get (get_or rss i []) 0 ≡ Some r
+  pub first : merged rss ≡ r ∷ merged (changed_at (drop 1) rss i)
+
+-- which source has the first of all releases, if there is one
+abbrev pub HasFirst : List (List Release) → Option (ℕ × Release) → Type 0
+HasFirst rss None = merged rss ≡ []
+HasFirst rss (Some f) = IsFirst rss f.0 f.1
+
+-- the first of all, by the first of one source and by that of the others and its source
+abbrev pub earlier_of : Option Release → Option (ℕ × Release) → Option (ℕ × Release)
+earlier_of None None = None
+earlier_of None (Some f) = Some (f.0 + 1, f.1)
+earlier_of (Some r) None = Some (0, r)
+earlier_of (Some r) (Some f) = if leb r.tick f.1.tick then Some (0, r) else Some (f.0 + 1, f.1)

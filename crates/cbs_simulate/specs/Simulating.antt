@@ -1,0 +1,92 @@
+-- What a core makes of a load.
+use Rattle.std.specs.Prelude.{◌≡◌, ℕ, List, ◌∷◌, Option, Some, None}
+use Rattle.std.specs.List.{AllByRecursion}
+use Rattle.std.specs.Option.{option_and_then}
+use Rattle.cbs_job.specs.Work.{Meaning}
+use Rattle.cbs_core.specs.Agreement.{Agrees}
+use Rattle.cbs_core.specs.Held.{CoreHeld, front_output, held_at}
+use Rattle.cbs_steps.specs.History.{◌⊕◌, faces, world_after, reply_in}
+use Rattle.cbs_steps.specs.Punctual.{IsPunctual}
+use Rattle.cbs_steps.specs.Quiet.{AreQuiet, AdvanceQuietly}
+use Rattle.cbs_steps.specs.declared.reply.Ran.{Ran}
+use Rattle.cbs_steps.specs.declared.reply.Ran.TheVariants as ran
+use Rattle.cbs_simulate.specs.Moves.{Move, move_on, idle_span, owing_of, step_of, Simulation, clock_of, next_of, owing_after, after_move, after_moves, AreNext, moves_of, submitted}
+use Rattle.cbs_simulate.specs.MoveLaws.{AllMoves, MovesQuietly, ChargesOwed, EachOnTick, IsOnTick}
+use Rattle.cbs_simulate.specs.Releases.{before}
+use Rattle.cbs_simulate.specs.Shown.{Sight, event_of, sight_of, shown}
+use Rattle.cbs_simulate.specs.declared.charge.Charge.{Charge}
+use Rattle.cbs_simulate.specs.declared.event.Event.{Event}
+use Rattle.cbs_simulate.specs.declared.release.Release.{Release}
+
+-- what is owed for a run, as a core that made it tells
+abbrev pub owing_told : {W : Type 0} → Meaning W → CoreHeld W → Ran → Option Charge
+owing_told work core (ran.Unit s q) = option_and_then (owing_of s) (front_output work (held_at core s).jobs)
+owing_told work core (ran.Done c) = owing_of c.server c.result
+owing_told work core _ = None
+
+module _ {W : Type 0} (work : Meaning W) (job : Release → W) where
+  -- a core made this move of the simulation, of which this is to be shown, and this is then owed
+  pub record Moves (sim : Simulation W) (m : Move) (new : CoreHeld W) (e : Event) (owing : Option Charge) : Type 0 where
+    pub event : e ≡ event_of work (world_after work (sim.history ⊕ step_of work job m)) m (reply_in work sim.history (step_of work job m))
+    pub state : Agrees work new (sim.history ⊕ step_of work job m)
+    pub owed : owing ≡ owing_after work job sim m
+
+  -- the move of a simulation up to `stop`, if no release has come
+  abbrev pub move_to : ℕ → Simulation W → Move
+  move_to stop sim = let w = world_after work sim.history in move_on w.now stop (idle_span w.now (faces work w))
+
+  -- a core made this move of the simulation, a watcher saw it, and this is then owed
+  pub record MakesMove {S : Type 0} (saw : S → List Sight → Type 0) (sim : Simulation W) (m : Move) (new : CoreHeld W) (owing : Option Charge) (w v : S) : Type 0 where
+    pub state : Agrees work new (after_move work job sim m).history
+    pub owed : owing ≡ owing_after work job sim m
+    pub seen : (seen : List Sight) → saw w seen → saw v (sight_of work job sim m ∷ seen)
+
+  -- a core made the next move of the simulation, after which these releases come and this is owed
+  pub record MakesNext {S : Type 0} (until : ℕ) (saw : S → List Sight → Type 0) (sim : Simulation W) (new : CoreHeld W) (coming : List Release) (owing : Option Charge) (w v : S) : Type 0 where
+    pub move : Move
+    pub next : next_of work job until sim ≡ Some move
+    pub makes : MakesMove saw sim move new owing w v
+    pub rest : coming ≡ (after_move work job sim move).coming
+
+  -- a core made some moves of the simulation, each the next one where it stands
+  pub record MakesSome {S : Type 0} (until : ℕ) (saw : S → List Sight → Type 0) (sim : Simulation W) (new : CoreHeld W) (coming : List Release) (owing : Option Charge) (w v : S) : Type 0 where
+    pub moves : List Move
+    pub each : AreNext work job until sim moves
+    pub state : Agrees work new (after_moves work job sim moves).history
+    pub seen : (seen : List Sight) → saw w seen → saw v (shown work job sim moves seen)
+    pub rest : coming ≡ (after_moves work job sim moves).coming
+    pub owed : owing ≡ (after_moves work job sim moves).owing
+
+  -- there is no next move, and nothing changed
+  pub record Ended {S : Type 0} (until : ℕ) (sim : Simulation W) (old new : CoreHeld W) (coming : List Release) (owing : Option Charge) (w v : S) : Type 0 where
+    pub none : next_of work job until sim ≡ None
+    pub core : new ≡ old
+    pub rest : coming ≡ sim.coming
+    pub owed : owing ≡ sim.owing
+    pub watcher : v ≡ w
+
+  -- A core simulated a load: its steps are the moves of the definition, and the watcher saw what they show. Each release before
+  -- `until` was submitted once, in order, at its tick or as soon as a charge that passed that had ended; each unit was charged
+  -- its overrun; every advance was quiet; and the clock stands at `until`.
+  pub record Simulates {S : Type 0} (until : ℕ) (saw : S → List Sight → Type 0) (sim : Simulation W) (new : CoreHeld W) (w v : S) : Type 0 where
+    pub state : Agrees work new (after_moves work job sim (moves_of work job until sim)).history
+    pub seen : (seen : List Sight) → saw w seen → saw v (shown work job sim (moves_of work job until sim) seen)
+    pub submits : submitted (moves_of work job until sim) ≡ before until sim.coming
+    pub on_tick : EachOnTick work job (clock_of work job sim) sim (moves_of work job until sim)
+    pub charges : AllMoves work job (ChargesOwed work job until) sim (moves_of work job until sim)
+    pub quiet : AllMoves work job (MovesQuietly work job) sim (moves_of work job until sim)
+    pub clock : new.clock ≡ until
+
+  -- the release is submitted exactly at its tick
+  abbrev pub IsAtTick : Simulation W → Move → Type 0
+  IsAtTick sim m = IsOnTick (clock_of work job sim) (clock_of work job sim) m
+
+  -- A core that was made for it simulated a load: no premise is left to the laws of a history. If no release has an overrun, each
+  -- is submitted exactly at its tick, and no step takes anybody's time.
+  pub record SimulatesAlone {S : Type 0} (until : ℕ) (saw : S → List Sight → Type 0) (sim : Simulation W) (new : CoreHeld W) (w v : S) : Type 0 where
+    pub simulates : Simulates until saw sim new w v
+    pub punctual : IsPunctual work (after_moves work job sim (moves_of work job until sim)).history
+    pub advances : let N = (after_moves work job sim (moves_of work job until sim)).history in AdvanceQuietly work N.setup N.steps
+    pub at_tick : AllByRecursion (λ r. r.overrun ≡ 0) sim.coming → AllMoves work job IsAtTick sim (moves_of work job until sim)
+    pub uncharged : AllByRecursion (λ r. r.overrun ≡ 0) sim.coming
+        → (let N = (after_moves work job sim (moves_of work job until sim)).history in AreQuiet work N.setup N.steps)

@@ -1,0 +1,46 @@
+//! Simulating from the start.
+
+ghost use Rattle.std.specs.Prelude.{◌≡◌, ◌≤◌, [], length, IfOk, None};
+ghost use Rattle.cbs_rate.specs.Refusals.{RefusesByOrMemory};
+ghost use Rattle.cbs_steps.specs.Setups.{terms_of, new_refusal};
+ghost use Rattle.cbs_simulate.specs.Loading.{loading, job_of};
+ghost use Rattle.cbs_simulate.specs.Simulating.{SimulatesAlone};
+
+use crate::driver::simulate;
+use crate::load_job::LoadJob;
+use crate::releases::Releases;
+use crate::watcher::Watcher;
+use cbs_core::Core;
+use cbs_rate::Plan;
+use cbs_rules::{LIMIT, Modes};
+use cbs_steps::CoreError;
+use std::alloc::Allocator;
+
+/// Runs a load up to a tick, as [`simulate`] does, on a core of its own, which it returns.
+///
+/// There must be a mode for each server of the plan, and `until` is at most [`LIMIT`].
+///
+/// Refuses a backlog outside 1 to [`MAX_BACKLOG`](cbs_core::MAX_BACKLOG) by [`CoreError::BadBacklog`], and by
+/// [`CoreError::OutOfMemory`] if an allocation is refused.
+pub fn simulate_plan<A: Allocator + Clone, R: Releases, S: Watcher>(
+    alloc: A,
+    plan: &Plan,
+    modes: &Modes,
+    backlog: u64,
+    releases: &mut R,
+    until: u64,
+    watcher: &mut S,
+) -> Result<Core<LoadJob, A>, CoreError>
+    requires modes { length modes.now ≡ length plan.now.rates }
+    requires end { until ≤ LIMIT }
+    ensures simulates { IfOk result (λ core. SimulatesAlone loading job_of until S.saw
+        (record { history = record { setup = record { servers = terms_of modes.now plan.now.rates; backlog = backlog }; steps = [] }; coming = R.coming releases.old; owing = None })
+        core watcher.old watcher.new) }
+    ensures refusal { RefusesByOrMemory CoreError.OutOfMemory result (new_refusal backlog) }
+{
+    let mut core = Core::of(alloc, plan, modes, backlog)?;
+    match simulate(&mut core, releases, until, watcher) {
+        Ok(()) => Ok(core),
+        Err(_) => Err(CoreError::OutOfMemory),
+    }
+}

@@ -1,0 +1,181 @@
+//! Simulating: moves, one after another, up to a tick.
+
+ghost use Rattle.std.specs.Prelude.{◌≡◌, ◌-◌, ◌≤◌, ◌<◌, true, false, List, ◌∷◌, drop, min, slice_get, Some, None, IfOk, OnOk};
+ghost use Rattle.cbs_core.specs.Agreement.{Agrees, HasHistory};
+ghost use Rattle.cbs_steps.specs.History.{History};
+ghost use Rattle.cbs_simulate.specs.Loading.{loading, job_of};
+ghost use Rattle.cbs_simulate.specs.Moves.{submit, charge, Simulation, clock_of};
+ghost use Rattle.cbs_simulate.specs.Releases.{IsInOrder, MakesJob};
+ghost use Rattle.cbs_simulate.specs.Shown.{Sight};
+ghost use Rattle.cbs_simulate.specs.Simulating.{MakesMove, MakesNext, Ended, Simulates, move_to};
+
+use crate::charge::Charge;
+use crate::event::{Event, Moment};
+use crate::load_job::LoadJob;
+use crate::moves;
+use crate::release::Release;
+use crate::releases::Releases;
+use crate::watcher::Watcher;
+use cbs_core::Core;
+use cbs_rules::LIMIT;
+use std::alloc::{AllocError, Allocator};
+
+/// Shows what a move did.
+fn show<A: Allocator, S: Watcher>(
+    core: &Core<LoadJob, A>,
+    event: Event,
+    watcher: &mut S,
+) -> Result<(), AllocError>
+    ensures { OnOk result ((seen : List Sight) → S.saw watcher.old seen
+        → S.saw watcher.new (record { moment = record { clock = core.now.clock; event = event }; faces = core.now.faces } ∷ seen)) }
+{
+    let moment = Moment {
+        clock: core.now(),
+        event,
+    };
+    watcher.see(moment, core)
+}
+
+/// Submits the release that comes next, and shows it.
+fn submit_first<A: Allocator, R: Releases, S: Watcher>(
+    core: &mut Core<LoadJob, A>,
+    releases: &mut R,
+    release: Release,
+    watcher: &mut S,
+) -> Result<(), AllocError>
+    requires next { slice_get (R.coming releases.old) 0 ≡ Some release }
+    requires units { MakesJob release }
+    ensures makes { OnOk result ((sim : Simulation LoadJob) → Agrees loading core.old sim.history
+        → MakesMove loading job_of S.saw sim (submit release) core.new sim.owing watcher.old watcher.new) }
+    ensures rest { OnOk result (R.coming releases.new ≡ drop 1 (R.coming releases.old)) }
+{
+    let event = moves::submit(core, release)?;
+    releases.pass();
+    show(core, event, watcher)
+}
+
+/// Charges what is owed, as far as `until`, and shows it.
+fn show_charge<A: Allocator, S: Watcher>(
+    core: &mut Core<LoadJob, A>,
+    owed: Charge,
+    until: u64,
+    watcher: &mut S,
+) -> Result<(), AllocError>
+    requires { core.old.clock ≤ until }
+    ensures { OnOk result ((sim : Simulation LoadJob) → Agrees loading core.old sim.history
+        → MakesMove loading job_of S.saw sim (charge owed.server (min owed.ticks (until - clock_of loading job_of sim))) core.new None watcher.old watcher.new) }
+{
+    let left = until - core.now();
+    let event = moves::charge(core, owed.server, owed.ticks.min(left));
+    show(core, event, watcher)
+}
+
+/// Runs a unit, or lets ticks pass up to `stop`, and shows it. Returns what is then owed.
+fn show_next<A: Allocator, S: Watcher>(
+    core: &mut Core<LoadJob, A>,
+    stop: u64,
+    watcher: &mut S,
+) -> Result<Option<Charge>, AllocError>
+    requires { core.old.clock ≤ stop }
+    ensures { IfOk result (λ owing. (sim : Simulation LoadJob) → Agrees loading core.old sim.history
+        → MakesMove loading job_of S.saw sim (move_to loading job_of stop sim) core.new owing watcher.old watcher.new) }
+{
+    let (event, owing) = moves::go_on(core, stop);
+    show(core, event, watcher)?;
+    Ok(owing)
+}
+
+/// Makes the next move before `until` where nothing is owed, and shows it. Returns what is then owed.
+fn make_free<A: Allocator, R: Releases, S: Watcher>(
+    core: &mut Core<LoadJob, A>,
+    releases: &mut R,
+    until: u64,
+    watcher: &mut S,
+) -> Result<Option<Charge>, AllocError>
+    requires { core.old.clock < until }
+    ensures { IfOk result (λ owing. (M : History LoadJob) → Agrees loading core.old M
+        → MakesNext loading job_of until S.saw (record { history = M; coming = R.coming releases.old; owing = None }) core.new (R.coming releases.new) owing watcher.old watcher.new) }
+{
+    let now = core.now();
+    match releases.first() {
+        Some(release) if release.tick <= now => {
+            submit_first(core, releases, release, watcher)?;
+            Ok(None)
+        }
+        Some(release) => show_next(core, release.tick.min(until), watcher),
+        None => show_next(core, until, watcher),
+    }
+}
+
+/// Submits the next release, if it came before `until`, where the clock stands now, and shows it. Returns whether it did.
+fn submit_last<A: Allocator, R: Releases, S: Watcher>(
+    core: &mut Core<LoadJob, A>,
+    releases: &mut R,
+    until: u64,
+    watcher: &mut S,
+) -> Result<bool, AllocError>
+    requires { until ≤ core.old.clock }
+    ensures moved { IfOk result (λ moved. moved ≡ true → (sim : Simulation LoadJob) → Agrees loading core.old sim.history → sim.coming ≡ R.coming releases.old
+        → MakesNext loading job_of until S.saw sim core.new (R.coming releases.new) sim.owing watcher.old watcher.new) }
+    ensures ended { IfOk result (λ moved. moved ≡ false → (sim : Simulation LoadJob) → Agrees loading core.old sim.history → sim.coming ≡ R.coming releases.old
+        → Ended loading job_of until sim core.old core.new (R.coming releases.new) sim.owing watcher.old watcher.new) }
+{
+    match releases.first() {
+        Some(release) if release.tick < until => {
+            submit_first(core, releases, release, watcher)?;
+            Ok(true)
+        }
+        _ => Ok(false),
+    }
+}
+
+/// Makes the next move, and shows it. Returns whether there was one.
+fn make_next<A: Allocator, R: Releases, S: Watcher>(
+    core: &mut Core<LoadJob, A>,
+    releases: &mut R,
+    owing: &mut Option<Charge>,
+    until: u64,
+    watcher: &mut S,
+) -> Result<bool, AllocError>
+    ensures moved { IfOk result (λ moved. moved ≡ true → (M : History LoadJob) → Agrees loading core.old M
+        → MakesNext loading job_of until S.saw (record { history = M; coming = R.coming releases.old; owing = owing.old }) core.new (R.coming releases.new) owing.new watcher.old watcher.new) }
+    ensures ended { IfOk result (λ moved. moved ≡ false → (M : History LoadJob) → Agrees loading core.old M
+        → Ended loading job_of until (record { history = M; coming = R.coming releases.old; owing = owing.old }) core.old core.new (R.coming releases.new) owing.new watcher.old watcher.new) }
+{
+    if core.now() >= until {
+        return submit_last(core, releases, until, watcher);
+    }
+    match *owing {
+        Some(owed) => {
+            show_charge(core, owed, until, watcher)?;
+            *owing = None;
+        }
+        None => *owing = make_free(core, releases, until, watcher)?,
+    }
+    Ok(true)
+}
+
+/// Runs a load up to a tick. At each moment it first charges what the last unit took beyond its first tick, then submits every
+/// release that has come; then it runs a unit if somebody is ready, and else lets ticks pass, up to the next release, or
+/// until somebody may be ready. It shows each move to the watcher.
+///
+/// The clock may not be later than `until`, nor than the first release, and `until` is at most [`LIMIT`].
+///
+/// Answers an error if out of memory; the moves made stay made.
+pub fn simulate<A: Allocator, R: Releases, S: Watcher>(
+    core: &mut Core<LoadJob, A>,
+    releases: &mut R,
+    until: u64,
+    watcher: &mut S,
+) -> Result<(), AllocError>
+    requires end { until ≤ LIMIT }
+    requires early { core.old.clock ≤ until }
+    requires order { IsInOrder core.old.clock (R.coming releases.old) }
+    requires history { HasHistory loading core.old }
+    ensures simulates { OnOk result ((M : History LoadJob) → Agrees loading core.old M
+        → Simulates loading job_of until S.saw (record { history = M; coming = R.coming releases.old; owing = None }) core.new watcher.old watcher.new) }
+{
+    let mut owing = None;
+    while make_next(core, releases, &mut owing, until, watcher)? {}
+    Ok(())
+}

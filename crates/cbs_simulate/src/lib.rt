@@ -1,0 +1,28 @@
+//! Simulation: a load of releases is run by a core, step by step, up to a tick.
+#![tactic(auto)]
+
+mod alone;
+mod charge;
+mod driver;
+mod event;
+mod load_job;
+mod merged;
+mod moves;
+mod range;
+mod release;
+mod releases;
+mod source;
+mod terms;
+mod watcher;
+
+pub use alone::simulate_plan;
+pub use driver::simulate;
+pub use event::{Event, Moment};
+pub use load_job::LoadJob;
+pub use merged::Merged;
+pub use range::Range;
+pub use release::Release;
+pub use releases::Releases;
+pub use source::Source;
+pub use terms::SourceTerms;
+pub use watcher::Watcher;
