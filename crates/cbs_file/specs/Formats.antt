@@ -19,10 +19,3 @@ format_of format_number = do
 abbrev pub longest_advance : Format → ℕ
 longest_advance One = 1000000000
 longest_advance Two = clock_end
-
--- a test of what need not be there
-abbrev pub of_some : {A B : Type 0} → (A → Result B FileKind) → Option A → Result (Option B) FileKind
-of_some test None = Ok None
-of_some test (Some x) = do
-  y ← test x
-  Ok (Some y)

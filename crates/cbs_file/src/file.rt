@@ -8,8 +8,8 @@ ghost use Rattle.cbs_file.specs.Entries.{step_entry};
 ghost use Rattle.cbs_tables.specs.Fields.{Gives, seen, each_from};
 ghost use Rattle.cbs_tables.specs.Memory.{memory_wanted, usual_bound};
 ghost use Rattle.cbs_file.specs.TaskFiles.{IsFileStep};
-ghost use Rattle.cbs_file.specs.Spelling.{file, admitted_entry, admitted_from};
-ghost use Rattle.cbs_tables.specs.Documents.{document, faulty, at, no_memory};
+ghost use Rattle.cbs_file.specs.Spelling.{file, admitted_entry};
+ghost use Rattle.cbs_tables.specs.Documents.{document, faulty, at, no_memory, taken_in};
 ghost use Rattle.cbs_rate.specs.Limits.{most_servers};
 ghost use Rattle.cbs_rules.specs.Setups.{no_servers};
 
@@ -38,7 +38,7 @@ fn admit_entry(setup: &mut Setup, mode: Option<Mode>, entry: &Value) -> Result<(
 
 /// The servers of the entries of `server`, where all servers may have a mode already.
 fn setup_of(bound: Bound, mode: Option<Mode>, entries: &[Value]) -> Result<Setup, FileFault>
-    ensures { result ≡ admitted_from mode 0 (no_servers bound) (map view entries.now) }
+    ensures { result ≡ taken_in (admitted_entry mode) 0 (no_servers bound) (map view entries.now) }
 {
     let mut setup = Setup::new(bound);
     for (i, entry) in entries.iter().enumerate() {

@@ -1,3 +1,4 @@
 pub mod Each
 pub mod Places
 pub mod Tables
+pub mod TakenIn

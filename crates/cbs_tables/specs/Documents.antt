@@ -1,13 +1,14 @@
 -- The top table of a TOML document, and faults with the place where they stand.
-use Rattle.std.specs.Prelude.{ℕ, if◌then◌else◌, List, Option, Some, None, Result, Ok, Err}
+use Rattle.std.specs.Prelude.{ℕ, ◌+◌, if◌then◌else◌, List, [], ◌∷◌, Option, Some, None, Result, Ok, Err}
 use Rattle.std.specs.Str.{is_utf8}
-use Rattle.toml.specs.Data.{Members}
+use Rattle.toml.specs.Data.{Data, Members}
 use Rattle.toml.specs.Parse.{parse_document}
 use Rattle.cbs_tables.specs.declared.fault.FileKind.{FileKind}
 use Rattle.cbs_tables.specs.declared.fault.FileKind.TheVariants.{NotToml, OutOfMemory}
 use Rattle.cbs_tables.specs.declared.fault.FileFault.{FileFault}
 use Rattle.cbs_tables.specs.declared.fault.Place.{Place}
-use Rattle.cbs_tables.specs.declared.fault.Place.TheVariants.{Top}
+use Rattle.cbs_tables.specs.declared.fault.Place.TheVariants.{Top, Server}
+use Rattle.cbs_tables.specs.Fields.{◌>>=◌}
 
 -- memory was refused while reading
 abbrev pub no_memory : FileFault
@@ -31,3 +32,10 @@ or_not_toml None = Err NotToml
 -- the top table, where the bytes are UTF-8 and TOML
 abbrev pub document : List ℕ → Result Members FileKind
 document bytes = if is_utf8 bytes then or_not_toml (parse_document bytes) else Err NotToml
+
+-- what becomes of something by the entries of `server`, one after another, of which the first is server i; or the first fault
+unfoldable pub taken_in : {S : Type 0} → (S → Data → Result S FileKind) → ℕ → S → List Data → Result S FileFault
+taken_in take i so_far [] = Ok so_far
+taken_in take i so_far (entry ∷ entries) = do
+  next ← at (Server i) (take so_far entry)
+  taken_in take (i + 1) next entries

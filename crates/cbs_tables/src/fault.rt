@@ -1,4 +1,4 @@
-//! Why a task file is refused, and where the fault stands.
+//! Why a file is refused, and where the fault stands.
 
 ghost use Rattle.std.specs.Prelude.{◌≡◌};
 ghost use Rattle.cbs_tables.specs.Faults.{file_kind_number, file_kind_name};
@@ -8,7 +8,7 @@ use std::alloc::{AllocError, AllocFailed};
 use std::fmt;
 use thiserror::Error;
 
-/// What is wrong with a task file.
+/// What is wrong with a file.
 #[derive(Clone, Copy, Debug, PartialEq, Eq, Error)]
 pub enum FileKind {
     /// The bytes are no TOML document, or no UTF-8.
@@ -74,7 +74,7 @@ impl<T: Drop> From<AllocFailed<T>> for FileKind {
     }
 }
 
-/// The table of a task file in which a fault stands.
+/// The table of a file in which a fault stands.
 #[derive(Clone, Copy, Debug, PartialEq, Eq)]
 pub enum Place {
     /// The top table.
@@ -83,6 +83,8 @@ pub enum Place {
     Server(u64),
     /// The entry of `step` with this number, from 0.
     Step(u64),
+    /// The entry of `source` with this number, from 0.
+    Source(u64),
 }
 
 impl fmt::Display for Place {
@@ -96,11 +98,12 @@ impl fmt::Display for Place {
             Place::Top => write!(f, "top"),
             Place::Server(i) => write!(f, "server {i}"),
             Place::Step(i) => write!(f, "step {i}"),
+            Place::Source(i) => write!(f, "source {i}"),
         }
     }
 }
 
-/// The first fault of a task file. Want of memory stands at the top.
+/// The first fault of a file. Out of memory stands at the top.
 #[derive(Clone, Copy, Debug, PartialEq, Eq, Error)]
 #[error("{kind}, at {place}")]
 pub struct FileFault {

@@ -10,8 +10,8 @@ mod plans;
 pub use documents::{at, document, faulty};
 pub use fault::{FileFault, FileKind, Place};
 pub use fields::{
-    all_integers, below, integer, items, members, natural, number, only_keys, pair, present, sized,
-    text, units, within,
+    all_integers, below, integer, items, members, natural, number, only_keys, optional,
+    optional_integer, optional_within, pair, present, sized, text, units, within,
 };
 pub use memory::{MEMORY, wants_within};
 pub use plans::{bound_of, mode_of, reservation};

@@ -3,8 +3,8 @@ use Rattle.toml.specs.View.{view, table_view}
 use Rattle.cbs_tables.specs.declared.fault.Place.TheVariants.{Top, Step as AtStep}
 use Rattle.cbs_file.specs.Entries.{step_entry}
 use Rattle.cbs_tables.specs.Fields.{each_from}
-use Rattle.cbs_file.specs.Spelling.{file, admitted_from}
-use Rattle.cbs_tables.specs.Documents.{at, document, no_memory}
+use Rattle.cbs_file.specs.Spelling.{file, admitted_entry}
+use Rattle.cbs_tables.specs.Documents.{at, document, no_memory, taken_in}
 use Rattle.cbs_file.specs.TopTables.{top_table, top_view}
 use Rattle.cbs_rules.specs.Setups.{no_servers}
 use Rattle.cbs_tables.proofs.Places.{Gives-at, gives_ok}
@@ -17,7 +17,7 @@ returns c =
     gives_ok no_memory table_view (at Top c.document.result) _ c.in_ok-table.table
     (Gives-at Top table_view c.document.result _ c.document.ensures) (sym c.at.ensures ∙ c.in_ok-table.was) in
     let top : top_table (table_view c.in_ok-table.table) ≡ Ok (top_view c.in-Ok.top) = sym c.in-Ok.ensures.value in
-    let setup : admitted_from c.in-Ok.top.mode 0 (no_servers c.in-Ok.top.bound) (map view c.in-Ok.top.servers.now.items)
+    let setup : taken_in (admitted_entry c.in-Ok.top.mode) 0 (no_servers c.in-Ok.top.bound) (map view c.in-Ok.top.servers.now.items)
     ≡ Ok c.in_ok-setup.setup = rw (← c.deref.ensures.value) (sym c.in_ok-setup.ensures) in
     let len : c.len-servers.result ≡ length c.in_ok-setup.setup.plan.rates = search rules in
     let steps : each_from 0 (λ i entry. at (AtStep i) (step_entry c.in-Ok.top.format (length c.in_ok-setup.setup.plan.rates) entry))

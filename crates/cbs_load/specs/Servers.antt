@@ -1,0 +1,48 @@
+-- What one entry of `server` spells in a load file.
+use Rattle.std.specs.Prelude.{ℕ, ◌&&◌, ◌||◌, Bool, eqb, codes, length, nat_le, if◌then◌else◌, List, [], ◌∷◌, Result, Ok, Err}
+use Rattle.std.specs.Char.{is_ascii_alphanumeric}
+use Rattle.std.specs.List.{list_all}
+use Rattle.toml.specs.Data.{Data}
+use Rattle.cbs_rate.specs.Rate.{Rate}
+use Rattle.cbs_rules.specs.declared.mode.Mode.{Mode}
+use Rattle.cbs_tables.specs.declared.fault.FileKind.{FileKind}
+use Rattle.cbs_tables.specs.declared.fault.FileKind.TheVariants.{OutOfRange}
+use Rattle.cbs_tables.specs.Fields.{◌>>=◌, only_keys, present, integer, text, members}
+use Rattle.cbs_tables.specs.Plans.{reservation, mode_of}
+use Rattle.cbs_load.specs.declared.server.ServerEntry.{ServerEntry}
+
+-- a letter, a digit, `-` or `_`
+abbrev pub is_name_byte : ℕ → Bool
+is_name_byte b = is_ascii_alphanumeric b || eqb b 45 || eqb b 95
+
+-- a name has 1 to 32 of them
+abbrev pub name_of : List ℕ → Result (List ℕ) FileKind
+name_of name = if nat_le 1 (length name) && nat_le (length name) 32 && list_all is_name_byte name then Ok name else Err OutOfRange
+
+-- a server, as its entry has it
+pub record ServerData : Type 0 where
+  pub name : List ℕ
+  pub mode : Mode
+  pub reservation : Rate
+
+-- the server of an entry
+unfoldable pub server_entry : Data → Result ServerData FileKind
+server_entry entry = do
+  table ← members entry
+  _ ← only_keys (codes "name" ∷ codes "mode" ∷ codes "budget" ∷ codes "period" ∷ []) table
+  name_value ← present (codes "name") table
+  mode_value ← present (codes "mode") table
+  budget_value ← present (codes "budget") table
+  period_value ← present (codes "period") table
+  name_text ← text name_value
+  mode_word ← text mode_value
+  budget_number ← integer budget_value
+  period_number ← integer period_value
+  name ← name_of name_text
+  mode ← mode_of mode_word
+  reservation ← reservation budget_number period_number
+  Ok (record { name = name; mode = mode; reservation = reservation })
+
+-- the server that the code holds
+abbrev pub server_view : ServerEntry → ServerData
+server_view s = record { name = s.name.now; mode = s.mode; reservation = s.reservation }

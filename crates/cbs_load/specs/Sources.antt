@@ -1,0 +1,106 @@
+-- What one entry of `source` spells in a load file.
+use Rattle.std.specs.Prelude.{ℕ, ℤ, codes, bytes_eq, get_or, unwrap_or, List, [], ◌∷◌, Option, Some, None, option_map, Result, Ok, Err}
+use Rattle.std.specs.List.{position}
+use Rattle.toml.specs.Data.{Data, get_member}
+use Rattle.toml.specs.Data.{integer as an_integer}
+use Rattle.cbs_rate.specs.Limits.{longest_period, most_units}
+use Rattle.cbs_rate.specs.Rate.{Rate}
+use Rattle.cbs_rules.specs.Rules.{clock_end}
+use Rattle.cbs_simulate.specs.Bounds.{Bounds}
+use Rattle.cbs_simulate.specs.declared.terms.SourceTerms.{SourceTerms}
+use Rattle.cbs_tables.specs.declared.fault.FileKind.{FileKind}
+use Rattle.cbs_tables.specs.declared.fault.FileKind.TheVariants.{OutOfRange}
+use Rattle.cbs_tables.specs.Fields.{◌>>=◌, only_keys, present, integer, text, items, members, pair, within, of_some}
+use Rattle.cbs_load.specs.declared.source.SourceFields.{SourceFields}
+
+-- two numbers, the least and the greatest: one number stands for both. None if an array has fewer or more
+abbrev pub two_numbers : Data → Result (Option (ℤ × ℤ)) FileKind
+two_numbers (an_integer n) = Ok (Some (n, n))
+two_numbers d = items d >>= pair
+
+-- the numbers from the least, which is `low` at least, to the greatest, which is `high` at most
+abbrev pub range_within : ℕ → ℕ → Option (ℤ × ℤ) → Result Bounds FileKind
+range_within low high None = Err OutOfRange
+range_within low high (Some two) = do
+  least ← within low high two.0
+  greatest ← within least high two.1
+  Ok (record { least = least; greatest = greatest })
+
+-- the place that was found
+abbrev pub found_place : Option ℕ → Result ℕ FileKind
+found_place None = Err OutOfRange
+found_place (Some i) = Ok i
+
+-- the server of this name
+abbrev pub server_named : List (List ℕ) → List ℕ → Result ℕ FileKind
+server_named names name = found_place (position (λ n. bytes_eq n name) names)
+
+-- the period of a server
+abbrev pub period_at : List Rate → ℕ → ℕ
+period_at rates server = (get_or rates server (record { budget = 0; period = 0 })).period
+
+-- the keys of a source, each of its type
+pub record FieldsData : Type 0 where
+  pub server : List ℕ
+  pub first : Option ℤ
+  pub every : Option (ℤ × ℤ)
+  pub units : Option (ℤ × ℤ)
+  pub jobs : Option ℤ
+  pub within : Option ℤ
+  pub overrun : Option (Option (ℤ × ℤ))
+
+-- the keys of an entry, or the first fault over all of them
+unfoldable pub source_fields : Data → Result FieldsData FileKind
+source_fields entry = do
+  table ← members entry
+  _ ← only_keys (codes "server" ∷ codes "first" ∷ codes "every" ∷ codes "units" ∷ codes "jobs" ∷ codes "within" ∷ codes "overrun" ∷ []) table
+  server_value ← present (codes "server") table
+  every_value ← present (codes "every") table
+  units_value ← present (codes "units") table
+  server_name ← text server_value
+  first_number ← of_some integer (get_member (codes "first") table)
+  every_numbers ← two_numbers every_value
+  units_numbers ← two_numbers units_value
+  jobs_number ← of_some integer (get_member (codes "jobs") table)
+  within_number ← of_some integer (get_member (codes "within") table)
+  overrun_numbers ← of_some two_numbers (get_member (codes "overrun") table)
+  Ok (record { server = server_name; first = first_number; every = every_numbers; units = units_numbers; jobs = jobs_number; within = within_number; overrun = overrun_numbers })
+
+-- What the keys spell, or that one is out of range. Left out, `first` and `overrun` are 0, `jobs` may be any number, and `within` is
+-- the server's period.
+unfoldable pub spelled_by : List (List ℕ) → List Rate → FieldsData → Result SourceTerms FileKind
+spelled_by names rates f = do
+  server ← server_named names f.server
+  first ← of_some (within 0 clock_end) f.first
+  every ← range_within 1 clock_end f.every
+  units ← range_within 1 most_units f.units
+  jobs ← of_some (within 1 clock_end) f.jobs
+  deadline ← of_some (within 1 clock_end) f.within
+  overrun ← of_some (range_within 0 longest_period) f.overrun
+  Ok (record {
+    server = server;
+    first = unwrap_or first 0;
+    every = every;
+    units = units;
+    jobs = jobs;
+    within = Some (unwrap_or deadline (period_at rates server));
+    overrun = unwrap_or overrun (record { least = 0; greatest = 0 });
+  })
+
+-- the source of an entry, in a file with servers of these names and reservations
+abbrev pub source_entry : List (List ℕ) → List Rate → Data → Result SourceTerms FileKind
+source_entry names rates entry = do
+  fields ← source_fields entry
+  spelled_by names rates fields
+
+-- the keys that the code holds
+abbrev pub fields_view : SourceFields → FieldsData
+fields_view f = record {
+  server = f.server.now;
+  first = f.first;
+  every = f.every;
+  units = f.units;
+  jobs = f.jobs;
+  within = f.within;
+  overrun = f.overrun;
+}

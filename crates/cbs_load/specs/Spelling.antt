@@ -1,0 +1,56 @@
+-- What the bytes of a load file spell: the load, or its first fault with the place where that stands.
+use Rattle.std.specs.Prelude.{ℕ, bytes_eq, if◌then◌else◌, List, [], ◌∷◌, ◌++◌, Option, Some, None, Result, Ok, Err}
+use Rattle.std.specs.List.{list_any}
+use Rattle.toml.specs.Data.{Data}
+use Rattle.cbs_rate.specs.Plan.{admit_refusal}
+use Rattle.cbs_rate.specs.declared.error.AdmitError.{AdmitError}
+use Rattle.cbs_rules.specs.Setups.{ModedPlan, no_servers, with_server}
+use Rattle.cbs_tables.specs.declared.fault.FileKind.{FileKind}
+use Rattle.cbs_tables.specs.declared.fault.FileKind.TheVariants.{OutOfRange, NotAdmitted}
+use Rattle.cbs_tables.specs.declared.fault.FileFault.{FileFault}
+use Rattle.cbs_tables.specs.declared.fault.Place.TheVariants.{Top, Source}
+use Rattle.cbs_tables.specs.Documents.{at, document, taken_in}
+use Rattle.cbs_tables.specs.Fields.{◌>>=◌, each_from}
+use Rattle.cbs_load.specs.Loads.{LoadFile}
+use Rattle.cbs_load.specs.Servers.{server_entry}
+use Rattle.cbs_load.specs.Sources.{source_entry}
+use Rattle.cbs_load.specs.TopTables.{top_table}
+
+-- the servers so far: their names, and their plan and modes
+pub record Named : Type 0 where
+  pub names : List (List ℕ)
+  pub setup : ModedPlan
+
+-- the servers, unless the plan refused the last
+abbrev pub unless_refused : Named → Option AdmitError → Result Named FileKind
+unless_refused servers None = Ok servers
+unless_refused servers (Some error) = Err NotAdmitted
+
+-- a name that no server before has
+abbrev pub unless_taken : List (List ℕ) → List ℕ → Result (Unit {0}) FileKind
+unless_taken names name = if list_any (λ n. bytes_eq n name) names then Err OutOfRange else Ok tt
+
+-- the servers with that of one more entry
+abbrev pub admitted_entry : Named → Data → Result Named FileKind
+admitted_entry so_far entry = do
+  server ← server_entry entry
+  _ ← unless_taken so_far.names server.name
+  unless_refused (record { names = so_far.names ++ server.name ∷ []; setup = with_server so_far.setup server.reservation server.mode })
+      (admit_refusal so_far.setup.plan server.reservation)
+
+-- the load that the bytes spell
+unfoldable pub load : List ℕ → Result LoadFile FileFault
+load bytes = do
+  table ← at Top (document bytes)
+  top ← at Top (top_table table)
+  servers ← taken_in admitted_entry 0 (record { names = []; setup = no_servers top.bound }) top.servers
+  sources ← each_from 0 (λ i entry. at (Source i) (source_entry servers.names servers.setup.plan.rates entry)) top.sources
+  Ok (record {
+    names = servers.names;
+    modes = servers.setup.modes;
+    plan = servers.setup.plan;
+    backlog = top.backlog;
+    until = top.until;
+    seed = top.seed;
+    sources = sources;
+  })

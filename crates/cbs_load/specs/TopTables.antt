@@ -1,0 +1,99 @@
+-- What the top table of a load file spells. The entries of its two arrays are not looked into here.
+use Rattle.std.specs.Prelude.{ℕ, ℤ, codes, map, unwrap_or, List, [], ◌∷◌, Option, Result, Ok}
+use Rattle.cbs_rate.specs.Limits.{most_backlog}
+use Rattle.toml.specs.Data.{Data, Members, get_member}
+use Rattle.toml.specs.View.{view}
+use Rattle.cbs_rate.specs.Bound.{Fraction}
+use Rattle.cbs_rules.specs.Rules.{clock_end}
+use Rattle.cbs_tables.specs.declared.fault.FileKind.{FileKind}
+use Rattle.cbs_tables.specs.Fields.{◌>>=◌, only_keys, present, integer, pair, items, within, of_some, sized}
+use Rattle.cbs_tables.specs.Plans.{bound_of}
+use Rattle.cbs_load.specs.Loads.{most_sources}
+use Rattle.cbs_load.specs.declared.top.TypedValues.{TypedValues}
+use Rattle.cbs_load.specs.declared.top.TopTable.{TopTable}
+
+-- the kind of load file, of which there is one
+abbrev pub kind_at : Members → Result ℕ FileKind
+kind_at table = do
+  kind_value ← present (codes "load") table
+  kind_number ← integer kind_value
+  within 1 1 kind_number
+
+-- the keys of the top table
+abbrev pub top_keys : List (List ℕ)
+top_keys = codes "load" ∷ codes "bound" ∷ codes "backlog" ∷ codes "until" ∷ codes "seed" ∷ codes "server" ∷ codes "source" ∷ []
+
+-- the values of the keys, each of its type
+pub record TypedData : Type 0 where
+  pub bound : Option (ℤ × ℤ)
+  pub backlog : ℤ
+  pub until : ℤ
+  pub seed : Option ℤ
+  pub servers : List Data
+  pub sources : List Data
+
+-- the values, or the first fault over all keys: a key that the table may not have, a key that it lacks, a value of another type
+unfoldable pub typed_values : Members → Result TypedData FileKind
+typed_values table = do
+  _ ← only_keys top_keys table
+  bound_value ← present (codes "bound") table
+  backlog_value ← present (codes "backlog") table
+  until_value ← present (codes "until") table
+  server_value ← present (codes "server") table
+  source_value ← present (codes "source") table
+  bound_values ← items bound_value
+  bound_pair ← pair bound_values
+  backlog_number ← integer backlog_value
+  until_number ← integer until_value
+  seed_number ← of_some integer (get_member (codes "seed") table)
+  servers ← items server_value
+  sources ← items source_value
+  Ok (record { bound = bound_pair; backlog = backlog_number; until = until_number; seed = seed_number; servers = servers; sources = sources })
+
+-- what the top table spells
+pub record TopData : Type 0 where
+  pub bound : Fraction
+  pub backlog : ℕ
+  pub until : ℕ
+  pub seed : ℕ
+  pub servers : List Data
+  pub sources : List Data
+
+-- what the values spell, or that one is out of range; the seed is 0 if it is left out
+unfoldable pub spelled_by : TypedData → Result TopData FileKind
+spelled_by n = do
+  bound ← bound_of n.bound
+  backlog ← within 1 most_backlog n.backlog
+  until ← within 1 clock_end n.until
+  seed ← of_some (within 0 9223372036854775807) n.seed
+  _ ← sized 0 most_sources n.sources
+  Ok (record { bound = bound; backlog = backlog; until = until; seed = unwrap_or seed 0; servers = n.servers; sources = n.sources })
+
+-- what the top table spells, or its first fault: the kind of load comes first
+abbrev pub top_table : Members → Result TopData FileKind
+top_table table = do
+  _ ← kind_at table
+  found ← typed_values table
+  spelled_by found
+
+-- the values that the code holds
+abbrev pub typed_view : TypedValues → TypedData
+typed_view n = record {
+  bound = n.bound;
+  backlog = n.backlog;
+  until = n.until;
+  seed = n.seed;
+  servers = map view n.servers.now.items;
+  sources = map view n.sources.now.items;
+}
+
+-- the top table that the code holds
+abbrev pub top_view : TopTable → TopData
+top_view t = record {
+  bound = t.bound;
+  backlog = t.backlog;
+  until = t.until;
+  seed = t.seed;
+  servers = map view t.servers.now.items;
+  sources = map view t.sources.now.items;
+}

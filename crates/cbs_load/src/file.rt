@@ -1,0 +1,147 @@
+//! A load file, read from its bytes.
+
+ghost use Rattle.std.specs.Prelude.{◌≡◌, ◌<◌, ◌≤◌, [], length, map, string_bytes, Err, IfOk, OnOk, All};
+ghost use Rattle.toml.specs.View.{view};
+ghost use Rattle.cbs_rate.specs.Limits.{most_servers};
+ghost use Rattle.cbs_rules.specs.Setups.{no_servers};
+ghost use Rattle.cbs_tables.specs.declared.fault.FileKind.TheVariants.{OutOfMemory};
+ghost use Rattle.cbs_tables.specs.declared.fault.Place.TheVariants.{Source as AtSource};
+ghost use Rattle.cbs_tables.specs.Documents.{at, no_memory, taken_in};
+ghost use Rattle.cbs_tables.specs.Fields.{Gives, each_from};
+ghost use Rattle.cbs_tables.specs.Memory.{memory_wanted, usual_bound};
+ghost use Rattle.cbs_load.specs.Loads.{IsSource};
+ghost use Rattle.cbs_load.specs.Sources.{source_entry};
+ghost use Rattle.cbs_load.specs.Spelling.{admitted_entry, load};
+
+use crate::load::Load;
+use crate::server::{is_taken, server_entry};
+use crate::source::source_entry;
+use crate::top::top_table;
+use cbs_rate::{Bound, Plan};
+use cbs_rules::Setup;
+use cbs_simulate::SourceTerms;
+use cbs_tables::{FileFault, FileKind, MEMORY, Place, at, document, faulty, wants_within};
+use std::alloc::Global;
+use toml::Value;
+
+/// Takes in the server of one entry: its name, and its reservation and mode.
+fn admit_entry(
+    alloc: Global,
+    names: &mut Vec<String>,
+    setup: &mut Setup,
+    entry: &Value,
+) -> Result<(), FileKind>
+    requires { length names.old.items ≡ length setup.old.plan.rates }
+    ensures servers { Gives OutOfMemory (λ _. record { names = map string_bytes names.new.items; setup = setup.new }) result
+        (admitted_entry (record { names = map string_bytes names.old.items; setup = setup.old }) (view entry.now)) }
+    ensures named { OnOk result (length names.new.items ≡ length setup.new.plan.rates) }
+{
+    let server = match server_entry(entry) {
+        Ok(server) => server,
+        Err(kind) => return Err(kind),
+    };
+    if is_taken(names, server.name) {
+        return Err(FileKind::OutOfRange);
+    }
+    match setup.admit(server.reservation, server.mode) {
+        Ok(_) => {}
+        Err(_) => return Err(FileKind::NotAdmitted),
+    }
+    names.push(String::from_str(alloc, server.name)?)?;
+    Ok(())
+}
+
+/// Returns the names, and the plan and modes, of the servers of the entries of `server`.
+fn servers_of(
+    alloc: Global,
+    bound: Bound,
+    entries: &[Value],
+) -> Result<(Vec<String>, Setup), FileFault>
+    ensures servers { Gives no_memory (λ s. record { names = map string_bytes s.0.items; setup = s.1 }) result
+        (taken_in admitted_entry 0 (record { names = []; setup = no_servers bound }) (map view entries.now)) }
+    ensures named { IfOk result (λ s. length s.0.items ≡ length s.1.plan.rates) }
+{
+    let mut names = Vec::new(alloc);
+    let mut setup = Setup::new(bound);
+    for (i, entry) in entries.iter().enumerate() {
+        at(
+            Place::Server(i as u64),
+            admit_entry(alloc, &mut names, &mut setup, entry),
+        )?;
+    }
+    Ok((names, setup))
+}
+
+/// Returns the sources of the entries of `source`, in a file with servers of these names and this plan.
+fn sources_of(
+    alloc: Global,
+    names: &[String],
+    plan: &Plan,
+    entries: &[Value],
+) -> Result<Vec<SourceTerms>, FileFault>
+    requires few { length names.now ≤ most_servers }
+    requires named { length names.now ≡ length plan.now.rates }
+    ensures sources { Gives no_memory (λ v. v.items) result
+        (each_from 0 (λ i entry. at (AtSource i) (source_entry (map string_bytes names.now) plan.now.rates entry)) (map view entries.now)) }
+    ensures lawful { IfOk result (λ v. All (IsSource (length names.now)) v.items) }
+    ensures count { IfOk result (λ v. length v.items ≡ length entries.now) }
+{
+    let mut sources = Vec::new(alloc);
+    for (i, entry) in entries.iter().enumerate() {
+        let source = at(Place::Source(i as u64), source_entry(names, plan, entry))?;
+        let Ok(()) = sources.push(source) else {
+            return Err(faulty(Place::Top, FileKind::OutOfMemory));
+        };
+    }
+    Ok(sources)
+}
+
+/// Returns the load that the bytes spell, or its first fault.
+#[tactic(auto, unfolding(crate::specs::Spelling::load))]
+fn spelled_load(alloc: Global, bytes: &[u8]) -> Result<Load, FileFault>
+    ensures { Gives no_memory (λ f. f) result (load bytes.now) }
+{
+    let table = at(Place::Top, document(alloc, bytes))?;
+    let top = match top_table(&table) {
+        Ok(top) => top,
+        Err(kind) => return Err(faulty(Place::Top, kind)),
+    };
+    let (names, setup) = servers_of(alloc, top.bound, top.servers)?;
+    let sources = sources_of(alloc, &names, setup.plan(), top.sources)?;
+    Ok(Load {
+        names,
+        setup,
+        backlog: top.backlog,
+        until: top.until,
+        seed: top.seed,
+        sources,
+    })
+}
+
+/// Returns the load that the bytes spell, or its first fault, as [`read_load`] reads it, if the bytes want at most `memory`
+/// bytes of memory.
+///
+/// If they want more, the answer is [`FileKind::OutOfMemory`], before anything is parsed.
+pub fn read_load_within(alloc: Global, memory: u64, bytes: &[u8]) -> Result<Load, FileFault>
+    ensures read { Gives no_memory (λ f. f) result (load bytes.now) }
+    ensures bounded { memory < memory_wanted bytes.now → result ≡ Err no_memory }
+{
+    if !wants_within(bytes, memory) {
+        return Err(faulty(Place::Top, FileKind::OutOfMemory));
+    }
+    spelled_load(alloc, bytes)
+}
+
+/// Returns the load that the bytes spell, or its first fault.
+///
+/// The bytes are parsed as TOML; then the top table is tested, then each entry of `server` in order, then each entry of
+/// `source`. In each table the tests are, over all its keys: a key that it may not have, a key that is missing, a value
+/// of the wrong type, a value out of range. An entry of `server` is then admitted to the plan. The key `load` of the top
+/// table is tested before the others. [`FileKind::OutOfMemory`] may come at any time, and stands at the top. It comes at
+/// once if the bytes want more memory than [`MEMORY`].
+pub fn read_load(alloc: Global, bytes: &[u8]) -> Result<Load, FileFault>
+    ensures read { Gives no_memory (λ f. f) result (load bytes.now) }
+    ensures bounded { usual_bound < memory_wanted bytes.now → result ≡ Err no_memory }
+{
+    read_load_within(alloc, MEMORY, bytes)
+}

@@ -1,0 +1,12 @@
+//! Load files: servers with a name, a mode and a reservation each, and sources of jobs for them, read from the bytes of a TOML
+//! document.
+#![tactic(auto)]
+
+mod file;
+mod load;
+mod server;
+mod source;
+mod top;
+
+pub use file::{read_load, read_load_within};
+pub use load::Load;

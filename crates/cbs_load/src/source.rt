@@ -1,0 +1,186 @@
+//! One source of a load file.
+
+ghost use Rattle.std.specs.Prelude.{◌≡◌, ◌≤◌, ◌<◌, length, map, bytes_eq, string_bytes, option_map, IfOk, IfSome, IsSome};
+ghost use Rattle.std.specs.List.{position};
+ghost use Rattle.toml.specs.View.{view};
+ghost use Rattle.cbs_rate.specs.Limits.{most_servers};
+ghost use Rattle.cbs_tables.specs.Fields.{seen, of_some};
+ghost use Rattle.cbs_load.specs.Loads.{IsSource};
+ghost use Rattle.cbs_load.specs.Sources.{two_numbers, range_within, server_named, period_at, source_fields, spelled_by, source_entry, fields_view};
+
+use cbs_job::MAX_UNITS;
+use cbs_rate::{MAX_PERIOD, Plan};
+use cbs_rules::LIMIT;
+use cbs_simulate::{Range, SourceTerms};
+use cbs_tables::{
+    FileKind, items, members, only_keys, optional, optional_integer, optional_within, pair,
+    present, text, within,
+};
+use toml::Value;
+
+/// The keys of a source, each of its type.
+#[derive(Clone, Copy)]
+struct SourceFields<'a> {
+    server: &'a str,
+    first: Option<i64>,
+    every: Option<(i64, i64)>,
+    units: Option<(i64, i64)>,
+    jobs: Option<i64>,
+    within: Option<i64>,
+    overrun: Option<Option<(i64, i64)>>,
+}
+
+/// Returns the least and the greatest number, for both of which one number stands; or `None` for an array of fewer or
+/// more than two.
+fn two_numbers(value: &Value) -> Result<Option<(i64, i64)>, FileKind>
+    ensures { result ≡ two_numbers (view value.now) }
+{
+    if let Some(number) = value.as_integer() {
+        return Ok(Some((number, number)));
+    }
+    pair(items(value)?)
+}
+
+/// Returns two numbers, if there is a value.
+fn optional_numbers(value: Option<&Value>) -> Result<Option<Option<(i64, i64)>>, FileKind>
+    ensures { result ≡ of_some two_numbers (option_map (λ v. view v.now) value.entry) }
+{
+    match value {
+        Some(value) => Ok(Some(two_numbers(value)?)),
+        None => Ok(None),
+    }
+}
+
+/// Returns the numbers from the least to the greatest, all from `low` to `high`.
+fn range_within(low: u64, high: u64, numbers: Option<(i64, i64)>) -> Result<Range, FileKind>
+    ensures value { result ≡ range_within low high numbers }
+    ensures bounds { IfOk result (λ r. (low ≤ r.least) × (r.greatest ≤ high)) }
+{
+    let (least, greatest) = numbers.ok_or(FileKind::OutOfRange)?;
+    let least = within(low, high, least)?;
+    let greatest = within(least, high, greatest)?;
+    match Range::new(least, greatest) {
+        Some(range) => Ok(range),
+        None => Err(FileKind::OutOfRange),
+    }
+}
+
+/// Returns a range from `low` to `high`, if there are numbers.
+fn optional_range(
+    low: u64,
+    high: u64,
+    numbers: Option<Option<(i64, i64)>>,
+) -> Result<Option<Range>, FileKind>
+    ensures value { result ≡ of_some (range_within low high) numbers }
+    ensures bounds { IfOk result (λ o. IfSome o (λ r. (low ≤ r.least) × (r.greatest ≤ high))) }
+{
+    match numbers {
+        Some(numbers) => Ok(Some(range_within(low, high, numbers)?)),
+        None => Ok(None),
+    }
+}
+
+/// Returns the place of a name among others.
+fn place_of(names: &[String], name: &str) -> Option<usize>
+    ensures { result ≡ position (λ n. bytes_eq (string_bytes n) name.now) names.now }
+{
+    names.iter().position(|other| other.as_str() == name)
+}
+
+/// Returns the number of the server of this name.
+fn server_named(names: &[String], name: &str) -> Result<u16, FileKind>
+    requires { length names.now ≤ most_servers }
+    ensures value { result ≡ server_named (map string_bytes names.now) name.now }
+    ensures within { IfOk result (λ server. server < length names.now) }
+{
+    match place_of(names, name) {
+        Some(server) => Ok(server as u16),
+        None => Err(FileKind::OutOfRange),
+    }
+}
+
+/// Returns the period of a server, in ticks.
+fn period_at(plan: &Plan, server: u16) -> u64
+    requires { server < length plan.now.rates }
+    ensures { result ≡ period_at plan.now.rates server }
+{
+    match plan.get(server) {
+        Some(reservation) => reservation.period(),
+        None => unreachable!(),
+    }
+}
+
+/// Returns the keys of an entry, or the first fault over all of them.
+#[tactic(auto, unfolding(crate::specs::Sources::source_fields))]
+fn source_fields(entry: &Value) -> Result<SourceFields<'_>, FileKind>
+    ensures { seen fields_view result ≡ source_fields (view entry.now) }
+{
+    let table = members(entry)?;
+    let keys = [
+        "server", "first", "every", "units", "jobs", "within", "overrun",
+    ];
+    only_keys(table, &keys)?;
+    let server = present(table, "server")?;
+    let every = present(table, "every")?;
+    let units = present(table, "units")?;
+    let server = text(server)?;
+    let first = optional_integer(optional(table, "first"))?;
+    let every = two_numbers(every)?;
+    let units = two_numbers(units)?;
+    let jobs = optional_integer(optional(table, "jobs"))?;
+    let within = optional_integer(optional(table, "within"))?;
+    let overrun = optional_numbers(optional(table, "overrun"))?;
+    Ok(SourceFields {
+        server,
+        first,
+        every,
+        units,
+        jobs,
+        within,
+        overrun,
+    })
+}
+
+/// Returns what the keys spell, each in its range.
+#[tactic(auto, unfolding(crate::specs::Sources::spelled_by))]
+fn spelled_by(
+    names: &[String],
+    plan: &Plan,
+    fields: SourceFields<'_>,
+) -> Result<SourceTerms, FileKind>
+    requires few { length names.now ≤ most_servers }
+    requires named { length names.now ≡ length plan.now.rates }
+    ensures value { result ≡ spelled_by (map string_bytes names.now) plan.now.rates (fields_view fields.entry) }
+    ensures lawful { IfOk result (IsSource (length names.now)) }
+{
+    let server = server_named(names, fields.server)?;
+    let first = optional_within(0, LIMIT, fields.first)?;
+    let every = range_within(1, LIMIT, fields.every)?;
+    let units = range_within(1, u64::from(MAX_UNITS), fields.units)?;
+    let jobs = optional_within(1, LIMIT, fields.jobs)?;
+    let deadline = optional_within(1, LIMIT, fields.within)?;
+    let overrun = optional_range(0, MAX_PERIOD, fields.overrun)?;
+    Ok(SourceTerms {
+        server,
+        first: first.unwrap_or(0),
+        every,
+        units,
+        jobs,
+        within: Some(deadline.unwrap_or(period_at(plan, server))),
+        overrun: overrun.unwrap_or(Range::fixed(0)),
+    })
+}
+
+/// Returns the source of one entry, in a file with servers of these names and this plan.
+pub fn source_entry(
+    names: &[String],
+    plan: &Plan,
+    entry: &Value,
+) -> Result<SourceTerms, FileKind>
+    requires few { length names.now ≤ most_servers }
+    requires named { length names.now ≡ length plan.now.rates }
+    ensures value { result ≡ source_entry (map string_bytes names.now) plan.now.rates (view entry.now) }
+    ensures lawful { IfOk result (IsSource (length names.now)) }
+{
+    spelled_by(names, plan, source_fields(entry)?)
+}
