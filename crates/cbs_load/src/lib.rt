@@ -6,6 +6,8 @@ mod file;
 mod load;
 mod server;
 mod source;
+#[cfg(test)]
+mod tests;
 mod top;
 
 pub use file::{read_load, read_load_within};

@@ -172,11 +172,7 @@ fn spelled_by(
 }
 
 /// Returns the source of one entry, in a file with servers of these names and this plan.
-pub fn source_entry(
-    names: &[String],
-    plan: &Plan,
-    entry: &Value,
-) -> Result<SourceTerms, FileKind>
+pub fn source_entry(names: &[String], plan: &Plan, entry: &Value) -> Result<SourceTerms, FileKind>
     requires few { length names.now ≤ most_servers }
     requires named { length names.now ≡ length plan.now.rates }
     ensures value { result ≡ source_entry (map string_bytes names.now) plan.now.rates (view entry.now) }

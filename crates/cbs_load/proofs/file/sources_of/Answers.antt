@@ -20,8 +20,8 @@ returns-in_err-source-clause-sources c =
     let p = err_from_is_err_and c.from_residual.result c.from_residual.ensures.1 in
     let fault = rw c.source_entry.ensures.value at (sym c.at.ensures ∙ c.in_err-source.was) in
     rw (p.1, p.2) (inr (each_from-map view (λ i entry. at (AtSource i) (source_entry names rates entry)) 0 c.args.entries.now
-        ∙ ends (λ i v. at (AtSource i) (source_entry names rates (view v))) c.loop-i.sources.items i c.args.entries.now v
-        c.in_err-source.field-0.0 _ c.loop-i-test.true (rw (← c.index-entries-i.is) fault) c.loop-i.invariant.so_far))
+    ∙ ends (λ i v. at (AtSource i) (source_entry names rates (view v))) c.loop-i.sources.items i c.args.entries.now v
+    c.in_err-source.field-0.0 _ c.loop-i-test.true (rw (← c.index-entries-i.is) fault) c.loop-i.invariant.so_far))
 
 pub loop-i-preserved : goal.loop-i-preserved
 loop-i-preserved c =
