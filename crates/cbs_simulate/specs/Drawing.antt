@@ -61,3 +61,8 @@ pending_from (suc k) c =
 -- what it releases yet
 abbrev pub pending : Cursor → List Release
 pending c = pending_from c.left c
+
+-- the same of several, at the places from i on
+abbrev pub released_by_all : ℕ → List SourceTerms → ℕ → ℕ → List (List Release)
+released_by_all i [] until seed = []
+released_by_all i (t ∷ ts) until seed = released_by i t until seed ∷ released_by_all (i + 1) ts until seed

@@ -31,7 +31,7 @@ returns-in-Some-2 g c = IfOk-weaker c.show_next.result _ _ (λ owing h. λ M agr
     let later : (world_after loading M).now < c.in-Some.release.tick = let lt = c.if-release-now.false in omega arith in
     let is = c.min.ensures in
     let next = none_come loading job_of c.args.until M coming c.in-Some.release (sym c.in-Some.ensures.next) early later in
-    makes_next loading job_of c.args.until M g.S.Watcher.saw c.min.result coming _ owing _ _ (rw is next) (h (record { history = M; coming = coming; owing = None }) agrees)) c.show_next.ensures
+    makes_next loading job_of c.args.until M g.S.Watcher.saw c.min.result coming c.show_next.new.core owing c.args.watcher.now c.show_next.new.watcher (rw is next) (h (record { history = M; coming = coming; owing = None }) agrees)) c.show_next.ensures
 
 pub returns-in-None : goal.returns-in-None
 returns-in-None g c = IfOk-weaker c.show_next-in-None.result _ _ (λ owing h. λ M agrees.
@@ -40,4 +40,4 @@ returns-in-None g c = IfOk-weaker c.show_next-in-None.result _ _ (λ owing h. λ
     let before = c.requires in
     let early : (world_after loading M).now < c.args.until = omega arith in
     let next = none_left loading job_of c.args.until M coming (sym c.in-None.ensures.next) early in
-    makes_next loading job_of c.args.until M g.S.Watcher.saw c.args.until coming _ owing _ _ next (h (record { history = M; coming = coming; owing = None }) agrees)) c.show_next-in-None.ensures
+    makes_next loading job_of c.args.until M g.S.Watcher.saw c.args.until coming c.show_next-in-None.new.core owing c.args.watcher.now c.show_next-in-None.new.watcher next (h (record { history = M; coming = coming; owing = None }) agrees)) c.show_next-in-None.ensures
