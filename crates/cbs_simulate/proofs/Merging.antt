@@ -24,7 +24,8 @@ put_behind q (r ∷ rs) qs order =
     rw e (rw f refl)
 
 -- the first of a source, where no other is earlier
-pub first_here : (r : Release) (rs : List Release) (rss : List (List Release)) → IsInOrder 0 (r ∷ rs) → IsInOrder r.tick (merged rss) → IsFirst ((r ∷ rs) ∷ rss) 0 r
+pub first_here : (r : Release) (rs : List Release) (rss : List (List Release)) → IsInOrder 0 (r ∷ rs) → IsInOrder r.tick (merged rss)
+    → IsFirst ((r ∷ rs) ∷ rss) 0 r
 first_here r rs rss order others = record {
   within = omega arith;
   head = refl;
@@ -32,7 +33,8 @@ first_here r rs rss order others = record {
 }
 
 -- the first of the others, where it is earlier than all of the source
-pub first_there : (rs : List Release) (rss : List (List Release)) (i : ℕ) (q : Release) → IsFirst rss i q → IsInOrder (q.tick + 1) rs → IsFirst (rs ∷ rss) (suc i) q
+pub first_there : (rs : List Release) (rss : List (List Release)) (i : ℕ) (q : Release) → IsFirst rss i q → IsInOrder (q.tick + 1) rs
+    → IsFirst (rs ∷ rss) (suc i) q
 first_there rs rss i q h order = record {
   within = let lt = h.within in omega arith;
   head = h.head;
@@ -45,12 +47,14 @@ module _ {S : Type 0} (coming : S → List Release) where
   source_at xs i x lt is = get_or-map coming xs i x [] lt ∙ ap coming (sym is)
 
   -- a source that went on
-  pub went_on : (xs : List S) (i : ℕ) (x y : S) → i < length xs → x ≡ get_or xs i x → coming y ≡ drop 1 (coming x) → map coming (slice_set xs i y) ≡ changed_at (drop 1) (map coming xs) i
+  pub went_on : (xs : List S) (i : ℕ) (x y : S) → i < length xs → x ≡ get_or xs i x → coming y ≡ drop 1 (coming x)
+      → map coming (slice_set xs i y) ≡ changed_at (drop 1) (map coming xs) i
   went_on [] i x y lt is e = absurd (omega arith)
   went_on (z ∷ xs) zero x y lt is e = let same : x ≡ z = is in ap (λ rs. rs ∷ map coming xs) (rw same at e)
   went_on (z ∷ xs) (suc i) x y lt is e = ap (λ rss. coming z ∷ rss) (went_on xs i x y (omega arith) is e)
 
   -- so the releases are those after the first
-  pub passed : (xs now : List S) (i : ℕ) (r : Release) (x y : S) → now ≡ xs → i < length xs → IsFirst (map coming xs) i r → x ≡ get_or xs i x → coming y ≡ drop 1 (coming x)
+  pub passed : (xs now : List S) (i : ℕ) (r : Release) (x y : S) → now ≡ xs → i < length xs → IsFirst (map coming xs) i r → x ≡ get_or xs i x
+      → coming y ≡ drop 1 (coming x)
       → merged (map coming (slice_set xs i y)) ≡ drop 1 (merged (map coming now))
   passed xs now i r x y same lt first is e = rw same (ap merged (went_on xs i x y lt is e) ∙ sym (ap (drop 1) first.first))

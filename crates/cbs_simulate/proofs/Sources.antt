@@ -26,7 +26,8 @@ rest_is (suc k) c some = elim (cases_Bool (ltb c.tick c.until)) [
 ]
 
 -- so a source that has drawn those ticks, and then the next units and overrun, goes on to the next
-pub source_passed : (c now : Cursor) (n a b : ℕ) (f g h : Lcg) → c ≡ now → 0 < length (pending now) → (n, f) ≡ drawn c.terms.every c.draws → (a, g) ≡ drawn c.terms.units f
+pub source_passed : (c now : Cursor) (n a b : ℕ) (f g h : Lcg) → c ≡ now → 0 < length (pending now) → (n, f) ≡ drawn c.terms.every c.draws
+    → (a, g) ≡ drawn c.terms.units f
     → (b, h) ≡ drawn c.terms.overrun g → pending (record c { left = c.left - 1; tick = c.tick + n; units = a; overrun = b; draws = h }) ≡ drop 1 (pending now)
 source_passed c now n a b f g h same some ticks units overrun =
     let new : Cursor = record c { left = c.left - 1; tick = c.tick + n; units = a; overrun = b; draws = h } in

@@ -1,5 +1,6 @@
 -- Turns of sources, as they come and go; and whose is the first.
-use Rattle.std.proofs.Common.{◌≡◌, ◌≢◌, ℕ, zero, suc, ◌+◌, ◌≤◌, ◌<◌, true, false, eqb, List, [], ◌∷◌, length, map, get_or, refl, sym, subst, ◌∙◌, ap, arith, inl, inr, Option, Some, None}
+use Rattle.std.proofs.Common.{◌≡◌, ◌≢◌, ℕ, zero, suc, ◌+◌, ◌≤◌, ◌<◌, true, false, eqb, List, [], ◌∷◌, length, map, get_or, refl, sym, subst, ◌∙◌, ap}
+use Rattle.std.proofs.Common.{arith, inl, inr, Option, Some, None}
 use Rattle.std.specs.Prelude.{slice_get, All, Contains, IsPermutation, drop}
 use Rattle.std.specs.BinaryHeap.{IsUpperBound}
 use Rattle.std.specs.List.{AllByRecursion}
@@ -94,7 +95,8 @@ module _ (rss : List (List Release)) (ts us : List (ℕ × ℕ)) where
   }
 
   -- a turn that is taken out leaves those of the other places
-  pub turn_taken : (P : ℕ → Type 0) (x : ℕ × ℕ) → AreTurns P rss ts → IsPermutation ts (x ∷ us) → AreTurns (λ j. P j × (j ≢ x.1)) (changed_at (drop 1) rss x.1) us
+  pub turn_taken : (P : ℕ → Type 0) (x : ℕ × ℕ) → AreTurns P rss ts → IsPermutation ts (x ∷ us)
+      → AreTurns (λ j. P j × (j ≢ x.1)) (changed_at (drop 1) rss x.1) us
   turn_taken P x h perm =
       let all = All-permutation (λ t. P t.1 × (next_tick rss t.1 ≡ Some t.0)) ts (x ∷ us) perm h.each in
       let here = sum_by_popped (count_of x.1) x ts us perm in
@@ -139,7 +141,8 @@ from_first : (t : ℕ) (rs : List Release) → IsInOrder 0 rs → ((r : Release)
 from_first t [] order later = tt
 from_first t (r ∷ rs) order later = (later r refl, order.1)
 
-all_from : (t : ℕ) (rss : List (List Release)) → AllByRecursion (IsInOrder 0) rss → ((i : ℕ) (r : Release) → slice_get (get_or rss i []) 0 ≡ Some r → t ≤ r.tick)
+all_from : (t : ℕ) (rss : List (List Release)) → AllByRecursion (IsInOrder 0) rss
+    → ((i : ℕ) (r : Release) → slice_get (get_or rss i []) 0 ≡ Some r → t ≤ r.tick)
     → AllByRecursion (IsInOrder t) rss
 all_from t [] each later = tt
 all_from t (rs ∷ rss) each later = (from_first t rs each.0 (later 0), all_from t rss each.1 (λ i. later (suc i)))
@@ -162,8 +165,10 @@ tick_is : (rs : List Release) (q : Release) → slice_get rs 0 ≡ Some q → op
 tick_is rs q e = rw e refl
 
 -- so is that of the least turn
-pub turn_first : (rss : List (List Release)) (ts : List (ℕ × ℕ)) (x : ℕ × ℕ) (r : Release) → AllByRecursion (IsInOrder 0) rss → AreTurns (λ i. i < length rss) rss ts
-    → (x.1 < length rss) × (next_tick rss x.1 ≡ Some x.0) → ((y : ℕ × ℕ) → Contains ts y → (x.0 ≤ y.0) × (y.1 < x.1 → x.0 < y.0)) → slice_get (get_or rss x.1 []) 0 ≡ Some r
+pub turn_first : (rss : List (List Release)) (ts : List (ℕ × ℕ)) (x : ℕ × ℕ) (r : Release) → AllByRecursion (IsInOrder 0) rss
+    → AreTurns (λ i. i < length rss) rss ts
+    → (x.1 < length rss) × (next_tick rss x.1 ≡ Some x.0) → ((y : ℕ × ℕ) → Contains ts y → (x.0 ≤ y.0) × (y.1 < x.1 → x.0 < y.0))
+    → slice_get (get_or rss x.1 []) 0 ≡ Some r
     → IsFirst rss x.1 r
 turn_first rss ts x r order turns here least head =
     let is : Some r.tick ≡ Some x.0 = sym (tick_is (get_or rss x.1 []) r head) ∙ here.1 in
@@ -199,7 +204,8 @@ above x y h = (
 )
 
 -- so of the top of a heap, among all its turns
-pub top_least : (x : Reverse (ℕ × ℕ)) (hs : List (Reverse (ℕ × ℕ))) → IsUpperBound turn_cmp x hs → (y : ℕ × ℕ) → Contains (map (λ t. t.0) hs) y → (x.0.0 ≤ y.0) × (y.1 < x.0.1 → x.0.0 < y.0)
+pub top_least : (x : Reverse (ℕ × ℕ)) (hs : List (Reverse (ℕ × ℕ))) → IsUpperBound turn_cmp x hs → (y : ℕ × ℕ) → Contains (map (λ t. t.0) hs) y
+    → (x.0.0 ≤ y.0) × (y.1 < x.0.1 → x.0.0 < y.0)
 top_least x [] bound y (k, lt, e) = absurd (omega arith)
 top_least x (h ∷ hs) bound y (zero, lt, e) = rw e at (above x h bound.0)
 top_least x (h ∷ hs) bound y (suc k, lt, e) = top_least x hs bound.1 y (k, omega arith, e)
@@ -212,7 +218,8 @@ pub record IsTop (x : Reverse (ℕ × ℕ)) (hs : List (Reverse (ℕ × ℕ))) :
 
 module _ (rss : List (List Release)) (x : Reverse (ℕ × ℕ)) where
   -- its source is there, and releases next at its tick
-  pub top_here : (hs : List (Reverse (ℕ × ℕ))) → AreTurns (λ i. i < length rss) rss (map (λ t. t.0) hs) → IsTop x hs → (x.0.1 < length rss) × (next_tick rss x.0.1 ≡ Some x.0.0)
+  pub top_here : (hs : List (Reverse (ℕ × ℕ))) → AreTurns (λ i. i < length rss) rss (map (λ t. t.0) hs) → IsTop x hs
+      → (x.0.1 < length rss) × (next_tick rss x.0.1 ≡ Some x.0.0)
   top_here [] turns top = absurd (let some = top.some in omega arith)
   top_here (h ∷ hs) turns top = let is : x ≡ h = top.here in rw is (turns.each 0 x.0 (omega arith))
 
@@ -225,7 +232,8 @@ module _ (rss : List (List Release)) (x : Reverse (ℕ × ℕ)) where
       go (r ∷ rs) e = omega arith
 
   -- and that is the first of all
-  pub top_first : (hs : List (Reverse (ℕ × ℕ))) (r : Release) → AllByRecursion (IsInOrder 0) rss → AreTurns (λ i. i < length rss) rss (map (λ t. t.0) hs) → IsTop x hs
+  pub top_first : (hs : List (Reverse (ℕ × ℕ))) (r : Release) → AllByRecursion (IsInOrder 0) rss → AreTurns (λ i. i < length rss) rss (map (λ t. t.0) hs)
+      → IsTop x hs
       → slice_get (get_or rss x.0.1 []) 0 ≡ Some r → IsFirst rss x.0.1 r
   top_first hs r order turns top head = turn_first rss (map (λ t. t.0) hs) x.0 r order turns (top_here hs turns top) (top_least x hs top.bound) head
 

@@ -16,7 +16,11 @@ ordered_released place t until (suc k) tick g =
     let o = drawn t.overrun u.1 in
     let e = drawn t.every o.1 in
     elim (cases_Bool (ltb tick until)) [
-      | inl y ↦ rw y ((omega arith), order_from tick (tick + e.0) (released place t until k (tick + e.0) e.1) (omega arith) (ordered_released place t until k (tick + e.0) e.1))
+      | inl y ↦ rw y (
+        (omega arith),
+        order_from tick (tick + e.0) (released place t until k (tick + e.0) e.1) (omega arith)
+            (ordered_released place t until k (tick + e.0) e.1),
+      )
       | inr n ↦ rw n tt
     ]
 
@@ -26,7 +30,11 @@ ordered_pending zero c = tt
 ordered_pending (suc k) c =
     let e = drawn c.terms.every c.draws in
     elim (cases_Bool (ltb c.tick c.until)) [
-      | inl y ↦ rw y ((omega arith), order_from c.tick (c.tick + e.0) (released c.place c.terms c.until k (c.tick + e.0) e.1) (omega arith) (ordered_released c.place c.terms c.until k (c.tick + e.0) e.1))
+      | inl y ↦ rw y (
+        (omega arith),
+        order_from c.tick (c.tick + e.0) (released c.place c.terms c.until k (c.tick + e.0) e.1) (omega arith)
+            (ordered_released c.place c.terms c.until k (c.tick + e.0) e.1),
+      )
       | inr n ↦ rw n tt
     ]
 

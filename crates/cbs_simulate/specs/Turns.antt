@@ -1,5 +1,6 @@
 -- When each of several sources releases next.
-use Rattle.std.specs.Prelude.{◌≡◌, ℕ, ◌≤◌, ◌<◌, eqb, if◌then◌else◌, List, [], ◌∷◌, length, slice_get, get_or, map, Option, Some, None, All, Contains, IsPermutation}
+use Rattle.std.specs.Prelude.{◌≡◌, ℕ, ◌≤◌, ◌<◌, eqb, if◌then◌else◌, List, [], ◌∷◌, length, slice_get, get_or, map, Option, Some, None, All, Contains}
+use Rattle.std.specs.Prelude.{IsPermutation}
 use Rattle.std.specs.BinaryHeap.{IsHeap, heap_items}
 use Rattle.std.specs.List.{sum_by}
 use Rattle.std.specs.Option.{option_map}

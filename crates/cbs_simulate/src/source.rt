@@ -34,7 +34,17 @@ impl Model for Source {
 
     ghost Value = { Cursor };
 
-    ghost view = { λ s. record { place = s.place; terms = s.terms; until = s.until; left = s.left; tick = s.tick; units = s.units; overrun = s.overrun; draws = s.draws } };
+    ghost view = { λ s. record {
+      place = s.place;
+      terms = s.terms;
+      until = s.until;
+      left = s.left;
+      tick = s.tick;
+      units = s.units;
+      overrun =
+          s.overrun;
+      draws = s.draws;
+    } };
 
     ghost invariant = { λ s. IsLawful s.terms × (s.until ≤ 1000000000000) × (0 < s.units) × (s.units ≤ most_units) };
 }

@@ -13,14 +13,16 @@ returns-in-None-clause-next g c =
     let coming = g.S.Releases.coming in
     let empty = c.in-None.ensures.item.3 in
     let count : length (turns_in c.self.inside.turns) ≡ 0 = omega (arith, length-map (heap_items c.self.inside.turns) (λ t. t.0)) in
-    let none : merged (map coming c.self.inside.sources.items) ≡ [] = none_left (map coming c.self.inside.sources.items) (turns_in c.self.inside.turns) c.self.invariant.turns count in
+    let none : merged (map coming c.self.inside.sources.items) ≡ [] =
+    none_left (map coming c.self.inside.sources.items) (turns_in c.self.inside.turns) c.self.invariant.turns count in
     sym (sym (ap (λ xs. slice_get (merged (map coming xs)) 0) c.self.view_is) ∙ rw none refl)
 
 pub index-requires : goal.index-requires
 index-requires g c =
     let top : IsTop c.in-Some.field-0.now (heap_items c.self.inside.turns) =
     record { some = c.in-Some.ensures.item.3.0; here = c.in-Some.ensures.lookup; bound = c.in-Some.ensures.greatest c.self.invariant.order } in
-    let lt = top_place g.S.Releases.coming g.S.Releases.ordered c.self.inside.sources.items c.in-Some.field-0.now (heap_items c.self.inside.turns) c.self.invariant.turns top in
+    let lt = top_place g.S.Releases.coming g.S.Releases.ordered c.self.inside.sources.items c.in-Some.field-0.now
+    (heap_items c.self.inside.turns) c.self.invariant.turns top in
     let same = c.self.inside.sources.ok.0 in
     omega arith
 
@@ -29,5 +31,6 @@ returns-in-Some-clause-next g c =
     let coming = g.S.Releases.coming in
     let top : IsTop c.in-Some.field-0.now (heap_items c.self.inside.turns) =
     record { some = c.in-Some.ensures.item.3.0; here = c.in-Some.ensures.lookup; bound = c.in-Some.ensures.greatest c.self.invariant.order } in
-    c.first.ensures.next ∙ top_shows coming g.S.Releases.ordered c.self.inside.sources.items c.in-Some.field-0.now (heap_items c.self.inside.turns) c.self.invariant.turns top c.index.result.now c.index.ensures
+    c.first.ensures.next ∙ top_shows coming g.S.Releases.ordered c.self.inside.sources.items c.in-Some.field-0.now
+    (heap_items c.self.inside.turns) c.self.invariant.turns top c.index.result.now c.index.ensures
     ∙ ap (λ xs. slice_get (merged (map coming xs)) 0) c.self.view_is
