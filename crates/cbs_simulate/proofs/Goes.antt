@@ -79,19 +79,20 @@ module _ {W : Type 0} (work : Meaning W) (job : Release → W) where
     };
   })
 
-  -- a move where no release has come leaves the releases to come
+  -- a move before the next release leaves the releases to come
   same_coming : (now stop : ℕ) (o : Option ℕ) (coming : List Release) → coming ≡ coming_after (move_on now stop o) coming
   same_coming now stop None coming = refl
   same_coming now stop (Some span) coming = refl
 
   module _ (until : ℕ) (M : History W) where
-    -- where no release has come, the next move is the one up to the first of them, or to `until`
+    -- if no release is left, the next move is the one up to `until`
     pub none_left : (coming : List Release) → slice_get coming 0 ≡ None → (world_after work M).now < until
         → next_of work job until (record { history = M; coming = coming; owing = None }) ≡ Some
         (move_to work job until (record { history = M; coming = coming; owing = None }))
     none_left [] e early = let f : leb until (world_after work M).now ≡ false = grind (arith, nat_tests) in rw f refl
     none_left (r ∷ rs) e early = cc
 
+    -- if none has come, it is the one up to the first of them, or to `until`
     pub none_come : (coming : List Release) (r : Release) → slice_get coming 0 ≡ Some r → (world_after work M).now < until → (world_after work M).now < r.tick
         → next_of work job until (record { history = M; coming = coming; owing = None }) ≡ Some
         (move_to work job (min r.tick until) (record { history = M; coming = coming; owing = None }))
@@ -102,7 +103,7 @@ module _ {W : Type 0} (work : Meaning W) (job : Release → W) where
         let g : leb r.tick (world_after work M).now ≡ false = grind (arith, nat_tests) in
         rw (f, same, g) refl
 
-    -- where one has come, it is submitted
+    -- if one has come, it is submitted
     pub one_come : (coming : List Release) (r : Release) → slice_get coming 0 ≡ Some r → (world_after work M).now < until → r.tick ≤ (world_after work M).now
         → next_of work job until (record { history = M; coming = coming; owing = None }) ≡ Some (submit r)
     one_come [] r e early come = cc

@@ -13,7 +13,7 @@ use Rattle.cbs_simulate.specs.Simulating.{MakesNext, MakesSome, Stops, Ended, Si
 use Rattle.cbs_simulate.specs.declared.charge.Charge.{Charge}
 use Rattle.cbs_simulate.specs.declared.release.Release.{Release}
 use Rattle.cbs_simulate.proofs.MoveSteps.{IsGoing}
-use Rattle.cbs_simulate.proofs.Simulations.{goes, well_next, all_submits, all_end, are_moves}
+use Rattle.cbs_simulate.proofs.Simulations.{goes, well_next, all_submits, all_end, moves_are, are_moves}
 
 module _ {W : Type 0} (work : Meaning W) (job : Release → W) where
   -- some moves after others
@@ -99,12 +99,14 @@ module _ {W : Type 0} (work : Meaning W) (job : Release → W) where
               let laws = goes work job until ends first.clock (sim_from M) h.moves (going_first M agrees) h.each in
               let going : IsGoing work job until ends laws.last (record { history = (last_of M agrees).history; coming = now; owing = o }) =
               rw (at_last M agrees) laws.going in
-              let well = well_next work job until ends laws.last (record { history = (last_of M agrees).history; coming = now; owing = o }) k.move going k.next in
+              let well = well_next work job until ends laws.last (record { history = (last_of M agrees).history; coming = now; owing = o })
+              k.move going k.next in
               let fewer = well.fewer in
               let a = h.state.world.clock in
               let b = k.makes.state.world.clock in
               let c = k.rest in
               rw (a, b, c) fewer
+              -- so it does whatever the history was
 
           pub smaller : HasHistory work first → (until - new.clock) + length then < (until - mid.clock) + length now
           smaller has = elim (cases_lt ((until - new.clock) + length then) ((until - mid.clock) + length now)) [
@@ -133,6 +135,8 @@ module _ {W : Type 0} (work : Meaning W) (job : Release → W) where
             let laws = goes work job until ends first.clock (sim_from M) h.moves going h.each in
             record {
               state = rw (k.core, sym same) h.state;
+              all = moves_are work job until ends first.clock (sim_from M) going;
+              only = λ ns every. are_moves work job until ends first.clock (sim_from M) ns going every;
               seen = λ seen was. rw (k.watcher, sym same) (h.seen seen was);
               submits = rw (sym same) (all_submits work job until ends first.clock (sim_from M) h.moves going all);
               on_tick = rw (sym same, sym agrees.world.clock) laws.on_tick;

@@ -15,15 +15,15 @@ put_first r [] order = refl
 put_first r (q ∷ qs) order = let t : leb r.tick q.tick ≡ true = let h = order.0 in grind (arith, nat_tests) in rw t refl
 
 -- one that is earlier than all of a source stays first
-put_behind : (q : Release) (rs qs : List Release) → IsInOrder (q.tick + 1) rs → put_all rs (q ∷ qs) ≡ q ∷ put_all rs qs
-put_behind q [] qs order = refl
-put_behind q (r ∷ rs) qs order =
+put_later : (q : Release) (rs qs : List Release) → IsInOrder (q.tick + 1) rs → put_all rs (q ∷ qs) ≡ q ∷ put_all rs qs
+put_later q [] qs order = refl
+put_later q (r ∷ rs) qs order =
     let later : q.tick < r.tick = let h = order.0 in omega arith in
     let f : leb r.tick q.tick ≡ false = grind (arith, nat_tests) in
-    let e = put_behind q rs qs (order_from (q.tick + 1) r.tick rs (omega arith) order.1) in
+    let e = put_later q rs qs (order_from (q.tick + 1) r.tick rs (omega arith) order.1) in
     rw e (rw f refl)
 
--- the first of a source, where no other is earlier
+-- the first of a source, if no other is earlier
 pub first_here : (r : Release) (rs : List Release) (rss : List (List Release)) → IsInOrder 0 (r ∷ rs) → IsInOrder r.tick (merged rss)
     → IsFirst ((r ∷ rs) ∷ rss) 0 r
 first_here r rs rss order others = record {
@@ -32,13 +32,13 @@ first_here r rs rss order others = record {
   first = put_first r (put_all rs (merged rss)) (order_put_all r.tick rs (merged rss) order.1 others);
 }
 
--- the first of the others, where it is earlier than all of the source
+-- the first of the others, if it is earlier than all of the source
 pub first_there : (rs : List Release) (rss : List (List Release)) (i : ℕ) (q : Release) → IsFirst rss i q → IsInOrder (q.tick + 1) rs
     → IsFirst (rs ∷ rss) (suc i) q
 first_there rs rss i q h order = record {
   within = let lt = h.within in omega arith;
   head = h.head;
-  first = ap (put_all rs) h.first ∙ put_behind q rs (merged (changed_at (drop 1) rss i)) order;
+  first = ap (put_all rs) h.first ∙ put_later q rs (merged (changed_at (drop 1) rss i)) order;
 }
 
 module _ {S : Type 0} (coming : S → List Release) where

@@ -109,6 +109,7 @@ module _ {W : Type 0} (work : Meaning W) (job : Release → W) (until : ℕ) (en
       owed : (c : Charge) → owing_after work job (sim_of rs None) m ≡ Some c
           → MayBeCharged (world_after work (after_move work job (sim_of rs None) m).history) c
 
+    -- so does a run if somebody is ready, and else an advance
     goes_on : (rs : List Release) (stop : ℕ) → w.now < stop → stop ≤ until → (o : Option ℕ) → MatchOption o (¬ IsAtRest work w) (IsIdleSpan work w)
         → GoesOn rs stop (move_on w.now stop o)
     goes_on rs stop early le None busy =
@@ -141,7 +142,7 @@ module _ {W : Type 0} (work : Meaning W) (job : Release → W) (until : ℕ) (en
           owed = λ c e. cc;
         }
 
-    -- so it is made well where no release has come by `stop`
+    -- so it is made well if no release has come by `stop`
     well_on : (since : ℕ) (rs : List Release) (stop : ℕ) (m : Move) → stop ≤ until → ((now : ℕ) → now ≤ stop → IsInOrder now rs) → GoesOn rs stop m
         → MovesWell since (sim_of rs None) m
     well_on since rs stop m le order h =

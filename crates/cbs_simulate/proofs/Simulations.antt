@@ -82,6 +82,7 @@ module _ {W : Type 0} (work : Meaning W) (job : Release → W) (until : ℕ) (en
     pub going : IsGoing work job until ends last (after_moves work job sim ms)
     pub submits : before until sim.coming ≡ submitted ms ++ before until (after_moves work job sim ms).coming
 
+  -- such moves keep all that
   pub goes : (since : ℕ) (sim : Simulation W) (ms : List Move) → IsGoing work job until ends since sim → AreNext work job until sim ms → Goes since sim ms
   goes since sim [] going each = record { quiet = tt; on_tick = tt; charges = tt; last = since; going = going; submits = refl }
   goes since sim (m ∷ ms) going each =

@@ -16,7 +16,7 @@ pub pending_is : (k : ℕ) (c : Cursor) (g : Lcg) → DrawsNext c g → pending_
 pending_is zero c g h = refl
 pending_is (suc k) c g h = rw (h.units, h.overrun, h.draws) refl
 
--- after the first of those that it releases yet, what follows is drawn by the generator behind the ticks to the next
+-- after the first of those that it releases yet, what follows is drawn by the generator that the draw of the ticks left
 rest_is : (k : ℕ) (c : Cursor) → 0 < length (pending_from k c)
     → (let e = drawn c.terms.every c.draws in released c.place c.terms c.until (k - 1) (c.tick + e.0) e.1) ≡ drop 1 (pending_from k c)
 rest_is zero c some = absurd (omega arith)

@@ -63,7 +63,7 @@ in_rest : (x y : ℕ × ℕ) (ts : List (ℕ × ℕ)) → x.1 ≢ y.1 → Contai
 in_rest x y ts ne (zero, lt, e) = absurd (ne (ap (λ t. t.1) e))
 in_rest x y ts ne (suc k, lt, e) = (k, omega arith, e)
 
--- what is among a list is so behind one more
+-- what is among a list is so with one more in front
 in_more : (x y : ℕ × ℕ) (ts : List (ℕ × ℕ)) → Contains ts y → Contains (x ∷ ts) y
 in_more x y ts (k, lt, e) = (suc k, omega arith, e)
 
@@ -141,6 +141,7 @@ from_first : (t : ℕ) (rs : List Release) → IsInOrder 0 rs → ((r : Release)
 from_first t [] order later = tt
 from_first t (r ∷ rs) order later = (later r refl, order.1)
 
+-- so do all
 all_from : (t : ℕ) (rss : List (List Release)) → AllByRecursion (IsInOrder 0) rss
     → ((i : ℕ) (r : Release) → slice_get (get_or rss i []) 0 ≡ Some r → t ≤ r.tick)
     → AllByRecursion (IsInOrder t) rss

@@ -89,28 +89,28 @@ module _ {W : Type 0} (work : Meaning W) (job : Release → W) where
     pub owing : sim.owing ≡ None
 
   module _ (output : (r : Release) → work.output (job r) ≡ r.overrun) where
-    -- a move keeps that, where a release that it submits is the first of those before `until`
-    plain_move : (sim : Simulation W) (m : Move) (until : ℕ) → ((r : Release) → m ≡ submit r → r.overrun ≡ 0) → IsPlain sim
+    -- a move keeps that, if a release that it submits has no overrun
+    plain_move : (sim : Simulation W) (m : Move) → ((r : Release) → m ≡ submit r → r.overrun ≡ 0) → IsPlain sim
         → IsPlain (after_move work job sim m)
-    plain_move sim (submit r) until none h = record {
+    plain_move sim (submit r) none h = record {
       coming = rest_plain sim.coming h.coming;
       none = λ s q. let w = world_after work sim.history in
           plain_submit work w r.server s (job r) (submit_refusal sim.history.setup.backlog (faces work w) r.server) (output r ∙ none r refl) h.none q;
       owing = h.owing;
     }
-    plain_move sim run until none h = record {
+    plain_move sim run none h = record {
       coming = h.coming;
       none = λ s q. holds_run_step work (λ now. NoOverrun work) (λ now a ready k. k) (λ now a k. k) (λ now a k. k) (λ now a k. k) sim.history.setup.backlog
           (world_after work sim.history) s (h.none s) q;
       owing = none_owing work (world_after work sim.history) (ran_in (reply_in work sim.history step.Run)) h.none;
     }
-    plain_move sim (pass n) until none h = record {
+    plain_move sim (pass n) none h = record {
       coming = h.coming;
       none = λ s q. holds_advance_step work (λ now. NoOverrun work) (λ now a ready k. k) (λ now a k. k) (λ now a k. k)
           (λ now a k. k) sim.history.setup.backlog (world_after work sim.history) n s (h.none s) q;
       owing = refl;
     }
-    plain_move sim (charge t n) until none h = record {
+    plain_move sim (charge t n) none h = record {
       coming = h.coming;
       none = λ s q. holds_charge_step work (λ now. NoOverrun work) (λ now a ready k. k) (λ now a k. k) (λ now a k. k) (λ now a k. k) (λ now n a some runs k. k)
           sim.history.setup.backlog (world_after work sim.history) t n s (h.none s) q;
@@ -128,7 +128,7 @@ module _ {W : Type 0} (work : Meaning W) (job : Release → W) where
           let charges = well.charges.charge in (
             rw plain.owing at charges,
             uncharged (since_after work job since sim m) (after_move work job sim m) ms well.going
-                (plain_move sim m until first plain) each.1,
+                (plain_move sim m first plain) each.1,
           )
 
   -- a move that advances quietly and charges nothing takes nobody's time

@@ -11,7 +11,7 @@ use Rattle.cbs_steps.specs.Quiet.{AreQuiet, AdvanceQuietly}
 use Rattle.cbs_steps.specs.declared.reply.Ran.{Ran}
 use Rattle.cbs_steps.specs.declared.reply.Ran.TheVariants as ran
 use Rattle.cbs_simulate.specs.Moves.{Move, move_on, idle_span, owing_of, step_of, Simulation, clock_of, next_of, owing_after, after_move}
-use Rattle.cbs_simulate.specs.Moves.{after_moves, AreNext, moves_of, submitted}
+use Rattle.cbs_simulate.specs.Moves.{after_moves, AreNext, AreMoves, moves_of, submitted}
 use Rattle.cbs_simulate.specs.MoveLaws.{AllMoves, MovesQuietly, ChargesOwed, EachOnTick, IsOnTick}
 use Rattle.cbs_simulate.specs.Releases.{before}
 use Rattle.cbs_simulate.specs.Shown.{Sight, event_of, sight_of, shown}
@@ -79,11 +79,13 @@ module _ {W : Type 0} (work : Meaning W) (job : Release → W) where
     pub owed : owing ≡ sim.owing
     pub watcher : v ≡ w
 
-  -- A core simulated a load: its steps are the moves of the definition, and the watcher saw what they show. Each release before
-  -- `until` was submitted once, in order, at its tick or as soon as a charge that passed that had ended; each unit was charged
-  -- its overrun; every advance was quiet; and the clock stands at `until`.
+  -- A core simulated a load: its steps are the moves of the definition, which are all that there are and the only ones, and the
+  -- watcher saw what they show. Each release before `until` was submitted once, in order, at its tick or as soon as a charge that
+  -- passed that had ended; each unit was charged its overrun; every advance was quiet; and the clock stands at `until`.
   pub record Simulates {S : Type 0} (until : ℕ) (saw : S → List Sight → Type 0) (sim : Simulation W) (new : CoreHeld W) (w v : S) : Type 0 where
     pub state : Agrees work new (after_moves work job sim (moves_of work job until sim)).history
+    pub all : AreMoves work job until sim (moves_of work job until sim)
+    pub only : (ms : List Move) → AreMoves work job until sim ms → ms ≡ moves_of work job until sim
     pub seen : (seen : List Sight) → saw w seen → saw v (shown work job sim (moves_of work job until sim) seen)
     pub submits : submitted (moves_of work job until sim) ≡ before until sim.coming
     pub on_tick : EachOnTick work job (clock_of work job sim) sim (moves_of work job until sim)

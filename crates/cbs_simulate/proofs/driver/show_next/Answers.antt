@@ -4,4 +4,5 @@ use Rattle.cbs_simulate.proofs.driver.show_next.Goals as goal
 
 pub returns-in_err-show-clause-stopped : goal.returns-in_err-show-clause-stopped
 returns-in_err-show-clause-stopped g c =
-    on_err c.from_residual.result (λ sim agrees until next. stops_after loading job_of until sim _ c.go_on-event.new.core next (c.go_on-event.ensures sim agrees).state)
+    on_err c.from_residual.result (λ sim agrees until next.
+    stops_after loading job_of until sim _ c.go_on-event.new.core next (c.go_on-event.ensures sim agrees).state)

@@ -17,4 +17,5 @@ returns-clause-simulates g c = all_made loading job_of c.args.until g.S.Watcher.
 
 pub returns-in_err-make_next-clause-stopped : goal.returns-in_err-make_next-clause-stopped
 returns-in_err-make_next-clause-stopped g c = on_err c.from_residual.result
-    (stopped loading job_of c.args.until g.S.Watcher.saw c.requires.end _ _ _ _ _ _ _ _ c.requires.early c.requires.order c.loop.invariant c.in_err-make_next.ensures.stopped)
+    (stopped loading job_of c.args.until g.S.Watcher.saw c.requires.end _ _ _ _ _ _ _ _ c.requires.early c.requires.order c.loop.invariant
+    c.in_err-make_next.ensures.stopped)
