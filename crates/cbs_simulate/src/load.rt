@@ -24,8 +24,8 @@ pub fn load_of<A: Allocator + Clone>(
     ensures { IfOk result (λ load. map pending load ≡ released_by_all 0 terms.now until seed) }
 {
     let mut sources = Vec::with_capacity(alloc.clone()?, terms.len())?;
-    for place in 0..terms.len() {
-        sources.push(Source::new(place as u16, &terms[place], until, seed))?;
+    for (place, source) in terms.iter().enumerate() {
+        sources.push(Source::new(place as u16, source, until, seed))?;
     }
     Merged::new(alloc, sources)
 }

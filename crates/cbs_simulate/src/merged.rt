@@ -63,8 +63,8 @@ impl<S: Releases + Drop, A: Allocator> Merged<S, A> {
         ensures { IfOk result (λ merged. merged ≡ sources.items) }
     {
         let mut turns = BinaryHeap::with_capacity(alloc, sources.len())?;
-        for place in 0..sources.len() {
-            add_turn(&mut turns, place, sources[place].first())?;
+        for (place, source) in sources.iter().enumerate() {
+            add_turn(&mut turns, place, source.first())?;
         }
         Ok(Merged { sources, turns })
     }
