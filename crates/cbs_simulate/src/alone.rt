@@ -36,8 +36,7 @@ pub fn simulate_plan<A: Allocator + Clone, R: Releases, S: Watcher>(
     ensures simulates { IfOk result (λ core. SimulatesAlone loading job_of until S.saw
         (record {
           history = record { setup = record { servers = terms_of modes.now plan.now.rates; backlog = backlog }; steps = [] };
-          coming =
-              R.coming releases.old;
+          coming = R.coming releases.old;
           owing = None;
         })
         core watcher.old watcher.new) }
