@@ -24,11 +24,13 @@ module _ {W : Type 0} (work : Meaning W) (job : Release → W) where
   same_setup sim (m ∷ ms) = same_setup (after_move work job sim m) ms
 
   -- from a new core on
-  pub alone : (output : (r : Release) → work.output (job r) ≡ r.overrun) (until : ℕ) → until ≤ clock_end → {S : Type 0} (saw : S → List Sight → Type 0) (ts : List Terms) (backlog : ℕ) (coming : List Release)
+  pub alone : (output : (r : Release) → work.output (job r) ≡ r.overrun) (until : ℕ) → until ≤ clock_end
+      → {S : Type 0} (saw : S → List Sight → Type 0) (ts : List Terms) (backlog : ℕ) (coming : List Release)
       (new : CoreHeld W) (w v : S) → IsInOrder 0 coming
       → (let setup : Setup = record { servers = ts; backlog = backlog } in
       let sim : Simulation W = record { history = record { setup = setup; steps = [] }; coming = coming; owing = None } in
-      ((steps : List (Step W)) → IsPunctual work (record { setup = setup; steps = steps })) → Simulates work job until saw sim new w v → SimulatesAlone work job until saw sim new w v)
+      ((steps : List (Step W)) → IsPunctual work (record { setup = setup; steps = steps })) → Simulates work job until saw sim new w v
+      → SimulatesAlone work job until saw sim new w v)
   alone output until ends saw ts backlog coming new w v order punctual h =
       let setup : Setup = record { servers = ts; backlog = backlog } in
       let sim : Simulation W = record { history = record { setup = setup; steps = [] }; coming = coming; owing = None } in
@@ -38,7 +40,8 @@ module _ {W : Type 0} (work : Meaning W) (job : Release → W) where
       let is : record { setup = setup; steps = N.steps } ≡ N = ap (λ (g : Setup). record { setup = g; steps = N.steps }) e in
       let going : IsGoing work job until ends 0 sim = record { early = omega arith; waited = omega arith; order = order; owed = λ lt c e. cc } in
       let none : AllByRecursion (λ r. r.overrun ≡ 0) coming → AllMoves work job (λ sim m. charged_by m ≡ None) sim ms =
-      λ plain. uncharged work job output until ends 0 sim ms going (plain_new work job ts backlog coming plain) (moves_are work job until ends 0 sim going).each in
+      λ plain. uncharged work job output until ends 0 sim ms going (plain_new work job ts backlog coming plain)
+      (moves_are work job until ends 0 sim going).each in
       record {
         simulates = h;
         punctual = rw is at (punctual N.steps);

@@ -1,29 +1,23 @@
 -- What each step makes of the clock.
-use Rattle.std.proofs.Common.{◌≡◌, ℕ, zero, suc, ◌+◌, ◌≤◌, ◌<◌, true, leb, arith, refl, Option, Some, None}
+use Rattle.std.proofs.Common.{◌≡◌, ℕ, zero, suc, ◌+◌, ◌≤◌, ◌<◌, true, leb, arith, refl, ap, Option, Some, None}
 use Rattle.std.proofs.lemmas.Bool.Decides.{nat_tests}
 use Rattle.cbs_job.specs.Work.{Meaning}
 use Rattle.cbs_rules.specs.Rules.{clock_end}
 use Rattle.cbs_steps.specs.Faces.{submit_refusal}
-use Rattle.cbs_steps.specs.History.{World, faces, tick, ticks, let_go, runner, after_submit, after_run, after_advance, charge_refusal, next}
+use Rattle.cbs_steps.specs.History.{World, faces, runner, after_submit, after_run, after_advance, charge_refusal, next}
 use Rattle.cbs_steps.specs.Quiet.{IsAtRest, IsIdleSpan}
 use Rattle.cbs_steps.specs.declared.error.CoreError.{CoreError}
 use Rattle.cbs_steps.specs.declared.step.Step.TheVariants.{Submit, Run, Advance, Charge}
 use Rattle.cbs_steps.proofs.Laws.{run_later, advance_later}
-use Rattle.cbs_steps.proofs.Running.{charge_jumps}
+use Rattle.cbs_steps.proofs.Running.{advance_jumps, charge_jumps}
 
 module _ {W : Type 0} (work : Meaning W) where
-  -- n ticks move the clock on by n
-  ticks-now : (n : ℕ) (w : World W) → (ticks n w).now ≡ w.now + n
-  unfolding ticks
-  ticks-now zero w = omega arith
-  ticks-now (suc n) w = let h = ticks-now n (tick w) in omega (arith, h)
-
-  -- so does an advance
+  -- an advance by n ticks moves the clock on by n
   advanced-now : (w : World W) (n : ℕ) → (after_advance w n).now ≡ w.now + n
   advanced-now w zero = omega arith
-  advanced-now w (suc n) = ticks-now (suc n) (let_go w)
+  advanced-now w (suc n) = ap (λ (v : World W). v.now) (advance_jumps w (suc n) (omega arith))
 
-  -- an advance that is not refused moves it on by its ticks
+  -- so does the step, if it is not refused
   pub advance-now : (backlog : ℕ) (w : World W) (n : ℕ) → w.now + n ≤ clock_end → (next work backlog w (Advance n)).now ≡ w.now + n
   advance-now backlog w n within =
       let t : leb (w.now + n) clock_end ≡ true = grind (arith, nat_tests) in
@@ -38,6 +32,7 @@ module _ {W : Type 0} (work : Meaning W) where
   stands w s job None = refl
   stands w s job (Some e) = refl
 
+  -- so does the step
   pub submit-now : (backlog : ℕ) (w : World W) (s : ℕ) (job : W) → (next work backlog w (Submit s job)).now ≡ w.now
   submit-now backlog w s job = stands w s job (submit_refusal backlog (faces work w) s)
 

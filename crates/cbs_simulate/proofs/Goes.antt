@@ -1,6 +1,6 @@
 -- The next move, as a core makes it.
 use Rattle.std.proofs.Common.{◌≡◌, ℕ, ◌-◌, ◌≤◌, ◌<◌, true, false, leb, ltb, List, [], ◌∷◌, arith, refl, ◌∙◌, ap, Option, Some, None}
-use Rattle.std.specs.Prelude.{min, slice_get, Ok}
+use Rattle.std.specs.Prelude.{min, slice_get, Result, Ok, Err, OnErr}
 use Rattle.std.proofs.lemmas.Bool.Decides.{nat_tests}
 use Rattle.cbs_job.specs.Work.{Meaning, whole}
 use Rattle.cbs_core.specs.Agreement.{Agrees, TellsOf}
@@ -11,20 +11,25 @@ use Rattle.cbs_steps.specs.Promises.{promised}
 use Rattle.cbs_steps.specs.declared.reply.Ran.{Ran}
 use Rattle.cbs_steps.specs.declared.reply.Reply.TheVariants as reply
 use Rattle.cbs_steps.specs.declared.step.Step.TheVariants as step
-use Rattle.cbs_simulate.specs.Moves.{Move, submit, run, charge, idle_span, move_on, ran_in, owing_for, Simulation, next_of, coming_after}
+use Rattle.cbs_simulate.specs.Moves.{Move, submit, run, charge, idle_span, move_on, ran_in, owing_for, Simulation, next_of, coming_after, after_move}
 use Rattle.cbs_simulate.specs.Shown.{Sight, sight_of}
-use Rattle.cbs_simulate.specs.Simulating.{Moves, MakesMove, MakesNext, move_to, owing_told}
+use Rattle.cbs_simulate.specs.Simulating.{DoesMove, Stops, MakesMove, MakesNext, move_to, owing_told}
 use Rattle.cbs_simulate.specs.declared.charge.Charge.{Charge}
 use Rattle.cbs_simulate.specs.declared.event.Event.{Event}
 use Rattle.cbs_simulate.specs.declared.event.Event.TheVariants as event
 use Rattle.cbs_simulate.specs.declared.release.Release.{Release}
 use Rattle.cbs_simulate.proofs.Owing.{told_is}
 
+-- what holds anyway holds at an error
+pub on_err : {T E P : Type 0} (r : Result T E) → P → OnErr r P
+on_err (Ok x) p = tt
+on_err (Err e) p = p
+
 module _ {W : Type 0} (work : Meaning W) (job : Release → W) where
   -- a run, as it was answered
   pub runs : (constant : (j : W) → whole work j ≡ work.output j) (sim : Simulation W) (old new : CoreHeld W) (r : Ran) (o : Option Charge)
       → Agrees work old sim.history → reply.Ran r ≡ reply_in work sim.history step.Run → Agrees work new (sim.history ⊕ step.Run) → DoesRun work r old new
-      → o ≡ owing_told work new r → Moves work job sim run new (event.Ran r) o
+      → o ≡ owing_told work new r → DoesMove work job sim run new (event.Ran r) o
   runs constant sim old new r o agrees told state does is =
       let same : r ≡ ran_in (reply_in work sim.history step.Run) = ap ran_in told in
       record {
@@ -36,35 +41,61 @@ module _ {W : Type 0} (work : Meaning W) (job : Release → W) where
   -- a submit that was accepted
   pub accepts : (sim : Simulation W) (r : Release) (task : W) (old new : CoreHeld W) (q : ℕ) (p : Option ℕ) → Agrees work old sim.history → task ≡ job r
       → Makes work old new (step.Submit r.server task) (reply.Accepted q) → TellsOf work new (λ w. p ≡ promised work (account w.accounts r.server))
-      → Moves work job sim (submit r) new (event.Submitted r (Ok q) p) sim.owing
+      → DoesMove work job sim (submit r) new (event.Submitted r (Ok q) p) sim.owing
   accepts sim r task old new q p agrees is makes told =
       let state : Agrees work new (sim.history ⊕ step.Submit r.server (job r)) = rw is at (makes.state sim.history agrees) in
       let answer : reply.Accepted q ≡ reply_in work sim.history (step.Submit r.server (job r)) = rw is at (makes.reply sim.history agrees) in
       record { event = rw (← answer) (ap (event.Submitted r (Ok q)) (told _ state)); state = state; owed = refl }
 
   -- a move that a core made, and that a watcher saw
-  pub sees : {S : Type 0} (saw : S → List Sight → Type 0) (sim : Simulation W) (m : Move) (new : CoreHeld W) (e : Event) (o : Option Charge) (w v : S) → Moves work job sim m new e o
-      → ((seen : List Sight) → saw w seen → saw v (record { moment = record { clock = new.clock; event = e }; faces = new.faces } ∷ seen)) → MakesMove work job saw sim m new o w v
+  pub sees : {S : Type 0} (saw : S → List Sight → Type 0) (sim : Simulation W) (m : Move) (new : CoreHeld W) (e : Event) (o : Option Charge) (w v : S)
+      → DoesMove work job sim m new e o
+      → ((seen : List Sight) → saw w seen → saw v (record { moment = record { clock = new.clock; event = e }; faces = new.faces } ∷ seen))
+      → MakesMove work job saw sim m new o w v
   sees saw sim m new e o w v moves sight =
       let at = moves.state.world.clock in
       let shown = moves.state.world.shown in
       let is : record { moment = record { clock = new.clock; event = e }; faces = new.faces } ≡ sight_of work job sim m = rw (at, shown, moves.event) refl in
       record { state = moves.state; owed = moves.owed; seen = λ seen was. rw is at (sight seen was) }
 
-  -- a move where no release has come leaves the releases to come
+  -- a core that did nothing stopped before any move, and one that made the next move stopped after it
+  pub stops_first : (until : ℕ) (sim : Simulation W) (new : CoreHeld W) → Agrees work new sim.history → Stops work job until sim new
+  stops_first until sim new state = record { moves = []; each = tt; state = state }
+
+  pub stops_after : (until : ℕ) (sim : Simulation W) (m : Move) (new : CoreHeld W) → next_of work job until sim ≡ Some m
+      → Agrees work new (after_move work job sim m).history → Stops work job until sim new
+  stops_after until sim m new next state = record { moves = m ∷ []; each = (next, tt); state = state }
+
+  -- only its room for jobs differs from that of a core that agrees
+  pub same_but_room : (M : History W) (old new : CoreHeld W) (rooms : List ℕ) → new ≡ record old { rooms = rooms } → Agrees work old M → Agrees work new M
+  same_but_room M old new rooms same agrees = rw same (record {
+    world = record {
+      same_backlog = agrees.world.same_backlog;
+      clock = agrees.world.clock;
+      shown = agrees.world.shown;
+      jobs = agrees.world.jobs;
+      runs = agrees.world.runs;
+      latest = agrees.world.latest;
+    };
+  })
+
+  -- a move before the next release leaves the releases to come
   same_coming : (now stop : ℕ) (o : Option ℕ) (coming : List Release) → coming ≡ coming_after (move_on now stop o) coming
   same_coming now stop None coming = refl
   same_coming now stop (Some span) coming = refl
 
   module _ (until : ℕ) (M : History W) where
-    -- where no release has come, the next move is the one up to the first of them, or to `until`
+    -- if no release is left, the next move is the one up to `until`
     pub none_left : (coming : List Release) → slice_get coming 0 ≡ None → (world_after work M).now < until
-        → next_of work job until (record { history = M; coming = coming; owing = None }) ≡ Some (move_to work job until (record { history = M; coming = coming; owing = None }))
+        → next_of work job until (record { history = M; coming = coming; owing = None }) ≡ Some
+        (move_to work job until (record { history = M; coming = coming; owing = None }))
     none_left [] e early = let f : leb until (world_after work M).now ≡ false = grind (arith, nat_tests) in rw f refl
     none_left (r ∷ rs) e early = cc
 
+    -- if none has come, it is the one up to the first of them, or to `until`
     pub none_come : (coming : List Release) (r : Release) → slice_get coming 0 ≡ Some r → (world_after work M).now < until → (world_after work M).now < r.tick
-        → next_of work job until (record { history = M; coming = coming; owing = None }) ≡ Some (move_to work job (min r.tick until) (record { history = M; coming = coming; owing = None }))
+        → next_of work job until (record { history = M; coming = coming; owing = None }) ≡ Some
+        (move_to work job (min r.tick until) (record { history = M; coming = coming; owing = None }))
     none_come [] r e early later = cc
     none_come (q ∷ rs) r e early later =
         let f : leb until (world_after work M).now ≡ false = grind (arith, nat_tests) in
@@ -72,7 +103,7 @@ module _ {W : Type 0} (work : Meaning W) (job : Release → W) where
         let g : leb r.tick (world_after work M).now ≡ false = grind (arith, nat_tests) in
         rw (f, same, g) refl
 
-    -- where one has come, it is submitted
+    -- if one has come, it is submitted
     pub one_come : (coming : List Release) (r : Release) → slice_get coming 0 ≡ Some r → (world_after work M).now < until → r.tick ≤ (world_after work M).now
         → next_of work job until (record { history = M; coming = coming; owing = None }) ≡ Some (submit r)
     one_come [] r e early come = cc
@@ -105,7 +136,8 @@ module _ {W : Type 0} (work : Meaning W) (job : Release → W) where
         rw (t, same, s) refl
 
     -- and none if there is no such release
-    pub none_late : (coming : List Release) (o : Option Charge) → until ≤ (world_after work M).now → ((r : Release) → slice_get coming 0 ≡ Some r → until ≤ r.tick)
+    pub none_late : (coming : List Release) (o : Option Charge) → until ≤ (world_after work M).now
+        → ((r : Release) → slice_get coming 0 ≡ Some r → until ≤ r.tick)
         → next_of work job until (record { history = M; coming = coming; owing = o }) ≡ None
     none_late [] o late later = let t : leb until (world_after work M).now ≡ true = grind (arith, nat_tests) in rw t refl
     none_late (r ∷ rs) o late later =
@@ -115,7 +147,8 @@ module _ {W : Type 0} (work : Meaning W) (job : Release → W) where
         rw (t, f) refl
 
     -- what is owed is charged first
-    pub makes_charge : {S : Type 0} (saw : S → List Sight → Type 0) (coming : List Release) (c : Charge) (new : CoreHeld W) (w v : S) → (world_after work M).now < until
+    pub makes_charge : {S : Type 0} (saw : S → List Sight → Type 0) (coming : List Release) (c : Charge) (new : CoreHeld W) (w v : S)
+        → (world_after work M).now < until
         → (let sim : Simulation W = record { history = M; coming = coming; owing = Some c } in
         MakesMove work job saw sim (charge c.server (min c.ticks (until - (world_after work M).now))) new None w v
         → MakesNext work job until saw sim new coming None w v)

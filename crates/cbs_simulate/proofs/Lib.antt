@@ -4,9 +4,11 @@ pub mod Goes
 pub mod Loads
 pub mod Loop
 pub mod Merging
+pub mod MergedTurns
 pub mod MoveSteps
 pub mod Owing
 pub mod Simulations
 pub mod Sources
 pub mod Spans
+pub mod TurnLists
 pub mod Uncharged

@@ -9,5 +9,6 @@ same_after : (n : ℕ) (j : LoadJob) → output_after loading n j ≡ j.overrun
 same_after zero j = refl
 same_after (suc n) j = same_after n (record j { left = j.left - 1 })
 
+-- so it is what the job comes to as a whole
 pub constant : (j : LoadJob) → whole loading j ≡ loading.output j
 constant j = same_after j.left j

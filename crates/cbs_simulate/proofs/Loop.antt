@@ -9,52 +9,59 @@ use Rattle.cbs_steps.specs.History.{History}
 use Rattle.cbs_simulate.specs.Moves.{Move, Simulation, next_of, after_move, after_moves, AreNext, AreMoves}
 use Rattle.cbs_simulate.specs.Releases.{IsInOrder}
 use Rattle.cbs_simulate.specs.Shown.{Sight, sight_of, shown}
-use Rattle.cbs_simulate.specs.Simulating.{MakesNext, MakesSome, Ended, Simulates}
+use Rattle.cbs_simulate.specs.Simulating.{MakesNext, MakesSome, Stops, Ended, Simulates}
 use Rattle.cbs_simulate.specs.declared.charge.Charge.{Charge}
 use Rattle.cbs_simulate.specs.declared.release.Release.{Release}
 use Rattle.cbs_simulate.proofs.MoveSteps.{IsGoing}
-use Rattle.cbs_simulate.proofs.Simulations.{goes, well_next, all_submits, all_end, are_moves}
+use Rattle.cbs_simulate.proofs.Simulations.{goes, well_next, all_submits, all_end, moves_are, are_moves}
 
 module _ {W : Type 0} (work : Meaning W) (job : Release → W) where
-  -- one move after others
-  one_more : (sim : Simulation W) (ms : List Move) (m : Move) → after_moves work job sim (ms ++ m ∷ []) ≡ after_move work job (after_moves work job sim ms) m
-  one_more sim [] m = refl
-  one_more sim (n ∷ ms) m = one_more (after_move work job sim n) ms m
+  -- some moves after others
+  after_more : (sim : Simulation W) (ms ns : List Move) → after_moves work job sim (ms ++ ns) ≡ after_moves work job (after_moves work job sim ms) ns
+  after_more sim [] ns = refl
+  after_more sim (m ∷ ms) ns = after_more (after_move work job sim m) ms ns
 
-  -- it is the next one where it stands, too
-  next_more : (until : ℕ) (sim : Simulation W) (ms : List Move) (m : Move) → AreNext work job until sim ms → next_of work job until (after_moves work job sim ms) ≡ Some m → AreNext work job until sim (ms ++ m ∷ [])
-  next_more until sim [] m each e = (e, tt)
-  next_more until sim (n ∷ ms) m each e = (each.0, next_more until (after_move work job sim n) ms m each.1 e)
+  -- they are the next ones, too
+  next_more : (until : ℕ) (sim : Simulation W) (ms ns : List Move) → AreNext work job until sim ms → AreNext work job until (after_moves work job sim ms) ns
+      → AreNext work job until sim (ms ++ ns)
+  next_more until sim [] ns each more = more
+  next_more until sim (m ∷ ms) ns each more = (each.0, next_more until (after_move work job sim m) ms ns each.1 more)
 
   -- and is shown last
-  shown_more : (sim : Simulation W) (ms : List Move) (m : Move) (seen : List Sight) → shown work job sim (ms ++ m ∷ []) seen ≡ sight_of work job (after_moves work job sim ms) m ∷ shown work job sim ms seen
+  shown_more : (sim : Simulation W) (ms : List Move) (m : Move) (seen : List Sight)
+      → shown work job sim (ms ++ m ∷ []) seen ≡ sight_of work job (after_moves work job sim ms) m ∷ shown work job sim ms seen
   shown_more sim [] m seen = refl
   shown_more sim (n ∷ ms) m seen = shown_more (after_move work job sim n) ms m (sight_of work job sim n ∷ seen)
 
   module _ (until : ℕ) {S : Type 0} (saw : S → List Sight → Type 0) where
     -- no move yet
-    pub none_made : (sim : Simulation W) (core : CoreHeld W) (w : S) → Agrees work core sim.history → MakesSome work job until saw sim core sim.coming sim.owing w w
+    pub none_made : (sim : Simulation W) (core : CoreHeld W) (w : S) → Agrees work core sim.history
+        → MakesSome work job until saw sim core sim.coming sim.owing w w
     none_made sim core w agrees = record { moves = []; each = tt; state = agrees; seen = λ seen h. h; rest = refl; owed = refl }
 
     -- one move more
-    more_made : (sim last : Simulation W) (mid new : CoreHeld W) (now then : List Release) (o p : Option Charge) (w u v : S) (h : MakesSome work job until saw sim mid now o w u) → last ≡ after_moves work job sim h.moves
+    more_made : (sim last : Simulation W) (mid new : CoreHeld W) (now then : List Release) (o p : Option Charge) (w u v : S)
+        (h : MakesSome work job until saw sim mid now o w u) → last ≡ after_moves work job sim h.moves
         → MakesNext work job until saw last new then p u v → MakesSome work job until saw sim new then p w v
     more_made sim last mid new now then o p w u v h is k =
         let m = k.move in
-        let e = one_more sim h.moves m in
+        let e = after_more sim h.moves (m ∷ []) in
         let at : next_of work job until (after_moves work job sim h.moves) ≡ Some m = rw is at k.next in
         record {
           moves = h.moves ++ m ∷ [];
-          each = next_more until sim h.moves m h.each at;
+          each = next_more until sim h.moves (m ∷ []) h.each (at, tt);
           state = rw e (rw is at k.makes.state);
-          seen = λ seen was. rw (shown_more sim h.moves m seen) (subst (λ (x : Simulation W). saw v (sight_of work job x m ∷ shown work job sim h.moves seen)) is (k.makes.seen (shown work job sim h.moves seen) (h.seen seen was)));
+          seen = λ seen was. rw (shown_more sim h.moves m seen)
+              (subst (λ (x : Simulation W). saw v (sight_of work job x m ∷ shown work job sim h.moves seen)) is
+              (k.makes.seen (shown work job sim h.moves seen) (h.seen seen was)));
           rest = rw e (rw is at k.rest);
           owed = rw e (rw is at k.makes.owed);
         }
 
-    module _ (ends : until ≤ clock_end) (first mid new : CoreHeld W) (coming now then : List Release) (o p : Option Charge) (w u v : S)
+    module _ (ends : until ≤ clock_end) (first mid new : CoreHeld W) (coming now : List Release) (o : Option Charge) (w u : S)
         (early : first.clock ≤ until) (order : IsInOrder first.clock coming)
-        (made : (M : History W) → Agrees work first M → MakesSome work job until saw (record { history = M; coming = coming; owing = None }) mid now o w u) where
+        (made : (M : History W) → Agrees work first M
+        → MakesSome work job until saw (record { history = M; coming = coming; owing = None }) mid now o w u) where
       -- the simulation of a history, and what is left of it
       abbrev sim_from : History W → Simulation W
       sim_from M = record { history = M; coming = coming; owing = None }
@@ -69,50 +76,71 @@ module _ {W : Type 0} (work : Meaning W) (job : Release → W) where
       going_first : (M : History W) → Agrees work first M → IsGoing work job until ends first.clock (sim_from M)
       going_first M agrees = let e = agrees.world.clock in record { early = rw (← e) early; waited = omega arith; order = order; owed = λ lt c e. cc }
 
-      module _ (next : (M : History W) → Agrees work mid M → MakesNext work job until saw (record { history = M; coming = now; owing = o }) new then p u v) where
-        -- what is left grows less by a move
-        less : (M : History W) → Agrees work first M → (until - new.clock) + length then < (until - mid.clock) + length now
-        less M agrees =
-            let h = made M agrees in
-            let k = next (last_of M agrees).history h.state in
-            let laws = goes work job until ends first.clock (sim_from M) h.moves (going_first M agrees) h.each in
-            let going : IsGoing work job until ends laws.last (record { history = (last_of M agrees).history; coming = now; owing = o }) = rw (at_last M agrees) laws.going in
-            let well = well_next work job until ends laws.last (record { history = (last_of M agrees).history; coming = now; owing = o }) k.move going k.next in
-            let fewer = well.fewer in
-            let a = h.state.world.clock in
-            let b = k.makes.state.world.clock in
-            let c = k.rest in
-            rw (a, b, c) fewer
-
-        pub smaller : HasHistory work first → (until - new.clock) + length then < (until - mid.clock) + length now
-        smaller has = elim (cases_lt ((until - new.clock) + length then) ((until - mid.clock) + length now)) [
-          | inl lt ↦ lt
-          | inr ge ↦ absurd (has (λ M agrees. let lt = less M agrees in absurd (omega arith)))
-        ]
-
-        -- and the moves are made, with it
-        pub preserved : (M : History W) → Agrees work first M → MakesSome work job until saw (record { history = M; coming = coming; owing = None }) new then p w v
-        preserved M agrees =
-            let h = made M agrees in
-            more_made (sim_from M) (record { history = (last_of M agrees).history; coming = now; owing = o }) mid new now then o p w u v h (at_last M agrees) (next (last_of M agrees).history h.state)
-
-      -- where there is none, all are made
-      pub all_made : ((M : History W) → Agrees work mid M → Ended work job until (record { history = M; coming = now; owing = o }) mid new then p u v)
-          → (M : History W) → Agrees work first M → Simulates work job until saw (record { history = M; coming = coming; owing = None }) new w v
-      all_made ended M agrees =
+      -- if the core stopped, it stopped after these, and some more
+      pub stopped : ((M : History W) → Agrees work mid M → Stops work job until (record { history = M; coming = now; owing = o }) new)
+          → (M : History W) → Agrees work first M → Stops work job until (record { history = M; coming = coming; owing = None }) new
+      stopped stops M agrees =
           let h = made M agrees in
-          let k = ended (last_of M agrees).history h.state in
-          let none : next_of work job until (last_of M agrees) ≡ None = rw (sym (at_last M agrees)) k.none in
-          let all : AreMoves work job until (sim_from M) h.moves = record { each = h.each; ended = none } in
-          let going = going_first M agrees in
-          let same = are_moves work job until ends first.clock (sim_from M) h.moves going all in
-          let laws = goes work job until ends first.clock (sim_from M) h.moves going h.each in
+          let k : Stops work job until (last_of M agrees) new = rw (at_last M agrees) at (stops (last_of M agrees).history h.state) in
           record {
-            state = rw (k.core, sym same) h.state;
-            seen = λ seen was. rw (k.watcher, sym same) (h.seen seen was);
-            submits = rw (sym same) (all_submits work job until ends first.clock (sim_from M) h.moves going all);
-            on_tick = rw (sym same, sym agrees.world.clock) laws.on_tick;
-            charges = rw (sym same) laws.charges;
-            quiet = rw (sym same) laws.quiet;
-            clock = ap (λ c. c.clock) k.core ∙ h.state.world.clock ∙ all_end work job until ends first.clock (sim_from M) h.moves going all;
+            moves = h.moves ++ k.moves;
+            each = next_more until (sim_from M) h.moves k.moves h.each k.each;
+            state = rw (after_more (sim_from M) h.moves k.moves) k.state;
           }
+
+      module _ (then : List Release) (p : Option Charge) (v : S) where
+        module _ (next : (M : History W) → Agrees work mid M
+            → MakesNext work job until saw (record { history = M; coming = now; owing = o }) new then p u v) where
+          -- what is left grows less by a move
+          less : (M : History W) → Agrees work first M → (until - new.clock) + length then < (until - mid.clock) + length now
+          less M agrees =
+              let h = made M agrees in
+              let k = next (last_of M agrees).history h.state in
+              let laws = goes work job until ends first.clock (sim_from M) h.moves (going_first M agrees) h.each in
+              let going : IsGoing work job until ends laws.last (record { history = (last_of M agrees).history; coming = now; owing = o }) =
+              rw (at_last M agrees) laws.going in
+              let well = well_next work job until ends laws.last (record { history = (last_of M agrees).history; coming = now; owing = o })
+              k.move going k.next in
+              let fewer = well.fewer in
+              let a = h.state.world.clock in
+              let b = k.makes.state.world.clock in
+              let c = k.rest in
+              rw (a, b, c) fewer
+              -- so it does whatever the history was
+
+          pub smaller : HasHistory work first → (until - new.clock) + length then < (until - mid.clock) + length now
+          smaller has = elim (cases_lt ((until - new.clock) + length then) ((until - mid.clock) + length now)) [
+            | inl lt ↦ lt
+            | inr ge ↦ absurd (has (λ M agrees. let lt = less M agrees in absurd (omega arith)))
+          ]
+
+          -- and the moves are made, with it
+          pub preserved : (M : History W) → Agrees work first M
+              → MakesSome work job until saw (record { history = M; coming = coming; owing = None }) new then p w v
+          preserved M agrees =
+              let h = made M agrees in
+              more_made (sim_from M) (record { history = (last_of M agrees).history; coming = now; owing = o }) mid new now then o p w u v h (at_last M agrees)
+              (next (last_of M agrees).history h.state)
+
+        -- if there is none, all are made
+        pub all_made : ((M : History W) → Agrees work mid M → Ended work job until (record { history = M; coming = now; owing = o }) mid new then p u v)
+            → (M : History W) → Agrees work first M → Simulates work job until saw (record { history = M; coming = coming; owing = None }) new w v
+        all_made ended M agrees =
+            let h = made M agrees in
+            let k = ended (last_of M agrees).history h.state in
+            let none : next_of work job until (last_of M agrees) ≡ None = rw (sym (at_last M agrees)) k.none in
+            let all : AreMoves work job until (sim_from M) h.moves = record { each = h.each; ended = none } in
+            let going = going_first M agrees in
+            let same = are_moves work job until ends first.clock (sim_from M) h.moves going all in
+            let laws = goes work job until ends first.clock (sim_from M) h.moves going h.each in
+            record {
+              state = rw (k.core, sym same) h.state;
+              all = moves_are work job until ends first.clock (sim_from M) going;
+              only = λ ns every. are_moves work job until ends first.clock (sim_from M) ns going every;
+              seen = λ seen was. rw (k.watcher, sym same) (h.seen seen was);
+              submits = rw (sym same) (all_submits work job until ends first.clock (sim_from M) h.moves going all);
+              on_tick = rw (sym same, sym agrees.world.clock) laws.on_tick;
+              charges = rw (sym same) laws.charges;
+              quiet = rw (sym same) laws.quiet;
+              clock = ap (λ c. c.clock) k.core ∙ h.state.world.clock ∙ all_end work job until ends first.clock (sim_from M) h.moves going all;
+            }

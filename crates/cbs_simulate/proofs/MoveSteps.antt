@@ -8,7 +8,8 @@ use Rattle.cbs_rules.specs.Rules.{clock_end}
 use Rattle.cbs_steps.specs.History.{World, History, faces, charge_refusal, world_after}
 use Rattle.cbs_steps.specs.Quiet.{IsAtRest, IsIdleSpan}
 use Rattle.cbs_steps.proofs.Running.{not_refused}
-use Rattle.cbs_simulate.specs.Moves.{Move, submit, charge, move_on, idle_span, next_free, coming_after, submitted_by, charged_by, Simulation, clock_of, after_move, owing_after}
+use Rattle.cbs_simulate.specs.Moves.{Move, submit, charge, move_on, idle_span, next_free, coming_after, submitted_by, charged_by, Simulation}
+use Rattle.cbs_simulate.specs.Moves.{clock_of, after_move, owing_after}
 use Rattle.cbs_simulate.specs.MoveLaws.{IsOnTick, owed_before, MovesQuietly, ChargesOwed, IsGranted, since_after}
 use Rattle.cbs_simulate.specs.Ordering.{order_from}
 use Rattle.cbs_simulate.specs.Releases.{IsInOrder, before}
@@ -30,7 +31,8 @@ module _ {W : Type 0} (work : Meaning W) (job : Release → W) (until : ℕ) (en
     pub early : clock_of work job sim ≤ until
     pub waited : since ≤ clock_of work job sim
     pub order : IsInOrder since sim.coming
-    pub owed : clock_of work job sim < until → (c : Charge) → sim.owing ≡ Some c → (since ≡ clock_of work job sim) × MayBeCharged (world_after work sim.history) c
+    pub owed : clock_of work job sim < until → (c : Charge) → sim.owing ≡ Some c
+        → (since ≡ clock_of work job sim) × MayBeCharged (world_after work sim.history) c
 
   -- what a move of a simulation comes to
   pub record MovesWell (since : ℕ) (sim : Simulation W) (m : Move) : Type 0 where
@@ -38,7 +40,8 @@ module _ {W : Type 0} (work : Meaning W) (job : Release → W) (until : ℕ) (en
     pub on_tick : IsOnTick since (clock_of work job sim) m
     pub charges : ChargesOwed work job until sim m
     pub going : IsGoing (since_after work job since sim m) (after_move work job sim m)
-    pub fewer : (until - clock_of work job (after_move work job sim m)) + length (after_move work job sim m).coming < (until - clock_of work job sim) + length sim.coming
+    pub fewer : (until - clock_of work job (after_move work job sim m)) + length (after_move work job sim m).coming
+        < (until - clock_of work job sim) + length sim.coming
     pub submits : before until sim.coming ≡ submitted_by m ++ before until (after_move work job sim m).coming
 
   module _ (M : History W) where
@@ -103,9 +106,12 @@ module _ {W : Type 0} (work : Meaning W) (job : Release → W) (until : ℕ) (en
       granted : IsGranted work job (sim_of rs None) m
       same : coming_after m rs ≡ rs
       none : submitted_by m ≡ []
-      owed : (c : Charge) → owing_after work job (sim_of rs None) m ≡ Some c → MayBeCharged (world_after work (after_move work job (sim_of rs None) m).history) c
+      owed : (c : Charge) → owing_after work job (sim_of rs None) m ≡ Some c
+          → MayBeCharged (world_after work (after_move work job (sim_of rs None) m).history) c
 
-    goes_on : (rs : List Release) (stop : ℕ) → w.now < stop → stop ≤ until → (o : Option ℕ) → MatchOption o (¬ IsAtRest work w) (IsIdleSpan work w) → GoesOn rs stop (move_on w.now stop o)
+    -- so does a run if somebody is ready, and else an advance
+    goes_on : (rs : List Release) (stop : ℕ) → w.now < stop → stop ≤ until → (o : Option ℕ) → MatchOption o (¬ IsAtRest work w) (IsIdleSpan work w)
+        → GoesOn rs stop (move_on w.now stop o)
     goes_on rs stop early le None busy =
         let e = run-now work M.setup.backlog w busy (omega arith) in
         record {
@@ -136,8 +142,9 @@ module _ {W : Type 0} (work : Meaning W) (job : Release → W) (until : ℕ) (en
           owed = λ c e. cc;
         }
 
-    -- so it is made well where no release has come by `stop`
-    well_on : (since : ℕ) (rs : List Release) (stop : ℕ) (m : Move) → stop ≤ until → ((now : ℕ) → now ≤ stop → IsInOrder now rs) → GoesOn rs stop m → MovesWell since (sim_of rs None) m
+    -- so it is made well if no release has come by `stop`
+    well_on : (since : ℕ) (rs : List Release) (stop : ℕ) (m : Move) → stop ≤ until → ((now : ℕ) → now ≤ stop → IsInOrder now rs) → GoesOn rs stop m
+        → MovesWell since (sim_of rs None) m
     well_on since rs stop m le order h =
         let later = h.later in
         let most = h.most in
@@ -157,12 +164,15 @@ module _ {W : Type 0} (work : Meaning W) (job : Release → W) (until : ℕ) (en
         }
 
     -- the next move before `until`, if nothing is owed
-    pub well_free : (since : ℕ) (rs : List Release) → IsGoing since (sim_of rs None) → w.now < until → MovesWell since (sim_of rs None) (next_free until w.now (faces work w) rs)
-    well_free since [] going early = well_on since [] until _ (omega arith) (λ now le. tt) (goes_on [] until early (omega arith) (idle_span w.now (faces work w)) (span_idle work w))
+    pub well_free : (since : ℕ) (rs : List Release) → IsGoing since (sim_of rs None) → w.now < until
+        → MovesWell since (sim_of rs None) (next_free until w.now (faces work w) rs)
+    well_free since [] going early = well_on since [] until _ (omega arith) (λ now le. tt)
+        (goes_on [] until early (omega arith) (idle_span w.now (faces work w)) (span_idle work w))
     well_free since (r ∷ rs) going early = elim (cases_Bool (leb r.tick w.now)) [
       | inl t ↦ rw t (let come : r.tick ≤ w.now = grind (arith, nat_tests) in well_submit since r rs None going come (omega arith) refl (λ lt. refl))
       | inr f ↦ rw f (
           let later : w.now < r.tick = grind (arith, nat_tests) in
           let stop = min r.tick until in
-          well_on since (r ∷ rs) stop _ (omega arith) (λ now le. (omega arith, going.order.1)) (goes_on (r ∷ rs) stop (omega arith) (omega arith) (idle_span w.now (faces work w)) (span_idle work w)))
+          well_on since (r ∷ rs) stop _ (omega arith) (λ now le. (omega arith, going.order.1))
+          (goes_on (r ∷ rs) stop (omega arith) (omega arith) (idle_span w.now (faces work w)) (span_idle work w)))
     ]

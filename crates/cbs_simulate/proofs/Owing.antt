@@ -1,5 +1,6 @@
 -- What a run leaves owed, and that its server may be charged for it.
-use Rattle.std.proofs.Common.{◌≡◌, ℕ, zero, suc, ◌+◌, ◌<◌, true, false, eqb, leb, ltb, List, [], ◌∷◌, length, map, get_or, refl, sym, ◌∙◌, ap, arith, inl, inr, Option, Some, None}
+use Rattle.std.proofs.Common.{◌≡◌, ℕ, zero, suc, ◌+◌, ◌<◌, true, false, eqb, leb, ltb, List, [], ◌∷◌, length, map, get_or, refl, sym, ◌∙◌, ap, arith}
+use Rattle.std.proofs.Common.{inl, inr, Option, Some, None}
 use Rattle.std.specs.Prelude.{if◌then◌else◌, drop}
 use Rattle.std.specs.Option.{option_and_then}
 use Rattle.std.proofs.lemmas.Bool.{cases_Bool}
@@ -42,7 +43,8 @@ owing_is s (suc n) c e = (cc, let f : suc n ≡ c.ticks = cc in omega arith)
 
 module _ {W : Type 0} (work : Meaning W) where
   -- a unit of server s leaves the overrun of its first unfinished job owed
-  unit_owes : (w : World W) (s : ℕ) → (let a = account w.accounts s in owing_for work w (unit_reply work a s) ≡ owing_of s (overrun_in work w s (finished work a)))
+  unit_owes : (w : World W) (s : ℕ) → (let a = account w.accounts s in
+      owing_for work w (unit_reply work a s) ≡ owing_of s (overrun_in work w s (finished work a)))
   unit_owes w s =
       let a = account w.accounts s in
       elim (cases_Bool (eqb (need work a (finished work a + 1)) (a.got + 1))) [ inl t ↦ rw t refl | inr f ↦ rw f refl ]
@@ -68,11 +70,13 @@ module _ {W : Type 0} (work : Meaning W) where
       let same = is.0 in
       let xs = (let_go w).accounts in
       let count : length (after_run w (Some s)).accounts ≡ length w.accounts =
-      length-map (changed_at account_with_unit xs s) (account_with_replenishment (w.now + 1)) ∙ length-changed_at account_with_unit xs s ∙ length-map w.accounts account_let_go in
+      length-map (changed_at account_with_unit xs s) (account_with_replenishment (w.now + 1)) ∙ length-changed_at account_with_unit xs s
+      ∙ length-map w.accounts account_let_go in
       let here : eqb s c.server ≡ true = grind (arith, nat_tests) in
       rw t (record { some = is.1; there = omega arith; runs = runs_run w s c.server there ∙ here })
 
-  pub owed_runs : (w : World W) (c : Charge) → w.now < clock_end → owing_for work w (run_reply work w (chosen work w)) ≡ Some c → MayBeCharged (after_run w (runner work w)) c
+  pub owed_runs : (w : World W) (c : Charge) → w.now < clock_end → owing_for work w (run_reply work w (chosen work w)) ≡ Some c
+      → MayBeCharged (after_run w (runner work w)) c
   owed_runs w c early owed = run_charged w c (chosen work w) refl early owed
 
   module _ (constant : (j : W) → whole work j ≡ work.output j) where
@@ -96,7 +100,8 @@ module _ {W : Type 0} (work : Meaning W) where
         rw is (first_output r rs a.accepted (finished work a) (sym e ∙ here.results))
 
     -- what a core tells of a run is what the run leaves owed
-    pub told_is : (M : History W) (old new : CoreHeld W) (r : Ran) → Agrees work old M → DoesRun work r old new → owing_told work new r ≡ owing_for work (world_after work M) r
+    pub told_is : (M : History W) (old new : CoreHeld W) (r : Ran) → Agrees work old M → DoesRun work r old new
+        → owing_told work new r ≡ owing_for work (world_after work M) r
     told_is M old new ran.Idle agrees does = refl
     told_is M old new ran.ClockEnd agrees does = refl
     told_is M old new (ran.Unit s q) agrees does = front (held_at new s).jobs does.0.some does.0.results

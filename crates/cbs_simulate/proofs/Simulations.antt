@@ -1,5 +1,6 @@
 -- The laws of a whole simulation.
-use Rattle.std.proofs.Common.{◌≡◌, ℕ, zero, suc, ◌+◌, ◌-◌, ◌≤◌, ◌<◌, true, leb, ltb, List, [], ◌∷◌, ◌++◌, length, arith, refl, sym, ◌∙◌, ap, inl, inr, append_assoc, append-nil, Option, Some, None}
+use Rattle.std.proofs.Common.{◌≡◌, ℕ, zero, suc, ◌+◌, ◌-◌, ◌≤◌, ◌<◌, true, leb, ltb, List, [], ◌∷◌, ◌++◌, length, arith, refl, sym, ◌∙◌, ap, inl}
+use Rattle.std.proofs.Common.{inr, append_assoc, append-nil, Option, Some, None}
 use Rattle.std.proofs.lemmas.Bool.{cases_Bool}
 use Rattle.std.proofs.lemmas.Bool.Decides.{nat_tests}
 use Rattle.std.specs.Option.{option_map_or}
@@ -7,7 +8,8 @@ use Rattle.cbs_job.specs.Work.{Meaning}
 use Rattle.cbs_rules.specs.Rules.{clock_end}
 use Rattle.cbs_steps.specs.History.{History, faces, world_after}
 use Rattle.cbs_steps.specs.Quiet.{AdvanceQuietly}
-use Rattle.cbs_simulate.specs.Moves.{Move, submit, next_before, last_move, Simulation, clock_of, next_of, after_move, after_moves, AreNext, AreMoves, submitted_by, submitted, moves_within, moves_of}
+use Rattle.cbs_simulate.specs.Moves.{Move, submit, next_before, last_move, Simulation, clock_of, next_of, after_move, after_moves, AreNext, AreMoves}
+use Rattle.cbs_simulate.specs.Moves.{submitted_by, submitted, moves_within, moves_of}
 use Rattle.cbs_simulate.specs.MoveLaws.{AllMoves, MovesQuietly, ChargesOwed, EachOnTick, since_after}
 use Rattle.cbs_simulate.specs.Releases.{before}
 use Rattle.cbs_simulate.specs.declared.charge.Charge.{Charge}
@@ -30,13 +32,16 @@ none_last until (r ∷ rs) e = absurd (omega arith)
 module _ {W : Type 0} (work : Meaning W) (job : Release → W) (until : ℕ) (ends : until ≤ clock_end) where
   module _ (M : History W) (since : ℕ) (m : Move) where
     -- what the next move comes to: before `until`
-    well_before : (rs : List Release) (o : Option Charge) → IsGoing work job until ends since (sim_of work job until ends M rs o) → (world_after work M).now < until
-        → next_before until (world_after work M).now (faces work (world_after work M)) o rs ≡ m → MovesWell work job until ends since (sim_of work job until ends M rs o) m
+    well_before : (rs : List Release) (o : Option Charge) → IsGoing work job until ends since (sim_of work job until ends M rs o)
+        → (world_after work M).now < until
+        → next_before until (world_after work M).now (faces work (world_after work M)) o rs ≡ m
+        → MovesWell work job until ends since (sim_of work job until ends M rs o) m
     well_before rs None going early is = rw is at (well_free work job until ends M since rs going early)
     well_before rs (Some c) going early is = rw is at (well_charge work job until ends M since rs c going early)
 
     -- and at `until`
-    well_last : (rs : List Release) (o : Option Charge) → IsGoing work job until ends since (sim_of work job until ends M rs o) → until ≤ (world_after work M).now
+    well_last : (rs : List Release) (o : Option Charge) → IsGoing work job until ends since (sim_of work job until ends M rs o)
+        → until ≤ (world_after work M).now
         → last_move until rs ≡ Some m → MovesWell work job until ends since (sim_of work job until ends M rs o) m
     well_last [] o going late is = cc
     well_last (r ∷ rs) o going late is = elim (cases_Bool (ltb r.tick until)) [
@@ -44,12 +49,14 @@ module _ {W : Type 0} (work : Meaning W) (job : Release → W) (until : ℕ) (en
           let sooner : r.tick < until = grind (arith, nat_tests) in
           let e : Some (submit r) ≡ Some m = rw t at is in
           let same : submit r ≡ m = cc in
-          rw same at (well_submit work job until ends M since r rs o going (omega arith) sooner (none_owed until (world_after work M).now o late) (λ lt. absurd (omega arith)))
+          rw same at (well_submit work job until ends M since r rs o going (omega arith) sooner (none_owed until (world_after work M).now o late)
+          (λ lt. absurd (omega arith)))
       | inr f ↦ let g : None ≡ Some m = rw f at is in cc
     ]
 
   -- so it is of any next move
-  pub well_next : (since : ℕ) (sim : Simulation W) (m : Move) → IsGoing work job until ends since sim → next_of work job until sim ≡ Some m → MovesWell work job until ends since sim m
+  pub well_next : (since : ℕ) (sim : Simulation W) (m : Move) → IsGoing work job until ends since sim → next_of work job until sim ≡ Some m
+      → MovesWell work job until ends since sim m
   well_next since sim m going e = elim (cases_Bool (leb until (clock_of work job sim))) [
     | inl t ↦ well_last sim.history since m sim.coming sim.owing going (grind (arith, nat_tests)) (rw t at e)
     | inr f ↦
@@ -59,7 +66,8 @@ module _ {W : Type 0} (work : Meaning W) (job : Release → W) (until : ℕ) (en
   ]
 
   -- if there is none, the clock is at `until`, and no release before that is left
-  pub ended_at : (since : ℕ) (sim : Simulation W) → IsGoing work job until ends since sim → next_of work job until sim ≡ None → (clock_of work job sim ≡ until) × (before until sim.coming ≡ [])
+  pub ended_at : (since : ℕ) (sim : Simulation W) → IsGoing work job until ends since sim → next_of work job until sim ≡ None
+      → (clock_of work job sim ≡ until) × (before until sim.coming ≡ [])
   ended_at since sim going e = elim (cases_Bool (leb until (clock_of work job sim))) [
     | inl t ↦ (let early = going.early in grind (arith, nat_tests), none_before until sim.coming (rw t at e))
     | inr f ↦ let w = world_after work sim.history in let g : Some (next_before until w.now (faces work w) sim.owing sim.coming) ≡ None = rw f at e in cc
@@ -74,6 +82,7 @@ module _ {W : Type 0} (work : Meaning W) (job : Release → W) (until : ℕ) (en
     pub going : IsGoing work job until ends last (after_moves work job sim ms)
     pub submits : before until sim.coming ≡ submitted ms ++ before until (after_moves work job sim ms).coming
 
+  -- such moves keep all that
   pub goes : (since : ℕ) (sim : Simulation W) (ms : List Move) → IsGoing work job until ends since sim → AreNext work job until sim ms → Goes since sim ms
   goes since sim [] going each = record { quiet = tt; on_tick = tt; charges = tt; last = since; going = going; submits = refl }
   goes since sim (m ∷ ms) going each =
@@ -90,13 +99,15 @@ module _ {W : Type 0} (work : Meaning W) (job : Release → W) (until : ℕ) (en
 
   module _ (since : ℕ) where
     -- all moves: they submit the releases before `until`, each once and in order, and end at `until`
-    pub all_submits : (sim : Simulation W) (ms : List Move) → IsGoing work job until ends since sim → AreMoves work job until sim ms → submitted ms ≡ before until sim.coming
+    pub all_submits : (sim : Simulation W) (ms : List Move) → IsGoing work job until ends since sim → AreMoves work job until sim ms
+        → submitted ms ≡ before until sim.coming
     all_submits sim ms going all =
         let h = goes since sim ms going all.each in
         let none = (ended_at h.last (after_moves work job sim ms) h.going all.ended).1 in
         sym (h.submits ∙ rw none (append-nil (submitted ms)))
 
-    pub all_end : (sim : Simulation W) (ms : List Move) → IsGoing work job until ends since sim → AreMoves work job until sim ms → clock_of work job (after_moves work job sim ms) ≡ until
+    pub all_end : (sim : Simulation W) (ms : List Move) → IsGoing work job until ends since sim → AreMoves work job until sim ms
+        → clock_of work job (after_moves work job sim ms) ≡ until
     all_end sim ms going all = let h = goes since sim ms going all.each in (ended_at h.last (after_moves work job sim ms) h.going all.ended).0
 
   -- there is no other list of moves
@@ -118,8 +129,10 @@ module _ {W : Type 0} (work : Meaning W) (job : Release → W) (until : ℕ) (en
       let t : leb until (clock_of work job sim) ≡ true = grind (arith, nat_tests) in
       record { each = tt; ended = rw t (none_last until sim.coming (omega arith)) }
   enough (suc k) since sim going le =
-      let with : (o : Option Move) → next_of work job until sim ≡ o → AreMoves work job until sim (option_map_or (λ m. m ∷ moves_within work job k until (after_move work job sim m)) o []) =
-      λ o. elim o as (λ o. next_of work job until sim ≡ o → AreMoves work job until sim (option_map_or (λ m. m ∷ moves_within work job k until (after_move work job sim m)) o [])) [
+      let with : (o : Option Move) → next_of work job until sim ≡ o
+      → AreMoves work job until sim (option_map_or (λ m. m ∷ moves_within work job k until (after_move work job sim m)) o []) =
+      λ o. elim o as (λ o. next_of work job until sim ≡ o
+      → AreMoves work job until sim (option_map_or (λ m. m ∷ moves_within work job k until (after_move work job sim m)) o [])) [
         | None ↦ λ e. record { each = tt; ended = e }
         | Some m ↦ λ e.
             let well = well_next since sim m going e in
@@ -134,12 +147,14 @@ module _ {W : Type 0} (work : Meaning W) (job : Release → W) (until : ℕ) (en
   moves_are since sim going = enough ((until - clock_of work job sim) + length sim.coming) since sim going (omega arith)
 
   -- and all moves are those
-  pub are_moves : (since : ℕ) (sim : Simulation W) (ms : List Move) → IsGoing work job until ends since sim → AreMoves work job until sim ms → ms ≡ moves_of work job until sim
+  pub are_moves : (since : ℕ) (sim : Simulation W) (ms : List Move) → IsGoing work job until ends since sim → AreMoves work job until sim ms
+      → ms ≡ moves_of work job until sim
   are_moves since sim ms going all = only_moves sim ms (moves_of work job until sim) all (moves_are since sim going)
 
 module _ {W : Type 0} (work : Meaning W) (job : Release → W) where
   -- after steps that advance quietly, moves that do make such steps
-  pub quiet_steps : (sim : Simulation W) (ms : List Move) → AdvanceQuietly work sim.history.setup sim.history.steps → AllMoves work job (MovesQuietly work job) sim ms
+  pub quiet_steps : (sim : Simulation W) (ms : List Move) → AdvanceQuietly work sim.history.setup sim.history.steps
+      → AllMoves work job (MovesQuietly work job) sim ms
       → AdvanceQuietly work (after_moves work job sim ms).history.setup (after_moves work job sim ms).history.steps
   quiet_steps sim [] before quiet = before
   quiet_steps sim (m ∷ ms) before quiet = quiet_steps (after_move work job sim m) ms (before, quiet.0) quiet.1

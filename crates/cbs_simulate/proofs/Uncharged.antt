@@ -15,7 +15,8 @@ use Rattle.cbs_steps.specs.declared.reply.Ran.{Ran}
 use Rattle.cbs_steps.specs.declared.reply.Ran.TheVariants as ran
 use Rattle.cbs_steps.specs.declared.step.Step.TheVariants as step
 use Rattle.cbs_steps.proofs.Histories.{holds_run_step, holds_advance_step, holds_charge_step}
-use Rattle.cbs_simulate.specs.Moves.{Move, submit, run, pass, charge, charged_by, overrun_in, owing_for, ran_in, step_of, Simulation, clock_of, after_move, after_moves, AreNext}
+use Rattle.cbs_simulate.specs.Moves.{Move, submit, run, pass, charge, charged_by, overrun_in, owing_for, ran_in, step_of, Simulation, clock_of}
+use Rattle.cbs_simulate.specs.Moves.{after_move, after_moves, AreNext}
 use Rattle.cbs_simulate.specs.MoveLaws.{AllMoves, MovesQuietly, EachOnTick, since_after}
 use Rattle.cbs_simulate.specs.Releases.{before}
 use Rattle.cbs_simulate.specs.Simulating.{IsAtTick}
@@ -25,7 +26,8 @@ use Rattle.cbs_simulate.proofs.MoveSteps.{IsGoing}
 use Rattle.cbs_simulate.proofs.Simulations.{well_next}
 
 -- the first of the releases before `until` has no overrun if none has
-first_plain : (until : ℕ) (rs : List Release) (r : Release) (rest : List Release) → before until rs ≡ r ∷ rest → AllByRecursion (λ r. r.overrun ≡ 0) rs → r.overrun ≡ 0
+first_plain : (until : ℕ) (rs : List Release) (r : Release) (rest : List Release) → before until rs ≡ r ∷ rest → AllByRecursion (λ r. r.overrun ≡ 0) rs
+    → r.overrun ≡ 0
 first_plain until [] r rest e plain = cc
 first_plain until (q ∷ qs) r rest e plain = elim (cases_Bool (ltb q.tick until)) [
   | inl t ↦ let is : q ∷ before until qs ≡ r ∷ rest = rw t at e in let same : q ≡ r = cc in rw same at plain.0
@@ -43,14 +45,16 @@ module _ {W : Type 0} (work : Meaning W) where
   NoOverrun a = (q : ℕ) → get_or (map work.output a.accepted) q 0 ≡ 0
 
   -- nor has one of those with a job more that has none
-  one_plain : (js : List W) (j : W) (q : ℕ) → work.output j ≡ 0 → ((q : ℕ) → get_or (map work.output js) q 0 ≡ 0) → get_or (map work.output (js ++ j ∷ [])) q 0 ≡ 0
+  one_plain : (js : List W) (j : W) (q : ℕ) → work.output j ≡ 0 → ((q : ℕ) → get_or (map work.output js) q 0 ≡ 0)
+      → get_or (map work.output (js ++ j ∷ [])) q 0 ≡ 0
   one_plain [] j zero none plain = none
   one_plain [] j (suc q) none plain = refl
   one_plain (x ∷ js) j zero none plain = plain 0
   one_plain (x ∷ js) j (suc q) none plain = one_plain js j q none (λ q. plain (suc q))
 
   -- a change of one account that keeps it keeps it of all
-  plain_changed : (f : Account W → Account W) (xs : List (Account W)) (t s : ℕ) → ((a : Account W) → NoOverrun a → NoOverrun (f a)) → ((s : ℕ) → NoOverrun (account xs s))
+  plain_changed : (f : Account W → Account W) (xs : List (Account W)) (t s : ℕ) → ((a : Account W) → NoOverrun a → NoOverrun (f a))
+      → ((s : ℕ) → NoOverrun (account xs s))
       → NoOverrun (account (changed_at f xs t) s)
   plain_changed f [] t s keeps plain = plain s
   plain_changed f (a ∷ xs) zero zero keeps plain = keeps a (plain 0)
@@ -85,25 +89,28 @@ module _ {W : Type 0} (work : Meaning W) (job : Release → W) where
     pub owing : sim.owing ≡ None
 
   module _ (output : (r : Release) → work.output (job r) ≡ r.overrun) where
-    -- a move keeps that, where a release that it submits is the first of those before `until`
-    plain_move : (sim : Simulation W) (m : Move) (until : ℕ) → ((r : Release) → m ≡ submit r → r.overrun ≡ 0) → IsPlain sim → IsPlain (after_move work job sim m)
-    plain_move sim (submit r) until none h = record {
+    -- a move keeps that, if a release that it submits has no overrun
+    plain_move : (sim : Simulation W) (m : Move) → ((r : Release) → m ≡ submit r → r.overrun ≡ 0) → IsPlain sim
+        → IsPlain (after_move work job sim m)
+    plain_move sim (submit r) none h = record {
       coming = rest_plain sim.coming h.coming;
       none = λ s q. let w = world_after work sim.history in
           plain_submit work w r.server s (job r) (submit_refusal sim.history.setup.backlog (faces work w) r.server) (output r ∙ none r refl) h.none q;
       owing = h.owing;
     }
-    plain_move sim run until none h = record {
+    plain_move sim run none h = record {
       coming = h.coming;
-      none = λ s q. holds_run_step work (λ now. NoOverrun work) (λ now a ready k. k) (λ now a k. k) (λ now a k. k) (λ now a k. k) sim.history.setup.backlog (world_after work sim.history) s (h.none s) q;
+      none = λ s q. holds_run_step work (λ now. NoOverrun work) (λ now a ready k. k) (λ now a k. k) (λ now a k. k) (λ now a k. k) sim.history.setup.backlog
+          (world_after work sim.history) s (h.none s) q;
       owing = none_owing work (world_after work sim.history) (ran_in (reply_in work sim.history step.Run)) h.none;
     }
-    plain_move sim (pass n) until none h = record {
+    plain_move sim (pass n) none h = record {
       coming = h.coming;
-      none = λ s q. holds_advance_step work (λ now. NoOverrun work) (λ now a ready k. k) (λ now a k. k) (λ now a k. k) (λ now a k. k) sim.history.setup.backlog (world_after work sim.history) n s (h.none s) q;
+      none = λ s q. holds_advance_step work (λ now. NoOverrun work) (λ now a ready k. k) (λ now a k. k) (λ now a k. k)
+          (λ now a k. k) sim.history.setup.backlog (world_after work sim.history) n s (h.none s) q;
       owing = refl;
     }
-    plain_move sim (charge t n) until none h = record {
+    plain_move sim (charge t n) none h = record {
       coming = h.coming;
       none = λ s q. holds_charge_step work (λ now. NoOverrun work) (λ now a ready k. k) (λ now a k. k) (λ now a k. k) (λ now a k. k) (λ now n a some runs k. k)
           sim.history.setup.backlog (world_after work sim.history) t n s (h.none s) q;
@@ -118,8 +125,11 @@ module _ {W : Type 0} (work : Meaning W) (job : Release → W) where
       uncharged since sim (m ∷ ms) going plain each =
           let well = well_next work job until ends since sim m going each.0 in
           let first : (r : Release) → m ≡ submit r → r.overrun ≡ 0 = λ r e. first_plain until sim.coming r _ (rw e at well.submits) plain.coming in
-          let charges = well.charges.charge in
-          (rw plain.owing at charges, uncharged (since_after work job since sim m) (after_move work job sim m) ms well.going (plain_move sim m until first plain) each.1)
+          let charges = well.charges.charge in (
+            rw plain.owing at charges,
+            uncharged (since_after work job since sim m) (after_move work job sim m) ms well.going
+                (plain_move sim m first plain) each.1,
+          )
 
   -- a move that advances quietly and charges nothing takes nobody's time
   quiet_step : (w : World W) (m : Move) → charged_by m ≡ None → IsQuietAdvance work w (step_of work job m) → IsQuietStep work w (step_of work job m)
@@ -129,24 +139,32 @@ module _ {W : Type 0} (work : Meaning W) (job : Release → W) where
   quiet_step w (charge s n) none quiet = cc
 
   -- so do all such moves
-  pub free_steps : (sim : Simulation W) (ms : List Move) → AllMoves work job (λ sim m. charged_by m ≡ None) sim ms → AllMoves work job (MovesQuietly work job) sim ms
-      → AreQuiet work sim.history.setup sim.history.steps → AreQuiet work (after_moves work job sim ms).history.setup (after_moves work job sim ms).history.steps
+  pub free_steps : (sim : Simulation W) (ms : List Move) → AllMoves work job (λ sim m. charged_by m ≡ None) sim ms
+      → AllMoves work job (MovesQuietly work job) sim ms
+      → AreQuiet work sim.history.setup sim.history.steps
+      → AreQuiet work (after_moves work job sim ms).history.setup (after_moves work job sim ms).history.steps
   free_steps sim [] none quiet before = before
-  free_steps sim (m ∷ ms) none quiet before = free_steps (after_move work job sim m) ms none.1 quiet.1 (before, quiet_step (world_after work sim.history) m none.0 quiet.0)
+  free_steps sim (m ∷ ms) none quiet before =
+      free_steps (after_move work job sim m) ms none.1 quiet.1 (before, quiet_step (world_after work sim.history) m none.0 quiet.0)
 
   -- if a move charges nothing, no release waits for it
-  since_now : (sim : Simulation W) (m : Move) → charged_by m ≡ None → since_after work job (clock_of work job sim) sim m ≡ clock_of work job (after_move work job sim m)
+  since_now : (sim : Simulation W) (m : Move) → charged_by m ≡ None
+      → since_after work job (clock_of work job sim) sim m ≡ clock_of work job (after_move work job sim m)
   since_now sim (submit r) none = sym (submit-now work sim.history.setup.backlog (world_after work sim.history) r.server (job r))
   since_now sim run none = refl
   since_now sim (pass n) none = refl
   since_now sim (charge s n) none = cc
 
   -- so each is submitted exactly at its tick
-  pub at_ticks : (sim : Simulation W) (ms : List Move) → AllMoves work job (λ sim m. charged_by m ≡ None) sim ms → EachOnTick work job (clock_of work job sim) sim ms
+  pub at_ticks : (sim : Simulation W) (ms : List Move) → AllMoves work job (λ sim m. charged_by m ≡ None) sim ms
+      → EachOnTick work job (clock_of work job sim) sim ms
       → AllMoves work job (IsAtTick work job) sim ms
   at_ticks sim [] none each = tt
-  at_ticks sim (m ∷ ms) none each =
-      (each.0, at_ticks (after_move work job sim m) ms none.1 (subst (λ t. EachOnTick work job t (after_move work job sim m) ms) (since_now sim m none.0) each.1))
+  at_ticks sim (m ∷ ms) none each = (
+    each.0,
+    at_ticks (after_move work job sim m) ms none.1
+        (subst (λ t. EachOnTick work job t (after_move work job sim m) ms) (since_now sim m none.0) each.1),
+  )
 
   -- a new simulation is such a one
   pub plain_new : (ts : List Terms) (backlog : ℕ) (coming : List Release) → AllByRecursion (λ r. r.overrun ≡ 0) coming

@@ -34,10 +34,14 @@ released place t until (suc k) tick g =
     let e = drawn t.every o.1 in
     if ltb tick until then release_of place t tick u.0 o.0 ∷ released place t until k (tick + e.0) e.1 else []
 
--- what a source releases: its generator has the seed as state and the place as stream. Without a count of jobs there may be as
--- many as ticks to `until`, since a tick at least is between two
+-- at most k releases of a source: its generator has the seed as state and the place as stream
+abbrev pub released_from : ℕ → SourceTerms → ℕ → ℕ → ℕ → List Release
+released_from place t until k seed = released place t until k t.first (started 128 multiplier_128 seed (increment_of 128 place))
+
+-- what a source releases. Without a count of jobs that is as many as come: a tick at least is between two, so they are no more
+-- than `until`
 abbrev pub released_by : ℕ → SourceTerms → ℕ → ℕ → List Release
-released_by place t until seed = released place t until (unwrap_or t.jobs until) t.first (started 128 multiplier_128 seed (increment_of 128 place))
+released_by place t until seed = released_from place t until (unwrap_or t.jobs until) seed
 
 -- where a source stands: how many jobs are left, when the next comes, its units and its overrun, and by which generator all that
 -- follows is drawn
@@ -61,3 +65,8 @@ pending_from (suc k) c =
 -- what it releases yet
 abbrev pub pending : Cursor → List Release
 pending c = pending_from c.left c
+
+-- the same of several, at the places from i on
+abbrev pub released_by_all : ℕ → List SourceTerms → ℕ → ℕ → List (List Release)
+released_by_all i [] until seed = []
+released_by_all i (t ∷ ts) until seed = released_by i t until seed ∷ released_by_all (i + 1) ts until seed

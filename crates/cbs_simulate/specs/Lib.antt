@@ -9,3 +9,4 @@ pub mod Releases
 pub mod Shown
 pub mod Simulating
 pub mod SourceOrder
+pub mod Turns

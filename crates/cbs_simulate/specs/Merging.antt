@@ -1,5 +1,5 @@
 -- The releases of several sources, in the order of their ticks, and at one tick in the order of the sources.
-use Rattle.std.specs.Prelude.{◌≡◌, ℕ, ◌+◌, ◌<◌, leb, if◌then◌else◌, List, [], ◌∷◌, length, drop, slice_get, get_or, Option, Some, None}
+use Rattle.std.specs.Prelude.{◌≡◌, ℕ, ◌<◌, leb, if◌then◌else◌, List, [], ◌∷◌, length, drop, slice_get, get_or, Some}
 use Rattle.cbs_lists.specs.Lists.{changed_at}
 use Rattle.cbs_simulate.specs.declared.release.Release.{Release}
 
@@ -18,20 +18,8 @@ abbrev pub merged : List (List Release) → List Release
 merged [] = []
 merged (rs ∷ rss) = put_all rs (merged rss)
 
--- the first of all releases is r, which is the first of source i
+-- the first of all releases is r, which is the first of source i; after it come those of the sources without it
 pub record IsFirst (rss : List (List Release)) (i : ℕ) (r : Release) : Type 0 where
   pub within : i < length rss
   pub head : slice_get (get_or rss i []) 0 ≡ Some r
   pub first : merged rss ≡ r ∷ merged (changed_at (drop 1) rss i)
-
--- which source has the first of all releases, if there is one
-abbrev pub HasFirst : List (List Release) → Option (ℕ × Release) → Type 0
-HasFirst rss None = merged rss ≡ []
-HasFirst rss (Some f) = IsFirst rss f.0 f.1
-
--- the first of all, by the first of one source and by that of the others and its source
-abbrev pub earlier_of : Option Release → Option (ℕ × Release) → Option (ℕ × Release)
-earlier_of None None = None
-earlier_of None (Some f) = Some (f.0 + 1, f.1)
-earlier_of (Some r) None = Some (0, r)
-earlier_of (Some r) (Some f) = if leb r.tick f.1.tick then Some (0, r) else Some (f.0 + 1, f.1)

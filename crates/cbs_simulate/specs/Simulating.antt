@@ -10,7 +10,8 @@ use Rattle.cbs_steps.specs.Punctual.{IsPunctual}
 use Rattle.cbs_steps.specs.Quiet.{AreQuiet, AdvanceQuietly}
 use Rattle.cbs_steps.specs.declared.reply.Ran.{Ran}
 use Rattle.cbs_steps.specs.declared.reply.Ran.TheVariants as ran
-use Rattle.cbs_simulate.specs.Moves.{Move, move_on, idle_span, owing_of, step_of, Simulation, clock_of, next_of, owing_after, after_move, after_moves, AreNext, moves_of, submitted}
+use Rattle.cbs_simulate.specs.Moves.{Move, move_on, idle_span, owing_of, step_of, Simulation, clock_of, next_of, owing_after, after_move}
+use Rattle.cbs_simulate.specs.Moves.{after_moves, AreNext, AreMoves, moves_of, submitted}
 use Rattle.cbs_simulate.specs.MoveLaws.{AllMoves, MovesQuietly, ChargesOwed, EachOnTick, IsOnTick}
 use Rattle.cbs_simulate.specs.Releases.{before}
 use Rattle.cbs_simulate.specs.Shown.{Sight, event_of, sight_of, shown}
@@ -26,7 +27,7 @@ owing_told work core _ = None
 
 module _ {W : Type 0} (work : Meaning W) (job : Release → W) where
   -- a core made this move of the simulation, of which this is to be shown, and this is then owed
-  pub record Moves (sim : Simulation W) (m : Move) (new : CoreHeld W) (e : Event) (owing : Option Charge) : Type 0 where
+  pub record DoesMove (sim : Simulation W) (m : Move) (new : CoreHeld W) (e : Event) (owing : Option Charge) : Type 0 where
     pub event : e ≡ event_of work (world_after work (sim.history ⊕ step_of work job m)) m (reply_in work sim.history (step_of work job m))
     pub state : Agrees work new (sim.history ⊕ step_of work job m)
     pub owed : owing ≡ owing_after work job sim m
@@ -36,26 +37,39 @@ module _ {W : Type 0} (work : Meaning W) (job : Release → W) where
   move_to stop sim = let w = world_after work sim.history in move_on w.now stop (idle_span w.now (faces work w))
 
   -- a core made this move of the simulation, a watcher saw it, and this is then owed
-  pub record MakesMove {S : Type 0} (saw : S → List Sight → Type 0) (sim : Simulation W) (m : Move) (new : CoreHeld W) (owing : Option Charge) (w v : S) : Type 0 where
+  pub record MakesMove {S : Type 0} (saw : S → List Sight → Type 0) (sim : Simulation W) (m : Move) (new : CoreHeld W) (owing : Option Charge)
+      (w v : S) : Type 0 where
     pub state : Agrees work new (after_move work job sim m).history
     pub owed : owing ≡ owing_after work job sim m
     pub seen : (seen : List Sight) → saw w seen → saw v (sight_of work job sim m ∷ seen)
 
   -- a core made the next move of the simulation, after which these releases come and this is owed
-  pub record MakesNext {S : Type 0} (until : ℕ) (saw : S → List Sight → Type 0) (sim : Simulation W) (new : CoreHeld W) (coming : List Release) (owing : Option Charge) (w v : S) : Type 0 where
+  pub record MakesNext {S : Type 0} (until : ℕ) (saw : S → List Sight → Type 0) (sim : Simulation W) (new : CoreHeld W) (coming : List Release)
+      (owing : Option Charge) (w v : S) : Type 0 where
     pub move : Move
     pub next : next_of work job until sim ≡ Some move
     pub makes : MakesMove saw sim move new owing w v
     pub rest : coming ≡ (after_move work job sim move).coming
 
   -- a core made some moves of the simulation, each the next one where it stands
-  pub record MakesSome {S : Type 0} (until : ℕ) (saw : S → List Sight → Type 0) (sim : Simulation W) (new : CoreHeld W) (coming : List Release) (owing : Option Charge) (w v : S) : Type 0 where
+  pub record MakesSome {S : Type 0} (until : ℕ) (saw : S → List Sight → Type 0) (sim : Simulation W) (new : CoreHeld W) (coming : List Release)
+      (owing : Option Charge) (w v : S) : Type 0 where
     pub moves : List Move
     pub each : AreNext work job until sim moves
     pub state : Agrees work new (after_moves work job sim moves).history
     pub seen : (seen : List Sight) → saw w seen → saw v (shown work job sim moves seen)
     pub rest : coming ≡ (after_moves work job sim moves).coming
     pub owed : owing ≡ (after_moves work job sim moves).owing
+
+  -- a core stopped after some moves of the simulation, each the next one where it stands
+  pub record Stops (until : ℕ) (sim : Simulation W) (new : CoreHeld W) : Type 0 where
+    pub moves : List Move
+    pub each : AreNext work job until sim moves
+    pub state : Agrees work new (after_moves work job sim moves).history
+
+  -- if this is the next move, it stopped after it at most
+  abbrev pub StopsAt : Simulation W → Move → CoreHeld W → Type 0
+  StopsAt sim m new = (until : ℕ) → next_of work job until sim ≡ Some m → Stops until sim new
 
   -- there is no next move, and nothing changed
   pub record Ended {S : Type 0} (until : ℕ) (sim : Simulation W) (old new : CoreHeld W) (coming : List Release) (owing : Option Charge) (w v : S) : Type 0 where
@@ -65,11 +79,13 @@ module _ {W : Type 0} (work : Meaning W) (job : Release → W) where
     pub owed : owing ≡ sim.owing
     pub watcher : v ≡ w
 
-  -- A core simulated a load: its steps are the moves of the definition, and the watcher saw what they show. Each release before
-  -- `until` was submitted once, in order, at its tick or as soon as a charge that passed that had ended; each unit was charged
-  -- its overrun; every advance was quiet; and the clock stands at `until`.
+  -- A core simulated a load: its steps are the moves of the definition, which are all that there are and the only ones, and the
+  -- watcher saw what they show. Each release before `until` was submitted once, in order, at its tick or as soon as a charge that
+  -- passed that had ended; each unit was charged its overrun; every advance was quiet; and the clock stands at `until`.
   pub record Simulates {S : Type 0} (until : ℕ) (saw : S → List Sight → Type 0) (sim : Simulation W) (new : CoreHeld W) (w v : S) : Type 0 where
     pub state : Agrees work new (after_moves work job sim (moves_of work job until sim)).history
+    pub all : AreMoves work job until sim (moves_of work job until sim)
+    pub only : (ms : List Move) → AreMoves work job until sim ms → ms ≡ moves_of work job until sim
     pub seen : (seen : List Sight) → saw w seen → saw v (shown work job sim (moves_of work job until sim) seen)
     pub submits : submitted (moves_of work job until sim) ≡ before until sim.coming
     pub on_tick : EachOnTick work job (clock_of work job sim) sim (moves_of work job until sim)

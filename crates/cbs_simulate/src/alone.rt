@@ -34,7 +34,11 @@ pub fn simulate_plan<A: Allocator + Clone, R: Releases, S: Watcher>(
     requires modes { length modes.now ≡ length plan.now.rates }
     requires end { until ≤ LIMIT }
     ensures simulates { IfOk result (λ core. SimulatesAlone loading job_of until S.saw
-        (record { history = record { setup = record { servers = terms_of modes.now plan.now.rates; backlog = backlog }; steps = [] }; coming = R.coming releases.old; owing = None })
+        (record {
+          history = record { setup = record { servers = terms_of modes.now plan.now.rates; backlog = backlog }; steps = [] };
+          coming = R.coming releases.old;
+          owing = None;
+        })
         core watcher.old watcher.new) }
     ensures refusal { RefusesByOrMemory CoreError.OutOfMemory result (new_refusal backlog) }
 {

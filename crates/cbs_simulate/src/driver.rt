@@ -1,13 +1,13 @@
 //! Simulating: moves, one after another, up to a tick.
 
-ghost use Rattle.std.specs.Prelude.{◌≡◌, ◌-◌, ◌≤◌, ◌<◌, true, false, List, ◌∷◌, drop, min, slice_get, Some, None, IfOk, OnOk};
+ghost use Rattle.std.specs.Prelude.{◌≡◌, ◌-◌, ◌≤◌, ◌<◌, true, false, List, ◌∷◌, drop, min, slice_get, Some, None, IfOk, OnOk, OnErr};
 ghost use Rattle.cbs_core.specs.Agreement.{Agrees, HasHistory};
 ghost use Rattle.cbs_steps.specs.History.{History};
 ghost use Rattle.cbs_simulate.specs.Loading.{loading, job_of};
 ghost use Rattle.cbs_simulate.specs.Moves.{submit, charge, Simulation, clock_of};
 ghost use Rattle.cbs_simulate.specs.Releases.{IsInOrder, MakesJob};
 ghost use Rattle.cbs_simulate.specs.Shown.{Sight};
-ghost use Rattle.cbs_simulate.specs.Simulating.{MakesMove, MakesNext, Ended, Simulates, move_to};
+ghost use Rattle.cbs_simulate.specs.Simulating.{MakesMove, MakesNext, Stops, StopsAt, Ended, Simulates, move_to};
 
 use crate::charge::Charge;
 use crate::event::{Event, Moment};
@@ -48,6 +48,8 @@ fn submit_first<A: Allocator, R: Releases, S: Watcher>(
     ensures makes { OnOk result ((sim : Simulation LoadJob) → Agrees loading core.old sim.history
         → MakesMove loading job_of S.saw sim (submit release) core.new sim.owing watcher.old watcher.new) }
     ensures rest { OnOk result (R.coming releases.new ≡ drop 1 (R.coming releases.old)) }
+    ensures stopped { OnErr result ((sim : Simulation LoadJob) → Agrees loading core.old sim.history
+        → StopsAt loading job_of sim (submit release) core.new) }
 {
     let event = moves::submit(core, release)?;
     releases.pass();
@@ -62,8 +64,11 @@ fn show_charge<A: Allocator, S: Watcher>(
     watcher: &mut S,
 ) -> Result<(), AllocError>
     requires { core.old.clock ≤ until }
-    ensures { OnOk result ((sim : Simulation LoadJob) → Agrees loading core.old sim.history
-        → MakesMove loading job_of S.saw sim (charge owed.server (min owed.ticks (until - clock_of loading job_of sim))) core.new None watcher.old watcher.new) }
+    ensures makes { OnOk result ((sim : Simulation LoadJob) → Agrees loading core.old sim.history
+        → MakesMove loading job_of S.saw sim (charge owed.server (min owed.ticks (until - clock_of loading job_of sim))) core.new None
+        watcher.old watcher.new) }
+    ensures stopped { OnErr result ((sim : Simulation LoadJob) → Agrees loading core.old sim.history
+        → StopsAt loading job_of sim (charge owed.server (min owed.ticks (until - clock_of loading job_of sim))) core.new) }
 {
     let left = until - core.now();
     let event = moves::charge(core, owed.server, owed.ticks.min(left));
@@ -77,15 +82,17 @@ fn show_next<A: Allocator, S: Watcher>(
     watcher: &mut S,
 ) -> Result<Option<Charge>, AllocError>
     requires { core.old.clock ≤ stop }
-    ensures { IfOk result (λ owing. (sim : Simulation LoadJob) → Agrees loading core.old sim.history
+    ensures makes { IfOk result (λ owing. (sim : Simulation LoadJob) → Agrees loading core.old sim.history
         → MakesMove loading job_of S.saw sim (move_to loading job_of stop sim) core.new owing watcher.old watcher.new) }
+    ensures stopped { OnErr result ((sim : Simulation LoadJob) → Agrees loading core.old sim.history
+        → StopsAt loading job_of sim (move_to loading job_of stop sim) core.new) }
 {
     let (event, owing) = moves::go_on(core, stop);
     show(core, event, watcher)?;
     Ok(owing)
 }
 
-/// Makes the next move before `until` where nothing is owed, and shows it. Returns what is then owed.
+/// Makes the next move before `until` if nothing is owed, and shows it. Returns what is then owed.
 fn make_free<A: Allocator, R: Releases, S: Watcher>(
     core: &mut Core<LoadJob, A>,
     releases: &mut R,
@@ -93,8 +100,11 @@ fn make_free<A: Allocator, R: Releases, S: Watcher>(
     watcher: &mut S,
 ) -> Result<Option<Charge>, AllocError>
     requires { core.old.clock < until }
-    ensures { IfOk result (λ owing. (M : History LoadJob) → Agrees loading core.old M
-        → MakesNext loading job_of until S.saw (record { history = M; coming = R.coming releases.old; owing = None }) core.new (R.coming releases.new) owing watcher.old watcher.new) }
+    ensures makes { IfOk result (λ owing. (M : History LoadJob) → Agrees loading core.old M
+        → MakesNext loading job_of until S.saw (record { history = M; coming = R.coming releases.old; owing = None })
+        core.new (R.coming releases.new) owing watcher.old watcher.new) }
+    ensures stopped { OnErr result ((M : History LoadJob) → Agrees loading core.old M
+        → Stops loading job_of until (record { history = M; coming = R.coming releases.old; owing = None }) core.new) }
 {
     let now = core.now();
     match releases.first() {
@@ -107,7 +117,7 @@ fn make_free<A: Allocator, R: Releases, S: Watcher>(
     }
 }
 
-/// Submits the next release, if it came before `until`, where the clock stands now, and shows it. Returns whether it did.
+/// Submits the next release, if it came before `until`, at which the clock stands, and shows it. Returns whether it did.
 fn submit_last<A: Allocator, R: Releases, S: Watcher>(
     core: &mut Core<LoadJob, A>,
     releases: &mut R,
@@ -119,6 +129,8 @@ fn submit_last<A: Allocator, R: Releases, S: Watcher>(
         → MakesNext loading job_of until S.saw sim core.new (R.coming releases.new) sim.owing watcher.old watcher.new) }
     ensures ended { IfOk result (λ moved. moved ≡ false → (sim : Simulation LoadJob) → Agrees loading core.old sim.history → sim.coming ≡ R.coming releases.old
         → Ended loading job_of until sim core.old core.new (R.coming releases.new) sim.owing watcher.old watcher.new) }
+    ensures stopped { OnErr result ((sim : Simulation LoadJob) → Agrees loading core.old sim.history → sim.coming ≡ R.coming releases.old
+        → Stops loading job_of until sim core.new) }
 {
     match releases.first() {
         Some(release) if release.tick < until => {
@@ -138,9 +150,13 @@ fn make_next<A: Allocator, R: Releases, S: Watcher>(
     watcher: &mut S,
 ) -> Result<bool, AllocError>
     ensures moved { IfOk result (λ moved. moved ≡ true → (M : History LoadJob) → Agrees loading core.old M
-        → MakesNext loading job_of until S.saw (record { history = M; coming = R.coming releases.old; owing = owing.old }) core.new (R.coming releases.new) owing.new watcher.old watcher.new) }
+        → MakesNext loading job_of until S.saw (record { history = M; coming = R.coming releases.old; owing = owing.old })
+        core.new (R.coming releases.new) owing.new watcher.old watcher.new) }
     ensures ended { IfOk result (λ moved. moved ≡ false → (M : History LoadJob) → Agrees loading core.old M
-        → Ended loading job_of until (record { history = M; coming = R.coming releases.old; owing = owing.old }) core.old core.new (R.coming releases.new) owing.new watcher.old watcher.new) }
+        → Ended loading job_of until (record { history = M; coming = R.coming releases.old; owing = owing.old })
+        core.old core.new (R.coming releases.new) owing.new watcher.old watcher.new) }
+    ensures stopped { OnErr result ((M : History LoadJob) → Agrees loading core.old M
+        → Stops loading job_of until (record { history = M; coming = R.coming releases.old; owing = owing.old }) core.new) }
 {
     if core.now() >= until {
         return submit_last(core, releases, until, watcher);
@@ -161,7 +177,7 @@ fn make_next<A: Allocator, R: Releases, S: Watcher>(
 ///
 /// The clock may not be later than `until`, nor than the first release, and `until` is at most [`LIMIT`].
 ///
-/// Answers an error if out of memory; the moves made stay made.
+/// Answers an error if out of memory: the core has then made the first of these moves, up to some move, and no other.
 pub fn simulate<A: Allocator, R: Releases, S: Watcher>(
     core: &mut Core<LoadJob, A>,
     releases: &mut R,
@@ -173,7 +189,10 @@ pub fn simulate<A: Allocator, R: Releases, S: Watcher>(
     requires order { IsInOrder core.old.clock (R.coming releases.old) }
     requires history { HasHistory loading core.old }
     ensures simulates { OnOk result ((M : History LoadJob) → Agrees loading core.old M
-        → Simulates loading job_of until S.saw (record { history = M; coming = R.coming releases.old; owing = None }) core.new watcher.old watcher.new) }
+        → Simulates loading job_of until S.saw (record { history = M; coming = R.coming releases.old; owing = None })
+        core.new watcher.old watcher.new) }
+    ensures stopped { OnErr result ((M : History LoadJob) → Agrees loading core.old M
+        → Stops loading job_of until (record { history = M; coming = R.coming releases.old; owing = None }) core.new) }
 {
     let mut owing = None;
     while make_next(core, releases, &mut owing, until, watcher)? {}

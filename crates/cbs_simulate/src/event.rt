@@ -12,7 +12,7 @@ pub enum Event {
         release: Release,
         /// The job's number among the accepted jobs of its server, from 0, or why it was refused.
         answer: Result<u64, CoreError>,
-        /// The tick by which all that the server has accepted is finished, if none is charged and the job was accepted.
+        /// If it was accepted, the tick by which all that the server has accepted is finished, as long as nobody is charged.
         promised: Option<u128>,
     },
     /// A unit was run.

@@ -5,6 +5,7 @@ mod alone;
 mod charge;
 mod driver;
 mod event;
+mod load;
 mod load_job;
 mod merged;
 mod moves;
@@ -13,11 +14,14 @@ mod release;
 mod releases;
 mod source;
 mod terms;
+#[cfg(test)]
+mod tests;
 mod watcher;
 
 pub use alone::simulate_plan;
 pub use driver::simulate;
 pub use event::{Event, Moment};
+pub use load::load_of;
 pub use load_job::LoadJob;
 pub use merged::Merged;
 pub use range::Range;

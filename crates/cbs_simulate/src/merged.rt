@@ -1,79 +1,76 @@
 //! The releases of several sources.
 
-ghost use Rattle.std.specs.Prelude.{◌≡◌, ℕ, ◌≤◌, ◌<◌, length, map, Some, None, IfSome};
-ghost use Rattle.cbs_simulate.specs.Merging.{merged, earlier_of, HasFirst};
-ghost use Rattle.cbs_simulate.specs.Releases.{MakesJob};
+ghost use Rattle.std.specs.Prelude.{◌≡◌, ◌+◌, ◌≤◌, ◌<◌, IsOk, IfOk, OnOk, Some, None};
+ghost use Rattle.std.specs.BinaryHeap.{KeepsHeap, heap_items, heap_len, heap_capacity};
+ghost use Rattle.std.specs.Option.{option_map};
+ghost use Rattle.cbs_simulate.specs.Turns.{turn_cmp, turns_in, AddsTurn};
 
 use crate::release::Release;
 use crate::releases::Releases;
+use std::alloc::{AllocError, Allocator, Global};
+use std::cmp::Reverse;
+use std::collections::BinaryHeap;
 use std::marker::Model;
 
-/// The earlier of the first release of one source and of that of the others, which has its place among them.
-fn earlier(own: Option<Release>, others: Option<(usize, Release)>) -> Option<(usize, Release)>
-    requires place { IfSome others (λ f. f.0 < 65536) }
-    requires own_units { IfSome own MakesJob }
-    requires units { IfSome others (λ f. MakesJob f.1) }
-    ensures first { result ≡ earlier_of own others }
-    ensures units { IfSome result (λ f. MakesJob f.1) }
-{
-    match (own, others) {
-        (None, None) => None,
-        (None, Some((index, other))) => Some((index + 1, other)),
-        (Some(release), None) => Some((0, release)),
-        (Some(release), Some((index, other))) => {
-            if release.tick <= other.tick {
-                Some((0, release))
-            } else {
-                Some((index + 1, other))
-            }
-        }
+/// The releases of several sources, by their ticks, and at one tick by the places of their sources.
+///
+/// The next release is known at once; to go on to the one after it takes time that grows with the logarithm of the sources.
+pub struct Merged<S: Releases + Drop, A: Allocator = Global> {
+    sources: Vec<S, A>,
+    // when each source that releases yet does so next, and its place; the first on top
+    turns: BinaryHeap<Reverse<(u64, usize)>, A>,
+}
+
+impl<S: Releases + Drop, A: Allocator> Drop for Merged<S, A> {
+    fn drop(self) {
+        let Merged {
+            sources: _,
+            turns: _,
+        } = self;
     }
 }
 
-/// Which source has the first of all releases, and that release.
-fn first_of<S: Releases>(sources: &[S]) -> Option<(usize, Release)>
-    requires { length sources.now ≤ 65536 }
-    ensures first { HasFirst (map S.coming sources.now) result }
-    ensures units { IfSome result (λ f. MakesJob f.1) }
-{
-    match sources {
-        [] => None,
-        [source, rest @ ..] => earlier(source.first(), first_of(rest)),
-    }
-}
-
-/// The releases of several sources, by their ticks, and at one tick by their sources.
-#[derive(Drop)]
-pub struct Merged<S: Releases + Drop> {
-    sources: Vec<S>,
-    // which source has the first of all, and that one
-    next: Option<(usize, Release)>,
-}
-
-impl<S: Releases + Drop> Model for Merged<S> {
-    ghost use Rattle.std.specs.Prelude.{◌≤◌, List, length, map, IfSome};
-    ghost use Rattle.cbs_simulate.specs.Releases.{MakesJob};
-    ghost use Rattle.cbs_simulate.specs.Merging.{HasFirst};
+impl<S: Releases + Drop, A: Allocator> Model for Merged<S, A> {
+    ghost use Rattle.std.specs.Prelude.{List, map};
+    ghost use Rattle.cbs_simulate.specs.Turns.{HasTurns};
 
     ghost Value = { List S };
 
     ghost view = { λ m. m.sources.items };
 
-    ghost invariant = { λ m. (length m.sources.items ≤ 65536) × HasFirst (map S.coming m.sources.items) m.next × IfSome m.next (λ f. MakesJob f.1) };
+    ghost invariant = { λ m. HasTurns (map S.coming m.sources.items) m.turns };
 }
 
-impl<S: Releases + Drop> Merged<S> {
-    /// The releases of these sources, at most 65,536.
-    pub fn new(sources: Vec<S>) -> Merged<S>
-        requires { length sources.items ≤ 65536 }
-        ensures { result ≡ sources.items }
+/// Adds the turn of the source at a place, if it releases yet.
+fn add_turn<A: Allocator>(
+    turns: &mut BinaryHeap<Reverse<(u64, usize)>, A>,
+    place: usize,
+    next: Option<Release>,
+) -> Result<(), AllocError>
+    ensures adds { OnOk result (AddsTurn place (option_map (λ r. r.tick) next) (turns_in turns.old) (turns_in turns.new)) }
+    ensures order { OnOk result (KeepsHeap turn_cmp (heap_items turns.old) (heap_items turns.new)) }
+    ensures succeeds { heap_len turns.old < heap_capacity turns.old → IsOk result }
+{
+    if let Some(release) = next {
+        turns.push(Reverse((release.tick, place)))?;
+    }
+    Ok(())
+}
+
+impl<S: Releases + Drop, A: Allocator> Merged<S, A> {
+    /// Returns the releases of these sources. Memory is taken here, and not later.
+    pub fn new(alloc: A, sources: Vec<S, A>) -> Result<Merged<S, A>, AllocError>
+        ensures { IfOk result (λ merged. merged ≡ sources.items) }
     {
-        let next = first_of(&sources);
-        Merged { sources, next }
+        let mut turns = BinaryHeap::with_capacity(alloc, sources.len())?;
+        for (place, source) in sources.iter().enumerate() {
+            add_turn(&mut turns, place, source.first())?;
+        }
+        Ok(Merged { sources, turns })
     }
 }
 
-impl<S: Releases + Drop> Releases for Merged<S> {
+impl<S: Releases + Drop, A: Allocator> Releases for Merged<S, A> {
     ghost use Rattle.std.specs.Prelude.{map};
     ghost use Rattle.cbs_simulate.specs.Merging.{merged};
     ghost use Rattle.cbs_simulate.specs.Ordering.{merged_ordered};
@@ -83,16 +80,18 @@ impl<S: Releases + Drop> Releases for Merged<S> {
     ghost ordered = { merged_ordered S.coming S.ordered };
 
     fn first(&self) -> Option<Release> {
-        match self.next {
-            Some((_, release)) => Some(release),
+        match self.turns.peek() {
+            Some(&Reverse((_, place))) => self.sources[place].first(),
             None => None,
         }
     }
 
     fn pass(&mut self) {
-        if let Some((index, _)) = self.next {
-            self.sources[index].pass();
-            self.next = first_of(&self.sources);
-        }
+        let Some(Reverse((_, place))) = self.turns.pop() else {
+            return;
+        };
+        self.sources[place].pass();
+        // There is room, since a turn came out.
+        let _added = add_turn(&mut self.turns, place, self.sources[place].first());
     }
 }

@@ -1,12 +1,12 @@
 //! Each kind of move, as a core makes it.
 
-ghost use Rattle.std.specs.Prelude.{◌≡◌, ◌≤◌, IfOk, None};
+ghost use Rattle.std.specs.Prelude.{◌≡◌, ◌≤◌, IfOk, OnErr, None};
 ghost use Rattle.cbs_core.specs.Agreement.{Agrees, TellsOf};
-ghost use Rattle.cbs_steps.specs.History.{faces};
+ghost use Rattle.cbs_steps.specs.History.{History, faces};
 ghost use Rattle.cbs_simulate.specs.Loading.{loading, job_of};
 ghost use Rattle.cbs_simulate.specs.Moves.{submit, run, pass, charge, idle_span, Simulation};
 ghost use Rattle.cbs_simulate.specs.Releases.{MakesJob};
-ghost use Rattle.cbs_simulate.specs.Simulating.{Moves, move_to, owing_told};
+ghost use Rattle.cbs_simulate.specs.Simulating.{DoesMove, move_to, owing_told};
 
 use crate::charge::Charge;
 use crate::event::Event;
@@ -23,8 +23,9 @@ pub(crate) fn submit<A: Allocator>(
     release: Release,
 ) -> Result<Event, AllocError>
     requires { MakesJob release }
-    ensures { IfOk result (λ event. (sim : Simulation LoadJob) → Agrees loading core.old sim.history
-        → Moves loading job_of sim (submit release) core.new event sim.owing) }
+    ensures moves { IfOk result (λ event. (sim : Simulation LoadJob) → Agrees loading core.old sim.history
+        → DoesMove loading job_of sim (submit release) core.new event sim.owing) }
+    ensures unchanged { OnErr result ((M : History LoadJob) → Agrees loading core.old M → Agrees loading core.new M) }
 {
     let job = LoadJob {
         left: release.units,
@@ -52,7 +53,7 @@ pub(crate) fn submit<A: Allocator>(
 
 /// Runs a unit of the chosen server. Returns what is then owed for it, beside the event.
 pub(crate) fn run<A: Allocator>(core: &mut Core<LoadJob, A>) -> (Event, Option<Charge>)
-    ensures { (sim : Simulation LoadJob) → Agrees loading core.old sim.history → Moves loading job_of sim run core.new result.0 result.1 }
+    ensures { (sim : Simulation LoadJob) → Agrees loading core.old sim.history → DoesMove loading job_of sim run core.new result.0 result.1 }
 {
     let ran = core.run();
     (Event::Ran(ran), owing(core, ran))
@@ -71,7 +72,7 @@ fn owing<A: Allocator>(core: &Core<LoadJob, A>, ran: Ran) -> Option<Charge>
 
 /// Lets so many ticks pass.
 pub(crate) fn pass<A: Allocator>(core: &mut Core<LoadJob, A>, ticks: u64) -> Event
-    ensures { (sim : Simulation LoadJob) → Agrees loading core.old sim.history → Moves loading job_of sim (pass ticks) core.new result None }
+    ensures { (sim : Simulation LoadJob) → Agrees loading core.old sim.history → DoesMove loading job_of sim (pass ticks) core.new result None }
 {
     let _passed = core.advance(ticks);
     Event::Passed(ticks)
@@ -79,7 +80,7 @@ pub(crate) fn pass<A: Allocator>(core: &mut Core<LoadJob, A>, ticks: u64) -> Eve
 
 /// Charges a server, which ran the last unit.
 pub(crate) fn charge<A: Allocator>(core: &mut Core<LoadJob, A>, server: u16, ticks: u64) -> Event
-    ensures { (sim : Simulation LoadJob) → Agrees loading core.old sim.history → Moves loading job_of sim (charge server ticks) core.new result None }
+    ensures { (sim : Simulation LoadJob) → Agrees loading core.old sim.history → DoesMove loading job_of sim (charge server ticks) core.new result None }
 {
     let _charged = core.charge(server, ticks);
     Event::Charged { server, ticks }
@@ -89,7 +90,7 @@ pub(crate) fn charge<A: Allocator>(core: &mut Core<LoadJob, A>, server: u16, tic
 pub(crate) fn go_on<A: Allocator>(core: &mut Core<LoadJob, A>, stop: u64) -> (Event, Option<Charge>)
     requires { core.old.clock ≤ stop }
     ensures { (sim : Simulation LoadJob) → Agrees loading core.old sim.history
-        → Moves loading job_of sim (move_to loading job_of stop sim) core.new result.0 result.1 }
+        → DoesMove loading job_of sim (move_to loading job_of stop sim) core.new result.0 result.1 }
 {
     match span_if_idle(core) {
         None => run(core),

@@ -1,7 +1,7 @@
 //! Sources of jobs, with numbers drawn.
 
-ghost use Rattle.std.specs.Prelude.{◌≡◌, ◌≤◌};
-ghost use Rattle.cbs_simulate.specs.Drawing.{IsLawful, pending, released_by};
+ghost use Rattle.std.specs.Prelude.{◌≡◌, ◌≤◌, ℕ, None};
+ghost use Rattle.cbs_simulate.specs.Drawing.{IsLawful, pending, released_by, released_from};
 
 use crate::range::Range;
 use crate::release::Release;
@@ -30,13 +30,23 @@ pub struct Source {
 impl Model for Source {
     ghost use Rattle.std.specs.Prelude.{◌≤◌, ◌<◌};
     ghost use Rattle.cbs_rate.specs.Limits.{most_units};
+    ghost use Rattle.cbs_rules.specs.Rules.{clock_end};
     ghost use Rattle.cbs_simulate.specs.Drawing.{Cursor, IsLawful};
 
     ghost Value = { Cursor };
 
-    ghost view = { λ s. record { place = s.place; terms = s.terms; until = s.until; left = s.left; tick = s.tick; units = s.units; overrun = s.overrun; draws = s.draws } };
+    ghost view = { λ s. record {
+      place = s.place;
+      terms = s.terms;
+      until = s.until;
+      left = s.left;
+      tick = s.tick;
+      units = s.units;
+      overrun = s.overrun;
+      draws = s.draws;
+    } };
 
-    ghost invariant = { λ s. IsLawful s.terms × (s.until ≤ 1000000000000) × (0 < s.units) × (s.units ≤ most_units) };
+    ghost invariant = { λ s. IsLawful s.terms × (s.until ≤ clock_end) × (0 < s.units) × (s.units ≤ most_units) };
 }
 
 impl Source {
@@ -47,7 +57,8 @@ impl Source {
     pub fn new(place: u16, terms: &SourceTerms, until: u64, seed: u64) -> Source
         requires lawful { IsLawful terms.now }
         requires end { until ≤ LIMIT }
-        ensures { pending result ≡ released_by place terms.now until seed }
+        ensures releases { pending result ≡ released_by place terms.now until seed }
+        ensures endless { terms.now.jobs ≡ None → (k : ℕ) → until ≤ k → pending result ≡ released_from place terms.now until k seed }
     {
         let mut draws = Pcg64::new(u128::from(seed), u128::from(place));
         let units = terms.units.draw(&mut draws) as u32;

@@ -4,7 +4,8 @@ use Rattle.cbs_simulate.proofs.AloneLaws.{alone}
 use Rattle.cbs_simulate.proofs.alone.simulate_plan.Goals as goal
 
 pub simulate-requires-clause-order : goal.simulate-requires-clause-order
-simulate-requires-clause-order g c = let e : c.in_ok-core.core.clock ≡ 0 = c.in_ok-core.ensures.start.world.clock in rw e (g.R.Releases.ordered c.args.releases.now)
+simulate-requires-clause-order g c = let e : c.in_ok-core.core.clock ≡ 0 = c.in_ok-core.ensures.start.world.clock in
+    rw e (g.R.Releases.ordered c.args.releases.now)
 
 pub returns-in-Ok-clause-simulates : goal.returns-in-Ok-clause-simulates
 returns-in-Ok-clause-simulates g c =

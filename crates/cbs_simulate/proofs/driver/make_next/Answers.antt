@@ -7,11 +7,13 @@ use Rattle.cbs_simulate.proofs.driver.make_next.Goals as goal
 
 pub returns-then-now-until-clause-moved : goal.returns-then-now-until-clause-moved
 returns-then-now-until-clause-moved g c =
-    IfOk-weaker c.submit_last.result _ _ (λ moved h. λ t M agrees. h t (record { history = M; coming = g.R.Releases.coming c.args.releases.now; owing = c.args.owing.now }) agrees refl) c.submit_last.ensures.moved
+    IfOk-weaker c.submit_last.result _ _ (λ moved h. λ t M agrees. h t
+    (record { history = M; coming = g.R.Releases.coming c.args.releases.now; owing = c.args.owing.now }) agrees refl) c.submit_last.ensures.moved
 
 pub returns-then-now-until-clause-ended : goal.returns-then-now-until-clause-ended
 returns-then-now-until-clause-ended g c =
-    IfOk-weaker c.submit_last.result _ _ (λ moved h. λ t M agrees. h t (record { history = M; coming = g.R.Releases.coming c.args.releases.now; owing = c.args.owing.now }) agrees refl) c.submit_last.ensures.ended
+    IfOk-weaker c.submit_last.result _ _ (λ moved h. λ t M agrees. h t
+    (record { history = M; coming = g.R.Releases.coming c.args.releases.now; owing = c.args.owing.now }) agrees refl) c.submit_last.ensures.ended
 
 pub returns-in_ok-show_charge-in-Some-clause-moved :
     goal.returns-in_ok-show_charge-in-Some-clause-moved
@@ -20,4 +22,5 @@ returns-in_ok-show_charge-in-Some-clause-moved g c = λ t M agrees.
     let now : c.now.result ≡ (world_after loading M).now = c.now.ensures.now M agrees in
     let early : (world_after loading M).now < c.args.until = omega arith in
     let coming = g.R.Releases.coming c.args.releases.now in
-    rw c.in-Some.is (makes_charge loading job_of c.args.until M g.S.Watcher.saw coming c.in-Some.owed _ _ _ early (c.in_ok-show_charge-in-Some.ensures (record { history = M; coming = coming; owing = Some c.in-Some.owed }) agrees))
+    rw c.in-Some.is (makes_charge loading job_of c.args.until M g.S.Watcher.saw coming c.in-Some.owed _ _ _ early
+    (c.in_ok-show_charge-in-Some.ensures.makes (record { history = M; coming = coming; owing = Some c.in-Some.owed }) agrees))

@@ -9,7 +9,8 @@ use Rattle.cbs_simulate.proofs.driver.simulate.Given as goal
 -- some of the moves were made
 abbrev pub invariant-loop : goal.invariant-loop
 invariant-loop g l = (M : History LoadJob) → Agrees loading l.initial.core M
-    → MakesSome loading job_of l.until g.S.Watcher.saw (record { history = M; coming = g.R.Releases.coming l.initial.releases; owing = None }) l.core (g.R.Releases.coming l.releases) l.owing l.initial.watcher l.watcher
+    → MakesSome loading job_of l.until g.S.Watcher.saw (record { history = M; coming = g.R.Releases.coming l.initial.releases; owing = None }) l.core
+    (g.R.Releases.coming l.releases) l.owing l.initial.watcher l.watcher
 
 -- the ticks and the releases that are left
 abbrev pub decreases-loop : goal.decreases-loop

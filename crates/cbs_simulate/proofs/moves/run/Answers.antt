@@ -6,4 +6,5 @@ use Rattle.cbs_simulate.proofs.moves.run.Goals as goal
 pub returns : goal.returns
 returns g c = λ sim agrees.
     let makes = c.run-ran.ensures.makes in
-    runs loading job_of constant sim _ _ c.run-ran.result c.owing.result agrees (makes.reply sim.history agrees) (makes.state sim.history agrees) c.run-ran.ensures.job c.owing.ensures
+    runs loading job_of constant sim _ _ c.run-ran.result c.owing.result agrees (makes.reply sim.history agrees)
+    (makes.state sim.history agrees) c.run-ran.ensures.job c.owing.ensures
