@@ -1,9 +1,10 @@
 //! Load files: what a good one holds, and the fault of each faulty one.
 
 use crate::{Load, read_load};
+use cbs_core::Core;
 use cbs_rules::Mode;
-use cbs_simulate::{Range, SourceTerms};
-use std::alloc::Global;
+use cbs_simulate::{LoadJob, Moment, Range, SourceTerms, Watcher, simulate_plan};
+use std::alloc::{AllocError, Allocator, Global};
 use std::process::Abort;
 
 /// What stands before the servers.
@@ -85,30 +86,30 @@ fn a_seed_left_out_is_0(rt: HostRuntime) {
 }
 
 /// The texts of a file, and its fault.
-const FAULTS: [([&str; 4], &str); 22] = [
-    (["", "", "", ""], "a key of this table is missing, at top"),
+const FAULTS: [(&[&str], &str); 22] = [
+    (&["", "", "", ""], "a key of this table is missing, at top"),
     (
-        ["load = 2\n", "", "", ""],
+        &["load = 2\n", "", "", ""],
         "a value is out of range, at top",
     ),
     (
-        ["load = \"1\"\n", "", "", ""],
+        &["load = \"1\"\n", "", "", ""],
         "a value has the wrong type, at top",
     ),
     (
-        ["load = 1\nbound = [1, 1\n", "", "", ""],
+        &["load = 1\nbound = [1, 1\n", "", "", ""],
         "this is no TOML document, at top",
     ),
     (
-        [TOP, "untill = 3\n", CONTROL, BARE],
+        &[TOP, "untill = 3\n", CONTROL, BARE],
         "a key is not one of this table's keys, at top",
     ),
     (
-        [TOP, CONTROL, "", ""],
+        &[TOP, CONTROL, "", ""],
         "a key of this table is missing, at top",
     ),
     (
-        [
+        &[
             "load = 1\nbound = [1, 1]\nbacklog = 4\nuntil = 0\n",
             CONTROL,
             BARE,
@@ -117,7 +118,7 @@ const FAULTS: [([&str; 4], &str); 22] = [
         "a value is out of range, at top",
     ),
     (
-        [
+        &[
             "load = 1\nbound = [1, 1]\nbacklog = 4097\nuntil = 1\n",
             CONTROL,
             BARE,
@@ -126,15 +127,15 @@ const FAULTS: [([&str; 4], &str); 22] = [
         "a value is out of range, at top",
     ),
     (
-        [TOP, "seed = -1\n", CONTROL, BARE],
+        &[TOP, "seed = -1\n", CONTROL, BARE],
         "a value is out of range, at top",
     ),
     (
-        [TOP, CONTROL, CONTROL, BARE],
+        &[TOP, CONTROL, CONTROL, BARE],
         "a value is out of range, at server 1",
     ),
     (
-        [
+        &[
             TOP,
             "[[server]]\nname = \"a b\"\nmode = \"soft\"\nbudget = 1\nperiod = 5\n",
             BARE,
@@ -143,7 +144,7 @@ const FAULTS: [([&str; 4], &str); 22] = [
         "a value is out of range, at server 0",
     ),
     (
-        [
+        &[
             TOP,
             "[[server]]\nname = \"\"\nmode = \"soft\"\nbudget = 1\nperiod = 5\n",
             BARE,
@@ -152,7 +153,7 @@ const FAULTS: [([&str; 4], &str); 22] = [
         "a value is out of range, at server 0",
     ),
     (
-        [
+        &[
             TOP,
             "[[server]]\nname = \"a\"\nmode = \"sporadic\"\nbudget = 1\nperiod = 5\n",
             BARE,
@@ -161,7 +162,7 @@ const FAULTS: [([&str; 4], &str); 22] = [
         "a value is out of range, at server 0",
     ),
     (
-        [
+        &[
             TOP,
             "[[server]]\nname = \"a\"\nmode = \"soft\"\nbudget = 6\nperiod = 5\n",
             BARE,
@@ -170,7 +171,7 @@ const FAULTS: [([&str; 4], &str); 22] = [
         "a value is out of range, at server 0",
     ),
     (
-        [
+        &[
             TOP,
             CONTROL,
             "[[server]]\nname = \"a\"\nmode = \"soft\"\nbudget = 5\nperiod = 6\n",
@@ -179,11 +180,11 @@ const FAULTS: [([&str; 4], &str); 22] = [
         "the plan does not take this server: too many, too fine periods, or over the bound, at server 1",
     ),
     (
-        [TOP, CONTROL, BARE, FULL],
+        &[TOP, CONTROL, BARE, FULL],
         "a value is out of range, at source 1",
     ),
     (
-        [
+        &[
             TOP,
             CONTROL,
             BARE,
@@ -192,23 +193,23 @@ const FAULTS: [([&str; 4], &str); 22] = [
         "a key of this table is missing, at source 1",
     ),
     (
-        [TOP, CONTROL, BARE, "deadline = 3\n"],
+        &[TOP, CONTROL, BARE, "deadline = 3\n"],
         "a key is not one of this table's keys, at source 0",
     ),
     (
-        [TOP, CONTROL, BARE, "within = true\n"],
+        &[TOP, CONTROL, BARE, "within = true\n"],
         "a value has the wrong type, at source 0",
     ),
     (
-        [TOP, CONTROL, BARE, "overrun = [2, 1]\n"],
+        &[TOP, CONTROL, BARE, "overrun = [2, 1]\n"],
         "a value is out of range, at source 0",
     ),
     (
-        [TOP, CONTROL, BARE, "overrun = [2]\n"],
+        &[TOP, CONTROL, BARE, "overrun = [2]\n"],
         "a value is out of range, at source 0",
     ),
     (
-        [TOP, CONTROL, BARE, "jobs = 0\n"],
+        &[TOP, CONTROL, BARE, "jobs = 0\n"],
         "a value is out of range, at source 0",
     ),
 ];
@@ -217,9 +218,164 @@ const FAULTS: [([&str; 4], &str); 22] = [
 fn a_faulty_file_has_one_first_fault(rt: HostRuntime) {
     let alloc = rt.alloc();
     for &(texts, wanted) in &FAULTS {
-        let bytes = bytes_of(&rt, alloc, &texts);
+        let bytes = bytes_of(&rt, alloc, texts);
         let fault = read_load(alloc, &bytes).err().expect(&rt, wanted);
         let said = format!(in alloc; "{fault}").expect(&rt, "memory");
         assert!(rt; said.as_str() == wanted, "{said}, not {wanted}");
     }
+}
+
+/// A robot: control, vision, a throttled lidar, and bursts of logging.
+const ROBOT: &str = "\
+load = 1
+bound = [1, 1]
+backlog = 4
+until = 200
+seed = 7
+[[server]]
+name = \"control\"
+mode = \"soft\"
+budget = 1
+period = 5
+[[source]]
+server = \"control\"
+every = 5
+units = 1
+[[server]]
+name = \"vision\"
+mode = \"soft\"
+budget = 6
+period = 20
+[[source]]
+server = \"vision\"
+every = 20
+units = 6
+[[server]]
+name = \"lidar\"
+mode = \"throttled\"
+budget = 2
+period = 10
+[[source]]
+server = \"lidar\"
+first = 3
+every = 20
+units = 3
+within = 20
+[[server]]
+name = \"logging\"
+mode = \"soft\"
+budget = 1
+period = 10
+[[source]]
+server = \"logging\"
+first = 12
+every = [4, 12]
+units = [1, 5]
+within = 20
+";
+
+/// A media pipeline, with a greedy server of uploads.
+const PIPELINE: &str = "\
+load = 1
+bound = [9, 10]
+backlog = 8
+until = 600
+seed = 1
+[[server]]
+name = \"audio\"
+mode = \"soft\"
+budget = 2
+period = 10
+[[source]]
+server = \"audio\"
+every = 10
+units = 2
+[[server]]
+name = \"video\"
+mode = \"soft\"
+budget = 8
+period = 24
+[[source]]
+server = \"video\"
+every = 24
+units = [5, 8]
+[[server]]
+name = \"uploads\"
+mode = \"soft\"
+budget = 3
+period = 30
+[[source]]
+server = \"uploads\"
+first = 5
+every = [8, 16]
+units = [4, 10]
+within = 90
+[[server]]
+name = \"batch\"
+mode = \"throttled\"
+budget = 4
+period = 20
+[[source]]
+server = \"batch\"
+every = 60
+units = 12
+within = 80
+";
+
+/// Looks at nothing.
+#[derive(Drop)]
+struct Nobody;
+
+impl Watcher for Nobody {
+    ghost saw = { λ it seen. Unit {0} };
+
+    fn see<A: Allocator>(
+        &mut self,
+        _moment: Moment,
+        _core: &Core<LoadJob, A>,
+    ) -> Result<(), AllocError> {
+        Ok(())
+    }
+}
+
+/// Simulates the load of a text, and looks at how many jobs each server accepted and finished.
+fn comes_to(rt: &impl Abort, alloc: Global, text: &str, rows: [(u64, u64); 4]) {
+    let load = load_of(rt, alloc, &[text]);
+    let until = load.until();
+    let mut releases = cbs_simulate::load_of(alloc, load.sources(), until, load.seed()).expect(
+        rt, "memory",
+    );
+    let core = simulate_plan(
+        alloc,
+        load.plan(),
+        load.modes(),
+        load.backlog(),
+        &mut releases,
+        until,
+        &mut Nobody,
+    )
+    .ok()
+    .expect(rt, "a simulation");
+    assert!(rt; core.now() == until);
+    for server in 0..4 {
+        let row = rows[usize::from(server)];
+        let view = core.view(server).ok().expect(rt, "a view");
+        assert!(rt;
+            (view.accepted, view.finished) == row,
+            "server {server}: {view:?}, not {row:?}"
+        );
+    }
+}
+
+// The rows are another scheduler's, which draws by the same rule.
+#[test]
+fn loads_come_to_what_another_scheduler_found(rt: HostRuntime) {
+    let alloc = rt.alloc();
+    comes_to(&rt, alloc, ROBOT, [(40, 40), (10, 10), (10, 10), (23, 21)]);
+    comes_to(
+        &rt,
+        alloc,
+        PIPELINE,
+        [(60, 60), (25, 25), (31, 24), (10, 10)],
+    );
 }
