@@ -58,8 +58,9 @@ debts_came parts now (suc i) (x ∷ xs) lt late =
     let h = debts_came parts now i xs (omega arith) late in
     rw (sum_by-cons (debt parts now) x (changed_at (came now) xs i), sum_by-cons (debt parts now) x xs) (omega arith)
 
--- the next job of a stream may come by a distance from now on, and its parts come to its span
+-- a stream has a distance, by which from now on its next job may come, and its share of a whole one comes to its span
 pub record IsOpenSoon (parts now : ℕ) (x : Stream) : Type 0 where
+  pub some : 0 < x.rate.period
   pub soon : x.open_at ≤ now + x.rate.period
   pub whole : share parts x.rate * x.rate.period ≡ x.rate.budget * parts
 
@@ -90,7 +91,7 @@ borne_later parts now n due xs h =
     let borne = h.borne in
     record {
       borne = omega arith;
-      each = AllByRecursion-weaker (IsOpenSoon parts now) (IsOpenSoon parts (now + n)) xs h.each (λ x o. record { soon = let s = o.soon in omega arith; whole = o.whole });
+      each = AllByRecursion-weaker (IsOpenSoon parts now) (IsOpenSoon parts (now + n)) xs h.each (λ x o. record { some = o.some; soon = let s = o.soon in omega arith; whole = o.whole });
       fits = h.fits;
     }
 
@@ -109,7 +110,7 @@ borne_came parts now due span i xs h lt late small =
     ] in
     record {
       borne = omega arith;
-      each = AllByRecursion-changed_at (IsOpenSoon parts now) (IsOpenSoon parts now) (came now) xs i no_stream h.each (λ x o. o) (λ o. record { soon = omega arith; whole = o.whole });
+      each = AllByRecursion-changed_at (IsOpenSoon parts now) (IsOpenSoon parts now) (came now) xs i no_stream h.each (λ x o. o) (λ o. record { some = o.some; soon = omega arith; whole = o.whole });
       fits = rw (sum_changed_same (λ x. share parts x.rate) (came now) xs i (λ x. refl)) h.fits;
     }
 

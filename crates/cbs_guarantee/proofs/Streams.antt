@@ -1,33 +1,33 @@
 -- Each job of streams that ask for no more than all of a server's time is finished all spans after it came.
-use Rattle.std.proofs.Common.{◌≡◌, ℕ, zero, suc, ◌+◌, ◌-◌, ◌*◌, ◌/◌, ◌%◌, ◌≤◌, ◌<◌, eqb, leb, List, [], ◌∷◌, length, get_or, arith, refl, ◌∙◌, ap, inl, inr, Option, Some, None}
+use Rattle.std.proofs.Common.{◌≡◌, ℕ, zero, suc, ◌+◌, ◌-◌, ◌*◌, ◌/◌, ◌%◌, ◌≤◌, ◌<◌, true, eqb, List, [], ◌∷◌, ◌++◌, length, get_or, arith, refl, sym, ◌∙◌, ap, subst, None, inl, inr}
+use Rattle.std.specs.Prelude.{map, max}
+use Rattle.std.specs.Int.{div_ceil}
 use Rattle.std.specs.List.{sum_by, AllByRecursion}
-use Rattle.std.proofs.Math.Nat.{dvd_of_mod-eq-zero, mul-div_cancel'}
-use Rattle.std.proofs.lemmas.Bool.{cases_Bool}
+use Rattle.std.proofs.Math.Nat.{dvd_of_mod-eq-zero, mul-div_cancel', zero-div, zero-mod}
 use Rattle.std.proofs.lemmas.Bool.Decides.{nat_tests}
 use Rattle.std.proofs.lemmas.List.{length-map}
 use native.Mathlib.Nat.{mul_assoc, mul_comm, mul-pos}
 use Rattle.cbs_job.specs.Work.{Meaning}
+use Rattle.cbs_lists.proofs.Lists.{changed_kept}
+use Rattle.cbs_lists.proofs.Sums.{sum_map}
 use Rattle.cbs_rate.specs.Rate.{Rate}
 use Rattle.cbs_rate.specs.Plan.{share, all_periods, total_share, IsCommonMultiple}
 use Rattle.cbs_rate.proofs.Multiples.{all_periods-common}
-use Rattle.cbs_rules.specs.Rules.{clock_end}
-use Rattle.cbs_steps.specs.Faces.{submit_refusal, close_refusal}
-use Rattle.cbs_steps.specs.History.{World, Setup, History, account, faces, let_go, tick, ticks, runner, after_submit, after_run, after_advance, after_closing, after_charging, charge_refusal, next, after}
-use Rattle.cbs_lists.specs.Lists.{changed_at}
-use Rattle.cbs_steps.specs.Accounts.{account_with_charge}
-use Rattle.cbs_steps.specs.Promises.{due, due_submitted, KeepsDue}
-use Rattle.cbs_steps.specs.declared.error.CoreError.{CoreError}
+use Rattle.cbs_rules.specs.Rules.{Terms}
+use Rattle.cbs_steps.specs.Charged.{Due, due_tick, due_of_submit, due_of_charge, charged_due, KeepsChargedDue}
+use Rattle.cbs_steps.specs.Faces.{submit_refusal}
+use Rattle.cbs_steps.specs.History.{World, Setup, History, account, faces, start, after, charge_refusal}
 use Rattle.cbs_steps.specs.declared.step.Step.{Step}
-use Rattle.cbs_steps.specs.declared.step.Step.TheVariants.{Submit, Run, Advance, Close, Charge}
-use Rattle.cbs_lists.proofs.Lists.{length-changed_at}
-use Rattle.cbs_lists.proofs.Sums.{sum_map, sum_changed_same}
-use Rattle.cbs_guarantee.specs.Streams.{Stream, no_stream, new_streams, came, span_of, IsBearable, all_spans, streams_submitted, next_number, streams_after, IsOfStream, AreStreams, KeepsStreams}
-use Rattle.cbs_guarantee.proofs.Debts.{IsOpenSoon, IsBorne, borne_later, borne_came, borne_by, spans}
+use Rattle.cbs_steps.specs.declared.step.Step.TheVariants.{Submit, Charge}
+use Rattle.cbs_guarantee.specs.Streams.{Stream, no_stream, new_streams, came, span_of, IsStream, IsBearable, all_spans, streams_submitted, jobs_of, streams_after, next_stream}
+use Rattle.cbs_guarantee.specs.Streams.{IsStreamJob, AreStreams, KeepsStreams}
+use Rattle.cbs_guarantee.proofs.Debts.{IsOpenSoon, IsBorne, borne_later, borne_came, borne_by, spans, shares}
+use Rattle.cbs_guarantee.proofs.Steps.{submit-now, clock_grows, terms_after, total_behind, total_of, IsOther, charge_counts, by_step}
 
 -- a product of positive periods is positive
-periods_some : (rates : List Rate) → AllByRecursion (λ r. 0 < r.period) rates → 0 < all_periods rates
+periods_some : (rates : List Rate) → AllByRecursion IsStream rates → 0 < all_periods rates
 periods_some [] each = omega arith
-periods_some (r ∷ rates) each = mul-pos each.0 (periods_some rates each.1)
+periods_some (r ∷ rates) each = mul-pos each.0.distance (periods_some rates each.1)
 
 -- each period of such a product comes to its span
 whole_share : (parts : ℕ) (r : Rate) → parts % r.period ≡ 0 → share parts r * r.period ≡ r.budget * parts
@@ -36,50 +36,49 @@ whole_share parts r common =
     mul_assoc r.budget (parts / r.period) r.period ∙ ap (λ n. r.budget * n) (mul_comm (parts / r.period) r.period ∙ e)
 
 -- new streams owe nothing
-new_open : (parts : ℕ) (rates : List Rate) → IsCommonMultiple parts rates → AllByRecursion (IsOpenSoon parts 0) (new_streams rates)
-new_open parts [] common = tt
-new_open parts (r ∷ rates) common = (record { soon = omega arith; whole = whole_share parts r common.0 }, new_open parts rates common.1)
+new_open : (parts : ℕ) (rates : List Rate) → IsCommonMultiple parts rates → AllByRecursion IsStream rates → AllByRecursion (IsOpenSoon parts 0) (new_streams rates)
+new_open parts [] common each = tt
+new_open parts (r ∷ rates) common each =
+    (record { some = each.0.distance; soon = omega arith; whole = whole_share parts r common.0 }, new_open parts rates common.1 each.1)
 
-module _ {W : Type 0} (work : Meaning W) where
-  -- no step takes the clock back
-  ticks-now : (n : ℕ) (w : World W) → (ticks n w).now ≡ w.now + n
-  unfolding ticks
-  ticks-now zero w = omega arith
-  ticks-now (suc n) w = let h = ticks-now n (tick w) in omega (arith, h)
+-- new streams have the rates that were given
+new_rates : (rates : List Rate) → map (λ (x : Stream). x.rate) (new_streams rates) ≡ rates
+new_rates [] = refl
+new_rates (r ∷ rates) = ap (λ rs. r ∷ rs) (new_rates rates)
 
-  submit_grows : (w : World W) (s : ℕ) (job : W) (o : Option CoreError) → (after_submit work w s job o).now ≡ w.now
-  submit_grows w s job None = refl
-  submit_grows w s job (Some e) = refl
+-- no ticks have no span
+pub none_due : (r : Rate) → due_tick r (record { from = 0; units = 0 }) ≡ 0
+none_due r = rw (zero-div r.budget, zero-mod r.budget) (omega arith)
 
-  run_grows : (w : World W) (o : Option ℕ) → w.now ≤ (after_run w o).now
-  run_grows w None = omega arith
-  run_grows w (Some s) = omega arith
+-- a sum over the rates of streams
+pub sum_of_rates : (f : Rate → ℕ) (xs : List Stream) (rates : List Rate) → map (λ x. x.rate) xs ≡ rates → sum_by (λ x. f x.rate) xs ≡ sum_by f rates
+sum_of_rates f xs rates e = sym (sum_map f (λ x. x.rate) xs) ∙ ap (sum_by f) e
 
-  close_grows : (w : World W) (s : ℕ) (o : Option CoreError) → w.now ≤ (after_closing w s o).now
-  close_grows w s None = omega arith
-  close_grows w s (Some e) = omega arith
+module _ {W : Type 0} (work : Meaning W) (setup : Setup) (s : ℕ) where
+  -- the reservation of server s, which it keeps
+  abbrev pub reserved : Rate
+  reserved = (account (start {W = W} setup).accounts s).terms.reservation
 
-  advance_grows : (n : ℕ) (w : World W) → w.now ≤ (after_advance w n).now
-  advance_grows zero w = omega arith
-  advance_grows (suc n) w = let e = ticks-now (suc n) (let_go w) in omega arith
+  pub reserved_after : (M : List (Step W)) → (account (after work setup M).accounts s).terms.reservation ≡ reserved
+  reserved_after M = ap (λ (v : Terms). v.reservation) (terms_after work setup M s)
 
-  charge_grows : (w : World W) (s n : ℕ) (o : Option CoreError) → w.now ≤ (after_charging w s n o).now
-  charge_grows w s zero None = omega arith
-  charge_grows w s (suc n) None = let e = ticks-now (suc n) (record w { accounts = changed_at (account_with_charge (suc n)) w.accounts s }) in omega arith
-  charge_grows w s zero (Some e) = omega arith
-  charge_grows w s (suc n) (Some e) = omega arith
+  -- when the last job that server s accepted is due
+  abbrev pub due_after : List (Step W) → ℕ
+  due_after M = due_tick reserved (charged_due work setup s M)
 
-  grows : (backlog : ℕ) (w : World W) (x : Step W) → w.now ≤ (next work backlog w x).now
-  grows backlog w (Submit s job) = let e = submit_grows w s job (submit_refusal backlog (faces work w) s) in omega arith
-  grows backlog w Run = run_grows w (runner work w)
-  grows backlog w (Advance n) = elim (cases_Bool (leb (w.now + n) clock_end)) [
-    | inl t ↦ rw t (advance_grows n w)
-    | inr f ↦ rw f (omega arith)
-  ]
-  grows backlog w (Close s) = close_grows w s (close_refusal (faces work w) s)
-  grows backlog w (Charge s n) = charge_grows w s n (charge_refusal w s n)
+  -- by an accepted submit
+  pub due_given : (M : List (Step W)) (job : W) → submit_refusal setup.backlog (faces work (after work setup M)) s ≡ None
+      → charged_due work setup s (Submit s job ∷ M) ≡ record { from = max (due_after M) (after work setup M).now; units = work.left job }
+  due_given M job accepted =
+      let itself : eqb s s ≡ true = grind (arith, nat_tests) in
+      rw (itself, accepted, reserved_after M) refl
 
-  module _ (setup : Setup) (s : ℕ) (rates : List Rate) (of : ℕ → ℕ) (ok : IsBearable rates) where
+  -- by a charge of server s
+  pub due_charged : (M : List (Step W)) (n : ℕ) → charge_refusal (after work setup M) s n ≡ None
+      → (let d = charged_due work setup s M in charged_due work setup s (Charge s n ∷ M) ≡ record d { units = d.units + n })
+  due_charged M n charged = let itself : eqb s s ≡ true = grind (arith, nat_tests) in rw (itself, charged) refl
+
+  module _ (rates : List Rate) (of : ℕ → ℕ) (ok : IsBearable rates) where
     abbrev parts : ℕ
     parts = all_periods rates
 
@@ -90,67 +89,67 @@ module _ {W : Type 0} (work : Meaning W) where
     streams M = streams_after work setup s rates of M
 
     -- what is due after the steps is borne, and the streams are those that were given
-    record IsBorneAfter (M : List (Step W)) : Type 0 where
-      borne : IsBorne parts (now_after M) (due work setup s M) (streams M)
-      count : length (streams M) ≡ length rates
-      spans_are : spans (streams M) ≡ all_spans rates
+    pub record IsBorneAfter (M : List (Step W)) : Type 0 where
+      pub borne : IsBorne parts (now_after M) (due_after M) (streams M)
+      pub rates_are : map (λ (x : Stream). x.rate) (streams M) ≡ rates
 
     -- where neither a job nor anything that is due came, it is so still
-    stays : (M : List (Step W)) (x : Step W) → IsBorneAfter M → due work setup s (x ∷ M) ≡ due work setup s M → streams (x ∷ M) ≡ streams M → IsBorneAfter (x ∷ M)
-    stays M x h e f =
-        let later = borne_later parts (now_after M) (now_after (x ∷ M) - now_after M) (due work setup s M) (streams M) h.borne in
-        let g = grows setup.backlog (after work setup M) x in
+    stays : (x : Step W) (M : List (Step W)) → IsBorneAfter M → due_after (x ∷ M) ≡ due_after M → streams (x ∷ M) ≡ streams M → IsBorneAfter (x ∷ M)
+    stays x M h e f =
+        let later = borne_later parts (now_after M) (now_after (x ∷ M) - now_after M) (due_after M) (streams M) h.borne in
+        let g = clock_grows work setup.backlog (after work setup M) x in
         let n : now_after M + (now_after (x ∷ M) - now_after M) ≡ now_after (x ∷ M) = omega arith in
-        record { borne = rw (e, f) (rw n at later); count = rw f h.count; spans_are = rw f h.spans_are }
+        record { borne = rw (e, f) (rw n at later); rates_are = rw f h.rates_are }
 
-    -- a submit, accepted or refused
-    submitted : (M : List (Step W)) (t : ℕ) (job : W) (o : Option CoreError) → IsBorneAfter M
-        → (o ≡ None → (of (next_number work setup s rates of M t) < length rates) × IsOfStream work setup s rates of M t job (get_or (streams M) (of (next_number work setup s rates of M t)) no_stream))
-        → (let i = of (next_number work setup s rates of M t) in
-        IsBorne parts (now_after M) (due_submitted (account (after work setup M).accounts t).terms.reservation (due work setup s M) (now_after M) (work.left job) o) (streams_submitted (streams M) (now_after M) i o)
-        × (length (streams_submitted (streams M) (now_after M) i o) ≡ length rates) × (spans (streams_submitted (streams M) (now_after M) i o) ≡ all_spans rates))
-    submitted M t job (Some e) h is = (h.borne, h.count, h.spans_are)
-    submitted M t job None h is =
-        let i = of (next_number work setup s rates of M t) in
-        let k = is refl in
-        let c = h.count in
-        let lt = k.0 in
-        let within : i < length (streams M) = omega arith in (
-          borne_came parts (now_after M) (due work setup s M) (span_of (account (after work setup M).accounts t).terms.reservation (work.left job)) i (streams M) h.borne within k.1.late k.1.small,
-          length-changed_at (came (now_after M)) (streams M) i ∙ h.count,
-          sum_changed_same (λ x. x.rate.budget) (came (now_after M)) (streams M) i (λ x. refl) ∙ h.spans_are,
-        )
+    -- where a job of a stream comes
+    given : (job : W) (M : List (Step W)) → submit_refusal setup.backlog (faces work (after work setup M)) s ≡ None → IsStreamJob work setup s rates of M job
+        → IsBorneAfter M → IsBorneAfter (Submit s job ∷ M)
+    given job M accepted is h =
+        let i = of (jobs_of work setup s M) in
+        let itself : eqb s s ≡ true = grind (arith, nat_tests) in
+        let changed : streams (Submit s job ∷ M) ≡ streams_submitted (streams M) (now_after M) i None = rw (itself, accepted) refl in
+        let stands : now_after (Submit s job ∷ M) ≡ now_after M = submit-now work (after work setup M) s job (submit_refusal setup.backlog (faces work (after work setup M)) s) in
+        let due : due_after (Submit s job ∷ M) ≡ max (due_after M) (now_after M) + span_of reserved (work.left job) = ap (due_tick reserved) (due_given M job accepted) in
+        let count : length (streams M) ≡ length rates = sym (length-map (streams M) (λ x. x.rate)) ∙ ap length h.rates_are in
+        let there = is.there in
+        let small : span_of reserved (work.left job) ≤ (next_stream work setup s rates of M).rate.budget = rw (reserved_after M) at is.small in
+        let more = borne_came parts (now_after M) (due_after M) (span_of reserved (work.left job)) i (streams M) h.borne (omega arith) is.late small in
+        record {
+          borne = rw (changed, stands, due) more;
+          rates_are = rw changed (changed_kept (λ (x : Stream). x.rate) (came (now_after M)) (streams M) i (λ x. refl) ∙ h.rates_are);
+        }
 
-    -- new streams have the shares of their rates
-    new_shares : sum_by (λ x. share parts x.rate) (new_streams rates) ≡ total_share rates
-    new_shares = sum_map (λ x. share parts x.rate) (λ r. record { rate = r; open_at = 0 }) rates
-
-    -- so it is after all steps whose jobs are those of the streams
-    borne_after : (M : List (Step W)) → AreStreams work setup s rates of M → IsBorneAfter M
-    borne_after [] are = record {
-      borne = record { borne = omega arith; each = new_open parts rates (all_periods-common rates); fits = rw new_shares ok.fits };
-      count = length-map rates (λ r. record { rate = r; open_at = 0 });
-      spans_are = sum_map (λ x. x.rate.budget) (λ r. record { rate = r; open_at = 0 }) rates;
+    -- so it is after all steps whose jobs are those of the streams, if the server is charged nothing
+    pub borne_after : (M : List (Step W)) → total_of work setup s M ≡ 0 → AreStreams work setup s rates of M → IsBorneAfter M
+    borne_after [] none are = record {
+      borne = record { borne = let z = none_due reserved in rw z (omega arith); each = new_open parts rates (all_periods-common rates) ok.each; fits = rw (sum_of_rates (share parts) (new_streams rates) rates (new_rates rates)) ok.fits };
+      rates_are = new_rates rates;
     }
-    borne_after (Submit t job ∷ M) are = elim (cases_Bool (eqb t s)) [
-      | inl y ↦
-          let e : t ≡ s = grind (arith, nat_tests) in
-          let refusal = submit_refusal setup.backlog (faces work (after work setup M)) t in
-          let k = submitted M t job refusal (borne_after M are.0) (are.1 e) in
-          let stands : now_after (Submit t job ∷ M) ≡ now_after M = submit_grows (after work setup M) t job refusal in
-          record { borne = rw y (rw stands k.0); count = rw y k.1; spans_are = rw y k.2 }
-      | inr n ↦ stays M (Submit t job) (borne_after M are.0) (rw n refl) (rw n refl)
-    ]
-    borne_after (Run ∷ M) are = stays M Run (borne_after M are.0) refl refl
-    borne_after (Advance n ∷ M) are = stays M (Advance n) (borne_after M are.0) refl refl
-    borne_after (Close t ∷ M) are = stays M (Close t) (borne_after M are.0) refl refl
-    borne_after (Charge t n ∷ M) are = stays M (Charge t n) (borne_after M are.0) refl refl
+    borne_after (x ∷ M) none are = by_step work setup s (λ L. total_of work setup s L ≡ 0 → AreStreams work setup s rates of L → IsBorneAfter L) x M
+        (λ job accepted none are. given job M accepted (are.1 refl accepted) (borne_after M (before (Submit s job) none) are.0))
+        (λ n charged none are.
+        let c = (charge_counts work setup s M n charged).1 in
+        let d = charged_due work setup s M in
+        let z : d.units + n ≡ d.units = omega arith in
+        let same : due_after (Charge s n ∷ M) ≡ due_after M = ap (due_tick reserved) (due_charged M n charged) ∙ rw z refl in
+        stays (Charge s n) M (borne_after M (before (Charge s n) none) are.0) same refl)
+        (λ other none are. stays x M (borne_after M (before x none) are.0) (ap (due_tick reserved) other.due) (other.streams rates of)) none are
+      where
+        before : (x : Step W) → total_of work setup s (x ∷ M) ≡ 0 → total_of work setup s M ≡ 0
+        before x none = let h = total_behind work setup (x ∷ []) M s in omega arith
 
+module _ {W : Type 0} (work : Meaning W) where
   -- each job is finished when the streams' spans have passed, by the law of what is due
-  pub streams_kept : (N : History W) → KeepsDue work N → KeepsStreams work N
-  streams_kept N keeps = λ quiet s rates of ok K M job is are late.
-      let h = borne_after N.setup s rates of ok (Submit s job ∷ M) are in
-      let by = borne_by (all_periods rates) (after work N.setup (Submit s job ∷ M)).now (due work N.setup s (Submit s job ∷ M)) (streams_after work N.setup s rates of (Submit s job ∷ M)) (periods_some rates ok.some) h.borne in
-      let e = h.spans_are in
-      let stands = submit_grows (after work N.setup M) s job (submit_refusal N.setup.backlog (faces work (after work N.setup M)) s) in
-      keeps quiet K M s job is (omega arith)
+  pub streams_kept : (N : History W) → KeepsChargedDue work N → KeepsStreams work N
+  streams_kept N keeps = λ quiet s rates of ok none K M job is are late.
+      let setup = N.setup in
+      let L = Submit s job ∷ M in
+      let less : total_of work setup s L ≤ total_of work setup s (K ++ L) = total_behind work setup K L s in
+      let all : total_of work setup s (K ++ L) ≡ 0 = subst (λ A. total_of work setup s A ≡ 0) is.steps none in
+      let h = borne_after work setup s rates of ok L (omega arith) are in
+      let by = borne_by (all_periods rates) (after work setup L).now (due_after work setup s L) (streams_after work setup s rates of L) (periods_some rates ok.each) h.borne in
+      let e : spans (streams_after work setup s rates of L) ≡ all_spans rates = sum_of_rates (λ r. r.budget) (streams_after work setup s rates of L) rates h.rates_are in
+      let stands : (after work setup L).now ≡ (after work setup M).now = submit-now work (after work setup M) s job (submit_refusal setup.backlog (faces work (after work setup M)) s) in
+      let d = charged_due work setup s L in
+      let nothing : d.units + (total_of work setup s N.steps - total_of work setup s L) ≡ d.units = omega arith in
+      keeps quiet K M s job is (rw (nothing, reserved_after work setup s L) (omega arith))
