@@ -25,12 +25,12 @@ use Rattle.cbs_guarantee.proofs.Debts.{IsOpenSoon, IsBorne, borne_later, borne_c
 use Rattle.cbs_guarantee.proofs.Steps.{submit-now, clock_grows, terms_after, total_behind, total_of, IsOther, charge_counts, by_step}
 
 -- a product of positive periods is positive
-periods_some : (rates : List Rate) → AllByRecursion IsStream rates → 0 < all_periods rates
+pub periods_some : (rates : List Rate) → AllByRecursion IsStream rates → 0 < all_periods rates
 periods_some [] each = omega arith
 periods_some (r ∷ rates) each = mul-pos each.0.distance (periods_some rates each.1)
 
 -- each period of such a product comes to its span
-whole_share : (parts : ℕ) (r : Rate) → parts % r.period ≡ 0 → share parts r * r.period ≡ r.budget * parts
+pub whole_share : (parts : ℕ) (r : Rate) → parts % r.period ≡ 0 → share parts r * r.period ≡ r.budget * parts
 whole_share parts r common =
     let e : r.period * (parts / r.period) ≡ parts = mul-div_cancel' r.period {m = parts} (dvd_of_mod-eq-zero r.period common) in
     mul_assoc r.budget (parts / r.period) r.period ∙ ap (λ n. r.budget * n) (mul_comm (parts / r.period) r.period ∙ e)
