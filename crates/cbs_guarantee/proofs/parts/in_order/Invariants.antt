@@ -1,6 +1,6 @@
 use Rattle.std.proofs.Common.{◌≡◌, ◌<◌}
 use Rattle.std.specs.Prelude.{All}
-use Rattle.cbs_guarantee.specs.Parts.{greatest_first}
+use Rattle.cbs_guarantee.proofs.Orders.{greatest_first}
 use Rattle.cbs_guarantee.proofs.parts.in_order.Given as goal
 
 -- the servers so far are in order

@@ -1,6 +1,6 @@
-use Rattle.std.proofs.Common.{◌≡◌, [], length, take, drop}
+use Rattle.std.proofs.Common.{◌≡◌, [], drop}
 use Rattle.std.specs.List.{AllByRecursion}
-use Rattle.cbs_guarantee.specs.Parts.{IsPart, first_fit, servers_of, greatest_first}
+use Rattle.cbs_guarantee.specs.Parts.{IsPart, first_fit, servers_of}
 use Rattle.cbs_guarantee.proofs.parts.split.Given as goal
 
 -- the parts so far, and the servers that are left, come to all by first fit
@@ -8,5 +8,5 @@ abbrev pub invariant-loop-server : goal.invariant-loop-server
 invariant-loop-server l = record {
   each : AllByRecursion (IsPart l.bound l.reservations) l.parts.items;
   servers : first_fit l.bound l.reservations (drop l.server-index l.server-items) (servers_of l.parts.items)
-      ≡ first_fit l.bound l.reservations (greatest_first l.reservations (length l.reservations)) [];
+      ≡ first_fit l.bound l.reservations l.server-items [];
 }
