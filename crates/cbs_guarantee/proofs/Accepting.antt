@@ -86,8 +86,8 @@ all_since_open parts within now i xs each lt long late =
     let g = λ (x : Stream). div_ceil within x.rate.period in
     let some = (AllByRecursion-get (IsOpenSoon parts now) xs i no_stream each lt).some in
     let most : (k : ℕ) → k < length xs → f (get_or xs k no_stream) ≤ g (get_or xs k no_stream) = λ k lt.
-        let o = AllByRecursion-get (IsOpenSoon parts now) xs k no_stream each lt in
-        since_most within (get_or xs k no_stream).open_at now (get_or xs k no_stream).rate.period o.some o.soon in
+    let o = AllByRecursion-get (IsOpenSoon parts now) xs k no_stream each lt in
+    since_most within (get_or xs k no_stream).open_at now (get_or xs k no_stream).rate.period o.some o.soon in
     let h = sum_changed f g (λ x. x) xs i 1 no_stream lt most (since_open within x.open_at now x.rate.period some long late) in
     rw (sum_changed_same f (λ x. x) xs i (λ x. refl)) at h
 
@@ -158,7 +158,7 @@ module _ {W : Type 0} (work : Meaning W) where
         by_step work setup s (λ L. (K : List (Step W)) → N.steps ≡ K ++ L → AreStreams work setup s rates of L → jobs_of work setup s L ≤ done + since_after L) x M
         (λ job accepted K e are. counted_given early M job accepted K e (omega arith) are h)
         (λ n charged K e are. let c = (charge_counts work setup s M n charged).0 in omega arith)
-        (λ other K e are. let j = other.jobs in rw (other.streams rates of) (omega arith))
+        (λ other moves K e are. let j = other.jobs in rw (other.streams rates of) (omega arith))
         K e are
 
   -- each job of the streams is accepted
@@ -175,7 +175,7 @@ module _ {W : Type 0} (work : Meaning W) where
       let there = is.there in
       let some = spans_some rates i ok.each is.there in
       let early : AreDone N keeps s rates of ok since = λ K M j e accepted are past.
-          streams_kept work N keeps quiet s rates of ok none K M j (record { steps = e; accepted = accepted }) are (omega arith) in
+      streams_kept work N keeps quiet s rates of ok none K M j (record { steps = e; accepted = accepted }) are (omega arith) in
       let all = jobs_counted N keeps s rates of ok since early N.steps [] refl none are in
       let few = all_since_open (all_periods rates) within w.now i xs b.borne.each (omega arith) (omega arith) is.late in
       let total = sum_of_rates (λ r. div_ceil within r.period) xs rates b.rates_are in

@@ -114,7 +114,7 @@ module _ {W : Type 0} (work : Meaning W) (setup : Setup) where
           let short = span-mono (reserved work setup s) (spent (Charge s n ∷ M)).units ticks are.1.1 in
           let came : (spent M).from + every ≤ opens M = elim h.last [ inl none ↦ absurd (omega arith) | inr came ↦ came ] in
           record { due = omega arith; last = inr (omega arith) })
-          (λ other are.
+          (λ other moves are.
           let h = paid_after M are.0 in
           let e = other.due in
           let o = other.opens every in
@@ -197,7 +197,7 @@ module _ {W : Type 0} (work : Meaning W) (setup : Setup) where
                     let counts = c.1 in
                     let grown = ap (λ (d : Due). d.units) (due_charged work setup s L n charged) in
                     inr (record { later = last.later; jobs = omega arith; units = omega arith }))
-                    (λ other go more.
+                    (λ other moves go more.
                     let o = other.opens every in
                     let j = other.jobs in
                     let t = other.total in
@@ -236,7 +236,7 @@ module _ {W : Type 0} (work : Meaning W) (setup : Setup) where
                 (λ n charged K e jobs later.
                 let c = (charge_counts work setup s M n charged).0 in
                 from M (K ++ Charge s n ∷ []) (append_assoc K (Charge s n ∷ []) M ∙ e) (omega arith) later)
-                (λ other K e jobs later. from M (K ++ x ∷ []) (append_assoc K (x ∷ []) M ∙ e) (jobs ∙ other.jobs) (later ∙ other.opens every))
+                (λ other moves K e jobs later. from M (K ++ x ∷ []) (append_assoc K (x ∷ []) M ∙ e) (jobs ∙ other.jobs) (later ∙ other.opens every))
 
         -- a job that came in the steps is finished in time
         pub overrun_done : (L K M : List (Step W)) (job : W) → IsGoing L → IsJobOf work (record { setup = setup; steps = L }) K M s job

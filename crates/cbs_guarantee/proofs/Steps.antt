@@ -12,16 +12,17 @@ use Rattle.cbs_lists.specs.Lists.{changed_at}
 use Rattle.cbs_lists.proofs.Lists.{changed_here, changed_elsewhere}
 use Rattle.cbs_rate.specs.Rate.{Rate}
 use Rattle.cbs_rules.specs.Rules.{clock_end, Terms}
-use Rattle.cbs_steps.specs.Accounts.{Account, finished, new_account, no_account, account_with_job, account_with_charge}
+use Rattle.cbs_steps.specs.Accounts.{Account, finished, face_of, new_account, no_account, account_with_job, account_with_unit, account_with_charge}
+use Rattle.cbs_steps.specs.Accounts.{account_with_replenishment, account_with_close, account_let_go}
 use Rattle.cbs_steps.specs.Charged.{charged_due, others_charges}
-use Rattle.cbs_steps.specs.Faces.{submit_refusal, close_refusal}
+use Rattle.cbs_steps.specs.Faces.{is_ready, submit_refusal, close_refusal}
 use Rattle.cbs_steps.specs.History.{World, Setup, account, faces, start, let_go, tick, ticks, runner, after_submit, after_run, after_advance, after_closing, after_charging}
 use Rattle.cbs_steps.specs.History.{charge_refusal, next, after}
 use Rattle.cbs_steps.specs.declared.error.CoreError.{CoreError}
 use Rattle.cbs_steps.specs.declared.step.Step.{Step}
 use Rattle.cbs_steps.specs.declared.step.Step.TheVariants.{Submit, Run, Advance, Close, Charge}
 use Rattle.cbs_steps.proofs.FinishedJobs.{count_done-le, count_done_within, count_done_beyond, need-mono}
-use Rattle.cbs_steps.proofs.Histories.{charged_there, holds_ticks, holds_run_step, holds_advance_step, holds_close_step, holds_charge_step, holds_behind, terms_behind}
+use Rattle.cbs_steps.proofs.Histories.{charged_there, holds_ticks, holds_run_step, holds_advance_step, holds_close_step, holds_behind, terms_behind}
 use Rattle.cbs_steps.proofs.Promises.{count_after, submitted}
 use Rattle.cbs_guarantee.specs.Overruns.{opens_after}
 use Rattle.cbs_guarantee.specs.Streams.{jobs_of, streams_after}
@@ -171,43 +172,48 @@ module _ {W : Type 0} (work : Meaning W) where
         pub streams : (rates : List Rate) (of : ℕ → ℕ) → streams_after work setup s rates of (x ∷ M) ≡ streams_after work setup s rates of M
         pub opens : (every : ℕ) → opens_after work setup s every (x ∷ M) ≡ opens_after work setup s every M
 
-      -- the jobs and the total of server s are those before it
-      abbrev IsSame : World W → World W → Type 0
-      IsSame v w = (length (account w.accounts s).accepted ≡ length (account v.accounts s).accepted) × ((account w.accounts s).charges.total ≡ (account v.accounts s).charges.total)
+      -- From one world to another, server s got units, was replenished, closed or let go, and no more: what these keep of its account
+      -- still holds
+      abbrev pub Moves : World W → World W → Type 1
+      Moves v w = (Q : Account W → Type 0) → ((a : Account W) → is_ready (face_of work a) ≡ true → Q a → Q (account_with_unit a))
+          → ((now : ℕ) (a : Account W) → Q a → Q (account_with_replenishment now a)) → ((a : Account W) → Q a → Q (account_with_close a))
+          → ((a : Account W) → Q a → Q (account_let_go a)) → Q (account v.accounts s) → Q (account w.accounts s)
 
-      -- of an account
-      abbrev HasSame : World W → Account W → Type 0
-      HasSame v a = (length a.accepted ≡ length (account v.accounts s).accepted) × (a.charges.total ≡ (account v.accounts s).charges.total)
+      moves_run : (w : World W) → Moves w (next work setup.backlog w Run)
+      moves_run w = λ Q unit fill close loose h. holds_run_step work (λ now. Q) (λ now. unit) (λ now. fill (now + 1)) (λ now. close) (λ now. loose) setup.backlog w s h
 
-      same_run : (w : World W) → IsSame w (next work setup.backlog w Run)
-      same_run w = holds_run_step work (λ now. HasSame w) (λ now a ready h. h) (λ now a h. h) (λ now a h. h) (λ now a h. h) setup.backlog w s (refl, refl)
+      moves_advance : (w : World W) (n : ℕ) → Moves w (next work setup.backlog w (Advance n))
+      moves_advance w n = λ Q unit fill close loose h. holds_advance_step work (λ now. Q) (λ now. unit) (λ now. fill (now + 1)) (λ now. close) (λ now. loose) setup.backlog w n s h
 
-      same_advance : (w : World W) (n : ℕ) → IsSame w (next work setup.backlog w (Advance n))
-      same_advance w n = holds_advance_step work (λ now. HasSame w) (λ now a ready h. h) (λ now a h. h) (λ now a h. h) (λ now a h. h) setup.backlog w n s (refl, refl)
+      moves_close : (w : World W) (t : ℕ) → Moves w (next work setup.backlog w (Close t))
+      moves_close w t = λ Q unit fill close loose h. holds_close_step work (λ now. Q) (λ now. unit) (λ now. fill (now + 1)) (λ now. close) (λ now. loose) setup.backlog w t s h
 
-      same_close : (w : World W) (t : ℕ) → IsSame w (next work setup.backlog w (Close t))
-      same_close w t = holds_close_step work (λ now. HasSame w) (λ now a ready h. h) (λ now a h. h) (λ now a h. h) (λ now a h. h) setup.backlog w t s (refl, refl)
-
-      same_ticks : (v : World W) (n : ℕ) (w : World W) → IsSame v w → IsSame v (ticks n w)
-      same_ticks v n w h = holds_ticks work (λ now. HasSame v) (λ now a ready h. h) (λ now a h. h) (λ now a h. h) (λ now a h. h) n w s h
+      pub moves_ticks : (n : ℕ) (w : World W) → Moves w (ticks n w)
+      moves_ticks n w = λ Q unit fill close loose h. holds_ticks work (λ now. Q) (λ now. unit) (λ now. fill (now + 1)) (λ now. close) (λ now. loose) n w s h
 
       -- a submit to another server, or one that is refused
-      same_submit : (w : World W) (t : ℕ) (job : W) (o : Option CoreError) → (o ≡ None → ¬ (t ≡ s)) → IsSame w (after_submit work w t job o)
-      same_submit w t job (Some e) other = (refl, refl)
-      same_submit w t job None other =
+      moves_submit : (w : World W) (t : ℕ) (job : W) (o : Option CoreError) → (o ≡ None → ¬ (t ≡ s)) → Moves w (after_submit work w t job o)
+      moves_submit w t job (Some e) other = λ Q unit fill close loose h. h
+      moves_submit w t job None other = λ Q unit fill close loose h.
           let there : account (changed_at (account_with_job work w.now job) w.accounts t) s ≡ account w.accounts s =
           changed_elsewhere (account_with_job work w.now job) w.accounts t s no_account (λ e. other refl (sym e)) in
-          (rw there refl, rw there refl)
+          rw there h
 
       -- a charge of another server, or one that is refused
-      same_charge : (w : World W) (t n : ℕ) (o : Option CoreError) → (o ≡ None → ¬ (t ≡ s)) → IsSame w (after_charging w t n o)
-      same_charge w t zero (Some e) other = (refl, refl)
-      same_charge w t (suc n) (Some e) other = (refl, refl)
-      same_charge w t zero None other = (refl, refl)
-      same_charge w t (suc n) None other =
+      moves_charge : (w : World W) (t n : ℕ) (o : Option CoreError) → (o ≡ None → ¬ (t ≡ s)) → Moves w (after_charging w t n o)
+      moves_charge w t zero (Some e) other = λ Q unit fill close loose h. h
+      moves_charge w t (suc n) (Some e) other = λ Q unit fill close loose h. h
+      moves_charge w t zero None other = λ Q unit fill close loose h. h
+      moves_charge w t (suc n) None other = λ Q unit fill close loose h.
           let f = account_with_charge (suc n) in
           let there : account (changed_at f w.accounts t) s ≡ account w.accounts s = changed_elsewhere f w.accounts t s no_account (λ e. other refl (sym e)) in
-          same_ticks w (suc n) (record w { accounts = changed_at f w.accounts t }) (rw there refl, rw there refl)
+          moves_ticks (suc n) (record w { accounts = changed_at f w.accounts t }) Q unit fill close loose (rw there h)
+
+      -- then its jobs, and what it was charged, are those before
+      moved_same : (v w : World W) → Moves v w
+          → (length (account w.accounts s).accepted ≡ length (account v.accounts s).accepted) × ((account w.accounts s).charges.total ≡ (account v.accounts s).charges.total)
+      moved_same v w moves = moves (λ a. (length a.accepted ≡ length (account v.accounts s).accepted) × (a.charges.total ≡ (account v.accounts s).charges.total))
+          (λ a ready h. h) (λ now a h. h) (λ a h. h) (λ a h. h) (refl, refl)
 
       -- a charge of server s adds to its total, and gives it no job
       charge_here : (w : World W) (n : ℕ) (o : Option CoreError) → o ≡ None → s < length w.accounts
@@ -242,45 +248,55 @@ module _ {W : Type 0} (work : Meaning W) where
       pub by_step : (P : List (Step W) → Type 0) (x : Step W) (M : List (Step W))
           → ((job : W) → submit_refusal setup.backlog (faces work (after work setup M)) s ≡ None → P (Submit s job ∷ M))
           → ((n : ℕ) → charge_refusal (after work setup M) s n ≡ None → P (Charge s n ∷ M))
-          → (IsOther x M → P (x ∷ M)) → P (x ∷ M)
+          → (IsOther x M → Moves (after work setup M) (after work setup (x ∷ M)) → P (x ∷ M)) → P (x ∷ M)
       by_step P (Submit t job) M gives charges rest =
           let w = after work setup M in
           let o = submit_refusal setup.backlog (faces work w) t in
           elim (cases_Bool (eqb t s)) [
             | inr n ↦
-                let same = same_submit w t job o (λ a e. let y : eqb t s ≡ true = grind (arith, nat_tests) in cc) in
-                rest (record { jobs = same.0; total = same.1; due = rw n refl; streams = λ rates of. rw n refl; opens = λ every. rw n refl })
+                let moves = moves_submit w t job o (λ a e. let y : eqb t s ≡ true = grind (arith, nat_tests) in cc) in
+                let same = moved_same w (after_submit work w t job o) moves in
+                rest (record { jobs = same.0; total = same.1; due = rw n refl; streams = λ rates of. rw n refl; opens = λ every. rw n refl }) moves
             | inl y ↦
                 let e : t ≡ s = grind (arith, nat_tests) in
                 elim (refused_or o) [
                   | inl accepted ↦ subst (λ u. P (Submit u job ∷ M)) (sym e) (gives job (rw e at accepted))
                   | inr (why, refused) ↦
-                      let same = same_submit w t job o (λ a. let bad : Some why ≡ None = rw refused at a in cc) in
-                      rest (record { jobs = same.0; total = same.1; due = rw (y, refused) refl; streams = λ rates of. rw (y, refused) refl; opens = λ every. rw (y, refused) refl })
+                      let moves = moves_submit w t job o (λ a. let bad : Some why ≡ None = rw refused at a in cc) in
+                      let same = moved_same w (after_submit work w t job o) moves in
+                      rest (record { jobs = same.0; total = same.1; due = rw (y, refused) refl; streams = λ rates of. rw (y, refused) refl; opens = λ every. rw (y, refused) refl }) moves
                 ]
           ]
       by_step P Run M gives charges rest =
-          let same = same_run (after work setup M) in
-          rest (record { jobs = same.0; total = same.1; due = refl; streams = λ rates of. refl; opens = λ every. refl })
+          let w = after work setup M in
+          let moves = moves_run w in
+          let same = moved_same w (next work setup.backlog w Run) moves in
+          rest (record { jobs = same.0; total = same.1; due = refl; streams = λ rates of. refl; opens = λ every. refl }) moves
       by_step P (Advance n) M gives charges rest =
-          let same = same_advance (after work setup M) n in
-          rest (record { jobs = same.0; total = same.1; due = refl; streams = λ rates of. refl; opens = λ every. refl })
+          let w = after work setup M in
+          let moves = moves_advance w n in
+          let same = moved_same w (next work setup.backlog w (Advance n)) moves in
+          rest (record { jobs = same.0; total = same.1; due = refl; streams = λ rates of. refl; opens = λ every. refl }) moves
       by_step P (Close t) M gives charges rest =
-          let same = same_close (after work setup M) t in
-          rest (record { jobs = same.0; total = same.1; due = refl; streams = λ rates of. refl; opens = λ every. refl })
+          let w = after work setup M in
+          let moves = moves_close w t in
+          let same = moved_same w (next work setup.backlog w (Close t)) moves in
+          rest (record { jobs = same.0; total = same.1; due = refl; streams = λ rates of. refl; opens = λ every. refl }) moves
       by_step P (Charge t n) M gives charges rest =
           let w = after work setup M in
           let o = charge_refusal w t n in
           elim (cases_Bool (eqb t s)) [
             | inr f ↦
-                let same = same_charge w t n o (λ a e. let y : eqb t s ≡ true = grind (arith, nat_tests) in cc) in
-                rest (record { jobs = same.0; total = same.1; due = rw f refl; streams = λ rates of. refl; opens = λ every. refl })
+                let moves = moves_charge w t n o (λ a e. let y : eqb t s ≡ true = grind (arith, nat_tests) in cc) in
+                let same = moved_same w (after_charging w t n o) moves in
+                rest (record { jobs = same.0; total = same.1; due = rw f refl; streams = λ rates of. refl; opens = λ every. refl }) moves
             | inl y ↦
                 let e : t ≡ s = grind (arith, nat_tests) in
                 elim (refused_or o) [
                   | inl charged ↦ subst (λ u. P (Charge u n ∷ M)) (sym e) (charges n (rw e at charged))
                   | inr (why, refused) ↦
-                      let same = same_charge w t n o (λ a. let bad : Some why ≡ None = rw refused at a in cc) in
-                      rest (record { jobs = same.0; total = same.1; due = rw (y, refused) refl; streams = λ rates of. refl; opens = λ every. refl })
+                      let moves = moves_charge w t n o (λ a. let bad : Some why ≡ None = rw refused at a in cc) in
+                      let same = moved_same w (after_charging w t n o) moves in
+                      rest (record { jobs = same.0; total = same.1; due = rw (y, refused) refl; streams = λ rates of. refl; opens = λ every. refl }) moves
                 ]
           ]

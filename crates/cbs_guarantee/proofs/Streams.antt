@@ -133,7 +133,7 @@ module _ {W : Type 0} (work : Meaning W) (setup : Setup) (s : ℕ) where
         let z : d.units + n ≡ d.units = omega arith in
         let same : due_after (Charge s n ∷ M) ≡ due_after M = ap (due_tick reserved) (due_charged M n charged) ∙ rw z refl in
         stays (Charge s n) M (borne_after M (before (Charge s n) none) are.0) same refl)
-        (λ other none are. stays x M (borne_after M (before x none) are.0) (ap (due_tick reserved) other.due) (other.streams rates of)) none are
+        (λ other moves none are. stays x M (borne_after M (before x none) are.0) (ap (due_tick reserved) other.due) (other.streams rates of)) none are
       where
         before : (x : Step W) → total_of work setup s (x ∷ M) ≡ 0 → total_of work setup s M ≡ 0
         before x none = let h = total_behind work setup (x ∷ []) M s in omega arith
