@@ -8,6 +8,7 @@ use Rattle.cbs_guarantee.specs.Guarantees.{IsGuaranteed}
 use Rattle.cbs_guarantee.proofs.Accepting.{accepting_kept}
 use Rattle.cbs_guarantee.proofs.Overruns.{overruns_kept, accepting_overruns_kept}
 use Rattle.cbs_guarantee.proofs.Streams.{streams_kept}
+use Rattle.cbs_guarantee.proofs.Units.{units_kept}
 
 module _ {W : Type 0} (work : Meaning W) where
   -- one history by all of its setup
@@ -17,4 +18,5 @@ module _ {W : Type 0} (work : Meaning W) where
     accepting = accepting_kept work N (all N.steps).charged_due;
     overruns = overruns_kept work N (λ L. (all L).charged_due);
     accepting_overruns = accepting_overruns_kept work N (λ L. (all L).charged_due);
+    units = units_kept work N (λ L. (all L).charged_due);
   }

@@ -217,7 +217,7 @@ module _ {W : Type 0} (work : Meaning W) (setup : Setup) where
             → jobs_of work setup s L ≤ finished work (account (after work setup L).accounts s)
 
         -- where the next job may come, all are finished
-        all_done : (L : List (Step W)) → IsGoing L → opens L ≤ (after work setup L).now → jobs_of work setup s L ≤ finished work (account (after work setup L).accounts s)
+        pub all_done : (L : List (Step W)) → IsGoing L → opens L ≤ (after work setup L).now → jobs_of work setup s L ≤ finished work (account (after work setup L).accounts s)
         all_done L go late = from L [] refl refl refl
           where
             from : (M : List (Step W)) → IsEnough L M
@@ -255,7 +255,7 @@ module _ {W : Type 0} (work : Meaning W) (setup : Setup) where
 
 module _ {W : Type 0} (work : Meaning W) (N : History W) (keeps : (L : List (Step W)) → KeepsChargedDue work (when N L)) where
   -- the span of a server's ticks, by the reservation that it was given
-  span_same : (s ticks : ℕ) → span_on work N s ticks ≡ span_of (reserved work N.setup s) ticks
+  pub span_same : (s ticks : ℕ) → span_on work N s ticks ≡ span_of (reserved work N.setup s) ticks
   span_same s ticks = rw (reserved_after work N.setup s N.steps) refl
 
   -- each job of one stream is finished before the next comes

@@ -1,17 +1,29 @@
 -- One stream of jobs on a server that is charged for their units; by when each is finished, and that it is accepted.
-use Rattle.std.specs.Prelude.{◌≡◌, ℕ, ◌+◌, ◌≤◌, ◌<◌, eqb, if◌then◌else◌, List, [], ◌∷◌, None}
+use Rattle.std.specs.Prelude.{◌≡◌, ℕ, ◌+◌, ◌*◌, ◌≤◌, ◌<◌, eqb, if◌then◌else◌, List, [], ◌∷◌, None}
 use Rattle.cbs_job.specs.Work.{Meaning}
 use Rattle.cbs_steps.specs.Accounts.{Account}
 use Rattle.cbs_steps.specs.Charged.{charged_due, others_charges}
 use Rattle.cbs_steps.specs.Faces.{submit_refusal}
 use Rattle.cbs_steps.specs.HardTasks.{slot_submitted}
-use Rattle.cbs_steps.specs.History.{World, Setup, History, faces, after, world_after}
+use Rattle.cbs_steps.specs.History.{World, Setup, History, account, faces, after, world_after, charge_refusal}
 use Rattle.cbs_steps.specs.Laws.{account_in}
 use Rattle.cbs_steps.specs.Promises.{when, IsJobOf, IsFinished}
 use Rattle.cbs_steps.specs.Quiet.{AdvanceQuietly}
 use Rattle.cbs_steps.specs.declared.step.Step.{Step}
-use Rattle.cbs_steps.specs.declared.step.Step.TheVariants.{Submit}
+use Rattle.cbs_steps.specs.declared.step.Step.TheVariants.{Submit, Charge}
 use Rattle.cbs_guarantee.specs.Streams.{span_of, Accepts}
+
+module _ {W : Type 0} (work : Meaning W) (setup : Setup) (s : ℕ) where
+  -- by one more step: only an accepted submit to s is another job
+  abbrev pub units_next : List (Step W) → ℕ → Step W → ℕ
+  units_next M before (Submit t job) =
+      if eqb t s then slot_submitted before (account (after work setup M).accounts s).got (submit_refusal setup.backlog (faces work (after work setup M)) t) else before
+  units_next M before _ = before
+
+  -- the units that server s had got when its last job came; 0 before the first
+  abbrev pub units_before : List (Step W) → ℕ
+  units_before [] = 0
+  units_before (x ∷ M) = units_next M (units_before M) x
 
 module _ {W : Type 0} (work : Meaning W) (setup : Setup) (s every : ℕ) where
   -- by one more step after M: only an accepted submit to s is another job of the stream
@@ -35,6 +47,21 @@ module _ {W : Type 0} (work : Meaning W) (setup : Setup) (s every : ℕ) where
   abbrev pub IsOneStream : ℕ → List (Step W) → Type 0
   IsOneStream ticks [] = Unit {0}
   IsOneStream ticks (x ∷ M) = IsOneStream ticks M × (IsApartStep M x × ((charged_due work setup s (x ∷ M)).units ≤ ticks))
+
+  -- if the step gives server s a job, that has at most so many units and does not come early; if it charges server s, the server
+  -- has got a unit since its last job came, and is charged at most `overrun` ticks for it, all together
+  abbrev pub IsOverrunStep : ℕ → ℕ → List (Step W) → Step W → Type 0
+  IsOverrunStep units overrun M (Submit t job) = t ≡ s → submit_refusal setup.backlog (faces work (after work setup M)) t ≡ None
+      → (work.left job ≤ units) × (opens_after M ≤ (after work setup M).now)
+  IsOverrunStep units overrun M (Charge t n) = t ≡ s → charge_refusal (after work setup M) t n ≡ None
+      → (let a = account (after work setup M).accounts s in (units_before work setup s M < a.got) × (a.latest + n ≤ overrun))
+  IsOverrunStep units overrun M _ = Unit {0}
+
+  -- all jobs of server s have at most so many units and come `every` ticks or more apart, and each unit is charged at most so many ticks,
+  -- before the next job comes
+  abbrev pub AreOverruns : ℕ → ℕ → List (Step W) → Type 0
+  AreOverruns units overrun [] = Unit {0}
+  AreOverruns units overrun (x ∷ M) = AreOverruns units overrun M × IsOverrunStep units overrun M x
 
 module _ {W : Type 0} (work : Meaning W) (N : History W) (s : ℕ) where
   -- the span of so many ticks, on server s
@@ -60,3 +87,10 @@ module _ {W : Type 0} where
   abbrev pub KeepsAcceptingOverruns : Meaning W → History W → Type 0
   KeepsAcceptingOverruns work N = AdvanceQuietly work N.setup N.steps → (s ticks every delay : ℕ) → IsAlone work N s ticks every delay → 0 < N.setup.backlog
       → opens_after work N.setup s every N.steps ≤ (world_after work N).now → Accepts work N s
+
+  -- Where each unit is charged at most `overrun` ticks, and before the next job comes, a job of at most `units` takes no more than
+  -- `units * (1 + overrun)` ticks, if it is then finished before the next comes.
+  abbrev pub KeepsUnits : Meaning W → History W → Type 0
+  KeepsUnits work N = AdvanceQuietly work N.setup N.steps → (s units overrun every delay : ℕ) → AreOverruns work N.setup s every units overrun N.steps
+      → others_charges (world_after work N).accounts s ≤ delay → span_on work N s (units * (1 + overrun)) + delay ≤ every
+      → IsOneStream work N.setup s every (units * (1 + overrun)) N.steps
