@@ -1,5 +1,6 @@
 -- Each job of streams that a server bears is accepted, if the backlog suffices for as long as a job takes.
-use Rattle.std.proofs.Common.{◌≡◌, ℕ, zero, suc, ◌+◌, ◌-◌, ◌*◌, ◌/◌, ◌≤◌, ◌<◌, true, false, eqb, leb, List, [], ◌∷◌, ◌++◌, length, get_or, arith, refl, sym, ◌∙◌, ap, subst}
+use Rattle.std.proofs.Common.{◌≡◌, ℕ, zero, suc, ◌+◌, ◌-◌, ◌*◌, ◌/◌, ◌≤◌, ◌<◌, true, false, eqb, leb, List, [], ◌∷◌, ◌++◌, length, get_or, arith}
+use Rattle.std.proofs.Common.{refl, sym, ◌∙◌, ap, subst}
 use Rattle.std.proofs.Common.{append_assoc, Option, Some, None, inl, inr}
 use Rattle.std.specs.Prelude.{map, slice_get}
 use Rattle.std.specs.Int.{div_ceil}
@@ -70,15 +71,18 @@ since_open within open_at now period some long late =
     ]
 
 -- the sum of all such numbers grows by one where a job comes
-all_since_came : (parts since now i : ℕ) (xs : List Stream) → AllByRecursion (IsOpenSoon parts now) xs → i < length xs → since ≤ now → (get_or xs i no_stream).open_at ≤ now
+all_since_came : (parts since now i : ℕ) (xs : List Stream) → AllByRecursion (IsOpenSoon parts now) xs → i < length xs → since ≤ now
+    → (get_or xs i no_stream).open_at ≤ now
     → sum_by (jobs_since since) xs + 1 ≤ sum_by (jobs_since since) (changed_at (came now) xs i)
 all_since_came parts since now i xs each lt recent late =
     let x = get_or xs i no_stream in
     let some = (AllByRecursion-get (IsOpenSoon parts now) xs i no_stream each lt).some in
-    sum_raised (jobs_since since) (jobs_since since) (came now) xs i 1 no_stream lt (λ k within. omega arith) (since_came since x.open_at now x.rate.period some recent late)
+    sum_raised (jobs_since since) (jobs_since since) (came now) xs i 1 no_stream lt (λ k within. omega arith)
+    (since_came since x.open_at now x.rate.period some recent late)
 
 -- and it is less than the backlog that suffices, where the next job of a stream may come
-all_since_open : (parts within now i : ℕ) (xs : List Stream) → AllByRecursion (IsOpenSoon parts now) xs → i < length xs → 0 < within → (get_or xs i no_stream).open_at ≤ now
+all_since_open : (parts within now i : ℕ) (xs : List Stream) → AllByRecursion (IsOpenSoon parts now) xs → i < length xs → 0 < within
+    → (get_or xs i no_stream).open_at ≤ now
     → sum_by (jobs_since (now + 1 - within)) xs + 1 ≤ sum_by (λ x. div_ceil within x.rate.period) xs
 all_since_open parts within now i xs each lt long late =
     let x = get_or xs i no_stream in
@@ -125,7 +129,8 @@ module _ {W : Type 0} (work : Meaning W) where
 
     -- then the others are no more than the streams give, after each of the steps
     abbrev IsCounted : List (Step W) → Type 0
-    IsCounted L = (K : List (Step W)) → N.steps ≡ K ++ L → total_of work setup s L ≡ 0 → AreStreams work setup s rates of L → jobs_of work setup s L ≤ done + since_after L
+    IsCounted L = (K : List (Step W)) → N.steps ≡ K ++ L → total_of work setup s L ≡ 0 → AreStreams work setup s rates of L
+        → jobs_of work setup s L ≤ done + since_after L
 
     -- where a job comes, it is one of them, or finished
     counted_given : AreDone → (M : List (Step W)) (job : W) → submit_refusal setup.backlog (faces work (after work setup M)) s ≡ None
@@ -155,7 +160,8 @@ module _ {W : Type 0} (work : Meaning W) where
         let less = total_behind work setup (x ∷ []) M s in
         let f : N.steps ≡ (K ++ x ∷ []) ++ M = e ∙ sym (append_assoc K (x ∷ []) M) in
         let h = jobs_counted early M (K ++ x ∷ []) f (omega arith) are.0 in
-        by_step work setup s (λ L. (K : List (Step W)) → N.steps ≡ K ++ L → AreStreams work setup s rates of L → jobs_of work setup s L ≤ done + since_after L) x M
+        by_step work setup s (λ L. (K : List (Step W)) → N.steps ≡ K ++ L → AreStreams work setup s rates of L
+        → jobs_of work setup s L ≤ done + since_after L) x M
         (λ job accepted K e are. counted_given early M job accepted K e (omega arith) are h)
         (λ n charged K e are. let c = (charge_counts work setup s M n charged).0 in omega arith)
         (λ other moves K e are. let j = other.jobs in rw (other.streams rates of) (omega arith))

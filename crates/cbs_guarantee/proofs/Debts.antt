@@ -91,12 +91,14 @@ borne_later parts now n due xs h =
     let borne = h.borne in
     record {
       borne = omega arith;
-      each = AllByRecursion-weaker (IsOpenSoon parts now) (IsOpenSoon parts (now + n)) xs h.each (λ x o. record { some = o.some; soon = let s = o.soon in omega arith; whole = o.whole });
+      each = AllByRecursion-weaker (IsOpenSoon parts now) (IsOpenSoon parts (now + n)) xs h.each (λ x o.
+          record { some = o.some; soon = let s = o.soon in omega arith; whole = o.whole });
       fits = h.fits;
     }
 
 -- and where a job of a stream comes
-pub borne_came : (parts now due span i : ℕ) (xs : List Stream) → IsBorne parts now due xs → i < length xs → (get_or xs i no_stream).open_at ≤ now → span ≤ (get_or xs i no_stream).rate.budget
+pub borne_came : (parts now due span i : ℕ) (xs : List Stream) → IsBorne parts now due xs → i < length xs → (get_or xs i no_stream).open_at ≤ now
+    → span ≤ (get_or xs i no_stream).rate.budget
     → IsBorne parts now (max due now + span) (changed_at (came now) xs i)
 borne_came parts now due span i xs h lt late small =
     let e = debts_came parts now i xs lt late in
@@ -110,7 +112,8 @@ borne_came parts now due span i xs h lt late small =
     ] in
     record {
       borne = omega arith;
-      each = AllByRecursion-changed_at (IsOpenSoon parts now) (IsOpenSoon parts now) (came now) xs i no_stream h.each (λ x o. o) (λ o. record { some = o.some; soon = omega arith; whole = o.whole });
+      each = AllByRecursion-changed_at (IsOpenSoon parts now) (IsOpenSoon parts now) (came now) xs i no_stream h.each (λ x o. o) (λ o.
+          record { some = o.some; soon = omega arith; whole = o.whole });
       fits = rw (sum_changed_same (λ x. share parts x.rate) (came now) xs i (λ x. refl)) h.fits;
     }
 

@@ -1,12 +1,14 @@
 -- Servers in order, and in parts: each stands once.
-use Rattle.std.proofs.Common.{◌≡◌, ℕ, zero, suc, ◌+◌, ◌*◌, ◌≤◌, ◌<◌, true, false, List, [], ◌∷◌, ◌++◌, length, arith, refl, sym, ap, ◌∙◌, subst, inl, inr, append_assoc, append-nil}
+use Rattle.std.proofs.Common.{◌≡◌, ℕ, zero, suc, ◌+◌, ◌*◌, ◌≤◌, ◌<◌, true, false, List, [], ◌∷◌, ◌++◌, length, arith, refl, sym, ap, ◌∙◌, subst, inl}
+use Rattle.std.proofs.Common.{inr, append_assoc, append-nil}
 use Rattle.std.specs.Prelude.{IsTrue}
 use Rattle.std.specs.Option.{is_none}
 use Rattle.std.specs.List.{AllByRecursion, concat, range_with_len}
 use Rattle.std.specs.List.Sorted.{IsPermutation}
 use Rattle.std.proofs.lemmas.Bool.{cases_Bool}
 use Rattle.std.proofs.lemmas.Bool.Decides.{nat_tests}
-use Rattle.std.proofs.lemmas.List.Sorted.{IsPermutation-refl, IsPermutation-sym, IsPermutation-cons, IsPermutation-middle, IsPermutation-append_right, IsPermutation-trans}
+use Rattle.std.proofs.lemmas.List.Sorted.{IsPermutation-refl, IsPermutation-sym, IsPermutation-cons, IsPermutation-middle, IsPermutation-append_right}
+use Rattle.std.proofs.lemmas.List.Sorted.{IsPermutation-trans}
 use Rattle.cbs_rate.specs.Bound.{Fraction}
 use Rattle.cbs_rate.specs.Plan.{admit_refusal}
 use Rattle.cbs_rate.specs.Rate.{Rate}
@@ -31,7 +33,8 @@ module _ (rates : List Rate) where
   ordered-once s (t ∷ order) = elim (cases_Bool (is_at_most (rate_at rates s) (rate_at rates t))) [
     | inr f ↦ rw f (IsPermutation-refl (s ∷ t ∷ order))
     | inl y ↦
-        let swapped : IsPermutation (s ∷ t ∷ order) (t ∷ s ∷ order) = IsPermutation-sym (t ∷ s ∷ order) (s ∷ t ∷ order) (IsPermutation-middle (t ∷ []) s order) in
+        let swapped : IsPermutation (s ∷ t ∷ order) (t ∷ s ∷ order) =
+        IsPermutation-sym (t ∷ s ∷ order) (s ∷ t ∷ order) (IsPermutation-middle (t ∷ []) s order) in
         let rest = IsPermutation-cons t (s ∷ order) (ordered_with rates s order) (ordered-once s order) in
         rw y (IsPermutation-trans (s ∷ t ∷ order) (t ∷ s ∷ order) (t ∷ ordered_with rates s order) swapped rest)
   ]
@@ -46,7 +49,8 @@ module _ (rates : List Rate) where
       let plain : IsPermutation (range_with_len 0 n ++ n ∷ []) (n ∷ range_with_len 0 n) = rw (append-nil (range_with_len 0 n)) at front in
       let rest = IsPermutation-cons n (range_with_len 0 n) (greatest_first rates n) (first-once n) in
       let all = IsPermutation-trans (range_with_len 0 n ++ n ∷ []) (n ∷ range_with_len 0 n) (n ∷ greatest_first rates n) plain rest in
-      rw (e, z) (IsPermutation-trans (range_with_len 0 n ++ n ∷ []) (n ∷ greatest_first rates n) (ordered_with rates n (greatest_first rates n)) all (ordered-once n (greatest_first rates n)))
+      rw (e, z) (IsPermutation-trans (range_with_len 0 n ++ n ∷ []) (n ∷ greatest_first rates n) (ordered_with rates n (greatest_first rates n)) all
+      (ordered-once n (greatest_first rates n)))
 
   -- of two servers, one has at most the bandwidth of the other
   greater : (s t : ℕ) → is_at_most (rate_at rates s) (rate_at rates t) ≡ false → ComesBefore rates s t
@@ -62,7 +66,8 @@ module _ (rates : List Rate) where
   ]
 
   -- one more server, with a greater number, keeps the order
-  ordered-sorted : (s : ℕ) (order : List ℕ) → AllByRecursion (λ t. t < s) order → IsGreatestFirst rates order → IsGreatestFirst rates (ordered_with rates s order)
+  ordered-sorted : (s : ℕ) (order : List ℕ) → AllByRecursion (λ t. t < s) order → IsGreatestFirst rates order
+      → IsGreatestFirst rates (ordered_with rates s order)
   ordered-sorted s [] below sorted = tt
   ordered-sorted s (t ∷ order) below sorted = elim (cases_Bool (is_at_most (rate_at rates s) (rate_at rates t))) [
     | inr f ↦ rw f (greater s t f, sorted)
@@ -101,7 +106,8 @@ module _ (rates : List Rate) where
     placed-once : (s : ℕ) (parts : List (List ℕ)) → IsPermutation (s ∷ concat parts) (concat (placed bound rates s parts))
     placed-once s [] = IsPermutation-refl (s ∷ [])
     placed-once s (p ∷ parts) =
-        let inside : IsPermutation (s ∷ (p ++ concat parts)) (p ++ s ∷ concat parts) = IsPermutation-sym (p ++ s ∷ concat parts) (s ∷ (p ++ concat parts)) (IsPermutation-middle p s (concat parts)) in
+        let inside : IsPermutation (s ∷ (p ++ concat parts)) (p ++ s ∷ concat parts) =
+        IsPermutation-sym (p ++ s ∷ concat parts) (s ∷ (p ++ concat parts)) (IsPermutation-middle p s (concat parts)) in
         elim (cases_Bool (is_none (admit_refusal (plan_of bound rates p) (rate_at rates s)))) [
           | inl y ↦ rw (y, append_assoc p (s ∷ []) (concat parts)) inside
           | inr f ↦
@@ -113,11 +119,13 @@ module _ (rates : List Rate) where
     fit-once : (order : List ℕ) (parts : List (List ℕ)) → IsPermutation (order ++ concat parts) (concat (first_fit bound rates order parts))
     fit-once [] parts = IsPermutation-refl (concat parts)
     fit-once (s ∷ order) parts =
-        let inside : IsPermutation (s ∷ (order ++ concat parts)) (order ++ s ∷ concat parts) = IsPermutation-sym (order ++ s ∷ concat parts) (s ∷ (order ++ concat parts)) (IsPermutation-middle order s (concat parts)) in
+        let inside : IsPermutation (s ∷ (order ++ concat parts)) (order ++ s ∷ concat parts) =
+        IsPermutation-sym (order ++ s ∷ concat parts) (s ∷ (order ++ concat parts)) (IsPermutation-middle order s (concat parts)) in
         let more = IsPermutation-append_right order (s ∷ concat parts) (concat (placed bound rates s parts)) (placed-once s parts) in
         let rest = fit-once order (placed bound rates s parts) in
         let both = IsPermutation-trans (s ∷ (order ++ concat parts)) (order ++ s ∷ concat parts) (order ++ concat (placed bound rates s parts)) inside more in
-        IsPermutation-trans (s ∷ (order ++ concat parts)) (order ++ concat (placed bound rates s parts)) (concat (first_fit bound rates order (placed bound rates s parts))) both rest
+        IsPermutation-trans (s ∷ (order ++ concat parts)) (order ++ concat (placed bound rates s parts)) (concat (first_fit bound rates order
+        (placed bound rates s parts))) both rest
 
     -- each server of an order stands once in the parts that first fit makes
     pub parts_once : (order : List ℕ) (parts : List (List ℕ)) → StandOnce rates order → parts ≡ first_fit bound rates order [] → StandOnce rates (concat parts)

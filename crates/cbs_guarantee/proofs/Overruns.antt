@@ -1,5 +1,6 @@
 -- Each job of one stream, on a server that is charged for its units, is finished before the next comes.
-use Rattle.std.proofs.Common.{◌≡◌, ◌⊎◌, ℕ, zero, suc, ◌+◌, ◌-◌, ◌*◌, ◌≤◌, ◌<◌, true, false, eqb, List, [], ◌∷◌, ◌++◌, length, arith, refl, sym, ◌∙◌, ap, subst, append_assoc, length-append, inl, inr, None}
+use Rattle.std.proofs.Common.{◌≡◌, ◌⊎◌, ℕ, zero, suc, ◌+◌, ◌-◌, ◌*◌, ◌≤◌, ◌<◌, true, false, eqb, List, [], ◌∷◌, ◌++◌, length, arith, refl, sym, ◌∙◌}
+use Rattle.std.proofs.Common.{ap, subst, append_assoc, length-append, inl, inr, None}
 use Rattle.std.specs.Prelude.{max, map}
 use Rattle.std.specs.Int.{div_ceil}
 use Rattle.std.proofs.lemmas.Bool.{cases_lt}
@@ -24,7 +25,8 @@ use Rattle.cbs_steps.proofs.Histories.{charged_runs, holds_after}
 use Rattle.cbs_guarantee.specs.Overruns.{opens_after, IsOneStream, IsAlone, span_on, KeepsOverruns, KeepsAcceptingOverruns}
 use Rattle.cbs_guarantee.specs.Streams.{span_of, jobs_of, Accepts}
 use Rattle.cbs_guarantee.proofs.Accepting.{room_accepts}
-use Rattle.cbs_guarantee.proofs.Steps.{clock_behind, others_behind, finished_behind, no_jobs, total_of, total_behind, jobs_given, charge_counts, by_step, submit-now}
+use Rattle.cbs_guarantee.proofs.Steps.{clock_behind, others_behind, finished_behind, no_jobs, total_of, total_behind, jobs_given, charge_counts}
+use Rattle.cbs_guarantee.proofs.Steps.{by_step, submit-now}
 use Rattle.cbs_guarantee.proofs.Streams.{none_due, reserved, reserved_after, due_after, due_given, due_charged}
 
 -- more ticks need no fewer budgets
@@ -86,7 +88,8 @@ module _ {W : Type 0} (work : Meaning W) (setup : Setup) where
         last : (jobs_of work setup s M ≡ 0) ⊎ ((spent M).from + every ≤ opens M)
 
       -- where a job comes that is not early, it is due as if it came first
-      paid_given : (M : List (Step W)) (job : W) → submit_refusal setup.backlog (faces work (after work setup M)) s ≡ None → IsOneStream work setup s every ticks (Submit s job ∷ M)
+      paid_given : (M : List (Step W)) (job : W) → submit_refusal setup.backlog (faces work (after work setup M)) s ≡ None
+          → IsOneStream work setup s every ticks (Submit s job ∷ M)
           → IsPaid M → ((spent (Submit s job ∷ M)).from ≡ (after work setup M).now) × (opens (Submit s job ∷ M) ≡ (after work setup M).now + every)
       paid_given M job accepted are h =
           let itself : eqb s s ≡ true = grind (arith, nat_tests) in
@@ -185,7 +188,8 @@ module _ {W : Type 0} (work : Meaning W) (setup : Setup) where
                     let later = last.later in
                     let jobs = last.jobs in
                     let units = last.units in
-                    by_step work setup s (λ A. IsGoing A → finished work (account (after work setup L).accounts s) ≤ finished work (account (after work setup A).accounts s) → IsDone A ⊎ IsLast A) x L
+                    by_step work setup s (λ A. IsGoing A → finished work (account (after work setup L).accounts s) ≤ finished work (account
+                    (after work setup A).accounts s) → IsDone A ⊎ IsLast A) x L
                     (λ next taken go more.
                     let early = go.stream.1.0 refl taken in
                     let few = before.others in
@@ -217,7 +221,8 @@ module _ {W : Type 0} (work : Meaning W) (setup : Setup) where
             → jobs_of work setup s L ≤ finished work (account (after work setup L).accounts s)
 
         -- where the next job may come, all are finished
-        pub all_done : (L : List (Step W)) → IsGoing L → opens L ≤ (after work setup L).now → jobs_of work setup s L ≤ finished work (account (after work setup L).accounts s)
+        pub all_done : (L : List (Step W)) → IsGoing L → opens L ≤ (after work setup L).now
+            → jobs_of work setup s L ≤ finished work (account (after work setup L).accounts s)
         all_done L go late = from L [] refl refl refl
           where
             from : (M : List (Step W)) → IsEnough L M
@@ -230,7 +235,8 @@ module _ {W : Type 0} (work : Meaning W) (setup : Setup) where
                 let came = (paid_given M job accepted start.stream (paid_after M start.stream.0)).1 in
                 let one = jobs_given work setup s M job accepted in
                 let few = go.others in
-                let done : IsDone M job accepted L = subst (λ A. now M job accepted + span + others_charges (after work setup A).accounts s ≤ (after work setup A).now → IsDone M job accepted A) e
+                let done : IsDone M job accepted L = subst (λ A. now M job accepted + span + others_charges (after work setup A).accounts s ≤
+                (after work setup A).now → IsDone M job accepted A) e
                 (done_in_time M job accepted K there) (omega arith) in
                 omega arith)
                 (λ n charged K e jobs later.
@@ -248,7 +254,8 @@ module _ {W : Type 0} (work : Meaning W) (setup : Setup) where
             → jobs_of work setup s M < finished work (account (after work setup A).accounts s)) (sym e) (done_in_time M job is.accepted K) go late
 
         -- where the next job may come, it is accepted
-        pub overrun_accepts : (L : List (Step W)) → IsGoing L → 0 < setup.backlog → opens L ≤ (after work setup L).now → Accepts work (record { setup = setup; steps = L }) s
+        pub overrun_accepts : (L : List (Step W)) → IsGoing L → 0 < setup.backlog → opens L ≤ (after work setup L).now
+            → Accepts work (record { setup = setup; steps = L }) s
         overrun_accepts L go some late =
             let all = all_done L go late in
             λ shut. room_accepts work setup.backlog (after work setup L).accounts s shut (omega arith)
@@ -263,11 +270,13 @@ module _ {W : Type 0} (work : Meaning W) (N : History W) (keeps : (L : List (Ste
   overruns_kept = λ quiet s ticks every delay alone K M job is late.
       let e = span_same s ticks in
       let apart : span_of (reserved work N.setup s) ticks + delay ≤ every = rw e at alone.apart in
-      overrun_done work N.setup s every ticks (omega arith) keeps delay apart N.steps K M job (record { quiet = quiet; stream = alone.stream; others = alone.others }) is (omega arith)
+      overrun_done work N.setup s every ticks (omega arith) keeps delay apart N.steps K M job
+      (record { quiet = quiet; stream = alone.stream; others = alone.others }) is (omega arith)
 
   -- and the next is accepted
   pub accepting_overruns_kept : KeepsAcceptingOverruns work N
   accepting_overruns_kept = λ quiet s ticks every delay alone some late.
       let e = span_same s ticks in
       let apart : span_of (reserved work N.setup s) ticks + delay ≤ every = rw e at alone.apart in
-      overrun_accepts work N.setup s every ticks (omega arith) keeps delay apart N.steps (record { quiet = quiet; stream = alone.stream; others = alone.others }) some late
+      overrun_accepts work N.setup s every ticks (omega arith) keeps delay apart N.steps
+      (record { quiet = quiet; stream = alone.stream; others = alone.others }) some late

@@ -1,5 +1,6 @@
 -- One more server in parts.
-use Rattle.std.proofs.Common.{◌≡◌, ℕ, zero, suc, ◌+◌, ◌≤◌, ◌<◌, Bool, true, false, List, [], ◌∷◌, ◌++◌, length, get_or, set, arith, refl, sym, ap, ◌∙◌, inl, inr}
+use Rattle.std.proofs.Common.{◌≡◌, ℕ, zero, suc, ◌+◌, ◌≤◌, ◌<◌, Bool, true, false, List, [], ◌∷◌, ◌++◌, length, get_or, set, arith, refl, sym, ap}
+use Rattle.std.proofs.Common.{◌∙◌, inl, inr}
 use Rattle.std.proofs.Common.{Option, Some, None, Result, Ok, Err}
 use Rattle.std.specs.Prelude.{map, ◌≢◌, OnErr}
 use Rattle.std.specs.Option.{is_none}
@@ -47,7 +48,8 @@ pub part_count : (parts : List Part) → length (servers_of parts) ≡ length pa
 part_count parts = length-map parts (λ (part : Part). part.servers.items)
 
 -- a part that is written as it was leaves the parts as they were
-pub part_unchanged : (parts : List Part) (i : ℕ) (x : Part) (plan : Planned) → x ≡ get_or parts i x → plan ≡ x.plan → set parts i (record { plan = plan; servers = x.servers }) ≡ parts
+pub part_unchanged : (parts : List Part) (i : ℕ) (x : Part) (plan : Planned) → x ≡ get_or parts i x → plan ≡ x.plan
+    → set parts i (record { plan = plan; servers = x.servers }) ≡ parts
 part_unchanged parts i x plan read same =
     let e : record { plan = plan; servers = x.servers } ≡ get_or parts i x = rw same read in
     ap (set parts i) e ∙ set-get_or parts i x
@@ -99,7 +101,8 @@ module _ (bound : Fraction) (rates : List Rate) (s : ℕ) where
       rw over (ap (λ xs. p ∷ xs) (placed_here parts i (omega arith) (λ k less. before (suc k) (omega arith)) here))
 
   -- where all refuse it, it is a part
-  pub placed_new : (parts : List (List ℕ)) → ((k : ℕ) → k < length parts → refusal_of (get_or parts k []) ≢ None) → placed bound rates s parts ≡ parts ++ (s ∷ []) ∷ []
+  pub placed_new : (parts : List (List ℕ)) → ((k : ℕ) → k < length parts → refusal_of (get_or parts k []) ≢ None)
+      → placed bound rates s parts ≡ parts ++ (s ∷ []) ∷ []
   placed_new [] before = refl
   placed_new (p ∷ parts) before =
       let over = is_refused (refusal_of p) (before 0 (omega arith)) in

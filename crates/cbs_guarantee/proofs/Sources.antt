@@ -1,5 +1,6 @@
 -- Why nothing is promised of sources: their streams, and the first ones of them.
-use Rattle.std.proofs.Common.{◌≡◌, ℕ, zero, suc, ◌+◌, ◌*◌, ◌/◌, ◌%◌, ◌≤◌, ◌<◌, true, false, leb, ltb, List, [], ◌∷◌, ◌++◌, length, take, get_or, arith, refl, ap, ◌∙◌, subst, inl, inr, Some, None}
+use Rattle.std.proofs.Common.{◌≡◌, ℕ, zero, suc, ◌+◌, ◌*◌, ◌/◌, ◌%◌, ◌≤◌, ◌<◌, true, false, leb, ltb, List, [], ◌∷◌, ◌++◌, length, take, get_or}
+use Rattle.std.proofs.Common.{arith, refl, ap, ◌∙◌, subst, inl, inr, Some, None}
 use Rattle.std.specs.Prelude.{map}
 use Rattle.std.specs.List.{sum_by, AllByRecursion}
 use Rattle.std.proofs.lemmas.Bool.{cases_Bool}
@@ -23,7 +24,8 @@ use Rattle.cbs_guarantee.specs.declared.source.NotPromised.TheVariants as why
 use Rattle.cbs_guarantee.proofs.Streams.{periods_some, whole_share}
 
 -- each of streams that fit together fits alone
-each_fits : (parts : ℕ) (rates : List Rate) → 0 < parts → IsCommonMultiple parts rates → sum_by (share parts) rates ≤ parts → AllByRecursion (λ r. r.budget ≤ r.period) rates
+each_fits : (parts : ℕ) (rates : List Rate) → 0 < parts → IsCommonMultiple parts rates → sum_by (share parts) rates ≤ parts
+    → AllByRecursion (λ r. r.budget ≤ r.period) rates
 each_fits parts [] some common fits = tt
 each_fits parts (r ∷ rates) some common fits =
     let sum = sum_by-cons (share parts) r rates in
@@ -37,7 +39,8 @@ bearable_each : (rates : List Rate) → IsBearable rates → AllByRecursion (λ 
 bearable_each rates ok = each_fits (all_periods rates) rates (periods_some rates ok.each) (all_periods-common rates) ok.fits
 
 -- a source that has no stream, or one that fits not even alone, is a reason for all
-pub reason_alone : (server : Rate) (sources : List Source) (k : ℕ) (d : Source) (e : NotPromised) → k < length sources → IsStreamReason server (get_or sources k d) e
+pub reason_alone : (server : Rate) (sources : List Source) (k : ℕ) (d : Source) (e : NotPromised) → k < length sources
+    → IsStreamReason server (get_or sources k d) e
     → (delay backlog : ℕ) → IsReason server sources delay backlog e
 reason_alone server sources k d why.AsksTooMuch lt over = λ delay backlog ok.
     let each = AllByRecursion-mapped (λ (r : Rate). r.budget ≤ r.period) (stream_of server) sources (bearable_each (streams_of server sources) ok) in
@@ -91,7 +94,8 @@ back P (x ∷ xs) ys all = back P xs ys all.1
 -- what a plan of the first sources, of one processor, does not take is a reason for all
 pub reason_refused : (server : Rate) (sources : List Source) (k : ℕ) (d : Source) (e : AdmitError) (plan : Planned) (stream : Rate) → k < length sources
     → HaveStreams server sources → plan.bound ≡ record { num = 1; den = 1 } → plan.rates ≡ streams_of server (take k sources)
-    → stream ≡ stream_of server (get_or sources k d) → admit_refusal plan stream ≡ Some e → (delay backlog : ℕ) → IsReason server sources delay backlog (reason_of e)
+    → stream ≡ stream_of server (get_or sources k d) → admit_refusal plan stream ≡ Some e → (delay backlog : ℕ)
+    → IsReason server sources delay backlog (reason_of e)
 reason_refused server sources k d e plan stream lt have bound rates is refused = λ delay backlog.
     let refusal = rw (bound, rates, is) at refused in
     let first = streams_of server (take k sources) in
@@ -123,7 +127,8 @@ reason_refused server sources k d e plan stream lt have bound rates is refused =
     ]
 
 -- the sources of a plan are borne
-pub borne_of : (server : Rate) (sources : List Source) (plan : Planned) → IsPlan plan → plan.rates ≡ streams_of server sources → AllByRecursion IsSource sources → AreBorne server sources
+pub borne_of : (server : Rate) (sources : List Source) (plan : Planned) → IsPlan plan → plan.rates ≡ streams_of server sources
+    → AllByRecursion IsSource sources → AreBorne server sources
 borne_of server sources plan ok rates each =
     let few = ok.few in
     let same : length plan.rates ≡ length sources = ap length rates ∙ length-map sources (stream_of server) in
@@ -131,7 +136,8 @@ borne_of server sources plan ok rates each =
       few = omega arith;
       each = each;
       bearable = rw (← rates) record {
-        each = AllByRecursion-weaker (λ (r : Rate). IsRate r.budget r.period) IsStream plan.rates ok.lawful (λ r is. record { span = is.some; distance = period_some r is });
+        each = AllByRecursion-weaker (λ (r : Rate). IsRate r.budget r.period) IsStream plan.rates ok.lawful (λ r is.
+            record { span = is.some; distance = period_some r is });
         fits = ok.at_most_one;
       };
     }

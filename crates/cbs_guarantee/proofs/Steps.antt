@@ -1,5 +1,6 @@
 -- What steps keep of the clock, of what a server was charged, and of its jobs.
-use Rattle.std.proofs.Common.{◌≡◌, ℕ, zero, suc, ◌+◌, ◌-◌, ◌≤◌, ◌<◌, true, false, eqb, leb, List, [], ◌∷◌, ◌++◌, length, take, get_or, arith, refl, sym, ap, ◌∙◌, inl, inr, subst, length-append}
+use Rattle.std.proofs.Common.{◌≡◌, ℕ, zero, suc, ◌+◌, ◌-◌, ◌≤◌, ◌<◌, true, false, eqb, leb, List, [], ◌∷◌, ◌++◌, length, take, get_or, arith, refl}
+use Rattle.std.proofs.Common.{sym, ap, ◌∙◌, inl, inr, subst, length-append}
 use Rattle.std.proofs.Common.{Option, Some, None, ◌⊎◌}
 use Rattle.std.specs.Prelude.{map}
 use Rattle.std.specs.List.{sum_by}
@@ -16,7 +17,8 @@ use Rattle.cbs_steps.specs.Accounts.{Account, finished, face_of, new_account, no
 use Rattle.cbs_steps.specs.Accounts.{account_with_replenishment, account_with_close, account_let_go}
 use Rattle.cbs_steps.specs.Charged.{charged_due, others_charges}
 use Rattle.cbs_steps.specs.Faces.{is_ready, submit_refusal, close_refusal}
-use Rattle.cbs_steps.specs.History.{World, Setup, account, faces, start, let_go, tick, ticks, runner, after_submit, after_run, after_advance, after_closing, after_charging}
+use Rattle.cbs_steps.specs.History.{World, Setup, account, faces, start, let_go, tick, ticks, runner, after_submit, after_run, after_advance}
+use Rattle.cbs_steps.specs.History.{after_closing, after_charging}
 use Rattle.cbs_steps.specs.History.{charge_refusal, next, after}
 use Rattle.cbs_steps.specs.declared.error.CoreError.{CoreError}
 use Rattle.cbs_steps.specs.declared.step.Step.{Step}
@@ -39,18 +41,22 @@ module _ {W : Type 0} (work : Meaning W) where
   submit-now w s job None = refl
   submit-now w s job (Some e) = refl
 
+  -- a run
   run_grows : (w : World W) (o : Option ℕ) → w.now ≤ (after_run w o).now
   run_grows w None = omega arith
   run_grows w (Some s) = omega arith
 
+  -- an advance
   advance_grows : (n : ℕ) (w : World W) → w.now ≤ (after_advance w n).now
   advance_grows zero w = omega arith
   advance_grows (suc n) w = let e = ticks-now (suc n) (let_go w) in omega arith
 
+  -- a close
   close_grows : (w : World W) (s : ℕ) (o : Option CoreError) → w.now ≤ (after_closing w s o).now
   close_grows w s None = omega arith
   close_grows w s (Some e) = omega arith
 
+  -- a charge
   charge_grows : (w : World W) (s n : ℕ) (o : Option CoreError) → w.now ≤ (after_charging w s n o).now
   charge_grows w s zero None = omega arith
   charge_grows w s (suc n) None = let e = ticks-now (suc n) (record w { accounts = changed_at (account_with_charge (suc n)) w.accounts s }) in omega arith
@@ -80,13 +86,15 @@ module _ {W : Type 0} (work : Meaning W) where
     terms_after (x ∷ M) s = terms_behind work setup (x ∷ []) M s ∙ terms_after M s
 
     -- what a server was charged only grows
-    pub total_behind : (K M : List (Step W)) (s : ℕ) → (account (after work setup M).accounts s).charges.total ≤ (account (after work setup (K ++ M)).accounts s).charges.total
+    pub total_behind : (K M : List (Step W)) (s : ℕ)
+        → (account (after work setup M).accounts s).charges.total ≤ (account (after work setup (K ++ M)).accounts s).charges.total
     total_behind K M s = let t = (account (after work setup M).accounts s).charges.total in
         holds_behind work (λ now a. t ≤ a.charges.total) (λ now a ready h. h) (λ now a h. h) (λ now a h. h) (λ now a h. h) (λ now j a h. h)
         (λ now n a some runs h. omega (arith, h)) setup K M s (omega arith)
 
     -- so does the most for one unit
-    most_behind : (K M : List (Step W)) (s : ℕ) → (account (after work setup M).accounts s).charges.most ≤ (account (after work setup (K ++ M)).accounts s).charges.most
+    most_behind : (K M : List (Step W)) (s : ℕ)
+        → (account (after work setup M).accounts s).charges.most ≤ (account (after work setup (K ++ M)).accounts s).charges.most
     most_behind K M s = let t = (account (after work setup M).accounts s).charges.most in
         holds_behind work (λ now a. t ≤ a.charges.most) (λ now a ready h. h) (λ now a h. h) (λ now a h. h) (λ now a h. h) (λ now j a h. h)
         (λ now n a some runs h. grind (arith, h)) setup K M s (omega arith)
@@ -120,7 +128,8 @@ module _ {W : Type 0} (work : Meaning W) where
             rw (sum_by-cons (λ (c : Account W). c.charges.most) a xs, sum_by-cons (λ (c : Account W). c.charges.most) b ys) (omega arith)
 
     -- a job that is finished stays finished
-    pub finished_behind : (K M : List (Step W)) (s : ℕ) → finished work (account (after work setup M).accounts s) ≤ finished work (account (after work setup (K ++ M)).accounts s)
+    pub finished_behind : (K M : List (Step W)) (s : ℕ)
+        → finished work (account (after work setup M).accounts s) ≤ finished work (account (after work setup (K ++ M)).accounts s)
     finished_behind K M s = let k = finished work (account (after work setup M).accounts s) in
         holds_behind work (λ now a. k ≤ finished work a) (λ now a ready h. finished_unit a k h) (λ now a h. h) (λ now a h. h) (λ now a h. h)
         (λ now j a h. finished_job now j a k h) (λ now n a some runs h. h) setup K M s (omega arith)
@@ -180,15 +189,22 @@ module _ {W : Type 0} (work : Meaning W) where
           → ((now : ℕ) (a : Account W) → Q a → Q (account_with_replenishment now a)) → ((a : Account W) → Q a → Q (account_with_close a))
           → ((a : Account W) → Q a → Q (account_let_go a)) → Q (account v.accounts s) → Q (account w.accounts s)
 
+      -- a run
       moves_run : (w : World W) → Moves w (next work setup.backlog w Run)
-      moves_run w = λ Q unit fill close loose h. holds_run_step work (λ now. Q) (λ now. unit) (λ now. fill (now + 1)) (λ now. close) (λ now. loose) setup.backlog w s h
+      moves_run w = λ Q unit fill close loose h. holds_run_step work (λ now. Q) (λ now. unit) (λ now. fill (now + 1)) (λ now. close)
+          (λ now. loose) setup.backlog w s h
 
+      -- an advance
       moves_advance : (w : World W) (n : ℕ) → Moves w (next work setup.backlog w (Advance n))
-      moves_advance w n = λ Q unit fill close loose h. holds_advance_step work (λ now. Q) (λ now. unit) (λ now. fill (now + 1)) (λ now. close) (λ now. loose) setup.backlog w n s h
+      moves_advance w n = λ Q unit fill close loose h. holds_advance_step work (λ now. Q) (λ now. unit) (λ now. fill (now + 1)) (λ now. close)
+          (λ now. loose) setup.backlog w n s h
 
+      -- a close
       moves_close : (w : World W) (t : ℕ) → Moves w (next work setup.backlog w (Close t))
-      moves_close w t = λ Q unit fill close loose h. holds_close_step work (λ now. Q) (λ now. unit) (λ now. fill (now + 1)) (λ now. close) (λ now. loose) setup.backlog w t s h
+      moves_close w t = λ Q unit fill close loose h. holds_close_step work (λ now. Q) (λ now. unit) (λ now. fill (now + 1)) (λ now. close)
+          (λ now. loose) setup.backlog w t s h
 
+      -- n ticks
       pub moves_ticks : (n : ℕ) (w : World W) → Moves w (ticks n w)
       moves_ticks n w = λ Q unit fill close loose h. holds_ticks work (λ now. Q) (λ now. unit) (λ now. fill (now + 1)) (λ now. close) (λ now. loose) n w s h
 
@@ -212,8 +228,10 @@ module _ {W : Type 0} (work : Meaning W) where
 
       -- then its jobs, and what it was charged, are those before
       moved_same : (v w : World W) → Moves v w
-          → (length (account w.accounts s).accepted ≡ length (account v.accounts s).accepted) × ((account w.accounts s).charges.total ≡ (account v.accounts s).charges.total)
-      moved_same v w moves = moves (λ a. (length a.accepted ≡ length (account v.accounts s).accepted) × (a.charges.total ≡ (account v.accounts s).charges.total))
+          → (length (account w.accounts s).accepted ≡ length (account v.accounts s).accepted) × ((account w.accounts s).charges.total ≡
+          (account v.accounts s).charges.total)
+      moved_same v w moves = moves (λ a. (length a.accepted ≡ length (account v.accounts s).accepted) × (a.charges.total ≡
+          (account v.accounts s).charges.total))
           (λ a ready h. h) (λ now a h. h) (λ a h. h) (λ a h. h) (refl, refl)
 
       -- a charge of server s adds to its total, and gives it no job
@@ -225,8 +243,10 @@ module _ {W : Type 0} (work : Meaning W) where
       charge_here w (suc n) None charged lt =
           let f = account_with_charge (suc n) in
           let here : account (changed_at f w.accounts s) s ≡ f (account w.accounts s) = changed_here f w.accounts s no_account lt in
-          holds_ticks work (λ now a. (length a.accepted ≡ length (account w.accounts s).accepted) × (a.charges.total ≡ (account w.accounts s).charges.total + suc n))
-          (λ now a ready h. h) (λ now a h. h) (λ now a h. h) (λ now a h. h) (suc n) (record w { accounts = changed_at f w.accounts s }) s (rw here refl, rw here refl)
+          holds_ticks work (λ now a. (length a.accepted ≡ length (account w.accounts s).accepted) × (a.charges.total ≡
+          (account w.accounts s).charges.total + suc n))
+          (λ now a ready h. h) (λ now a h. h) (λ now a h. h) (λ now a h. h) (suc n) (record w { accounts = changed_at f w.accounts s }) s
+          (rw here refl, rw here refl)
 
       -- what is accepted of server s is one job more
       pub jobs_given : (M : List (Step W)) (job : W) → submit_refusal setup.backlog (faces work (after work setup M)) s ≡ None
@@ -257,7 +277,9 @@ module _ {W : Type 0} (work : Meaning W) where
             | inr n ↦
                 let moves = moves_submit w t job o (λ a e. let y : eqb t s ≡ true = grind (arith, nat_tests) in cc) in
                 let same = moved_same w (after_submit work w t job o) moves in
-                rest (record { jobs = same.0; total = same.1; due = rw n refl; streams = λ rates of. rw n refl; opens = λ every. rw n refl; units = rw n refl }) moves
+                rest
+                (record { jobs = same.0; total = same.1; due = rw n refl; streams = λ rates of. rw n refl; opens = λ every. rw n refl; units = rw n refl })
+                moves
             | inl y ↦
                 let e : t ≡ s = grind (arith, nat_tests) in
                 elim (refused_or o) [
@@ -265,7 +287,15 @@ module _ {W : Type 0} (work : Meaning W) where
                   | inr (why, refused) ↦
                       let moves = moves_submit w t job o (λ a. let bad : Some why ≡ None = rw refused at a in cc) in
                       let same = moved_same w (after_submit work w t job o) moves in
-                      rest (record { jobs = same.0; total = same.1; due = rw (y, refused) refl; streams = λ rates of. rw (y, refused) refl; opens = λ every. rw (y, refused) refl; units = rw (y, refused) refl }) moves
+                      rest (record {
+                        jobs = same.0;
+                        total = same.1;
+                        due = rw (y, refused) refl;
+                        streams = λ rates of. rw
+                            (y, refused) refl;
+                        opens = λ every. rw (y, refused) refl;
+                        units = rw (y, refused) refl;
+                      }) moves
                 ]
           ]
       by_step P Run M gives charges rest =
@@ -298,6 +328,14 @@ module _ {W : Type 0} (work : Meaning W) where
                   | inr (why, refused) ↦
                       let moves = moves_charge w t n o (λ a. let bad : Some why ≡ None = rw refused at a in cc) in
                       let same = moved_same w (after_charging w t n o) moves in
-                      rest (record { jobs = same.0; total = same.1; due = rw (y, refused) refl; streams = λ rates of. refl; opens = λ every. refl; units = refl }) moves
+                      rest (record {
+                        jobs = same.0;
+                        total = same.1;
+                        due = rw
+                            (y, refused) refl;
+                        streams = λ rates of. refl;
+                        opens = λ every. refl;
+                        units = refl;
+                      }) moves
                 ]
           ]

@@ -1,5 +1,6 @@
 -- Each job of streams that ask for no more than all of a server's time is finished all spans after it came.
-use Rattle.std.proofs.Common.{◌≡◌, ℕ, zero, suc, ◌+◌, ◌-◌, ◌*◌, ◌/◌, ◌%◌, ◌≤◌, ◌<◌, true, eqb, List, [], ◌∷◌, ◌++◌, length, get_or, arith, refl, sym, ◌∙◌, ap, subst, None, inl, inr}
+use Rattle.std.proofs.Common.{◌≡◌, ℕ, zero, suc, ◌+◌, ◌-◌, ◌*◌, ◌/◌, ◌%◌, ◌≤◌, ◌<◌, true, eqb, List, [], ◌∷◌, ◌++◌, length, get_or, arith, refl, sym}
+use Rattle.std.proofs.Common.{◌∙◌, ap, subst, None, inl, inr}
 use Rattle.std.specs.Prelude.{map, max}
 use Rattle.std.specs.Int.{div_ceil}
 use Rattle.std.specs.List.{sum_by, AllByRecursion}
@@ -19,7 +20,8 @@ use Rattle.cbs_steps.specs.Faces.{submit_refusal}
 use Rattle.cbs_steps.specs.History.{World, Setup, History, account, faces, start, after, charge_refusal}
 use Rattle.cbs_steps.specs.declared.step.Step.{Step}
 use Rattle.cbs_steps.specs.declared.step.Step.TheVariants.{Submit, Charge}
-use Rattle.cbs_guarantee.specs.Streams.{Stream, no_stream, new_streams, came, span_of, IsStream, IsBearable, all_spans, streams_submitted, jobs_of, streams_after, next_stream}
+use Rattle.cbs_guarantee.specs.Streams.{Stream, no_stream, new_streams, came, span_of, IsStream, IsBearable, all_spans, streams_submitted, jobs_of}
+use Rattle.cbs_guarantee.specs.Streams.{streams_after, next_stream}
 use Rattle.cbs_guarantee.specs.Streams.{IsStreamJob, AreStreams, KeepsStreams}
 use Rattle.cbs_guarantee.proofs.Debts.{IsOpenSoon, IsBorne, borne_later, borne_came, borne_by, spans, shares}
 use Rattle.cbs_guarantee.proofs.Steps.{submit-now, clock_grows, terms_after, total_behind, total_of, IsOther, charge_counts, by_step}
@@ -36,7 +38,8 @@ whole_share parts r common =
     mul_assoc r.budget (parts / r.period) r.period ∙ ap (λ n. r.budget * n) (mul_comm (parts / r.period) r.period ∙ e)
 
 -- new streams owe nothing
-new_open : (parts : ℕ) (rates : List Rate) → IsCommonMultiple parts rates → AllByRecursion IsStream rates → AllByRecursion (IsOpenSoon parts 0) (new_streams rates)
+new_open : (parts : ℕ) (rates : List Rate) → IsCommonMultiple parts rates → AllByRecursion IsStream rates
+    → AllByRecursion (IsOpenSoon parts 0) (new_streams rates)
 new_open parts [] common each = tt
 new_open parts (r ∷ rates) common each =
     (record { some = each.0.distance; soon = omega arith; whole = whole_share parts r common.0 }, new_open parts rates common.1 each.1)
@@ -108,8 +111,10 @@ module _ {W : Type 0} (work : Meaning W) (setup : Setup) (s : ℕ) where
         let i = of (jobs_of work setup s M) in
         let itself : eqb s s ≡ true = grind (arith, nat_tests) in
         let changed : streams (Submit s job ∷ M) ≡ streams_submitted (streams M) (now_after M) i None = rw (itself, accepted) refl in
-        let stands : now_after (Submit s job ∷ M) ≡ now_after M = submit-now work (after work setup M) s job (submit_refusal setup.backlog (faces work (after work setup M)) s) in
-        let due : due_after (Submit s job ∷ M) ≡ max (due_after M) (now_after M) + span_of reserved (work.left job) = ap (due_tick reserved) (due_given M job accepted) in
+        let stands : now_after (Submit s job ∷ M) ≡ now_after M =
+        submit-now work (after work setup M) s job (submit_refusal setup.backlog (faces work (after work setup M)) s) in
+        let due : due_after (Submit s job ∷ M) ≡ max (due_after M) (now_after M) + span_of reserved (work.left job) =
+        ap (due_tick reserved) (due_given M job accepted) in
         let count : length (streams M) ≡ length rates = sym (length-map (streams M) (λ x. x.rate)) ∙ ap length h.rates_are in
         let there = is.there in
         let small : span_of reserved (work.left job) ≤ (next_stream work setup s rates of M).rate.budget = rw (reserved_after M) at is.small in
@@ -122,7 +127,12 @@ module _ {W : Type 0} (work : Meaning W) (setup : Setup) (s : ℕ) where
     -- so it is after all steps whose jobs are those of the streams, if the server is charged nothing
     pub borne_after : (M : List (Step W)) → total_of work setup s M ≡ 0 → AreStreams work setup s rates of M → IsBorneAfter M
     borne_after [] none are = record {
-      borne = record { borne = let z = none_due reserved in rw z (omega arith); each = new_open parts rates (all_periods-common rates) ok.each; fits = rw (sum_of_rates (share parts) (new_streams rates) rates (new_rates rates)) ok.fits };
+      borne = record {
+        borne = let z = none_due reserved in rw z (omega arith);
+        each = new_open parts rates (all_periods-common rates) ok.each;
+        fits = rw
+            (sum_of_rates (share parts) (new_streams rates) rates (new_rates rates)) ok.fits;
+      };
       rates_are = new_rates rates;
     }
     borne_after (x ∷ M) none are = by_step work setup s (λ L. total_of work setup s L ≡ 0 → AreStreams work setup s rates of L → IsBorneAfter L) x M
@@ -147,9 +157,12 @@ module _ {W : Type 0} (work : Meaning W) where
       let less : total_of work setup s L ≤ total_of work setup s (K ++ L) = total_behind work setup K L s in
       let all : total_of work setup s (K ++ L) ≡ 0 = subst (λ A. total_of work setup s A ≡ 0) is.steps none in
       let h = borne_after work setup s rates of ok L (omega arith) are in
-      let by = borne_by (all_periods rates) (after work setup L).now (due_after work setup s L) (streams_after work setup s rates of L) (periods_some rates ok.each) h.borne in
-      let e : spans (streams_after work setup s rates of L) ≡ all_spans rates = sum_of_rates (λ r. r.budget) (streams_after work setup s rates of L) rates h.rates_are in
-      let stands : (after work setup L).now ≡ (after work setup M).now = submit-now work (after work setup M) s job (submit_refusal setup.backlog (faces work (after work setup M)) s) in
+      let by = borne_by (all_periods rates) (after work setup L).now (due_after work setup s L) (streams_after work setup s rates of L)
+      (periods_some rates ok.each) h.borne in
+      let e : spans (streams_after work setup s rates of L) ≡ all_spans rates =
+      sum_of_rates (λ r. r.budget) (streams_after work setup s rates of L) rates h.rates_are in
+      let stands : (after work setup L).now ≡ (after work setup M).now =
+      submit-now work (after work setup M) s job (submit_refusal setup.backlog (faces work (after work setup M)) s) in
       let d = charged_due work setup s L in
       let nothing : d.units + (total_of work setup s N.steps - total_of work setup s L) ≡ d.units = omega arith in
       keeps quiet K M s job is (rw (nothing, reserved_after work setup s L) (omega arith))

@@ -1,5 +1,6 @@
 -- Where each unit is charged before the next job comes, a job takes no more than its units and what each may be charged.
-use Rattle.std.proofs.Common.{◌≡◌, ℕ, zero, suc, ◌+◌, ◌-◌, ◌*◌, ◌≤◌, ◌<◌, true, false, eqb, ltb, List, [], ◌∷◌, ◌++◌, length, arith, refl, sym, ◌∙◌, ap, None, Option, Some, inl, inr}
+use Rattle.std.proofs.Common.{◌≡◌, ℕ, zero, suc, ◌+◌, ◌-◌, ◌*◌, ◌≤◌, ◌<◌, true, false, eqb, ltb, List, [], ◌∷◌, ◌++◌, length, arith, refl, sym, ◌∙◌}
+use Rattle.std.proofs.Common.{ap, None, Option, Some, inl, inr}
 use Rattle.std.specs.Prelude.{map}
 use Rattle.std.specs.List.{sum_by}
 use Rattle.std.proofs.lemmas.Bool.Decides.{nat_tests}
@@ -51,7 +52,8 @@ module _ {W : Type 0} (work : Meaning W) (setup : Setup) (s every units overrun 
       }
 
   -- a charge counts, where a unit was got since the last job came
-  counted_charge : (before ticks n : ℕ) (a : Account W) → before < a.got → a.latest + n ≤ overrun → IsCounted before ticks a → IsCounted before (ticks + n) (account_with_charge n a)
+  counted_charge : (before ticks n : ℕ) (a : Account W) → before < a.got → a.latest + n ≤ overrun → IsCounted before ticks a
+      → IsCounted before (ticks + n) (account_with_charge n a)
   counted_charge before ticks n a some few h =
       let l = h.last some in
       let one = l.0 in
@@ -64,7 +66,8 @@ module _ {W : Type 0} (work : Meaning W) (setup : Setup) (s every units overrun 
       }
 
   -- a job comes, where all before are finished
-  counted_job : (now : ℕ) (job : W) (a : Account W) → all work a ≡ a.got → work.left job ≤ units → all work (account_with_job work now job a) ≡ all work a + work.left job
+  counted_job : (now : ℕ) (job : W) (a : Account W) → all work a ≡ a.got → work.left job ≤ units
+      → all work (account_with_job work now job a) ≡ all work a + work.left job
       → IsCounted a.got (work.left job) (account_with_job work now job a)
   counted_job now job a done small more = record {
     since = omega arith;
@@ -112,20 +115,25 @@ module _ {W : Type 0} (work : Meaning W) (setup : Setup) (s every units overrun 
 
   -- a charge of server s that is not refused, and its ticks
   counted_charging : (before ticks n : ℕ) (w : World W) (o : Option CoreError) → o ≡ None → s < length w.accounts → before < (account w.accounts s).got
-      → (account w.accounts s).latest + n ≤ overrun → IsCounted before ticks (account w.accounts s) → IsCounted before (ticks + n) (account (after_charging w s n o).accounts s)
+      → (account w.accounts s).latest + n ≤ overrun → IsCounted before ticks (account w.accounts s)
+      → IsCounted before (ticks + n) (account (after_charging w s n o).accounts s)
   counted_charging before ticks n w (Some e) bad lt some few h = cc
   counted_charging before ticks zero w None charged lt some few h = let z : ticks + 0 ≡ ticks = omega arith in rw z h
   counted_charging before ticks (suc n) w None charged lt some few h =
       let f = account_with_charge (suc n) in
       let here : account (changed_at f w.accounts s) s ≡ f (account w.accounts s) = changed_here f w.accounts s no_account lt in
-      moves_ticks work setup s (suc n) (record w { accounts = changed_at f w.accounts s }) (IsCounted before (ticks + suc n)) (λ a ready. counted_unit before (ticks + suc n) a)
-      (λ now a k. record { since = k.since; asked = k.asked; most = k.most; last = k.last }) (λ a k. record { since = k.since; asked = k.asked; most = k.most; last = k.last })
-      (λ a k. record { since = k.since; asked = k.asked; most = k.most; last = k.last }) (rw here (counted_charge before ticks (suc n) (account w.accounts s) some few h))
+      moves_ticks work setup s (suc n) (record w { accounts = changed_at f w.accounts s }) (IsCounted before (ticks + suc n))
+      (λ a ready. counted_unit before (ticks + suc n) a)
+      (λ now a k. record { since = k.since; asked = k.asked; most = k.most; last = k.last }) (λ a k.
+      record { since = k.since; asked = k.asked; most = k.most; last = k.last })
+      (λ a k. record { since = k.since; asked = k.asked; most = k.most; last = k.last }) (rw here (counted_charge before ticks (suc n)
+      (account w.accounts s) some few h))
 
   module _ (keeps : (L : List (Step W)) → KeepsChargedDue work (record { setup = setup; steps = L })) (delay : ℕ)
       (apart : span_of (reserved work setup s) (units * (1 + overrun)) + delay ≤ every) where
     -- where the next job may come, all that was asked for is done
-    idle_after : (M : List (Step W)) → IsGoing work setup s every (units * (1 + overrun)) (omega arith) keeps delay apart M → opens_after work setup s every M ≤ (after work setup M).now
+    idle_after : (M : List (Step W)) → IsGoing work setup s every (units * (1 + overrun)) (omega arith) keeps delay apart M
+        → opens_after work setup s every M ≤ (after work setup M).now
         → (let a = account (after work setup M).accounts s in all work a ≡ a.got)
     idle_after M go late =
         let a = account (after work setup M).accounts s in
@@ -136,7 +144,8 @@ module _ {W : Type 0} (work : Meaning W) (setup : Setup) (s every units overrun 
         sym (idle_owed work a idle (omega arith))
 
     -- after all steps each job took no more than its units and what each may be charged
-    counted_after : (M : List (Step W)) → AdvanceQuietly work setup M → AreOverruns work setup s every units overrun M → others_charges (after work setup M).accounts s ≤ delay
+    counted_after : (M : List (Step W)) → AdvanceQuietly work setup M → AreOverruns work setup s every units overrun M
+        → others_charges (after work setup M).accounts s ≤ delay
         → IsCountedAfter M × IsOneStream work setup s every (units * (1 + overrun)) M
     counted_after [] quiet are others = (counted_new setup.servers s, tt)
     counted_after (x ∷ M) quiet are others =
@@ -146,23 +155,24 @@ module _ {W : Type 0} (work : Meaning W) (setup : Setup) (s every units overrun 
         let rest = counted_after M quiet.0 are.0 (omega arith) in
         let h = rest.0 in
         let counted : IsCountedAfter (x ∷ M) = by_step work setup s (λ L. AreOverruns work setup s every units overrun L → IsCountedAfter L) x M
-            (λ job accepted are.
-            let itself : eqb s s ≡ true = grind (arith, nat_tests) in
-            let is = are.1 refl accepted in
-            let before : got_before (Submit s job ∷ M) ≡ a.got = rw (itself, accepted) refl in
-            let ticks : ticks_after (Submit s job ∷ M) ≡ work.left job = ap (λ (d : Due). d.units) (due_given work setup s M job accepted) in
-            let done = idle_after M (record { quiet = quiet.0; stream = rest.1; others = omega arith }) is.1 in
-            rw (before, ticks, submitted work setup M s job accepted) (counted_job w.now job a done is.0 (total work setup M s job accepted)))
-            (λ n charged are.
-            let is = are.1 refl charged in
-            let ticks : ticks_after (Charge s n ∷ M) ≡ ticks_after M + n = ap (λ (d : Due). d.units) (due_charged work setup s M n charged) in
-            rw ticks (counted_charging (got_before M) (ticks_after M) n w (charge_refusal w s n) charged (charged_there work w s n charged) is.0 is.1 h))
-            (λ other moves are.
-            let e = ap (λ (d : Due). d.units) other.due in
-            rw (other.units, e) (moves (IsCounted (got_before M) (ticks_after M)) (λ a ready. counted_unit (got_before M) (ticks_after M) a)
-            (λ now a k. record { since = k.since; asked = k.asked; most = k.most; last = k.last }) (λ a k. record { since = k.since; asked = k.asked; most = k.most; last = k.last })
-            (λ a k. record { since = k.since; asked = k.asked; most = k.most; last = k.last }) h))
-            are in
+        (λ job accepted are.
+        let itself : eqb s s ≡ true = grind (arith, nat_tests) in
+        let is = are.1 refl accepted in
+        let before : got_before (Submit s job ∷ M) ≡ a.got = rw (itself, accepted) refl in
+        let ticks : ticks_after (Submit s job ∷ M) ≡ work.left job = ap (λ (d : Due). d.units) (due_given work setup s M job accepted) in
+        let done = idle_after M (record { quiet = quiet.0; stream = rest.1; others = omega arith }) is.1 in
+        rw (before, ticks, submitted work setup M s job accepted) (counted_job w.now job a done is.0 (total work setup M s job accepted)))
+        (λ n charged are.
+        let is = are.1 refl charged in
+        let ticks : ticks_after (Charge s n ∷ M) ≡ ticks_after M + n = ap (λ (d : Due). d.units) (due_charged work setup s M n charged) in
+        rw ticks (counted_charging (got_before M) (ticks_after M) n w (charge_refusal w s n) charged (charged_there work w s n charged) is.0 is.1 h))
+        (λ other moves are.
+        let e = ap (λ (d : Due). d.units) other.due in
+        rw (other.units, e) (moves (IsCounted (got_before M) (ticks_after M)) (λ a ready. counted_unit (got_before M) (ticks_after M) a)
+        (λ now a k. record { since = k.since; asked = k.asked; most = k.most; last = k.last }) (λ a k.
+        record { since = k.since; asked = k.asked; most = k.most; last = k.last })
+        (λ a k. record { since = k.since; asked = k.asked; most = k.most; last = k.last }) h))
+        are in
         (counted, (rest.1, (apart_of x M are.1, ticks_most (x ∷ M) counted)))
 
 module _ {W : Type 0} (work : Meaning W) (N : History W) (keeps : (L : List (Step W)) → KeepsChargedDue work (when N L)) where

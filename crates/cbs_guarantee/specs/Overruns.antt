@@ -17,7 +17,8 @@ module _ {W : Type 0} (work : Meaning W) (setup : Setup) (s : ℕ) where
   -- by one more step: only an accepted submit to s is another job
   abbrev pub units_next : List (Step W) → ℕ → Step W → ℕ
   units_next M before (Submit t job) =
-      if eqb t s then slot_submitted before (account (after work setup M).accounts s).got (submit_refusal setup.backlog (faces work (after work setup M)) t) else before
+      if eqb t s then slot_submitted before (account (after work setup M).accounts s).got (submit_refusal setup.backlog (faces work
+      (after work setup M)) t) else before
   units_next M before _ = before
 
   -- the units that server s had got when its last job came; 0 before the first
@@ -81,7 +82,8 @@ module _ {W : Type 0} where
   abbrev pub KeepsOverruns : Meaning W → History W → Type 0
   KeepsOverruns work N = AdvanceQuietly work N.setup N.steps → (s ticks every delay : ℕ) → IsAlone work N s ticks every delay
       → (K M : List (Step W)) (job : W) → IsJobOf work N K M s job
-      → (world_after work (when N M)).now + span_on work N s ticks + others_charges (world_after work N).accounts s ≤ (world_after work N).now → IsFinished work N M s
+      → (world_after work (when N M)).now + span_on work N s ticks + others_charges (world_after work N).accounts s ≤ (world_after work N).now
+      → IsFinished work N M s
 
   -- It accepts each job that does not come early.
   abbrev pub KeepsAcceptingOverruns : Meaning W → History W → Type 0

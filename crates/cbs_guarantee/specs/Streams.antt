@@ -72,7 +72,8 @@ module _ {W : Type 0} (work : Meaning W) (setup : Setup) (s : ℕ) where
     -- by one more step after M: job q of server s is one of stream `of q`
     abbrev pub streams_next : List (Step W) → List Stream → Step W → List Stream
     streams_next M xs (Submit t job) =
-        if eqb t s then streams_submitted xs (after work setup M).now (of (jobs_of M)) (submit_refusal setup.backlog (faces work (after work setup M)) t) else xs
+        if eqb t s then streams_submitted xs (after work setup M).now (of (jobs_of M)) (submit_refusal setup.backlog (faces work
+        (after work setup M)) t) else xs
     streams_next M xs _ = xs
 
     -- the streams after the steps

@@ -176,7 +176,12 @@ fn first_fit(rt: HostRuntime) {
         [first, second] => {
             same(&rt, "first", first.servers[..] == [1, 4], true);
             same(&rt, "second", second.servers[..] == [5, 2, 3, 0], true);
-            same(&rt, "plan", second.plan.get(1), Reservation::new(3, 10).ok());
+            same(
+                &rt,
+                "plan",
+                second.plan.get(1),
+                Reservation::new(3, 10).ok(),
+            );
         }
         _ => panic!(&rt; "{} parts, not 2", parts.len()),
     }

@@ -5,7 +5,8 @@ use Rattle.cbs_rate.specs.Plan.{admit_refusal}
 use Rattle.cbs_rate.specs.Rate.{Rate}
 use Rattle.cbs_guarantee.specs.Parts.{servers_of, rate_at, placed}
 use Rattle.cbs_guarantee.specs.declared.parts.Part.{Part}
-use Rattle.cbs_guarantee.proofs.Placing.{refused_of, taken_of, on_refusal, rate_is, part_unchanged, servers_written, servers_pushed, servers_at, part_refusal, refusal_of, refused_more}
+use Rattle.cbs_guarantee.proofs.Placing.{refused_of, taken_of, on_refusal, rate_is, part_unchanged, servers_written, servers_pushed, servers_at}
+use Rattle.cbs_guarantee.proofs.Placing.{part_refusal, refusal_of, refused_more}
 use Rattle.cbs_guarantee.proofs.Placing.{placed_here, placed_new, part_count}
 use Rattle.cbs_guarantee.proofs.parts.place.Goals as goal
 
@@ -46,8 +47,10 @@ loop-index-preserved c =
     let bad : is_ok c.admit.result ≡ false = sym c.is_ok.ensures.value ∙ c.if-is_ok.false in
     let refused : admit_refusal x.plan (rate_at rates s) ≢ None = rw rate at (refused_of _ c.admit.result _ c.admit.ensures.answer bad) in
     let before : (k : ℕ) → k < i → refusal_of bound rates s (get_or (servers_of parts) k []) ≢ None = rw same at c.loop-index.invariant.refused in
-    let here : refusal_of bound rates s (get_or (servers_of parts) i []) ≢ None = rw (part_refusal bound rates s parts i x c.requires.each there read) refused in
-    let unchanged : set parts i (record { plan = c.admit.new.self; servers = x.servers }) ≡ parts = part_unchanged parts i x c.admit.new.self read (on_refusal c.admit.result c.admit.ensures.err bad) in
+    let here : refusal_of bound rates s (get_or (servers_of parts) i []) ≢ None =
+    rw (part_refusal bound rates s parts i x c.requires.each there read) refused in
+    let unchanged : set parts i (record { plan = c.admit.new.self; servers = x.servers }) ≡ parts =
+    part_unchanged parts i x c.admit.new.self read (on_refusal c.admit.result c.admit.ensures.err bad) in
     rw (same, unchanged) record { same = refl; refused = refused_more bound rates s (servers_of parts) i here before }
 
 pub returns-clause-servers : goal.returns-clause-servers
@@ -58,8 +61,11 @@ returns-clause-servers c =
     let rates : List Rate = c.args.reservations.now in
     let same : c.loop-index.parts.items ≡ parts = c.loop-index.invariant.same in
     let one : c.push-2.new.self.items ≡ s ∷ [] = c.in_ok-push-2.ensures.items ∙ ap (λ (xs : List ℕ). xs ++ s ∷ []) c.new-servers.ensures.items in
-    let pushed : c.push-3.new.self.items ≡ c.loop-index.parts.items ++ record { plan = c.admit-2.new.self; servers = c.push-2.new.self } ∷ [] = c.in_ok-push-3.ensures.items in
-    let refused : (k : ℕ) → k < c.loop-index.index → refusal_of bound rates s (get_or (servers_of parts) k []) ≢ None = rw same at c.loop-index.invariant.refused in
-    let before : (k : ℕ) → k < length (servers_of parts) → refusal_of bound rates s (get_or (servers_of parts) k []) ≢ None = λ k lt. refused k (omega (arith, part_count parts)) in
+    let pushed : c.push-3.new.self.items ≡ c.loop-index.parts.items ++ record { plan = c.admit-2.new.self; servers = c.push-2.new.self } ∷ [] =
+    c.in_ok-push-3.ensures.items in
+    let refused : (k : ℕ) → k < c.loop-index.index → refusal_of bound rates s (get_or (servers_of parts) k []) ≢ None =
+    rw same at c.loop-index.invariant.refused in
+    let before : (k : ℕ) → k < length (servers_of parts) → refusal_of bound rates s (get_or (servers_of parts) k []) ≢ None =
+    λ k lt. refused k (omega (arith, part_count parts)) in
     let all = placed_new bound rates s (servers_of parts) before in
     rw (pushed, same, servers_pushed parts (record { plan = c.admit-2.new.self; servers = c.push-2.new.self }), one, all) refl
