@@ -11,6 +11,7 @@ use Rattle.cbs_lists.specs.Lists.{changed_at}
 use Rattle.cbs_lists.proofs.Lists.{changed_here}
 use Rattle.cbs_rules.specs.Rules.{Terms}
 use Rattle.cbs_steps.specs.Accounts.{Account, need, finished, face_of, new_account, no_account, account_with_job, account_with_unit, account_with_charge}
+use Rattle.cbs_steps.specs.Accounts.{account_with_replenishment, account_with_close, account_let_go}
 use Rattle.cbs_steps.specs.Charged.{Due, charged_due, others_charges, KeepsChargedDue}
 use Rattle.cbs_steps.specs.Faces.{is_active, submit_refusal}
 use Rattle.cbs_steps.specs.History.{World, Setup, History, account, faces, after, world_after, after_charging, charge_refusal}
@@ -36,6 +37,16 @@ module _ {W : Type 0} (work : Meaning W) (setup : Setup) (s every units overrun 
     asked : all work a ≤ before + units
     most : ticks ≤ units + overrun * (a.got - before)
     last : before < a.got → (a.latest ≤ overrun) × (ticks + overrun ≤ units + overrun * (a.got - before) + a.latest)
+
+  -- what leaves the jobs, the units and the charges for the last one, keeps it
+  counted_same : (before ticks : ℕ) (a b : Account W) → b.got ≡ a.got → b.accepted ≡ a.accepted → b.latest ≡ a.latest → IsCounted before ticks a
+      → IsCounted before ticks b
+  counted_same before ticks a b got jobs latest h = record {
+    since = rw got h.since;
+    asked = rw jobs h.asked;
+    most = rw got h.most;
+    last = rw (got, latest) h.last;
+  }
 
   -- a unit more
   counted_unit : (before ticks : ℕ) (a : Account W) → IsCounted before ticks a → IsCounted before ticks (account_with_unit a)
@@ -114,7 +125,8 @@ module _ {W : Type 0} (work : Meaning W) (setup : Setup) (s every units overrun 
   counted_new (t ∷ ts) (suc i) = counted_new ts i
 
   -- a charge of server s that is not refused, and its ticks
-  counted_charging : (before ticks n : ℕ) (w : World W) (o : Option CoreError) → o ≡ None → s < length w.accounts → before < (account w.accounts s).got
+  counted_charging : (before ticks n : ℕ) (w : World W) (o : Option CoreError) → o ≡ None → s < length w.accounts
+      → (0 < n → before < (account w.accounts s).got)
       → (account w.accounts s).latest + n ≤ overrun → IsCounted before ticks (account w.accounts s)
       → IsCounted before (ticks + n) (account (after_charging w s n o).accounts s)
   counted_charging before ticks n w (Some e) bad lt some few h = cc
@@ -122,12 +134,11 @@ module _ {W : Type 0} (work : Meaning W) (setup : Setup) (s every units overrun 
   counted_charging before ticks (suc n) w None charged lt some few h =
       let f = account_with_charge (suc n) in
       let here : account (changed_at f w.accounts s) s ≡ f (account w.accounts s) = changed_here f w.accounts s no_account lt in
+      let one = counted_charge before ticks (suc n) (account w.accounts s) (some (omega arith)) few h in
       moves_ticks work setup s (suc n) (record w { accounts = changed_at f w.accounts s }) (IsCounted before (ticks + suc n))
-      (λ a ready. counted_unit before (ticks + suc n) a)
-      (λ now a k. record { since = k.since; asked = k.asked; most = k.most; last = k.last }) (λ a k.
-      record { since = k.since; asked = k.asked; most = k.most; last = k.last })
-      (λ a k. record { since = k.since; asked = k.asked; most = k.most; last = k.last }) (rw here (counted_charge before ticks (suc n)
-      (account w.accounts s) some few h))
+      (λ a ready. counted_unit before (ticks + suc n) a) (λ now a k. counted_same before (ticks + suc n) a (account_with_replenishment now a) refl refl refl k)
+      (λ a k. counted_same before (ticks + suc n) a (account_with_close a) refl refl refl k)
+      (λ a k. counted_same before (ticks + suc n) a (account_let_go a) refl refl refl k) (rw here one)
 
   module _ (keeps : (L : List (Step W)) → KeepsChargedDue work (record { setup = setup; steps = L })) (delay : ℕ)
       (apart : span_of (reserved work setup s) (units * (1 + overrun)) + delay ≤ every) where
@@ -168,10 +179,11 @@ module _ {W : Type 0} (work : Meaning W) (setup : Setup) (s every units overrun 
         rw ticks (counted_charging (got_before M) (ticks_after M) n w (charge_refusal w s n) charged (charged_there work w s n charged) is.0 is.1 h))
         (λ other moves are.
         let e = ap (λ (d : Due). d.units) other.due in
-        rw (other.units, e) (moves (IsCounted (got_before M) (ticks_after M)) (λ a ready. counted_unit (got_before M) (ticks_after M) a)
-        (λ now a k. record { since = k.since; asked = k.asked; most = k.most; last = k.last }) (λ a k.
-        record { since = k.since; asked = k.asked; most = k.most; last = k.last })
-        (λ a k. record { since = k.since; asked = k.asked; most = k.most; last = k.last }) h))
+        let before = got_before M in
+        let ticks = ticks_after M in
+        rw (other.units, e) (moves (IsCounted before ticks) (λ a ready. counted_unit before ticks a)
+        (λ now a. counted_same before ticks a (account_with_replenishment now a) refl refl refl)
+        (λ a. counted_same before ticks a (account_with_close a) refl refl refl) (λ a. counted_same before ticks a (account_let_go a) refl refl refl) h))
         are in
         (counted, (rest.1, (apart_of x M are.1, ticks_most (x ∷ M) counted)))
 

@@ -17,8 +17,8 @@ module _ {W : Type 0} (work : Meaning W) (setup : Setup) (s : ℕ) where
   -- by one more step: only an accepted submit to s is another job
   abbrev pub units_next : List (Step W) → ℕ → Step W → ℕ
   units_next M before (Submit t job) =
-      if eqb t s then slot_submitted before (account (after work setup M).accounts s).got (submit_refusal setup.backlog (faces work
-      (after work setup M)) t) else before
+      let w = after work setup M in
+      if eqb t s then slot_submitted before (account w.accounts s).got (submit_refusal setup.backlog (faces work w) t) else before
   units_next M before _ = before
 
   -- the units that server s had got when its last job came; 0 before the first
@@ -49,13 +49,13 @@ module _ {W : Type 0} (work : Meaning W) (setup : Setup) (s every : ℕ) where
   IsOneStream ticks [] = Unit {0}
   IsOneStream ticks (x ∷ M) = IsOneStream ticks M × (IsApartStep M x × ((charged_due work setup s (x ∷ M)).units ≤ ticks))
 
-  -- if the step gives server s a job, that has at most so many units and does not come early; if it charges server s, the server
-  -- has got a unit since its last job came, and is charged at most `overrun` ticks for it, all together
+  -- if the step gives server s a job, that has at most so many units and does not come early; if it charges server s a tick or more, the
+  -- server has got a unit since its last job came, and is charged at most `overrun` ticks for it, all together
   abbrev pub IsOverrunStep : ℕ → ℕ → List (Step W) → Step W → Type 0
   IsOverrunStep units overrun M (Submit t job) = t ≡ s → submit_refusal setup.backlog (faces work (after work setup M)) t ≡ None
       → (work.left job ≤ units) × (opens_after M ≤ (after work setup M).now)
   IsOverrunStep units overrun M (Charge t n) = t ≡ s → charge_refusal (after work setup M) t n ≡ None
-      → (let a = account (after work setup M).accounts s in (units_before work setup s M < a.got) × (a.latest + n ≤ overrun))
+      → (let a = account (after work setup M).accounts s in (0 < n → units_before work setup s M < a.got) × (a.latest + n ≤ overrun))
   IsOverrunStep units overrun M _ = Unit {0}
 
   -- all jobs of server s have at most so many units and come `every` ticks or more apart, and each unit is charged at most so many ticks,
