@@ -1,8 +1,8 @@
 -- Each job of streams that a server bears is accepted, if the backlog suffices for as long as a job takes.
-use Rattle.std.proofs.Common.{◌≡◌, ℕ, zero, suc, ◌+◌, ◌-◌, ◌*◌, ◌/◌, ◌≤◌, ◌<◌, true, false, eqb, leb, List, [], ◌∷◌, ◌++◌, length, get_or, arith}
-use Rattle.std.proofs.Common.{refl, sym, ◌∙◌, ap, subst}
-use Rattle.std.proofs.Common.{append_assoc, Option, Some, None, inl, inr}
-use Rattle.std.specs.Prelude.{map, slice_get}
+use Rattle.std.proofs.Common.{◌≡◌, ℕ, zero, suc, ◌+◌, ◌-◌, ◌/◌, ◌≤◌, ◌<◌, true, false, eqb, leb, List, [], ◌∷◌, ◌++◌, length, get_or, arith}
+use Rattle.std.proofs.Common.{refl, sym, ◌∙◌, ap}
+use Rattle.std.proofs.Common.{append_assoc, None, inl, inr}
+use Rattle.std.specs.Prelude.{map}
 use Rattle.std.specs.Int.{div_ceil}
 use Rattle.std.specs.List.{sum_by, AllByRecursion}
 use Rattle.std.proofs.lemmas.Bool.{cases_lt}
@@ -18,19 +18,18 @@ use Rattle.cbs_lists.proofs.Sums.{sum_changed, sum_raised, sum_changed_same}
 use Rattle.cbs_rate.specs.Rate.{Rate}
 use Rattle.cbs_rate.specs.Plan.{all_periods}
 use Rattle.cbs_steps.specs.Accounts.{Account, finished, face_of}
-use Rattle.cbs_steps.specs.Charged.{others_charges, KeepsChargedDue}
-use Rattle.cbs_steps.specs.Faces.{Face, backlog_of, refuses_submit, submit_refusal}
-use Rattle.cbs_steps.specs.History.{World, Setup, History, account, faces, after, world_after}
+use Rattle.cbs_steps.specs.Charged.{KeepsChargedDue}
+use Rattle.cbs_steps.specs.Faces.{backlog_of, submit_refusal}
+use Rattle.cbs_steps.specs.History.{Setup, History, account, faces, after, world_after}
 use Rattle.cbs_steps.specs.Laws.{account_in}
-use Rattle.cbs_steps.specs.declared.error.CoreError.{CoreError}
 use Rattle.cbs_steps.specs.declared.step.Step.{Step}
-use Rattle.cbs_steps.specs.declared.step.Step.TheVariants.{Submit, Charge}
+use Rattle.cbs_steps.specs.declared.step.Step.TheVariants.{Submit}
 use Rattle.cbs_steps.proofs.FinishedJobs.{count_done-le}
-use Rattle.cbs_guarantee.specs.Streams.{Stream, no_stream, came, IsStream, IsBearable, all_spans, backlog_for, streams_submitted, jobs_of, streams_after}
-use Rattle.cbs_guarantee.specs.Streams.{IsStreamJob, AreStreams, IsUncharged, Accepts, KeepsAccepting}
+use Rattle.cbs_guarantee.specs.Streams.{Stream, no_stream, came, IsStream, IsBearable, all_spans, jobs_of, streams_after}
+use Rattle.cbs_guarantee.specs.Streams.{AreStreams, KeepsAccepting}
 use Rattle.cbs_guarantee.proofs.Debts.{IsOpenSoon}
 use Rattle.cbs_guarantee.proofs.Steps.{no_jobs, total_of, total_behind, jobs_given, charge_counts, by_step}
-use Rattle.cbs_guarantee.proofs.Streams.{sum_of_rates, IsBorneAfter, borne_after, streams_kept}
+use Rattle.cbs_guarantee.proofs.Streams.{sum_of_rates, borne_after, streams_kept}
 
 -- the distances of a stream from `since` to when its next job may come: at least the number of its jobs since then
 abbrev pub jobs_since : ℕ → Stream → ℕ

@@ -1,7 +1,7 @@
 -- All that is guaranteed holds, where every list of steps is punctual.
 use Rattle.std.proofs.Common.{List}
 use Rattle.cbs_job.specs.Work.{Meaning}
-use Rattle.cbs_steps.specs.History.{Setup, History}
+use Rattle.cbs_steps.specs.History.{History}
 use Rattle.cbs_steps.specs.Punctual.{IsPunctual}
 use Rattle.cbs_steps.specs.declared.step.Step.{Step}
 use Rattle.cbs_guarantee.specs.Guarantees.{IsGuaranteed}

@@ -1,5 +1,5 @@
 -- Each job of one stream, on a server that is charged for its units, is finished before the next comes.
-use Rattle.std.proofs.Common.{◌≡◌, ◌⊎◌, ℕ, zero, suc, ◌+◌, ◌-◌, ◌*◌, ◌≤◌, ◌<◌, true, false, eqb, List, [], ◌∷◌, ◌++◌, length, arith, refl, sym, ◌∙◌}
+use Rattle.std.proofs.Common.{◌≡◌, ◌⊎◌, ℕ, zero, suc, ◌+◌, ◌-◌, ◌≤◌, ◌<◌, true, eqb, List, [], ◌∷◌, ◌++◌, length, arith, refl, sym, ◌∙◌}
 use Rattle.std.proofs.Common.{ap, subst, append_assoc, length-append, inl, inr, None}
 use Rattle.std.specs.Prelude.{max, map}
 use Rattle.std.specs.Int.{div_ceil}
@@ -12,21 +12,20 @@ use Rattle.cbs_job.specs.Work.{Meaning}
 use Rattle.cbs_rate.specs.Rate.{Rate}
 use Rattle.cbs_rules.specs.Rules.{Terms}
 use Rattle.cbs_steps.specs.Accounts.{Account, finished, face_of, new_account}
-use Rattle.cbs_steps.specs.Charged.{Due, due_tick, charged_due, others_charges, KeepsChargedDue}
+use Rattle.cbs_steps.specs.Charged.{Due, charged_due, others_charges, KeepsChargedDue}
 use Rattle.cbs_steps.specs.Faces.{submit_refusal}
-use Rattle.cbs_steps.specs.History.{World, Setup, History, account, faces, after, world_after, charge_refusal}
-use Rattle.cbs_steps.specs.Laws.{account_in}
-use Rattle.cbs_steps.specs.Promises.{when, IsJobOf, IsFinished}
+use Rattle.cbs_steps.specs.History.{Setup, History, account, faces, after}
+use Rattle.cbs_steps.specs.Promises.{when, IsJobOf}
 use Rattle.cbs_steps.specs.Quiet.{AdvanceQuietly}
 use Rattle.cbs_steps.specs.declared.step.Step.{Step}
 use Rattle.cbs_steps.specs.declared.step.Step.TheVariants.{Submit, Charge}
 use Rattle.cbs_steps.proofs.Faces.{runnable}
 use Rattle.cbs_steps.proofs.Histories.{charged_runs, holds_after}
-use Rattle.cbs_guarantee.specs.Overruns.{opens_after, IsOneStream, IsAlone, span_on, KeepsOverruns, KeepsAcceptingOverruns}
+use Rattle.cbs_guarantee.specs.Overruns.{opens_after, IsOneStream, span_on, KeepsOverruns, KeepsAcceptingOverruns}
 use Rattle.cbs_guarantee.specs.Streams.{span_of, jobs_of, Accepts}
 use Rattle.cbs_guarantee.proofs.Accepting.{room_accepts}
-use Rattle.cbs_guarantee.proofs.Steps.{clock_behind, others_behind, finished_behind, no_jobs, total_of, total_behind, jobs_given, charge_counts}
-use Rattle.cbs_guarantee.proofs.Steps.{by_step, submit-now}
+use Rattle.cbs_guarantee.proofs.Steps.{others_behind, finished_behind, no_jobs, total_of, total_behind, jobs_given, charge_counts}
+use Rattle.cbs_guarantee.proofs.Steps.{by_step}
 use Rattle.cbs_guarantee.proofs.Streams.{none_due, reserved, reserved_after, due_after, due_given, due_charged}
 
 -- more ticks need no fewer budgets

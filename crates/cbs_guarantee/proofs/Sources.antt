@@ -1,6 +1,6 @@
 -- Why nothing is promised of sources: their streams, and the first ones of them.
-use Rattle.std.proofs.Common.{◌≡◌, ℕ, zero, suc, ◌+◌, ◌*◌, ◌/◌, ◌%◌, ◌≤◌, ◌<◌, true, false, leb, ltb, List, [], ◌∷◌, ◌++◌, length, take, get_or}
-use Rattle.std.proofs.Common.{arith, refl, ap, ◌∙◌, subst, inl, inr, Some, None}
+use Rattle.std.proofs.Common.{◌≡◌, ℕ, zero, suc, ◌*◌, ◌%◌, ◌≤◌, ◌<◌, leb, ltb, List, [], ◌∷◌, ◌++◌, length, take, get_or}
+use Rattle.std.proofs.Common.{arith, refl, ap, ◌∙◌, inl, inr, Some}
 use Rattle.std.specs.Prelude.{map}
 use Rattle.std.specs.List.{sum_by, AllByRecursion}
 use Rattle.std.proofs.lemmas.Bool.{cases_Bool}
@@ -16,7 +16,7 @@ use Rattle.cbs_rate.specs.declared.error.AdmitError.{AdmitError}
 use Rattle.cbs_rate.specs.declared.error.AdmitError.TheVariants.{TooManyServers, PeriodsTooFine, OverBound}
 use Rattle.cbs_rate.proofs.Multiples.{AllLawful, period_some, all_periods_some, all_periods-common, common_multiple-least}
 use Rattle.cbs_rate.proofs.Shares.{sum_scaled}
-use Rattle.cbs_guarantee.specs.Sources.{stream_of, streams_of, IsSource, IsStreamReason, IsWithinLimits, IsReason, HaveStreams, AreBorne, reason_of}
+use Rattle.cbs_guarantee.specs.Sources.{stream_of, streams_of, IsSource, IsStreamReason, IsReason, HaveStreams, AreBorne, reason_of}
 use Rattle.cbs_guarantee.specs.Streams.{IsStream, IsBearable}
 use Rattle.cbs_guarantee.specs.declared.source.Source.{Source}
 use Rattle.cbs_guarantee.specs.declared.source.NotPromised.{NotPromised}

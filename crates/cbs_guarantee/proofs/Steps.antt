@@ -1,5 +1,5 @@
 -- What steps keep of the clock, of what a server was charged, and of its jobs.
-use Rattle.std.proofs.Common.{◌≡◌, ℕ, zero, suc, ◌+◌, ◌-◌, ◌≤◌, ◌<◌, true, false, eqb, leb, List, [], ◌∷◌, ◌++◌, length, take, get_or, arith, refl}
+use Rattle.std.proofs.Common.{◌≡◌, ℕ, zero, suc, ◌+◌, ◌≤◌, ◌<◌, true, eqb, leb, List, [], ◌∷◌, ◌++◌, length, take, arith, refl}
 use Rattle.std.proofs.Common.{sym, ap, ◌∙◌, inl, inr, subst, length-append}
 use Rattle.std.proofs.Common.{Option, Some, None, ◌⊎◌}
 use Rattle.std.specs.Prelude.{map}

@@ -1,8 +1,7 @@
 -- Each job of streams that ask for no more than all of a server's time is finished all spans after it came.
-use Rattle.std.proofs.Common.{◌≡◌, ℕ, zero, suc, ◌+◌, ◌-◌, ◌*◌, ◌/◌, ◌%◌, ◌≤◌, ◌<◌, true, eqb, List, [], ◌∷◌, ◌++◌, length, get_or, arith, refl, sym}
-use Rattle.std.proofs.Common.{◌∙◌, ap, subst, None, inl, inr}
+use Rattle.std.proofs.Common.{◌≡◌, ℕ, ◌+◌, ◌-◌, ◌*◌, ◌/◌, ◌%◌, ◌≤◌, ◌<◌, true, eqb, List, [], ◌∷◌, ◌++◌, length, arith, refl, sym}
+use Rattle.std.proofs.Common.{◌∙◌, ap, subst, None}
 use Rattle.std.specs.Prelude.{map, max}
-use Rattle.std.specs.Int.{div_ceil}
 use Rattle.std.specs.List.{sum_by, AllByRecursion}
 use Rattle.std.proofs.Math.Nat.{dvd_of_mod-eq-zero, mul-div_cancel', zero-div, zero-mod}
 use Rattle.std.proofs.lemmas.Bool.Decides.{nat_tests}
@@ -12,19 +11,19 @@ use Rattle.cbs_job.specs.Work.{Meaning}
 use Rattle.cbs_lists.proofs.Lists.{changed_kept}
 use Rattle.cbs_lists.proofs.Sums.{sum_map}
 use Rattle.cbs_rate.specs.Rate.{Rate}
-use Rattle.cbs_rate.specs.Plan.{share, all_periods, total_share, IsCommonMultiple}
+use Rattle.cbs_rate.specs.Plan.{share, all_periods, IsCommonMultiple}
 use Rattle.cbs_rate.proofs.Multiples.{all_periods-common}
 use Rattle.cbs_rules.specs.Rules.{Terms}
-use Rattle.cbs_steps.specs.Charged.{Due, due_tick, due_of_submit, due_of_charge, charged_due, KeepsChargedDue}
+use Rattle.cbs_steps.specs.Charged.{due_tick, charged_due, KeepsChargedDue}
 use Rattle.cbs_steps.specs.Faces.{submit_refusal}
-use Rattle.cbs_steps.specs.History.{World, Setup, History, account, faces, start, after, charge_refusal}
+use Rattle.cbs_steps.specs.History.{Setup, History, account, faces, start, after, charge_refusal}
 use Rattle.cbs_steps.specs.declared.step.Step.{Step}
 use Rattle.cbs_steps.specs.declared.step.Step.TheVariants.{Submit, Charge}
-use Rattle.cbs_guarantee.specs.Streams.{Stream, no_stream, new_streams, came, span_of, IsStream, IsBearable, all_spans, streams_submitted, jobs_of}
+use Rattle.cbs_guarantee.specs.Streams.{Stream, new_streams, came, span_of, IsStream, IsBearable, all_spans, streams_submitted, jobs_of}
 use Rattle.cbs_guarantee.specs.Streams.{streams_after, next_stream}
 use Rattle.cbs_guarantee.specs.Streams.{IsStreamJob, AreStreams, KeepsStreams}
-use Rattle.cbs_guarantee.proofs.Debts.{IsOpenSoon, IsBorne, borne_later, borne_came, borne_by, spans, shares}
-use Rattle.cbs_guarantee.proofs.Steps.{submit-now, clock_grows, terms_after, total_behind, total_of, IsOther, charge_counts, by_step}
+use Rattle.cbs_guarantee.proofs.Debts.{IsOpenSoon, IsBorne, borne_later, borne_came, borne_by, spans}
+use Rattle.cbs_guarantee.proofs.Steps.{submit-now, clock_grows, terms_after, total_behind, total_of, charge_counts, by_step}
 
 -- a product of positive periods is positive
 pub periods_some : (rates : List Rate) → AllByRecursion IsStream rates → 0 < all_periods rates

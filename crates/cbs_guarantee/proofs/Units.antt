@@ -1,8 +1,7 @@
 -- Where each unit is charged before the next job comes, a job takes no more than its units and what each may be charged.
-use Rattle.std.proofs.Common.{◌≡◌, ℕ, zero, suc, ◌+◌, ◌-◌, ◌*◌, ◌≤◌, ◌<◌, true, false, eqb, ltb, List, [], ◌∷◌, ◌++◌, length, arith, refl, sym, ◌∙◌}
-use Rattle.std.proofs.Common.{ap, None, Option, Some, inl, inr}
+use Rattle.std.proofs.Common.{◌≡◌, ℕ, zero, suc, ◌+◌, ◌-◌, ◌*◌, ◌≤◌, ◌<◌, true, false, eqb, List, [], ◌∷◌, length, arith, refl, sym}
+use Rattle.std.proofs.Common.{ap, None, Option, Some}
 use Rattle.std.specs.Prelude.{map}
-use Rattle.std.specs.List.{sum_by}
 use Rattle.std.proofs.lemmas.Bool.Decides.{nat_tests}
 use Rattle.std.proofs.lemmas.Nat.{mul-le}
 use Rattle.std.proofs.lemmas.List.{take_all}
@@ -10,11 +9,11 @@ use Rattle.cbs_job.specs.Work.{Meaning}
 use Rattle.cbs_lists.specs.Lists.{changed_at}
 use Rattle.cbs_lists.proofs.Lists.{changed_here}
 use Rattle.cbs_rules.specs.Rules.{Terms}
-use Rattle.cbs_steps.specs.Accounts.{Account, need, finished, face_of, new_account, no_account, account_with_job, account_with_unit, account_with_charge}
+use Rattle.cbs_steps.specs.Accounts.{Account, need, face_of, new_account, no_account, account_with_job, account_with_unit, account_with_charge}
 use Rattle.cbs_steps.specs.Accounts.{account_with_replenishment, account_with_close, account_let_go}
 use Rattle.cbs_steps.specs.Charged.{Due, charged_due, others_charges, KeepsChargedDue}
-use Rattle.cbs_steps.specs.Faces.{is_active, submit_refusal}
-use Rattle.cbs_steps.specs.History.{World, Setup, History, account, faces, after, world_after, after_charging, charge_refusal}
+use Rattle.cbs_steps.specs.Faces.{is_active}
+use Rattle.cbs_steps.specs.History.{World, Setup, History, account, after, after_charging, charge_refusal}
 use Rattle.cbs_steps.specs.Promises.{when}
 use Rattle.cbs_steps.specs.Quiet.{AdvanceQuietly}
 use Rattle.cbs_steps.specs.declared.error.CoreError.{CoreError}
@@ -24,7 +23,7 @@ use Rattle.cbs_steps.proofs.Histories.{charged_there}
 use Rattle.cbs_steps.proofs.PaidUnits.{paid_after}
 use Rattle.cbs_steps.proofs.Promises.{all, idle_owed, submitted, total}
 use Rattle.cbs_guarantee.specs.Overruns.{opens_after, IsApartStep, IsOneStream, units_before, IsOverrunStep, AreOverruns, KeepsUnits}
-use Rattle.cbs_guarantee.specs.Streams.{span_of, jobs_of}
+use Rattle.cbs_guarantee.specs.Streams.{span_of}
 use Rattle.cbs_guarantee.proofs.Overruns.{IsGoing, all_done, span_same}
 use Rattle.cbs_guarantee.proofs.Steps.{others_behind, moves_ticks, by_step}
 use Rattle.cbs_guarantee.proofs.Streams.{reserved, due_given, due_charged}

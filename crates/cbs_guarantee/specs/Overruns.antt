@@ -1,11 +1,10 @@
 -- One stream of jobs on a server that is charged for their units; by when each is finished, and that it is accepted.
 use Rattle.std.specs.Prelude.{◌≡◌, ℕ, ◌+◌, ◌*◌, ◌≤◌, ◌<◌, eqb, if◌then◌else◌, List, [], ◌∷◌, None}
 use Rattle.cbs_job.specs.Work.{Meaning}
-use Rattle.cbs_steps.specs.Accounts.{Account}
 use Rattle.cbs_steps.specs.Charged.{charged_due, others_charges}
 use Rattle.cbs_steps.specs.Faces.{submit_refusal}
 use Rattle.cbs_steps.specs.HardTasks.{slot_submitted}
-use Rattle.cbs_steps.specs.History.{World, Setup, History, account, faces, after, world_after, charge_refusal}
+use Rattle.cbs_steps.specs.History.{Setup, History, account, faces, after, world_after, charge_refusal}
 use Rattle.cbs_steps.specs.Laws.{account_in}
 use Rattle.cbs_steps.specs.Promises.{when, IsJobOf, IsFinished}
 use Rattle.cbs_steps.specs.Quiet.{AdvanceQuietly}

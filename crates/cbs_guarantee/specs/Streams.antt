@@ -7,10 +7,9 @@ use Rattle.cbs_job.specs.Work.{Meaning}
 use Rattle.cbs_lists.specs.Lists.{changed_at}
 use Rattle.cbs_rate.specs.Rate.{Rate}
 use Rattle.cbs_rate.specs.Plan.{total_share, all_periods}
-use Rattle.cbs_steps.specs.Accounts.{Account}
 use Rattle.cbs_steps.specs.Charged.{others_charges}
 use Rattle.cbs_steps.specs.Faces.{submit_refusal}
-use Rattle.cbs_steps.specs.History.{World, Setup, History, account, faces, after, world_after}
+use Rattle.cbs_steps.specs.History.{Setup, History, account, faces, after, world_after}
 use Rattle.cbs_steps.specs.Laws.{account_in}
 use Rattle.cbs_steps.specs.Promises.{when, IsJobOf, IsFinished}
 use Rattle.cbs_steps.specs.Quiet.{AdvanceQuietly}

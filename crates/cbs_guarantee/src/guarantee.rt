@@ -19,11 +19,12 @@ pub const MAX_DELAY: u64 = 1_000_000_000_000;
 /// `delay` is by how many ticks the others may delay it, at most [`MAX_DELAY`]: the most that each of them is charged for one
 /// unit, all together. `backlog` is how many unfinished jobs it may have.
 ///
-/// Nothing is promised, in this order: [`NotPromised::BeyondLimits`] if a number is beyond the limits, and
-/// [`NotPromised::AsksTooMuch`] if the sources may ask for more than all its time, exactly;
-/// [`NotPromised::SharedOverrun`] if a unit may overrun and there are several sources;
-/// [`NotPromised::LateOverrun`] if a unit may overrun and a job may not be finished when the next comes;
-/// [`NotPromised::BacklogTooSmall`] if more jobs than the backlog may be unfinished.
+/// Else nothing is promised, and the error says why:
+/// - [`NotPromised::BeyondLimits`]: `delay` or a number of a source is beyond the limits.
+/// - [`NotPromised::AsksTooMuch`]: the sources may ask for more than all its time. Nothing is rounded.
+/// - [`NotPromised::SharedOverrun`]: a unit may overrun, and there are several sources.
+/// - [`NotPromised::LateOverrun`]: a unit may overrun, and a job may not be finished when the next comes.
+/// - [`NotPromised::BacklogTooSmall`]: more jobs than the backlog may be unfinished.
 pub fn guaranteed(
     server: Reservation,
     sources: &[Source],

@@ -1,4 +1,4 @@
-use Rattle.std.proofs.Common.{rules, arith}
+use Rattle.std.proofs.Common.{arith}
 use Rattle.std.proofs.lemmas.Result.{err_from_is_err_and}
 use Rattle.cbs_guarantee.proofs.Sources.{reason_alone}
 use Rattle.cbs_guarantee.proofs.guarantee.check_each.Goals as goal

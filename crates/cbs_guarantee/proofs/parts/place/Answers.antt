@@ -1,9 +1,9 @@
-use Rattle.std.proofs.Common.{◌≡◌, ◌∙◌, ℕ, List, [], ◌∷◌, ◌++◌, ◌<◌, ◌+◌, sym, ap, arith, get_or, set, length, true, false, refl, None}
+use Rattle.std.proofs.Common.{◌≡◌, ◌∙◌, ℕ, List, [], ◌∷◌, ◌++◌, ◌<◌, sym, ap, arith, get_or, set, length, true, false, refl, None}
 use Rattle.std.specs.Prelude.{◌≢◌}
 use Rattle.std.specs.Result.{is_ok}
 use Rattle.cbs_rate.specs.Plan.{admit_refusal}
 use Rattle.cbs_rate.specs.Rate.{Rate}
-use Rattle.cbs_guarantee.specs.Parts.{servers_of, rate_at, placed}
+use Rattle.cbs_guarantee.specs.Parts.{servers_of, rate_at}
 use Rattle.cbs_guarantee.specs.declared.parts.Part.{Part}
 use Rattle.cbs_guarantee.proofs.Placing.{refused_of, taken_of, on_refusal, rate_is, part_unchanged, servers_written, servers_pushed, servers_at}
 use Rattle.cbs_guarantee.proofs.Placing.{part_refusal, refusal_of, refused_more}

@@ -1,4 +1,4 @@
-use Rattle.std.proofs.Common.{◌≡◌, ℕ, List, [], drop, sym, ap, ◌∙◌}
+use Rattle.std.proofs.Common.{◌≡◌, ℕ, List, [], drop}
 use Rattle.std.proofs.lemmas.List.{drop_all}
 use Rattle.cbs_guarantee.specs.Parts.{first_fit, servers_of}
 use Rattle.cbs_guarantee.proofs.Orders.{parts_once}
