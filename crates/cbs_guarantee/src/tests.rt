@@ -54,6 +54,8 @@ fn one_source_each(rt: HostRuntime) {
     let lidar = [source(3, 20)];
     promises(&rt, "control", (1, 5), &control, (0, 1), Ok(5));
     promises(&rt, "vision", (6, 20), &vision, (0, 1), Ok(20));
+    // two jobs may be unfinished: one that comes at 20, and the one before, which is finished by 24
+    promises(&rt, "late vision", (6, 20), &vision, (4, 2), Ok(24));
     // two budgets of 2 for three units
     promises(&rt, "lidar", (2, 10), &lidar, (0, 1), Ok(20));
     // five units take five budgets of 1, and may come every 4 ticks
