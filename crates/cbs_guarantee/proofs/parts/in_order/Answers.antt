@@ -1,0 +1,8 @@
+use Rattle.std.proofs.Common.{◌≡◌, length, arith}
+use Rattle.cbs_guarantee.proofs.Orders.{order_is}
+use Rattle.cbs_guarantee.proofs.parts.in_order.Goals as goal
+
+pub returns-clause-order : goal.returns-clause-order
+returns-clause-order c =
+    let e : c.loop-server.server ≡ length c.args.reservations.now = omega arith in
+    order_is c.args.reservations.now c.loop-server.order.items (rw e at c.loop-server.invariant.order)

@@ -1,0 +1,22 @@
+-- All that is guaranteed of the jobs of a server.
+use Rattle.std.specs.Prelude.{ℕ, List}
+use Rattle.cbs_job.specs.Work.{Meaning}
+use Rattle.cbs_rate.specs.Rate.{Rate}
+use Rattle.cbs_rules.specs.declared.mode.Mode.{Mode}
+use Rattle.cbs_steps.specs.History.{History}
+use Rattle.cbs_steps.specs.Setups.{terms_of}
+use Rattle.cbs_steps.specs.declared.step.Step.{Step}
+use Rattle.cbs_guarantee.specs.Streams.{KeepsStreams, KeepsAccepting}
+use Rattle.cbs_guarantee.specs.Overruns.{KeepsOverruns, KeepsAcceptingOverruns, KeepsUnits}
+
+-- of several streams, and of one whose units are charged: each job is finished in time, and accepted
+pub record IsGuaranteed {W : Type 0} (work : Meaning W) (N : History W) : Type 0 where
+  pub streams : KeepsStreams work N
+  pub accepting : KeepsAccepting work N
+  pub overruns : KeepsOverruns work N
+  pub accepting_overruns : KeepsAcceptingOverruns work N
+  pub units : KeepsUnits work N
+
+-- the history of these steps, of servers with these modes and reservations, and a backlog for each
+abbrev pub history_of : {W : Type 0} → List Mode → List Rate → ℕ → List (Step W) → History W
+history_of modes rates backlog steps = record { setup = record { servers = terms_of modes rates; backlog = backlog }; steps = steps }
