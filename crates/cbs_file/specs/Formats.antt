@@ -1,10 +1,7 @@
 -- Which format a task file has, and what that decides: where the modes of the servers stand, and how long an advance may be.
-use Rattle.std.specs.Prelude.{ℕ, ℤ, codes, bytes_eq, eqb, if◌then◌else◌, List, Option, Some, None, Result, Ok, Err}
+use Rattle.std.specs.Prelude.{ℕ, ℤ, eqb, if◌then◌else◌, Result, Ok}
 use Rattle.cbs_rules.specs.Rules.{clock_end}
-use Rattle.cbs_rules.specs.declared.mode.Mode.{Mode}
-use Rattle.cbs_rules.specs.declared.mode.Mode.TheVariants.{Soft, Throttled}
 use Rattle.cbs_tables.specs.declared.fault.FileKind.{FileKind}
-use Rattle.cbs_tables.specs.declared.fault.FileKind.TheVariants.{OutOfRange}
 use Rattle.cbs_file.specs.declared.format.Format.{Format}
 use Rattle.cbs_file.specs.declared.format.Format.TheVariants.{One, Two}
 use Rattle.cbs_tables.specs.Fields.{◌>>=◌, within}

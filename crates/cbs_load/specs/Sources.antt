@@ -1,5 +1,5 @@
 -- What one entry of `source` spells in a load file.
-use Rattle.std.specs.Prelude.{ℕ, ℤ, codes, bytes_eq, get_or, unwrap_or, List, [], ◌∷◌, Option, Some, None, option_map, Result, Ok, Err}
+use Rattle.std.specs.Prelude.{ℕ, ℤ, codes, bytes_eq, get_or, unwrap_or, List, [], ◌∷◌, Option, Some, None, Result, Ok, Err}
 use Rattle.std.specs.List.{position}
 use Rattle.toml.specs.Data.{Data, get_member}
 use Rattle.toml.specs.Data.{integer as an_integer}

@@ -1,7 +1,6 @@
-use Rattle.std.proofs.Common.{◌≡◌, Ok, Err, inl, inr, map, string_bytes, sym, ◌∙◌}
+use Rattle.std.proofs.Common.{inl, inr, map, string_bytes, sym, ◌∙◌}
 use Rattle.std.proofs.lemmas.Result.{err_from_is_err_and}
 use Rattle.toml.specs.View.{view}
-use Rattle.cbs_tables.specs.declared.fault.FileKind.TheVariants.{OutOfMemory}
 use Rattle.cbs_tables.specs.declared.fault.Place.TheVariants.{Server}
 use Rattle.cbs_tables.specs.Documents.{at, no_memory}
 use Rattle.cbs_tables.proofs.Places.{Gives-at, gives_ok, gives_err, at_ok}
