@@ -25,7 +25,7 @@ pub fn write_read_fault<E: ByteOutput>(err: &mut E, fault: ReadError) -> io::Res
     write_pieces(err, &["cbsrun: read fault ", number, " ", name, "\n"])
 }
 
-/// Writes the line of a task file's fault.
+/// Writes the line of a file's fault.
 #[tactic(auto, unfolding(crate::specs::FaultLines::file_line))]
 pub fn write_file_fault<E: ByteOutput>(err: &mut E, fault: FileFault) -> io::Result<()>
     requires { E.failed err.old < 2 ^ 64 - 1 }
@@ -46,6 +46,10 @@ pub fn write_file_fault<E: ByteOutput>(err: &mut E, fault: FileFault) -> io::Res
         Place::Step(i) => {
             let i = entry.format(i);
             write_pieces(err, &[front, number, " ", name, " at step ", i, "\n"])
+        }
+        Place::Source(i) => {
+            let i = entry.format(i);
+            write_pieces(err, &[front, number, " ", name, " at source ", i, "\n"])
         }
     }
 }

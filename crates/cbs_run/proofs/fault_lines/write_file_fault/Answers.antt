@@ -22,3 +22,12 @@ returns-in-Step-clause-ok g c = rw c.in-Step.is (rw (
   c.name-name.ensures,
   c.format-i-in-Step.ensures.text,
 ) at c.write_pieces-in-Step.ensures.ok)
+
+pub returns-in-Source-clause-ok : goal.returns-in-Source-clause-ok
+unfolding file_line
+returns-in-Source-clause-ok g c = rw c.in-Source.is (rw (
+  c.format-number.ensures.text,
+  c.number.ensures,
+  c.name-name.ensures,
+  c.format-i-in-Source.ensures.text,
+) at c.write_pieces-in-Source.ensures.ok)
