@@ -57,7 +57,7 @@ since_most within open_at now period some soon =
           absurd (omega arith)
     ]
 
--- and one less, where the next may come
+-- and one less, if the next may come
 since_open : (within open_at now period : ℕ) → 0 < period → 0 < within → open_at ≤ now → (open_at - (now + 1 - within)) / period + 1 ≤ div_ceil within period
 since_open within open_at now period some long late =
     let a = (open_at - (now + 1 - within)) / period in
@@ -79,7 +79,7 @@ all_since_came parts since now i xs each lt recent late =
     sum_raised (jobs_since since) (jobs_since since) (came now) xs i 1 no_stream lt (λ k within. omega arith)
     (since_came since x.open_at now x.rate.period some recent late)
 
--- and it is less than the backlog that suffices, where the next job of a stream may come
+-- and it is less than the backlog that suffices, if the next job of a stream may come
 all_since_open : (parts within now i : ℕ) (xs : List Stream) → AllByRecursion (IsOpenSoon parts now) xs → i < length xs → 0 < within
     → (get_or xs i no_stream).open_at ≤ now
     → sum_by (jobs_since (now + 1 - within)) xs + 1 ≤ sum_by (λ x. div_ceil within x.rate.period) xs

@@ -61,7 +61,7 @@ module _ {W : Type 0} (work : Meaning W) (setup : Setup) (s every units overrun 
         last = λ lt. (omega arith, rw (e, f) (omega arith));
       }
 
-  -- a charge counts, where a unit was got since the last job came
+  -- a charge counts, if a unit was got since the last job came
   counted_charge : (before ticks n : ℕ) (a : Account W) → before < a.got → a.latest + n ≤ overrun → IsCounted before ticks a
       → IsCounted before (ticks + n) (account_with_charge n a)
   counted_charge before ticks n a some few h =
@@ -75,7 +75,7 @@ module _ {W : Type 0} (work : Meaning W) (setup : Setup) (s every units overrun 
         last = λ lt. (few, omega arith);
       }
 
-  -- a job comes, where all before are finished
+  -- a job comes, if all before are finished
   counted_job : (now : ℕ) (job : W) (a : Account W) → all work a ≡ a.got → work.left job ≤ units
       → all work (account_with_job work now job a) ≡ all work a + work.left job
       → IsCounted a.got (work.left job) (account_with_job work now job a)

@@ -14,7 +14,7 @@ use Rattle.cbs_tables.specs.Fields.{◌>>=◌}
 abbrev pub no_memory : FileFault
 no_memory = record { kind = OutOfMemory; place = Top }
 
--- the fault of this kind at its place; want of memory stands at the top
+-- the fault of this kind at its place; out of memory stands at the top
 abbrev pub faulty : Place → FileKind → FileFault
 faulty place OutOfMemory = no_memory
 faulty place kind = record { kind = kind; place = place }
@@ -29,7 +29,7 @@ abbrev pub or_not_toml : Option Members → Result Members FileKind
 or_not_toml (Some table) = Ok table
 or_not_toml None = Err NotToml
 
--- the top table, where the bytes are UTF-8 and TOML
+-- the top table, if the bytes are UTF-8 and TOML
 abbrev pub document : List ℕ → Result Members FileKind
 document bytes = if is_utf8 bytes then or_not_toml (parse_document bytes) else Err NotToml
 

@@ -21,7 +21,7 @@ pub fn document(alloc: Global, bytes: &[u8]) -> Result<Table, FileKind>
     }
 }
 
-/// The fault at its place; want of memory stands at the top.
+/// The fault at its place; out of memory stands at the top.
 pub fn faulty(place: Place, kind: FileKind) -> FileFault
     ensures { result ≡ faulty place kind }
 {
