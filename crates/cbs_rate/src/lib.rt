@@ -2,6 +2,7 @@
 //! reservations whose total bandwidth stays within a bound.
 #![tactic(auto)]
 
+mod bandwidth;
 mod bound;
 mod error;
 mod limits;
@@ -9,6 +10,7 @@ mod multiple;
 mod plan;
 mod reservation;
 
+pub use bandwidth::Bandwidth;
 pub use bound::{Bound, MAX_DENOMINATOR};
 pub use error::{AdmitError, RateError};
 pub use limits::MAX_RING;

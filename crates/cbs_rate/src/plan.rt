@@ -1,10 +1,11 @@
 //! A plan: the reservations of all servers, within one bound.
 
-ghost use Rattle.std.specs.Prelude.{◌≡◌, ◌↔◌, [], ◌∷◌, ◌++◌, length, slice_get, IsTrue, OnOk, OnErr, MatchResult, Some, None};
-ghost use Rattle.cbs_rate.specs.Plan.{IsPlan, IsLeastCommonMultiple, IsGreatestBudget, common_multiple, admit_refusal, with_rate, takes};
+ghost use Rattle.std.specs.Prelude.{◌≡◌, ◌↔◌, [], ◌∷◌, ◌++◌, length, slice_get, IsTrue, OnOk, OnErr, MatchResult, Some, None, sum_by};
+ghost use Rattle.cbs_rate.specs.Plan.{IsPlan, IsLeastCommonMultiple, IsGreatestBudget, common_multiple, admit_refusal, share, with_rate, takes};
 ghost use Rattle.cbs_rate.specs.Sums.{AreSums};
 ghost use Rattle.cbs_rate.specs.Refusals.{AnswersBy};
 
+use crate::bandwidth::Bandwidth;
 use crate::bound::Bound;
 use crate::error::AdmitError;
 use crate::multiple::least_common_multiple;
@@ -112,6 +113,21 @@ impl Plan {
         self.common = sums.common;
         self.taken = sums.taken;
         Ok(server)
+    }
+
+    /// Returns the total bandwidth, the sum of budget over period, exactly: the ticks that all servers together may run in as
+    /// many as the least common multiple of their periods.
+    pub fn bandwidth(&self) -> Bandwidth
+        ensures value { result ≡ record {
+          ticks = sum_by (share (common_multiple self.now.rates)) self.now.rates;
+          of = common_multiple self.now.rates;
+        } }
+        ensures multiple { IsLeastCommonMultiple result.of self.now.rates }
+    {
+        Bandwidth {
+            ticks: self.taken,
+            of: self.common,
+        }
     }
 
     /// Returns the greatest budget with which a server of this period would be admitted, or 0 if none would.

@@ -1,0 +1,40 @@
+-- The first line of a report.
+use Rattle.std.specs.Prelude.{ℕ, ◌&&◌, eqb, ltb, not, if◌then◌else◌, List, [], ◌∷◌, ◌++◌, codes, decimal, filter, length, string_bytes}
+use Rattle.cbs_report.specs.declared.figures.Figures.{Figures}
+use Rattle.cbs_print.specs.Reports.{accepted, released, late, is_in_time, sum_of}
+use Rattle.cbs_print.specs.declared.report.ServerReport.{ServerReport}
+
+-- the servers with a job that is late or was refused
+abbrev pub not_in_time : List ServerReport → List ServerReport
+not_in_time servers = filter (λ s. not (is_in_time s.figures)) servers
+
+-- how many of the accepted jobs are late
+abbrev pub late_text : Figures → List ℕ
+late_text f = decimal (late f) ++ codes " of " ++ decimal (accepted f) ++ codes " jobs late"
+
+-- how many of the jobs that came were refused
+abbrev pub refused_text : Figures → List ℕ
+refused_text f = decimal f.refused ++ codes " of " ++ decimal (released f) ++ codes " refused"
+
+-- which of both there are
+abbrev pub wrong_text : Figures → List ℕ
+wrong_text f =
+    if eqb f.refused 0 then late_text f
+    else if eqb (late f) 0 then refused_text f
+    else late_text f ++ codes ", " ++ refused_text f
+
+-- how many servers more there are
+abbrev pub others_text : ℕ → List ℕ
+others_text n =
+    if eqb n 0 then []
+    else if eqb n 1 then codes ", and 1 server more"
+    else codes ", and " ++ decimal n ++ codes " servers more"
+
+-- the first server of these, with what is wrong of it, or that none is
+abbrev pub first_text : ℕ → List ServerReport → List ℕ
+first_text jobs [] = codes "in time: no job late, none refused, of " ++ decimal jobs
+first_text jobs (s ∷ others) = codes "not in time: " ++ string_bytes s.name ++ codes ": " ++ wrong_text s.figures ++ others_text (length others)
+
+-- the verdict: all jobs are in time, or the first server that has one late or refused
+abbrev pub verdict_text : List ServerReport → List ℕ
+verdict_text servers = first_text (sum_of released servers) (not_in_time servers) ++ codes "\n"

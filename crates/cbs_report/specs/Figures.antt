@@ -1,0 +1,201 @@
+-- The figures of one server: functions of its steps, the newest first.
+use Rattle.std.specs.Prelude.{◌≡◌, ℕ, ◌+◌, ◌-◌, Bool, true, false, ◌&&◌, ◌||◌, eqb, leb, ltb, min, max, if◌then◌else◌, List, [], ◌∷◌, ◌++◌, length, map, drop, flat_map, Option, Some, None, MatchOption}
+use Rattle.std.specs.List.{All}
+use Rattle.cbs_steps.specs.declared.reply.Ran.{Ran}
+use Rattle.cbs_steps.specs.declared.reply.Ran.TheVariants as ran
+use Rattle.cbs_steps.specs.declared.view.ServerView.{ServerView}
+use Rattle.cbs_views.specs.Events.{server_of, ticks_of_run, begun}
+use Rattle.cbs_views.specs.declared.seen.Arrival.{Arrival}
+use Rattle.cbs_views.specs.declared.seen.Event.{Event}
+use Rattle.cbs_views.specs.declared.seen.Event.TheVariants as event
+use Rattle.cbs_views.specs.declared.seen.Seen.{Seen}
+use Rattle.cbs_report.specs.Percentiles.{AreRanks}
+use Rattle.cbs_report.specs.declared.figures.Figures.{Figures}
+use Rattle.cbs_report.specs.declared.job.AcceptedJob.{AcceptedJob}
+
+-- the server is server s
+abbrev pub is_server : ℕ → Option ℕ → Bool
+is_server s None = false
+is_server s (Some t) = eqb t s
+
+-- the steps of server s
+abbrev pub steps_of : ℕ → List Seen → List Seen
+steps_of s [] = []
+steps_of s (o ∷ seen) = if is_server s (server_of o.event) then o ∷ steps_of s seen else steps_of s seen
+
+-- a number as it is told: one that is greater than 2^64 - 1 as that, and a sum that is greater than 2^128 - 1 as that
+abbrev pub told : ℕ → ℕ
+told n = min n 18446744073709551615
+
+abbrev pub told_sum : ℕ → ℕ
+told_sum n = min n 340282366920938463463374607431768211455
+
+-- one, if it is so
+abbrev pub one_if : Bool → ℕ
+one_if b = if b then 1 else 0
+
+-- f of each step, added up
+abbrev pub total : (Seen → ℕ) → List Seen → ℕ
+total f [] = 0
+total f (o ∷ own) = f o + total f own
+
+-- the greatest f of a step; 0 of none
+abbrev pub greatest : (Seen → ℕ) → List Seen → ℕ
+greatest f [] = 0
+greatest f (o ∷ own) = max (greatest f own) (f o)
+
+-- the jobs that a step refused
+abbrev pub refusals : Event → ℕ
+refusals (event.NotAccepted job error) = 1
+refusals _ = 0
+
+-- the units of the job that came, accepted or not
+abbrev pub units_asked : Event → ℕ
+units_asked (event.Accepted job number promised) = job.units
+units_asked (event.NotAccepted job error) = job.units
+units_asked _ = 0
+
+-- the units that ran
+abbrev pub units_run : Event → ℕ
+units_run (event.Ran r) = ticks_of_run r
+units_run _ = 0
+
+-- the budget of a server is whole, or it waits for that: so it is after a unit that used it up, and after no other
+abbrev pub is_used_up : ℕ → Option ServerView → Bool
+is_used_up budget None = false
+is_used_up budget (Some v) = v.throttled || eqb v.budget budget
+
+-- the units that used the budget up
+abbrev pub units_exhausting : ℕ → Seen → ℕ
+units_exhausting budget o = if is_used_up budget o.view then units_run o.event else 0
+
+-- the ticks that the server was charged
+abbrev pub ticks_charged : Event → ℕ
+ticks_charged (event.Charged s n) = n
+ticks_charged _ = 0
+
+-- how many ticks a server that shows this waits from a tick on, throttled and with a job: up to its deadline, but not beyond `to`
+abbrev pub waited : Option ServerView → ℕ → ℕ → ℕ
+waited None from to = 0
+waited (Some v) from to = if v.throttled && ltb v.finished v.accepted then min v.deadline to - from else 0
+
+-- the ticks up to `now` in which the server was throttled and had a job: after each of its steps until its next one begins. Only
+-- its own steps and its deadline change what it shows
+abbrev pub throttled : ℕ → List Seen → ℕ
+throttled now [] = 0
+throttled now (o ∷ own) = waited o.view o.clock now + throttled (begun o) own
+
+-- an accepted job
+abbrev pub accepted_job : Arrival → Option ℕ → AcceptedJob
+accepted_job job promised = record { came = job.came; within = job.within; promised = promised }
+
+-- the jobs that wait to be finished, the oldest first, after a step
+abbrev pub waiting_after : Event → List AcceptedJob → List AcceptedJob
+waiting_after (event.Accepted job number promised) jobs = jobs ++ accepted_job job promised ∷ []
+waiting_after (event.Ran (ran.Done c)) jobs = drop 1 jobs
+waiting_after _ jobs = jobs
+
+-- .. and after all steps
+abbrev pub waiting : List Seen → List AcceptedJob
+waiting [] = []
+waiting (o ∷ own) = waiting_after o.event (waiting own)
+
+-- the greatest number of jobs that wait after a step: the greatest backlog
+abbrev pub greatest_backlog : List Seen → ℕ
+greatest_backlog [] = 0
+greatest_backlog (o ∷ own) = max (greatest_backlog own) (length (waiting (o ∷ own)))
+
+-- a finished job, and when it was finished
+pub record Finish : Type 0 where
+  pub job : AcceptedJob
+  pub at : ℕ
+
+-- the first of these jobs is finished at a tick
+abbrev pub first_finished : ℕ → List AcceptedJob → List Finish
+first_finished now [] = []
+first_finished now (job ∷ jobs) = record { job = job; at = now } ∷ []
+
+-- the jobs that a step finished, after which the clock is at `now`: the oldest, if it ran the last unit of a job
+abbrev pub finished_by : ℕ → Event → List AcceptedJob → List Finish
+finished_by now (event.Ran (ran.Done c)) jobs = first_finished now jobs
+finished_by now _ jobs = []
+
+-- the finished jobs, in order
+abbrev pub finished : List Seen → List Finish
+finished [] = []
+finished (o ∷ own) = finished own ++ finished_by o.clock o.event (waiting own)
+
+-- the response time of a finished job
+abbrev pub response : Finish → ℕ
+response f = f.at - f.job.came
+
+-- .. of each of them
+abbrev pub responses : List Seen → List ℕ
+responses own = map response (finished own)
+
+-- so many ticks are more than wanted
+abbrev pub exceeds : ℕ → Option ℕ → Bool
+exceeds n None = false
+exceeds n (Some w) = ltb w n
+
+-- so many ticks are all that was wanted, or more
+abbrev pub uses : ℕ → Option ℕ → Bool
+uses n None = false
+uses n (Some w) = leb w n
+
+-- how many finished jobs were finished later than wanted
+abbrev pub late_among : List Finish → ℕ
+late_among [] = 0
+late_among (f ∷ fs) = one_if (exceeds (response f) f.job.within) + late_among fs
+
+abbrev pub late : List Seen → ℕ
+late own = late_among (finished own)
+
+-- how many of the jobs that wait at `now` are late already
+abbrev pub overdue : ℕ → List AcceptedJob → ℕ
+overdue now [] = 0
+overdue now (job ∷ jobs) = one_if (uses (now - job.came) job.within) + overdue now jobs
+
+-- how much earlier than promised a job was finished, if something was promised
+abbrev pub early_by : ℕ → Option ℕ → List ℕ
+early_by at None = []
+early_by at (Some promised) = (promised - at) ∷ []
+
+-- .. of each finished job
+abbrev pub earliness : List Finish → List ℕ
+earliness fs = flat_map (λ f. early_by f.at f.job.promised) fs
+
+-- numbers added up
+abbrev pub sum_of : List ℕ → ℕ
+sum_of [] = 0
+sum_of (n ∷ ns) = n + sum_of ns
+
+-- the lesser of a number and another, if there is another
+abbrev pub lesser : ℕ → Option ℕ → ℕ
+lesser n None = n
+lesser n (Some m) = min n m
+
+-- the least of numbers, if there are any
+abbrev pub least_of : List ℕ → Option ℕ
+least_of [] = None
+least_of (n ∷ ns) = Some (lesser n (least_of ns))
+
+-- the figures of a server with a budget, of its steps, up to `now`
+pub record AreFigures (budget now : ℕ) (own : List Seen) (f : Figures) : Type 0 where
+  pub refused : f.refused ≡ told (total (λ o. refusals o.event) own)
+  pub finished : f.finished ≡ length (finished own)
+  pub unfinished : f.unfinished ≡ length (waiting own)
+  pub late : f.late_finished ≡ told (late own)
+  pub overdue : f.late_unfinished ≡ overdue now (waiting own)
+  pub backlog : f.greatest_backlog ≡ greatest_backlog own
+  pub asked : f.asked ≡ told (total (λ o. units_asked o.event) own)
+  pub run : f.run ≡ told (total (λ o. units_run o.event) own)
+  pub used_up : f.used_up ≡ told (total (units_exhausting budget) own)
+  pub throttled : f.throttled ≡ told (throttled now own)
+  pub charged : f.charged ≡ told (total (λ o. ticks_charged o.event) own)
+  pub greatest_charge : f.greatest_charge ≡ greatest (λ o. ticks_charged o.event) own
+  pub responses : MatchOption f.responses (finished own ≡ []) (AreRanks (responses own))
+  pub response_total : f.response_total ≡ told_sum (sum_of (responses own))
+  pub early_count : f.early_count ≡ told (length (earliness (finished own)))
+  pub early_total : f.early_total ≡ told_sum (sum_of (earliness (finished own)))
+  pub early_least : f.early_least ≡ least_of (earliness (finished own))

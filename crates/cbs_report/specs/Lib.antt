@@ -1,0 +1,4 @@
+pub mod Figures
+pub mod Percentiles
+pub mod Reports
+pub mod Tallies

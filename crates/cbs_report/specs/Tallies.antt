@@ -1,0 +1,155 @@
+-- What a report keeps of the steps of one server, the newest first, and what one step more makes of it. For the code alone.
+use Rattle.std.specs.Prelude.{◌≡◌, ◌≢◌, ℕ, ◌+◌, ◌-◌, ◌<◌, Bool, max, if◌then◌else◌, List, [], ◌∷◌, ◌++◌, length, drop, get_or, flat_map, map, slice_get, Option, Some, None}
+use Rattle.cbs_rate.specs.Rate.{Rate}
+use Rattle.cbs_steps.specs.declared.reply.Ran.{Ran}
+use Rattle.cbs_steps.specs.declared.reply.Ran.TheVariants as ran
+use Rattle.cbs_steps.specs.declared.view.ServerView.{ServerView}
+use Rattle.cbs_views.specs.Events.{begun, ticks_of_run}
+use Rattle.cbs_views.specs.declared.seen.Event.{Event}
+use Rattle.cbs_views.specs.declared.seen.Event.TheVariants as event
+use Rattle.cbs_views.specs.declared.seen.Seen.{Seen}
+use Rattle.cbs_report.specs.Figures.{steps_of, told, told_sum, total, greatest, refusals, units_asked, units_run, is_used_up, units_exhausting, ticks_charged, waited, throttled}
+use Rattle.cbs_report.specs.Figures.{accepted_job, waiting_after, waiting, greatest_backlog, Finish, first_finished, finished_by, finished, response, responses, exceeds, one_if, late_among, late, early_by, earliness, sum_of, least_of, lesser}
+use Rattle.cbs_report.specs.declared.early.Early.{Early}
+use Rattle.cbs_report.specs.declared.held.Held.{Held}
+use Rattle.cbs_report.specs.declared.held.Showing.{Showing}
+use Rattle.cbs_report.specs.declared.job.AcceptedJob.{AcceptedJob}
+use Rattle.cbs_report.specs.declared.sums.Sums.{Sums}
+
+-- what is summed up of steps
+abbrev pub sums_of : ℕ → List Seen → Sums
+sums_of budget own = record {
+  refused = told (total (λ o. refusals o.event) own);
+  asked = told (total (λ o. units_asked o.event) own);
+  run = told (total (λ o. units_run o.event) own);
+  used_up = told (total (units_exhausting budget) own);
+  charged = told (total (λ o. ticks_charged o.event) own);
+  greatest_charge = greatest (λ o. ticks_charged o.event) own;
+}
+
+-- a run more, after which the server shows this
+abbrev pub sums_with : ℕ → Ran → Option ServerView → Sums → Sums
+sums_with budget r v s = record s {
+  run = told (s.run + ticks_of_run r);
+  used_up = if is_used_up budget v then told (s.used_up + ticks_of_run r) else s.used_up;
+}
+
+-- a step more
+abbrev pub sums_after : ℕ → Event → Option ServerView → Sums → Sums
+sums_after budget (event.Accepted job number promised) v s = record s { asked = told (s.asked + job.units) }
+sums_after budget (event.NotAccepted job error) v s = record s { refused = told (s.refused + 1); asked = told (s.asked + job.units) }
+sums_after budget (event.Ran r) v s = sums_with budget r v s
+sums_after budget (event.Charged server n) v s = record s { charged = told (s.charged + n); greatest_charge = max s.greatest_charge n }
+sums_after budget _ v s = s
+
+-- the ticks in which the server was throttled with a job, up to its last step; and what it showed after that
+abbrev pub held_of : List Seen → Held
+held_of [] = record { ticks = 0; last = None }
+held_of (o ∷ own) = record { ticks = told (throttled (begun o) own); last = Some (record { clock = o.clock; view = o.view }) }
+
+-- how long it waits after its last step, up to a tick
+abbrev pub waited_since : Option Showing → ℕ → ℕ
+waited_since None to = 0
+waited_since (Some last) to = waited last.view last.clock to
+
+-- what is summed up of how much earlier than promised jobs were finished
+abbrev pub early_of : List ℕ → Early
+early_of ns = record { count = told (length ns); total = told_sum (sum_of ns); least = least_of ns }
+
+-- one more
+abbrev pub early_with : Option ℕ → ℕ → Early → Early
+early_with None at e = e
+early_with (Some promised) at e = record {
+  count = told (e.count + 1);
+  total = told_sum (e.total + (promised - at));
+  least = Some (lesser (promised - at) e.least);
+}
+
+-- what is kept of the jobs: those that wait, the response times of those that were finished, and what is summed up of both
+pub record Jobs : Type 0 where
+  pub waiting : List AcceptedJob
+  pub responses : List ℕ
+  pub response_total : ℕ
+  pub greatest_backlog : ℕ
+  pub late : ℕ
+  pub early : Early
+
+abbrev pub jobs_of : List Seen → Jobs
+jobs_of own = record {
+  waiting = waiting own;
+  responses = responses own;
+  response_total = told_sum (sum_of (responses own));
+  greatest_backlog = greatest_backlog own;
+  late = told (late own);
+  early = early_of (earliness (finished own));
+}
+
+-- after a job was accepted
+abbrev pub jobs_with : AcceptedJob → Jobs → Jobs
+jobs_with job t = record t { waiting = t.waiting ++ job ∷ []; greatest_backlog = max t.greatest_backlog (length (t.waiting ++ job ∷ [])) }
+
+-- after the oldest was finished, if there is one
+abbrev pub jobs_without : ℕ → Option AcceptedJob → Jobs → Jobs
+jobs_without now None t = t
+jobs_without now (Some job) t = record t {
+  waiting = drop 1 t.waiting;
+  responses = t.responses ++ (now - job.came) ∷ [];
+  response_total = told_sum (t.response_total + (now - job.came));
+  late = told (t.late + one_if (exceeds (now - job.came) job.within));
+  early = early_with job.promised now t.early;
+}
+
+-- after a step
+abbrev pub jobs_after : ℕ → Event → Jobs → Jobs
+jobs_after now (event.Accepted job number promised) t = jobs_with (accepted_job job promised) t
+jobs_after now (event.Ran (ran.Done c)) t = jobs_without now (slice_get t.waiting 0) t
+jobs_after now _ t = t
+
+-- all that is kept of one server, of its steps
+pub record Kept : Type 0 where
+  pub budget : ℕ
+  pub sums : Sums
+  pub held : Held
+  pub jobs : Jobs
+
+abbrev pub kept_of : ℕ → List Seen → Kept
+kept_of budget own = record { budget = budget; sums = sums_of budget own; held = held_of own; jobs = jobs_of own }
+
+-- what stands if there is no such server
+abbrev pub no_kept : Kept
+no_kept = kept_of 0 []
+
+-- the tally of server s
+abbrev pub kept_at : List Kept → ℕ → Kept
+kept_at kept s = get_or kept s no_kept
+
+-- the ticks that a step lets pass with nobody running
+abbrev pub ticks_idle : Event → ℕ
+ticks_idle (event.Advanced n) = n
+ticks_idle _ = 0
+
+-- what a report keeps: of each server, and the ticks in which nobody ran
+pub record Reported : Type 0 where
+  pub kept : List Kept
+  pub idle : ℕ
+
+-- the budgets of the servers
+abbrev pub budgets : Reported → List ℕ
+budgets r = map (λ k. k.budget) r.kept
+
+-- the tallies are those of what was seen, server by server
+abbrev pub AreKept : List Kept → List Seen → Type 0
+AreKept kept seen = (s : ℕ) → s < length kept → kept_at kept s ≡ kept_of (kept_at kept s).budget (steps_of s seen)
+
+-- a report kept its servers, and is that of what was seen
+pub record HasSeen (first now : Reported) (seen : List Seen) : Type 0 where
+  pub budgets : budgets now ≡ budgets first
+  pub kept : AreKept now.kept seen
+  pub idle : now.idle ≡ told (total (λ o. ticks_idle o.event) seen)
+
+-- the tally of server s became what one step more makes of it, and no others changed
+pub record AddsStep (s : ℕ) (o : Seen) (old new : List Kept) : Type 0 where
+  pub here : s < length old → (own : List Seen) → kept_at old s ≡ kept_of (kept_at old s).budget own
+      → kept_at new s ≡ kept_of (kept_at old s).budget (o ∷ own)
+  pub others : (t : ℕ) → t ≢ s → kept_at new t ≡ kept_at old t
+  pub budgets : map (λ k. k.budget) new ≡ map (λ k. k.budget) old

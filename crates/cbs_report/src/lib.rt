@@ -1,0 +1,17 @@
+//! The figures of a run: what each server was asked for and got, how long its jobs took, and how much of that was late.
+#![tactic(auto)]
+
+mod early;
+mod figures;
+mod held;
+mod job;
+mod jobs;
+mod ranks;
+mod report;
+mod sums;
+mod tally;
+#[cfg(test)]
+mod tests;
+
+pub use figures::{Figures, Ranks};
+pub use report::Report;

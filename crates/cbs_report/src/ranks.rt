@@ -1,0 +1,37 @@
+//! Ranks among numbers.
+
+ghost use Rattle.std.specs.Prelude.{◌≡◌, ◌≤◌, ◌<◌, [], length, IsPermutation, IsSorted, MatchOption};
+ghost use Rattle.std.specs.Ordering.{nat_cmp};
+ghost use Rattle.cbs_report.specs.Percentiles.{IsPercentile, AreRanks};
+
+use crate::figures::Ranks;
+use std::alloc::Allocator;
+
+/// Returns a percentile of numbers in ascending order, by nearest rank.
+fn percentile(sorted: &[u64], percent: u8) -> u64
+    requires order { IsSorted nat_cmp sorted.now }
+    requires numbers { 0 < length sorted.now }
+    requires some { 0 < percent }
+    requires most { percent ≤ 100 }
+    ensures { IsPercentile percent sorted.now result }
+{
+    let rank = (u128::from(percent) * sorted.len() as u128).div_ceil(100) as usize;
+    sorted[rank - 1]
+}
+
+/// Returns the least of the numbers and their percentiles, or `None` if there are none. The numbers are put into ascending
+/// order.
+pub fn ranks_of<A: Allocator>(numbers: &mut Vec<u64, A>) -> Option<Ranks>
+    ensures ranks { MatchOption result (numbers.old.items ≡ []) (AreRanks numbers.old.items) }
+    ensures same { IsPermutation numbers.old.items numbers.new.items }
+{
+    numbers.sort_unstable();
+    let least = *numbers.first()?;
+    Some(Ranks {
+        least,
+        median: percentile(numbers, 50),
+        p95: percentile(numbers, 95),
+        p99: percentile(numbers, 99),
+        greatest: percentile(numbers, 100),
+    })
+}

@@ -1,0 +1,105 @@
+//! The figures of all servers.
+
+ghost use Rattle.std.specs.Prelude.{◌≡◌, ℕ, List, [], IfOk, OnOk, length, map};
+ghost use Rattle.cbs_views.specs.declared.seen.Seen.{Seen};
+ghost use Rattle.cbs_report.specs.Figures.{told, total};
+ghost use Rattle.cbs_report.specs.Reports.{AreAllFigures};
+ghost use Rattle.cbs_report.specs.Tallies.{AddsStep, HasSeen, budgets};
+
+use crate::figures::Figures;
+use crate::tally::Tally;
+use cbs_rate::Plan;
+use cbs_views::{Event, Seen, View};
+use std::alloc::{AllocError, Allocator, Global};
+use std::marker::Model;
+
+/// The figures of the servers of a plan, of the steps that it saw.
+///
+/// It keeps a number for each finished job, a job for each unfinished one, and sums.
+#[derive(Drop)]
+pub struct Report<A: Allocator = Global> {
+    tallies: Vec<Tally<A>, A>,
+    idle: u64,
+}
+
+impl<A: Allocator> Model for Report<A> {
+    ghost use Rattle.cbs_report.specs.Tallies.{Reported};
+
+    ghost Value = { Reported };
+
+    ghost view = { λ r. record { kept = r.tallies.items; idle = r.idle } };
+}
+
+impl<A: Allocator + Clone> Report<A> {
+    /// Returns the report of the servers of a plan, before the first step.
+    pub fn new(alloc: A, plan: &Plan) -> Result<Report<A>, AllocError>
+        ensures servers { IfOk result (λ r. budgets r ≡ map (λ rate. rate.budget) plan.now.rates) }
+        ensures none { IfOk result (λ r. HasSeen r r []) }
+    {
+        let mut tallies = Vec::with_capacity(alloc.clone()?, plan.len())?;
+        for server in 0..plan.len() as u16 {
+            let Some(reservation) = plan.get(server) else {
+                break;
+            };
+            tallies.push(Tally::new(alloc.clone()?, reservation.budget())?)?;
+        }
+        Ok(Report { tallies, idle: 0 })
+    }
+
+    /// Returns the figures of each server up to `now`, by number.
+    pub fn figures(&mut self, alloc: A, now: u64) -> Result<Vec<Figures, A>, AllocError>
+        ensures { IfOk result (λ figures. (first : Reported) (seen : List Seen) → HasSeen first self.old seen
+            → AreAllFigures (budgets first) now seen figures.items) }
+    {
+        let mut figures = Vec::with_capacity(alloc, self.tallies.len())?;
+        for tally in &mut self.tallies {
+            figures.push(tally.figures(now))?;
+        }
+        Ok(figures)
+    }
+}
+
+impl<A: Allocator> Report<A> {
+    /// Returns the ticks in which nobody ran, or 2^64 - 1 if they would be more.
+    pub fn idle(&self) -> u64
+        ensures { (first : Reported) (seen : List Seen) → HasSeen first self.now seen → result ≡ told (total (λ o. ticks_idle o.event) seen) }
+    {
+        self.idle
+    }
+
+    /// Adds a step of a server, if there is such a server.
+    fn add(&mut self, server: u16, seen: Seen) -> Result<(), AllocError>
+        ensures adds { OnOk result (AddsStep server seen self.old.kept self.new.kept) }
+        ensures idle { OnOk result (self.new.idle ≡ self.old.idle) }
+    {
+        match self.tallies.get_mut(usize::from(server)) {
+            Some(tally) => tally.add(seen),
+            None => Ok(()),
+        }
+    }
+
+    /// Adds the ticks of a step in which nobody ran.
+    fn pass(&mut self, event: Event)
+        ensures { self.new ≡ record self.old { idle = told (self.old.idle + ticks_idle event) } }
+    {
+        if let Event::Advanced(ticks) = event {
+            self.idle = self.idle.saturating_add(ticks);
+        }
+    }
+}
+
+impl<A: Allocator> View for Report<A> {
+    ghost use Rattle.cbs_report.specs.Tallies.{HasSeen};
+
+    ghost saw = { λ first now seen. HasSeen first now seen };
+
+    fn see(&mut self, seen: Seen) -> Result<(), AllocError> {
+        match seen.event.server() {
+            Some(server) => self.add(server, seen),
+            None => {
+                self.pass(seen.event);
+                Ok(())
+            }
+        }
+    }
+}

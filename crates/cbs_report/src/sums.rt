@@ -1,0 +1,98 @@
+//! Sums over the steps of one server.
+
+ghost use Rattle.std.specs.Prelude.{◌≡◌, [], ◌≤◌, ◌^◌};
+ghost use Rattle.cbs_views.specs.Events.{ticks_of_run};
+ghost use Rattle.cbs_report.specs.Figures.{is_used_up};
+ghost use Rattle.cbs_report.specs.Tallies.{sums_of, sums_with, sums_after};
+
+use cbs_steps::{Ran, ServerView};
+use cbs_views::Event;
+
+/// What is summed up of the steps of one server.
+#[derive(Clone, Copy, Debug, PartialEq, Eq)]
+pub struct Sums {
+    /// The jobs that were refused.
+    pub refused: u64,
+    /// The units of the jobs that came.
+    pub asked: u64,
+    /// The units that ran.
+    pub run: u64,
+    /// The units that used the budget up.
+    pub used_up: u64,
+    /// The ticks that it was charged.
+    pub charged: u64,
+    /// The greatest charge.
+    pub greatest_charge: u64,
+}
+
+/// Returns how many units a run ran: one or none.
+fn units_of(ran: Ran) -> u64
+    ensures { result ≡ ticks_of_run ran }
+{
+    match ran {
+        Ran::Unit { .. } | Ran::Done(_) => 1,
+        Ran::Idle | Ran::ClockEnd => 0,
+    }
+}
+
+/// Returns whether a server that shows this after a unit has used its budget up.
+fn is_used_up(budget: u64, view: Option<ServerView>) -> bool
+    ensures { result ≡ is_used_up budget view }
+{
+    match view {
+        Some(view) => view.throttled || view.budget == budget,
+        None => false,
+    }
+}
+
+impl Sums {
+    /// Returns the sums over no step.
+    pub fn new() -> Sums
+        ensures { result ≡ sums_of 0 [] }
+    {
+        Sums {
+            refused: 0,
+            asked: 0,
+            run: 0,
+            used_up: 0,
+            charged: 0,
+            greatest_charge: 0,
+        }
+    }
+
+    /// Adds a unit, if one ran, by what the server shows after it.
+    fn add_run(&mut self, budget: u64, ran: Ran, view: Option<ServerView>)
+        ensures { self.new ≡ sums_with budget ran view self.old }
+    {
+        let units = units_of(ran);
+        self.run = self.run.saturating_add(units);
+        if is_used_up(budget, view) {
+            self.used_up = self.used_up.saturating_add(units);
+        }
+    }
+
+    /// Adds a step, by what the server shows after it.
+    pub fn add(&mut self, budget: u64, event: Event, view: Option<ServerView>)
+        ensures { self.new ≡ sums_after budget event view self.old }
+    {
+        match event {
+            Event::Accepted { job, .. } => {
+                self.asked = self.asked.saturating_add(u64::from(job.units));
+            }
+            Event::NotAccepted { job, .. } => {
+                self.refused = self.refused.saturating_add(1);
+                self.asked = self.asked.saturating_add(u64::from(job.units));
+            }
+            Event::Ran(ran) => self.add_run(budget, ran, view),
+            Event::Charged { ticks, .. } => {
+                self.charged = self.charged.saturating_add(ticks);
+                self.greatest_charge = self.greatest_charge.max(ticks);
+            }
+            Event::Advanced(_)
+            | Event::NotAdvanced(..)
+            | Event::Closed(_)
+            | Event::NotClosed(..)
+            | Event::NotCharged { .. } => {}
+        }
+    }
+}

@@ -1,0 +1,65 @@
+//! What a report keeps of one server.
+
+ghost use Rattle.std.specs.Prelude.{◌≡◌, ℕ, List, [], ◌∷◌, IfOk, OnOk};
+ghost use Rattle.cbs_views.specs.declared.seen.Seen.{Seen};
+ghost use Rattle.cbs_report.specs.Figures.{AreFigures};
+ghost use Rattle.cbs_report.specs.Tallies.{kept_of};
+
+use crate::figures::Figures;
+use crate::held::Held;
+use crate::jobs::JobTally;
+use crate::sums::Sums;
+use cbs_views::Seen;
+use std::alloc::{AllocError, Allocator, Global};
+use std::marker::Model;
+
+/// What is kept of one server.
+#[derive(Drop)]
+pub struct Tally<A: Allocator = Global> {
+    budget: u64,
+    sums: Sums,
+    held: Held,
+    jobs: JobTally<A>,
+}
+
+impl<A: Allocator> Model for Tally<A> {
+    ghost use Rattle.cbs_report.specs.Tallies.{Kept};
+
+    ghost Value = { Kept };
+
+    ghost view = { λ t. record { budget = t.budget; sums = t.sums; held = t.held; jobs = t.jobs } };
+}
+
+impl<A: Allocator + Clone> Tally<A> {
+    /// Returns the tally of a server with this budget, before its first step.
+    pub fn new(alloc: A, budget: u64) -> Result<Tally<A>, AllocError>
+        ensures { IfOk result (λ t. t ≡ kept_of budget []) }
+    {
+        let jobs = JobTally::new(alloc)?;
+        Ok(Tally {
+            budget,
+            sums: Sums::new(),
+            held: Held::new(),
+            jobs,
+        })
+    }
+}
+
+impl<A: Allocator> Tally<A> {
+    /// Adds a step of the server.
+    pub fn add(&mut self, seen: Seen) -> Result<(), AllocError>
+        ensures { OnOk result ((own : List Seen) → self.old ≡ kept_of self.old.budget own → self.new ≡ kept_of self.old.budget (seen ∷ own)) }
+    {
+        self.sums.add(self.budget, seen.event, seen.view);
+        self.held.add(seen.begun(), seen.clock, seen.view);
+        self.jobs.add(seen.clock, seen.event)
+    }
+
+    /// Returns the figures up to `now`. The response times are put into order.
+    pub fn figures(&mut self, now: u64) -> Figures
+        ensures { (own : List Seen) → self.old ≡ kept_of self.old.budget own → AreFigures self.old.budget now own result }
+    {
+        let throttled = self.held.until(now);
+        self.jobs.figures(now, &self.sums, throttled)
+    }
+}

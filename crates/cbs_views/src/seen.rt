@@ -1,0 +1,142 @@
+//! Steps as they are seen.
+
+ghost use Rattle.std.specs.Prelude.{◌≡◌};
+ghost use Rattle.cbs_views.specs.Events.{server_of_unit, server_of, ticks_of_run, ticks_of, begun};
+
+use cbs_steps::{CoreError, Ran, ServerView};
+
+/// What is known of a job when it comes.
+#[derive(Clone, Copy, Debug, PartialEq, Eq)]
+pub struct Arrival {
+    /// The server that is to run it.
+    pub server: u16,
+    /// The tick at which it came: that of its release, or of its submit if nothing released it.
+    pub came: u64,
+    /// How many units it has.
+    pub units: u32,
+    /// Within how many ticks of its coming it is to be finished, if that is wanted.
+    pub within: Option<u64>,
+}
+
+/// What a step did.
+#[derive(Clone, Copy, Debug, PartialEq, Eq)]
+pub enum Event {
+    /// A job was accepted.
+    Accepted {
+        /// The job.
+        job: Arrival,
+        /// Its number among the accepted jobs of its server, from 0.
+        number: u64,
+        /// The tick by which all that the server has accepted is finished, as long as nobody is charged.
+        promised: Option<u128>,
+    },
+    /// A job was refused.
+    NotAccepted {
+        /// The job.
+        job: Arrival,
+        /// Why it was refused.
+        error: CoreError,
+    },
+    /// A unit was run, or none.
+    Ran(Ran),
+    /// So many ticks passed.
+    Advanced(u64),
+    /// So many ticks were to pass, and did not.
+    NotAdvanced(u64, CoreError),
+    /// A server was closed.
+    Closed(u16),
+    /// A server was to be closed, and was not.
+    NotClosed(u16, CoreError),
+    /// A server was charged so many ticks, and they passed.
+    Charged {
+        /// The server.
+        server: u16,
+        /// How many ticks.
+        ticks: u64,
+    },
+    /// A server was to be charged, and was not.
+    NotCharged {
+        /// The server.
+        server: u16,
+        /// How many ticks.
+        ticks: u64,
+        /// Why it was not.
+        error: CoreError,
+    },
+}
+
+/// Returns the server of a unit, or `None` if none ran.
+fn server_of_unit(ran: Ran) -> Option<u16>
+    ensures { result ≡ server_of_unit ran }
+{
+    match ran {
+        Ran::Unit { server, .. } => Some(server),
+        Ran::Done(done) => Some(done.server),
+        Ran::Idle | Ran::ClockEnd => None,
+    }
+}
+
+/// Returns the ticks that a run takes: one for a unit.
+fn ticks_of_run(ran: Ran) -> u64
+    ensures { result ≡ ticks_of_run ran }
+{
+    match ran {
+        Ran::Unit { .. } | Ran::Done(_) => 1,
+        Ran::Idle | Ran::ClockEnd => 0,
+    }
+}
+
+impl Event {
+    /// Returns the server that the step is of: the one that a job came for, that ran, or that was charged. Returns `None` if
+    /// there is none.
+    pub fn server(&self) -> Option<u16>
+        ensures { result ≡ server_of self.now }
+    {
+        match self {
+            Event::Accepted { job, .. } | Event::NotAccepted { job, .. } => Some(job.server),
+            Event::Ran(ran) => server_of_unit(*ran),
+            Event::Charged { server, .. } => Some(*server),
+            Event::Advanced(_)
+            | Event::NotAdvanced(..)
+            | Event::Closed(_)
+            | Event::NotClosed(..)
+            | Event::NotCharged { .. } => None,
+        }
+    }
+
+    /// Returns the ticks that the step took.
+    pub fn ticks(&self) -> u64
+        ensures { result ≡ ticks_of self.now }
+    {
+        match self {
+            Event::Ran(ran) => ticks_of_run(*ran),
+            Event::Advanced(ticks) | Event::Charged { ticks, .. } => *ticks,
+            Event::Accepted { .. }
+            | Event::NotAccepted { .. }
+            | Event::NotAdvanced(..)
+            | Event::Closed(_)
+            | Event::NotClosed(..)
+            | Event::NotCharged { .. } => 0,
+        }
+    }
+}
+
+/// A step as it is seen.
+#[derive(Clone, Copy, Debug, PartialEq, Eq)]
+pub struct Seen {
+    /// The clock after it, in ticks.
+    pub clock: u64,
+    /// What it did.
+    pub event: Event,
+    /// What the server that the step is of shows after it, if there is one.
+    pub view: Option<ServerView>,
+}
+
+impl Seen {
+    /// Returns the clock before the step.
+    pub fn begun(&self) -> u64
+        ensures { result ≡ begun self.now }
+    {
+        self.clock.saturating_sub(self.event.ticks())
+    }
+}
