@@ -327,7 +327,7 @@ within = 80
 struct Nobody;
 
 impl Watcher for Nobody {
-    ghost saw = { λ it seen. Unit {0} };
+    ghost saw = { λ first it seen. Unit {0} };
 
     fn see<A: Allocator>(
         &mut self,

@@ -65,9 +65,10 @@ abbrev pub is_used_up : ℕ → Option ServerView → Bool
 is_used_up budget None = false
 is_used_up budget (Some v) = v.throttled || eqb v.budget budget
 
--- the units that used the budget up
-abbrev pub units_exhausting : ℕ → Seen → ℕ
-units_exhausting budget o = if is_used_up budget o.view then units_run o.event else 0
+-- the units that used the budget up, by what the server shows after them
+abbrev pub units_exhausting : ℕ → Event → Option ServerView → ℕ
+units_exhausting budget (event.Ran r) view = if is_used_up budget view then ticks_of_run r else 0
+units_exhausting budget _ view = 0
 
 -- the ticks that the server was charged
 abbrev pub ticks_charged : Event → ℕ
@@ -110,20 +111,20 @@ pub record Finish : Type 0 where
   pub job : AcceptedJob
   pub at : ℕ
 
--- the first of these jobs is finished at a tick
-abbrev pub first_finished : ℕ → List AcceptedJob → List Finish
-first_finished now [] = []
-first_finished now (job ∷ jobs) = record { job = job; at = now } ∷ []
+-- the finished jobs after the oldest of those that wait is finished at a tick, if there is one
+abbrev pub with_first : ℕ → List AcceptedJob → List Finish → List Finish
+with_first now [] done = done
+with_first now (job ∷ jobs) done = done ++ record { job = job; at = now } ∷ []
 
--- the jobs that a step finished, after which the clock is at `now`: the oldest, if it ran the last unit of a job
-abbrev pub finished_by : ℕ → Event → List AcceptedJob → List Finish
-finished_by now (event.Ran (ran.Done c)) jobs = first_finished now jobs
-finished_by now _ jobs = []
+-- the finished jobs after a step that leaves the clock at `now`: the last unit of a job finishes the oldest of those that waited
+abbrev pub finished_after : ℕ → Event → List AcceptedJob → List Finish → List Finish
+finished_after now (event.Ran (ran.Done c)) jobs done = with_first now jobs done
+finished_after now _ jobs done = done
 
 -- the finished jobs, in order
 abbrev pub finished : List Seen → List Finish
 finished [] = []
-finished (o ∷ own) = finished own ++ finished_by o.clock o.event (waiting own)
+finished (o ∷ own) = finished_after o.clock o.event (waiting own) (finished own)
 
 -- the response time of a finished job
 abbrev pub response : Finish → ℕ
@@ -190,7 +191,7 @@ pub record AreFigures (budget now : ℕ) (own : List Seen) (f : Figures) : Type 
   pub backlog : f.greatest_backlog ≡ greatest_backlog own
   pub asked : f.asked ≡ told (total (λ o. units_asked o.event) own)
   pub run : f.run ≡ told (total (λ o. units_run o.event) own)
-  pub used_up : f.used_up ≡ told (total (units_exhausting budget) own)
+  pub used_up : f.used_up ≡ told (total (λ o. units_exhausting budget o.event o.view) own)
   pub throttled : f.throttled ≡ told (throttled now own)
   pub charged : f.charged ≡ told (total (λ o. ticks_charged o.event) own)
   pub greatest_charge : f.greatest_charge ≡ greatest (λ o. ticks_charged o.event) own

@@ -9,7 +9,7 @@ use Rattle.cbs_views.specs.declared.seen.Event.{Event}
 use Rattle.cbs_views.specs.declared.seen.Event.TheVariants as event
 use Rattle.cbs_views.specs.declared.seen.Seen.{Seen}
 use Rattle.cbs_report.specs.Figures.{steps_of, told, told_sum, total, greatest, refusals, units_asked, units_run, is_used_up, units_exhausting, ticks_charged, waited, throttled}
-use Rattle.cbs_report.specs.Figures.{accepted_job, waiting_after, waiting, greatest_backlog, Finish, first_finished, finished_by, finished, response, responses, exceeds, one_if, late_among, late, early_by, earliness, sum_of, least_of, lesser}
+use Rattle.cbs_report.specs.Figures.{accepted_job, waiting_after, waiting, greatest_backlog, Finish, finished, response, responses, exceeds, one_if, late_among, late, early_by, earliness, sum_of, least_of, lesser}
 use Rattle.cbs_report.specs.declared.early.Early.{Early}
 use Rattle.cbs_report.specs.declared.held.Held.{Held}
 use Rattle.cbs_report.specs.declared.held.Showing.{Showing}
@@ -22,7 +22,7 @@ sums_of budget own = record {
   refused = told (total (λ o. refusals o.event) own);
   asked = told (total (λ o. units_asked o.event) own);
   run = told (total (λ o. units_run o.event) own);
-  used_up = told (total (units_exhausting budget) own);
+  used_up = told (total (λ o. units_exhausting budget o.event o.view) own);
   charged = told (total (λ o. ticks_charged o.event) own);
   greatest_charge = greatest (λ o. ticks_charged o.event) own;
 }

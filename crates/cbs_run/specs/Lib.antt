@@ -3,6 +3,7 @@ pub mod FaultLines
 pub mod JobsByServer
 pub mod FileLaws
 pub mod Lines
+pub mod Loads
 pub mod Reads
 pub mod ResultLines
 pub mod Runs

@@ -6,6 +6,8 @@ use Rattle.cbs_run.specs.ServingStops.{ServeStops}
 use Rattle.cbs_run.specs.Traces.{trace, TraceStops}
 use Rattle.cbs_run.specs.Writers.{Writer}
 use Rattle.cbs_run.specs.declared.run_error.RunError.{RunError}
+use Rattle.cbs_run.specs.declared.words.Action.{Action}
+use Rattle.cbs_run.specs.declared.words.Action.TheVariants.{Simulate, Run}
 use Rattle.cbs_run.specs.declared.words.Verb.{Verb}
 use Rattle.cbs_run.specs.declared.words.Verb.TheVariants.{Replay, Serve}
 
@@ -13,6 +15,11 @@ use Rattle.cbs_run.specs.declared.words.Verb.TheVariants.{Replay, Serve}
 abbrev pub name_of : Verb → List ℕ
 name_of Replay = codes "replay"
 name_of Serve = codes "serve"
+
+-- the word of each action
+abbrev pub action_name : Action → List ℕ
+action_name Simulate = codes "simulate"
+action_name (Run verb) = name_of verb
 
 -- what a verb writes of a file
 abbrev pub output_of : Verb → File → List ℕ

@@ -1,7 +1,7 @@
 -- The command line as `clap` sees it.
 use Rattle.std.specs.Prelude.{◌≡◌, ℕ, List, codes, true, Option, Some, string_bytes}
 use Rattle.clap.specs.Words.{App, Row, Rule, Text, first_of, new_app, new_rule, subcommand_of, takes, with_rule, with_subcommand}
-use Rattle.cbs_run.specs.Verbs.{name_of}
+use Rattle.cbs_run.specs.Verbs.{action_name}
 use Rattle.cbs_run.specs.declared.words.Asked.{Asked}
 use Rattle.cbs_run.specs.declared.words.WordsFault.{WordsFault}
 use Rattle.cbs_run.specs.declared.words.WordsFault.TheVariants.{Usage, Help, OutOfMemory}
@@ -22,19 +22,23 @@ required a = record a { top = record a.top { subcommand_required = true } }
 abbrev pub bare_program : App
 bare_program = required (new_app (codes "cbsrun"))
 
--- the program: two verbs
+-- the program with one verb more, of this name
+abbrev pub with_verb : App → Text → App
+with_verb program name = with_subcommand program (on_file name).top
+
+-- the program: three verbs
 abbrev pub command_line : App
-command_line = with_subcommand (with_subcommand bare_program (on_file (codes "replay")).top) (on_file (codes "serve")).top
+command_line = with_verb (with_verb (with_verb bare_program (codes "simulate")) (codes "replay")) (codes "serve")
 
--- the subcommand that was found, with its rows, is the verb, and its one value the file
+-- the subcommand that was found, with its rows, is the action, and its one value the file
 abbrev pub IsAsked : Option (Text × List Row) → Asked → Type 0
-IsAsked found asked = (rows : List Row) × (found ≡ Some (name_of asked.verb, rows)) × (first_of (codes "FILE") rows ≡ Some (string_bytes asked.file))
+IsAsked found asked = (rows : List Row) × (found ≡ Some (action_name asked.action, rows)) × (first_of (codes "FILE") rows ≡ Some (string_bytes asked.file))
 
--- the subcommand that the words name is the verb, and its one value the file
+-- the subcommand that the words name is the action, and its one value the file
 abbrev pub Names : List Text → Asked → Type 0
 Names words asked = IsAsked (subcommand_of command_line words) asked
 
--- the command takes the words, and they name a verb and a file
+-- the command takes the words, and they name an action and a file
 pub record AreTaken (words : List Text) : Type 0 where
   pub taken : takes command_line words ≡ true
   pub asked : Asked

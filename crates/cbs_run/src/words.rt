@@ -3,7 +3,7 @@
 ghost use Rattle.std.specs.Prelude.{◌≡◌, ◌≢◌, false, IfOk, IfErr, MatchOption, map, string_bytes};
 ghost use Rattle.clap.specs.Words.{app_of, kind_of, subcommand_rows_of, with_subcommand};
 ghost use Rattle.clap.specs.declared.builder.command.Command.TheViews.{out-Command};
-ghost use Rattle.cbs_run.specs.Verbs.{name_of};
+ghost use Rattle.cbs_run.specs.Verbs.{action_name};
 ghost use Rattle.cbs_run.specs.Words.{command_line, on_file, bare_program, IsAsked, Names, AreTaken, words_fault_number, words_fault_name};
 ghost use Rattle.cbs_run.specs.declared.words.WordsFault.TheVariants.{OutOfMemory};
 
@@ -57,6 +57,8 @@ Exit status:
   4  the run ended early: no memory, the output could not be written, or, in
      serve, the clock came to its end or the clients stalled";
 
+const SIMULATE: &str = "Releases the jobs of a load's sources, runs them, and reports";
+
 const REPLAY: &str = "Runs the steps of a task file, and writes a line for each";
 
 const SERVE: &str = "Gives each server's submits to a client of its own, serves them all, \
@@ -72,12 +74,21 @@ pub enum Verb {
     Serve,
 }
 
+/// What a command line asks for.
+#[derive(Clone, Copy, Debug, PartialEq, Eq)]
+pub enum Action {
+    /// To simulate a load, and to report what came of it.
+    Simulate,
+    /// To do with a task file what the verb says.
+    Run(Verb),
+}
+
 /// What to do, and with which file.
 #[derive(Debug, Drop)]
 pub struct Asked {
     /// What to do.
-    pub verb: Verb,
-    /// The name of the task file.
+    pub action: Action,
+    /// The name of the file.
     pub file: String,
 }
 
@@ -160,17 +171,19 @@ fn bare_program<'a>(alloc: Global) -> Command<'a>
 fn command_line<'a>(alloc: Global) -> Result<Command<'a>, AllocError>
     ensures { IfOk result (λ c. app_of c ≡ command_line) }
 {
-    let program = with_verb(alloc, bare_program(alloc), "replay", REPLAY)?;
+    let program = with_verb(alloc, bare_program(alloc), "simulate", SIMULATE)?;
+    let program = with_verb(alloc, program, "replay", REPLAY)?;
     with_verb(alloc, program, "serve", SERVE)
 }
 
-/// The verb of this name, if there is one.
-fn verb_of(name: &str) -> Option<Verb>
-    ensures { MatchOption result ((verb : Verb) → name_of verb ≢ name.now) (λ verb. name_of verb ≡ name.now) }
+/// Returns the action of this name, if there is one.
+fn action_of(name: &str) -> Option<Action>
+    ensures { MatchOption result ((action : Action) → action_name action ≢ name.now) (λ action. action_name action ≡ name.now) }
 {
     match name {
-        "replay" => Some(Verb::Replay),
-        "serve" => Some(Verb::Serve),
+        "simulate" => Some(Action::Simulate),
+        "replay" => Some(Action::Run(Verb::Replay)),
+        "serve" => Some(Action::Run(Verb::Serve)),
         _ => None,
     }
 }
@@ -201,14 +214,14 @@ fn asked_in(alloc: Global, matches: &ArgMatches) -> Result<Asked, WordsFault>
     let Some((name, inner)) = matches.subcommand() else {
         return Err(incomplete(alloc)?);
     };
-    let Some(verb) = verb_of(name) else {
+    let Some(action) = action_of(name) else {
         return Err(incomplete(alloc)?);
     };
     let Some(file) = inner.get_str("FILE") else {
         return Err(incomplete(alloc)?);
     };
     let file = String::from_str(alloc, file)?;
-    Ok(Asked { verb, file })
+    Ok(Asked { action, file })
 }
 
 /// What the words ask for, the program's name first.

@@ -25,7 +25,7 @@ module _ {W : Type 0} (work : Meaning W) (job : Release → W) where
 
   -- from a new core on
   pub alone : (output : (r : Release) → work.output (job r) ≡ r.overrun) (until : ℕ) → until ≤ clock_end
-      → {S : Type 0} (saw : S → List Sight → Type 0) (ts : List Terms) (backlog : ℕ) (coming : List Release)
+      → {S : Type 0} (saw : S → S → List Sight → Type 0) (ts : List Terms) (backlog : ℕ) (coming : List Release)
       (new : CoreHeld W) (w v : S) → IsInOrder 0 coming
       → (let setup : Setup = record { servers = ts; backlog = backlog } in
       let sim : Simulation W = record { history = record { setup = setup; steps = [] }; coming = coming; owing = None } in

@@ -48,15 +48,15 @@ module _ {W : Type 0} (work : Meaning W) (job : Release → W) where
       record { event = rw (← answer) (ap (event.Submitted r (Ok q)) (told _ state)); state = state; owed = refl }
 
   -- a move that a core made, and that a watcher saw
-  pub sees : {S : Type 0} (saw : S → List Sight → Type 0) (sim : Simulation W) (m : Move) (new : CoreHeld W) (e : Event) (o : Option Charge) (w v : S)
+  pub sees : {S : Type 0} (saw : S → S → List Sight → Type 0) (sim : Simulation W) (m : Move) (new : CoreHeld W) (e : Event) (o : Option Charge) (w v : S)
       → DoesMove work job sim m new e o
-      → ((seen : List Sight) → saw w seen → saw v (record { moment = record { clock = new.clock; event = e }; faces = new.faces } ∷ seen))
+      → ((first : S) (seen : List Sight) → saw first w seen → saw first v (record { moment = record { clock = new.clock; event = e }; faces = new.faces } ∷ seen))
       → MakesMove work job saw sim m new o w v
   sees saw sim m new e o w v moves sight =
       let at = moves.state.world.clock in
       let shown = moves.state.world.shown in
       let is : record { moment = record { clock = new.clock; event = e }; faces = new.faces } ≡ sight_of work job sim m = rw (at, shown, moves.event) refl in
-      record { state = moves.state; owed = moves.owed; seen = λ seen was. rw is at (sight seen was) }
+      record { state = moves.state; owed = moves.owed; seen = λ first seen was. rw is at (sight first seen was) }
 
   -- a core that did nothing stopped before any move, and one that made the next move stopped after it
   pub stops_first : (until : ℕ) (sim : Simulation W) (new : CoreHeld W) → Agrees work new sim.history → Stops work job until sim new
@@ -114,7 +114,7 @@ module _ {W : Type 0} (work : Meaning W) (job : Release → W) where
         rw (f, same, t) refl
 
     -- if a core made a move up to `stop`, which is the next one, it made the next move
-    pub makes_next : {S : Type 0} (saw : S → List Sight → Type 0) (stop : ℕ) (coming : List Release) (new : CoreHeld W) (o : Option Charge) (w v : S)
+    pub makes_next : {S : Type 0} (saw : S → S → List Sight → Type 0) (stop : ℕ) (coming : List Release) (new : CoreHeld W) (o : Option Charge) (w v : S)
         → (let sim : Simulation W = record { history = M; coming = coming; owing = None } in
         next_of work job until sim ≡ Some (move_to work job stop sim) → MakesMove work job saw sim (move_to work job stop sim) new o w v
         → MakesNext work job until saw sim new coming o w v)
@@ -147,7 +147,7 @@ module _ {W : Type 0} (work : Meaning W) (job : Release → W) where
         rw (t, f) refl
 
     -- what is owed is charged first
-    pub makes_charge : {S : Type 0} (saw : S → List Sight → Type 0) (coming : List Release) (c : Charge) (new : CoreHeld W) (w v : S)
+    pub makes_charge : {S : Type 0} (saw : S → S → List Sight → Type 0) (coming : List Release) (c : Charge) (new : CoreHeld W) (w v : S)
         → (world_after work M).now < until
         → (let sim : Simulation W = record { history = M; coming = coming; owing = Some c } in
         MakesMove work job saw sim (charge c.server (min c.ticks (until - (world_after work M).now))) new None w v

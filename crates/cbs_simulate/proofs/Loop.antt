@@ -33,11 +33,11 @@ module _ {W : Type 0} (work : Meaning W) (job : Release → W) where
   shown_more sim [] m seen = refl
   shown_more sim (n ∷ ms) m seen = shown_more (after_move work job sim n) ms m (sight_of work job sim n ∷ seen)
 
-  module _ (until : ℕ) {S : Type 0} (saw : S → List Sight → Type 0) where
+  module _ (until : ℕ) {S : Type 0} (saw : S → S → List Sight → Type 0) where
     -- no move yet
     pub none_made : (sim : Simulation W) (core : CoreHeld W) (w : S) → Agrees work core sim.history
         → MakesSome work job until saw sim core sim.coming sim.owing w w
-    none_made sim core w agrees = record { moves = []; each = tt; state = agrees; seen = λ seen h. h; rest = refl; owed = refl }
+    none_made sim core w agrees = record { moves = []; each = tt; state = agrees; seen = λ first seen h. h; rest = refl; owed = refl }
 
     -- one move more
     more_made : (sim last : Simulation W) (mid new : CoreHeld W) (now then : List Release) (o p : Option Charge) (w u v : S)
@@ -51,9 +51,9 @@ module _ {W : Type 0} (work : Meaning W) (job : Release → W) where
           moves = h.moves ++ m ∷ [];
           each = next_more until sim h.moves (m ∷ []) h.each (at, tt);
           state = rw e (rw is at k.makes.state);
-          seen = λ seen was. rw (shown_more sim h.moves m seen)
-              (subst (λ (x : Simulation W). saw v (sight_of work job x m ∷ shown work job sim h.moves seen)) is
-              (k.makes.seen (shown work job sim h.moves seen) (h.seen seen was)));
+          seen = λ first seen was. rw (shown_more sim h.moves m seen)
+              (subst (λ (x : Simulation W). saw first v (sight_of work job x m ∷ shown work job sim h.moves seen)) is
+              (k.makes.seen first (shown work job sim h.moves seen) (h.seen first seen was)));
           rest = rw e (rw is at k.rest);
           owed = rw e (rw is at k.makes.owed);
         }
@@ -137,7 +137,7 @@ module _ {W : Type 0} (work : Meaning W) (job : Release → W) where
               state = rw (k.core, sym same) h.state;
               all = moves_are work job until ends first.clock (sim_from M) going;
               only = λ ns every. are_moves work job until ends first.clock (sim_from M) ns going every;
-              seen = λ seen was. rw (k.watcher, sym same) (h.seen seen was);
+              seen = λ first seen was. rw (k.watcher, sym same) (h.seen first seen was);
               submits = rw (sym same) (all_submits work job until ends first.clock (sim_from M) h.moves going all);
               on_tick = rw (sym same, sym agrees.world.clock) laws.on_tick;
               charges = rw (sym same) laws.charges;

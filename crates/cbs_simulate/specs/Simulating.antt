@@ -37,14 +37,14 @@ module _ {W : Type 0} (work : Meaning W) (job : Release → W) where
   move_to stop sim = let w = world_after work sim.history in move_on w.now stop (idle_span w.now (faces work w))
 
   -- a core made this move of the simulation, a watcher saw it, and this is then owed
-  pub record MakesMove {S : Type 0} (saw : S → List Sight → Type 0) (sim : Simulation W) (m : Move) (new : CoreHeld W) (owing : Option Charge)
+  pub record MakesMove {S : Type 0} (saw : S → S → List Sight → Type 0) (sim : Simulation W) (m : Move) (new : CoreHeld W) (owing : Option Charge)
       (w v : S) : Type 0 where
     pub state : Agrees work new (after_move work job sim m).history
     pub owed : owing ≡ owing_after work job sim m
-    pub seen : (seen : List Sight) → saw w seen → saw v (sight_of work job sim m ∷ seen)
+    pub seen : (first : S) (seen : List Sight) → saw first w seen → saw first v (sight_of work job sim m ∷ seen)
 
   -- a core made the next move of the simulation, after which these releases come and this is owed
-  pub record MakesNext {S : Type 0} (until : ℕ) (saw : S → List Sight → Type 0) (sim : Simulation W) (new : CoreHeld W) (coming : List Release)
+  pub record MakesNext {S : Type 0} (until : ℕ) (saw : S → S → List Sight → Type 0) (sim : Simulation W) (new : CoreHeld W) (coming : List Release)
       (owing : Option Charge) (w v : S) : Type 0 where
     pub move : Move
     pub next : next_of work job until sim ≡ Some move
@@ -52,12 +52,12 @@ module _ {W : Type 0} (work : Meaning W) (job : Release → W) where
     pub rest : coming ≡ (after_move work job sim move).coming
 
   -- a core made some moves of the simulation, each the next one where it stands
-  pub record MakesSome {S : Type 0} (until : ℕ) (saw : S → List Sight → Type 0) (sim : Simulation W) (new : CoreHeld W) (coming : List Release)
+  pub record MakesSome {S : Type 0} (until : ℕ) (saw : S → S → List Sight → Type 0) (sim : Simulation W) (new : CoreHeld W) (coming : List Release)
       (owing : Option Charge) (w v : S) : Type 0 where
     pub moves : List Move
     pub each : AreNext work job until sim moves
     pub state : Agrees work new (after_moves work job sim moves).history
-    pub seen : (seen : List Sight) → saw w seen → saw v (shown work job sim moves seen)
+    pub seen : (first : S) (seen : List Sight) → saw first w seen → saw first v (shown work job sim moves seen)
     pub rest : coming ≡ (after_moves work job sim moves).coming
     pub owed : owing ≡ (after_moves work job sim moves).owing
 
@@ -82,11 +82,11 @@ module _ {W : Type 0} (work : Meaning W) (job : Release → W) where
   -- A core simulated a load: its steps are the moves of the definition, which are all that there are and the only ones, and the
   -- watcher saw what they show. Each release before `until` was submitted once, in order, at its tick or as soon as a charge that
   -- passed that had ended; each unit was charged its overrun; every advance was quiet; and the clock stands at `until`.
-  pub record Simulates {S : Type 0} (until : ℕ) (saw : S → List Sight → Type 0) (sim : Simulation W) (new : CoreHeld W) (w v : S) : Type 0 where
+  pub record Simulates {S : Type 0} (until : ℕ) (saw : S → S → List Sight → Type 0) (sim : Simulation W) (new : CoreHeld W) (w v : S) : Type 0 where
     pub state : Agrees work new (after_moves work job sim (moves_of work job until sim)).history
     pub all : AreMoves work job until sim (moves_of work job until sim)
     pub only : (ms : List Move) → AreMoves work job until sim ms → ms ≡ moves_of work job until sim
-    pub seen : (seen : List Sight) → saw w seen → saw v (shown work job sim (moves_of work job until sim) seen)
+    pub seen : (first : S) (seen : List Sight) → saw first w seen → saw first v (shown work job sim (moves_of work job until sim) seen)
     pub submits : submitted (moves_of work job until sim) ≡ before until sim.coming
     pub on_tick : EachOnTick work job (clock_of work job sim) sim (moves_of work job until sim)
     pub charges : AllMoves work job (ChargesOwed work job until) sim (moves_of work job until sim)
@@ -99,7 +99,7 @@ module _ {W : Type 0} (work : Meaning W) (job : Release → W) where
 
   -- A core that was made for it simulated a load: no premise is left to the laws of a history. If no release has an overrun, each
   -- is submitted exactly at its tick, and no step takes anybody's time.
-  pub record SimulatesAlone {S : Type 0} (until : ℕ) (saw : S → List Sight → Type 0) (sim : Simulation W) (new : CoreHeld W) (w v : S) : Type 0 where
+  pub record SimulatesAlone {S : Type 0} (until : ℕ) (saw : S → S → List Sight → Type 0) (sim : Simulation W) (new : CoreHeld W) (w v : S) : Type 0 where
     pub simulates : Simulates until saw sim new w v
     pub punctual : IsPunctual work (after_moves work job sim (moves_of work job until sim)).history
     pub advances : let N = (after_moves work job sim (moves_of work job until sim)).history in AdvanceQuietly work N.setup N.steps

@@ -26,8 +26,8 @@ fn show<A: Allocator, S: Watcher>(
     event: Event,
     watcher: &mut S,
 ) -> Result<(), AllocError>
-    ensures { OnOk result ((seen : List Sight) → S.saw watcher.old seen
-        → S.saw watcher.new (record { moment = record { clock = core.now.clock; event = event }; faces = core.now.faces } ∷ seen)) }
+    ensures { OnOk result ((first : S) (seen : List Sight) → S.saw first watcher.old seen
+        → S.saw first watcher.new (record { moment = record { clock = core.now.clock; event = event }; faces = core.now.faces } ∷ seen)) }
 {
     let moment = Moment {
         clock: core.now(),

@@ -23,7 +23,7 @@ struct Moments {
 }
 
 impl Watcher for Moments {
-    ghost saw = { λ moments seen. Unit {0} };
+    ghost saw = { λ first moments seen. Unit {0} };
 
     fn see<A: Allocator>(
         &mut self,

@@ -10,8 +10,8 @@ use std::alloc::{AllocError, Allocator};
 
 /// Sees each moment of a simulation, in order.
 pub trait Watcher {
-    /// What it holds agrees with what it saw, the newest first.
-    ghost saw: { Self → List Sight → Type 0 };
+    /// What it held at first, and what it holds after it saw these moments, the newest first.
+    ghost saw: { Self → Self → List Sight → Type 0 };
 
     /// Sees a moment, and the core as it stands then. An error, if out of memory, ends the simulation.
     fn see<A: Allocator>(
@@ -19,5 +19,5 @@ pub trait Watcher {
         moment: Moment,
         core: &Core<LoadJob, A>,
     ) -> Result<(), AllocError>
-        ensures { OnOk result ((seen : List Sight) → saw self.old seen → saw self.new (record { moment = moment; faces = core.now.faces } ∷ seen)) };
+        ensures { OnOk result ((first : Self) (seen : List Sight) → saw first self.old seen → saw first self.new (record { moment = moment; faces = core.now.faces } ∷ seen)) };
 }

@@ -3,9 +3,9 @@
 
 use cbs_file::MEMORY;
 use cbs_run::{
-    Asked, BAD_FILE, DONE, FromRead, MEMORY_VARIABLE, RUN_FAULT, ReadError, RunError, ToWrite,
-    WRONG_WORDS, WordsFault, memory_bound, read_all, read_words, run_bytes_within, write_pieces,
-    write_read_fault, write_run_fault,
+    Action, Asked, BAD_FILE, DONE, FromRead, MEMORY_VARIABLE, RUN_FAULT, ReadError, RunError,
+    ToWrite, WRONG_WORDS, WordsFault, memory_bound, read_all, read_words, run_bytes_within,
+    simulate_bytes_within, write_pieces, write_read_fault, write_run_fault,
 };
 use std::alloc::{AllocError, Global};
 use std::env;
@@ -85,9 +85,15 @@ fn status<R: Threads + Clock + Sync>(rt: &HostRuntime, threads: &R) -> u8 {
         }
     };
     match bytes_of(rt, alloc, asked.file.as_str()) {
-        Ok(bytes) => run_bytes_within(
-            threads, alloc, memory, asked.verb, &bytes, &mut out, &mut err,
-        ),
+        Ok(bytes) => match asked.action {
+            Action::Simulate => {
+                let name = asked.file.as_str();
+                simulate_bytes_within(alloc, memory, name, &bytes, &mut out, &mut err)
+            }
+            Action::Run(verb) => {
+                run_bytes_within(threads, alloc, memory, verb, &bytes, &mut out, &mut err)
+            }
+        },
         Err(fault) => {
             let _written = write_read_fault(&mut err, fault);
             BAD_FILE

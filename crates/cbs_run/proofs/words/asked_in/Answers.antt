@@ -30,13 +30,13 @@ returns-clause-ok c =
     both_are _ _ _ _ _ (rw c.in-Some.is at c.subcommand.ensures.name) (rw c.in-Some.is at c.subcommand.ensures.rows) in
     let file : first_of (codes "FILE") (rows_of (found_of inner)) ≡ Some (string_bytes c.in_ok-file.file) =
     sym (first_value-rows (found_of inner) (codes "FILE")) ∙ (sym (rw c.in-Some-get_str.is at c.get_str.ensures) ∙ ap Some (sym c.in_ok-file.ensures.ok)) in
-    (rows_of (found_of inner), entered ∙ rw c.in-Some-verb_of.ensures refl, file)
+    (rows_of (found_of inner), entered ∙ rw c.in-Some-action_of.ensures refl, file)
 
-pub returns-in_default-verb_of-clause-refused : goal.returns-in_default-verb_of-clause-refused
-returns-in_default-verb_of-clause-refused c = λ asked named.
+pub returns-in_default-action_of-clause-refused : goal.returns-in_default-action_of-clause-refused
+returns-in_default-action_of-clause-refused c = λ asked named.
     let entered : subcommand_rows_of c.args.matches.now ≡ Some (c.in-Some.name.now, rows_of (found_of c.in-Some.inner.now)) =
     both_are _ _ _ _ _ (rw c.in-Some.is at c.subcommand.ensures.name) (rw c.in-Some.is at c.subcommand.ensures.rows) in
-    absurd (c.in_default-verb_of.ensures asked.verb (sym (same_name _ _ (sym entered ∙ named.1))))
+    absurd (c.in_default-action_of.ensures asked.action (sym (same_name _ _ (sym entered ∙ named.1))))
 
 pub returns-in_default-get_str-clause-refused : goal.returns-in_default-get_str-clause-refused
 returns-in_default-get_str-clause-refused c = λ asked named.

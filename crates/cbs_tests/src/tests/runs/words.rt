@@ -1,7 +1,7 @@
 //! Command lines.
 
 use super::same;
-use cbs_run::{Verb, WordsFault, read_words};
+use cbs_run::{Action, Verb, WordsFault, read_words};
 use std::alloc::Global;
 use std::process::Abort;
 
@@ -16,11 +16,11 @@ fn words(rt: &impl Abort, alloc: Global, line: &str) -> Vec<String> {
 }
 
 /// Ends the test where a command line asks for something else.
-fn asks(rt: &impl Abort, alloc: Global, line: &str, verb: Verb, file: &str) {
+fn asks(rt: &impl Abort, alloc: Global, line: &str, action: Action, file: &str) {
     let asked = read_words(alloc, words(rt, alloc, line))
         .ok()
         .expect(rt, line);
-    same(rt, line, (asked.verb, asked.file.as_str()), (verb, file));
+    same(rt, line, (asked.action, asked.file.as_str()), (action, file));
 }
 
 /// The text of a command line's fault. Ends the test where the fault has another number or name.
@@ -44,11 +44,17 @@ fn refuses(rt: &impl Abort, alloc: Global, line: &str, number: u8, name: &str) {
 #[test]
 fn a_verb_and_a_file_are_wanted(rt: HostRuntime) {
     let alloc = rt.alloc();
-    asks(&rt, alloc, "cbsrun replay a.toml", Verb::Replay, "a.toml");
-    asks(&rt, alloc, "cbsrun serve a.toml", Verb::Serve, "a.toml");
+    for (line, action) in &[
+        ("cbsrun simulate a.toml", Action::Simulate),
+        ("cbsrun replay a.toml", Action::Run(Verb::Replay)),
+        ("cbsrun serve a.toml", Action::Run(Verb::Serve)),
+    ] {
+        asks(&rt, alloc, line, *action, "a.toml");
+    }
     for line in &[
         "",
         "cbsrun",
+        "cbsrun simulate",
         "cbsrun replay",
         "cbsrun serve",
         "cbsrun replay a.toml b.toml",
@@ -62,6 +68,7 @@ fn a_verb_and_a_file_are_wanted(rt: HostRuntime) {
         "cbsrun --help",
         "cbsrun -h",
         "cbsrun help",
+        "cbsrun simulate --help",
         "cbsrun replay --help",
         "cbsrun serve --help",
     ] {

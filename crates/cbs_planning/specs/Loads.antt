@@ -1,0 +1,63 @@
+-- What comes of a load.
+use Rattle.std.specs.Prelude.{◌≡◌, ℕ, ◌<◌, eqb, min, max, if◌then◌else◌, List, [], ◌∷◌, get_or, length, map, sum_by, slice_get, string_bytes, Option, Some, None}
+use Rattle.cbs_load.specs.Loads.{LoadFile}
+use Rattle.cbs_rate.specs.Plan.{common_multiple, share}
+use Rattle.cbs_report.specs.Figures.{AreFigures, steps_of, told, total}
+use Rattle.cbs_report.specs.Tallies.{ticks_idle}
+use Rattle.cbs_simulate.specs.Bounds.{Bounds}
+use Rattle.cbs_simulate.specs.Drawing.{released_by_all}
+use Rattle.cbs_simulate.specs.Loading.{loading, job_of}
+use Rattle.cbs_simulate.specs.Merging.{merged}
+use Rattle.cbs_simulate.specs.Moves.{Simulation, moves_of}
+use Rattle.cbs_simulate.specs.Shown.{Sight, shown}
+use Rattle.cbs_simulate.specs.declared.load_job.LoadJob.{LoadJob}
+use Rattle.cbs_simulate.specs.declared.terms.SourceTerms.{SourceTerms}
+use Rattle.cbs_steps.specs.Setups.{terms_of}
+use Rattle.cbs_print.specs.declared.report.RunReport.{RunReport}
+use Rattle.cbs_print.specs.declared.report.ServerReport.{ServerReport}
+use Rattle.cbs_views.specs.declared.seen.Seen.{Seen}
+use Rattle.cbs_planning.specs.Sights.{seen_of}
+
+-- the start of a load: no step is made, and all that its sources release comes
+abbrev pub start_of : LoadFile → Simulation LoadJob
+start_of f = record {
+  history = record { setup = record { servers = terms_of f.modes f.plan.rates; backlog = f.backlog }; steps = [] };
+  coming = merged (released_by_all 0 f.sources f.until f.seed);
+  owing = None;
+}
+
+-- within how many ticks the jobs of each source are to be finished
+abbrev pub withins : LoadFile → List (Option ℕ)
+withins f = map (λ t. t.within) f.sources
+
+-- the steps of a load, as they are seen, the newest first
+abbrev pub seen_in : LoadFile → List Seen
+seen_in f = map (seen_of (withins f)) (shown loading job_of (start_of f) (moves_of loading job_of f.until (start_of f)) [])
+
+-- a range that also has one number more, if there is one
+abbrev pub widened : Option ℕ → Option Bounds → Option Bounds
+widened None b = b
+widened (Some n) None = Some (record { least = n; greatest = n })
+widened (Some n) (Some b) = Some (record { least = min n b.least; greatest = max n b.greatest })
+
+-- within how many ticks the jobs of the sources of server s are to be finished: from the least to the greatest
+abbrev pub within_of : ℕ → List SourceTerms → Option Bounds
+within_of s [] = None
+within_of s (t ∷ ts) = if eqb t.server s then widened t.within (within_of s ts) else within_of s ts
+
+-- the report of server s of a load
+pub record IsServerReport (f : LoadFile) (s : ℕ) (r : ServerReport) : Type 0 where
+  pub name : Some (string_bytes r.name) ≡ slice_get f.names s
+  pub reservation : Some r.reservation ≡ slice_get f.plan.rates s
+  pub within : r.within ≡ within_of s f.sources
+  pub figures : AreFigures r.reservation.budget f.until (steps_of s (seen_in f)) r.figures
+
+-- the report of a load with a name
+pub record IsReportOf (file : List ℕ) (f : LoadFile) (r : RunReport) : Type 0 where
+  pub file : string_bytes r.file ≡ file
+  pub clock : r.clock ≡ f.until
+  pub idle : r.idle ≡ told (total (λ o. ticks_idle o.event) (seen_in f))
+  pub backlog : r.backlog ≡ f.backlog
+  pub reserved : r.reserved ≡ record { ticks = sum_by (share (common_multiple f.plan.rates)) f.plan.rates; of = common_multiple f.plan.rates }
+  pub count : length r.servers.items ≡ length f.plan.rates
+  pub each : (s : ℕ) (server : ServerReport) → slice_get r.servers.items s ≡ Some server → IsServerReport f s server

@@ -1,0 +1,77 @@
+//! The report of a load.
+
+ghost use Rattle.std.specs.Prelude.{◌≡◌, ◌<◌, ℕ, IfOk, OnOk, length, slice_get, string_bytes, Some};
+ghost use Rattle.cbs_report.specs.Figures.{told, total};
+ghost use Rattle.cbs_report.specs.Reports.{AreAllFigures};
+ghost use Rattle.cbs_report.specs.Tallies.{ticks_idle};
+ghost use Rattle.cbs_planning.specs.Loads.{IsReportOf, IsServerReport, seen_in};
+
+use crate::watched::Watched;
+use crate::within::{by_source, within_of};
+use cbs_load::Load;
+use cbs_print::{RunReport, ServerReport};
+use cbs_report::{Figures, Report};
+use cbs_simulate::{load_of, simulate_plan};
+use std::alloc::{AllocError, Global};
+
+/// Simulates a load up to its end. Returns the figures of its servers, and the ticks in which nobody ran.
+fn simulated(alloc: Global, load: &Load) -> Result<(Vec<Figures>, u64), AllocError>
+    ensures figures { IfOk result (λ r. AreAllFigures (map (λ rate. rate.budget) load.now.plan.rates) load.now.until (seen_in load.now) r.0.items) }
+    ensures idle { IfOk result (λ r. r.1 ≡ told (total (λ o. ticks_idle o.event) (seen_in load.now))) }
+{
+    let mut releases = load_of(alloc, load.sources(), load.until(), load.seed())?;
+    let mut watched = Watched {
+        view: Report::new(alloc, load.plan())?,
+        within: by_source(alloc, load.sources())?,
+    };
+    let Ok(_core) = simulate_plan(
+        alloc,
+        load.plan(),
+        load.modes(),
+        load.backlog(),
+        &mut releases,
+        load.until(),
+        &mut watched,
+    ) else {
+        return Err(AllocError);
+    };
+    let idle = watched.view.idle();
+    let figures = watched.view.figures(alloc, load.until())?;
+    Ok((figures, idle))
+}
+
+/// Returns the report of one server of a load, with these figures.
+fn server_report(alloc: Global, load: &Load, server: u16, figures: Figures) -> Result<ServerReport, AllocError>
+    requires { server < length load.now.plan.rates }
+    ensures name { IfOk result (λ r. Some (string_bytes r.name) ≡ slice_get load.now.names server) }
+    ensures reservation { IfOk result (λ r. Some r.reservation ≡ slice_get load.now.plan.rates server) }
+    ensures within { IfOk result (λ r. r.within ≡ within_of server load.now.sources) }
+    ensures figures { IfOk result (λ r. r.figures ≡ figures) }
+{
+    let name = String::from_str(alloc, &load.names()[usize::from(server)])?;
+    Ok(ServerReport {
+        name,
+        reservation: load.plan().get(server).unwrap(),
+        within: within_of(server, load.sources()),
+        figures,
+    })
+}
+
+/// Simulates a load, and returns the report of that, with this name for its file. The only error is out of memory.
+pub fn report_of(alloc: Global, file: &str, load: &Load) -> Result<RunReport, AllocError>
+    ensures { IfOk result (IsReportOf file.now load.now) }
+{
+    let (figures, idle) = simulated(alloc, load)?;
+    let mut servers = Vec::with_capacity(alloc, figures.len())?;
+    for (server, figures) in figures.into_iter().enumerate() {
+        servers.push(server_report(alloc, load, server as u16, figures)?)?;
+    }
+    Ok(RunReport {
+        file: String::from_str(alloc, file)?,
+        clock: load.until(),
+        idle,
+        backlog: load.backlog(),
+        reserved: load.plan().bandwidth(),
+        servers,
+    })
+}

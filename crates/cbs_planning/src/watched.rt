@@ -1,0 +1,88 @@
+//! The moments of a simulation, as steps that a view sees.
+
+ghost use Rattle.std.specs.Prelude.{◌≡◌};
+ghost use Rattle.cbs_planning.specs.Sights.{arrival_of, event_seen, view_seen};
+
+use cbs_core::Core;
+use cbs_simulate::{Event as Happening, LoadJob, Moment, Release, Watcher};
+use cbs_steps::ServerView;
+use cbs_views::{Arrival, Event, Seen, View};
+use std::alloc::{AllocError, Allocator};
+
+/// A view of a simulation, and within how many ticks the jobs of each source are to be finished.
+#[derive(Drop)]
+pub struct Watched<V: View> {
+    /// The view.
+    pub view: V,
+    /// The ticks by source, if they are wanted.
+    pub within: Vec<Option<u64>>,
+}
+
+/// Returns what is known of the job of a release.
+fn arrival_of(within: &[Option<u64>], release: Release) -> Arrival
+    ensures { result ≡ arrival_of within.now release }
+{
+    Arrival {
+        server: release.server,
+        came: release.tick,
+        units: release.units,
+        within: within.get(usize::from(release.source)).copied().flatten(),
+    }
+}
+
+/// Returns what a move did, as a step.
+fn event_seen(within: &[Option<u64>], event: Happening) -> Event
+    ensures { result ≡ event_seen within.now event }
+{
+    match event {
+        Happening::Submitted {
+            release,
+            answer: Ok(number),
+            promised,
+        } => Event::Accepted {
+            job: arrival_of(within, release),
+            number,
+            promised,
+        },
+        Happening::Submitted {
+            release,
+            answer: Err(error),
+            ..
+        } => Event::NotAccepted {
+            job: arrival_of(within, release),
+            error,
+        },
+        Happening::Ran(ran) => Event::Ran(ran),
+        Happening::Passed(ticks) => Event::Advanced(ticks),
+        Happening::Charged { server, ticks } => Event::Charged { server, ticks },
+    }
+}
+
+/// Returns what the server of a step shows, if there is one.
+fn view_seen<A: Allocator>(core: &Core<LoadJob, A>, event: &Event) -> Option<ServerView>
+    ensures { result ≡ view_seen core.now.faces event.now }
+{
+    let server = event.server()?;
+    core.view(server).ok()
+}
+
+impl<V: View> Watcher for Watched<V> {
+    ghost use Rattle.std.specs.Prelude.{map};
+    ghost use Rattle.cbs_planning.specs.Sights.{seen_of};
+
+    ghost saw = { λ first now sights. (now.within ≡ first.within) × V.saw first.view now.view (map (seen_of first.within.items) sights) };
+
+    fn see<A: Allocator>(
+        &mut self,
+        moment: Moment,
+        core: &Core<LoadJob, A>,
+    ) -> Result<(), AllocError> {
+        let event = event_seen(&self.within, moment.event);
+        let view = view_seen(core, &event);
+        self.view.see(Seen {
+            clock: moment.clock,
+            event,
+            view,
+        })
+    }
+}

@@ -1,0 +1,45 @@
+//! Within how many ticks jobs are to be finished.
+
+ghost use Rattle.std.specs.Prelude.{◌≡◌, IfOk, map};
+ghost use Rattle.cbs_planning.specs.Loads.{widened, within_of};
+
+use cbs_simulate::{Range, SourceTerms};
+use std::alloc::{AllocError, Global};
+
+/// Returns a range that also has one number more, if there is one.
+fn widened(number: Option<u64>, range: Option<Range>) -> Option<Range>
+    ensures { result ≡ widened number range }
+{
+    let Some(number) = number else {
+        return range;
+    };
+    match range {
+        Some(range) => Range::new(range.least().min(number), range.greatest().max(number)),
+        None => Some(Range::fixed(number)),
+    }
+}
+
+/// Returns within how many ticks the jobs of a server's sources are to be finished, from the least to the greatest, or `None` if
+/// it has no source.
+pub(crate) fn within_of(server: u16, sources: &[SourceTerms]) -> Option<Range>
+    ensures { result ≡ within_of server sources.now }
+{
+    let mut range = None;
+    for source in sources.iter().rev() {
+        if source.server == server {
+            range = widened(source.within, range);
+        }
+    }
+    range
+}
+
+/// Returns within how many ticks the jobs of each source are to be finished.
+pub(crate) fn by_source(alloc: Global, sources: &[SourceTerms]) -> Result<Vec<Option<u64>>, AllocError>
+    ensures { IfOk result (λ within. within.items ≡ map (λ t. t.within) sources.now) }
+{
+    let mut within = Vec::with_capacity(alloc, sources.len())?;
+    for source in sources {
+        within.push(source.within)?;
+    }
+    Ok(within)
+}

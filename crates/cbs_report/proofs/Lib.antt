@@ -1,0 +1,4 @@
+mod Jobs
+mod Ranks
+mod Reports
+mod Sums

@@ -1,0 +1,181 @@
+//! The figures of steps by hand.
+
+use crate::{Figures, Ranks, Report};
+use cbs_job::Completion;
+use cbs_rate::{Bound, Plan, Reservation};
+use cbs_steps::{CoreError, Ran, ServerView};
+use cbs_views::{Arrival, Event, Seen, View};
+use std::alloc::Global;
+use std::process::Abort;
+
+/// A plan of servers with these budgets and periods.
+fn plan_of(rt: &impl Abort, servers: &[(u64, u64)]) -> Plan {
+    let mut plan = Plan::new(Bound::new(1, 1).ok().expect(rt, "bound"));
+    for (budget, period) in servers {
+        let reservation = Reservation::new(*budget, *period)
+            .ok()
+            .expect(rt, "reservation");
+        plan.admit(reservation).ok().expect(rt, "admitted");
+    }
+    plan
+}
+
+/// What a server shows.
+fn view(budget: u64, deadline: u128, throttled: bool, accepted: u64, finished: u64) -> Option<ServerView> {
+    Some(ServerView {
+        budget,
+        deadline,
+        throttled,
+        closed: false,
+        accepted,
+        finished,
+    })
+}
+
+/// A job that comes.
+fn job(server: u16, came: u64, units: u32, within: Option<u64>) -> Arrival {
+    Arrival {
+        server,
+        came,
+        units,
+        within,
+    }
+}
+
+/// A job that is accepted.
+fn accepted(job: Arrival, number: u64, promised: u128) -> Event {
+    Event::Accepted {
+        job,
+        number,
+        promised: Some(promised),
+    }
+}
+
+/// A unit that is not its job's last.
+fn unit(server: u16, seq: u64) -> Event {
+    Event::Ran(Ran::Unit { server, seq })
+}
+
+/// A unit that is its job's last.
+fn last(server: u16, seq: u64) -> Event {
+    Event::Ran(Ran::Done(Completion {
+        server,
+        seq,
+        result: 0,
+    }))
+}
+
+/// The figures of the servers of a plan up to a tick, after these steps, and the ticks in which nobody ran.
+fn figures_of(
+    rt: &impl Abort,
+    alloc: Global,
+    plan: &Plan,
+    steps: &[(u64, Event, Option<ServerView>)],
+    now: u64,
+) -> (Vec<Figures>, u64) {
+    let mut report = Report::new(alloc, plan).ok().expect(rt, "memory");
+    for (clock, event, view) in steps {
+        let seen = Seen {
+            clock: *clock,
+            event: *event,
+            view: *view,
+        };
+        report.see(seen).ok().expect(rt, "memory");
+    }
+    let idle = report.idle();
+    let figures = report.figures(alloc, now).ok().expect(rt, "memory");
+    (figures, idle)
+}
+
+#[test]
+fn a_late_job_a_refused_one_and_a_charge_are_told(rt: HostRuntime) {
+    let alloc = rt.alloc();
+    let steps = [
+        (0, accepted(job(0, 0, 3, Some(5)), 0, 10), view(2, 5, false, 1, 0)),
+        (1, unit(0, 0), view(1, 5, false, 1, 0)),
+        (2, unit(0, 0), view(2, 10, false, 1, 0)),
+        (
+            2,
+            Event::NotAccepted {
+                job: job(0, 2, 4, Some(5)),
+                error: CoreError::BacklogFull,
+            },
+            view(2, 10, false, 1, 0),
+        ),
+        (5, Event::Charged { server: 0, ticks: 3 }, view(1, 15, false, 1, 0)),
+        (6, last(0, 0), view(2, 20, false, 1, 1)),
+        (10, Event::Advanced(4), None),
+        (10, accepted(job(0, 10, 1, Some(2)), 1, 20), view(2, 15, false, 2, 1)),
+    ];
+    let (figures, idle) = figures_of(&rt, alloc, &plan_of(&rt, &[(2, 5)]), &steps, 12);
+    assert!(rt; idle == 4);
+    assert!(rt; figures.len() == 1);
+    assert!(rt; figures[0] == Figures {
+        refused: 1,
+        finished: 1,
+        unfinished: 1,
+        late_finished: 1,
+        late_unfinished: 1,
+        greatest_backlog: 1,
+        asked: 8,
+        run: 3,
+        used_up: 2,
+        throttled: 0,
+        charged: 3,
+        greatest_charge: 3,
+        responses: Some(Ranks { least: 6, median: 6, p95: 6, p99: 6, greatest: 6 }),
+        response_total: 6,
+        early_count: 1,
+        early_total: 4,
+        early_least: Some(4),
+    });
+}
+
+#[test]
+fn a_throttled_server_waits_until_its_deadline_or_the_end(rt: HostRuntime) {
+    let alloc = rt.alloc();
+    let steps = [
+        (0, accepted(job(1, 0, 3, None), 0, 12), view(1, 4, false, 1, 0)),
+        (1, unit(1, 0), view(0, 4, true, 1, 0)),
+        (2, accepted(job(1, 2, 1, None), 1, 16), view(0, 4, true, 2, 0)),
+        (4, Event::Advanced(2), None),
+        (5, unit(1, 0), view(0, 8, true, 2, 0)),
+    ];
+    let (figures, idle) = figures_of(&rt, alloc, &plan_of(&rt, &[(1, 2), (1, 4)]), &steps, 6);
+    assert!(rt; idle == 2);
+    assert!(rt; figures[0].responses == None);
+    assert!(rt; figures[1].throttled == 4);
+    assert!(rt; figures[1].used_up == 2);
+    assert!(rt; figures[1].greatest_backlog == 2);
+    assert!(rt; figures[1].unfinished == 2);
+    assert!(rt; figures[1].late_unfinished == 0);
+    assert!(rt; figures[1].early_least == None);
+}
+
+#[test]
+fn percentiles_are_by_nearest_rank(rt: HostRuntime) {
+    let alloc = rt.alloc();
+    let mut report = Report::new(alloc, &plan_of(&rt, &[(1, 1)])).ok().expect(&rt, "memory");
+    // 150 jobs that take 150, 149, .. 1 ticks, each finished at tick 150.
+    for number in 0..150 {
+        let came = job(0, number, 1, None);
+        for event in [accepted(came, number, 200), last(0, number)] {
+            let seen = Seen {
+                clock: 150,
+                event,
+                view: None,
+            };
+            report.see(seen).ok().expect(&rt, "memory");
+        }
+    }
+    let figures = report.figures(alloc, 150).ok().expect(&rt, "memory");
+    assert!(rt; figures[0].responses == Some(Ranks {
+        least: 1,
+        median: 75,
+        p95: 143,
+        p99: 149,
+        greatest: 150,
+    }));
+    assert!(rt; figures[0].response_total == 11325);
+    assert!(rt; figures[0].early_total == 7500);
+}
