@@ -1,5 +1,5 @@
 -- The figures of one server: functions of its steps, the newest first.
-use Rattle.std.specs.Prelude.{◌≡◌, ℕ, ◌+◌, ◌-◌, Bool, true, false, ◌&&◌, ◌||◌, eqb, leb, ltb, min, max, if◌then◌else◌, List, [], ◌∷◌, ◌++◌, length, map, drop, flat_map, Option, Some, None, MatchOption}
+use Rattle.std.specs.Prelude.{◌≡◌, ℕ, ◌+◌, ◌-◌, Bool, true, false, ◌&&◌, ◌||◌, eqb, leb, ltb, min, max, if◌then◌else◌, List, [], ◌∷◌, ◌++◌, length, map, drop, filter, flat_map, Option, Some, None, MatchOption}
 use Rattle.std.specs.List.{All}
 use Rattle.cbs_steps.specs.declared.reply.Ran.{Ran}
 use Rattle.cbs_steps.specs.declared.reply.Ran.TheVariants as ran
@@ -152,10 +152,13 @@ late_among (f ∷ fs) = one_if (exceeds (response f) f.job.within) + late_among 
 abbrev pub late : List Seen → ℕ
 late own = late_among (finished own)
 
--- how many of the jobs that wait at `now` are late already
+-- a job that waits at `now` is late already
+abbrev pub is_overdue : ℕ → AcceptedJob → Bool
+is_overdue now job = uses (now - job.came) job.within
+
+-- how many of the jobs that wait at `now` are
 abbrev pub overdue : ℕ → List AcceptedJob → ℕ
-overdue now [] = 0
-overdue now (job ∷ jobs) = one_if (uses (now - job.came) job.within) + overdue now jobs
+overdue now jobs = length (filter (is_overdue now) jobs)
 
 -- how much earlier than promised a job was finished, if something was promised
 abbrev pub early_by : ℕ → Option ℕ → List ℕ

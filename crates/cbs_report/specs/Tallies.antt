@@ -1,5 +1,5 @@
 -- What a report keeps of the steps of one server, the newest first, and what one step more makes of it. For the code alone.
-use Rattle.std.specs.Prelude.{◌≡◌, ◌≢◌, ℕ, ◌+◌, ◌-◌, ◌<◌, Bool, max, if◌then◌else◌, List, [], ◌∷◌, ◌++◌, length, drop, get_or, flat_map, map, slice_get, Option, Some, None}
+use Rattle.std.specs.Prelude.{◌≡◌, ◌≢◌, ℕ, ◌+◌, ◌-◌, ◌<◌, ◌&&◌, ltb, max, min, if◌then◌else◌, List, [], ◌∷◌, ◌++◌, length, drop, get_or, flat_map, map, slice_get, Option, Some, None}
 use Rattle.cbs_rate.specs.Rate.{Rate}
 use Rattle.cbs_steps.specs.declared.reply.Ran.{Ran}
 use Rattle.cbs_steps.specs.declared.reply.Ran.TheVariants as ran
@@ -8,11 +8,11 @@ use Rattle.cbs_views.specs.Events.{begun, ticks_of_run}
 use Rattle.cbs_views.specs.declared.seen.Event.{Event}
 use Rattle.cbs_views.specs.declared.seen.Event.TheVariants as event
 use Rattle.cbs_views.specs.declared.seen.Seen.{Seen}
-use Rattle.cbs_report.specs.Figures.{steps_of, told, told_sum, total, greatest, refusals, units_asked, units_run, is_used_up, units_exhausting, ticks_charged, waited, throttled}
+use Rattle.cbs_report.specs.Figures.{steps_of, told, told_sum, total, greatest, refusals, units_asked, units_run, is_used_up, units_exhausting, ticks_charged, throttled}
 use Rattle.cbs_report.specs.Figures.{accepted_job, waiting_after, waiting, greatest_backlog, Finish, finished, response, responses, exceeds, one_if, late_among, late, early_by, earliness, sum_of, least_of, lesser}
 use Rattle.cbs_report.specs.declared.early.Early.{Early}
 use Rattle.cbs_report.specs.declared.held.Held.{Held}
-use Rattle.cbs_report.specs.declared.held.Showing.{Showing}
+use Rattle.cbs_report.specs.declared.held.Wait.{Wait}
 use Rattle.cbs_report.specs.declared.job.AcceptedJob.{AcceptedJob}
 use Rattle.cbs_report.specs.declared.sums.Sums.{Sums}
 
@@ -42,15 +42,24 @@ sums_after budget (event.Ran r) v s = sums_with budget r v s
 sums_after budget (event.Charged server n) v s = record s { charged = told (s.charged + n); greatest_charge = max s.greatest_charge n }
 sums_after budget _ v s = s
 
--- the ticks in which the server was throttled with a job, up to its last step; and what it showed after that
-abbrev pub held_of : List Seen → Held
-held_of [] = record { ticks = 0; last = None }
-held_of (o ∷ own) = record { ticks = told (throttled (begun o) own); last = Some (record { clock = o.clock; view = o.view }) }
+-- whether a server that shows this at a tick waits from there on, throttled and with a job
+abbrev pub wait_of : ℕ → Option ServerView → Option Wait
+wait_of clock None = None
+wait_of clock (Some v) = if v.throttled && ltb v.finished v.accepted then Some (record { since = clock; deadline = v.deadline }) else None
 
--- how long it waits after its last step, up to a tick
-abbrev pub waited_since : Option Showing → ℕ → ℕ
+-- how many ticks it waits up to a tick
+abbrev pub waited_since : Option Wait → ℕ → ℕ
 waited_since None to = 0
-waited_since (Some last) to = waited last.view last.clock to
+waited_since (Some w) to = min w.deadline to - w.since
+
+-- the ticks in which the server was throttled with a job, up to its last step; and whether it waits after that
+abbrev pub held_of : List Seen → Held
+held_of [] = record { ticks = 0; wait = None }
+held_of (o ∷ own) = record { ticks = told (throttled (begun o) own); wait = wait_of o.clock o.view }
+
+-- a step more, that began at a tick and left the clock at another
+abbrev pub held_with : ℕ → ℕ → Option ServerView → Held → Held
+held_with begun clock v h = record { ticks = told (h.ticks + waited_since h.wait begun); wait = wait_of clock v }
 
 -- what is summed up of how much earlier than promised jobs were finished
 abbrev pub early_of : List ℕ → Early

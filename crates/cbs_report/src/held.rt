@@ -1,18 +1,18 @@
 //! How long a server is throttled and has a job.
 
 ghost use Rattle.std.specs.Prelude.{◌≡◌, []};
-ghost use Rattle.cbs_report.specs.Figures.{told, waited};
-ghost use Rattle.cbs_report.specs.Tallies.{held_of, waited_since};
+ghost use Rattle.cbs_report.specs.Figures.{told};
+ghost use Rattle.cbs_report.specs.Tallies.{held_of, held_with, wait_of, waited_since};
 
 use cbs_steps::ServerView;
 
-/// What a server showed after a step of its own.
+/// A throttled server with a job.
 #[derive(Clone, Copy, Debug, PartialEq, Eq)]
-pub struct Showing {
-    /// The clock then.
-    pub clock: u64,
-    /// What it showed.
-    pub view: Option<ServerView>,
+pub struct Wait {
+    /// The clock after its last step.
+    pub since: u64,
+    /// The tick at which it is replenished.
+    pub deadline: u128,
 }
 
 /// The ticks in which a server was throttled and had a job.
@@ -20,21 +20,22 @@ pub struct Showing {
 pub struct Held {
     /// Those up to its last step.
     pub ticks: u64,
-    /// What it showed after its last step, if there was one.
-    pub last: Option<Showing>,
+    /// Whether it waits after that.
+    pub wait: Option<Wait>,
 }
 
-/// Returns how many ticks a server that shows this from a tick on waits, up to another.
-fn waited(view: Option<ServerView>, from: u64, to: u64) -> u64
-    ensures { result ≡ waited view from to }
+/// Returns whether a server that shows this at a tick waits from there on.
+fn wait_of(clock: u64, view: Option<ServerView>) -> Option<Wait>
+    ensures { result ≡ wait_of clock view }
 {
-    match view {
-        Some(view) if view.throttled && view.finished < view.accepted => {
-            let end = view.deadline.min(u128::from(to));
-            end.saturating_sub(u128::from(from)) as u64
-        }
-        _ => 0,
+    let view = view?;
+    if view.throttled && view.finished < view.accepted {
+        return Some(Wait {
+            since: clock,
+            deadline: view.deadline,
+        });
     }
+    None
 }
 
 impl Held {
@@ -44,25 +45,26 @@ impl Held {
     {
         Held {
             ticks: 0,
-            last: None,
+            wait: None,
         }
     }
 
     /// Returns the ticks up to `now`.
     pub fn until(&self, now: u64) -> u64
-        ensures { result ≡ told (self.now.ticks + waited_since self.now.last now) }
+        ensures { result ≡ told (self.now.ticks + waited_since self.now.wait now) }
     {
-        match self.last {
-            Some(last) => self.ticks.saturating_add(waited(last.view, last.clock, now)),
-            None => self.ticks,
-        }
+        let Some(wait) = self.wait else {
+            return self.ticks;
+        };
+        let end = wait.deadline.min(u128::from(now)) as u64;
+        self.ticks.saturating_add(end.saturating_sub(wait.since))
     }
 
     /// Adds the ticks up to a step that began at a tick, and after which the server shows this.
     pub fn add(&mut self, begun: u64, clock: u64, view: Option<ServerView>)
-        ensures { self.new ≡ record { ticks = told (self.old.ticks + waited_since self.old.last begun); last = Some (record { clock = clock; view = view }) } }
+        ensures { self.new ≡ held_with begun clock view self.old }
     {
         self.ticks = self.until(begun);
-        self.last = Some(Showing { clock, view });
+        self.wait = wait_of(clock, view);
     }
 }

@@ -124,11 +124,8 @@ impl<A: Allocator> JobTally<A> {
     fn overdue(&self, now: u64) -> u64
         ensures { result ≡ overdue now self.now.waiting }
     {
-        let mut late = 0;
-        for job in &self.waiting {
-            late += u64::from(uses(job.age(now), job.within));
-        }
-        late
+        let late = self.waiting.iter().filter(|job| uses(job.age(now), job.within));
+        late.count() as u64
     }
 
     /// Returns the figures up to `now`, with these sums and so many ticks in which the server was throttled and had a job. The

@@ -1,7 +1,7 @@
 //! Ranks among numbers.
 
-ghost use Rattle.std.specs.Prelude.{◌≡◌, ◌≤◌, ◌<◌, [], length, IsPermutation, IsSorted, MatchOption};
-ghost use Rattle.std.specs.Ordering.{nat_cmp};
+ghost use Rattle.std.specs.Prelude.{◌≡◌, ◌≤◌, ◌<◌, [], length, IsPermutation, MatchOption};
+ghost use Rattle.std.specs.List.Sorted.{IsNonDecreasing};
 ghost use Rattle.cbs_report.specs.Percentiles.{IsPercentile, AreRanks};
 
 use crate::figures::Ranks;
@@ -9,7 +9,7 @@ use std::alloc::Allocator;
 
 /// Returns a percentile of numbers in ascending order, by nearest rank.
 fn percentile(sorted: &[u64], percent: u8) -> u64
-    requires order { IsSorted nat_cmp sorted.now }
+    requires order { IsNonDecreasing sorted.now }
     requires numbers { 0 < length sorted.now }
     requires some { 0 < percent }
     requires most { percent ≤ 100 }

@@ -4,7 +4,7 @@ ghost use Rattle.std.specs.Prelude.{◌≡◌, ℕ, List, [], IfOk, OnOk, length
 ghost use Rattle.cbs_views.specs.declared.seen.Seen.{Seen};
 ghost use Rattle.cbs_report.specs.Figures.{told, total};
 ghost use Rattle.cbs_report.specs.Reports.{AreAllFigures};
-ghost use Rattle.cbs_report.specs.Tallies.{AddsStep, HasSeen, budgets};
+ghost use Rattle.cbs_report.specs.Tallies.{AddsStep, HasSeen, Reported, budgets, ticks_idle};
 
 use crate::figures::Figures;
 use crate::tally::Tally;
@@ -38,21 +38,19 @@ impl<A: Allocator + Clone> Report<A> {
     {
         let mut tallies = Vec::with_capacity(alloc.clone()?, plan.len())?;
         for server in 0..plan.len() as u16 {
-            let Some(reservation) = plan.get(server) else {
-                break;
-            };
+            let reservation = plan.get(server).unwrap();
             tallies.push(Tally::new(alloc.clone()?, reservation.budget())?)?;
         }
         Ok(Report { tallies, idle: 0 })
     }
 
     /// Returns the figures of each server up to `now`, by number.
-    pub fn figures(&mut self, alloc: A, now: u64) -> Result<Vec<Figures, A>, AllocError>
-        ensures { IfOk result (λ figures. (first : Reported) (seen : List Seen) → HasSeen first self.old seen
+    pub fn figures(self, alloc: A, now: u64) -> Result<Vec<Figures, A>, AllocError>
+        ensures { IfOk result (λ figures. (first : Reported) (seen : List Seen) → HasSeen first self seen
             → AreAllFigures (budgets first) now seen figures.items) }
     {
         let mut figures = Vec::with_capacity(alloc, self.tallies.len())?;
-        for tally in &mut self.tallies {
+        for mut tally in self.tallies {
             figures.push(tally.figures(now))?;
         }
         Ok(figures)

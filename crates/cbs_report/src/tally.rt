@@ -48,7 +48,8 @@ impl<A: Allocator + Clone> Tally<A> {
 impl<A: Allocator> Tally<A> {
     /// Adds a step of the server.
     pub fn add(&mut self, seen: Seen) -> Result<(), AllocError>
-        ensures { OnOk result ((own : List Seen) → self.old ≡ kept_of self.old.budget own → self.new ≡ kept_of self.old.budget (seen ∷ own)) }
+        ensures adds { OnOk result ((own : List Seen) → self.old ≡ kept_of self.old.budget own → self.new ≡ kept_of self.old.budget (seen ∷ own)) }
+        ensures budget { OnOk result (self.new.budget ≡ self.old.budget) }
     {
         self.sums.add(self.budget, seen.event, seen.view);
         self.held.add(seen.begun(), seen.clock, seen.view);
