@@ -1,4 +1,5 @@
-mod Jobs
-mod Ranks
-mod Reports
-mod Sums
+mod JobSteps
+mod Ranking
+mod ReportSteps
+mod SumSteps
+mod Telling

@@ -8,9 +8,10 @@ use Rattle.cbs_views.specs.Events.{begun, ticks_of_run}
 use Rattle.cbs_views.specs.declared.seen.Event.{Event}
 use Rattle.cbs_views.specs.declared.seen.Event.TheVariants as event
 use Rattle.cbs_views.specs.declared.seen.Seen.{Seen}
-use Rattle.cbs_report.specs.Figures.{steps_of, told, told_sum, total, greatest, refusals, units_asked, units_run, is_used_up, units_exhausting, ticks_charged, throttled}
+use Rattle.cbs_report.specs.Figures.{AreFigures, steps_of, told, told_sum, total, greatest, refusals, units_asked, units_run, is_used_up, units_exhausting, ticks_charged, throttled}
 use Rattle.cbs_report.specs.Figures.{accepted_job, waiting_after, waiting, greatest_backlog, Finish, finished, response, responses, exceeds, one_if, late_among, late, early_by, earliness, sum_of, least_of, lesser}
 use Rattle.cbs_report.specs.declared.early.Early.{Early}
+use Rattle.cbs_report.specs.declared.figures.Figures.{Figures}
 use Rattle.cbs_report.specs.declared.held.Held.{Held}
 use Rattle.cbs_report.specs.declared.held.Wait.{Wait}
 use Rattle.cbs_report.specs.declared.job.AcceptedJob.{AcceptedJob}
@@ -142,6 +143,11 @@ pub record Reported : Type 0 where
   pub kept : List Kept
   pub idle : ℕ
 
+-- what a step that is of no server makes of it
+abbrev pub passed : Event → Reported → Reported
+passed (event.Advanced n) r = record r { idle = told (r.idle + n) }
+passed _ r = r
+
 -- the budgets of the servers
 abbrev pub budgets : Reported → List ℕ
 budgets r = map (λ k. k.budget) r.kept
@@ -162,3 +168,13 @@ pub record AddsStep (s : ℕ) (o : Seen) (old new : List Kept) : Type 0 where
       → kept_at new s ≡ kept_of (kept_at old s).budget (o ∷ own)
   pub others : (t : ℕ) → t ≢ s → kept_at new t ≡ kept_at old t
   pub budgets : map (λ k. k.budget) new ≡ map (λ k. k.budget) old
+
+-- these are the figures of that tally up to `now`, of whatever steps it is
+abbrev pub Tells : ℕ → Kept → Figures → Type 0
+Tells now k f = (own : List Seen) → k ≡ kept_of k.budget own → AreFigures k.budget now own f
+
+-- so it is of each tally and its figures
+abbrev pub TellAll : ℕ → List Kept → List Figures → Type 0
+TellAll now [] [] = Unit {0}
+TellAll now (k ∷ ks) (f ∷ fs) = Tells now k f × TellAll now ks fs
+TellAll now _ _ = ⊥

@@ -1,6 +1,6 @@
 //! How long a server is throttled and has a job.
 
-ghost use Rattle.std.specs.Prelude.{◌≡◌, []};
+ghost use Rattle.std.specs.Prelude.{◌≡◌, ◌+◌, []};
 ghost use Rattle.cbs_report.specs.Figures.{told};
 ghost use Rattle.cbs_report.specs.Tallies.{held_of, held_with, wait_of, waited_since};
 

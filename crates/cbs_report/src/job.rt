@@ -1,6 +1,6 @@
 //! Jobs that wait.
 
-use cbs_views::Arrival;
+ghost use Rattle.std.specs.Prelude.{◌≡◌, ◌-◌};
 
 /// An accepted job.
 #[derive(Clone, Copy, Debug, PartialEq, Eq)]

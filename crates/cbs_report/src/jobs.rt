@@ -130,9 +130,9 @@ impl<A: Allocator> JobTally<A> {
 
     /// Returns the figures up to `now`, with these sums and so many ticks in which the server was throttled and had a job. The
     /// response times are put into order.
-    pub fn figures(&mut self, now: u64, sums: &Sums, throttled: u64) -> Figures
+    pub fn figures(&mut self, now: u64, sums: &Sums, held: u64) -> Figures
         ensures { (budget : ℕ) (own : List Seen) → self.old ≡ jobs_of own → sums.now ≡ sums_of budget own
-            → throttled ≡ told (throttled now own) → AreFigures budget now own result }
+            → held ≡ told (throttled now own) → AreFigures budget now own result }
     {
         Figures {
             refused: sums.refused,
@@ -144,7 +144,7 @@ impl<A: Allocator> JobTally<A> {
             asked: sums.asked,
             run: sums.run,
             used_up: sums.used_up,
-            throttled,
+            throttled: held,
             charged: sums.charged,
             greatest_charge: sums.greatest_charge,
             response_total: self.response_total,

@@ -19,6 +19,21 @@ fn percentile(sorted: &[u64], percent: u8) -> u64
     sorted[rank - 1]
 }
 
+/// Returns the least of numbers in ascending order and their percentiles, or `None` if there are none.
+fn ranks_in(sorted: &[u64]) -> Option<Ranks>
+    requires { IsNonDecreasing sorted.now }
+    ensures { MatchOption result (sorted.now ≡ []) (AreRanks sorted.now) }
+{
+    let least = *sorted.first()?;
+    Some(Ranks {
+        least,
+        median: percentile(sorted, 50),
+        p95: percentile(sorted, 95),
+        p99: percentile(sorted, 99),
+        greatest: percentile(sorted, 100),
+    })
+}
+
 /// Returns the least of the numbers and their percentiles, or `None` if there are none. The numbers are put into ascending
 /// order.
 pub fn ranks_of<A: Allocator>(numbers: &mut Vec<u64, A>) -> Option<Ranks>
@@ -26,12 +41,5 @@ pub fn ranks_of<A: Allocator>(numbers: &mut Vec<u64, A>) -> Option<Ranks>
     ensures same { IsPermutation numbers.old.items numbers.new.items }
 {
     numbers.sort_unstable();
-    let least = *numbers.first()?;
-    Some(Ranks {
-        least,
-        median: percentile(numbers, 50),
-        p95: percentile(numbers, 95),
-        p99: percentile(numbers, 99),
-        greatest: percentile(numbers, 100),
-    })
+    ranks_in(numbers)
 }

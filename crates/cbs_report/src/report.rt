@@ -1,10 +1,10 @@
 //! The figures of all servers.
 
-ghost use Rattle.std.specs.Prelude.{◌≡◌, ℕ, List, [], IfOk, OnOk, length, map};
+ghost use Rattle.std.specs.Prelude.{◌≡◌, ℕ, ◌+◌, List, [], IfOk, OnOk, length, map};
 ghost use Rattle.cbs_views.specs.declared.seen.Seen.{Seen};
 ghost use Rattle.cbs_report.specs.Figures.{told, total};
 ghost use Rattle.cbs_report.specs.Reports.{AreAllFigures};
-ghost use Rattle.cbs_report.specs.Tallies.{AddsStep, HasSeen, Reported, budgets, ticks_idle};
+ghost use Rattle.cbs_report.specs.Tallies.{AddsStep, HasSeen, Reported, budgets, passed, ticks_idle};
 
 use crate::figures::Figures;
 use crate::tally::Tally;
@@ -70,18 +70,27 @@ impl<A: Allocator> Report<A> {
         ensures adds { OnOk result (AddsStep server seen self.old.kept self.new.kept) }
         ensures idle { OnOk result (self.new.idle ≡ self.old.idle) }
     {
-        match self.tallies.get_mut(usize::from(server)) {
-            Some(tally) => tally.add(seen),
-            None => Ok(()),
+        let index = usize::from(server);
+        if index >= self.tallies.len() {
+            return Ok(());
         }
+        self.tallies[index].add(seen)
     }
 
     /// Adds the ticks of a step in which nobody ran.
     fn pass(&mut self, event: Event)
-        ensures { self.new ≡ record self.old { idle = told (self.old.idle + ticks_idle event) } }
+        ensures { self.new ≡ passed event self.old }
     {
-        if let Event::Advanced(ticks) = event {
-            self.idle = self.idle.saturating_add(ticks);
+        match event {
+            Event::Advanced(ticks) => self.idle = self.idle.saturating_add(ticks),
+            Event::Accepted { .. }
+            | Event::NotAccepted { .. }
+            | Event::Ran(_)
+            | Event::NotAdvanced(..)
+            | Event::Closed(_)
+            | Event::NotClosed(..)
+            | Event::Charged { .. }
+            | Event::NotCharged { .. } => {}
         }
     }
 }

@@ -12,7 +12,7 @@ use Rattle.cbs_report.specs.Figures.{told, told_sum, waiting, greatest_backlog, 
 use Rattle.cbs_report.specs.Tallies.{Jobs, jobs_of, jobs_after, jobs_without, early_of, early_with}
 use Rattle.cbs_report.specs.declared.early.Early.{Early}
 use Rattle.cbs_report.specs.declared.job.AcceptedJob.{AcceptedJob}
-use Rattle.cbs_report.proofs.Sums.{told_more, told_sum_more}
+use Rattle.cbs_report.proofs.SumSteps.{told_more, told_sum_more}
 
 -- no backlog is over the greatest
 within_greatest : (own : List Seen) → length (waiting own) ≤ greatest_backlog own
@@ -63,7 +63,7 @@ no_job o own w f =
 
 -- a finished job more
 module _ (own : List Seen) (job : AcceptedJob) (now : ℕ) where
-  done : Finish
+  abbrev done : Finish
   done = record { job = job; at = now }
 
   responses_more : map response (finished own ++ done ∷ []) ≡ responses own ++ (now - job.came) ∷ []
@@ -81,15 +81,25 @@ module _ (own : List Seen) (job : AcceptedJob) (now : ℕ) where
       ∙ ap (λ ns. earliness (finished own) ++ ns) (append-nil (early_by now job.promised))
 
 -- the last unit of a job, by the jobs that waited
-done_step : (own : List Seen) (o : Seen) (jobs : List AcceptedJob) → waiting own ≡ jobs → waiting (o ∷ own) ≡ drop 1 jobs
-    → finished (o ∷ own) ≡ with_first o.clock jobs (finished own) → jobs_without o.clock (slice_get jobs 0) (jobs_of own) ≡ jobs_of (o ∷ own)
-done_step own o [] was w f = no_job o own (w ∙ sym was) f
+done_step : (own : List Seen) (o : Seen) (jobs : List AcceptedJob) → waiting own ≡ jobs → waiting (o ∷ own) ≡ drop 1 (waiting own)
+    → finished (o ∷ own) ≡ with_first o.clock (waiting own) (finished own)
+    → jobs_without o.clock (slice_get (waiting own) 0) (jobs_of own) ≡ jobs_of (o ∷ own)
+done_step own o [] was w f =
+    let none : slice_get (waiting own) 0 ≡ None = rw was refl in
+    let same : waiting (o ∷ own) ≡ waiting own = w ∙ (ap (drop 1) was ∙ sym was) in
+    let ends : finished (o ∷ own) ≡ finished own = f ∙ ap (λ js. with_first o.clock js (finished own)) was in
+    rw none (no_job o own same ends)
 done_step own o (job ∷ jobs) was w f =
-    let g : greatest_backlog (o ∷ own) ≡ greatest_backlog own =
-        rw w (same_greatest own (length jobs) (rw was (omega arith))) in
-    same_jobs _ _ (rw (was, w) refl) (rw f (sym (responses_more own job o.clock))) (rw f (total_more own job o.clock)) (sym g)
-    (rw f (lates_more own job o.clock))
-    (rw f (early_more (earliness (finished own)) job.promised o.clock ∙ ap early_of (sym (earliness_more own job o.clock))))
+    let first : slice_get (waiting own) 0 ≡ Some job = rw was refl in
+    let ends : finished (o ∷ own) ≡ finished own ++ done own job o.clock ∷ [] = f ∙ ap (λ js. with_first o.clock js (finished own)) was in
+    let less : length (waiting (o ∷ own)) ≤ length (waiting own) = let e = ap length w in omega (arith, length-drop 1 (waiting own)) in
+    let same : greatest_backlog (o ∷ own) ≡ greatest_backlog own = same_greatest own (length (waiting (o ∷ own))) less in
+    rw first (same_jobs (jobs_without o.clock (Some job) (jobs_of own)) (jobs_of (o ∷ own)) (sym w)
+    (sym (ap (map response) ends ∙ responses_more own job o.clock))
+    (total_more own job o.clock ∙ sym (ap (λ fs. told_sum (sum_of (map response fs))) ends)) (sym same)
+    (lates_more own job o.clock ∙ sym (ap (λ fs. told (late_among fs)) ends))
+    (early_more (earliness (finished own)) job.promised o.clock
+    ∙ sym (ap (λ fs. early_of (earliness fs)) ends ∙ ap early_of (earliness_more own job o.clock))))
 
 -- what is kept of the jobs with one step more
 jobs_step : (clock : ℕ) (e : Event) (v : Option ServerView) (own : List Seen)
@@ -97,16 +107,16 @@ jobs_step : (clock : ℕ) (e : Event) (v : Option ServerView) (own : List Seen)
 jobs_step clock (event.Accepted job number promised) v own = refl
 jobs_step clock (event.Ran (ran.Done c)) v own =
     done_step own (record { clock = clock; event = event.Ran (ran.Done c); view = v }) (waiting own) refl refl refl
-jobs_step clock (event.Ran ran.Idle) v own = no_job _ own refl refl
-jobs_step clock (event.Ran ran.ClockEnd) v own = no_job _ own refl refl
-jobs_step clock (event.Ran (ran.Unit s q)) v own = no_job _ own refl refl
-jobs_step clock (event.NotAccepted job error) v own = no_job _ own refl refl
-jobs_step clock (event.Advanced n) v own = no_job _ own refl refl
-jobs_step clock (event.NotAdvanced n error) v own = no_job _ own refl refl
-jobs_step clock (event.Closed s) v own = no_job _ own refl refl
-jobs_step clock (event.NotClosed s error) v own = no_job _ own refl refl
-jobs_step clock (event.Charged s n) v own = no_job _ own refl refl
-jobs_step clock (event.NotCharged s n error) v own = no_job _ own refl refl
+jobs_step clock (event.Ran ran.Idle) v own = no_job (record { clock = clock; event = event.Ran ran.Idle; view = v }) own refl refl
+jobs_step clock (event.Ran ran.ClockEnd) v own = no_job (record { clock = clock; event = event.Ran ran.ClockEnd; view = v }) own refl refl
+jobs_step clock (event.Ran (ran.Unit s q)) v own = no_job (record { clock = clock; event = event.Ran (ran.Unit s q); view = v }) own refl refl
+jobs_step clock (event.NotAccepted job error) v own = no_job (record { clock = clock; event = event.NotAccepted job error; view = v }) own refl refl
+jobs_step clock (event.Advanced n) v own = no_job (record { clock = clock; event = event.Advanced n; view = v }) own refl refl
+jobs_step clock (event.NotAdvanced n error) v own = no_job (record { clock = clock; event = event.NotAdvanced n error; view = v }) own refl refl
+jobs_step clock (event.Closed s) v own = no_job (record { clock = clock; event = event.Closed s; view = v }) own refl refl
+jobs_step clock (event.NotClosed s error) v own = no_job (record { clock = clock; event = event.NotClosed s error; view = v }) own refl refl
+jobs_step clock (event.Charged s n) v own = no_job (record { clock = clock; event = event.Charged s n; view = v }) own refl refl
+jobs_step clock (event.NotCharged s n error) v own = no_job (record { clock = clock; event = event.NotCharged s n error; view = v }) own refl refl
 
 pub jobs_seen : (o : Seen) (own : List Seen) → jobs_after o.clock o.event (jobs_of own) ≡ jobs_of (o ∷ own)
 jobs_seen o own = jobs_step o.clock o.event o.view own
