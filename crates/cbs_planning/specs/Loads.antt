@@ -53,8 +53,8 @@ pub record IsServerReport (f : LoadFile) (s : ℕ) (r : ServerReport) : Type 0 w
   pub figures : AreFigures r.reservation.budget f.until (steps_of s (seen_in f)) r.figures
 
 -- the report of a load with a name
-pub record IsReportOf (file : List ℕ) (f : LoadFile) (r : RunReport) : Type 0 where
-  pub file : string_bytes r.file ≡ file
+pub record IsReportOf (name : List ℕ) (f : LoadFile) (r : RunReport) : Type 0 where
+  pub file : string_bytes r.file ≡ name
   pub clock : r.clock ≡ f.until
   pub idle : r.idle ≡ told (total (λ o. ticks_idle o.event) (seen_in f))
   pub backlog : r.backlog ≡ f.backlog

@@ -1,10 +1,10 @@
 //! The report of a load.
 
-ghost use Rattle.std.specs.Prelude.{◌≡◌, ◌<◌, ℕ, IfOk, OnOk, length, slice_get, string_bytes, Some};
+ghost use Rattle.std.specs.Prelude.{◌≡◌, ◌<◌, ℕ, IfOk, length, map, slice_get, string_bytes, Some};
 ghost use Rattle.cbs_report.specs.Figures.{told, total};
 ghost use Rattle.cbs_report.specs.Reports.{AreAllFigures};
 ghost use Rattle.cbs_report.specs.Tallies.{ticks_idle};
-ghost use Rattle.cbs_planning.specs.Loads.{IsReportOf, IsServerReport, seen_in};
+ghost use Rattle.cbs_planning.specs.Loads.{IsReportOf, seen_in, within_of};
 
 use crate::watched::Watched;
 use crate::within::{by_source, within_of};
@@ -63,8 +63,9 @@ pub fn report_of(alloc: Global, file: &str, load: &Load) -> Result<RunReport, Al
 {
     let (figures, idle) = simulated(alloc, load)?;
     let mut servers = Vec::with_capacity(alloc, figures.len())?;
-    for (server, figures) in figures.into_iter().enumerate() {
-        servers.push(server_report(alloc, load, server as u16, figures)?)?;
+    for server in 0..load.plan().len() as u16 {
+        let figures = figures[usize::from(server)];
+        servers.push(server_report(alloc, load, server, figures)?)?;
     }
     Ok(RunReport {
         file: String::from_str(alloc, file)?,

@@ -25,7 +25,10 @@ pub(crate) fn within_of(server: u16, sources: &[SourceTerms]) -> Option<Range>
     ensures { result ≡ within_of server sources.now }
 {
     let mut range = None;
-    for source in sources.iter().rev() {
+    let mut place = sources.len();
+    while place > 0 {
+        place -= 1;
+        let source = &sources[place];
         if source.server == server {
             range = widened(source.within, range);
         }

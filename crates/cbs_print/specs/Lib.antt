@@ -1,5 +1,6 @@
+pub mod Notes
 pub mod Numbers
 pub mod Reports
-pub mod Verdicts
 pub mod Tables
-pub mod Notes
+pub mod Texts
+pub mod Verdicts

@@ -1,7 +1,9 @@
 -- What a report tells, and what is added up of its servers.
-use Rattle.std.specs.Prelude.{ℕ, ◌+◌, Bool, ◌&&◌, eqb, List, sum_by, map}
+use Rattle.std.specs.Prelude.{ℕ, ◌+◌, Bool, ◌&&◌, eqb, List, sum_by}
 use Rattle.cbs_report.specs.declared.figures.Figures.{Figures}
 use Rattle.cbs_print.specs.declared.report.ServerReport.{ServerReport}
+use Rattle.cbs_print.specs.declared.totals.Total.{Total}
+use Rattle.cbs_print.specs.declared.totals.Total.TheVariants as total
 
 -- the jobs that were accepted
 abbrev pub accepted : Figures → ℕ
@@ -22,3 +24,16 @@ is_in_time f = eqb (late f) 0 && eqb f.refused 0
 -- a figure of each server, added up
 abbrev pub sum_of : (Figures → ℕ) → List ServerReport → ℕ
 sum_of figure servers = sum_by (λ s. figure s.figures) servers
+
+-- the figure that a total adds up
+abbrev pub figure_of : Total → Figures → ℕ
+figure_of total.Released f = released f
+figure_of total.Refused f = f.refused
+figure_of total.Finished f = f.finished
+figure_of total.Unfinished f = f.unfinished
+figure_of total.Late f = late f
+figure_of total.Asked f = f.asked
+figure_of total.Run f = f.run
+figure_of total.UsedUp f = f.used_up
+figure_of total.Throttled f = f.throttled
+figure_of total.Charged f = f.charged

@@ -1,5 +1,5 @@
 -- The tables of a report, as cells.
-use Rattle.std.specs.Prelude.{ℕ, ◌+◌, ◌*◌, Bool, true, false, ◌&&◌, eqb, ltb, not, if◌then◌else◌, List, [], ◌∷◌, ◌++◌, codes, decimal, map, Option, Some, None, string_bytes}
+use Rattle.std.specs.Prelude.{ℕ, ◌*◌, Bool, false, ◌&&◌, eqb, ltb, not, if◌then◌else◌, List, [], ◌∷◌, ◌++◌, codes, decimal, map, Option, Some, None, string_bytes}
 use Rattle.cbs_text.specs.Columns.{CellText}
 use Rattle.cbs_report.specs.declared.figures.Figures.{Figures}
 use Rattle.cbs_report.specs.declared.figures.Ranks.{Ranks}
@@ -18,14 +18,15 @@ abbrev pub marked_if : Bool → List ℕ → CellText
 marked_if marked text = record { text = text; marked = marked }
 
 -- the number of jobs that are late, if times are wanted
-abbrev pub late_cell : ServerReport → CellText
-late_cell s = elim s.within [ None ↦ plain (codes "-") | Some within ↦ marked_if (ltb 0 (late s.figures)) (decimal (late s.figures)) ]
+abbrev pub late_cell : Figures → Option Bounds → CellText
+late_cell f None = plain (codes "-")
+late_cell f (Some within) = marked_if (ltb 0 (late f)) (decimal (late f))
 
 -- JOBS: what came of each server's jobs
 abbrev pub jobs_row : ℕ → ServerReport → List CellText
 jobs_row backlog s =
     plain (string_bytes s.name) ∷ plain (decimal (released s.figures)) ∷ marked_if (ltb 0 s.figures.refused) (decimal s.figures.refused)
-    ∷ plain (decimal s.figures.finished) ∷ plain (decimal s.figures.unfinished) ∷ late_cell s
+    ∷ plain (decimal s.figures.finished) ∷ plain (decimal s.figures.unfinished) ∷ late_cell s.figures s.within
     ∷ plain (decimal s.figures.greatest_backlog ++ codes " of " ++ decimal backlog) ∷ []
 
 abbrev pub jobs_heading : List CellText
@@ -37,7 +38,7 @@ jobs_total servers =
     ∷ plain (decimal (sum_of (λ f. f.finished) servers)) ∷ plain (decimal (sum_of (λ f. f.unfinished) servers))
     ∷ plain (decimal (sum_of late servers)) ∷ []
 
-abbrev pub jobs_table : RunReport → List (List CellText)
+unfoldable pub jobs_table : RunReport → List (List CellText)
 jobs_table r = jobs_heading ∷ map (jobs_row r.backlog) r.servers.items ++ jobs_total r.servers.items ∷ []
 
 -- a reservation: so many ticks in every so many
@@ -65,7 +66,7 @@ ticks_total r =
     ∷ plain (decimal (sum_of (λ f. f.run) r.servers.items)) ∷ plain (decimal (sum_of (λ f. f.used_up) r.servers.items))
     ∷ plain (decimal (sum_of (λ f. f.throttled) r.servers.items)) ∷ []
 
-abbrev pub ticks_table : RunReport → List (List CellText)
+unfoldable pub ticks_table : RunReport → List (List CellText)
 ticks_table r = ticks_heading ∷ map (ticks_row r.clock) r.servers.items ++ ticks_total r ∷ []
 
 -- the ticks that are wanted: of all sources of a server alike, or from the least to the greatest
@@ -87,8 +88,8 @@ response_row s = plain (string_bytes s.name) ∷ rank_cells s.figures s.figures.
 abbrev pub response_heading : List CellText
 response_heading = map plain (codes "RESPONSE" ∷ codes "least" ∷ codes "mean" ∷ codes "median" ∷ codes "95 %" ∷ codes "99 %" ∷ codes "greatest" ∷ codes "within" ∷ [])
 
-abbrev pub response_table : RunReport → List (List CellText)
-response_table r = response_heading ∷ map response_row r.servers.items
+unfoldable pub response_table : List ServerReport → List (List CellText)
+response_table servers = response_heading ∷ map response_row servers
 
 -- a number, if there is one
 abbrev pub number_text : Option ℕ → List ℕ
@@ -103,8 +104,8 @@ early_row s =
 abbrev pub early_heading : List CellText
 early_heading = map plain (codes "EARLY" ∷ codes "least" ∷ codes "mean" ∷ [])
 
-abbrev pub early_table : RunReport → List (List CellText)
-early_table r = early_heading ∷ map early_row r.servers.items
+unfoldable pub early_table : List ServerReport → List (List CellText)
+early_table servers = early_heading ∷ map early_row servers
 
 -- CHARGES: what each server was charged
 abbrev pub charges_row : ServerReport → List CellText
@@ -116,5 +117,5 @@ charges_heading = map plain (codes "CHARGES" ∷ codes "ticks" ∷ codes "greate
 abbrev pub charges_total : List ServerReport → List CellText
 charges_total servers = plain (codes "all") ∷ plain (decimal (sum_of (λ f. f.charged) servers)) ∷ []
 
-abbrev pub charges_table : RunReport → List (List CellText)
-charges_table r = charges_heading ∷ map charges_row r.servers.items ++ charges_total r.servers.items ∷ []
+unfoldable pub charges_table : List ServerReport → List (List CellText)
+charges_table servers = charges_heading ∷ map charges_row servers ++ charges_total servers ∷ []

@@ -1,12 +1,16 @@
 -- The first line of a report.
-use Rattle.std.specs.Prelude.{ℕ, ◌&&◌, eqb, ltb, not, if◌then◌else◌, List, [], ◌∷◌, ◌++◌, codes, decimal, filter, length, string_bytes}
+use Rattle.std.specs.Prelude.{ℕ, Bool, eqb, not, if◌then◌else◌, List, [], ◌∷◌, ◌++◌, codes, decimal, filter, length, string_bytes}
 use Rattle.cbs_report.specs.declared.figures.Figures.{Figures}
 use Rattle.cbs_print.specs.Reports.{accepted, released, late, is_in_time, sum_of}
 use Rattle.cbs_print.specs.declared.report.ServerReport.{ServerReport}
 
+-- a job of the server is late or was refused
+abbrev pub is_wrong : ServerReport → Bool
+is_wrong s = not (is_in_time s.figures)
+
 -- the servers with a job that is late or was refused
 abbrev pub not_in_time : List ServerReport → List ServerReport
-not_in_time servers = filter (λ s. not (is_in_time s.figures)) servers
+not_in_time servers = filter is_wrong servers
 
 -- how many of the accepted jobs are late
 abbrev pub late_text : Figures → List ℕ
@@ -30,11 +34,15 @@ others_text n =
     else if eqb n 1 then codes ", and 1 server more"
     else codes ", and " ++ decimal n ++ codes " servers more"
 
--- the first server of these, with what is wrong of it, or that none is
+-- a server that is not in time, with what is wrong of it, and how many servers more there are
+abbrev pub server_text : ServerReport → ℕ → List ℕ
+server_text s others = codes "not in time: " ++ string_bytes s.name ++ codes ": " ++ wrong_text s.figures ++ others_text others
+
+-- the first server of these, or that none is
 abbrev pub first_text : ℕ → List ServerReport → List ℕ
 first_text jobs [] = codes "in time: no job late, none refused, of " ++ decimal jobs
-first_text jobs (s ∷ others) = codes "not in time: " ++ string_bytes s.name ++ codes ": " ++ wrong_text s.figures ++ others_text (length others)
+first_text jobs (s ∷ others) = server_text s (length others)
 
 -- the verdict: all jobs are in time, or the first server that has one late or refused
-abbrev pub verdict_text : List ServerReport → List ℕ
+unfoldable pub verdict_text : List ServerReport → List ℕ
 verdict_text servers = first_text (sum_of released servers) (not_in_time servers) ++ codes "\n"

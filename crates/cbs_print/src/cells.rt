@@ -1,25 +1,44 @@
 //! Cells of the tables.
 
-ghost use Rattle.std.specs.Prelude.{◌≡◌, IfOk};
-ghost use Rattle.cbs_print.specs.Tables.{plain};
+ghost use Rattle.std.specs.Prelude.{◌≡◌, [], ◌∷◌, ◌++◌, IfOk, IfSome, OnOk, map};
+ghost use Rattle.cbs_print.specs.Tables.{plain, marked_if};
 
 use cbs_text::Cell;
 use std::alloc::{AllocError, Global};
+use std::fmt::Display;
 
-/// Returns a cell with a word.
-pub(crate) fn word(alloc: Global, word: &str) -> Result<Cell, AllocError>
-    ensures { IfOk result (λ c. c ≡ plain word.now) }
+/// Adds a cell that shows something to a row, and marks it if it is to be looked at.
+pub(crate) fn add_marked<D: Display + Drop>(
+    alloc: Global,
+    row: &mut Vec<Cell>,
+    shown: D,
+    marked: bool,
+) -> Result<(), AllocError>
+    ensures { OnOk result (IfSome (D.output shown) (λ text. row.new.items ≡ row.old.items ++ marked_if marked text ∷ [])) }
 {
-    Ok(Cell::new(String::from_str(alloc, word)?))
+    let text = shown.to_string(alloc)?;
+    row.push(Cell::new(text).marked_if(marked))?;
+    Ok(())
+}
+
+/// Adds a cell that shows something to a row.
+pub(crate) fn add<D: Display + Drop>(
+    alloc: Global,
+    row: &mut Vec<Cell>,
+    shown: D,
+) -> Result<(), AllocError>
+    ensures { OnOk result (IfSome (D.output shown) (λ text. row.new.items ≡ row.old.items ++ plain text ∷ [])) }
+{
+    add_marked(alloc, row, shown, false)
 }
 
 /// Returns a row of words.
 pub(crate) fn words(alloc: Global, words: &[&str]) -> Result<Vec<Cell>, AllocError>
-    ensures { IfOk result (λ row. row.items ≡ map (λ w. plain w.now) words.now) }
+    ensures { IfOk result (λ row. row.items ≡ map (λ word. plain word.now) words.now) }
 {
     let mut row = Vec::with_capacity(alloc, words.len())?;
-    for text in words {
-        row.push(word(alloc, text)?)?;
+    for word in words {
+        add(alloc, &mut row, *word)?;
     }
     Ok(row)
 }

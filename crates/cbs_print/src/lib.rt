@@ -8,8 +8,9 @@ mod report;
 mod tables;
 #[cfg(test)]
 mod tests;
+mod text;
 mod totals;
 mod verdict;
 
-pub use notes::report_text;
 pub use report::{RunReport, ServerReport};
+pub use text::report_text;

@@ -1,7 +1,9 @@
 //! What a report tells.
 
-ghost use Rattle.std.specs.Prelude.{◌≡◌, ◌≤◌, length};
-ghost use Rattle.cbs_print.specs.Reports.{is_in_time, late, released};
+ghost use Rattle.std.specs.Prelude.{◌≡◌, ◌^◌, ◌<◌};
+ghost use Rattle.cbs_print.specs.Notes.{wanted};
+ghost use Rattle.cbs_print.specs.Reports.{accepted, is_in_time, late, released};
+ghost use Rattle.cbs_print.specs.Tables.{is_asked_too_much};
 
 use cbs_rate::{Bandwidth, Reservation};
 use cbs_report::Figures;
@@ -40,23 +42,34 @@ pub struct RunReport {
 impl ServerReport {
     /// Returns how many jobs are late.
     pub(crate) fn late(&self) -> u128
-        ensures { result ≡ late self.now.figures }
+        ensures value { result ≡ late self.now.figures }
+        ensures small { result < 2 ^ 66 }
     {
         u128::from(self.figures.late_finished) + u128::from(self.figures.late_unfinished)
     }
 
     /// Returns how many jobs were accepted.
     pub(crate) fn accepted(&self) -> u128
-        ensures { result ≡ accepted self.now.figures }
+        ensures value { result ≡ accepted self.now.figures }
+        ensures small { result < 2 ^ 65 }
     {
         u128::from(self.figures.finished) + u128::from(self.figures.unfinished)
     }
 
     /// Returns how many jobs came.
     pub(crate) fn released(&self) -> u128
-        ensures { result ≡ released self.now.figures }
+        ensures value { result ≡ released self.now.figures }
+        ensures small { result < 2 ^ 66 }
     {
         u128::from(self.figures.refused) + self.accepted()
+    }
+
+    /// Returns the ticks that it was asked for: the units of its jobs, and what was charged for them.
+    pub(crate) fn wanted(&self) -> u128
+        ensures value { result ≡ wanted self.now }
+        ensures small { result < 2 ^ 65 }
+    {
+        u128::from(self.figures.asked) + u128::from(self.figures.charged)
     }
 
     /// Returns whether no job is late, and none was refused.
@@ -65,29 +78,13 @@ impl ServerReport {
     {
         self.late() == 0 && self.figures.refused == 0
     }
-}
 
-/// What is added up of all servers.
-#[derive(Clone, Copy)]
-pub(crate) struct Totals {
-    /// The jobs that came.
-    pub released: u128,
-    /// Those that were refused.
-    pub refused: u128,
-    /// Those that are finished.
-    pub finished: u128,
-    /// The accepted ones that are not.
-    pub unfinished: u128,
-    /// Those that are late.
-    pub late: u128,
-    /// The units of all jobs that came.
-    pub asked: u128,
-    /// The units that ran.
-    pub run: u128,
-    /// Those that used a budget up.
-    pub used_up: u128,
-    /// The ticks in which a server was throttled and had a job.
-    pub throttled: u128,
-    /// The ticks that were charged.
-    pub charged: u128,
+    /// Returns whether it was asked for more than its share of the time, and a job is late or was refused.
+    pub(crate) fn is_asked_too_much(&self, clock: u64) -> bool
+        ensures { result ≡ is_asked_too_much clock self.now }
+    {
+        let asked = u128::from(self.figures.asked) * u128::from(self.reservation.period());
+        let share = u128::from(self.reservation.budget()) * u128::from(clock);
+        !self.is_in_time() && share < asked
+    }
 }

@@ -1,51 +1,66 @@
-//! What is added up of all servers.
+//! Figures of all servers, added up.
 
-ghost use Rattle.std.specs.Prelude.{◌≡◌, ◌≤◌, length};
-ghost use Rattle.cbs_print.specs.Reports.{late, released, sum_of};
+ghost use Rattle.std.specs.Prelude.{◌≡◌, ◌^◌, ◌<◌, ◌≤◌, length};
+ghost use Rattle.cbs_print.specs.Reports.{figure_of, sum_of};
 
-use crate::report::{ServerReport, Totals};
+use crate::report::ServerReport;
 
-impl Totals {
-    /// Returns the sums over no server.
-    fn new() -> Totals {
-        Totals {
-            released: 0,
-            refused: 0,
-            finished: 0,
-            unfinished: 0,
-            late: 0,
-            asked: 0,
-            run: 0,
-            used_up: 0,
-            throttled: 0,
-            charged: 0,
-        }
-    }
+/// A figure that is added up of all servers.
+#[derive(Clone, Copy)]
+pub(crate) enum Total {
+    /// The jobs that came.
+    Released,
+    /// Those that were refused.
+    Refused,
+    /// Those that are finished.
+    Finished,
+    /// The accepted ones that are not.
+    Unfinished,
+    /// Those that are late.
+    Late,
+    /// The units of all jobs that came.
+    Asked,
+    /// The units that ran.
+    Run,
+    /// Those that used a budget up.
+    UsedUp,
+    /// The ticks in which a server was throttled and had a job.
+    Throttled,
+    /// The ticks that were charged.
+    Charged,
+}
 
-    /// Adds a server.
-    fn add(&mut self, server: &ServerReport) {
-        let figures = &server.figures;
-        self.released += server.released();
-        self.refused += u128::from(figures.refused);
-        self.finished += u128::from(figures.finished);
-        self.unfinished += u128::from(figures.unfinished);
-        self.late += server.late();
-        self.asked += u128::from(figures.asked);
-        self.run += u128::from(figures.run);
-        self.used_up += u128::from(figures.used_up);
-        self.throttled += u128::from(figures.throttled);
-        self.charged += u128::from(figures.charged);
-    }
-
-    /// Returns the sums over these servers, at most 64.
-    pub(crate) fn of(servers: &[ServerReport]) -> Totals
-        requires few { length servers.now ≤ 64 }
-        ensures { result ≡ totals_of servers.now }
+impl Total {
+    /// Returns this figure of one server.
+    fn of_server(self, server: &ServerReport) -> u128
+        ensures value { result ≡ figure_of self server.now.figures }
+        ensures small { result < 2 ^ 66 }
     {
-        let mut totals = Totals::new();
-        for server in servers {
-            totals.add(server);
+        let figures = &server.figures;
+        match self {
+            Total::Released => server.released(),
+            Total::Refused => u128::from(figures.refused),
+            Total::Finished => u128::from(figures.finished),
+            Total::Unfinished => u128::from(figures.unfinished),
+            Total::Late => server.late(),
+            Total::Asked => u128::from(figures.asked),
+            Total::Run => u128::from(figures.run),
+            Total::UsedUp => u128::from(figures.used_up),
+            Total::Throttled => u128::from(figures.throttled),
+            Total::Charged => u128::from(figures.charged),
         }
-        totals
+    }
+
+    /// Returns the sum of this figure over servers, at most 64.
+    pub(crate) fn of(self, servers: &[ServerReport]) -> u128
+        requires { length servers.now ≤ 64 }
+        ensures value { result ≡ sum_of (figure_of self) servers.now }
+        ensures small { result ≤ 2 ^ 72 }
+    {
+        let mut sum = 0;
+        for server in servers {
+            sum += self.of_server(server);
+        }
+        sum
     }
 }

@@ -65,6 +65,11 @@ fn last(server: u16, seq: u64) -> Event {
     }))
 }
 
+/// The figures of the server of this number.
+fn at(rt: &impl Abort, figures: &[Figures], server: usize) -> Figures {
+    *figures.get(server).expect(rt, "server")
+}
+
 /// The figures of the servers of a plan up to a tick, after these steps, and the ticks in which nobody ran.
 fn figures_of(
     rt: &impl Abort,
@@ -110,7 +115,7 @@ fn a_late_job_a_refused_one_and_a_charge_are_told(rt: HostRuntime) {
     let (figures, idle) = figures_of(&rt, alloc, &plan_of(&rt, &[(2, 5)]), &steps, 12);
     assert!(rt; idle == 4);
     assert!(rt; figures.len() == 1);
-    assert!(rt; figures[0] == Figures {
+    assert!(rt; at(&rt, &figures, 0) == Figures {
         refused: 1,
         finished: 1,
         unfinished: 1,
@@ -143,13 +148,13 @@ fn a_throttled_server_waits_until_its_deadline_or_the_end(rt: HostRuntime) {
     ];
     let (figures, idle) = figures_of(&rt, alloc, &plan_of(&rt, &[(1, 2), (1, 4)]), &steps, 6);
     assert!(rt; idle == 2);
-    assert!(rt; figures[0].responses == None);
-    assert!(rt; figures[1].throttled == 4);
-    assert!(rt; figures[1].used_up == 2);
-    assert!(rt; figures[1].greatest_backlog == 2);
-    assert!(rt; figures[1].unfinished == 2);
-    assert!(rt; figures[1].late_unfinished == 0);
-    assert!(rt; figures[1].early_least == None);
+    assert!(rt; at(&rt, &figures, 0).responses == None);
+    assert!(rt; at(&rt, &figures, 1).throttled == 4);
+    assert!(rt; at(&rt, &figures, 1).used_up == 2);
+    assert!(rt; at(&rt, &figures, 1).greatest_backlog == 2);
+    assert!(rt; at(&rt, &figures, 1).unfinished == 2);
+    assert!(rt; at(&rt, &figures, 1).late_unfinished == 0);
+    assert!(rt; at(&rt, &figures, 1).early_least == None);
 }
 
 #[test]
@@ -169,13 +174,13 @@ fn percentiles_are_by_nearest_rank(rt: HostRuntime) {
         }
     }
     let figures = report.figures(alloc, 150).ok().expect(&rt, "memory");
-    assert!(rt; figures[0].responses == Some(Ranks {
+    assert!(rt; at(&rt, &figures, 0).responses == Some(Ranks {
         least: 1,
         median: 75,
         p95: 143,
         p99: 149,
         greatest: 150,
     }));
-    assert!(rt; figures[0].response_total == 11325);
-    assert!(rt; figures[0].early_total == 7500);
+    assert!(rt; at(&rt, &figures, 0).response_total == 11325);
+    assert!(rt; at(&rt, &figures, 0).early_total == 7500);
 }

@@ -3,7 +3,7 @@ use Rattle.std.specs.Prelude.{◌≡◌, ◌⊎◌, ℕ, List, Result, Ok, Err}
 use Rattle.cbs_load.specs.Loads.{LoadFile}
 use Rattle.cbs_load.specs.Spelling.{load}
 use Rattle.cbs_planning.specs.Loads.{IsReportOf}
-use Rattle.cbs_print.specs.Notes.{report_text}
+use Rattle.cbs_print.specs.Texts.{report_text}
 use Rattle.cbs_print.specs.declared.report.RunReport.{RunReport}
 use Rattle.cbs_run.specs.FaultLines.{file_line, run_line}
 use Rattle.cbs_run.specs.Writers.{Writer, IsUntouched, Writes, FailsToWrite, TriesToWrite}

@@ -1,12 +1,10 @@
-//! Text in columns, and numbers in text.
+//! Text in columns.
 #![tactic(auto)]
 
 mod cell;
 mod columns;
-mod numbers;
 #[cfg(test)]
 mod tests;
 
 pub use cell::Cell;
 pub use columns::append_columns;
-pub use numbers::append_pair;

@@ -1,7 +1,7 @@
-//! A table by hand.
+//! Tables by hand.
 
 use crate::{Cell, append_columns};
-use std::alloc::Global;
+use std::alloc::{AllocError, Global};
 use std::process::Abort;
 
 /// A row of cells, of which the ones with a `!` at their end are marked.
@@ -9,8 +9,13 @@ fn row(rt: &impl Abort, alloc: Global, words: &[&str]) -> Vec<Cell> {
     let mut cells = Vec::new(alloc);
     for word in words {
         let marked = word.ends_with('!');
-        let text = String::from_str(alloc, word.trim_end_matches('!')).ok().expect(rt, "memory");
-        cells.push(Cell::new(text).marked_if(marked)).ok().expect(rt, "memory");
+        let text = String::from_str(alloc, word.trim_end_matches('!'))
+            .ok()
+            .expect(rt, "memory");
+        cells
+            .push(Cell::new(text).marked_if(marked))
+            .ok()
+            .expect(rt, "memory");
     }
     cells
 }
@@ -30,11 +35,30 @@ fn columns_are_as_wide_as_their_widest_cell(rt: HostRuntime) {
     }
     let mut text = String::new(alloc);
     append_columns(&mut text, &rows).ok().expect(&rt, "memory");
-    assert_eq!(rt; text.as_str(), "\
+    assert_eq!(rt;
+        text.as_str(),
+        "\
 JOBS     released  late  backlog
 control        40     0   1 of 4
 log            24!   10!  4 of 4!
 all            64
 end
-");
+"
+    );
+}
+
+/// Returns a line with a name, and a number that is to be looked at.
+fn line(alloc: Global) -> Result<String, AllocError> {
+    let name = Cell::new(String::from_str(alloc, "jobs")?);
+    let number = Cell::new(12u64.to_string(alloc)?).marked_if(true);
+    let row = vec![in alloc; name, number]?;
+    let mut text = String::new(alloc);
+    append_columns(&mut text, &vec![in alloc; row]?)?;
+    Ok(text)
+}
+
+#[test]
+fn the_last_cell_may_be_marked(rt: HostRuntime) {
+    let text = line(rt.alloc()).ok().expect(&rt, "memory");
+    assert_eq!(rt; text.as_str(), "jobs  12!\n");
 }

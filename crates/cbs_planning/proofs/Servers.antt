@@ -1,0 +1,69 @@
+-- The reports of the servers of a load, one after another.
+use Rattle.std.proofs.Common.{◌≡◌, ℕ, zero, suc, ◌+◌, ◌<◌, List, [], ◌∷◌, ◌++◌, length, map, Option, Some, None, arith, refl, sym, ap, ◌∙◌, subst}
+use Rattle.std.specs.Prelude.{get_or, slice_get, string_bytes}
+use Rattle.std.proofs.lemmas.List.{get_or-map, length-map}
+use Rattle.cbs_load.specs.Loads.{LoadFile}
+use Rattle.cbs_rate.specs.Rate.{Rate}
+use Rattle.cbs_report.specs.Reports.{AreAllFigures}
+use Rattle.cbs_report.specs.Figures.{AreFigures, steps_of}
+use Rattle.cbs_report.specs.declared.figures.Figures.{Figures}
+use Rattle.cbs_print.specs.declared.report.ServerReport.{ServerReport}
+use Rattle.cbs_planning.specs.Loads.{IsServerReport, seen_in, within_of}
+
+-- the reports of the servers from server i on
+abbrev pub EachFrom : LoadFile → ℕ → List ServerReport → Type 0
+EachFrom f i [] = Unit {0}
+EachFrom f i (r ∷ rs) = IsServerReport f i r × EachFrom f (i + 1) rs
+
+-- one server more
+pub each_more : (f : LoadFile) (i n : ℕ) (rs : List ServerReport) (r : ServerReport) → EachFrom f i rs → n ≡ i + length rs → IsServerReport f n r
+    → EachFrom f i (rs ++ r ∷ [])
+each_more f i n [] r each is one = let e : n ≡ i = omega arith in (rw (← e) one, tt)
+each_more f i n (x ∷ rs) r each is one = (each.0, each_more f (i + 1) n rs r each.1 (omega arith) one)
+
+-- the report at a place
+each_at : (f : LoadFile) (i : ℕ) (rs : List ServerReport) (s : ℕ) (r : ServerReport) → EachFrom f i rs → slice_get rs s ≡ Some r → IsServerReport f (i + s) r
+each_at f i [] s r each e = absurd cc
+each_at f i (x ∷ rs) zero r each e =
+    let same : x ≡ r = cc in
+    let n : i + 0 ≡ i = omega arith in
+    rw (n, ← same) each.0
+each_at f i (x ∷ rs) (suc s) r each e =
+    let n : i + 1 + s ≡ i + suc s = omega arith in
+    rw (← n) (each_at f (i + 1) rs s r each.1 e)
+
+pub each_is : (f : LoadFile) (rs : List ServerReport) (s : ℕ) (r : ServerReport) → EachFrom f 0 rs → slice_get rs s ≡ Some r → IsServerReport f s r
+each_is f rs s r each e = let n : 0 + s ≡ s = omega arith in rw n at (each_at f 0 rs s r each e)
+
+-- what is found at a place stands there
+found : {X : Type 0} (xs : List X) (i : ℕ) (x d : X) → Some x ≡ slice_get xs i → (i < length xs) × (get_or xs i d ≡ x)
+found [] i x d e = absurd cc
+found (y ∷ xs) zero x d e = let same : y ≡ x = cc in (omega arith, same)
+found (y ∷ xs) (suc i) x d e = let h = found xs i x d e in (let lt = h.0 in omega arith, h.1)
+
+-- what is told of one server is its report
+pub server_is : (f : LoadFile) (s : ℕ) (r : ServerReport) (fs : List Figures)
+    → AreAllFigures (map (λ rate. rate.budget) f.plan.rates) f.until (seen_in f) fs
+    → Some (string_bytes r.name) ≡ slice_get f.names s → Some r.reservation ≡ slice_get f.plan.rates s → r.within ≡ within_of s f.sources
+    → slice_get fs s ≡ Some r.figures → IsServerReport f s r
+server_is f s r fs all name reservation within figures =
+    let here = found f.plan.rates s r.reservation r.reservation reservation in
+    let budget : get_or (map (λ (rate : Rate). rate.budget) f.plan.rates) s 0 ≡ r.reservation.budget =
+        get_or-map (λ (rate : Rate). rate.budget) f.plan.rates s r.reservation 0 here.0 ∙ ap (λ x. x.budget) here.1 in
+    record {
+      name = name;
+      reservation = reservation;
+      within = within;
+      figures = subst (λ b. AreFigures b f.until (steps_of s (seen_in f)) r.figures) budget (all.each s r.figures figures);
+    }
+
+-- what stands at a place is found there
+pub some_at : {X : Type 0} (xs : List X) (i : ℕ) (x : X) → i < length xs → x ≡ get_or xs i x → slice_get xs i ≡ Some x
+some_at [] i x lt is = absurd (omega arith)
+some_at (y ∷ xs) zero x lt is = rw is refl
+some_at (y ∷ xs) (suc i) x lt is = some_at xs i x (omega arith) is
+
+-- there are as many figures as servers
+pub figure_count : (f : LoadFile) (fs : List Figures) → AreAllFigures (map (λ rate. rate.budget) f.plan.rates) f.until (seen_in f) fs
+    → length fs ≡ length f.plan.rates
+figure_count f fs all = all.count ∙ length-map f.plan.rates (λ (rate : Rate). rate.budget)

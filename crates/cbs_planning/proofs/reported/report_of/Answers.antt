@@ -1,0 +1,36 @@
+use Rattle.std.proofs.Common.{◌≡◌, ◌<◌, ◌+◌, ◌∙◌, ◌∷◌, [], ap, sym, arith, length, length-append, Some, refl}
+use Rattle.std.specs.Prelude.{get_or, slice_get}
+use Rattle.cbs_planning.proofs.Servers.{each_is, each_more, figure_count, server_is, some_at}
+use Rattle.cbs_planning.proofs.reported.report_of.Goals as goal
+
+pub loop-server-preserved : goal.loop-server-preserved
+loop-server-preserved c =
+    let f = c.args.load.now in
+    let l = c.loop-server in
+    let r = c.in_ok-server_report.field-0 in
+    let fs = c.in_ok-figures.figures.items in
+    let all = c.in_ok-figures.ensures.figures in
+    let lt : l.server < length fs =
+        omega (arith, figure_count f fs all, c.len-server-end.ensures.value, c.loop-server-test.true, ap (λ p. length p.rates) c.plan.ensures) in
+    let at : slice_get fs l.server ≡ Some c.index-figures.result.now =
+        some_at fs l.server c.index-figures.result.now lt (rw c.from.ensures at c.index-figures.ensures) in
+    let told = c.in_ok-server_report.ensures in
+    let one = server_is f l.server r fs all told.name told.reservation told.within (rw told.figures at) in
+    record {
+      count = ap length c.in_ok-push.ensures.items ∙ (length-append l.servers.items (r ∷ []) ∙ ap (λ n. n + 1) l.invariant.count);
+      each = rw c.in_ok-push.ensures.items (each_more f 0 l.server l.servers.items r l.invariant.each (omega (arith, l.invariant.count)) one);
+    }
+
+pub returns : goal.returns
+returns c =
+    let f = c.args.load.now in
+    let l = c.loop-server in
+    record {
+      file = c.in_ok-from_str.ensures.ok;
+      clock = c.until.ensures.value;
+      idle = c.in_ok-figures.ensures.idle;
+      backlog = c.backlog.ensures.value;
+      reserved = rw (← c.plan-2.ensures) c.bandwidth.ensures.value;
+      count = omega (arith, l.invariant.count, c.len-server-end.ensures.value, c.loop-server-test.false, ap (λ p. length p.rates) c.plan.ensures);
+      each = λ s r e. each_is f l.servers.items s r l.invariant.each e;
+    }
