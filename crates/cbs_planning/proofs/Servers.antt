@@ -1,5 +1,5 @@
 -- The reports of the servers of a load, one after another.
-use Rattle.std.proofs.Common.{◌≡◌, ℕ, zero, suc, ◌+◌, ◌<◌, List, [], ◌∷◌, ◌++◌, length, map, Option, Some, None, arith, refl, sym, ap, ◌∙◌, subst}
+use Rattle.std.proofs.Common.{◌≡◌, ℕ, zero, suc, ◌+◌, ◌<◌, List, [], ◌∷◌, ◌++◌, length, map, Some, arith, refl, ap, ◌∙◌, subst}
 use Rattle.std.specs.Prelude.{get_or, slice_get, string_bytes}
 use Rattle.std.proofs.lemmas.List.{get_or-map, length-map}
 use Rattle.cbs_load.specs.Loads.{LoadFile}
@@ -49,7 +49,7 @@ pub server_is : (f : LoadFile) (s : ℕ) (r : ServerReport) (fs : List Figures)
 server_is f s r fs all name reservation within figures =
     let here = found f.plan.rates s r.reservation r.reservation reservation in
     let budget : get_or (map (λ (rate : Rate). rate.budget) f.plan.rates) s 0 ≡ r.reservation.budget =
-        get_or-map (λ (rate : Rate). rate.budget) f.plan.rates s r.reservation 0 here.0 ∙ ap (λ x. x.budget) here.1 in
+    get_or-map (λ (rate : Rate). rate.budget) f.plan.rates s r.reservation 0 here.0 ∙ ap (λ x. x.budget) here.1 in
     record {
       name = name;
       reservation = reservation;

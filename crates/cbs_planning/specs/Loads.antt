@@ -1,5 +1,5 @@
 -- What comes of a load.
-use Rattle.std.specs.Prelude.{◌≡◌, ℕ, ◌<◌, eqb, min, max, if◌then◌else◌, List, [], ◌∷◌, get_or, length, map, sum_by, slice_get, string_bytes, Option, Some, None}
+use Rattle.std.specs.Prelude.{◌≡◌, ℕ, eqb, min, max, if◌then◌else◌, List, [], ◌∷◌, length, map, sum_by, slice_get, string_bytes, Option, Some, None}
 use Rattle.cbs_load.specs.Loads.{LoadFile}
 use Rattle.cbs_rate.specs.Plan.{common_multiple, share}
 use Rattle.cbs_report.specs.Figures.{AreFigures, steps_of, told, total}
@@ -9,7 +9,7 @@ use Rattle.cbs_simulate.specs.Drawing.{released_by_all}
 use Rattle.cbs_simulate.specs.Loading.{loading, job_of}
 use Rattle.cbs_simulate.specs.Merging.{merged}
 use Rattle.cbs_simulate.specs.Moves.{Simulation, moves_of}
-use Rattle.cbs_simulate.specs.Shown.{Sight, shown}
+use Rattle.cbs_simulate.specs.Shown.{shown}
 use Rattle.cbs_simulate.specs.declared.load_job.LoadJob.{LoadJob}
 use Rattle.cbs_simulate.specs.declared.terms.SourceTerms.{SourceTerms}
 use Rattle.cbs_steps.specs.Setups.{terms_of}

@@ -1,5 +1,5 @@
 -- The moments of a simulation, as steps that are seen.
-use Rattle.std.specs.Prelude.{ℕ, List, get_or, map, option_map, slice_get, Option, Some, None, Ok, Err}
+use Rattle.std.specs.Prelude.{ℕ, List, get_or, option_map, slice_get, Option, Some, None, Ok, Err}
 use Rattle.cbs_simulate.specs.Shown.{Sight}
 use Rattle.cbs_simulate.specs.declared.event.Event.{Event as Happening}
 use Rattle.cbs_simulate.specs.declared.event.Event.TheVariants as happening

@@ -1,6 +1,6 @@
 //! The report of a load.
 
-ghost use Rattle.std.specs.Prelude.{◌≡◌, ◌<◌, ℕ, IfOk, length, map, slice_get, string_bytes, Some};
+ghost use Rattle.std.specs.Prelude.{◌≡◌, ◌≤◌, ◌<◌, ℕ, IfOk, length, map, slice_get, string_bytes, Some};
 ghost use Rattle.cbs_report.specs.Figures.{told, total};
 ghost use Rattle.cbs_report.specs.Reports.{AreAllFigures};
 ghost use Rattle.cbs_report.specs.Tallies.{ticks_idle};
@@ -41,7 +41,12 @@ fn simulated(alloc: Global, load: &Load) -> Result<(Vec<Figures>, u64), AllocErr
 }
 
 /// Returns the report of one server of a load, with these figures.
-fn server_report(alloc: Global, load: &Load, server: u16, figures: Figures) -> Result<ServerReport, AllocError>
+fn server_report(
+    alloc: Global,
+    load: &Load,
+    server: u16,
+    figures: Figures,
+) -> Result<ServerReport, AllocError>
     requires { server < length load.now.plan.rates }
     ensures name { IfOk result (λ r. Some (string_bytes r.name) ≡ slice_get load.now.names server) }
     ensures reservation { IfOk result (λ r. Some r.reservation ≡ slice_get load.now.plan.rates server) }
@@ -59,7 +64,8 @@ fn server_report(alloc: Global, load: &Load, server: u16, figures: Figures) -> R
 
 /// Simulates a load, and returns the report of that, with this name for its file. The only error is out of memory.
 pub fn report_of(alloc: Global, file: &str, load: &Load) -> Result<RunReport, AllocError>
-    ensures { IfOk result (IsReportOf file.now load.now) }
+    ensures report { IfOk result (IsReportOf file.now load.now) }
+    ensures few { IfOk result (λ r. length r.servers.items ≤ 64) }
 {
     let (figures, idle) = simulated(alloc, load)?;
     let mut servers = Vec::with_capacity(alloc, figures.len())?;

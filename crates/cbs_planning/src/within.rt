@@ -37,7 +37,10 @@ pub(crate) fn within_of(server: u16, sources: &[SourceTerms]) -> Option<Range>
 }
 
 /// Returns within how many ticks the jobs of each source are to be finished.
-pub(crate) fn by_source(alloc: Global, sources: &[SourceTerms]) -> Result<Vec<Option<u64>>, AllocError>
+pub(crate) fn by_source(
+    alloc: Global,
+    sources: &[SourceTerms],
+) -> Result<Vec<Option<u64>>, AllocError>
     ensures { IfOk result (λ within. within.items ≡ map (λ t. t.within) sources.now) }
 {
     let mut within = Vec::with_capacity(alloc, sources.len())?;

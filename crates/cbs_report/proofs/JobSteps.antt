@@ -1,6 +1,6 @@
 -- One step more in what is kept of the jobs.
 use Rattle.std.proofs.Common.{◌≡◌, ℕ, ◌+◌, ◌-◌, ◌≤◌, List, [], ◌∷◌, ◌++◌, length, map, Option, Some, None, arith, refl, sym, ap, ◌∙◌, length-drop}
-use Rattle.std.specs.Prelude.{max, min, drop, flat_map, slice_get}
+use Rattle.std.specs.Prelude.{max, drop, slice_get}
 use Rattle.std.proofs.lemmas.Grind.{flat_map-append}
 use Rattle.std.proofs.lemmas.List.{append-nil, map-append, length-append}
 use Rattle.cbs_steps.specs.declared.reply.Ran.TheVariants as ran
@@ -10,7 +10,6 @@ use Rattle.cbs_views.specs.declared.seen.Event.TheVariants as event
 use Rattle.cbs_views.specs.declared.seen.Seen.{Seen}
 use Rattle.cbs_report.specs.Figures.{told, told_sum, waiting, greatest_backlog, Finish, finished, response, responses, exceeds, one_if, late_among, early_by, earliness, sum_of, least_of, lesser, with_first}
 use Rattle.cbs_report.specs.Tallies.{Jobs, jobs_of, jobs_after, jobs_without, early_of, early_with}
-use Rattle.cbs_report.specs.declared.early.Early.{Early}
 use Rattle.cbs_report.specs.declared.job.AcceptedJob.{AcceptedJob}
 use Rattle.cbs_report.proofs.SumSteps.{told_more, told_sum_more}
 

@@ -1,6 +1,6 @@
 -- Percentiles of numbers in ascending order.
-use Rattle.std.proofs.Common.{◌≡◌, ℕ, zero, suc, ◌+◌, ◌-◌, ◌*◌, ◌≤◌, ◌<◌, leb, ltb, List, [], ◌∷◌, length, arith, refl, sym, ◌∙◌, if◌then◌else◌, sum_by, ap, Option, Some, None}
-use Rattle.std.specs.Prelude.{All, Contains, get_or, IsPermutation, MatchOption, slice_index_or}
+use Rattle.std.proofs.Common.{◌≡◌, ℕ, zero, suc, ◌-◌, ◌*◌, ◌≤◌, ◌<◌, leb, ltb, List, [], ◌∷◌, length, arith, refl, sym, ◌∙◌, if◌then◌else◌, sum_by, ap, Option, Some, None}
+use Rattle.std.specs.Prelude.{IsPermutation, MatchOption, slice_index_or}
 use Rattle.std.specs.Int.{div_ceil}
 use Rattle.std.specs.List.Sorted.{IsNonDecreasing}
 use Rattle.std.proofs.lemmas.Bool.Decides.{nat_tests}
@@ -80,9 +80,9 @@ same_percentile : (percent n : ℕ) (ns ms : List ℕ) → IsPermutation ns ms �
 same_percentile percent n ns ms perm p =
     let count = length_permutation ns ms perm in
     let high : at_most n ms ≡ at_most n ns =
-        at_most_sum n ms ∙ (sum_by-IsPermutation (λ (m : ℕ). if leb m n then 1 else 0) ns ms perm ∙ sym (at_most_sum n ns)) in
+    at_most_sum n ms ∙ (sum_by-IsPermutation (λ (m : ℕ). if leb m n then 1 else 0) ns ms perm ∙ sym (at_most_sum n ns)) in
     let low : below n ms ≡ below n ns =
-        below_sum n ms ∙ (sum_by-IsPermutation (λ (m : ℕ). if ltb m n then 1 else 0) ns ms perm ∙ sym (below_sum n ns)) in
+    below_sum n ms ∙ (sum_by-IsPermutation (λ (m : ℕ). if ltb m n then 1 else 0) ns ms perm ∙ sym (below_sum n ns)) in
     record {
       among = Contains-permutation ms ns n (IsPermutation-sym ns ms perm) p.among;
       reached = rw (sym count, sym high) p.reached;

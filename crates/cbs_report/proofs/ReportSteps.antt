@@ -1,5 +1,5 @@
 -- One step more in the tallies of all servers.
-use Rattle.std.proofs.Common.{◌≡◌, ◌≢◌, ℕ, zero, suc, ◌<◌, take, true, false, eqb, List, [], ◌∷◌, length, map, Option, Some, None, arith, refl, sym, ap, ◌∙◌, inl, inr, subst}
+use Rattle.std.proofs.Common.{◌≡◌, ℕ, zero, suc, ◌<◌, take, true, false, eqb, List, [], ◌∷◌, length, map, Some, None, arith, refl, sym, ap, ◌∙◌, inl, inr, subst}
 use Rattle.std.specs.Prelude.{◌+◌, ◌≤◌, ◌++◌, set, get_or, slice_get, Result, Ok, Err, OnOk}
 use Rattle.std.proofs.lemmas.Bool.{cases_Bool}
 use Rattle.std.proofs.Math.Seq.{map-set_same}
@@ -13,7 +13,7 @@ use Rattle.cbs_views.specs.declared.seen.Seen.{Seen}
 use Rattle.cbs_report.specs.Figures.{is_server, steps_of, told, total}
 use Rattle.cbs_report.proofs.JobSteps.{jobs_seen}
 use Rattle.cbs_report.proofs.SumSteps.{sums_seen, held_seen}
-use Rattle.cbs_report.specs.Tallies.{sums_of, sums_after, held_of, held_with, jobs_of, jobs_after, passed, Kept, kept_at, kept_of, no_kept, AreKept, AddsStep, HasSeen, Reported, budgets, ticks_idle}
+use Rattle.cbs_report.specs.Tallies.{sums_of, sums_after, held_of, held_with, jobs_of, jobs_after, passed, Kept, kept_at, kept_of, no_kept, AreKept, AddsStep, HasSeen, Reported, ticks_idle}
 
 -- all that is kept of one server, with one step more
 pub kept_step : (k n : Kept) (budget : ℕ) (o : Seen) (own : List Seen) → k ≡ kept_of budget own → n.budget ≡ k.budget
@@ -22,7 +22,7 @@ pub kept_step : (k n : Kept) (budget : ℕ) (o : Seen) (own : List Seen) → k �
 kept_step k n budget o own is b s h j =
     let same : n.budget ≡ budget = b ∙ ap (λ x. x.budget) is in
     let sums : n.sums ≡ sums_of budget (o ∷ own) =
-        s ∙ (ap (λ x. sums_after x.budget o.event o.view x.sums) is ∙ sums_seen budget o own) in
+    s ∙ (ap (λ x. sums_after x.budget o.event o.view x.sums) is ∙ sums_seen budget o own) in
     let held : n.held ≡ held_of (o ∷ own) = h ∙ (ap (λ x. held_with (begun o) o.clock o.view x.held) is ∙ held_seen o own) in
     let jobs : n.jobs ≡ jobs_of (o ∷ own) = j ∙ (ap (λ x. jobs_after o.clock o.event x.jobs) is ∙ jobs_seen o own) in
     rw (same, sums, held, jobs) refl

@@ -1,8 +1,7 @@
 -- One step more in the sums, and in the ticks that a server was throttled.
 use Rattle.std.proofs.Common.{◌≡◌, ℕ, ◌+◌, Bool, true, false, if◌then◌else◌, List, [], ◌∷◌, Option, Some, None, arith, refl, inl, inr}
-use Rattle.std.specs.Prelude.{◌&&◌, ltb, max, min}
+use Rattle.std.specs.Prelude.{◌&&◌, ltb}
 use Rattle.std.proofs.lemmas.Bool.{cases_Bool}
-use Rattle.cbs_steps.specs.declared.reply.Ran.{Ran}
 use Rattle.cbs_steps.specs.declared.view.ServerView.{ServerView}
 use Rattle.cbs_views.specs.Events.{begun, ticks_of_run}
 use Rattle.cbs_views.specs.declared.seen.Event.{Event}

@@ -1,11 +1,11 @@
 -- The figures of all servers, one after another.
-use Rattle.std.proofs.Common.{◌≡◌, ℕ, zero, suc, ◌<◌, List, [], ◌∷◌, ◌++◌, length, map, Option, Some, None, arith, refl, sym, ap, ◌∙◌, add-one}
+use Rattle.std.proofs.Common.{◌≡◌, ℕ, zero, suc, ◌<◌, List, [], ◌∷◌, ◌++◌, length, Some, arith, refl, sym, ap, ◌∙◌}
 use Rattle.std.specs.Prelude.{get_or, slice_get}
 use Rattle.std.proofs.lemmas.List.{get_or-map, length-map}
 use Rattle.cbs_views.specs.declared.seen.Seen.{Seen}
-use Rattle.cbs_report.specs.Figures.{AreFigures, steps_of}
+use Rattle.cbs_report.specs.Figures.{steps_of}
 use Rattle.cbs_report.specs.Reports.{AreAllFigures}
-use Rattle.cbs_report.specs.Tallies.{Kept, kept_at, kept_of, no_kept, AreKept, HasSeen, Reported, budgets, Tells, TellAll}
+use Rattle.cbs_report.specs.Tallies.{Kept, kept_at, no_kept, HasSeen, Reported, budgets, Tells, TellAll}
 use Rattle.cbs_report.specs.declared.figures.Figures.{Figures}
 
 -- one tally more, and its figures
@@ -40,6 +40,6 @@ all_figures first now seen until fs all was = record {
   each = λ s f e.
       let h = tell_at until now.kept fs s f all e in
       let same : get_or (budgets first) s 0 ≡ (kept_at now.kept s).budget =
-          ap (λ bs. get_or bs s 0) (sym was.budgets) ∙ get_or-map (λ (k : Kept). k.budget) now.kept s no_kept 0 h.0 in
+      ap (λ bs. get_or bs s 0) (sym was.budgets) ∙ get_or-map (λ (k : Kept). k.budget) now.kept s no_kept 0 h.0 in
       rw same (h.1 (steps_of s seen) (was.kept s h.0));
 }

@@ -1,5 +1,5 @@
 -- The figures of all servers.
-use Rattle.std.specs.Prelude.{◌≡◌, ℕ, ◌<◌, List, length, slice_get, Some, get_or}
+use Rattle.std.specs.Prelude.{◌≡◌, ℕ, List, length, slice_get, Some, get_or}
 use Rattle.cbs_views.specs.declared.seen.Seen.{Seen}
 use Rattle.cbs_report.specs.Figures.{AreFigures, steps_of}
 use Rattle.cbs_report.specs.declared.figures.Figures.{Figures}

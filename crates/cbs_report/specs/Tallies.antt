@@ -1,6 +1,5 @@
 -- What a report keeps of the steps of one server, the newest first, and what one step more makes of it. For the code alone.
-use Rattle.std.specs.Prelude.{◌≡◌, ◌≢◌, ℕ, ◌+◌, ◌-◌, ◌<◌, ◌&&◌, ltb, max, min, if◌then◌else◌, List, [], ◌∷◌, ◌++◌, length, drop, get_or, flat_map, map, slice_get, Option, Some, None}
-use Rattle.cbs_rate.specs.Rate.{Rate}
+use Rattle.std.specs.Prelude.{◌≡◌, ◌≢◌, ℕ, ◌+◌, ◌-◌, ◌<◌, ◌&&◌, ltb, max, min, if◌then◌else◌, List, [], ◌∷◌, ◌++◌, length, drop, get_or, map, slice_get, Option, Some, None}
 use Rattle.cbs_steps.specs.declared.reply.Ran.{Ran}
 use Rattle.cbs_steps.specs.declared.reply.Ran.TheVariants as ran
 use Rattle.cbs_steps.specs.declared.view.ServerView.{ServerView}
@@ -9,7 +8,7 @@ use Rattle.cbs_views.specs.declared.seen.Event.{Event}
 use Rattle.cbs_views.specs.declared.seen.Event.TheVariants as event
 use Rattle.cbs_views.specs.declared.seen.Seen.{Seen}
 use Rattle.cbs_report.specs.Figures.{AreFigures, steps_of, told, told_sum, total, greatest, refusals, units_asked, units_run, is_used_up, units_exhausting, ticks_charged, throttled}
-use Rattle.cbs_report.specs.Figures.{accepted_job, waiting_after, waiting, greatest_backlog, Finish, finished, response, responses, exceeds, one_if, late_among, late, early_by, earliness, sum_of, least_of, lesser}
+use Rattle.cbs_report.specs.Figures.{accepted_job, waiting, greatest_backlog, finished, responses, exceeds, one_if, late, earliness, sum_of, least_of, lesser}
 use Rattle.cbs_report.specs.declared.early.Early.{Early}
 use Rattle.cbs_report.specs.declared.figures.Figures.{Figures}
 use Rattle.cbs_report.specs.declared.held.Held.{Held}

@@ -100,7 +100,9 @@ impl<A: Allocator> JobTally<A> {
         let response = job.age(now);
         self.responses.push(response)?;
         self.response_total = self.response_total.saturating_add(u128::from(response));
-        self.late = self.late.saturating_add(u64::from(exceeds(response, job.within)));
+        self.late = self
+            .late
+            .saturating_add(u64::from(exceeds(response, job.within)));
         self.early.add(job.promised, now);
         Ok(())
     }
@@ -124,7 +126,10 @@ impl<A: Allocator> JobTally<A> {
     fn overdue(&self, now: u64) -> u64
         ensures { result ≡ overdue now self.now.waiting }
     {
-        let late = self.waiting.iter().filter(|job| uses(job.age(now), job.within));
+        let late = self
+            .waiting
+            .iter()
+            .filter(|job| uses(job.age(now), job.within));
         late.count() as u64
     }
 

@@ -21,7 +21,13 @@ fn plan_of(rt: &impl Abort, servers: &[(u64, u64)]) -> Plan {
 }
 
 /// What a server shows.
-fn view(budget: u64, deadline: u128, throttled: bool, accepted: u64, finished: u64) -> Option<ServerView> {
+fn view(
+    budget: u64,
+    deadline: u128,
+    throttled: bool,
+    accepted: u64,
+    finished: u64,
+) -> Option<ServerView> {
     Some(ServerView {
         budget,
         deadline,
@@ -96,7 +102,11 @@ fn figures_of(
 fn a_late_job_a_refused_one_and_a_charge_are_told(rt: HostRuntime) {
     let alloc = rt.alloc();
     let steps = [
-        (0, accepted(job(0, 0, 3, Some(5)), 0, 10), view(2, 5, false, 1, 0)),
+        (
+            0,
+            accepted(job(0, 0, 3, Some(5)), 0, 10),
+            view(2, 5, false, 1, 0),
+        ),
         (1, unit(0, 0), view(1, 5, false, 1, 0)),
         (2, unit(0, 0), view(2, 10, false, 1, 0)),
         (
@@ -107,42 +117,70 @@ fn a_late_job_a_refused_one_and_a_charge_are_told(rt: HostRuntime) {
             },
             view(2, 10, false, 1, 0),
         ),
-        (5, Event::Charged { server: 0, ticks: 3 }, view(1, 15, false, 1, 0)),
+        (
+            5,
+            Event::Charged {
+                server: 0,
+                ticks: 3,
+            },
+            view(1, 15, false, 1, 0),
+        ),
         (6, last(0, 0), view(2, 20, false, 1, 1)),
         (10, Event::Advanced(4), None),
-        (10, accepted(job(0, 10, 1, Some(2)), 1, 20), view(2, 15, false, 2, 1)),
+        (
+            10,
+            accepted(job(0, 10, 1, Some(2)), 1, 20),
+            view(2, 15, false, 2, 1),
+        ),
     ];
     let (figures, idle) = figures_of(&rt, alloc, &plan_of(&rt, &[(2, 5)]), &steps, 12);
     assert!(rt; idle == 4);
     assert!(rt; figures.len() == 1);
-    assert!(rt; at(&rt, &figures, 0) == Figures {
-        refused: 1,
-        finished: 1,
-        unfinished: 1,
-        late_finished: 1,
-        late_unfinished: 1,
-        greatest_backlog: 1,
-        asked: 8,
-        run: 3,
-        used_up: 2,
-        throttled: 0,
-        charged: 3,
-        greatest_charge: 3,
-        responses: Some(Ranks { least: 6, median: 6, p95: 6, p99: 6, greatest: 6 }),
-        response_total: 6,
-        early_count: 1,
-        early_total: 4,
-        early_least: Some(4),
-    });
+    assert!(rt;
+        at(&rt, &figures, 0)
+            == Figures {
+                refused: 1,
+                finished: 1,
+                unfinished: 1,
+                late_finished: 1,
+                late_unfinished: 1,
+                greatest_backlog: 1,
+                asked: 8,
+                run: 3,
+                used_up: 2,
+                throttled: 0,
+                charged: 3,
+                greatest_charge: 3,
+                responses: Some(Ranks {
+                    least: 6,
+                    median: 6,
+                    p95: 6,
+                    p99: 6,
+                    greatest: 6
+                }),
+                response_total: 6,
+                early_count: 1,
+                early_total: 4,
+                early_least: Some(4),
+            }
+    );
 }
 
 #[test]
 fn a_throttled_server_waits_until_its_deadline_or_the_end(rt: HostRuntime) {
     let alloc = rt.alloc();
     let steps = [
-        (0, accepted(job(1, 0, 3, None), 0, 12), view(1, 4, false, 1, 0)),
+        (
+            0,
+            accepted(job(1, 0, 3, None), 0, 12),
+            view(1, 4, false, 1, 0),
+        ),
         (1, unit(1, 0), view(0, 4, true, 1, 0)),
-        (2, accepted(job(1, 2, 1, None), 1, 16), view(0, 4, true, 2, 0)),
+        (
+            2,
+            accepted(job(1, 2, 1, None), 1, 16),
+            view(0, 4, true, 2, 0),
+        ),
         (4, Event::Advanced(2), None),
         (5, unit(1, 0), view(0, 8, true, 2, 0)),
     ];
@@ -160,7 +198,9 @@ fn a_throttled_server_waits_until_its_deadline_or_the_end(rt: HostRuntime) {
 #[test]
 fn percentiles_are_by_nearest_rank(rt: HostRuntime) {
     let alloc = rt.alloc();
-    let mut report = Report::new(alloc, &plan_of(&rt, &[(1, 1)])).ok().expect(&rt, "memory");
+    let mut report = Report::new(alloc, &plan_of(&rt, &[(1, 1)]))
+        .ok()
+        .expect(&rt, "memory");
     // 150 jobs that take 150, 149, .. 1 ticks, each finished at tick 150.
     for number in 0..150 {
         let came = job(0, number, 1, None);
@@ -174,13 +214,16 @@ fn percentiles_are_by_nearest_rank(rt: HostRuntime) {
         }
     }
     let figures = report.figures(alloc, 150).ok().expect(&rt, "memory");
-    assert!(rt; at(&rt, &figures, 0).responses == Some(Ranks {
-        least: 1,
-        median: 75,
-        p95: 143,
-        p99: 149,
-        greatest: 150,
-    }));
+    assert!(rt;
+        at(&rt, &figures, 0).responses
+            == Some(Ranks {
+                least: 1,
+                median: 75,
+                p95: 143,
+                p99: 149,
+                greatest: 150,
+            })
+    );
     assert!(rt; at(&rt, &figures, 0).response_total == 11325);
     assert!(rt; at(&rt, &figures, 0).early_total == 7500);
 }

@@ -15,7 +15,12 @@ use cbs_print::report_text;
 use std::alloc::Global;
 
 /// Simulates a load, and prints the report of that, with this name for its file.
-fn print_report<O: ByteOutput>(alloc: Global, name: &str, load: &Load, out: &mut O) -> Result<(), RunError>
+fn print_report<O: ByteOutput>(
+    alloc: Global,
+    name: &str,
+    load: &Load,
+    out: &mut O,
+) -> Result<(), RunError>
     requires { O.failed out.old < 2 ^ 64 - 1 }
     ensures { Prints (IsReportText name.now load.now) result
         (record { written = O.written out.old; failed = O.failed out.old }) (record { written = O.written out.new; failed = O.failed out.new }) }

@@ -1,5 +1,5 @@
-use Rattle.std.proofs.Common.{◌≡◌, ◌<◌, ◌+◌, ◌∙◌, ◌∷◌, [], ap, sym, arith, length, length-append, Some, refl}
-use Rattle.std.specs.Prelude.{get_or, slice_get}
+use Rattle.std.proofs.Common.{◌≡◌, ◌<◌, ◌+◌, ◌∙◌, ◌∷◌, [], ap, arith, length, length-append, Some}
+use Rattle.std.specs.Prelude.{slice_get}
 use Rattle.cbs_planning.proofs.Servers.{each_is, each_more, figure_count, server_is, some_at}
 use Rattle.cbs_planning.proofs.reported.report_of.Goals as goal
 
@@ -11,9 +11,9 @@ loop-server-preserved c =
     let fs = c.in_ok-figures.figures.items in
     let all = c.in_ok-figures.ensures.figures in
     let lt : l.server < length fs =
-        omega (arith, figure_count f fs all, c.len-server-end.ensures.value, c.loop-server-test.true, ap (λ p. length p.rates) c.plan.ensures) in
+    omega (arith, figure_count f fs all, c.len-server-end.ensures.value, c.loop-server-test.true, ap (λ p. length p.rates) c.plan.ensures) in
     let at : slice_get fs l.server ≡ Some c.index-figures.result.now =
-        some_at fs l.server c.index-figures.result.now lt (rw c.from.ensures at c.index-figures.ensures) in
+    some_at fs l.server c.index-figures.result.now lt (rw c.from.ensures at c.index-figures.ensures) in
     let told = c.in_ok-server_report.ensures in
     let one = server_is f l.server r fs all told.name told.reservation told.within (rw told.figures at) in
     record {
@@ -21,8 +21,13 @@ loop-server-preserved c =
       each = rw c.in_ok-push.ensures.items (each_more f 0 l.server l.servers.items r l.invariant.each (omega (arith, l.invariant.count)) one);
     }
 
-pub returns : goal.returns
-returns c =
+pub returns-clause-few : goal.returns-clause-few
+returns-clause-few c =
+    let few = c.len-server-end.ensures.lawful.few in
+    omega (arith, few, c.loop-server.invariant.count, c.len-server-end.ensures.value, c.loop-server-test.false)
+
+pub returns-clause-report : goal.returns-clause-report
+returns-clause-report c =
     let f = c.args.load.now in
     let l = c.loop-server in
     record {

@@ -1,5 +1,4 @@
-use Rattle.std.proofs.Common.{◌≡◌, ◌∙◌, ℕ, List, [], ap, map, refl}
-use Rattle.cbs_load.specs.Loads.{LoadFile}
+use Rattle.std.proofs.Common.{◌≡◌, ◌∙◌, [], ap, map, refl}
 use Rattle.cbs_rate.specs.Rate.{Rate}
 use Rattle.cbs_simulate.specs.Drawing.{pending, released_by_all}
 use Rattle.cbs_simulate.specs.Merging.{merged}
@@ -14,21 +13,21 @@ abbrev has_seen : (c : goal.After-drop-releases-2) → HasSeen c.in_ok-new.field
 has_seen c =
     let f = c.args.load.now in
     let within : c.in_ok-by_source.field-0.items ≡ withins f =
-        c.in_ok-by_source.ensures ∙ ap (map (λ (t : SourceTerms). t.within)) c.sources-2.ensures.value in
+    c.in_ok-by_source.ensures ∙ ap (map (λ (t : SourceTerms). t.within)) c.sources-2.ensures.value in
     let coming : map pending c.in_ok-releases.releases ≡ released_by_all 0 f.sources f.until f.seed =
-        rw (← c.sources.ensures.value, ← c.until.ensures.value, ← c.seed.ensures) c.in_ok-releases.ensures in
+    rw (← c.sources.ensures.value, ← c.until.ensures.value, ← c.seed.ensures) c.in_ok-releases.ensures in
     let seen = c.in-Ok.ensures.simulates.simulates.seen (record { view = c.in_ok-new.field-0; within = c.in_ok-by_source.field-0 }) []
-        (refl, c.in_ok-new.ensures.none) in
+    (refl, c.in_ok-new.ensures.none) in
     let same = same_seen f c.in_ok-by_source.field-0.items c.modes.result.now c.plan-2.result.now c.backlog.result c.until-2.result
-        (merged (map pending c.in_ok-releases.releases)) within c.modes.ensures c.plan-2.ensures c.backlog.ensures.value c.until-2.ensures.value
-        (ap merged coming) in
+    (merged (map pending c.in_ok-releases.releases)) within c.modes.ensures c.plan-2.ensures c.backlog.ensures.value c.until-2.ensures.value
+    (ap merged coming) in
     rw (← same) seen.1
 
 pub returns-clause-figures : goal.returns-clause-figures
 returns-clause-figures c =
     let f = c.args.load.now in
     let rates : budgets c.in_ok-new.field-0 ≡ map (λ (r : Rate). r.budget) f.plan.rates =
-        c.in_ok-new.ensures.servers ∙ ap (λ p. map (λ (r : Rate). r.budget) p.rates) c.plan.ensures in
+    c.in_ok-new.ensures.servers ∙ ap (λ p. map (λ (r : Rate). r.budget) p.rates) c.plan.ensures in
     same_figures _ _ _ _ (seen_in f) c.in_ok-figures.figures.items rates c.until-3.ensures.value
     (c.in_ok-figures.ensures c.in_ok-new.field-0 (seen_in f) (has_seen c))
 

@@ -1,4 +1,3 @@
-use Rattle.std.proofs.Common.{arith}
 use Rattle.cbs_report.proofs.Ranking.{percentile_at}
 use Rattle.cbs_report.proofs.ranks.percentile.Goals as goal
 

@@ -9,9 +9,9 @@ returns-in-Err-clause-ends g c = refused c.in-Err.fault c.in-Err.ensures.read (u
 pub returns-in-Ok-print_report-clause-ends : goal.returns-in-Ok-print_report-clause-ends
 returns-in-Ok-print_report-clause-ends g c =
     let p = c.in-Ok-print_report.ensures in
-    done c.in-Ok.load p.0 c.in-Ok.ensures.read p.1.0 p.1.1 (untouched _)
+    done c.in-Ok.load p.0 c.in-Ok.ensures.read p.1 p.2 (untouched _)
 
-pub returns-in-Err-print_report-clause-ends : goal.returns-in-Err-print_report-clause-ends
-returns-in-Err-print_report-clause-ends g c =
+pub returns-clause-ends : goal.returns-clause-ends
+returns-clause-ends g c =
     stopped c.in-Ok.load c.in-Err-print_report.error c.in-Ok.ensures.read c.in-Err-print_report.ensures
     (tries c.write_run_fault-written.result _ _ _ c.write_run_fault-written.ensures.ok c.write_run_fault-written.ensures.err)

@@ -20,7 +20,12 @@ fn asks(rt: &impl Abort, alloc: Global, line: &str, action: Action, file: &str) 
     let asked = read_words(alloc, words(rt, alloc, line))
         .ok()
         .expect(rt, line);
-    same(rt, line, (asked.action, asked.file.as_str()), (action, file));
+    same(
+        rt,
+        line,
+        (asked.action, asked.file.as_str()),
+        (action, file),
+    );
 }
 
 /// The text of a command line's fault. Ends the test where the fault has another number or name.

@@ -1,7 +1,6 @@
 use Rattle.std.proofs.Common.{◌≡◌, ◌∙◌, ◌++◌, ◌∷◌, [], append_assoc, ap, sym, length, arith}
 use Rattle.std.proofs.lemmas.List.{append-nil, nil_from_length}
 use Rattle.std.specs.Vec.Iter.{into_iter_items}
-use Rattle.cbs_report.specs.Tallies.{TellAll}
 use Rattle.cbs_report.proofs.Telling.{tell_more, all_figures}
 use Rattle.cbs_report.proofs.report.Report.figures.Goals as goal
 
@@ -18,7 +17,7 @@ loop-tally-preserved g c =
 pub returns : goal.returns
 returns g c = λ first seen was.
     let none : into_iter_items c.loop-tally.tally-iterator ≡ [] =
-        nil_from_length _ (sym c.loop-tally.invariant.count ∙ c.in-None.ensures.steps.0) in
+    nil_from_length _ (sym c.loop-tally.invariant.count ∙ c.in-None.ensures.steps.0) in
     let whole : c.args.self.kept ≡ c.loop-tally.yielded =
-        c.loop-tally.invariant.all ∙ (ap (λ xs. c.loop-tally.yielded ++ xs) none ∙ append-nil c.loop-tally.yielded) in
+    c.loop-tally.invariant.all ∙ (ap (λ xs. c.loop-tally.yielded ++ xs) none ∙ append-nil c.loop-tally.yielded) in
     all_figures first c.args.self seen c.args.now c.loop-tally.figures.items (rw whole c.loop-tally.invariant.told) was

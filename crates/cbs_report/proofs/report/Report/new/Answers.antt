@@ -1,5 +1,4 @@
-use Rattle.std.proofs.Common.{◌≡◌, ◌∙◌, ◌++◌, ◌∷◌, [], ap, sym, refl, map}
-use Rattle.std.proofs.lemmas.List.{map-append}
+use Rattle.std.proofs.Common.{◌≡◌, ◌∙◌, [], sym, refl}
 use Rattle.std.proofs.lemmas.List.Elements.{All-push}
 use Rattle.cbs_report.specs.Tallies.{Kept, kept_of}
 use Rattle.cbs_report.proofs.ReportSteps.{budgets_more}
@@ -12,6 +11,6 @@ loop-server-preserved g c =
     let one = c.in_ok-new.ensures in
     record {
       budgets = rw more (budgets_more l.tallies.items c.args.plan.now.rates l.server c.in_ok-new.field-0 c.unwrap-reservation.result
-      l.invariant.budgets (sym c.unwrap-reservation.ensures ∙ c.get.ensures.value) (rw one (c.budget.ensures.value)));
+          l.invariant.budgets (sym c.unwrap-reservation.ensures ∙ c.get.ensures.value) (rw one (c.budget.ensures.value)));
       empty = rw more (All-push (λ (k : Kept). k ≡ kept_of k.budget []) l.tallies.items c.in_ok-new.field-0 l.invariant.empty (rw one refl));
     }

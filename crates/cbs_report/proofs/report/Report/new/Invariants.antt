@@ -1,4 +1,4 @@
-use Rattle.std.proofs.Common.{◌≡◌, [], length, map, take}
+use Rattle.std.proofs.Common.{◌≡◌, [], map, take}
 use Rattle.std.specs.Prelude.{All}
 use Rattle.cbs_report.specs.Tallies.{kept_of}
 use Rattle.cbs_report.proofs.report.Report.new.Given as goal

@@ -1,4 +1,4 @@
-use Rattle.std.proofs.Common.{◌≡◌, ◌∙◌, sym, Some}
+use Rattle.std.proofs.Common.{◌∙◌, sym}
 use Rattle.cbs_report.proofs.ReportSteps.{ok_both, sees_own}
 use Rattle.cbs_report.proofs.report.ReportView.see.Goals as goal
 
