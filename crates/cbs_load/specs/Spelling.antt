@@ -1,7 +1,7 @@
 -- What the bytes of a load file spell: the load, or its first fault with the place where that stands.
-use Rattle.std.specs.Prelude.{ℕ, bytes_eq, if◌then◌else◌, List, [], ◌∷◌, ◌++◌, Option, Some, None, Result, Ok, Err}
+use Rattle.std.specs.Prelude.{ℕ, Bool, bytes_eq, codes, if◌then◌else◌, is_some, List, [], ◌∷◌, ◌++◌, Option, Some, None, Result, Ok, Err}
 use Rattle.std.specs.List.{list_any}
-use Rattle.toml.specs.Data.{Data}
+use Rattle.toml.specs.Data.{Data, get_member}
 use Rattle.cbs_rate.specs.Plan.{admit_refusal}
 use Rattle.cbs_rate.specs.declared.error.AdmitError.{AdmitError}
 use Rattle.cbs_rules.specs.Setups.{ModedPlan, no_servers, with_server}
@@ -10,11 +10,15 @@ use Rattle.cbs_tables.specs.declared.fault.FileKind.TheVariants.{OutOfRange, Not
 use Rattle.cbs_tables.specs.declared.fault.FileFault.{FileFault}
 use Rattle.cbs_tables.specs.declared.fault.Place.TheVariants.{Top, Source}
 use Rattle.cbs_tables.specs.Documents.{at, document, taken_in}
-use Rattle.cbs_tables.specs.Fields.{◌>>=◌, each_from}
+use Rattle.cbs_tables.specs.Fields.{◌>>=◌, each_from, seen}
 use Rattle.cbs_load.specs.Loads.{LoadFile}
 use Rattle.cbs_load.specs.Servers.{server_entry}
 use Rattle.cbs_load.specs.Sources.{source_entry}
 use Rattle.cbs_load.specs.TopTables.{top_table}
+
+-- whether the file is a load: its top table has the key `load`
+abbrev pub is_load : List ℕ → Result Bool FileFault
+is_load bytes = seen (λ table. is_some (get_member (codes "load") table)) (at Top (document bytes))
 
 -- the servers so far: their names, and their plan and modes
 pub record Named : Type 0 where

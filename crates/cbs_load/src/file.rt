@@ -11,7 +11,7 @@ ghost use Rattle.cbs_tables.specs.Fields.{Gives, each_from};
 ghost use Rattle.cbs_tables.specs.Memory.{memory_wanted, usual_bound};
 ghost use Rattle.cbs_load.specs.Loads.{IsSource};
 ghost use Rattle.cbs_load.specs.Sources.{source_entry};
-ghost use Rattle.cbs_load.specs.Spelling.{admitted_entry, load};
+ghost use Rattle.cbs_load.specs.Spelling.{admitted_entry, is_load, load};
 
 use crate::load::Load;
 use crate::server::{is_taken, server_entry};
@@ -20,7 +20,9 @@ use crate::top::top_table;
 use cbs_rate::{Bound, Plan};
 use cbs_rules::Setup;
 use cbs_simulate::SourceTerms;
-use cbs_tables::{FileFault, FileKind, MEMORY, Place, at, document, faulty, wants_within};
+use cbs_tables::{
+    FileFault, FileKind, MEMORY, Place, at, document, faulty, optional, wants_within,
+};
 use std::alloc::Global;
 use toml::Value;
 
@@ -116,6 +118,28 @@ fn spelled_load(alloc: Global, bytes: &[u8]) -> Result<Load, FileFault>
         seed: top.seed,
         sources,
     })
+}
+
+/// Returns whether the top table has the key `load`.
+fn has_load_key(alloc: Global, bytes: &[u8]) -> Result<bool, FileFault>
+    ensures { Gives no_memory (λ is. is) result (is_load bytes.now) }
+{
+    let table = at(Place::Top, document(alloc, bytes))?;
+    Ok(optional(&table, "load").is_some())
+}
+
+/// Returns whether the bytes spell a load file: whether the top table has the key `load`.
+///
+/// The fault is [`FileKind::NotToml`] or [`FileKind::OutOfMemory`], at the top. If the bytes want more than `memory` bytes of
+/// memory, it is out of memory, before anything is parsed.
+pub fn is_load_within(alloc: Global, memory: u64, bytes: &[u8]) -> Result<bool, FileFault>
+    ensures read { Gives no_memory (λ is. is) result (is_load bytes.now) }
+    ensures bounded { memory < memory_wanted bytes.now → result ≡ Err no_memory }
+{
+    if !wants_within(bytes, memory) {
+        return Err(faulty(Place::Top, FileKind::OutOfMemory));
+    }
+    has_load_key(alloc, bytes)
 }
 
 /// Returns the load that the bytes spell, or its first fault, as [`read_load`] reads it, if the bytes want at most `memory`

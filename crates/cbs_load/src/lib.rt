@@ -10,5 +10,5 @@ mod source;
 mod tests;
 mod top;
 
-pub use file::{read_load, read_load_within};
+pub use file::{is_load_within, read_load, read_load_within};
 pub use load::Load;

@@ -1,6 +1,6 @@
 //! A bound on the total bandwidth of a plan.
 
-ghost use Rattle.std.specs.Prelude.{◌*◌, ◌≤◌, ◌↔◌, IsTrue};
+ghost use Rattle.std.specs.Prelude.{◌≡◌, ◌*◌, ◌≤◌, ◌↔◌, IsTrue};
 ghost use Rattle.cbs_rate.specs.Bound.{IsBound, bound_refusal};
 ghost use Rattle.cbs_rate.specs.Refusals.{AnswersBy};
 
@@ -44,6 +44,22 @@ impl Bound {
             num: num as u32,
             den: den as u32,
         })
+    }
+
+    /// Returns N of the bound N/D.
+    pub fn num(&self) -> u64
+        ensures value { result ≡ self.now.num }
+        ensures lawful { IsBound self.now.num self.now.den }
+    {
+        u64::from(self.num)
+    }
+
+    /// Returns D of the bound N/D.
+    pub fn den(&self) -> u64
+        ensures value { result ≡ self.now.den }
+        ensures lawful { IsBound self.now.num self.now.den }
+    {
+        u64::from(self.den)
     }
 
     /// Whether `taken` of `ticks` is at most this bound, exactly: the products are compared, and

@@ -67,6 +67,13 @@ impl Plan {
         }
     }
 
+    /// Returns the bound on the total bandwidth.
+    pub fn bound(&self) -> Bound
+        ensures { result ≡ self.now.bound }
+    {
+        self.bound
+    }
+
     /// The number of servers.
     pub fn len(&self) -> usize
         ensures value { result ≡ length self.now.rates }

@@ -1,10 +1,12 @@
+pub mod Checked
 pub mod Counted
 pub mod FaultLines
 pub mod JobsByServer
 pub mod FileLaws
 pub mod Lines
-pub mod Loads
+pub mod Printing
 pub mod Reads
+pub mod Reported
 pub mod ResultLines
 pub mod Runs
 pub mod ServingStops

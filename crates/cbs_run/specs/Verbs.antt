@@ -7,7 +7,7 @@ use Rattle.cbs_run.specs.Traces.{trace, TraceStops}
 use Rattle.cbs_run.specs.Writers.{Writer}
 use Rattle.cbs_run.specs.declared.run_error.RunError.{RunError}
 use Rattle.cbs_run.specs.declared.words.Action.{Action}
-use Rattle.cbs_run.specs.declared.words.Action.TheVariants.{Simulate, Run}
+use Rattle.cbs_run.specs.declared.words.Action.TheVariants.{Check, Simulate, Run}
 use Rattle.cbs_run.specs.declared.words.Verb.{Verb}
 use Rattle.cbs_run.specs.declared.words.Verb.TheVariants.{Replay, Serve}
 
@@ -18,6 +18,7 @@ name_of Serve = codes "serve"
 
 -- the word of each action
 abbrev pub action_name : Action → List ℕ
+action_name Check = codes "check"
 action_name Simulate = codes "simulate"
 action_name (Run verb) = name_of verb
 

@@ -26,9 +26,9 @@ bare_program = required (new_app (codes "cbsrun"))
 abbrev pub with_verb : App → Text → App
 with_verb program name = with_subcommand program (on_file name).top
 
--- the program: three verbs
+-- the program: four subcommands
 abbrev pub command_line : App
-command_line = with_verb (with_verb (with_verb bare_program (codes "simulate")) (codes "replay")) (codes "serve")
+command_line = with_verb (with_verb (with_verb (with_verb bare_program (codes "check")) (codes "simulate")) (codes "replay")) (codes "serve")
 
 -- the subcommand that was found, with its rows, is the action, and its one value the file
 abbrev pub IsAsked : Option (Text × List Row) → Asked → Type 0

@@ -1,13 +1,14 @@
-//! Task files run from their bytes to a status: a trace of their steps, or the results of their jobs.
+//! Files from their bytes to a status: task files run, to a trace of their steps or the results of their jobs; loads simulated; and
+//! what is told of either.
 #![tactic(auto)]
 
 mod call;
+mod check;
 mod environment;
 mod fault_lines;
 mod input;
 mod jobs_by_server;
 mod line;
-mod loads;
 mod numbers;
 mod output;
 mod pending;
@@ -15,17 +16,19 @@ mod result_lines;
 mod run;
 mod run_error;
 mod serve;
+mod simulate;
 mod steps;
 mod trace;
 mod words;
 
+pub use check::check_bytes_within;
 pub use environment::{MEMORY_VARIABLE, memory_bound};
 pub use fault_lines::{write_file_fault, write_read_fault, write_run_fault};
 pub use input::{ByteInput, FromRead, MAX_BYTES, ReadError, read_all};
-pub use loads::simulate_bytes_within;
 pub use output::{ByteOutput, ToWrite, write_pieces, write_text};
 pub use run::{BAD_FILE, DONE, RUN_FAULT, WRONG_WORDS, run_bytes, run_bytes_within};
 pub use run_error::RunError;
 pub use serve::serve_file;
+pub use simulate::simulate_bytes_within;
 pub use trace::replay;
 pub use words::{Action, Asked, Verb, WordsFault, read_words};

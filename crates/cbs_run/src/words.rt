@@ -16,7 +16,8 @@ const ABOUT: &str =
 a budget of so many ticks in every period.";
 
 const TASK_FILES: &str = "\
-FILE is a task file, in TOML. It names the servers and the steps:
+FILE is a task file or a load, in TOML: simulate takes a load, replay and serve a
+task file, and check either. A task file names the servers and the steps:
 
   format = 2
   bound = [1, 1]                           # the bandwidths add up to at most 1/1
@@ -33,7 +34,8 @@ FILE is a task file, in TOML. It names the servers and the steps:
     { op = \"close\", server = 0 },
   ]
 
-Saved as FIRST.toml, it is run by
+Saved as FIRST.toml, it is checked and run by
+  cbsrun check FIRST.toml
   cbsrun replay FIRST.toml
   cbsrun serve FIRST.toml
 
@@ -57,6 +59,9 @@ Exit status:
   4  the run ended early: no memory, the output could not be written, or, in
      serve, the clock came to its end or the clients stalled";
 
+const CHECK: &str = "Says what the servers of a file have and could have, and which jobs of a load \
+are in time always";
+
 const SIMULATE: &str = "Releases the jobs of a load's sources, runs them, and reports";
 
 const REPLAY: &str = "Runs the steps of a task file, and writes a line for each";
@@ -77,6 +82,8 @@ pub enum Verb {
 /// What a command line asks for.
 #[derive(Clone, Copy, Debug, PartialEq, Eq)]
 pub enum Action {
+    /// To tell what the servers of a file have and could have, and which jobs of a load are in time always.
+    Check,
     /// To simulate a load, and to report what came of it.
     Simulate,
     /// To do with a task file what the verb says.
@@ -140,7 +147,7 @@ fn on_file<'a>(alloc: Global, name: &'a str, about: &'a str) -> Result<Command<'
     ensures app { IfOk result (λ c. app_of c ≡ on_file name.now) }
     ensures local { IfOk result (λ c. (out-Command c).has_globals ≡ false) }
 {
-    let file = Arg::new(alloc, "FILE").help("The task file").required(true);
+    let file = Arg::new(alloc, "FILE").help("The file").required(true);
     Command::new(alloc, name).about(about).arg(file)
 }
 
@@ -171,7 +178,8 @@ fn bare_program<'a>(alloc: Global) -> Command<'a>
 fn command_line<'a>(alloc: Global) -> Result<Command<'a>, AllocError>
     ensures { IfOk result (λ c. app_of c ≡ command_line) }
 {
-    let program = with_verb(alloc, bare_program(alloc), "simulate", SIMULATE)?;
+    let program = with_verb(alloc, bare_program(alloc), "check", CHECK)?;
+    let program = with_verb(alloc, program, "simulate", SIMULATE)?;
     let program = with_verb(alloc, program, "replay", REPLAY)?;
     with_verb(alloc, program, "serve", SERVE)
 }
@@ -181,6 +189,7 @@ fn action_of(name: &str) -> Option<Action>
     ensures { MatchOption result ((action : Action) → action_name action ≢ name.now) (λ action. action_name action ≡ name.now) }
 {
     match name {
+        "check" => Some(Action::Check),
         "simulate" => Some(Action::Simulate),
         "replay" => Some(Action::Run(Verb::Replay)),
         "serve" => Some(Action::Run(Verb::Serve)),

@@ -1,11 +1,11 @@
-//! `cbsrun` runs task files: jobs on Constant Bandwidth Servers, under earliest deadline first.
+//! `cbsrun` runs task files and loads: jobs on Constant Bandwidth Servers, under earliest deadline first.
 #![tactic(auto)]
 
 use cbs_file::MEMORY;
 use cbs_run::{
     Action, Asked, BAD_FILE, DONE, FromRead, MEMORY_VARIABLE, RUN_FAULT, ReadError, RunError,
-    ToWrite, WRONG_WORDS, WordsFault, memory_bound, read_all, read_words, run_bytes_within,
-    simulate_bytes_within, write_pieces, write_read_fault, write_run_fault,
+    ToWrite, WRONG_WORDS, WordsFault, check_bytes_within, memory_bound, read_all, read_words,
+    run_bytes_within, simulate_bytes_within, write_pieces, write_read_fault, write_run_fault,
 };
 use std::alloc::{AllocError, Global};
 use std::env;
@@ -86,6 +86,7 @@ fn status<R: Threads + Clock + Sync>(rt: &HostRuntime, threads: &R) -> u8 {
     };
     match bytes_of(rt, alloc, asked.file.as_str()) {
         Ok(bytes) => match asked.action {
+            Action::Check => check_bytes_within(alloc, memory, &bytes, &mut out, &mut err),
             Action::Simulate => {
                 let name = asked.file.as_str();
                 simulate_bytes_within(alloc, memory, name, &bytes, &mut out, &mut err)

@@ -50,6 +50,7 @@ fn refuses(rt: &impl Abort, alloc: Global, line: &str, number: u8, name: &str) {
 fn a_verb_and_a_file_are_wanted(rt: HostRuntime) {
     let alloc = rt.alloc();
     for (line, action) in &[
+        ("cbsrun check a.toml", Action::Check),
         ("cbsrun simulate a.toml", Action::Simulate),
         ("cbsrun replay a.toml", Action::Run(Verb::Replay)),
         ("cbsrun serve a.toml", Action::Run(Verb::Serve)),
@@ -59,9 +60,11 @@ fn a_verb_and_a_file_are_wanted(rt: HostRuntime) {
     for line in &[
         "",
         "cbsrun",
+        "cbsrun check",
         "cbsrun simulate",
         "cbsrun replay",
         "cbsrun serve",
+        "cbsrun check a.toml b.toml",
         "cbsrun replay a.toml b.toml",
         "cbsrun serve a.toml b.toml",
         "cbsrun run a.toml",
@@ -73,6 +76,7 @@ fn a_verb_and_a_file_are_wanted(rt: HostRuntime) {
         "cbsrun --help",
         "cbsrun -h",
         "cbsrun help",
+        "cbsrun check --help",
         "cbsrun simulate --help",
         "cbsrun replay --help",
         "cbsrun serve --help",
@@ -87,10 +91,13 @@ fn help_teaches(rt: HostRuntime) {
     let help = fault(&rt, alloc, "cbsrun --help", 2, "Help");
     for part in &[
         "Constant Bandwidth Servers under EDF",
+        "check",
+        "simulate",
         "replay",
         "serve",
         "task file",
         "units = [1, 2, 3]",
+        "cbsrun check FIRST.toml",
         "cbsrun replay FIRST.toml",
         "cbsrun serve FIRST.toml",
         "CBSRUN_MEMORY",

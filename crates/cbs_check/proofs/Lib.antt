@@ -1,0 +1,4 @@
+pub mod Divisors
+pub mod Rows
+pub mod Texts
+pub mod Plans

@@ -1,0 +1,24 @@
+use Rattle.std.proofs.Common.{refl}
+use Rattle.cbs_check.proofs.Plans.{split_of}
+use Rattle.cbs_check.proofs.check.check_load.Goals as goal
+
+pub returns : goal.returns
+returns c = record {
+  budgets = c.in_ok-budgets.budgets.items;
+  loads = c.in_ok-loads.loads.items;
+  greatest = rw c.plan.ensures at c.in_ok-budgets.ensures.greatest;
+  told = c.in_ok-loads.ensures;
+  split = split_of c.args.load.now.plan (rw c.plan.ensures at c.in_ok-budgets.ensures.lawful);
+  text_is = rw (
+    c.in_ok-append_notes.ensures,
+    c.in_ok-append_sources.ensures,
+    c.in_ok-append_plan.ensures,
+    c.new-text.ensures.bytes,
+    c.names.ensures.value,
+    c.modes.ensures,
+    c.plan-2.ensures,
+    c.deref.ensures.value,
+    c.deref-2.ensures.value,
+    c.deref-3.ensures.value,
+  ) refl;
+}

@@ -1,0 +1,5 @@
+pub mod Fractions
+pub mod Servers
+pub mod Sources
+pub mod Notes
+pub mod Checks

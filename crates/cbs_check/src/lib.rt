@@ -1,0 +1,14 @@
+//! What is told of a file with no fault, as text: the servers of a task file or a load, and the sources of a load.
+#![tactic(auto)]
+
+mod cells;
+mod check;
+mod fractions;
+mod notes;
+mod numbers;
+mod servers;
+mod sources;
+#[cfg(test)]
+mod tests;
+
+pub use check::{check_load, check_plan};

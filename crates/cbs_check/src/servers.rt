@@ -1,0 +1,123 @@
+//! The table of the servers.
+
+ghost use Rattle.std.specs.Prelude.{◌≡◌, ◌++◌, [], ◌∷◌, length, map, IfOk, OnOk, string_bytes};
+ghost use Rattle.cbs_text.specs.Columns.{columns_text, rows_of};
+ghost use Rattle.cbs_check.specs.Servers.{mode_word, server_row, servers_heading, total_row, servers_table};
+
+use crate::cells::{push_fraction, push_number, push_percent, push_word};
+use cbs_rate::{Plan, Reservation};
+use cbs_rules::{Mode, Modes};
+use cbs_text::{Cell, append_columns};
+use std::alloc::{AllocError, Global};
+
+/// Returns the word of a mode.
+fn mode_word(mode: Mode) -> &'static str
+    ensures { result.now ≡ mode_word mode }
+{
+    match mode {
+        Mode::Soft => "soft",
+        Mode::Throttled => "throttled",
+    }
+}
+
+/// Returns the heading.
+fn heading(alloc: Global) -> Result<Vec<Cell>, AllocError>
+    ensures { IfOk result (λ row. row.items ≡ servers_heading) }
+{
+    let mut row = Vec::with_capacity(alloc, 7)?;
+    push_word(alloc, &mut row, "SERVER")?;
+    push_word(alloc, &mut row, "mode")?;
+    push_word(alloc, &mut row, "budget")?;
+    push_word(alloc, &mut row, "period")?;
+    push_word(alloc, &mut row, "share")?;
+    push_word(alloc, &mut row, "")?;
+    push_word(alloc, &mut row, "greatest budget")?;
+    Ok(row)
+}
+
+/// Returns the row of a server.
+fn server_row(
+    alloc: Global,
+    name: &str,
+    mode: Mode,
+    rate: Reservation,
+    greatest: u64,
+) -> Result<Vec<Cell>, AllocError>
+    ensures { IfOk result (λ row. row.items ≡ server_row name.now mode rate greatest) }
+{
+    let budget = rate.budget();
+    let period = rate.period();
+    let mut row = Vec::with_capacity(alloc, 7)?;
+    push_word(alloc, &mut row, name)?;
+    push_word(alloc, &mut row, mode_word(mode))?;
+    push_number(alloc, &mut row, budget)?;
+    push_number(alloc, &mut row, period)?;
+    push_fraction(alloc, &mut row, budget, period, false)?;
+    push_percent(alloc, &mut row, budget, period)?;
+    push_number(alloc, &mut row, greatest)?;
+    Ok(row)
+}
+
+/// Returns the row of all servers together.
+fn total_row(alloc: Global, plan: &Plan) -> Result<Vec<Cell>, AllocError>
+    ensures { IfOk result (λ row. row.items ≡ total_row plan.now.rates) }
+{
+    let reserved = plan.bandwidth();
+    let mut row = Vec::with_capacity(alloc, 6)?;
+    push_word(alloc, &mut row, "all")?;
+    push_word(alloc, &mut row, "")?;
+    push_word(alloc, &mut row, "")?;
+    push_word(alloc, &mut row, "")?;
+    push_fraction(alloc, &mut row, reserved.ticks, reserved.of, false)?;
+    push_percent(alloc, &mut row, reserved.ticks, reserved.of)?;
+    Ok(row)
+}
+
+/// Returns the rows of the table.
+#[tactic(auto, unfolding(crate::specs::Servers::servers_table))]
+fn rows(
+    alloc: Global,
+    names: &[String],
+    modes: &Modes,
+    plan: &Plan,
+    budgets: &[u64],
+) -> Result<Vec<Vec<Cell>>, AllocError>
+    requires named { length names.now ≡ length plan.now.rates }
+    requires moded { length modes.now ≡ length plan.now.rates }
+    requires counted { length budgets.now ≡ length plan.now.rates }
+    ensures { IfOk result (λ rows. rows_of rows.items
+        ≡ servers_table (map string_bytes names.now) modes.now plan.now.rates budgets.now) }
+{
+    let servers = plan.len() as u16;
+    let mut rows = Vec::with_capacity(alloc, usize::from(servers) + 2)?;
+    rows.push(heading(alloc)?)?;
+    for server in 0..servers {
+        let name = names[usize::from(server)].as_str();
+        let mode = modes.get(server).unwrap();
+        let rate = plan.get(server).unwrap();
+        let greatest = budgets[usize::from(server)];
+        rows.push(server_row(alloc, name, mode, rate, greatest)?)?;
+    }
+    rows.push(total_row(alloc, plan)?)?;
+    Ok(rows)
+}
+
+/// Appends the table of the servers of a plan, with these names and modes, and these greatest budgets. The only error is out of
+/// memory.
+pub(crate) fn append_servers(
+    alloc: Global,
+    text: &mut String,
+    names: &[String],
+    modes: &Modes,
+    plan: &Plan,
+    budgets: &[u64],
+) -> Result<(), AllocError>
+    requires named { length names.now ≡ length plan.now.rates }
+    requires moded { length modes.now ≡ length plan.now.rates }
+    requires counted { length budgets.now ≡ length plan.now.rates }
+    ensures { OnOk result (string_bytes text.new ≡ string_bytes text.old
+        ++ columns_text (servers_table (map string_bytes names.now) modes.now plan.now.rates budgets.now)) }
+{
+    let rows = rows(alloc, names, modes, plan, budgets)?;
+    append_columns(text, &rows)
+}

@@ -1,0 +1,206 @@
+//! The text of a fault.
+
+use crate::finding::{Finding, find};
+use crate::keys::{Key, Want};
+use crate::limits::append_not_admitted;
+use crate::nearest::nearest;
+use crate::not_toml::append_not_toml;
+use crate::notes::{append_keys_note, append_servers_note};
+use crate::page::append_bar;
+use crate::remarks::{append_key_line, append_outside_line, append_taken_line, append_type_line};
+use crate::shown::{Shown, type_phrase};
+use crate::spot::{Document, Spot, spot_at};
+use crate::values::{append_outside, append_wrong_type};
+use cbs_tables::{FileFault, FileKind, Place};
+use std::alloc::{AllocError, Global};
+use std::fmt::Write;
+use toml::{Table, Value};
+
+/// Returns the keys of a kind of table that a table does not have.
+fn absent_keys(
+    alloc: Global,
+    spot: &Spot<'_>,
+    table: &Table,
+) -> Result<Vec<&'static str>, AllocError> {
+    let mut names = Vec::new(alloc);
+    for key in spot.subject.keys() {
+        if table.get(key.name).is_none() {
+            names.push(key.name)?;
+        }
+    }
+    Ok(names)
+}
+
+/// Appends the place of a fault.
+fn append_spot(text: &mut String, spot: &Spot<'_>) -> Result<(), AllocError> {
+    writeln!(text, "\n  --> {spot}")
+}
+
+/// Appends what is said of a key that a table may not have.
+fn append_unknown(
+    alloc: Global,
+    text: &mut String,
+    spot: &Spot<'_>,
+    key: &str,
+    value: &Value,
+) -> Result<(), AllocError> {
+    let phrase = spot.subject.phrase();
+    write!(text, "error: no key of {phrase}: `{key}`")?;
+    append_spot(text, spot)?;
+    let mut remark = String::new(alloc);
+    if let Some(table) = spot.table {
+        let absent = absent_keys(alloc, spot, table)?;
+        if let Some(name) = nearest(alloc, key, &absent)? {
+            write!(remark, "did you mean `{name}`?")?;
+        }
+    }
+    append_key_line(alloc, text, key, value, &remark)?;
+    append_keys_note(alloc, text, spot.subject, false)
+}
+
+/// Appends what is said of a key that is missing.
+fn append_missing(
+    alloc: Global,
+    text: &mut String,
+    spot: &Spot<'_>,
+    key: Key,
+) -> Result<(), AllocError> {
+    let name = key.name;
+    write!(text, "error: `{name}` is missing")?;
+    append_spot(text, spot)?;
+    append_keys_note(alloc, text, spot.subject, true)
+}
+
+/// Appends what is said of a value of a wrong type.
+fn append_type_fault(
+    alloc: Global,
+    text: &mut String,
+    spot: &Spot<'_>,
+    key: Key,
+    value: &Value,
+) -> Result<(), AllocError> {
+    text.push_str("error: ")?;
+    append_wrong_type(text, key, value)?;
+    append_spot(text, spot)?;
+    append_type_line(alloc, text, key, value)
+}
+
+/// Appends what is said of a value that is out of range.
+fn append_range_fault(
+    alloc: Global,
+    text: &mut String,
+    spot: &Spot<'_>,
+    key: Key,
+    value: &Value,
+) -> Result<(), AllocError> {
+    text.push_str("error: ")?;
+    append_outside(text, key, value, spot)?;
+    append_spot(text, spot)?;
+    append_outside_line(alloc, text, key, value, spot)?;
+    if key.want == Want::ServerName {
+        append_servers_note(alloc, text, spot.document.servers)?;
+    }
+    Ok(())
+}
+
+/// Appends what is said of a name that an earlier server has.
+fn append_taken(
+    alloc: Global,
+    text: &mut String,
+    spot: &Spot<'_>,
+    value: &Value,
+    other: usize,
+) -> Result<(), AllocError> {
+    let name = Shown(value);
+    write!(
+        text,
+        "error: `name` is {name}, which server {other} has already"
+    )?;
+    append_spot(text, spot)?;
+    append_taken_line(alloc, text, value)
+}
+
+/// Appends what is said of a fault.
+fn append_finding(
+    alloc: Global,
+    text: &mut String,
+    spot: &Spot<'_>,
+    finding: Finding<'_>,
+) -> Result<(), AllocError> {
+    match finding {
+        Finding::Unknown(key, value) => append_unknown(alloc, text, spot, key, value),
+        Finding::Missing(key) => append_missing(alloc, text, spot, key),
+        Finding::WrongType(key, value) => append_type_fault(alloc, text, spot, key, value),
+        Finding::OutOfRange(key, value) => append_range_fault(alloc, text, spot, key, value),
+        Finding::Taken(value, other) => append_taken(alloc, text, spot, value, other),
+        Finding::NoTable(value) => {
+            let place = spot.place;
+            let phrase = type_phrase(value);
+            write!(text, "error: {place} is {phrase}, and has to be a table")?;
+            append_spot(text, spot)
+        }
+    }
+}
+
+/// Appends the kind of a fault, if nothing more is known.
+fn append_kind(text: &mut String, kind: FileKind) -> Result<(), AllocError> {
+    writeln!(text, "error: {kind}")
+}
+
+/// Appends that a document says in no way what it is, or that it is of the other kind.
+fn append_other_kind(text: &mut String, spot: &Spot<'_>) -> Result<(), AllocError> {
+    let top = spot.document.top;
+    text.push_str(if top.get("load").is_some() {
+        "error: this is a load file, and a task file is wanted"
+    } else if top.get("format").is_some() {
+        "error: this is a task file, and a load file is wanted"
+    } else {
+        "error: neither `format` nor `load` is there"
+    })?;
+    append_spot(text, spot)?;
+    append_bar(text, 2)?;
+    text.push_str("  = note: a task file has `format = 2`, and a load file `load = 1`\n")
+}
+
+/// Appends what is said of a fault in a document.
+fn append_fault(
+    alloc: Global,
+    text: &mut String,
+    document: Document<'_>,
+    fault: FileFault,
+) -> Result<(), AllocError> {
+    let Some(spot) = spot_at(document, fault.place) else {
+        return append_kind(text, fault.kind);
+    };
+    if let (FileKind::NotAdmitted, Place::Server(number)) = (fault.kind, fault.place) {
+        return append_not_admitted(alloc, text, &spot, number);
+    }
+    match find(fault.kind, &spot) {
+        Some(Finding::Missing(key)) if key.name == "format" => append_other_kind(text, &spot),
+        Some(finding) => append_finding(alloc, text, &spot, finding),
+        None if fault.kind == FileKind::MissingKey => append_other_kind(text, &spot),
+        None => append_kind(text, fault.kind),
+    }
+}
+
+/// Returns what a person needs to know of the first fault of a task file or a load file: what is wrong and where, the line as
+/// it is, what is allowed, and what may help. Its bytes are read again. If nothing more is known, it is the kind in words. The
+/// only error is out of memory.
+pub fn explain(
+    alloc: Global,
+    name: &str,
+    bytes: &[u8],
+    fault: FileFault,
+) -> Result<String, AllocError> {
+    let mut text = String::new(alloc);
+    if fault.kind == FileKind::OutOfMemory {
+        append_kind(&mut text, fault.kind)?;
+        return Ok(text);
+    }
+    match toml::table_from_slice(alloc, bytes) {
+        Ok(top) => append_fault(alloc, &mut text, Document::new(name, &top), fault)?,
+        Err(error) if error.is_memory() => return Err(AllocError),
+        Err(error) => append_not_toml(alloc, &mut text, name, bytes, &error)?,
+    }
+    Ok(text)
+}

@@ -1,0 +1,72 @@
+//! Fractions, exactly, and in per cent.
+
+ghost use Rattle.std.specs.Prelude.{◌≡◌, ◌*◌};
+ghost use Rattle.std.specs.Int.{IsGcd};
+
+use std::fmt;
+
+/// Returns the greatest number that divides both, by Euclid's steps.
+pub(crate) fn greatest_common_divisor(a: u128, b: u128) -> u128
+    ensures { IsGcd a b result }
+{
+    let mut divisor = a;
+    let mut rest = b;
+    while rest != 0 {
+        let next = divisor % rest;
+        divisor = rest;
+        rest = next;
+    }
+    divisor
+}
+
+/// A part of the time, as a fraction.
+#[derive(Clone, Copy, Debug, PartialEq, Eq)]
+pub(crate) struct Fraction {
+    pub part: u128,
+    pub whole: u128,
+}
+
+impl Fraction {
+    /// Returns the same fraction, shortened.
+    #[tactic(auto, using(crate::proofs::Ratios::same_ratio))]
+    fn shortened(self) -> Fraction
+        ensures { result.part * self.whole ≡ self.part * result.whole }
+    {
+        match greatest_common_divisor(self.part, self.whole) {
+            0 => self,
+            divisor => Fraction {
+                part: self.part / divisor,
+                whole: self.whole / divisor,
+            },
+        }
+    }
+
+    /// Returns the tenths of a per cent, a half upward, of a fraction that has a whole.
+    fn tenths(self) -> u128 {
+        let twice = self.whole.saturating_mul(2);
+        if twice == 0 {
+            return 0;
+        }
+        self.part.saturating_mul(2000).saturating_add(self.whole) / twice
+    }
+}
+
+impl fmt::Display for Fraction {
+    fn fmt<W: fmt::Write>(&self, f: &mut fmt::Formatter<W>) -> fmt::Result {
+        let Fraction { part, whole } = self.shortened();
+        write!(f, "{part}/{whole}")
+    }
+}
+
+/// A fraction in per cent, with one decimal.
+#[derive(Clone, Copy)]
+pub(crate) struct Percent(pub Fraction);
+
+impl fmt::Display for Percent {
+    fn fmt<W: fmt::Write>(&self, f: &mut fmt::Formatter<W>) -> fmt::Result {
+        let tenths = self.0.tenths();
+        let whole = tenths / 10;
+        let rest = tenths % 10;
+        write!(f, "{whole}.{rest} %")
+    }
+}

@@ -1,0 +1,248 @@
+//! A server with which the plan is over the bound: by how much, and what would fit.
+
+use crate::fractions::{Fraction, Percent};
+use crate::limits::{BoundRead, reservation_of};
+use crate::page::{append_bar, append_note, append_times};
+use crate::spot::{Document, Spot, name_of};
+use crate::sums::{excess, least_period, share, total};
+use cbs_guarantee::{Part, SplitError, split};
+use cbs_rate::{AdmitError, Plan, Reservation};
+use std::alloc::{AllocError, Global};
+use std::fmt::Write;
+use toml::Value;
+
+/// The columns before the bar.
+const MARGIN: usize = 3;
+
+/// A server that a plan does not take.
+#[derive(Drop)]
+pub(crate) struct Refused<'a> {
+    /// Its number.
+    pub number: usize,
+    /// Why it is not taken.
+    pub why: AdmitError,
+    /// The bound of the plan.
+    pub bound: BoundRead,
+    /// The plan of the servers before it.
+    pub plan: Plan,
+    pub reservation: Reservation,
+    pub document: Document<'a>,
+}
+
+impl Refused<'_> {
+    /// Returns what the servers before it have.
+    fn before(&self) -> Fraction {
+        share(self.plan.bandwidth())
+    }
+
+    /// Returns what it would have.
+    fn own(&self) -> Fraction {
+        Fraction {
+            part: u128::from(self.reservation.budget()),
+            whole: u128::from(self.reservation.period()),
+        }
+    }
+
+    /// Returns what all would have together.
+    fn total(&self) -> Fraction {
+        total(self.plan.bandwidth(), self.reservation)
+    }
+
+    /// Returns the bound.
+    fn bound(&self) -> Fraction {
+        Fraction {
+            part: u128::from(self.bound.part),
+            whole: u128::from(self.bound.whole),
+        }
+    }
+
+    /// Returns the least period in which its budget fits into what is left, if the plan takes that.
+    fn least_period(&self) -> Option<u64> {
+        let budget = self.reservation.budget();
+        let period = least_period(budget, excess(self.bound(), self.before())?)?;
+        if self.plan.greatest_budget(period) < budget {
+            return None;
+        }
+        Some(period)
+    }
+}
+
+/// Appends two blanks, and a text to the right of a column.
+fn append_right(text: &mut String, width: usize, what: &str) -> Result<(), AllocError> {
+    text.push_str("  ")?;
+    append_times(text, width.saturating_sub(what.chars().count()), " ")?;
+    text.push_str(what)
+}
+
+/// Appends a row of the sum.
+fn append_row(
+    alloc: Global,
+    text: &mut String,
+    label: &str,
+    fraction: Fraction,
+    end: &str,
+) -> Result<(), AllocError> {
+    let shown = format!(in alloc; "{fraction}")?;
+    let percent = Percent(fraction);
+    let percent = format!(in alloc; "{percent}")?;
+    append_times(text, MARGIN, " ")?;
+    write!(text, "| {label}")?;
+    append_times(text, 24usize.saturating_sub(label.chars().count()), " ")?;
+    append_right(text, 10, &shown)?;
+    append_right(text, 7, &percent)?;
+    text.push_str(end)
+}
+
+/// Appends a row of the servers before, if there are any.
+fn append_before(
+    alloc: Global,
+    text: &mut String,
+    refused: &Refused<'_>,
+) -> Result<(), AllocError> {
+    let label = match refused.number {
+        0 => return Ok(()),
+        1 => String::from_str(alloc, "server 0")?,
+        number => format!(in alloc; "servers 0 to {}", number.saturating_sub(1))?,
+    };
+    append_row(alloc, text, &label, refused.before(), "\n")
+}
+
+/// Appends the sum: the servers before, the server, and by how much they are over the bound.
+fn append_sum(alloc: Global, text: &mut String, refused: &Refused<'_>) -> Result<(), AllocError> {
+    let budget = refused.reservation.budget();
+    let period = refused.reservation.period();
+    let label = format!(in alloc; "budget = {budget}, period = {period}")?;
+    append_bar(text, MARGIN)?;
+    append_before(alloc, text, refused)?;
+    append_row(alloc, text, &label, refused.own(), "\n")?;
+    if let Some(excess) = excess(refused.total(), refused.bound()) {
+        append_row(alloc, text, "", excess, "  too much\n")?;
+    }
+    append_bar(text, MARGIN)
+}
+
+/// Appends a help.
+fn append_help(text: &mut String, words: &str) -> Result<(), AllocError> {
+    append_note(text, MARGIN, "help", words)
+}
+
+/// Appends the greatest budget at this period.
+fn append_greatest(
+    alloc: Global,
+    text: &mut String,
+    refused: &Refused<'_>,
+) -> Result<(), AllocError> {
+    let period = refused.reservation.period();
+    let words = match refused.plan.greatest_budget(period) {
+        0 => format!(in alloc; "at period {period} no budget fits")?,
+        budget => format!(in alloc;
+            "at period {period} a budget of {budget} fits, and no greater one"
+        )?,
+    };
+    append_help(text, &words)
+}
+
+/// Appends the least period for this budget, if there is one.
+fn append_least(alloc: Global, text: &mut String, refused: &Refused<'_>) -> Result<(), AllocError> {
+    let Some(period) = refused.least_period() else {
+        return Ok(());
+    };
+    let budget = refused.reservation.budget();
+    let words = format!(in alloc; "a budget of {budget} fits from period {period} on")?;
+    append_help(text, &words)
+}
+
+/// Returns the reservations of all servers, if each has one.
+fn reservations(alloc: Global, servers: &[Value]) -> Result<Option<Vec<Reservation>>, AllocError> {
+    let mut all = Vec::new(alloc);
+    for entry in servers {
+        let Some(reservation) = reservation_of(entry) else {
+            return Ok(None);
+        };
+        all.push(reservation)?;
+    }
+    Ok(Some(all))
+}
+
+/// Returns the name of a server, or its number in words.
+fn called(alloc: Global, servers: &[Value], number: usize) -> Result<String, AllocError> {
+    match servers.get(number).and_then(name_of) {
+        Some(name) => String::from_str(alloc, name),
+        None => format!(in alloc; "server {number}"),
+    }
+}
+
+/// Appends the names of the servers of a part.
+fn append_names(
+    alloc: Global,
+    text: &mut String,
+    servers: &[Value],
+    part: &[usize],
+) -> Result<(), AllocError> {
+    for (place, number) in part.iter().enumerate() {
+        if place > 0 {
+            text.push_str(", ")?;
+        }
+        text.push_str(&called(alloc, servers, *number)?)?;
+    }
+    Ok(())
+}
+
+/// Appends the parts of a split, each with its servers and their sum.
+fn append_parts(
+    alloc: Global,
+    text: &mut String,
+    servers: &[Value],
+    parts: &[Part],
+) -> Result<(), AllocError> {
+    for (place, part) in parts.iter().enumerate() {
+        let sum = share(part.plan.bandwidth());
+        append_times(text, MARGIN + 8, " ")?;
+        write!(text, "{}: ", place + 1)?;
+        append_names(alloc, text, servers, &part.servers)?;
+        writeln!(text, "  ({sum})")?;
+    }
+    Ok(())
+}
+
+/// Appends a split of all servers over as few executors as first fit finds, if there is one.
+fn append_split(alloc: Global, text: &mut String, refused: &Refused<'_>) -> Result<(), AllocError> {
+    let servers = refused.document.servers;
+    let Some(all) = reservations(alloc, servers)? else {
+        return Ok(());
+    };
+    match split(alloc, refused.bound.bound, &all) {
+        Ok(parts) => {
+            let executors = parts.len();
+            let count = all.len();
+            let words = format!(in alloc; "on {executors} executors all {count} servers fit:")?;
+            append_help(text, &words)?;
+            append_parts(alloc, text, servers, &parts)
+        }
+        Err(SplitError::OverBound { server }) => {
+            let words = format!(in alloc; "server {server} is over the bound even alone")?;
+            append_help(text, &words)
+        }
+        Err(SplitError::OutOfMemory) => Err(AllocError),
+    }
+}
+
+/// Appends what is said of a server with which the plan is over the bound.
+pub(crate) fn append_over(
+    alloc: Global,
+    text: &mut String,
+    spot: &Spot<'_>,
+    refused: &Refused<'_>,
+) -> Result<(), AllocError> {
+    let number = refused.number;
+    let total = refused.total();
+    let bound = refused.bound();
+    writeln!(
+        text,
+        "error: over the bound: {total} of the time with server {number}, and the bound is {bound}\n  --> {spot}"
+    )?;
+    append_sum(alloc, text, refused)?;
+    append_greatest(alloc, text, refused)?;
+    append_least(alloc, text, refused)?;
+    append_split(alloc, text, refused)
+}

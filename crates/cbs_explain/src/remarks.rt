@@ -1,0 +1,206 @@
+//! The line of a value that is not what its key wants, with carets and a remark.
+
+use crate::keys::{Key, Want};
+use crate::nearest::nearest;
+use crate::page::{Marked, append_line};
+use crate::shown::Shown;
+use crate::spot::{Spot, name_of};
+use crate::values::{append_allowed, append_type, period_at};
+use crate::wants::two_numbers;
+use std::alloc::{AllocError, Global};
+use std::fmt::Write;
+use toml::Value;
+
+/// Returns the names of servers.
+pub(crate) fn server_names(alloc: Global, servers: &[Value]) -> Result<Vec<&str>, AllocError> {
+    let mut names = Vec::new(alloc);
+    for entry in servers {
+        if let Some(name) = name_of(entry) {
+            names.push(name)?;
+        }
+    }
+    Ok(names)
+}
+
+/// Returns the word that may be meant by a value, if it is a text and its key wants one of some words.
+fn meant<'a>(
+    alloc: Global,
+    want: Want,
+    value: &Value,
+    spot: &Spot<'a>,
+) -> Result<Option<&'a str>, AllocError> {
+    let Value::String(word) = value else {
+        return Ok(None);
+    };
+    match want {
+        Want::Word(words) => nearest(alloc, word, words.list()),
+        Want::ServerName => nearest(alloc, word, &server_names(alloc, spot.document.servers)?),
+        _ => Ok(None),
+    }
+}
+
+/// Appends the numbers from the least to the greatest.
+fn append_span(text: &mut String, least: u64, greatest: u64) -> Result<(), AllocError> {
+    if least == greatest {
+        write!(text, "{least}")
+    } else {
+        write!(text, "{least} to {greatest}")
+    }
+}
+
+/// Appends which numbers a range may be of, or what it may be the other way round.
+fn append_range(
+    text: &mut String,
+    least: u64,
+    greatest: u64,
+    value: &Value,
+) -> Result<(), AllocError> {
+    match two_numbers(value) {
+        Ok((first, second)) if second < first => {
+            write!(text, "did you mean [{second}, {first}]?")
+        }
+        Ok(_) => append_span(text, least, greatest),
+        Err(_) => text.push_str("a number or [least, greatest]"),
+    }
+}
+
+/// Appends what a value may be, in short.
+fn append_short(
+    text: &mut String,
+    want: Want,
+    value: &Value,
+    spot: &Spot<'_>,
+) -> Result<(), AllocError> {
+    match want {
+        Want::Number(least, greatest) => append_span(text, least, greatest),
+        Want::Budget => append_span(text, 1, period_at(spot).unwrap_or(1)),
+        Want::Range(least, greatest) => append_range(text, least, greatest, value),
+        Want::ServerName => text.push_str("no server has this name"),
+        Want::Server => match spot.document.servers.len() {
+            0 => text.push_str("there is none"),
+            count => append_span(text, 0, count as u64 - 1),
+        },
+        _ => append_allowed(text, want, spot),
+    }
+}
+
+/// Returns whether a key wants numbers.
+fn wants_number(want: Want) -> bool {
+    matches!(
+        want,
+        Want::Number(_, _) | Want::Budget | Want::Server | Want::Range(_, _)
+    )
+}
+
+/// Appends a value behind its key, and returns where it stands: at its text, not at the quotes, if it is meant as a word.
+fn appended<'a>(
+    line: &mut String,
+    key: &str,
+    value: &Value,
+    inside: bool,
+    remark: &'a str,
+) -> Result<Marked<'a>, AllocError> {
+    write!(line, "{key} = ")?;
+    let from = line.chars().count();
+    let shown = Shown(value);
+    write!(line, "{shown}")?;
+    let count = line.chars().count().saturating_sub(from);
+    Ok(if inside {
+        Marked {
+            from: from.saturating_add(1),
+            count: count.saturating_sub(2),
+            remark,
+        }
+    } else {
+        Marked {
+            from,
+            count,
+            remark,
+        }
+    })
+}
+
+/// Appends the line of a key and its value, with carets below the value.
+fn append_value(
+    alloc: Global,
+    text: &mut String,
+    key: &str,
+    value: &Value,
+    inside: bool,
+    remark: &str,
+) -> Result<(), AllocError> {
+    let mut line = String::new(alloc);
+    let marked = appended(&mut line, key, value, inside, remark)?;
+    append_line(text, "  ", &line, marked)
+}
+
+/// Appends the line of a value that is out of range.
+pub(crate) fn append_outside_line(
+    alloc: Global,
+    text: &mut String,
+    key: Key,
+    value: &Value,
+    spot: &Spot<'_>,
+) -> Result<(), AllocError> {
+    let mut remark = String::new(alloc);
+    match meant(alloc, key.want, value, spot)? {
+        Some(word) => write!(remark, "did you mean {word:?}?")?,
+        None => append_short(&mut remark, key.want, value, spot)?,
+    }
+    append_value(alloc, text, key.name, value, value.is_str(), &remark)
+}
+
+/// Appends what to do about a value of a wrong type.
+fn append_type_remark(text: &mut String, want: Want, value: &Value) -> Result<(), AllocError> {
+    match value {
+        Value::String(word) if wants_number(want) => match word.parse::<i64>() {
+            Ok(number) => write!(text, "without the quotes it is the number {number}"),
+            Err(_) => append_type(text, want),
+        },
+        Value::Integer(number) if matches!(want, Want::Name | Want::ServerName) => {
+            write!(text, "in quotes it is the text \"{number}\"")
+        }
+        _ => append_type(text, want),
+    }
+}
+
+/// Appends the line of a value of a wrong type.
+pub(crate) fn append_type_line(
+    alloc: Global,
+    text: &mut String,
+    key: Key,
+    value: &Value,
+) -> Result<(), AllocError> {
+    let mut remark = String::new(alloc);
+    append_type_remark(&mut remark, key.want, value)?;
+    append_value(alloc, text, key.name, value, false, &remark)
+}
+
+/// Appends the line of a name that an earlier server has.
+pub(crate) fn append_taken_line(
+    alloc: Global,
+    text: &mut String,
+    value: &Value,
+) -> Result<(), AllocError> {
+    let remark = "a name that no other server has";
+    append_value(alloc, text, "name", value, true, remark)
+}
+
+/// Appends the line of a key with a value, with carets below the key.
+pub(crate) fn append_key_line(
+    alloc: Global,
+    text: &mut String,
+    key: &str,
+    value: &Value,
+    remark: &str,
+) -> Result<(), AllocError> {
+    let mut line = String::new(alloc);
+    let shown = Shown(value);
+    write!(line, "{key} = {shown}")?;
+    let marked = Marked {
+        from: 0,
+        count: key.chars().count(),
+        remark,
+    };
+    append_line(text, "  ", &line, marked)
+}

@@ -1,0 +1,190 @@
+//! What is said of a value that is not what its key wants.
+
+use crate::keys::{Key, Want};
+use crate::page::append_list;
+use crate::shown::{Shown, type_phrase};
+use crate::spot::Spot;
+use crate::wants::{MAX_NUMBER, first_bad_unit, period_of, two_numbers};
+use std::alloc::AllocError;
+use std::fmt::Write;
+use toml::Value;
+
+/// Appends the words of a choice, each between quotes.
+fn append_words(text: &mut String, words: &[&str]) -> Result<(), AllocError> {
+    append_list(text, words, "\"", " or ")
+}
+
+/// Appends of which type a value has to be.
+pub(crate) fn append_type(text: &mut String, want: Want) -> Result<(), AllocError> {
+    match want {
+        Want::Number(_, _) | Want::Budget | Want::Server => text.push_str("a number"),
+        Want::Range(_, _) => text.push_str("a number or [least, greatest]"),
+        Want::Word(words) => append_words(text, words.list()),
+        Want::Name | Want::ServerName => text.push_str("a text"),
+        Want::Bound => text.push_str("two numbers, [N, D]"),
+        Want::Tables(_) => text.push_str("an array of tables"),
+        Want::Units => text.push_str("an array of numbers"),
+    }
+}
+
+/// Appends which numbers a value may be.
+fn append_numbers(text: &mut String, least: u64, greatest: u64) -> Result<(), AllocError> {
+    match greatest.saturating_sub(least) {
+        0 => write!(text, "{least}"),
+        1 => write!(text, "{least} or {greatest}"),
+        _ => write!(text, "a number from {least} to {greatest}"),
+    }
+}
+
+/// Appends which numbers a budget may be.
+fn append_budget(text: &mut String, period: Option<u64>) -> Result<(), AllocError> {
+    match period {
+        Some(period) => write!(text, "a number from 1 to the period, {period}"),
+        None => text.push_str("a number from 1 to the period"),
+    }
+}
+
+/// Returns the period of the table in which a value stands.
+pub(crate) fn period_at(spot: &Spot<'_>) -> Option<u64> {
+    period_of(spot.table?)
+}
+
+/// Appends what a value may be.
+pub(crate) fn append_allowed(
+    text: &mut String,
+    want: Want,
+    spot: &Spot<'_>,
+) -> Result<(), AllocError> {
+    match want {
+        Want::Number(least, greatest) => append_numbers(text, least, greatest),
+        Want::Budget => append_budget(text, period_at(spot)),
+        Want::Range(least, greatest) => write!(
+            text,
+            "a number or [least, greatest], from {least} to {greatest}"
+        ),
+        Want::Word(words) => append_words(text, words.list()),
+        Want::Name => text.push_str("1 to 32 letters, digits, `-` and `_`"),
+        Want::Bound => text.push_str("[N, D] with 1 <= N <= D <= 1000000"),
+        Want::Tables(most) => write!(text, "at most {most} tables"),
+        Want::Units => write!(text, "1 to 1000000 numbers from 0 to {MAX_NUMBER}"),
+        Want::Server | Want::ServerName => text.push_str("a server"),
+    }
+}
+
+/// Appends which servers there are, by their numbers.
+fn append_servers(text: &mut String, count: usize) -> Result<(), AllocError> {
+    match count {
+        0 => text.push_str("there are no servers"),
+        1 => text.push_str("there is 1 server, 0"),
+        2 => text.push_str("there are 2 servers, 0 and 1"),
+        _ => write!(
+            text,
+            "there are {count} servers, 0 to {}",
+            count.saturating_sub(1)
+        ),
+    }
+}
+
+/// Appends what is wrong with a range.
+fn append_range(
+    text: &mut String,
+    key: Key,
+    value: &Value,
+    spot: &Spot<'_>,
+) -> Result<(), AllocError> {
+    let name = key.name;
+    match two_numbers(value) {
+        Ok((least, greatest)) if greatest < least => write!(
+            text,
+            "the least of `{name}`, {least}, is above its greatest, {greatest}"
+        ),
+        _ => append_plain(text, key, value, spot),
+    }
+}
+
+/// Appends which of the units of a job is wrong, or that there are too few or too many.
+fn append_units(text: &mut String, name: &str, value: &Value) -> Result<(), AllocError> {
+    let Value::Array(values) = value else {
+        return Ok(());
+    };
+    let Some(place) = first_bad_unit(values) else {
+        let count = values.len();
+        return write!(
+            text,
+            "`{name}` has {count} numbers, and has to have 1 to 1000000"
+        );
+    };
+    match values.get(place.saturating_sub(1)) {
+        Some(unit) => {
+            let unit = Shown(unit);
+            write!(
+                text,
+                "number {place} of `{name}` is {unit}, and has to be from 0 to {MAX_NUMBER}"
+            )
+        }
+        None => Ok(()),
+    }
+}
+
+/// Appends that a value is not what it may be.
+fn append_plain(
+    text: &mut String,
+    key: Key,
+    value: &Value,
+    spot: &Spot<'_>,
+) -> Result<(), AllocError> {
+    let name = key.name;
+    let shown = Shown(value);
+    write!(text, "`{name}` is {shown}, and has to be ")?;
+    append_allowed(text, key.want, spot)
+}
+
+/// Appends what is wrong with a value that is out of range.
+pub(crate) fn append_outside(
+    text: &mut String,
+    key: Key,
+    value: &Value,
+    spot: &Spot<'_>,
+) -> Result<(), AllocError> {
+    let name = key.name;
+    let shown = Shown(value);
+    match key.want {
+        Want::Server => {
+            write!(text, "`{name}` is {shown}, and ")?;
+            append_servers(text, spot.document.servers.len())
+        }
+        Want::ServerName => write!(text, "there is no server {shown}"),
+        Want::Range(_, _) => append_range(text, key, value, spot),
+        Want::Units => append_units(text, name, value),
+        Want::Tables(most) => write!(text, "`{name}` has more tables than {most}"),
+        _ => append_plain(text, key, value, spot),
+    }
+}
+
+/// Returns the first entry of an array that is no number.
+fn odd_entry(want: Want, value: &Value) -> Option<&Value> {
+    if !matches!(want, Want::Range(_, _) | Want::Bound | Want::Units) {
+        return None;
+    }
+    value.as_array()?.iter().find(|entry| !entry.is_integer())
+}
+
+/// Appends what is wrong with a value of a wrong type.
+pub(crate) fn append_wrong_type(
+    text: &mut String,
+    key: Key,
+    value: &Value,
+) -> Result<(), AllocError> {
+    let name = key.name;
+    match odd_entry(key.want, value) {
+        Some(entry) => {
+            let phrase = type_phrase(entry);
+            write!(text, "`{name}` has {phrase} in it, and has to be ")?;
+        }
+        None => {
+            let phrase = type_phrase(value);
+            write!(text, "`{name}` is {phrase}, and has to be ")?;
+        }
+    }
+    append_type(text, key.want)
+}

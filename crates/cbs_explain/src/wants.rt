@@ -1,0 +1,109 @@
+//! Whether a value is what its key wants.
+
+use crate::keys::Want;
+use crate::spot::{Spot, server_named};
+use cbs_job::MAX_UNITS;
+use cbs_rate::MAX_PERIOD;
+use cbs_tables::{
+    FileKind, all_integers, below, bound_of, integer, items, number, pair, sized, text, within,
+};
+use toml::{Table, Value};
+
+/// The greatest number of a unit.
+pub(crate) const MAX_NUMBER: u64 = 4_294_967_295;
+
+/// The longest name of a server, in bytes.
+const MAX_NAME: usize = 32;
+
+/// Returns whether a text is a name: 1 to [`MAX_NAME`] letters, digits, `-` and `_`.
+pub(crate) fn is_name(name: &str) -> bool {
+    let bytes = name.as_bytes();
+    !bytes.is_empty()
+        && bytes.len() <= MAX_NAME
+        && bytes.iter().all(|byte| byte.is_ascii_alphanumeric() || *byte == b'-' || *byte == b'_')
+}
+
+/// Returns the period of a table, if it is one.
+pub(crate) fn period_of(table: &Table) -> Option<u64> {
+    number(1, MAX_PERIOD, table.get("period")?).ok()
+}
+
+/// Returns the first of some values that is not what a unit wants, from 1.
+pub(crate) fn first_bad_unit(values: &[Value]) -> Option<usize> {
+    for (place, value) in values.iter().enumerate() {
+        if number(0, MAX_NUMBER, value).is_err() {
+            return Some(place + 1);
+        }
+    }
+    None
+}
+
+/// Returns the least and the greatest number of a range, for both of which one number stands.
+pub(crate) fn two_numbers(value: &Value) -> Result<(i64, i64), FileKind> {
+    if let Some(number) = value.as_integer() {
+        return Ok((number, number));
+    }
+    pair(items(value)?)?.ok_or(FileKind::OutOfRange)
+}
+
+/// Tests a range.
+fn test_range(low: u64, high: u64, value: &Value) -> Result<(), FileKind> {
+    let (least, greatest) = two_numbers(value)?;
+    let least = within(low, high, least)?;
+    within(least, high, greatest)?;
+    Ok(())
+}
+
+/// Tests a budget. If the period is no period, the budget is tested without it.
+fn test_budget(value: &Value, table: Option<&Table>) -> Result<(), FileKind> {
+    let greatest = match table {
+        Some(table) => period_of(table).unwrap_or(u64::MAX),
+        None => u64::MAX,
+    };
+    within(1, greatest, integer(value)?)?;
+    Ok(())
+}
+
+/// Tests the numbers of the units of a job.
+fn test_units(value: &Value) -> Result<(), FileKind> {
+    let values = items(value)?;
+    all_integers(values)?;
+    sized(1, MAX_UNITS as usize, values)?;
+    if first_bad_unit(values).is_some() {
+        return Err(FileKind::OutOfRange);
+    }
+    Ok(())
+}
+
+/// Returns an error unless something holds.
+fn hold(holds: bool) -> Result<(), FileKind> {
+    if holds {
+        Ok(())
+    } else {
+        Err(FileKind::OutOfRange)
+    }
+}
+
+/// Tests whether a value of a table is what its key wants.
+pub(crate) fn test(want: Want, value: &Value, spot: &Spot<'_>) -> Result<(), FileKind> {
+    let servers = spot.document.servers;
+    match want {
+        Want::Number(least, greatest) => {
+            number(least, greatest, value)?;
+        }
+        Want::Budget => test_budget(value, spot.table)?,
+        Want::Server => {
+            below(servers.len() as u64, integer(value)?)?;
+        }
+        Want::Range(least, greatest) => test_range(least, greatest, value)?,
+        Want::Word(words) => hold(words.list().contains(&text(value)?))?,
+        Want::Name => hold(is_name(text(value)?))?,
+        Want::ServerName => hold(server_named(servers, text(value)?).is_some())?,
+        Want::Bound => {
+            bound_of(pair(items(value)?)?)?;
+        }
+        Want::Tables(most) => hold(items(value)?.len() as u64 <= most)?,
+        Want::Units => test_units(value)?,
+    }
+    Ok(())
+}

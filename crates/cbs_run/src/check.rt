@@ -1,0 +1,107 @@
+//! The command `check`: from the bytes of a load or a task file to a status.
+
+ghost use Rattle.std.specs.Prelude.{◌≡◌, ◌+◌, ◌-◌, ◌<◌, ◌^◌, Err, IfOk, string_bytes};
+ghost use Rattle.cbs_tables.specs.Documents.{no_memory};
+ghost use Rattle.cbs_tables.specs.Fields.{Gives};
+ghost use Rattle.cbs_tables.specs.Memory.{memory_wanted};
+ghost use Rattle.cbs_run.specs.Checked.{any_file, IsCheckText};
+ghost use Rattle.cbs_run.specs.Printing.{EndsPrinting, Prints};
+ghost use Rattle.cbs_run.specs.Statuses.{LacksMemory};
+
+use crate::fault_lines::{write_file_fault, write_run_fault};
+use crate::output::{ByteOutput, write_text};
+use crate::run::{BAD_FILE, DONE, RUN_FAULT};
+use crate::run_error::RunError;
+use cbs_check::{check_load, check_plan};
+use cbs_file::{FileFault, TaskFile, read_file_within};
+use cbs_load::{Load, is_load_within, read_load_within};
+use std::alloc::{AllocError, Global};
+
+/// A file of either kind.
+#[derive(Drop)]
+enum AnyFile {
+    /// A load.
+    Load(Load),
+    /// A task file.
+    Tasks(TaskFile),
+}
+
+/// Returns the file that the bytes spell, or its first fault, if the bytes want at most `memory` bytes of memory.
+#[tactic(auto, unfolding(crate::specs::Checked::any_file))]
+fn read_any(alloc: Global, memory: u64, bytes: &[u8]) -> Result<AnyFile, FileFault>
+    ensures read { Gives no_memory (λ f. f) result (any_file bytes.now) }
+    ensures bounded { memory < memory_wanted bytes.now → result ≡ Err no_memory }
+{
+    let is_load = is_load_within(alloc, memory, bytes)?;
+    if is_load {
+        let load = read_load_within(alloc, memory, bytes)?;
+        Ok(AnyFile::Load(load))
+    } else {
+        let file = read_file_within(alloc, memory, bytes)?;
+        Ok(AnyFile::Tasks(file))
+    }
+}
+
+/// Returns what is told of a file.
+fn check_text(alloc: Global, file: &AnyFile) -> Result<String, AllocError>
+    ensures { IfOk result (λ text. IsCheckText file.now (string_bytes text)) }
+{
+    match file {
+        AnyFile::Load(load) => check_load(alloc, load),
+        AnyFile::Tasks(file) => check_plan(alloc, file.plan(), file.modes()),
+    }
+}
+
+/// Prints what is told of a file.
+fn print_check<O: ByteOutput>(alloc: Global, file: &AnyFile, out: &mut O) -> Result<(), RunError>
+    requires { O.failed out.old < 2 ^ 64 - 1 }
+    ensures { Prints (IsCheckText file.now) result
+        (record { written = O.written out.old; failed = O.failed out.old }) (record { written = O.written out.new; failed = O.failed out.new }) }
+{
+    let text = check_text(alloc, file)?;
+    write_text(out, text.as_bytes())?;
+    Ok(())
+}
+
+/// Prints what is told of the load or the task file that the bytes spell: a load if the top table has the key `load`. Returns
+/// the status.
+///
+/// At status 0 the whole text is on `out`, and nothing on `err`. At status 3 the file has a fault: its line goes to `err`, and
+/// nothing to `out`. At status 4 the run ended early: the line of that goes to `err`, and `out` has a prefix of the text, which
+/// is empty unless a write failed. A line that cannot be written changes no status.
+///
+/// If the bytes want more than `memory` bytes of memory, the status is 3, with the line of out of memory on `err`, and
+/// nothing is parsed.
+pub fn check_bytes_within<O: ByteOutput, E: ByteOutput>(
+    alloc: Global,
+    memory: u64,
+    bytes: &[u8],
+    out: &mut O,
+    err: &mut E,
+) -> u8
+    requires out { O.failed out.old < 2 ^ 64 - 1 }
+    requires err { E.failed err.old < 2 ^ 64 - 1 }
+    ensures ends { EndsPrinting any_file IsCheckText bytes.now
+        (record { written = O.written out.old; failed = O.failed out.old }) (record { written = O.written out.new; failed = O.failed out.new })
+        (record { written = E.written err.old; failed = E.failed err.old }) (record { written = E.written err.new; failed = E.failed err.new })
+        result }
+    ensures bounded { memory < memory_wanted bytes.now → LacksMemory
+        (record { written = O.written out.old; failed = O.failed out.old }) (record { written = O.written out.new; failed = O.failed out.new })
+        (record { written = E.written err.old; failed = E.failed err.old }) (record { written = E.written err.new; failed = E.failed err.new })
+        result }
+{
+    let file = match read_any(alloc, memory, bytes) {
+        Ok(file) => file,
+        Err(fault) => {
+            let _written = write_file_fault(err, fault);
+            return BAD_FILE;
+        }
+    };
+    match print_check(alloc, &file, out) {
+        Ok(()) => DONE,
+        Err(error) => {
+            let _written = write_run_fault(err, error);
+            RUN_FAULT
+        }
+    }
+}

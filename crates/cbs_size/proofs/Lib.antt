@@ -1,0 +1,5 @@
+pub mod Divisors
+pub mod Removed
+pub mod Joins
+pub mod Charges
+pub mod Greatest

@@ -1,0 +1,4 @@
+pub mod Budgets
+pub mod Asked
+pub mod Joined
+pub mod ServerLoads

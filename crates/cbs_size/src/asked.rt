@@ -1,0 +1,60 @@
+//! What sources ask for, all together.
+
+ghost use Rattle.std.specs.Prelude.{◌+◌, ◌*◌, ◌/◌, ◌≤◌, ◌<◌, length, All, MatchOption, IfSome};
+ghost use Rattle.cbs_rate.specs.Limits.{most_units};
+ghost use Rattle.cbs_load.specs.Loads.{most_sources};
+ghost use Rattle.cbs_size.specs.Asked.{IsAsked, AreTooFine};
+ghost use Rattle.cbs_size.specs.Joined.{IsJoined, IsJoinedTooFine};
+
+use crate::divisor::greatest_common_divisor;
+use cbs_guarantee::Source;
+use cbs_rate::MAX_COMMON_MULTIPLE;
+
+/// What sources ask for at most, all together: a part of the time.
+#[derive(Clone, Copy, Debug, PartialEq, Eq)]
+pub struct Asked {
+    /// The ticks.
+    pub ticks: u128,
+    /// In every so many ticks, 1 to 10^18.
+    pub of: u64,
+}
+
+impl Asked {
+    /// Returns what is asked with one source more, or `None` if that cannot be summed exactly.
+    fn with(self, source: &Source) -> Option<Asked>
+        requires some { 0 < self.of }
+        requires units { source.now.units ≤ most_units }
+        requires small { self.ticks ≤ most_sources * (most_units * self.of) }
+        ensures joined { MatchOption result (IsJoinedTooFine self source.now) (IsJoined self source.now) }
+        ensures small { IfSome result (λ a. a.ticks ≤ self.ticks * (a.of / self.of) + most_units * a.of) }
+    {
+        let of = u128::from(self.of);
+        let every = u128::from(source.every);
+        if every == 0 {
+            return None;
+        }
+        let common = of / greatest_common_divisor(of, every) * every;
+        if common > u128::from(MAX_COMMON_MULTIPLE) {
+            return None;
+        }
+        let ticks = self.ticks * (common / of) + u128::from(source.units) * (common / every);
+        Some(Asked {
+            ticks,
+            of: common as u64,
+        })
+    }
+}
+
+/// Returns what the sources ask for at most, all together, or `None` if no common multiple of their periods is within
+/// [`MAX_COMMON_MULTIPLE`].
+pub(crate) fn asked_by(sources: &[Source]) -> Option<Asked>
+    requires few { length sources.now ≤ most_sources }
+    requires units { All (λ source. source.units ≤ most_units) sources.now }
+    ensures { MatchOption result (AreTooFine sources.now) (IsAsked sources.now) }
+{
+    let mut asked = Asked { ticks: 0, of: 1 };
+    for source in sources {
+        asked = asked.with(source)?;
+    }
+    Some(asked)
+}

@@ -1,0 +1,15 @@
+//! Numbers that size a load: each server's greatest budget, what its sources ask for, and within how many ticks their jobs are
+//! finished.
+#![tactic(auto)]
+
+mod asked;
+mod budgets;
+mod divisor;
+mod server_load;
+#[cfg(test)]
+mod tests;
+
+pub use asked::Asked;
+pub use budgets::greatest_budgets;
+pub use divisor::greatest_common_divisor;
+pub use server_load::{ServerLoad, server_loads};

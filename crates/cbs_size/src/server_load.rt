@@ -1,0 +1,133 @@
+//! What is told of the sources of each server of a load.
+
+ghost use Rattle.std.specs.Prelude.{◌≡◌, ◌≤◌, ◌<◌, length, All, IfOk, MatchOption};
+ghost use Rattle.cbs_rate.specs.Limits.{most_units};
+ghost use Rattle.cbs_guarantee.specs.Sources.{IsPromised};
+ghost use Rattle.cbs_size.specs.ServerLoads.{held, at_most, sources_of, most_charged, all_charges, IsNotPromised, IsServerLoad, AreServerLoads};
+
+use crate::asked::{Asked, asked_by};
+use cbs_guarantee::{MAX_DELAY, Source, guaranteed};
+use cbs_load::Load;
+use cbs_rate::Reservation;
+use cbs_simulate::SourceTerms;
+use std::alloc::{AllocError, Global};
+
+/// What is told of the sources of a server.
+#[derive(Clone, Copy, Debug, PartialEq, Eq)]
+pub struct ServerLoad {
+    /// What they ask for at most, all together, if that can be summed exactly.
+    pub asked: Option<Asked>,
+    /// Within how many ticks after it came each of their jobs is finished, whatever is asked of the others, if that is promised.
+    pub promised: Option<u64>,
+}
+
+/// Returns a number in 32 bits: one that is greater than 2^32 - 1 as that.
+fn held(number: u64) -> u32
+    ensures { result ≡ held number }
+{
+    number.min(u64::from(u32::MAX)) as u32
+}
+
+/// Returns a source at its most, as its guarantee takes it.
+fn at_most(terms: &SourceTerms) -> Source
+    ensures { result ≡ at_most terms.now }
+{
+    Source {
+        units: held(terms.units.greatest()),
+        every: terms.every.least(),
+        overrun: held(terms.overrun.greatest()),
+    }
+}
+
+/// Returns the sources of a server, each at its most. The only error is out of memory.
+fn sources_of(
+    alloc: Global,
+    sources: &[SourceTerms],
+    server: u16,
+) -> Result<Vec<Source>, AllocError>
+    requires { All (λ terms. terms.units.greatest ≤ most_units) sources.now }
+    ensures value { IfOk result (λ own. own.items ≡ sources_of server sources.now) }
+    ensures few { IfOk result (λ own. length own.items ≤ length sources.now) }
+    ensures units { IfOk result (λ own. All (λ source. source.units ≤ most_units) own.items) }
+{
+    let mut own = Vec::new(alloc);
+    for terms in sources {
+        if terms.server == server {
+            own.push(at_most(terms))?;
+        }
+    }
+    Ok(own)
+}
+
+/// Returns the most ticks that a unit of a server is charged: the greatest overrun of its sources.
+fn most_charged(sources: &[SourceTerms], server: u16) -> u64
+    ensures { result ≡ most_charged sources.now server }
+{
+    let mut most = 0;
+    for terms in sources {
+        if terms.server == server {
+            most = most.max(terms.overrun.greatest());
+        }
+    }
+    most
+}
+
+/// Returns the most that each server is charged for one unit, all together.
+fn all_charges(sources: &[SourceTerms], servers: u16) -> u128
+    ensures { result ≡ all_charges sources.now servers }
+{
+    let mut charges = 0;
+    for server in 0..servers {
+        charges += u128::from(most_charged(sources, server));
+    }
+    charges
+}
+
+/// Returns within how many ticks each job of a server's sources is finished, or `None` if that is not promised. The others delay
+/// the server by `delay` ticks at most.
+fn promised(server: Reservation, sources: &[Source], delay: u128, backlog: u64) -> Option<u64>
+    ensures { MatchOption result (IsNotPromised server sources.now delay backlog) (IsPromised server sources.now delay backlog) }
+{
+    if delay > u128::from(MAX_DELAY) {
+        return None;
+    }
+    match guaranteed(server, sources, delay as u64, backlog) {
+        Ok(within) => Some(within),
+        Err(_) => None,
+    }
+}
+
+/// Returns what is told of a server of a load, whose servers are charged so much for one unit, all together. The only error
+/// is out of memory.
+fn server_load(
+    alloc: Global,
+    load: &Load,
+    server: u16,
+    charges: u128,
+) -> Result<ServerLoad, AllocError>
+    requires server { server < length load.now.plan.rates }
+    requires charges { charges ≡ all_charges load.now.sources (length load.now.plan.rates) }
+    ensures { IfOk result (IsServerLoad load.now server) }
+{
+    let sources = load.sources();
+    let reservation = load.plan().get(server).unwrap();
+    let own = sources_of(alloc, sources, server)?;
+    let delay = charges.saturating_sub(u128::from(most_charged(sources, server)));
+    Ok(ServerLoad {
+        asked: asked_by(&own),
+        promised: promised(reservation, &own, delay, load.backlog()),
+    })
+}
+
+/// Returns what is told of each server of a load, by number. The only error is out of memory.
+pub fn server_loads(alloc: Global, load: &Load) -> Result<Vec<ServerLoad>, AllocError>
+    ensures { IfOk result (λ loads. AreServerLoads load.now (length load.now.plan.rates) loads.items) }
+{
+    let servers = load.plan().len() as u16;
+    let charges = all_charges(load.sources(), servers);
+    let mut loads = Vec::with_capacity(alloc, usize::from(servers))?;
+    for server in 0..servers {
+        loads.push(server_load(alloc, load, server, charges)?)?;
+    }
+    Ok(loads)
+}

@@ -1,0 +1,78 @@
+//! The numbers of a robot's load, by hand.
+
+use crate::{Asked, ServerLoad, greatest_budgets, greatest_common_divisor, server_loads};
+use cbs_load::read_load;
+
+/// Control, vision, a throttled lidar, and bursts of logging, which overrun.
+const ROBOT: &str = "\
+load = 1
+bound = [1, 1]
+backlog = 4
+until = 200
+[[server]]
+name = \"control\"
+mode = \"soft\"
+budget = 1
+period = 5
+[[source]]
+server = \"control\"
+every = 12
+units = 1
+[[server]]
+name = \"vision\"
+mode = \"soft\"
+budget = 6
+period = 20
+[[source]]
+server = \"vision\"
+every = 40
+units = 6
+[[source]]
+server = \"vision\"
+every = 60
+units = [1, 6]
+[[server]]
+name = \"logging\"
+mode = \"soft\"
+budget = 1
+period = 10
+[[source]]
+server = \"logging\"
+every = [4, 12]
+units = [1, 5]
+overrun = [0, 7]
+";
+
+#[test]
+fn numbers_of_a_robot(rt: HostRuntime) {
+    let alloc = rt.alloc();
+    let load = read_load(alloc, ROBOT.as_bytes())
+        .ok()
+        .expect(&rt, "a load");
+    // of 20 ticks, 12 are reserved: 4, 6 and 2
+    let budgets = greatest_budgets(alloc, load.plan())
+        .ok()
+        .expect(&rt, "memory");
+    assert!(rt; budgets[..] == [3, 14, 5]);
+    let loads = server_loads(alloc, &load).ok().expect(&rt, "memory");
+    // the others are charged 7 ticks
+    let control = ServerLoad {
+        asked: Some(Asked { ticks: 1, of: 12 }),
+        promised: Some(12),
+    };
+    let vision = ServerLoad {
+        asked: Some(Asked { ticks: 30, of: 120 }),
+        promised: Some(47),
+    };
+    let logging = ServerLoad {
+        asked: Some(Asked { ticks: 5, of: 4 }),
+        promised: None,
+    };
+    assert!(rt; loads[..] == [control, vision, logging]);
+}
+
+#[test]
+fn a_common_divisor(rt: HostRuntime) {
+    assert!(rt; greatest_common_divisor(84, 120) == 12);
+    assert!(rt; greatest_common_divisor(0, 7) == 7);
+}
