@@ -1,10 +1,18 @@
 -- What `simulate` prints of a load.
 use Rattle.std.specs.Prelude.{◌≡◌, ℕ, List}
+use Rattle.cbs_json.specs.Json.{report_json}
 use Rattle.cbs_load.specs.Loads.{LoadFile}
 use Rattle.cbs_planning.specs.Loads.{IsReportOf}
 use Rattle.cbs_print.specs.Texts.{report_text}
 use Rattle.cbs_print.specs.declared.report.RunReport.{RunReport}
+use Rattle.cbs_run.specs.declared.words.Form.{Form}
+use Rattle.cbs_run.specs.declared.words.Form.TheVariants.{Report, Json}
 
--- the text is that of a report of the load, which has this name for its file
-abbrev pub IsReportText : List ℕ → LoadFile → List ℕ → Type 0
-IsReportText name f text = (r : RunReport) × IsReportOf name f r × (text ≡ report_text r)
+-- a report in a form
+abbrev pub text_in : Form → RunReport → List ℕ
+text_in Report r = report_text r
+text_in Json r = report_json r
+
+-- the text is that of a report of the load in the form, which has this name for its file
+abbrev pub IsReportText : Form → List ℕ → LoadFile → List ℕ → Type 0
+IsReportText form name f text = (r : RunReport) × IsReportOf name f r × (text ≡ text_in form r)

@@ -8,6 +8,8 @@ use Rattle.cbs_run.specs.Writers.{Writer}
 use Rattle.cbs_run.specs.declared.run_error.RunError.{RunError}
 use Rattle.cbs_run.specs.declared.words.Action.{Action}
 use Rattle.cbs_run.specs.declared.words.Action.TheVariants.{Check, Simulate, Run}
+use Rattle.cbs_run.specs.declared.words.Form.{Form}
+use Rattle.cbs_run.specs.declared.words.Form.TheVariants.{Report, Json}
 use Rattle.cbs_run.specs.declared.words.Verb.{Verb}
 use Rattle.cbs_run.specs.declared.words.Verb.TheVariants.{Replay, Serve}
 
@@ -19,8 +21,13 @@ name_of Serve = codes "serve"
 -- the word of each action
 abbrev pub action_name : Action → List ℕ
 action_name Check = codes "check"
-action_name Simulate = codes "simulate"
+action_name (Simulate form) = codes "simulate"
 action_name (Run verb) = name_of verb
+
+-- the word of each form
+abbrev pub form_name : Form → List ℕ
+form_name Report = codes "report"
+form_name Json = codes "json"
 
 -- what a verb writes of a file
 abbrev pub output_of : Verb → File → List ℕ

@@ -1,7 +1,11 @@
 -- The command line as `clap` sees it.
-use Rattle.std.specs.Prelude.{◌≡◌, ℕ, List, codes, true, Option, Some, string_bytes}
+use Rattle.std.specs.Prelude.{◌≡◌, ℕ, List, codes, true, MatchOption, Option, Some, string_bytes}
 use Rattle.clap.specs.Words.{App, Row, Rule, Text, first_of, new_app, new_rule, subcommand_of, takes, with_rule, with_subcommand}
-use Rattle.cbs_run.specs.Verbs.{action_name}
+use Rattle.cbs_run.specs.Verbs.{action_name, form_name}
+use Rattle.cbs_run.specs.declared.words.Action.{Action}
+use Rattle.cbs_run.specs.declared.words.Action.TheVariants.{Check, Simulate, Run}
+use Rattle.cbs_run.specs.declared.words.Form.{Form}
+use Rattle.cbs_run.specs.declared.words.Form.TheVariants.{Report}
 use Rattle.cbs_run.specs.declared.words.Asked.{Asked}
 use Rattle.cbs_run.specs.declared.words.WordsFault.{WordsFault}
 use Rattle.cbs_run.specs.declared.words.WordsFault.TheVariants.{Usage, Help, OutOfMemory}
@@ -14,13 +18,25 @@ file = record (new_rule (codes "FILE")) { required = true }
 abbrev pub on_file : Text → App
 on_file name = with_rule (new_app name) file
 
+-- the form in which something is reported, which may be left out
+abbrev pub form : Rule
+form = record (new_rule (codes "as")) { long = Some (codes "as"); value_names = 1 }
+
+-- a verb of this name, its file, and the form
+abbrev pub in_a_form : Text → App
+in_a_form name = with_rule (on_file name) form
+
 -- a subcommand is required
 abbrev pub required : App → App
 required a = record a { top = record a.top { subcommand_required = true } }
 
+-- the program has a version
+abbrev pub with_version : App → App
+with_version a = record a { top = record a.top { has_version = true } }
+
 -- the program with no verb yet, of which one is required
 abbrev pub bare_program : App
-bare_program = required (new_app (codes "cbsrun"))
+bare_program = required (with_version (new_app (codes "cbsrun")))
 
 -- the program with one verb more, of this name
 abbrev pub with_verb : App → Text → App
@@ -28,13 +44,30 @@ with_verb program name = with_subcommand program (on_file name).top
 
 -- the program: four subcommands
 abbrev pub command_line : App
-command_line = with_verb (with_verb (with_verb (with_verb bare_program (codes "check")) (codes "simulate")) (codes "replay")) (codes "serve")
+command_line =
+    with_verb (with_verb (with_subcommand (with_verb bare_program (codes "check")) (in_a_form (codes "simulate")).top) (codes "replay")) (codes "serve")
 
--- the subcommand that was found, with its rows, is the action, and its one value the file
+-- the name is that of the form; none asks for the text
+abbrev pub AsksForm : Option Text → Form → Type 0
+AsksForm name form = MatchOption name (form ≡ Report) (λ n. n ≡ form_name form)
+
+-- what is asked for beside the file: simulate may be asked for a form
+abbrev pub AsksRest : Option Text → Action → Type 0
+AsksRest name (Simulate form) = AsksForm name form
+AsksRest name Check = ⊤
+AsksRest name (Run verb) = ⊤
+
+-- a verb of this name, with a form of that name, asks for the action
+abbrev pub AsksFor : Text → Option Text → Action → Type 0
+AsksFor verb form action = (verb ≡ action_name action) × AsksRest form action
+
+-- the subcommand that was found, with its rows, asks for the action, and for the file
 abbrev pub IsAsked : Option (Text × List Row) → Asked → Type 0
-IsAsked found asked = (rows : List Row) × (found ≡ Some (action_name asked.action, rows)) × (first_of (codes "FILE") rows ≡ Some (string_bytes asked.file))
+IsAsked found asked =
+    (rows : List Row) × (found ≡ Some (action_name asked.action, rows)) × AsksRest (first_of (codes "as") rows) asked.action
+    × (first_of (codes "FILE") rows ≡ Some (string_bytes asked.file))
 
--- the subcommand that the words name is the action, and its one value the file
+-- the subcommand that the words name asks for the action, and for the file
 abbrev pub Names : List Text → Asked → Type 0
 Names words asked = IsAsked (subcommand_of command_line words) asked
 

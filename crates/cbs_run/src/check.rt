@@ -8,7 +8,8 @@ ghost use Rattle.cbs_run.specs.Checked.{any_file, IsCheckText};
 ghost use Rattle.cbs_run.specs.Printing.{EndsPrinting, Prints};
 ghost use Rattle.cbs_run.specs.Statuses.{LacksMemory};
 
-use crate::fault_lines::{write_file_fault, write_run_fault};
+use crate::explained::write_explained;
+use crate::fault_lines::write_run_fault;
 use crate::output::{ByteOutput, write_text};
 use crate::run::{BAD_FILE, DONE, RUN_FAULT};
 use crate::run_error::RunError;
@@ -63,11 +64,11 @@ fn print_check<O: ByteOutput>(alloc: Global, file: &AnyFile, out: &mut O) -> Res
     Ok(())
 }
 
-/// Prints what is told of the load or the task file that the bytes spell: a load if the top table has the key `load`. Returns
-/// the status.
+/// Prints what is told of the load or the task file that the bytes spell: a load if the top table has the key `load`. Its
+/// file has this name. Returns the status.
 ///
-/// At status 0 the whole text is on `out`, and nothing on `err`. At status 3 the file has a fault: its line goes to `err`, and
-/// nothing to `out`. At status 4 the run ended early: the line of that goes to `err`, and `out` has a prefix of the text, which
+/// At status 0 the whole text is on `out`, and nothing on `err`. At status 3 the file has a fault: its line goes to `err`, with
+/// what a person needs to know of it below, and nothing to `out`. At status 4 the run ended early: the line of that goes to `err`, and `out` has a prefix of the text, which
 /// is empty unless a write failed. A line that cannot be written changes no status.
 ///
 /// If the bytes want more than `memory` bytes of memory, the status is 3, with the line of out of memory on `err`, and
@@ -75,6 +76,7 @@ fn print_check<O: ByteOutput>(alloc: Global, file: &AnyFile, out: &mut O) -> Res
 pub fn check_bytes_within<O: ByteOutput, E: ByteOutput>(
     alloc: Global,
     memory: u64,
+    name: &str,
     bytes: &[u8],
     out: &mut O,
     err: &mut E,
@@ -93,7 +95,7 @@ pub fn check_bytes_within<O: ByteOutput, E: ByteOutput>(
     let file = match read_any(alloc, memory, bytes) {
         Ok(file) => file,
         Err(fault) => {
-            let _written = write_file_fault(err, fault);
+            write_explained(alloc, name, bytes, fault, err);
             return BAD_FILE;
         }
     };

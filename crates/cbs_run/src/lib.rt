@@ -5,6 +5,7 @@
 mod call;
 mod check;
 mod environment;
+mod explained;
 mod fault_lines;
 mod input;
 mod jobs_by_server;
@@ -31,4 +32,4 @@ pub use run_error::RunError;
 pub use serve::serve_file;
 pub use simulate::simulate_bytes_within;
 pub use trace::replay;
-pub use words::{Action, Asked, Verb, WordsFault, read_words};
+pub use words::{Action, Asked, Form, Verb, WordsFault, read_words};

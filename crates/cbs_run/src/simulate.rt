@@ -1,49 +1,66 @@
 //! The command `simulate`: from the bytes of a load to a status.
 
-ghost use Rattle.std.specs.Prelude.{◌+◌, ◌-◌, ◌<◌, ◌^◌};
+ghost use Rattle.std.specs.Prelude.{◌≡◌, ◌+◌, ◌-◌, ◌<◌, ◌^◌, IfOk, string_bytes};
 ghost use Rattle.cbs_tables.specs.Memory.{memory_wanted};
 ghost use Rattle.cbs_load.specs.Spelling.{load};
 ghost use Rattle.cbs_run.specs.Printing.{EndsPrinting, Prints};
-ghost use Rattle.cbs_run.specs.Reported.{IsReportText};
+ghost use Rattle.cbs_run.specs.Reported.{IsReportText, text_in};
 ghost use Rattle.cbs_run.specs.Statuses.{LacksMemory};
 
-use crate::fault_lines::{write_file_fault, write_run_fault};
+use crate::explained::write_explained;
+use crate::fault_lines::write_run_fault;
 use crate::output::{ByteOutput, write_text};
 use crate::run::{BAD_FILE, DONE, RUN_FAULT};
 use crate::run_error::RunError;
+use crate::words::Form;
+use cbs_json::report_json;
 use cbs_load::{Load, read_load_within};
 use cbs_planning::report_of;
-use cbs_print::report_text;
-use std::alloc::Global;
+use cbs_print::{RunReport, report_text};
+use std::alloc::{AllocError, Global};
 
-/// Simulates a load, and prints the report of that, with this name for its file.
+/// Returns the text of a report in this form.
+fn text_of(alloc: Global, form: Form, report: &RunReport) -> Result<String, AllocError>
+    ensures { IfOk result (λ text. string_bytes text ≡ text_in form report.now) }
+{
+    match form {
+        Form::Report => report_text(alloc, report),
+        Form::Json => report_json(alloc, report),
+    }
+}
+
+/// Simulates a load, and prints the report of that in this form, with this name for its file.
 fn print_report<O: ByteOutput>(
     alloc: Global,
+    form: Form,
     name: &str,
     load: &Load,
     out: &mut O,
 ) -> Result<(), RunError>
     requires { O.failed out.old < 2 ^ 64 - 1 }
-    ensures { Prints (IsReportText name.now load.now) result
+    ensures { Prints (IsReportText form name.now load.now) result
         (record { written = O.written out.old; failed = O.failed out.old }) (record { written = O.written out.new; failed = O.failed out.new }) }
 {
     let report = report_of(alloc, name, load)?;
-    let text = report_text(alloc, &report)?;
+    let text = text_of(alloc, form, &report)?;
     write_text(out, text.as_bytes())?;
     Ok(())
 }
 
-/// Simulates the load that the bytes spell, and prints the report of that, with this name for its file. Returns the status.
+/// Simulates the load that the bytes spell, and prints the report of that in this form, with this name for its file. Returns
+/// the status.
 ///
 /// At status 0 the whole report is on `out`, and nothing on `err`. At status 3 the file has a fault: its line goes to
-/// `err`, and nothing to `out`. At status 4 the run ended early: the line of that goes to `err`, and `out` has a prefix of
-/// the report, which is empty unless a write failed. A line that cannot be written changes no status.
+/// `err`, with what a person needs to know of it below, and nothing to `out`. At status 4 the run ended early: the line of
+/// that goes to `err`, and `out` has a prefix of the report, which is empty unless a write failed. A line that cannot be
+/// written changes no status.
 ///
 /// If the bytes want more than `memory` bytes of memory, the status is 3, with the line of out of memory on `err`, and
 /// nothing is parsed.
 pub fn simulate_bytes_within<O: ByteOutput, E: ByteOutput>(
     alloc: Global,
     memory: u64,
+    form: Form,
     name: &str,
     bytes: &[u8],
     out: &mut O,
@@ -51,7 +68,7 @@ pub fn simulate_bytes_within<O: ByteOutput, E: ByteOutput>(
 ) -> u8
     requires out { O.failed out.old < 2 ^ 64 - 1 }
     requires err { E.failed err.old < 2 ^ 64 - 1 }
-    ensures ends { EndsPrinting load (IsReportText name.now) bytes.now
+    ensures ends { EndsPrinting load (IsReportText form name.now) bytes.now
         (record { written = O.written out.old; failed = O.failed out.old }) (record { written = O.written out.new; failed = O.failed out.new })
         (record { written = E.written err.old; failed = E.failed err.old }) (record { written = E.written err.new; failed = E.failed err.new })
         result }
@@ -63,11 +80,11 @@ pub fn simulate_bytes_within<O: ByteOutput, E: ByteOutput>(
     let load = match read_load_within(alloc, memory, bytes) {
         Ok(load) => load,
         Err(fault) => {
-            let _written = write_file_fault(err, fault);
+            write_explained(alloc, name, bytes, fault, err);
             return BAD_FILE;
         }
     };
-    match print_report(alloc, name, &load, out) {
+    match print_report(alloc, form, name, &load, out) {
         Ok(()) => DONE,
         Err(error) => {
             let _written = write_run_fault(err, error);

@@ -1,31 +1,58 @@
 //! What the words of a command line ask for.
 
-ghost use Rattle.std.specs.Prelude.{◌≡◌, ◌≢◌, false, IfOk, IfErr, MatchOption, map, string_bytes};
+ghost use Rattle.std.specs.Prelude.{◌≡◌, ¬◌, false, IfOk, IfErr, MatchOption, map, option_map, string_bytes};
 ghost use Rattle.clap.specs.Words.{app_of, kind_of, subcommand_rows_of, with_subcommand};
 ghost use Rattle.clap.specs.declared.builder.command.Command.TheViews.{out-Command};
-ghost use Rattle.cbs_run.specs.Verbs.{action_name};
-ghost use Rattle.cbs_run.specs.Words.{command_line, on_file, bare_program, IsAsked, Names, AreTaken, words_fault_number, words_fault_name};
+ghost use Rattle.cbs_run.specs.Words.{command_line, on_file, in_a_form, bare_program, AsksForm, AsksFor, IsAsked, Names, AreTaken, words_fault_number, words_fault_name};
 ghost use Rattle.cbs_run.specs.declared.words.WordsFault.TheVariants.{OutOfMemory};
 
 use clap::error::ErrorKind;
 use clap::{Arg, ArgMatches, Command, Error};
 use std::alloc::{AllocError, Global};
+use std::fmt::Write;
 
 const ABOUT: &str =
-    "Runs Constant Bandwidth Servers under EDF: jobs on one thread, each server with \
-a budget of so many ticks in every period.";
+    "Sizes, simulates and runs Constant Bandwidth Servers under EDF: jobs on one thread, \
+each server with a budget of so many ticks in every period.";
 
-const TASK_FILES: &str = "\
-FILE is a task file or a load, in TOML: simulate takes a load, replay and serve a
-task file, and check either. A task file names the servers and the steps:
+// The version, and below it the toolchain that the proofs were checked by.
+const VERSION: &str = "0.1.0\nproved by rattle-kit-13f logic dac8208d650f15bf";
 
-  format = 2
+const FILES: &str = "\
+FILE is a task file or a load, in TOML; - is standard input. --help has an example
+of each, what is guaranteed, and the exit statuses.";
+
+const GUIDE: &str = "\
+FILE is a task file or a load, in TOML; - is standard input, and ./- a file of that
+name. simulate takes a load, replay and serve a task file, and check either. A load
+says which jobs come, and how often:
+
+  load = 1
   bound = [1, 1]                           # the bandwidths add up to at most 1/1
   backlog = 4                              # unfinished jobs that a server may have
+  until = 200                              # the simulation ends at this tick
+  server = [
+    { name = \"control\", mode = \"soft\", budget = 2, period = 5 },
+    { name = \"camera\", mode = \"throttled\", budget = 6, period = 20 },
+  ]
+  source = [
+    { server = \"control\", every = 5, units = 1 },
+    { server = \"camera\", every = 20, units = [3, 6] },        # 3 to 6 units a job
+  ]
+
+Saved as LOAD.toml, it is checked and simulated by
+  cbsrun check LOAD.toml
+  cbsrun simulate LOAD.toml
+
+A task file names the servers and the steps:
+
+  format = 2
+  bound = [1, 1]
+  backlog = 4
   ring = 4                                 # places in a client's ring of messages
   server = [
     { budget = 2, period = 5, mode = \"soft\" },          # 2 ticks in every 5
-    { budget = 1, period = 4, mode = \"throttled\" },     # waits where they are used up
+    { budget = 1, period = 4, mode = \"throttled\" },     # waits when they are used up
   ]
   step = [
     { op = \"submit\", server = 0, job = \"sum\", units = [1, 2, 3] },
@@ -44,7 +71,7 @@ Guaranteed, for soft and throttled servers, whatever the clients ask for:
     period for each budget.
   - No server is ever late, and each job is finished by a tick that is known when it
     is accepted, as long as no advance comes where somebody is ready before its last
-    tick. serve makes no other advances.
+    tick. serve and simulate make no other advances.
 Not guaranteed:
   - Time. A tick is one unit of one job, however long that takes.
   - That an advance takes nobody's time. One where somebody is ready does.
@@ -53,14 +80,14 @@ A file that may want more than 2048 MiB of memory while it is read is refused, w
 status 3. CBSRUN_MEMORY, in the environment, is another bound, in MiB.
 
 Exit status:
-  0  done, or this help
+  0  done, or this help; also if jobs are late or refused: that is an answer
   2  the command line is wrong, or CBSRUN_MEMORY is no whole number
   3  the file could not be read, or has a fault
   4  the run ended early: no memory, the output could not be written, or, in
      serve, the clock came to its end or the clients stalled";
 
 const CHECK: &str = "Says what the servers of a file have and could have, and which jobs of a load \
-are in time always";
+are in time always; or what is wrong with the file";
 
 const SIMULATE: &str = "Releases the jobs of a load's sources, runs them, and reports";
 
@@ -68,6 +95,9 @@ const REPLAY: &str = "Runs the steps of a task file, and writes a line for each"
 
 const SERVE: &str = "Gives each server's submits to a client of its own, serves them all, \
 and writes the results of each server";
+
+const FORMS: &str = "What is written: report, figures of each server as text, or json, the same for \
+programs [default: report]";
 
 /// What to do.
 #[derive(Clone, Copy, Debug, PartialEq, Eq)]
@@ -79,13 +109,22 @@ pub enum Verb {
     Serve,
 }
 
+/// How a report is written.
+#[derive(Clone, Copy, Debug, PartialEq, Eq)]
+pub enum Form {
+    /// As text, for people.
+    Report,
+    /// As JSON, for programs.
+    Json,
+}
+
 /// What a command line asks for.
 #[derive(Clone, Copy, Debug, PartialEq, Eq)]
 pub enum Action {
     /// To tell what the servers of a file have and could have, and which jobs of a load are in time always.
     Check,
-    /// To simulate a load, and to report what came of it.
-    Simulate,
+    /// To simulate a load, and to report in this form what came of it.
+    Simulate(Form),
     /// To do with a task file what the verb says.
     Run(Verb),
 }
@@ -151,6 +190,16 @@ fn on_file<'a>(alloc: Global, name: &'a str, about: &'a str) -> Result<Command<'
     Command::new(alloc, name).about(about).arg(file)
 }
 
+/// Returns a verb of this name, its file, and the form in which it reports.
+fn in_a_form<'a>(alloc: Global, name: &'a str, about: &'a str) -> Result<Command<'a>, AllocError>
+    ensures app { IfOk result (λ c. app_of c ≡ in_a_form name.now) }
+    ensures local { IfOk result (λ c. (out-Command c).has_globals ≡ false) }
+{
+    let verb = on_file(alloc, name, about)?;
+    let form = Arg::new(alloc, "as").long("as").help(FORMS);
+    verb.arg(form.value_name("FORMAT"))
+}
+
 /// The program with one verb more.
 fn with_verb<'a>(
     alloc: Global,
@@ -170,7 +219,9 @@ fn bare_program<'a>(alloc: Global) -> Command<'a>
 {
     Command::new(alloc, "cbsrun")
         .about(ABOUT)
-        .after_help(TASK_FILES)
+        .version(VERSION)
+        .after_help(FILES)
+        .after_long_help(GUIDE)
         .subcommand_required(true)
 }
 
@@ -179,18 +230,32 @@ fn command_line<'a>(alloc: Global) -> Result<Command<'a>, AllocError>
     ensures { IfOk result (λ c. app_of c ≡ command_line) }
 {
     let program = with_verb(alloc, bare_program(alloc), "check", CHECK)?;
-    let program = with_verb(alloc, program, "simulate", SIMULATE)?;
+    let simulate = in_a_form(alloc, "simulate", SIMULATE)?;
+    let program = program.subcommand(simulate)?;
     let program = with_verb(alloc, program, "replay", REPLAY)?;
     with_verb(alloc, program, "serve", SERVE)
 }
 
-/// Returns the action of this name, if there is one.
-fn action_of(name: &str) -> Option<Action>
-    ensures { MatchOption result ((action : Action) → action_name action ≢ name.now) (λ action. action_name action ≡ name.now) }
+/// Returns the form of this name, if there is one. With no name it is the text.
+fn form_of(name: Option<&str>) -> Option<Form>
+    ensures { MatchOption result ((form : Form) → ¬ AsksForm (option_map (λ s. s.now) name) form) (AsksForm (option_map (λ s. s.now) name)) }
+{
+    match name {
+        None => Some(Form::Report),
+        Some("report") => Some(Form::Report),
+        Some("json") => Some(Form::Json),
+        Some(_) => None,
+    }
+}
+
+/// Returns the action of this name, in a form of that name, if there is one.
+fn action_of(name: &str, form: Option<&str>) -> Option<Action>
+    ensures { MatchOption result ((action : Action) → ¬ AsksFor name.now (option_map (λ s. s.now) form) action)
+        (AsksFor name.now (option_map (λ s. s.now) form)) }
 {
     match name {
         "check" => Some(Action::Check),
-        "simulate" => Some(Action::Simulate),
+        "simulate" => form_of(form).map(Action::Simulate),
         "replay" => Some(Action::Run(Verb::Replay)),
         "serve" => Some(Action::Run(Verb::Serve)),
         _ => None,
@@ -209,6 +274,14 @@ fn refused(alloc: Global, error: &Error) -> Result<WordsFault, AllocError>
     })
 }
 
+/// Returns the fault of a command line that asks for a form of no such name.
+fn unknown_form(alloc: Global, form: &str) -> Result<WordsFault, AllocError> {
+    let mut text = String::new(alloc);
+    writeln!(text, "error: invalid value '{form}' for '--as <FORMAT>'")?;
+    text.push_str("  [possible values: report, json]\n\nFor more information, try '--help'.\n")?;
+    Ok(WordsFault::Usage(text))
+}
+
 /// The fault of a command line with no verb or no file. `clap` refuses those itself.
 fn incomplete(alloc: Global) -> Result<WordsFault, AllocError> {
     let text = String::from_str(alloc, "cbsrun: a verb and a file are wanted\n")?;
@@ -223,8 +296,9 @@ fn asked_in(alloc: Global, matches: &ArgMatches) -> Result<Asked, WordsFault>
     let Some((name, inner)) = matches.subcommand() else {
         return Err(incomplete(alloc)?);
     };
-    let Some(action) = action_of(name) else {
-        return Err(incomplete(alloc)?);
+    let form = inner.get_str("as");
+    let Some(action) = action_of(name, form) else {
+        return Err(unknown_form(alloc, form.unwrap_or(""))?);
     };
     let Some(file) = inner.get_str("FILE") else {
         return Err(incomplete(alloc)?);

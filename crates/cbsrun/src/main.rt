@@ -1,16 +1,18 @@
 //! `cbsrun` runs task files and loads: jobs on Constant Bandwidth Servers, under earliest deadline first.
 #![tactic(auto)]
 
+mod bytes;
+
+use crate::bytes::{bytes_of, write_reason};
 use cbs_file::MEMORY;
 use cbs_run::{
-    Action, Asked, BAD_FILE, DONE, FromRead, MEMORY_VARIABLE, RUN_FAULT, ReadError, RunError,
-    ToWrite, WRONG_WORDS, WordsFault, check_bytes_within, memory_bound, read_all, read_words,
-    run_bytes_within, simulate_bytes_within, write_pieces, write_read_fault, write_run_fault,
+    Action, Asked, BAD_FILE, DONE, MEMORY_VARIABLE, RUN_FAULT, RunError, ToWrite, WRONG_WORDS,
+    WordsFault, check_bytes_within, memory_bound, read_words, run_bytes_within,
+    simulate_bytes_within, write_pieces, write_read_fault, write_run_fault,
 };
 use std::alloc::{AllocError, Global};
 use std::env;
 use std::env::VarError;
-use std::fs::File;
 use std::io::ErrorKind;
 use std::process::ExitCode;
 use std::thread::Threads;
@@ -53,17 +55,6 @@ fn asked_of(rt: &HostRuntime, alloc: Global) -> Result<(Asked, u64), WordsFault>
     Ok((asked, memory_of(rt, alloc)?))
 }
 
-/// The bytes of a file. One that cannot be opened is a read fault.
-// A read has a buffer of 64 KiB on the stack, which must be gone before the file is run: where the address
-// space is limited, a stack that grows late ends the program by a signal.
-#[inline(never)]
-fn bytes_of(rt: &HostRuntime, alloc: Global, path: &str) -> Result<Vec<u8>, ReadError> {
-    let Ok(file) = File::open(rt, path) else {
-        return Err(ReadError::ReadFault);
-    };
-    read_all(alloc, &mut FromRead::new(file))
-}
-
 /// The status of a program that reads its words, its environment, its file and its steps. It serves on `threads`.
 fn status<R: Threads + Clock + Sync>(rt: &HostRuntime, threads: &R) -> u8 {
     let alloc = rt.alloc();
@@ -84,19 +75,22 @@ fn status<R: Threads + Clock + Sync>(rt: &HostRuntime, threads: &R) -> u8 {
             return RUN_FAULT;
         }
     };
-    match bytes_of(rt, alloc, asked.file.as_str()) {
+    let name = asked.file.as_str();
+    match bytes_of(rt, alloc, name) {
         Ok(bytes) => match asked.action {
-            Action::Check => check_bytes_within(alloc, memory, &bytes, &mut out, &mut err),
-            Action::Simulate => {
-                let name = asked.file.as_str();
-                simulate_bytes_within(alloc, memory, name, &bytes, &mut out, &mut err)
+            Action::Check => check_bytes_within(alloc, memory, name, &bytes, &mut out, &mut err),
+            Action::Simulate(form) => {
+                simulate_bytes_within(alloc, memory, form, name, &bytes, &mut out, &mut err)
             }
             Action::Run(verb) => {
                 run_bytes_within(threads, alloc, memory, verb, &bytes, &mut out, &mut err)
             }
         },
-        Err(fault) => {
-            let _written = write_read_fault(&mut err, fault);
+        Err(unread) => {
+            let _written = write_read_fault(&mut err, unread.fault());
+            if !matches!(asked.action, Action::Run(_)) {
+                write_reason(rt, alloc, name, &unread, &mut err);
+            }
             BAD_FILE
         }
     }

@@ -4,7 +4,7 @@ use Rattle.cbs_run.proofs.simulate.simulate_bytes_within.Goals as goal
 
 pub returns-in-Err-clause-ends : goal.returns-in-Err-clause-ends
 returns-in-Err-clause-ends g c = refused c.in-Err.fault c.in-Err.ensures.read (untouched _)
-    (tries c.write_file_fault-written.result _ _ _ c.write_file_fault-written.ensures.ok c.write_file_fault-written.ensures.err)
+    c.write_explained.ensures.explained
 
 pub returns-in-Ok-print_report-clause-ends : goal.returns-in-Ok-print_report-clause-ends
 returns-in-Ok-print_report-clause-ends g c =

@@ -1,0 +1,37 @@
+//! What is wrong with a file, on standard error.
+
+ghost use Rattle.std.specs.Prelude.{◌≡◌, ◌+◌, ◌-◌, ◌<◌, ◌^◌};
+ghost use Rattle.cbs_tables.specs.Documents.{no_memory};
+ghost use Rattle.cbs_run.specs.FaultLines.{file_line};
+ghost use Rattle.cbs_run.specs.Printing.{Explains};
+ghost use Rattle.cbs_run.specs.Writers.{TriesToWrite};
+
+use crate::fault_lines::write_file_fault;
+use crate::output::{ByteOutput, write_pieces};
+use cbs_explain::explain;
+use cbs_file::{FileFault, FileKind};
+use std::alloc::Global;
+
+/// Writes the line of a file's fault. Below it, after an empty line, stands what a person needs to know of the fault: nothing, if
+/// the fault is out of memory, or if there is no memory for it.
+pub(crate) fn write_explained<E: ByteOutput>(
+    alloc: Global,
+    name: &str,
+    bytes: &[u8],
+    fault: FileFault,
+    err: &mut E,
+)
+    requires { E.failed err.old < 2 ^ 64 - 1 }
+    ensures explained { Explains fault
+        (record { written = E.written err.old; failed = E.failed err.old }) (record { written = E.written err.new; failed = E.failed err.new }) }
+    ensures memory { fault ≡ no_memory → TriesToWrite
+        (record { written = E.written err.old; failed = E.failed err.old }) (record { written = E.written err.new; failed = E.failed err.new })
+        (file_line no_memory) }
+{
+    if write_file_fault(err, fault).is_err() || fault.kind == FileKind::OutOfMemory {
+        return;
+    }
+    if let Ok(text) = explain(alloc, name, bytes, fault) {
+        let _written = write_pieces(err, &["\n", text.as_str()]);
+    }
+}

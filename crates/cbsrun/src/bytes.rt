@@ -1,0 +1,85 @@
+//! The bytes that the command line names, and why they could not be had.
+
+use cbs_run::{ByteOutput, FromRead, ReadError, read_all, write_pieces};
+use std::alloc::{AllocError, Global};
+use std::fmt::Write;
+use std::fs;
+use std::fs::File;
+use std::io;
+
+/// The name of standard input.
+const STANDARD_INPUT: &str = "-";
+
+/// Why the bytes of a file could not be had.
+#[derive(Drop)]
+pub enum Unread {
+    /// The file could not be opened.
+    Unopened(io::Error),
+    /// The file was opened, and could not be read.
+    Opened(ReadError),
+}
+
+impl Unread {
+    /// Returns the read fault of this.
+    pub fn fault(&self) -> ReadError {
+        match self {
+            Unread::Unopened(_) => ReadError::ReadFault,
+            Unread::Opened(fault) => *fault,
+        }
+    }
+}
+
+/// Returns the bytes of a file, or those of standard input if the name is `-`.
+// A read has a buffer of 64 KiB on the stack, which must be gone before the file is run: where the address
+// space is limited, a stack that grows late ends the program by a signal.
+#[inline(never)]
+pub fn bytes_of(rt: &HostRuntime, alloc: Global, name: &str) -> Result<Vec<u8>, Unread> {
+    let read = if name == STANDARD_INPUT {
+        read_all(alloc, &mut FromRead::new(rt.stdin()))
+    } else {
+        match File::open(rt, name) {
+            Ok(file) => read_all(alloc, &mut FromRead::new(file)),
+            Err(error) => return Err(Unread::Unopened(error)),
+        }
+    };
+    read.map_err(Unread::Opened)
+}
+
+/// Returns why a file could not be read, as a sentence for a person.
+fn reason(
+    rt: &HostRuntime,
+    alloc: Global,
+    name: &str,
+    unread: &Unread,
+) -> Result<String, AllocError> {
+    let mut text = String::new(alloc);
+    match unread {
+        Unread::Unopened(error) => write!(text, "cannot open {name}: {error}")?,
+        Unread::Opened(fault) if name == STANDARD_INPUT => {
+            write!(text, "cannot read standard input: {fault}")?;
+        }
+        Unread::Opened(ReadError::ReadFault) if fs::metadata(rt, name).is_ok_and(|m| m.is_dir()) => {
+            write!(text, "cannot read {name}: it is a folder")?;
+        }
+        Unread::Opened(fault) => write!(text, "cannot read {name}: {fault}")?,
+    }
+    Ok(text)
+}
+
+/// Writes why a file could not be read, after an empty line. If memory ran out, nothing is written.
+pub fn write_reason<E: ByteOutput>(
+    rt: &HostRuntime,
+    alloc: Global,
+    name: &str,
+    unread: &Unread,
+    err: &mut E,
+)
+    requires { E.failed err.old < 2 ^ 64 - 1 }
+{
+    if unread.fault() == ReadError::OutOfMemory {
+        return;
+    }
+    if let Ok(text) = reason(rt, alloc, name, unread) {
+        let _written = write_pieces(err, &["\nerror: ", text.as_str(), "\n"]);
+    }
+}
