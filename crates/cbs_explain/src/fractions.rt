@@ -1,23 +1,9 @@
 //! Fractions, exactly, and in per cent.
 
 ghost use Rattle.std.specs.Prelude.{◌≡◌, ◌*◌};
-ghost use Rattle.std.specs.Int.{IsGcd};
 
+use cbs_size::greatest_common_divisor;
 use std::fmt;
-
-/// Returns the greatest number that divides both, by Euclid's steps.
-pub(crate) fn greatest_common_divisor(a: u128, b: u128) -> u128
-    ensures { IsGcd a b result }
-{
-    let mut divisor = a;
-    let mut rest = b;
-    while rest != 0 {
-        let next = divisor % rest;
-        divisor = rest;
-        rest = next;
-    }
-    divisor
-}
 
 /// A part of the time, as a fraction.
 #[derive(Clone, Copy, Debug, PartialEq, Eq)]

@@ -1,33 +1,18 @@
 //! Why a plan does not take a server.
 
-use crate::fractions::greatest_common_divisor;
 use crate::over::{Refused, append_over};
 use crate::page::{Marked, append_bar, append_line, append_note};
 use crate::spot::{Document, Spot};
 use cbs_rate::{AdmitError, Bound, MAX_COMMON_MULTIPLE, MAX_SERVERS, Plan, Reservation};
-use cbs_tables::{FileKind, bound_of, integer, items, natural, pair, present, reservation};
+use cbs_size::greatest_common_divisor;
+use cbs_tables::{FileKind, bound_of, integer, items, pair, present, reservation};
 use std::alloc::{AllocError, Global};
 use std::fmt::Write;
 use toml::{Table, Value};
 
-/// The bound of a document, and its two numbers.
-#[derive(Clone, Copy)]
-pub(crate) struct BoundRead {
-    pub bound: Bound,
-    pub part: u64,
-    pub whole: u64,
-}
-
 /// Returns the bound of a document.
-pub(crate) fn bound_at(top: &Table) -> Result<BoundRead, FileKind> {
-    let numbers = pair(items(present(top, "bound")?)?)?;
-    let bound = bound_of(numbers)?;
-    let (part, whole) = numbers.ok_or(FileKind::OutOfRange)?;
-    Ok(BoundRead {
-        bound,
-        part: natural(part)?,
-        whole: natural(whole)?,
-    })
+pub(crate) fn bound_at(top: &Table) -> Result<Bound, FileKind> {
+    bound_of(pair(items(present(top, "bound")?)?)?)
 }
 
 /// Returns the reservation of a server.
@@ -49,14 +34,12 @@ fn plan_of(bound: Bound, servers: &[Value]) -> Option<Plan> {
 /// Returns the server with a number, if the plan of those before it refuses it.
 fn refused_at<'a>(document: Document<'a>, number: u64) -> Option<Refused<'a>> {
     let number = usize::try_from(number).ok()?;
-    let bound = bound_at(document.top).ok()?;
     let reservation = reservation_of(document.servers.get(number)?)?;
-    let mut plan = plan_of(bound.bound, document.servers.get(..number)?)?;
+    let mut plan = plan_of(bound_at(document.top).ok()?, document.servers.get(..number)?)?;
     let why = plan.admit(reservation).err()?;
     Some(Refused {
         number,
         why,
-        bound,
         plan,
         reservation,
         document,

@@ -15,7 +15,7 @@ struct Position<'a> {
     number: usize,
     /// What stands before the place in its line.
     before: &'a str,
-    /// What stands at the place and behind it in its line.
+    /// What stands at the place and after it in its line.
     after: &'a str,
 }
 

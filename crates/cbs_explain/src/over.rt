@@ -1,7 +1,7 @@
 //! A server with which the plan is over the bound: by how much, and what would fit.
 
 use crate::fractions::{Fraction, Percent};
-use crate::limits::{BoundRead, reservation_of};
+use crate::limits::reservation_of;
 use crate::page::{append_bar, append_note, append_times};
 use crate::spot::{Document, Spot, name_of};
 use crate::sums::{excess, least_period, share, total};
@@ -21,8 +21,6 @@ pub(crate) struct Refused<'a> {
     pub number: usize,
     /// Why it is not taken.
     pub why: AdmitError,
-    /// The bound of the plan.
-    pub bound: BoundRead,
     /// The plan of the servers before it.
     pub plan: Plan,
     pub reservation: Reservation,
@@ -50,9 +48,10 @@ impl Refused<'_> {
 
     /// Returns the bound.
     fn bound(&self) -> Fraction {
+        let bound = self.plan.bound();
         Fraction {
-            part: u128::from(self.bound.part),
-            whole: u128::from(self.bound.whole),
+            part: u128::from(bound.num()),
+            whole: u128::from(bound.den()),
         }
     }
 
@@ -211,7 +210,7 @@ fn append_split(alloc: Global, text: &mut String, refused: &Refused<'_>) -> Resu
     let Some(all) = reservations(alloc, servers)? else {
         return Ok(());
     };
-    match split(alloc, refused.bound.bound, &all) {
+    match split(alloc, refused.plan.bound(), &all) {
         Ok(parts) => {
             let executors = parts.len();
             let count = all.len();

@@ -27,7 +27,7 @@ pub(crate) struct Marked<'a> {
     pub from: usize,
     /// How many characters.
     pub count: usize,
-    /// What stands behind the carets.
+    /// What stands after the carets.
     pub remark: &'a str,
 }
 

@@ -92,7 +92,7 @@ fn wants_number(want: Want) -> bool {
     )
 }
 
-/// Appends a value behind its key, and returns where it stands: at its text, not at the quotes, if it is meant as a word.
+/// Appends a value after its key, and returns where it stands: at its text, not at the quotes, if it is meant as a word.
 fn appended<'a>(
     line: &mut String,
     key: &str,
