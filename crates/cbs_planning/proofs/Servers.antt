@@ -44,14 +44,15 @@ found (y ∷ xs) (suc i) x d e = let h = found xs i x d e in (let lt = h.0 in om
 -- what is told of one server is its report
 pub server_is : (f : LoadFile) (s : ℕ) (r : ServerReport) (fs : List Figures)
     → AreAllFigures (map (λ rate. rate.budget) f.plan.rates) f.until (seen_in f) fs
-    → Some (string_bytes r.name) ≡ slice_get f.names s → Some r.reservation ≡ slice_get f.plan.rates s → r.within ≡ within_of s f.sources
+    → Some (string_bytes r.name) ≡ slice_get f.names s → Some r.mode ≡ slice_get f.modes s → Some r.reservation ≡ slice_get f.plan.rates s → r.within ≡ within_of s f.sources
     → slice_get fs s ≡ Some r.figures → IsServerReport f s r
-server_is f s r fs all name reservation within figures =
+server_is f s r fs all name mode reservation within figures =
     let here = found f.plan.rates s r.reservation r.reservation reservation in
     let budget : get_or (map (λ (rate : Rate). rate.budget) f.plan.rates) s 0 ≡ r.reservation.budget =
     get_or-map (λ (rate : Rate). rate.budget) f.plan.rates s r.reservation 0 here.0 ∙ ap (λ x. x.budget) here.1 in
     record {
       name = name;
+      mode = mode;
       reservation = reservation;
       within = within;
       figures = subst (λ b. AreFigures b f.until (steps_of s (seen_in f)) r.figures) budget (all.each s r.figures figures);

@@ -48,6 +48,7 @@ within_of s (t ∷ ts) = if eqb t.server s then widened t.within (within_of s ts
 -- the report of server s of a load
 pub record IsServerReport (f : LoadFile) (s : ℕ) (r : ServerReport) : Type 0 where
   pub name : Some (string_bytes r.name) ≡ slice_get f.names s
+  pub mode : Some r.mode ≡ slice_get f.modes s
   pub reservation : Some r.reservation ≡ slice_get f.plan.rates s
   pub within : r.within ≡ within_of s f.sources
   pub figures : AreFigures r.reservation.budget f.until (steps_of s (seen_in f)) r.figures
@@ -55,9 +56,11 @@ pub record IsServerReport (f : LoadFile) (s : ℕ) (r : ServerReport) : Type 0 w
 -- the report of a load with a name
 pub record IsReportOf (name : List ℕ) (f : LoadFile) (r : RunReport) : Type 0 where
   pub file : string_bytes r.file ≡ name
+  pub seed : r.seed ≡ Some f.seed
   pub clock : r.clock ≡ f.until
   pub idle : r.idle ≡ told (total (λ o. ticks_idle o.event) (seen_in f))
   pub backlog : r.backlog ≡ f.backlog
+  pub bound : r.bound ≡ f.plan.bound
   pub reserved : r.reserved ≡ record { ticks = sum_by (share (common_multiple f.plan.rates)) f.plan.rates; of = common_multiple f.plan.rates }
   pub count : length r.servers.items ≡ length f.plan.rates
   pub each : (s : ℕ) (server : ServerReport) → slice_get r.servers.items s ≡ Some server → IsServerReport f s server

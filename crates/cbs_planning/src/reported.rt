@@ -49,6 +49,7 @@ fn server_report(
 ) -> Result<ServerReport, AllocError>
     requires { server < length load.now.plan.rates }
     ensures name { IfOk result (λ r. Some (string_bytes r.name) ≡ slice_get load.now.names server) }
+    ensures mode { IfOk result (λ r. Some r.mode ≡ slice_get load.now.modes server) }
     ensures reservation { IfOk result (λ r. Some r.reservation ≡ slice_get load.now.plan.rates server) }
     ensures within { IfOk result (λ r. r.within ≡ within_of server load.now.sources) }
     ensures figures { IfOk result (λ r. r.figures ≡ figures) }
@@ -56,6 +57,7 @@ fn server_report(
     let name = String::from_str(alloc, &load.names()[usize::from(server)])?;
     Ok(ServerReport {
         name,
+        mode: load.modes().get(server).unwrap(),
         reservation: load.plan().get(server).unwrap(),
         within: within_of(server, load.sources()),
         figures,
@@ -75,9 +77,11 @@ pub fn report_of(alloc: Global, file: &str, load: &Load) -> Result<RunReport, Al
     }
     Ok(RunReport {
         file: String::from_str(alloc, file)?,
+        seed: Some(load.seed()),
         clock: load.until(),
         idle,
         backlog: load.backlog(),
+        bound: load.plan().bound(),
         reserved: load.plan().bandwidth(),
         servers,
     })

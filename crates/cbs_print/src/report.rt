@@ -5,8 +5,9 @@ ghost use Rattle.cbs_print.specs.Notes.{wanted};
 ghost use Rattle.cbs_print.specs.Reports.{accepted, is_in_time, late, released};
 ghost use Rattle.cbs_print.specs.Tables.{is_asked_too_much};
 
-use cbs_rate::{Bandwidth, Reservation};
+use cbs_rate::{Bandwidth, Bound, Reservation};
 use cbs_report::Figures;
+use cbs_rules::Mode;
 use cbs_simulate::Range;
 
 /// What a report tells of one server.
@@ -14,6 +15,8 @@ use cbs_simulate::Range;
 pub struct ServerReport {
     /// Its name.
     pub name: String,
+    /// Its mode.
+    pub mode: Mode,
     /// Its reservation.
     pub reservation: Reservation,
     /// Within how many ticks of their coming its jobs are to be finished, if that is wanted: from the least to the greatest.
@@ -27,12 +30,16 @@ pub struct ServerReport {
 pub struct RunReport {
     /// The name of the file that was run.
     pub file: String,
+    /// The seed of what was drawn, if something is drawn.
+    pub seed: Option<u64>,
     /// The clock at the end.
     pub clock: u64,
     /// The ticks in which nobody ran.
     pub idle: u64,
     /// How many unfinished jobs a server may have.
     pub backlog: u64,
+    /// The bound on the part of the time that may be reserved.
+    pub bound: Bound,
     /// The part of the time that is reserved for all servers together.
     pub reserved: Bandwidth,
     /// The servers, by number: at most 64.
@@ -73,7 +80,7 @@ impl ServerReport {
     }
 
     /// Returns whether no job is late, and none was refused.
-    pub(crate) fn is_in_time(&self) -> bool
+    pub fn is_in_time(&self) -> bool
         ensures { result ≡ is_in_time self.now.figures }
     {
         self.late() == 0 && self.figures.refused == 0

@@ -4,8 +4,9 @@
 
 use crate::verdict::append_verdict;
 use crate::{RunReport, ServerReport, report_text};
-use cbs_rate::{Bandwidth, Reservation};
+use cbs_rate::{Bandwidth, Bound, Reservation};
 use cbs_report::{Figures, Ranks};
+use cbs_rules::Mode;
 use cbs_simulate::Range;
 use std::alloc::{AllocError, Global};
 use std::process::Abort;
@@ -42,7 +43,12 @@ fn ranks(least: u64, median: u64, p95: u64, p99: u64, greatest: u64) -> Option<R
     })
 }
 
-/// Returns what is told of a server with a budget in every period.
+/// Returns the bound of the whole time.
+fn whole(rt: &impl Abort) -> Bound {
+    Bound::new(1, 1).ok().expect(rt, "a bound")
+}
+
+/// Returns what is told of a soft server with a budget in every period.
 fn server(
     rt: &impl Abort,
     alloc: Global,
@@ -54,6 +60,7 @@ fn server(
 ) -> ServerReport {
     ServerReport {
         name: String::from_str(alloc, name).ok().expect(rt, "memory"),
+        mode: Mode::Soft,
         reservation: Reservation::new(budget, period)
             .ok()
             .expect(rt, "a reservation"),
@@ -167,9 +174,11 @@ fn a_robot_that_is_not_in_time(rt: HostRuntime) {
         file: String::from_str(alloc, "ROBOT.toml")
             .ok()
             .expect(&rt, "memory"),
+        seed: Some(7),
         clock: 200,
         idle: 7,
         backlog: 4,
+        bound: whole(&rt),
         reserved: Bandwidth { ticks: 4, of: 5 },
         servers: servers.ok().expect(&rt, "memory"),
     };
@@ -261,9 +270,11 @@ fn a_robot_that_is_in_time(rt: HostRuntime) {
         file: String::from_str(alloc, "ROBOT.toml")
             .ok()
             .expect(&rt, "memory"),
+        seed: Some(7),
         clock: 200,
         idle: 55,
         backlog: 4,
+        bound: whole(&rt),
         reserved: Bandwidth { ticks: 4, of: 5 },
         servers: servers.ok().expect(&rt, "memory"),
     };
@@ -394,9 +405,11 @@ fn a_pipeline(rt: HostRuntime) {
         file: String::from_str(alloc, "PIPELINE.toml")
             .ok()
             .expect(&rt, "memory"),
+        seed: Some(7),
         clock: 600,
         idle: 0,
         backlog: 8,
+        bound: whole(&rt),
         reserved: Bandwidth { ticks: 5, of: 6 },
         servers: servers.ok().expect(&rt, "memory"),
     };
@@ -456,9 +469,11 @@ fn a_replay_with_no_time_and_no_finished_job(rt: HostRuntime) {
         file: String::from_str(alloc, "FIRST.toml")
             .ok()
             .expect(&rt, "memory"),
+        seed: None,
         clock: 0,
         idle: 0,
         backlog: 4,
+        bound: whole(&rt),
         reserved: Bandwidth { ticks: 3, of: 4 },
         servers: servers.ok().expect(&rt, "memory"),
     };
@@ -505,9 +520,11 @@ fn a_refused_job_in_no_time(rt: HostRuntime) {
         file: String::from_str(alloc, "FULL.toml")
             .ok()
             .expect(&rt, "memory"),
+        seed: Some(7),
         clock: 0,
         idle: 0,
         backlog: 1,
+        bound: whole(&rt),
         reserved: Bandwidth { ticks: 1, of: 4 },
         servers: servers.ok().expect(&rt, "memory"),
     };
@@ -564,9 +581,11 @@ fn charges_have_a_table(rt: HostRuntime) {
         file: String::from_str(alloc, "HOST.toml")
             .ok()
             .expect(&rt, "memory"),
+        seed: Some(7),
         clock: 100,
         idle: 70,
         backlog: 2,
+        bound: whole(&rt),
         reserved: Bandwidth { ticks: 3, of: 10 },
         servers: servers.ok().expect(&rt, "memory"),
     };
@@ -631,18 +650,26 @@ fn verdicts_count_the_others(rt: HostRuntime) {
 }
 
 /// Returns what is said of a run of one server, "arm", with this reservation and these figures.
-fn said(alloc: Global, reservation: Reservation, figures: Figures) -> Result<String, AllocError> {
+fn said(
+    alloc: Global,
+    bound: Bound,
+    reservation: Reservation,
+    figures: Figures,
+) -> Result<String, AllocError> {
     let arm = ServerReport {
         name: String::from_str(alloc, "arm")?,
+        mode: Mode::Soft,
         reservation,
         within: Some(Range::fixed(20)),
         figures,
     };
     let report = RunReport {
         file: String::from_str(alloc, "ARM.toml")?,
+        seed: Some(7),
         clock: 1000,
         idle: 1000 - figures.run.min(1000),
         backlog: 4,
+        bound,
         reserved: Bandwidth { ticks: 1, of: 5 },
         servers: vec![in alloc; arm]?,
     };
@@ -659,7 +686,7 @@ fn a_late_job_of_a_server_that_has_enough(rt: HostRuntime) {
         run: 8,
         ..NOTHING
     };
-    let text = said(rt.alloc(), reservation, figures)
+    let text = said(rt.alloc(), whole(&rt), reservation, figures)
         .ok()
         .expect(&rt, "memory");
     assert!(rt;

@@ -15,7 +15,7 @@ loop-server-preserved c =
     let at : slice_get fs l.server ≡ Some c.index-figures.result.now =
     some_at fs l.server c.index-figures.result.now lt (rw c.from.ensures at c.index-figures.ensures) in
     let told = c.in_ok-server_report.ensures in
-    let one = server_is f l.server r fs all told.name told.reservation told.within (rw told.figures at) in
+    let one = server_is f l.server r fs all told.name told.mode told.reservation told.within (rw told.figures at) in
     record {
       count = ap length c.in_ok-push.ensures.items ∙ (length-append l.servers.items (r ∷ []) ∙ ap (λ n. n + 1) l.invariant.count);
       each = rw c.in_ok-push.ensures.items (each_more f 0 l.server l.servers.items r l.invariant.each (omega (arith, l.invariant.count)) one);
@@ -32,10 +32,12 @@ returns-clause-report c =
     let l = c.loop-server in
     record {
       file = c.in_ok-from_str.ensures.ok;
+      seed = ap Some c.seed.ensures;
       clock = c.until.ensures.value;
       idle = c.in_ok-figures.ensures.idle;
       backlog = c.backlog.ensures.value;
-      reserved = rw (← c.plan-2.ensures) c.bandwidth.ensures.value;
+      bound = c.bound.ensures ∙ ap (λ p. p.bound) c.plan-2.ensures;
+      reserved = rw (← c.plan-3.ensures) c.bandwidth.ensures.value;
       count = omega (arith, l.invariant.count, c.len-server-end.ensures.value, c.loop-server-test.false, ap (λ p. length p.rates) c.plan.ensures);
       each = λ s r e. each_is f l.servers.items s r l.invariant.each e;
     }

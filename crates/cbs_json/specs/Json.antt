@@ -1,0 +1,139 @@
+-- The whole report as JSON: keys, and the figure of each.
+use Rattle.std.specs.Prelude.{ℕ, Bool, List, [], ◌∷◌, ◌++◌, codes, map, Option, Some, None, string_bytes}
+use Rattle.std.specs.List.{list_all}
+use Rattle.serde_json.specs.Data.{Data, null, boolean, number, unsigned, string, array, object, Items, no_items, item, Members, no_members, put}
+use Rattle.serde_json.specs.View.{items_of}
+use Rattle.serde_json.specs.Written.{compact_text}
+use Rattle.cbs_rules.specs.declared.mode.Mode.{Mode}
+use Rattle.cbs_rules.specs.declared.mode.Mode.TheVariants.{Soft, Throttled}
+use Rattle.cbs_simulate.specs.Bounds.{Bounds}
+use Rattle.cbs_report.specs.Figures.{told}
+use Rattle.cbs_report.specs.declared.figures.Figures.{Figures}
+use Rattle.cbs_report.specs.declared.figures.Ranks.{Ranks}
+use Rattle.cbs_print.specs.Reports.{released, is_in_time, sum_of}
+use Rattle.cbs_print.specs.declared.report.RunReport.{RunReport}
+use Rattle.cbs_print.specs.declared.report.ServerReport.{ServerReport}
+
+-- members, and these put among them, by the order of the keys
+abbrev pub with_members : List (List ℕ × Data) → Members → Members
+with_members [] ms = ms
+with_members (m ∷ more) ms = with_members more (put m.0 m.1 ms)
+
+-- the object of keys with their values
+abbrev pub object_of : List (List ℕ × Data) → Data
+object_of members = object (with_members members no_members)
+
+-- a number
+abbrev pub whole : ℕ → Data
+whole n = number (unsigned n)
+
+-- two numbers: a part and its whole, or a sum and a count
+unfoldable pub pair_data : ℕ → ℕ → Data
+pair_data a b = array (item (whole a) (item (whole b) no_items))
+
+-- the word of a mode
+abbrev pub mode_word : Mode → List ℕ
+mode_word Soft = codes "soft"
+mode_word Throttled = codes "throttled"
+
+-- what came of the jobs of servers
+unfoldable pub jobs_data : List ServerReport → Data
+jobs_data servers = object_of (
+    (codes "released", whole (told (sum_of released servers)))
+    ∷ (codes "refused", whole (told (sum_of (λ f. f.refused) servers)))
+    ∷ (codes "finished", whole (told (sum_of (λ f. f.finished) servers)))
+    ∷ (codes "unfinished", whole (told (sum_of (λ f. f.unfinished) servers)))
+    ∷ (codes "late_finished", whole (told (sum_of (λ f. f.late_finished) servers)))
+    ∷ (codes "late_unfinished", whole (told (sum_of (λ f. f.late_unfinished) servers)))
+    ∷ [])
+
+-- within how many ticks jobs are to be finished
+unfoldable pub within_data : Option Bounds → Data
+within_data None = null
+within_data (Some b) = object_of ((codes "least", whole b.least) ∷ (codes "greatest", whole b.greatest) ∷ [])
+
+-- the units that were asked for, and those that ran
+unfoldable pub units_data : Figures → Data
+units_data f = object_of ((codes "asked", whole f.asked) ∷ (codes "run", whole f.run) ∷ [])
+
+-- the ticks from a job's coming to its end, of the finished jobs
+unfoldable pub ranks_data : Figures → Option Ranks → Data
+ranks_data f None = null
+ranks_data f (Some r) = object_of (
+    (codes "least", whole r.least)
+    ∷ (codes "mean", pair_data (told f.response_total) f.finished)
+    ∷ (codes "median", whole r.median)
+    ∷ (codes "p95", whole r.p95)
+    ∷ (codes "p99", whole r.p99)
+    ∷ (codes "greatest", whole r.greatest)
+    ∷ [])
+
+-- the ticks by which the finished jobs with a promise were earlier than that
+unfoldable pub early_data : Figures → Option ℕ → Data
+early_data f None = null
+early_data f (Some least) =
+    object_of ((codes "least", whole (told least)) ∷ (codes "mean", pair_data (told f.early_total) f.early_count) ∷ [])
+
+-- the ticks that were charged, and the greatest charge
+unfoldable pub charges_data : Figures → Data
+charges_data f = object_of ((codes "all", whole f.charged) ∷ (codes "greatest", whole f.greatest_charge) ∷ [])
+
+-- a server
+unfoldable pub server_data : ServerReport → Data
+server_data s = object_of (
+    (codes "name", string (string_bytes s.name))
+    ∷ (codes "mode", string (mode_word s.mode))
+    ∷ (codes "budget", whole s.reservation.budget)
+    ∷ (codes "period", whole s.reservation.period)
+    ∷ (codes "jobs", jobs_data (s ∷ []))
+    ∷ (codes "within_ticks", within_data s.within)
+    ∷ (codes "units", units_data s.figures)
+    ∷ (codes "response_ticks", ranks_data s.figures s.figures.responses)
+    ∷ (codes "early_ticks", early_data s.figures s.figures.early_least)
+    ∷ (codes "exhaustions", whole s.figures.used_up)
+    ∷ (codes "throttled_with_job_ticks", whole s.figures.throttled)
+    ∷ (codes "charged_ticks", charges_data s.figures)
+    ∷ (codes "greatest_backlog", whole s.figures.greatest_backlog)
+    ∷ [])
+
+-- the servers, in their order
+abbrev pub servers_data : List ServerReport → Items
+servers_data servers = items_of (map server_data servers)
+
+-- no server has a job that is late or was refused
+abbrev pub all_in_time : List ServerReport → Bool
+all_in_time servers = list_all (λ s. is_in_time s.figures) servers
+
+-- how the time went
+unfoldable pub ticks_data : RunReport → Data
+ticks_data r = object_of (
+    (codes "run", whole (told (sum_of (λ f. f.run) r.servers.items)))
+    ∷ (codes "idle", whole r.idle)
+    ∷ (codes "charged", whole (told (sum_of (λ f. f.charged) r.servers.items)))
+    ∷ [])
+
+-- the seed of what was drawn
+unfoldable pub seed_data : Option ℕ → Data
+seed_data None = null
+seed_data (Some seed) = whole seed
+
+-- the whole report
+unfoldable pub report_data : RunReport → Data
+report_data r = object_of (
+    (codes "report", whole 1)
+    ∷ (codes "file", string (string_bytes r.file))
+    ∷ (codes "unit", string (codes "tick"))
+    ∷ (codes "clock", whole r.clock)
+    ∷ (codes "seed", seed_data r.seed)
+    ∷ (codes "in_time", boolean (all_in_time r.servers.items))
+    ∷ (codes "ticks", ticks_data r)
+    ∷ (codes "bound", pair_data r.bound.num r.bound.den)
+    ∷ (codes "reserved", pair_data r.reserved.ticks r.reserved.of)
+    ∷ (codes "backlog", whole r.backlog)
+    ∷ (codes "jobs", jobs_data r.servers.items)
+    ∷ (codes "servers", array (servers_data r.servers.items))
+    ∷ [])
+
+-- .. as text: one line
+abbrev pub report_json : RunReport → List ℕ
+report_json r = compact_text (report_data r) ++ codes "\n"

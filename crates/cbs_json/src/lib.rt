@@ -1,0 +1,10 @@
+//! What a run came to, as JSON.
+#![tactic(auto)]
+
+mod json;
+mod server;
+mod sums;
+#[cfg(test)]
+mod tests;
+
+pub use json::report_json;

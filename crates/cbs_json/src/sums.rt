@@ -1,0 +1,69 @@
+//! Figures of several servers, added up, and numbers as they are told.
+
+ghost use Rattle.std.specs.Prelude.{◌≡◌};
+ghost use Rattle.cbs_print.specs.Reports.{sum_of};
+ghost use Rattle.cbs_report.specs.Figures.{told};
+ghost use Rattle.cbs_json.specs.Sums.{figure_of};
+
+use cbs_print::ServerReport;
+
+/// Returns a number, or 2^64 - 1 if it is greater.
+pub(crate) fn told(number: u128) -> u64
+    ensures { result ≡ told number }
+{
+    u64::try_from(number).unwrap_or(u64::MAX)
+}
+
+/// A figure that is added up.
+#[derive(Clone, Copy)]
+pub(crate) enum Sum {
+    /// The jobs that came.
+    Released,
+    /// Those that were refused.
+    Refused,
+    /// Those that are finished.
+    Finished,
+    /// The accepted ones that are not.
+    Unfinished,
+    /// The finished ones that are late.
+    LateFinished,
+    /// The unfinished ones that are.
+    LateUnfinished,
+    /// The units that ran.
+    Run,
+    /// The ticks that were charged.
+    Charged,
+}
+
+impl Sum {
+    /// Returns this figure of one server, or 2^64 - 1 if it is greater.
+    fn of_server(self, server: &ServerReport) -> u64
+        ensures { result ≡ told (figure_of self server.now.figures) }
+    {
+        let figures = &server.figures;
+        match self {
+            Sum::Released => figures
+                .refused
+                .saturating_add(figures.finished)
+                .saturating_add(figures.unfinished),
+            Sum::Refused => figures.refused,
+            Sum::Finished => figures.finished,
+            Sum::Unfinished => figures.unfinished,
+            Sum::LateFinished => figures.late_finished,
+            Sum::LateUnfinished => figures.late_unfinished,
+            Sum::Run => figures.run,
+            Sum::Charged => figures.charged,
+        }
+    }
+
+    /// Returns the sum of this figure over servers, or 2^64 - 1 if it is greater.
+    pub(crate) fn of(self, servers: &[ServerReport]) -> u64
+        ensures { result ≡ told (sum_of (figure_of self) servers.now) }
+    {
+        let mut sum: u64 = 0;
+        for server in servers {
+            sum = sum.saturating_add(self.of_server(server));
+        }
+        sum
+    }
+}

@@ -1,0 +1,356 @@
+//! Whole reports as JSON.
+
+use crate::report_json;
+use cbs_print::{RunReport, ServerReport};
+use cbs_rate::{Bandwidth, Bound, Reservation};
+use cbs_report::{Figures, Ranks};
+use cbs_rules::Mode;
+use cbs_simulate::Range;
+use std::alloc::{AllocError, Global};
+use std::process::Abort;
+
+/// The figures of a server that was asked for nothing.
+const NOTHING: Figures = Figures {
+    refused: 0,
+    finished: 0,
+    unfinished: 0,
+    late_finished: 0,
+    late_unfinished: 0,
+    greatest_backlog: 0,
+    asked: 0,
+    run: 0,
+    used_up: 0,
+    throttled: 0,
+    charged: 0,
+    greatest_charge: 0,
+    responses: None,
+    response_total: 0,
+    early_count: 0,
+    early_total: 0,
+    early_least: None,
+};
+
+/// Returns response times by their ranks.
+fn ranks(least: u64, median: u64, p95: u64, p99: u64, greatest: u64) -> Option<Ranks> {
+    Some(Ranks {
+        least,
+        median,
+        p95,
+        p99,
+        greatest,
+    })
+}
+
+/// Returns a bound.
+fn bound(rt: &impl Abort, num: u64, den: u64) -> Bound {
+    Bound::new(num, den).ok().expect(rt, "a bound")
+}
+
+/// Returns what is told of a server with a budget in every period.
+fn server(
+    rt: &impl Abort,
+    alloc: Global,
+    name: &str,
+    mode: Mode,
+    budget: u64,
+    period: u64,
+    within: Option<Range>,
+    figures: Figures,
+) -> ServerReport {
+    ServerReport {
+        name: String::from_str(alloc, name).ok().expect(rt, "memory"),
+        mode,
+        reservation: Reservation::new(budget, period)
+            .ok()
+            .expect(rt, "a reservation"),
+        within,
+        figures,
+    }
+}
+
+/// Returns a line of these parts.
+fn line_of(alloc: Global, parts: &[&str]) -> Result<String, AllocError> {
+    let mut line = String::new(alloc);
+    for part in parts {
+        line.push_str(part)?;
+    }
+    line.push('\n')?;
+    Ok(line)
+}
+
+/// Requires that a report as JSON is a line of these parts.
+fn says(rt: &impl Abort, alloc: Global, report: &RunReport, parts: &[&str]) {
+    let text = report_json(alloc, report).ok().expect(rt, "memory");
+    let wanted = line_of(alloc, parts).ok().expect(rt, "memory");
+    assert_eq!(rt; text.as_str(), wanted.as_str());
+}
+
+#[test]
+fn a_server_with_charges_and_one_with_no_job(rt: HostRuntime) {
+    let alloc = rt.alloc();
+    let figures = Figures {
+        refused: 3,
+        finished: 10,
+        unfinished: 4,
+        late_finished: 2,
+        late_unfinished: 1,
+        greatest_backlog: 5,
+        asked: 29,
+        run: 20,
+        used_up: 8,
+        throttled: 6,
+        charged: 11,
+        greatest_charge: 7,
+        responses: ranks(2, 9, 12, 13, 14),
+        response_total: 45,
+        early_count: 8,
+        early_total: 61,
+        early_least: Some(0),
+    };
+    let asked = Figures {
+        unfinished: 1,
+        greatest_backlog: 1,
+        asked: 5,
+        ..NOTHING
+    };
+    let arm = Mode::Throttled;
+    let leg = Mode::Soft;
+    let servers = vec![in alloc;
+        server(&rt, alloc, "arm", arm, 2, 10, Range::new(15, 25), figures),
+        server(&rt, alloc, "leg \"2\"", leg, 1, 30, None, asked),
+    ];
+    let report = RunReport {
+        file: String::from_str(alloc, "a\tb.toml")
+            .ok()
+            .expect(&rt, "memory"),
+        seed: None,
+        clock: 100,
+        idle: 69,
+        backlog: 12,
+        bound: bound(&rt, 9, 10),
+        reserved: Bandwidth { ticks: 7, of: 30 },
+        servers: servers.ok().expect(&rt, "memory"),
+    };
+    says(&rt, alloc, &report, &CHARGED);
+}
+
+/// What is said of it.
+const CHARGED: [&str; 12] = [
+    r#"{"backlog":12,"bound":[9,10],"clock":100,"file":"a\tb.toml","in_time":false,"#,
+    r#""jobs":{"finished":10,"late_finished":2,"late_unfinished":1,"refused":3,"released":18,"unfinished":5},"#,
+    r#""report":1,"reserved":[7,30],"seed":null,"#,
+    r#""servers":[{"budget":2,"charged_ticks":{"all":11,"greatest":7},"early_ticks":{"least":0,"mean":[61,8]},"#,
+    r#""exhaustions":8,"greatest_backlog":5,"#,
+    r#""jobs":{"finished":10,"late_finished":2,"late_unfinished":1,"refused":3,"released":17,"unfinished":4},"#,
+    r#""mode":"throttled","name":"arm","period":10,"response_ticks":{"greatest":14,"least":2,"mean":[45,10],"median":9,"p95":12,"p99":13},"#,
+    r#""throttled_with_job_ticks":6,"units":{"asked":29,"run":20},"within_ticks":{"greatest":25,"least":15}},"#,
+    r#"{"budget":1,"charged_ticks":{"all":0,"greatest":0},"early_ticks":null,"exhaustions":0,"greatest_backlog":1,"#,
+    r#""jobs":{"finished":0,"late_finished":0,"late_unfinished":0,"refused":0,"released":1,"unfinished":1},"mode":"soft","name":"leg \"2\"","#,
+    r#""period":30,"response_ticks":null,"throttled_with_job_ticks":0,"units":{"asked":5,"run":0},"within_ticks":null}],"#,
+    r#""ticks":{"charged":11,"idle":69,"run":20},"unit":"tick"}"#,
+];
+
+/// Returns the first server of the robot.
+fn control(rt: &impl Abort, alloc: Global) -> ServerReport {
+    let figures = Figures {
+        finished: 40,
+        greatest_backlog: 1,
+        asked: 40,
+        run: 40,
+        used_up: 40,
+        responses: ranks(1, 1, 1, 1, 1),
+        response_total: 40,
+        early_count: 40,
+        early_total: 160,
+        early_least: Some(4),
+        ..NOTHING
+    };
+    let within = Some(Range::fixed(5));
+    server(rt, alloc, "control", Mode::Soft, 1, 5, within, figures)
+}
+
+/// Returns the second.
+fn vision(rt: &impl Abort, alloc: Global) -> ServerReport {
+    let figures = Figures {
+        finished: 10,
+        greatest_backlog: 1,
+        asked: 60,
+        run: 60,
+        used_up: 10,
+        responses: ranks(10, 10, 10, 10, 10),
+        response_total: 100,
+        early_count: 10,
+        early_total: 100,
+        early_least: Some(10),
+        ..NOTHING
+    };
+    let within = Some(Range::fixed(20));
+    server(rt, alloc, "vision", Mode::Soft, 6, 20, within, figures)
+}
+
+/// Returns the third, which is throttled.
+fn lidar(rt: &impl Abort, alloc: Global) -> ServerReport {
+    let figures = Figures {
+        finished: 10,
+        greatest_backlog: 1,
+        asked: 30,
+        run: 30,
+        used_up: 10,
+        throttled: 80,
+        responses: ranks(11, 11, 11, 11, 11),
+        response_total: 110,
+        early_count: 10,
+        early_total: 90,
+        early_least: Some(9),
+        ..NOTHING
+    };
+    let within = Some(Range::fixed(20));
+    server(rt, alloc, "lidar", Mode::Throttled, 2, 10, within, figures)
+}
+
+/// Returns the fourth, which is asked for too much.
+fn logging(rt: &impl Abort, alloc: Global) -> ServerReport {
+    let figures = Figures {
+        refused: 1,
+        finished: 21,
+        unfinished: 2,
+        late_finished: 9,
+        late_unfinished: 1,
+        greatest_backlog: 4,
+        asked: 76,
+        run: 63,
+        used_up: 63,
+        responses: ranks(3, 18, 30, 35, 35),
+        response_total: 363,
+        early_count: 21,
+        early_total: 4371,
+        early_least: Some(34),
+        ..NOTHING
+    };
+    let within = Some(Range::fixed(20));
+    server(rt, alloc, "logging", Mode::Soft, 1, 10, within, figures)
+}
+
+#[test]
+fn a_robot(rt: HostRuntime) {
+    let alloc = rt.alloc();
+    let servers = vec![in alloc;
+        control(&rt, alloc),
+        vision(&rt, alloc),
+        lidar(&rt, alloc),
+        logging(&rt, alloc),
+    ];
+    let report = RunReport {
+        file: String::from_str(alloc, "ROBOT.toml")
+            .ok()
+            .expect(&rt, "memory"),
+        seed: Some(7),
+        clock: 200,
+        idle: 7,
+        backlog: 4,
+        bound: bound(&rt, 1, 1),
+        reserved: Bandwidth { ticks: 4, of: 5 },
+        servers: servers.ok().expect(&rt, "memory"),
+    };
+    says(&rt, alloc, &report, &ROBOT);
+}
+
+/// What is said of it. A program of its own worked this out, from another scheduler.
+const ROBOT: [&str; 20] = [
+    r#"{"backlog":4,"bound":[1,1],"clock":200,"file":"ROBOT.toml","in_time":false,"jobs":{"finished":81,"late_finished":9,"#,
+    r#""late_unfinished":1,"refused":1,"released":84,"unfinished":2},"report":1,"reserved":[4,5],"seed":7,"#,
+    r#""servers":[{"budget":1,"charged_ticks":{"all":0,"greatest":0},"early_ticks":{"least":4,"mean":[160,40]},"#,
+    r#""exhaustions":40,"greatest_backlog":1,"jobs":{"finished":40,"late_finished":0,"late_unfinished":0,"refused":0,"#,
+    r#""released":40,"unfinished":0},"mode":"soft","name":"control","period":5,"response_ticks":{"greatest":1,"least":1,"#,
+    r#""mean":[40,40],"median":1,"p95":1,"p99":1},"throttled_with_job_ticks":0,"units":{"asked":40,"run":40},"#,
+    r#""within_ticks":{"greatest":5,"least":5}},{"budget":6,"charged_ticks":{"all":0,"greatest":0},"early_ticks":{"least":10,"#,
+    r#""mean":[100,10]},"exhaustions":10,"greatest_backlog":1,"jobs":{"finished":10,"late_finished":0,"late_unfinished":0,"#,
+    r#""refused":0,"released":10,"unfinished":0},"mode":"soft","name":"vision","period":20,"response_ticks":{"greatest":10,"#,
+    r#""least":10,"mean":[100,10],"median":10,"p95":10,"p99":10},"throttled_with_job_ticks":0,"units":{"asked":60,"run":60},"#,
+    r#""within_ticks":{"greatest":20,"least":20}},{"budget":2,"charged_ticks":{"all":0,"greatest":0},"#,
+    r#""early_ticks":{"least":9,"mean":[90,10]},"exhaustions":10,"greatest_backlog":1,"jobs":{"finished":10,"#,
+    r#""late_finished":0,"late_unfinished":0,"refused":0,"released":10,"unfinished":0},"mode":"throttled","name":"lidar","#,
+    r#""period":10,"response_ticks":{"greatest":11,"least":11,"mean":[110,10],"median":11,"p95":11,"p99":11},"#,
+    r#""throttled_with_job_ticks":80,"units":{"asked":30,"run":30},"within_ticks":{"greatest":20,"least":20}},{"budget":1,"#,
+    r#""charged_ticks":{"all":0,"greatest":0},"early_ticks":{"least":34,"mean":[4371,21]},"exhaustions":63,"#,
+    r#""greatest_backlog":4,"jobs":{"finished":21,"late_finished":9,"late_unfinished":1,"refused":1,"released":24,"#,
+    r#""unfinished":2},"mode":"soft","name":"logging","period":10,"response_ticks":{"greatest":35,"least":3,"mean":[363,21],"#,
+    r#""median":18,"p95":30,"p99":35},"throttled_with_job_ticks":0,"units":{"asked":76,"run":63},"#,
+    r#""within_ticks":{"greatest":20,"least":20}}],"ticks":{"charged":0,"idle":7,"run":193},"unit":"tick"}"#,
+];
+
+/// Returns the report of no server in 100 ticks, as JSON.
+fn of_no_server(alloc: Global, bound: Bound) -> Result<String, AllocError> {
+    let report = RunReport {
+        file: String::from_str(alloc, "EMPTY.toml")?,
+        seed: None,
+        clock: 100,
+        idle: 100,
+        backlog: 1,
+        bound,
+        reserved: Bandwidth { ticks: 0, of: 1 },
+        servers: Vec::new(alloc),
+    };
+    report_json(alloc, &report)
+}
+
+#[test]
+fn no_server(rt: HostRuntime) {
+    let alloc = rt.alloc();
+    let text = of_no_server(alloc, bound(&rt, 1, 2))
+        .ok()
+        .expect(&rt, "memory");
+    let wanted = line_of(alloc, &NO_SERVER).ok().expect(&rt, "memory");
+    assert_eq!(rt; text.as_str(), wanted.as_str());
+}
+
+/// What is said of it.
+const NO_SERVER: [&str; 3] = [
+    r#"{"backlog":1,"bound":[1,2],"clock":100,"file":"EMPTY.toml","in_time":true,"#,
+    r#""jobs":{"finished":0,"late_finished":0,"late_unfinished":0,"refused":0,"released":0,"unfinished":0},"#,
+    r#""report":1,"reserved":[0,1],"seed":null,"servers":[],"ticks":{"charged":0,"idle":100,"run":0},"unit":"tick"}"#,
+];
+
+#[test]
+fn sums_that_are_too_great(rt: HostRuntime) {
+    let alloc = rt.alloc();
+    let figures = Figures {
+        finished: u64::MAX,
+        unfinished: 1,
+        run: u64::MAX,
+        responses: ranks(1, 2, 3, 4, 5),
+        response_total: 1 << 100,
+        early_count: 2,
+        early_total: 1 << 65,
+        early_least: Some(1 << 64),
+        ..NOTHING
+    };
+    let servers = vec![in alloc;
+        server(&rt, alloc, "a", Mode::Soft, 1, 2, None, figures),
+        server(&rt, alloc, "b", Mode::Soft, 1, 2, None, figures),
+    ];
+    let report = RunReport {
+        file: String::new(alloc),
+        seed: Some(u64::MAX),
+        clock: 0,
+        idle: 0,
+        backlog: 1,
+        bound: bound(&rt, 1, 1),
+        reserved: Bandwidth { ticks: 1, of: 1 },
+        servers: servers.ok().expect(&rt, "memory"),
+    };
+    let text = report_json(alloc, &report).ok().expect(&rt, "memory");
+    for part in &TOO_GREAT {
+        assert!(rt; text.as_str().contains(*part));
+    }
+}
+
+/// What is said of it, among other things.
+const TOO_GREAT: [&str; 6] = [
+    r#""seed":18446744073709551615,"#,
+    r#""in_time":true,"#,
+    r#""released":18446744073709551615,"unfinished":2},"report""#,
+    r#""run":18446744073709551615},"unit""#,
+    r#""mean":[18446744073709551615,18446744073709551615],"median":2"#,
+    r#""early_ticks":{"least":18446744073709551615,"mean":[18446744073709551615,2]},"#,
+];
