@@ -78,6 +78,6 @@ pub fn report_json(alloc: Global, report: &RunReport) -> Result<String, AllocErr
     ensures { IfOk result (λ text. string_bytes text ≡ report_json report.now) }
 {
     let mut text = report_value(alloc, report)?.to_string(alloc)?;
-    text.push('\n')?;
+    text.push_str("\n")?;
     Ok(text)
 }

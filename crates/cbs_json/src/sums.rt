@@ -36,23 +36,20 @@ pub(crate) enum Sum {
 }
 
 impl Sum {
-    /// Returns this figure of one server, or 2^64 - 1 if it is greater.
-    fn of_server(self, server: &ServerReport) -> u64
-        ensures { result ≡ told (figure_of self server.now.figures) }
+    /// Returns this figure of one server.
+    fn of_server(self, server: &ServerReport) -> u128
+        ensures { result ≡ figure_of self server.now.figures }
     {
         let figures = &server.figures;
         match self {
-            Sum::Released => figures
-                .refused
-                .saturating_add(figures.finished)
-                .saturating_add(figures.unfinished),
-            Sum::Refused => figures.refused,
-            Sum::Finished => figures.finished,
-            Sum::Unfinished => figures.unfinished,
-            Sum::LateFinished => figures.late_finished,
-            Sum::LateUnfinished => figures.late_unfinished,
-            Sum::Run => figures.run,
-            Sum::Charged => figures.charged,
+            Sum::Released => server.released(),
+            Sum::Refused => u128::from(figures.refused),
+            Sum::Finished => u128::from(figures.finished),
+            Sum::Unfinished => u128::from(figures.unfinished),
+            Sum::LateFinished => u128::from(figures.late_finished),
+            Sum::LateUnfinished => u128::from(figures.late_unfinished),
+            Sum::Run => u128::from(figures.run),
+            Sum::Charged => u128::from(figures.charged),
         }
     }
 
@@ -62,7 +59,7 @@ impl Sum {
     {
         let mut sum: u64 = 0;
         for server in servers {
-            sum = sum.saturating_add(self.of_server(server));
+            sum = sum.saturating_add(told(self.of_server(server)));
         }
         sum
     }

@@ -64,7 +64,7 @@ impl ServerReport {
     }
 
     /// Returns how many jobs came.
-    pub(crate) fn released(&self) -> u128
+    pub fn released(&self) -> u128
         ensures value { result ≡ released self.now.figures }
         ensures small { result < 2 ^ 66 }
     {
