@@ -1,2 +1,3 @@
 mod Runs
 mod Servers
+mod TaskSteps

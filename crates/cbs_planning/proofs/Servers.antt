@@ -1,7 +1,8 @@
--- The reports of the servers of a load, one after another.
-use Rattle.std.proofs.Common.{◌≡◌, ℕ, zero, suc, ◌+◌, ◌<◌, List, [], ◌∷◌, ◌++◌, length, map, Some, arith, refl, ap, ◌∙◌, subst}
+-- The reports of servers, one after another.
+use Rattle.std.proofs.Common.{◌≡◌, ℕ, zero, suc, ◌+◌, ◌<◌, List, [], ◌∷◌, ◌++◌, length, map, Some, None, arith, refl, ap, ◌∙◌, subst}
 use Rattle.std.specs.Prelude.{get_or, slice_get, string_bytes}
 use Rattle.std.proofs.lemmas.List.{get_or-map, length-map}
+use Rattle.cbs_file.specs.TaskFiles.{File}
 use Rattle.cbs_load.specs.Loads.{LoadFile}
 use Rattle.cbs_rate.specs.Rate.{Rate}
 use Rattle.cbs_report.specs.Reports.{AreAllFigures}
@@ -9,31 +10,33 @@ use Rattle.cbs_report.specs.Figures.{AreFigures, steps_of}
 use Rattle.cbs_report.specs.declared.figures.Figures.{Figures}
 use Rattle.cbs_print.specs.declared.report.ServerReport.{ServerReport}
 use Rattle.cbs_planning.specs.Loads.{IsServerReport, seen_in, within_of}
+use Rattle.cbs_planning.specs.Tasks.{IsTaskServerReport, clock_of_tasks, name_of, seen_in_tasks}
+use Rattle.cbs_views.specs.declared.seen.Seen.{Seen}
 
--- the reports of the servers from server i on
-abbrev pub EachFrom : LoadFile → ℕ → List ServerReport → Type 0
-EachFrom f i [] = Unit {0}
-EachFrom f i (r ∷ rs) = IsServerReport f i r × EachFrom f (i + 1) rs
+module _ (Is : ℕ → ServerReport → Type 0) where
+  -- the reports of the servers from server i on
+  abbrev pub EachFrom : ℕ → List ServerReport → Type 0
+  EachFrom i [] = Unit {0}
+  EachFrom i (r ∷ rs) = Is i r × EachFrom (i + 1) rs
 
--- one server more
-pub each_more : (f : LoadFile) (i n : ℕ) (rs : List ServerReport) (r : ServerReport) → EachFrom f i rs → n ≡ i + length rs → IsServerReport f n r
-    → EachFrom f i (rs ++ r ∷ [])
-each_more f i n [] r each is one = let e : n ≡ i = omega arith in (rw (← e) one, tt)
-each_more f i n (x ∷ rs) r each is one = (each.0, each_more f (i + 1) n rs r each.1 (omega arith) one)
+  -- one server more
+  pub each_more : (i n : ℕ) (rs : List ServerReport) (r : ServerReport) → EachFrom i rs → n ≡ i + length rs → Is n r → EachFrom i (rs ++ r ∷ [])
+  each_more i n [] r each is one = let e : n ≡ i = omega arith in (rw (← e) one, tt)
+  each_more i n (x ∷ rs) r each is one = (each.0, each_more (i + 1) n rs r each.1 (omega arith) one)
 
--- the report at a place
-each_at : (f : LoadFile) (i : ℕ) (rs : List ServerReport) (s : ℕ) (r : ServerReport) → EachFrom f i rs → slice_get rs s ≡ Some r → IsServerReport f (i + s) r
-each_at f i [] s r each e = absurd cc
-each_at f i (x ∷ rs) zero r each e =
-    let same : x ≡ r = cc in
-    let n : i + 0 ≡ i = omega arith in
-    rw (n, ← same) each.0
-each_at f i (x ∷ rs) (suc s) r each e =
-    let n : i + 1 + s ≡ i + suc s = omega arith in
-    rw (← n) (each_at f (i + 1) rs s r each.1 e)
+  -- the report at a place
+  each_at : (i : ℕ) (rs : List ServerReport) (s : ℕ) (r : ServerReport) → EachFrom i rs → slice_get rs s ≡ Some r → Is (i + s) r
+  each_at i [] s r each e = absurd cc
+  each_at i (x ∷ rs) zero r each e =
+      let same : x ≡ r = cc in
+      let n : i + 0 ≡ i = omega arith in
+      rw (n, ← same) each.0
+  each_at i (x ∷ rs) (suc s) r each e =
+      let n : i + 1 + s ≡ i + suc s = omega arith in
+      rw (← n) (each_at (i + 1) rs s r each.1 e)
 
-pub each_is : (f : LoadFile) (rs : List ServerReport) (s : ℕ) (r : ServerReport) → EachFrom f 0 rs → slice_get rs s ≡ Some r → IsServerReport f s r
-each_is f rs s r each e = let n : 0 + s ≡ s = omega arith in rw n at (each_at f 0 rs s r each e)
+  pub each_is : (rs : List ServerReport) (s : ℕ) (r : ServerReport) → EachFrom 0 rs → slice_get rs s ≡ Some r → Is s r
+  each_is rs s r each e = let n : 0 + s ≡ s = omega arith in rw n at (each_at 0 rs s r each e)
 
 -- what is found at a place stands there
 found : {X : Type 0} (xs : List X) (i : ℕ) (x d : X) → Some x ≡ slice_get xs i → (i < length xs) × (get_or xs i d ≡ x)
@@ -41,21 +44,42 @@ found [] i x d e = absurd cc
 found (y ∷ xs) zero x d e = let same : y ≡ x = cc in (omega arith, same)
 found (y ∷ xs) (suc i) x d e = let h = found xs i x d e in (let lt = h.0 in omega arith, h.1)
 
--- what is told of one server is its report
+-- the figures of one server among those of all
+figures_at : (rates : List Rate) (now : ℕ) (seen : List Seen) (fs : List Figures) (s : ℕ) (r : ServerReport)
+    → AreAllFigures (map (λ rate. rate.budget) rates) now seen fs → Some r.reservation ≡ slice_get rates s → slice_get fs s ≡ Some r.figures
+    → AreFigures r.reservation.budget now (steps_of s seen) r.figures
+figures_at rates now seen fs s r all reservation figures =
+    let here = found rates s r.reservation r.reservation reservation in
+    let budget : get_or (map (λ (rate : Rate). rate.budget) rates) s 0 ≡ r.reservation.budget =
+    get_or-map (λ (rate : Rate). rate.budget) rates s r.reservation 0 here.0 ∙ ap (λ x. x.budget) here.1 in
+    subst (λ b. AreFigures b now (steps_of s seen) r.figures) budget (all.each s r.figures figures)
+
+-- what is told of one server of a load is its report
 pub server_is : (f : LoadFile) (s : ℕ) (r : ServerReport) (fs : List Figures)
     → AreAllFigures (map (λ rate. rate.budget) f.plan.rates) f.until (seen_in f) fs
     → Some (string_bytes r.name) ≡ slice_get f.names s → Some r.mode ≡ slice_get f.modes s → Some r.reservation ≡ slice_get f.plan.rates s → r.within ≡ within_of s f.sources
     → slice_get fs s ≡ Some r.figures → IsServerReport f s r
 server_is f s r fs all name mode reservation within figures =
-    let here = found f.plan.rates s r.reservation r.reservation reservation in
-    let budget : get_or (map (λ (rate : Rate). rate.budget) f.plan.rates) s 0 ≡ r.reservation.budget =
-    get_or-map (λ (rate : Rate). rate.budget) f.plan.rates s r.reservation 0 here.0 ∙ ap (λ x. x.budget) here.1 in
     record {
       name = name;
       mode = mode;
       reservation = reservation;
       within = within;
-      figures = subst (λ b. AreFigures b f.until (steps_of s (seen_in f)) r.figures) budget (all.each s r.figures figures);
+      figures = figures_at f.plan.rates f.until (seen_in f) fs s r all reservation figures;
+    }
+
+-- .. of a task file
+pub task_server_is : (f : File) (s : ℕ) (r : ServerReport) (fs : List Figures)
+    → AreAllFigures (map (λ rate. rate.budget) f.plan.rates) (clock_of_tasks f) (seen_in_tasks f) fs
+    → string_bytes r.name ≡ name_of s → Some r.mode ≡ slice_get f.modes s → Some r.reservation ≡ slice_get f.plan.rates s → r.within ≡ None
+    → slice_get fs s ≡ Some r.figures → IsTaskServerReport f s r
+task_server_is f s r fs all name mode reservation within figures =
+    record {
+      name = name;
+      mode = mode;
+      reservation = reservation;
+      within = within;
+      figures = figures_at f.plan.rates (clock_of_tasks f) (seen_in_tasks f) fs s r all reservation figures;
     }
 
 -- what stands at a place is found there
@@ -65,6 +89,6 @@ some_at (y ∷ xs) zero x lt is = rw is refl
 some_at (y ∷ xs) (suc i) x lt is = some_at xs i x (omega arith) is
 
 -- there are as many figures as servers
-pub figure_count : (f : LoadFile) (fs : List Figures) → AreAllFigures (map (λ rate. rate.budget) f.plan.rates) f.until (seen_in f) fs
-    → length fs ≡ length f.plan.rates
-figure_count f fs all = all.count ∙ length-map f.plan.rates (λ (rate : Rate). rate.budget)
+pub figure_count : (rates : List Rate) (now : ℕ) (seen : List Seen) (fs : List Figures) → AreAllFigures (map (λ rate. rate.budget) rates) now seen fs
+    → length fs ≡ length rates
+figure_count rates now seen fs all = all.count ∙ length-map rates (λ (rate : Rate). rate.budget)

@@ -1,8 +1,11 @@
-//! Loads, simulated: what comes of them, as a report.
+//! Loads, simulated, and task files, replayed: what comes of them, as a report.
 #![tactic(auto)]
 
 mod reported;
+mod task_report;
+mod task_steps;
 mod watched;
 mod within;
 
 pub use reported::report_of;
+pub use task_report::task_report_of;

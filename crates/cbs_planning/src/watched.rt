@@ -4,6 +4,7 @@ ghost use Rattle.std.specs.Prelude.{◌≡◌};
 ghost use Rattle.cbs_planning.specs.Sights.{arrival_of, event_seen, view_seen};
 
 use cbs_core::Core;
+use cbs_job::Work;
 use cbs_simulate::{Event as Happening, LoadJob, Moment, Release, Watcher};
 use cbs_steps::ServerView;
 use cbs_views::{Arrival, Event, Seen, View};
@@ -59,7 +60,10 @@ fn event_seen(within: &[Option<u64>], event: Happening) -> Event
 }
 
 /// Returns what the server of a step shows, if there is one.
-fn view_seen<A: Allocator>(core: &Core<LoadJob, A>, event: &Event) -> Option<ServerView>
+pub(crate) fn view_seen<W: Work, A: Allocator>(
+    core: &Core<W, A>,
+    event: &Event,
+) -> Option<ServerView>
     ensures { result ≡ view_seen core.now.faces event.now }
 {
     let server = event.server()?;

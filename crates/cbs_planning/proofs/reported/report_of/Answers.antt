@@ -1,5 +1,6 @@
 use Rattle.std.proofs.Common.{◌≡◌, ◌<◌, ◌+◌, ◌∙◌, ◌∷◌, [], ap, arith, length, length-append, Some}
 use Rattle.std.specs.Prelude.{slice_get}
+use Rattle.cbs_planning.specs.Loads.{IsServerReport, seen_in}
 use Rattle.cbs_planning.proofs.Servers.{each_is, each_more, figure_count, server_is, some_at}
 use Rattle.cbs_planning.proofs.reported.report_of.Goals as goal
 
@@ -11,14 +12,14 @@ loop-server-preserved c =
     let fs = c.in_ok-figures.figures.items in
     let all = c.in_ok-figures.ensures.figures in
     let lt : l.server < length fs =
-    omega (arith, figure_count f fs all, c.len-server-end.ensures.value, c.loop-server-test.true, ap (λ p. length p.rates) c.plan.ensures) in
+    omega (arith, figure_count f.plan.rates f.until (seen_in f) fs all, c.len-server-end.ensures.value, c.loop-server-test.true, ap (λ p. length p.rates) c.plan.ensures) in
     let at : slice_get fs l.server ≡ Some c.index-figures.result.now =
     some_at fs l.server c.index-figures.result.now lt (rw c.from.ensures at c.index-figures.ensures) in
     let told = c.in_ok-server_report.ensures in
     let one = server_is f l.server r fs all told.name told.mode told.reservation told.within (rw told.figures at) in
     record {
       count = ap length c.in_ok-push.ensures.items ∙ (length-append l.servers.items (r ∷ []) ∙ ap (λ n. n + 1) l.invariant.count);
-      each = rw c.in_ok-push.ensures.items (each_more f 0 l.server l.servers.items r l.invariant.each (omega (arith, l.invariant.count)) one);
+      each = rw c.in_ok-push.ensures.items (each_more (IsServerReport f) 0 l.server l.servers.items r l.invariant.each (omega (arith, l.invariant.count)) one);
     }
 
 pub returns-clause-few : goal.returns-clause-few
@@ -39,5 +40,5 @@ returns-clause-report c =
       bound = c.bound.ensures ∙ ap (λ p. p.bound) c.plan-2.ensures;
       reserved = rw (← c.plan-3.ensures) c.bandwidth.ensures.value;
       count = omega (arith, l.invariant.count, c.len-server-end.ensures.value, c.loop-server-test.false, ap (λ p. length p.rates) c.plan.ensures);
-      each = λ s r e. each_is f l.servers.items s r l.invariant.each e;
+      each = λ s r e. each_is (IsServerReport f) l.servers.items s r l.invariant.each e;
     }

@@ -1,0 +1,40 @@
+use Rattle.std.proofs.Common.{◌≡◌, ◌∙◌, ◌++◌, ◌∷◌, [], append_assoc, ap, sym, length, arith, rules}
+use Rattle.std.proofs.lemmas.List.{nil_from_length}
+use Rattle.std.specs.Vec.Iter.{into_iter_items}
+use Rattle.cbs_core.proofs.Laws.{after-push, all_yielded}
+use Rattle.cbs_job.specs.FileJobs.{of_files}
+use Rattle.cbs_steps.specs.Continuations.{◌⊕⊕◌}
+use Rattle.cbs_planning.proofs.TaskSteps.{none_seen, seen_more}
+use Rattle.cbs_planning.proofs.task_steps.show_steps.Goals as goal
+
+pub loop-step-init : goal.loop-step-init
+loop-step-init c =
+    let steps : into_iter_items c.into_iter-step-iterator.result ≡ c.args.steps.items = c.into_iter-step-iterator.ensures.into_iter_gives.0 in
+    record {
+      count = search rules;
+      split = sym steps;
+      state = λ M agrees. agrees;
+      seen = λ M agrees first seen saw. rw (none_seen M seen) saw;
+    }
+
+pub loop-step-preserved : goal.loop-step-preserved
+loop-step-preserved c = record {
+  count = omega (arith, ap length c.in-Some.ensures.steps.0, c.in-Some.ensures.steps.1, c.loop-step.invariant.count);
+  split = c.loop-step.invariant.split ∙ ap (λ xs. c.loop-step.yielded ++ xs) c.in-Some.ensures.steps.0
+      ∙ sym (append_assoc c.loop-step.yielded (c.in-Some.step ∷ []) (into_iter_items c.next.new.self));
+  state = λ M agrees. rw (after-push of_files M c.loop-step.yielded c.in-Some.step)
+      (c.in_ok-show_step.ensures.state (M ⊕⊕ c.loop-step.yielded) (c.loop-step.invariant.state M agrees));
+  seen = λ M agrees first seen saw. rw (seen_more M c.loop-step.yielded c.in-Some.step seen)
+      (c.in_ok-show_step.ensures.seen (M ⊕⊕ c.loop-step.yielded) (c.loop-step.invariant.state M agrees) first _
+      (c.loop-step.invariant.seen M agrees first seen saw));
+}
+
+pub returns-clause-state : goal.returns-clause-state
+returns-clause-state c = λ M agrees.
+    let none : into_iter_items c.loop-step.step-iterator ≡ [] = nil_from_length _ (sym c.loop-step.invariant.count ∙ c.in-None.ensures.steps.0) in
+    rw (all_yielded c.args.steps.items c.loop-step.yielded _ c.loop-step.invariant.split none) (c.loop-step.invariant.state M agrees)
+
+pub returns-clause-seen : goal.returns-clause-seen
+returns-clause-seen c = λ M agrees first seen saw.
+    let none : into_iter_items c.loop-step.step-iterator ≡ [] = nil_from_length _ (sym c.loop-step.invariant.count ∙ c.in-None.ensures.steps.0) in
+    rw (all_yielded c.args.steps.items c.loop-step.yielded _ c.loop-step.invariant.split none) (c.loop-step.invariant.seen M agrees first seen saw)

@@ -1,0 +1,136 @@
+-- What comes of a task file.
+use Rattle.std.specs.Prelude.{◌≡◌, ℕ, List, [], ◌∷◌, ◌++◌, codes, decimal, length, sum_by, slice_get, string_bytes, Option, Some, None, Result, Ok, Err}
+use Rattle.cbs_file.specs.TaskFiles.{File}
+use Rattle.cbs_job.specs.FileJobs.{of_files}
+use Rattle.cbs_job.specs.declared.file.FileJob.{FileJob}
+use Rattle.cbs_rate.specs.Plan.{common_multiple, share}
+use Rattle.cbs_report.specs.Figures.{AreFigures, steps_of, told, total}
+use Rattle.cbs_report.specs.Tallies.{ticks_idle}
+use Rattle.cbs_rules.specs.Setups.{ModedPlan}
+use Rattle.cbs_simulate.specs.Moves.{ran_in}
+use Rattle.cbs_simulate.specs.Shown.{answer_in, promised_in}
+use Rattle.cbs_steps.specs.Continuations.{◌⊕⊕◌}
+use Rattle.cbs_steps.specs.History.{World, History, ◌⊕◌, faces, world_after, reply_in}
+use Rattle.cbs_steps.specs.Setups.{terms_of}
+use Rattle.cbs_steps.specs.declared.error.CoreError.{CoreError}
+use Rattle.cbs_steps.specs.declared.reply.Reply.{Reply}
+use Rattle.cbs_steps.specs.declared.reply.Reply.TheVariants as reply
+use Rattle.cbs_steps.specs.declared.step.Step.{Step}
+use Rattle.cbs_steps.specs.declared.step.Step.TheVariants as step
+use Rattle.cbs_views.specs.declared.seen.Arrival.{Arrival}
+use Rattle.cbs_views.specs.declared.seen.Event.{Event}
+use Rattle.cbs_views.specs.declared.seen.Event.TheVariants as event
+use Rattle.cbs_views.specs.declared.seen.Seen.{Seen}
+use Rattle.cbs_print.specs.declared.report.RunReport.{RunReport}
+use Rattle.cbs_print.specs.declared.report.ServerReport.{ServerReport}
+use Rattle.cbs_planning.specs.Sights.{view_seen}
+use Rattle.cbs_planning.specs.declared.task_steps.Asked.{Asked}
+use Rattle.cbs_planning.specs.declared.task_steps.Asked.TheVariants.{Submit, Run, Advance, Close, Charge}
+
+-- what a step asks for, without its job
+abbrev pub asked_of : Step FileJob → Asked
+asked_of (step.Submit s job) = Submit s (of_files.left job)
+asked_of step.Run = Run
+asked_of (step.Advance n) = Advance n
+asked_of (step.Close s) = Close s
+asked_of (step.Charge s n) = Charge s n
+
+-- why a reply refuses an advance, a close or a charge, if it does
+abbrev pub refusal_in : Reply FileJob → Option CoreError
+refusal_in (reply.Refused e) = Some e
+refusal_in _ = None
+
+-- a job that is submitted at a tick: nothing says within how many ticks it is to be finished
+abbrev pub task_arrival : ℕ → ℕ → ℕ → Arrival
+task_arrival now s units = record { server = s; came = now; units = units; within = None }
+
+-- a submit, by what it is answered and what is promised then
+abbrev pub submit_seen : Arrival → Result ℕ CoreError → Option ℕ → Event
+submit_seen job (Ok q) promised = event.Accepted job q promised
+submit_seen job (Err e) promised = event.NotAccepted job e
+
+-- an advance, by why it is refused
+abbrev pub advance_seen : ℕ → Option CoreError → Event
+advance_seen n None = event.Advanced n
+advance_seen n (Some e) = event.NotAdvanced n e
+
+-- a close
+abbrev pub close_seen : ℕ → Option CoreError → Event
+close_seen s None = event.Closed s
+close_seen s (Some e) = event.NotClosed s e
+
+-- a charge
+abbrev pub charge_seen : ℕ → ℕ → Option CoreError → Event
+charge_seen s n None = event.Charged s n
+charge_seen s n (Some e) = event.NotCharged s n e
+
+-- what a step did, by its reply and by what it left. A submit takes no tick, so the clock that it left is that at which it came
+abbrev pub event_of_step : World FileJob → Asked → Reply FileJob → Event
+event_of_step w (Submit s units) r = submit_seen (task_arrival w.now s units) (answer_in r) (promised_in of_files w s (answer_in r))
+event_of_step w Run r = event.Ran (ran_in r)
+event_of_step w (Advance n) r = advance_seen n (refusal_in r)
+event_of_step w (Close s) r = close_seen s (refusal_in r)
+event_of_step w (Charge s n) r = charge_seen s n (refusal_in r)
+
+-- a step, as it is seen, by its reply and by what it left
+abbrev pub seen_of_step : World FileJob → Asked → Reply FileJob → Seen
+seen_of_step w x r =
+    let e = event_of_step w x r in
+    record { clock = w.now; event = e; view = view_seen (faces of_files w) e }
+
+-- the step x after the history M, as it is seen
+abbrev pub seen_after : History FileJob → Step FileJob → Seen
+seen_after M x = seen_of_step (world_after of_files (M ⊕ x)) (asked_of x) (reply_in of_files M x)
+
+-- steps after the history M, as they are seen, the newest first, on what was seen before
+unfoldable pub seen_from : History FileJob → List (Step FileJob) → List Seen → List Seen
+seen_from M [] seen = seen
+seen_from M (x ∷ xs) seen = seen_from (M ⊕ x) xs (seen_after M x ∷ seen)
+
+-- servers with this backlog, before the first step
+abbrev pub start_with : ModedPlan → ℕ → History FileJob
+start_with s backlog = record { setup = record { servers = terms_of s.modes s.plan.rates; backlog = backlog }; steps = [] }
+
+-- the clock after steps
+abbrev pub clock_after : History FileJob → List (Step FileJob) → ℕ
+clock_after M xs = (world_after of_files (M ⊕⊕ xs)).now
+
+-- the plan and the modes of a task file
+abbrev pub setup_of : File → ModedPlan
+setup_of f = record { plan = f.plan; modes = f.modes }
+
+-- a task file before its first step
+abbrev pub start_of_tasks : File → History FileJob
+start_of_tasks f = start_with (setup_of f) f.backlog
+
+-- all steps of a task file, as they are seen, the newest first
+abbrev pub seen_in_tasks : File → List Seen
+seen_in_tasks f = seen_from (start_of_tasks f) f.steps []
+
+-- the clock after all steps
+abbrev pub clock_of_tasks : File → ℕ
+clock_of_tasks f = clock_after (start_of_tasks f) f.steps
+
+-- the name of server s
+abbrev pub name_of : ℕ → List ℕ
+name_of s = codes "server " ++ decimal s
+
+-- the report of server s of a task file
+pub record IsTaskServerReport (f : File) (s : ℕ) (r : ServerReport) : Type 0 where
+  pub name : string_bytes r.name ≡ name_of s
+  pub mode : Some r.mode ≡ slice_get f.modes s
+  pub reservation : Some r.reservation ≡ slice_get f.plan.rates s
+  pub within : r.within ≡ None
+  pub figures : AreFigures r.reservation.budget (clock_of_tasks f) (steps_of s (seen_in_tasks f)) r.figures
+
+-- the report of a task file with a name
+pub record IsTaskReport (name : List ℕ) (f : File) (r : RunReport) : Type 0 where
+  pub file : string_bytes r.file ≡ name
+  pub seed : r.seed ≡ None
+  pub clock : r.clock ≡ clock_of_tasks f
+  pub idle : r.idle ≡ told (total (λ o. ticks_idle o.event) (seen_in_tasks f))
+  pub backlog : r.backlog ≡ f.backlog
+  pub bound : r.bound ≡ f.plan.bound
+  pub reserved : r.reserved ≡ record { ticks = sum_by (share (common_multiple f.plan.rates)) f.plan.rates; of = common_multiple f.plan.rates }
+  pub count : length r.servers.items ≡ length f.plan.rates
+  pub each : (s : ℕ) (server : ServerReport) → slice_get r.servers.items s ≡ Some server → IsTaskServerReport f s server

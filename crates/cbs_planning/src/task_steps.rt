@@ -1,0 +1,207 @@
+//! The steps of a task file, as a view sees them.
+
+ghost use Rattle.std.specs.Prelude.{◌≡◌, ◌∷◌, List, OnOk};
+ghost use Rattle.cbs_core.specs.Agreement.{Agrees, TellsOf};
+ghost use Rattle.cbs_job.specs.FileJobs.{of_files};
+ghost use Rattle.cbs_report.specs.Tallies.{HasSeen, Reported};
+ghost use Rattle.cbs_simulate.specs.Moves.{ran_in};
+ghost use Rattle.cbs_simulate.specs.Shown.{answer_in, promised_in};
+ghost use Rattle.cbs_steps.specs.Continuations.{◌⊕⊕◌};
+ghost use Rattle.cbs_steps.specs.History.{History, ◌⊕◌};
+ghost use Rattle.cbs_steps.specs.Replies.{is_lack};
+ghost use Rattle.cbs_views.specs.declared.seen.Seen.{Seen};
+ghost use Rattle.cbs_planning.specs.Tasks.{asked_of, refusal_in, advance_seen, close_seen, charge_seen, submit_seen, task_arrival, event_of_step, seen_of_step, seen_after, seen_from};
+
+use crate::watched::view_seen;
+use cbs_core::{Core, CoreError, Ran, Reply, Step};
+use cbs_job::FileJob;
+use cbs_report::Report;
+use cbs_views::{Arrival, Event, Seen, View};
+use std::alloc::AllocError;
+
+/// What a step asks for, without its job.
+#[derive(Clone, Copy)]
+pub(crate) enum Asked {
+    /// A job of so many units for this server.
+    Submit(u16, u32),
+    /// One unit of the chosen server.
+    Run,
+    /// So many ticks pass.
+    Advance(u64),
+    /// No further job for this server.
+    Close(u16),
+    /// So many ticks more for the last unit of this server.
+    Charge(u16, u64),
+}
+
+/// Returns what a step asks for.
+fn asked_of(step: &Step<FileJob>) -> Asked
+    ensures { result ≡ asked_of step.now }
+{
+    match step {
+        Step::Submit(server, job) => Asked::Submit(*server, job.left()),
+        Step::Run => Asked::Run,
+        Step::Advance(ticks) => Asked::Advance(*ticks),
+        Step::Close(server) => Asked::Close(*server),
+        Step::Charge(server, ticks) => Asked::Charge(*server, *ticks),
+    }
+}
+
+/// Returns whether memory refused a submit.
+fn lacks_memory(reply: &Reply<FileJob>) -> bool
+    ensures { result ≡ is_lack reply.now }
+{
+    match reply {
+        Reply::NotAccepted(refused) => matches!(refused.error, CoreError::OutOfMemory),
+        _ => false,
+    }
+}
+
+/// Returns what a submit was answered.
+fn answer_in(reply: &Reply<FileJob>) -> Result<u64, CoreError>
+    ensures { result ≡ answer_in reply.now }
+{
+    match reply {
+        Reply::Accepted(number) => Ok(*number),
+        Reply::NotAccepted(refused) => Err(refused.error),
+        _ => Err(CoreError::NoSuchServer),
+    }
+}
+
+/// Returns what a run was answered.
+fn ran_in(reply: &Reply<FileJob>) -> Ran
+    ensures { result ≡ ran_in reply.now }
+{
+    match reply {
+        Reply::Ran(ran) => *ran,
+        _ => Ran::Idle,
+    }
+}
+
+/// Returns why an advance, a close or a charge was refused, if it was.
+fn refusal_in(reply: &Reply<FileJob>) -> Option<CoreError>
+    ensures { result ≡ refusal_in reply.now }
+{
+    match reply {
+        Reply::Refused(error) => Some(*error),
+        _ => None,
+    }
+}
+
+/// Returns what an advance did, by why it was refused.
+fn advance_seen(ticks: u64, refusal: Option<CoreError>) -> Event
+    ensures { result ≡ advance_seen ticks refusal }
+{
+    match refusal {
+        None => Event::Advanced(ticks),
+        Some(error) => Event::NotAdvanced(ticks, error),
+    }
+}
+
+/// Returns what a close did, by why it was refused.
+fn close_seen(server: u16, refusal: Option<CoreError>) -> Event
+    ensures { result ≡ close_seen server refusal }
+{
+    match refusal {
+        None => Event::Closed(server),
+        Some(error) => Event::NotClosed(server, error),
+    }
+}
+
+/// Returns what a charge did, by why it was refused.
+fn charge_seen(server: u16, ticks: u64, refusal: Option<CoreError>) -> Event
+    ensures { result ≡ charge_seen server ticks refusal }
+{
+    match refusal {
+        None => Event::Charged { server, ticks },
+        Some(error) => Event::NotCharged {
+            server,
+            ticks,
+            error,
+        },
+    }
+}
+
+/// Returns what a submit of a job with so many units did, by what it was answered.
+fn submit_seen(
+    core: &Core<FileJob>,
+    server: u16,
+    units: u32,
+    answer: Result<u64, CoreError>,
+) -> Event
+    ensures { TellsOf of_files core.now (λ w. result ≡ submit_seen (task_arrival w.now server units) answer (promised_in of_files w server answer)) }
+{
+    let job = Arrival {
+        server,
+        came: core.now(),
+        units,
+        within: None,
+    };
+    match answer {
+        Ok(number) => Event::Accepted {
+            job,
+            number,
+            promised: core.promised(server),
+        },
+        Err(error) => Event::NotAccepted { job, error },
+    }
+}
+
+/// Returns what a step did, by its reply and by the core that it left.
+fn event_of_step(core: &Core<FileJob>, asked: Asked, reply: &Reply<FileJob>) -> Event
+    ensures { TellsOf of_files core.now (λ w. result ≡ event_of_step w asked reply.now) }
+{
+    match asked {
+        Asked::Submit(server, units) => submit_seen(core, server, units, answer_in(reply)),
+        Asked::Run => Event::Ran(ran_in(reply)),
+        Asked::Advance(ticks) => advance_seen(ticks, refusal_in(reply)),
+        Asked::Close(server) => close_seen(server, refusal_in(reply)),
+        Asked::Charge(server, ticks) => charge_seen(server, ticks, refusal_in(reply)),
+    }
+}
+
+/// Returns a step as it is seen, by its reply and by the core that it left.
+fn seen_of_step(core: &Core<FileJob>, asked: Asked, reply: &Reply<FileJob>) -> Seen
+    ensures { TellsOf of_files core.now (λ w. result ≡ seen_of_step w asked reply.now) }
+{
+    let event = event_of_step(core, asked, reply);
+    Seen {
+        clock: core.now(),
+        event,
+        view: view_seen(core, &event),
+    }
+}
+
+/// Makes a step, and shows it to the report.
+fn show_step(
+    core: &mut Core<FileJob>,
+    step: Step<FileJob>,
+    report: &mut Report,
+) -> Result<(), AllocError>
+    ensures state { OnOk result ((M : History FileJob) → Agrees of_files core.old M → Agrees of_files core.new (M ⊕ step)) }
+    ensures seen { OnOk result ((M : History FileJob) → Agrees of_files core.old M → (first : Reported) (seen : List Seen)
+        → HasSeen first report.old seen → HasSeen first report.new (seen_after M step ∷ seen)) }
+{
+    let asked = asked_of(&step);
+    let reply = core.step(step);
+    if lacks_memory(&reply) {
+        return Err(AllocError);
+    }
+    report.see(seen_of_step(core, asked, &reply))
+}
+
+/// Makes steps, in order, and shows each to the report.
+pub(crate) fn show_steps(
+    core: &mut Core<FileJob>,
+    steps: Vec<Step<FileJob>>,
+    report: &mut Report,
+) -> Result<(), AllocError>
+    ensures state { OnOk result ((M : History FileJob) → Agrees of_files core.old M → Agrees of_files core.new (M ⊕⊕ steps.items)) }
+    ensures seen { OnOk result ((M : History FileJob) → Agrees of_files core.old M → (first : Reported) (seen : List Seen)
+        → HasSeen first report.old seen → HasSeen first report.new (seen_from M steps.items seen)) }
+{
+    for step in steps {
+        show_step(core, step, report)?;
+    }
+    Ok(())
+}
