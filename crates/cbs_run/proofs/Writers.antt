@@ -24,13 +24,10 @@ untouched w = (keeps w.written, refl)
 pub tries_below : (old mid new : Writer) (line below : List ℕ) → Writes old mid line → TriesToWrite mid new below → TriesToWrite old new (line ++ below)
 tries_below old mid new line below wrote (inl more) =
     inl (Appends-then old.written mid.written new.written line below wrote.0 more.0, more.1 ∙ wrote.1)
-tries_below old mid new line below wrote (inr (failed, front, rest, more, parts)) = inr (
-  failed ∙ ap (λ n. n + 1) wrote.1,
-  line ++ front,
-  rest,
-  Appends-then old.written mid.written new.written line front wrote.0 more,
-  ap (λ t. line ++ t) parts ∙ sym (append_assoc line front rest),
-)
+tries_below old mid new line below wrote (inr (failed, (front, rest, more, parts))) =
+    let whole : line ++ below ≡ (line ++ front) ++ rest = ap (λ t. line ++ t) parts ∙ sym (append_assoc line front rest) in
+    let written = Appends-then old.written mid.written new.written line front wrote.0 more in
+    inr (failed ∙ ap (λ n. n + 1) wrote.1, (line ++ front, rest, written, whole))
 
 -- nothing is below the line
 pub tries_alone : (old new : Writer) (line : List ℕ) → TriesToWrite old new line → TriesToWrite old new (line ++ [])

@@ -7,7 +7,7 @@ use Rattle.cbs_run.specs.Traces.{trace, TraceStops}
 use Rattle.cbs_run.specs.Writers.{Writer}
 use Rattle.cbs_run.specs.declared.run_error.RunError.{RunError}
 use Rattle.cbs_run.specs.declared.words.Action.{Action}
-use Rattle.cbs_run.specs.declared.words.Action.TheVariants.{Check, Simulate, Run}
+use Rattle.cbs_run.specs.declared.words.Action.TheVariants as action
 use Rattle.cbs_run.specs.declared.words.Form.{Form}
 use Rattle.cbs_run.specs.declared.words.Form.TheVariants.{Report, Json}
 use Rattle.cbs_run.specs.declared.words.Verb.{Verb}
@@ -20,11 +20,12 @@ name_of Serve = codes "serve"
 
 -- the word of each action
 abbrev pub action_name : Action → List ℕ
-action_name Check = codes "check"
-action_name (Simulate form) = codes "simulate"
-action_name (Run verb) = name_of verb
+action_name action.Check = codes "check"
+action_name (action.Simulate form) = codes "simulate"
+action_name (action.Replay form) = codes "replay"
+action_name (action.Run verb) = name_of verb
 
--- the word of each form
+-- the word of each form of a report
 abbrev pub form_name : Form → List ℕ
 form_name Report = codes "report"
 form_name Json = codes "json"

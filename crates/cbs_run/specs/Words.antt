@@ -1,9 +1,10 @@
 -- The command line as `clap` sees it.
-use Rattle.std.specs.Prelude.{◌≡◌, ℕ, List, codes, true, MatchOption, Option, Some, string_bytes}
+use Rattle.std.specs.Prelude.{◌≡◌, ⊤, ℕ, List, codes, true, MatchOption, Option, Some, string_bytes}
 use Rattle.clap.specs.Words.{App, Row, Rule, Text, first_of, new_app, new_rule, subcommand_of, takes, with_rule, with_subcommand}
 use Rattle.cbs_run.specs.Verbs.{action_name, form_name}
 use Rattle.cbs_run.specs.declared.words.Action.{Action}
-use Rattle.cbs_run.specs.declared.words.Action.TheVariants.{Check, Simulate, Run}
+use Rattle.cbs_run.specs.declared.words.Action.TheVariants as action
+use Rattle.cbs_run.specs.declared.words.Verb.TheVariants.{Replay, Serve}
 use Rattle.cbs_run.specs.declared.words.Form.{Form}
 use Rattle.cbs_run.specs.declared.words.Form.TheVariants.{Report}
 use Rattle.cbs_run.specs.declared.words.Asked.{Asked}
@@ -45,26 +46,28 @@ with_verb program name = with_subcommand program (on_file name).top
 -- the program: four subcommands
 abbrev pub command_line : App
 command_line =
-    with_verb (with_verb (with_subcommand (with_verb bare_program (codes "check")) (in_a_form (codes "simulate")).top) (codes "replay")) (codes "serve")
+    let checking = with_verb bare_program (codes "check") in
+    let simulating = with_subcommand checking (in_a_form (codes "simulate")).top in
+    let replaying = with_subcommand simulating (in_a_form (codes "replay")).top in
+    with_verb replaying (codes "serve")
 
--- the name is that of the form; none asks for the text
-abbrev pub AsksForm : Option Text → Form → Type 0
-AsksForm name form = MatchOption name (form ≡ Report) (λ n. n ≡ form_name form)
-
--- what is asked for beside the file: simulate may be asked for a form
-abbrev pub AsksRest : Option Text → Action → Type 0
-AsksRest name (Simulate form) = AsksForm name form
-AsksRest name Check = ⊤
-AsksRest name (Run verb) = ⊤
+-- What a form asks of an action: of simulate a report, as text if there is no name; of replay the trace, by its name or by none, or a
+-- report by its name. The others have no form.
+abbrev pub AsksForm : Option Text → Action → Type 0
+AsksForm name (action.Simulate form) = MatchOption name (form ≡ Report) (λ n. n ≡ form_name form)
+AsksForm name (action.Replay form) = MatchOption name ⊥ (λ n. n ≡ form_name form)
+AsksForm name (action.Run Replay) = MatchOption name ⊤ (λ n. n ≡ codes "lines")
+AsksForm name (action.Run Serve) = ⊤
+AsksForm name action.Check = ⊤
 
 -- a verb of this name, with a form of that name, asks for the action
 abbrev pub AsksFor : Text → Option Text → Action → Type 0
-AsksFor verb form action = (verb ≡ action_name action) × AsksRest form action
+AsksFor verb form a = (verb ≡ action_name a) × AsksForm form a
 
 -- the subcommand that was found, with its rows, asks for the action, and for the file
 abbrev pub IsAsked : Option (Text × List Row) → Asked → Type 0
 IsAsked found asked =
-    (rows : List Row) × (found ≡ Some (action_name asked.action, rows)) × AsksRest (first_of (codes "as") rows) asked.action
+    (rows : List Row) × (found ≡ Some (action_name asked.action, rows)) × AsksForm (first_of (codes "as") rows) asked.action
     × (first_of (codes "FILE") rows ≡ Some (string_bytes asked.file))
 
 -- the subcommand that the words name asks for the action, and for the file

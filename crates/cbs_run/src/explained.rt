@@ -28,7 +28,10 @@ pub(crate) fn write_explained<E: ByteOutput>(
         (record { written = E.written err.old; failed = E.failed err.old }) (record { written = E.written err.new; failed = E.failed err.new })
         (file_line no_memory) }
 {
-    if write_file_fault(err, fault).is_err() || fault.kind == FileKind::OutOfMemory {
+    let Ok(()) = write_file_fault(err, fault) else {
+        return;
+    };
+    if fault.kind == FileKind::OutOfMemory {
         return;
     }
     if let Ok(text) = explain(alloc, name, bytes, fault) {

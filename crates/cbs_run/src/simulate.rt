@@ -1,33 +1,22 @@
 //! The command `simulate`: from the bytes of a load to a status.
 
-ghost use Rattle.std.specs.Prelude.{◌≡◌, ◌+◌, ◌-◌, ◌<◌, ◌^◌, IfOk, string_bytes};
+ghost use Rattle.std.specs.Prelude.{◌+◌, ◌-◌, ◌<◌, ◌^◌};
 ghost use Rattle.cbs_tables.specs.Memory.{memory_wanted};
 ghost use Rattle.cbs_load.specs.Spelling.{load};
 ghost use Rattle.cbs_run.specs.Printing.{EndsPrinting, Prints};
-ghost use Rattle.cbs_run.specs.Reported.{IsReportText, text_in};
+ghost use Rattle.cbs_run.specs.Reported.{IsReportText};
 ghost use Rattle.cbs_run.specs.Statuses.{LacksMemory};
 
 use crate::explained::write_explained;
 use crate::fault_lines::write_run_fault;
 use crate::output::{ByteOutput, write_text};
+use crate::report::text_of;
 use crate::run::{BAD_FILE, DONE, RUN_FAULT};
 use crate::run_error::RunError;
 use crate::words::Form;
-use cbs_json::report_json;
 use cbs_load::{Load, read_load_within};
 use cbs_planning::report_of;
-use cbs_print::{RunReport, report_text};
-use std::alloc::{AllocError, Global};
-
-/// Returns the text of a report in this form.
-fn text_of(alloc: Global, form: Form, report: &RunReport) -> Result<String, AllocError>
-    ensures { IfOk result (λ text. string_bytes text ≡ text_in form report.now) }
-{
-    match form {
-        Form::Report => report_text(alloc, report),
-        Form::Json => report_json(alloc, report),
-    }
-}
+use std::alloc::Global;
 
 /// Simulates a load, and prints the report of that in this form, with this name for its file.
 fn print_report<O: ByteOutput>(

@@ -1,9 +1,10 @@
 //! What the words of a command line ask for.
 
-ghost use Rattle.std.specs.Prelude.{◌≡◌, ¬◌, false, IfOk, IfErr, MatchOption, map, option_map, string_bytes};
+ghost use Rattle.std.specs.Prelude.{◌≡◌, codes, false, IfOk, IfErr, MatchOption, map, option_map, string_bytes};
 ghost use Rattle.clap.specs.Words.{app_of, kind_of, subcommand_rows_of, with_subcommand};
 ghost use Rattle.clap.specs.declared.builder.command.Command.TheViews.{out-Command};
-ghost use Rattle.cbs_run.specs.Words.{command_line, on_file, in_a_form, bare_program, AsksForm, AsksFor, IsAsked, Names, AreTaken, words_fault_number, words_fault_name};
+ghost use Rattle.cbs_run.specs.Verbs.{form_name};
+ghost use Rattle.cbs_run.specs.Words.{command_line, on_file, in_a_form, bare_program, AsksFor, IsAsked, Names, AreTaken, words_fault_number, words_fault_name};
 ghost use Rattle.cbs_run.specs.declared.words.WordsFault.TheVariants.{OutOfMemory};
 
 use clap::error::ErrorKind;
@@ -91,13 +92,16 @@ are in time always; or what is wrong with the file";
 
 const SIMULATE: &str = "Releases the jobs of a load's sources, runs them, and reports";
 
-const REPLAY: &str = "Runs the steps of a task file, and writes a line for each";
+const REPLAY: &str = "Runs the steps of a task file, and writes a line for each, or reports";
 
 const SERVE: &str = "Gives each server's submits to a client of its own, serves them all, \
 and writes the results of each server";
 
-const FORMS: &str = "What is written: report, figures of each server as text, or json, the same for \
-programs [default: report]";
+const REPORTS: &str = "What is written: report, figures of each server as text, or json, the same \
+for programs [default: report]";
+
+const TRACES: &str = "What is written: lines, one for each step, report, figures of each server as \
+text, or json, the same for programs [default: lines]";
 
 /// What to do.
 #[derive(Clone, Copy, Debug, PartialEq, Eq)]
@@ -125,6 +129,8 @@ pub enum Action {
     Check,
     /// To simulate a load, and to report in this form what came of it.
     Simulate(Form),
+    /// To make the steps of a task file, and to report in this form what came of them.
+    Replay(Form),
     /// To do with a task file what the verb says.
     Run(Verb),
 }
@@ -190,13 +196,18 @@ fn on_file<'a>(alloc: Global, name: &'a str, about: &'a str) -> Result<Command<'
     Command::new(alloc, name).about(about).arg(file)
 }
 
-/// Returns a verb of this name, its file, and the form in which it reports.
-fn in_a_form<'a>(alloc: Global, name: &'a str, about: &'a str) -> Result<Command<'a>, AllocError>
+/// Returns a verb of this name, its file, and the form of what it writes: one of these.
+fn in_a_form<'a>(
+    alloc: Global,
+    name: &'a str,
+    about: &'a str,
+    forms: &'a str,
+) -> Result<Command<'a>, AllocError>
     ensures app { IfOk result (λ c. app_of c ≡ in_a_form name.now) }
     ensures local { IfOk result (λ c. (out-Command c).has_globals ≡ false) }
 {
     let verb = on_file(alloc, name, about)?;
-    let form = Arg::new(alloc, "as").long("as").help(FORMS);
+    let form = Arg::new(alloc, "as").long("as").help(forms);
     verb.arg(form.value_name("FORMAT"))
 }
 
@@ -230,33 +241,55 @@ fn command_line<'a>(alloc: Global) -> Result<Command<'a>, AllocError>
     ensures { IfOk result (λ c. app_of c ≡ command_line) }
 {
     let program = with_verb(alloc, bare_program(alloc), "check", CHECK)?;
-    let simulate = in_a_form(alloc, "simulate", SIMULATE)?;
+    let simulate = in_a_form(alloc, "simulate", SIMULATE, REPORTS)?;
     let program = program.subcommand(simulate)?;
-    let program = with_verb(alloc, program, "replay", REPLAY)?;
+    let replay = in_a_form(alloc, "replay", REPLAY, TRACES)?;
+    let program = program.subcommand(replay)?;
     with_verb(alloc, program, "serve", SERVE)
 }
 
-/// Returns the form of this name, if there is one. With no name it is the text.
-fn form_of(name: Option<&str>) -> Option<Form>
-    ensures { MatchOption result ((form : Form) → ¬ AsksForm (option_map (λ s. s.now) name) form) (AsksForm (option_map (λ s. s.now) name)) }
+/// Returns the form of this name, if there is one.
+fn form_of(name: &str) -> Option<Form>
+    ensures { MatchOption result ((form : Form) → ¬ (name.now ≡ form_name form)) (λ form. name.now ≡ form_name form) }
 {
     match name {
-        None => Some(Form::Report),
-        Some("report") => Some(Form::Report),
-        Some("json") => Some(Form::Json),
-        Some(_) => None,
+        "report" => Some(Form::Report),
+        "json" => Some(Form::Json),
+        _ => None,
+    }
+}
+
+/// Returns what `simulate` is asked for by the name of a form, if there is one of that name. With no name it is the text.
+fn simulated_as(form: Option<&str>) -> Option<Action>
+    ensures { MatchOption result ((action : Action) → ¬ AsksFor (codes "simulate") (option_map (λ s. s.now) form.entry) action)
+        (AsksFor (codes "simulate") (option_map (λ s. s.now) form.entry)) }
+{
+    match form {
+        None => Some(Action::Simulate(Form::Report)),
+        Some(name) => form_of(name).map(Action::Simulate),
+    }
+}
+
+/// Returns what `replay` is asked for by the name of a form, if there is one of that name. With no name it is the trace.
+fn replayed_as(form: Option<&str>) -> Option<Action>
+    ensures { MatchOption result ((action : Action) → ¬ AsksFor (codes "replay") (option_map (λ s. s.now) form.entry) action)
+        (AsksFor (codes "replay") (option_map (λ s. s.now) form.entry)) }
+{
+    match form {
+        None | Some("lines") => Some(Action::Run(Verb::Replay)),
+        Some(name) => form_of(name).map(Action::Replay),
     }
 }
 
 /// Returns the action of this name, in a form of that name, if there is one.
 fn action_of(name: &str, form: Option<&str>) -> Option<Action>
-    ensures { MatchOption result ((action : Action) → ¬ AsksFor name.now (option_map (λ s. s.now) form) action)
-        (AsksFor name.now (option_map (λ s. s.now) form)) }
+    ensures { MatchOption result ((action : Action) → ¬ AsksFor name.now (option_map (λ s. s.now) form.entry) action)
+        (AsksFor name.now (option_map (λ s. s.now) form.entry)) }
 {
     match name {
         "check" => Some(Action::Check),
-        "simulate" => form_of(form).map(Action::Simulate),
-        "replay" => Some(Action::Run(Verb::Replay)),
+        "simulate" => simulated_as(form),
+        "replay" => replayed_as(form),
         "serve" => Some(Action::Run(Verb::Serve)),
         _ => None,
     }
@@ -275,10 +308,10 @@ fn refused(alloc: Global, error: &Error) -> Result<WordsFault, AllocError>
 }
 
 /// Returns the fault of a command line that asks for a form of no such name.
-fn unknown_form(alloc: Global, form: &str) -> Result<WordsFault, AllocError> {
+fn unknown_form(alloc: Global, verb: &str, form: &str) -> Result<WordsFault, AllocError> {
     let mut text = String::new(alloc);
-    writeln!(text, "error: invalid value '{form}' for '--as <FORMAT>'")?;
-    text.push_str("  [possible values: report, json]\n\nFor more information, try '--help'.\n")?;
+    writeln!(text, "error: invalid value '{form}' for '--as <FORMAT>'\n")?;
+    writeln!(text, "For more information, try 'cbsrun {verb} --help'.")?;
     Ok(WordsFault::Usage(text))
 }
 
@@ -298,7 +331,7 @@ fn asked_in(alloc: Global, matches: &ArgMatches) -> Result<Asked, WordsFault>
     };
     let form = inner.get_str("as");
     let Some(action) = action_of(name, form) else {
-        return Err(unknown_form(alloc, form.unwrap_or(""))?);
+        return Err(unknown_form(alloc, name, form.unwrap_or(""))?);
     };
     let Some(file) = inner.get_str("FILE") else {
         return Err(incomplete(alloc)?);

@@ -1,5 +1,7 @@
 //! The bytes that the command line names, and why they could not be had.
 
+ghost use Rattle.std.specs.Prelude.{◌-◌, ◌<◌, ◌^◌};
+
 use cbs_run::{ByteOutput, FromRead, ReadError, read_all, write_pieces};
 use std::alloc::{AllocError, Global};
 use std::fmt::Write;

@@ -3,12 +3,14 @@
 
 mod bytes;
 
+ghost use Rattle.std.specs.Prelude.{◌-◌, ◌<◌, ◌^◌};
+
 use crate::bytes::{bytes_of, write_reason};
 use cbs_file::MEMORY;
 use cbs_run::{
-    Action, Asked, BAD_FILE, DONE, MEMORY_VARIABLE, RUN_FAULT, RunError, ToWrite, WRONG_WORDS,
-    WordsFault, check_bytes_within, memory_bound, read_words, run_bytes_within,
-    simulate_bytes_within, write_pieces, write_read_fault, write_run_fault,
+    Action, Asked, BAD_FILE, ByteOutput, DONE, MEMORY_VARIABLE, RUN_FAULT, RunError, ToWrite,
+    WRONG_WORDS, WordsFault, check_bytes_within, memory_bound, read_words, report_bytes_within,
+    run_bytes_within, simulate_bytes_within, write_pieces, write_read_fault, write_run_fault,
 };
 use std::alloc::{AllocError, Global};
 use std::env;
@@ -55,6 +57,30 @@ fn asked_of(rt: &HostRuntime, alloc: Global) -> Result<(Asked, u64), WordsFault>
     Ok((asked, memory_of(rt, alloc)?))
 }
 
+/// Does with the bytes of a file what the command line asks for, and returns the status. It serves on `threads`.
+fn answered<R: Threads + Clock + Sync, O: ByteOutput, E: ByteOutput>(
+    threads: &R,
+    alloc: Global,
+    memory: u64,
+    asked: &Asked,
+    bytes: &[u8],
+    out: &mut O,
+    err: &mut E,
+) -> u8
+    requires out { O.failed out.old < 2 ^ 64 - 1 }
+    requires err { E.failed err.old < 2 ^ 64 - 1 }
+{
+    let name = asked.file.as_str();
+    match asked.action {
+        Action::Check => check_bytes_within(alloc, memory, name, bytes, out, err),
+        Action::Simulate(form) => {
+            simulate_bytes_within(alloc, memory, form, name, bytes, out, err)
+        }
+        Action::Replay(form) => report_bytes_within(alloc, memory, form, name, bytes, out, err),
+        Action::Run(verb) => run_bytes_within(threads, alloc, memory, verb, bytes, out, err),
+    }
+}
+
 /// The status of a program that reads its words, its environment, its file and its steps. It serves on `threads`.
 fn status<R: Threads + Clock + Sync>(rt: &HostRuntime, threads: &R) -> u8 {
     let alloc = rt.alloc();
@@ -77,15 +103,7 @@ fn status<R: Threads + Clock + Sync>(rt: &HostRuntime, threads: &R) -> u8 {
     };
     let name = asked.file.as_str();
     match bytes_of(rt, alloc, name) {
-        Ok(bytes) => match asked.action {
-            Action::Check => check_bytes_within(alloc, memory, name, &bytes, &mut out, &mut err),
-            Action::Simulate(form) => {
-                simulate_bytes_within(alloc, memory, form, name, &bytes, &mut out, &mut err)
-            }
-            Action::Run(verb) => {
-                run_bytes_within(threads, alloc, memory, verb, &bytes, &mut out, &mut err)
-            }
-        },
+        Ok(bytes) => answered(threads, alloc, memory, &asked, &bytes, &mut out, &mut err),
         Err(unread) => {
             let _written = write_read_fault(&mut err, unread.fault());
             if !matches!(asked.action, Action::Run(_)) {

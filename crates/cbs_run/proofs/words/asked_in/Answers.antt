@@ -1,7 +1,10 @@
-use Rattle.std.proofs.Common.{◌≡◌, ◌∙◌, ap, sym, refl, codes, Option, Some, None, List, string_bytes}
+use Rattle.std.proofs.Common.{◌≡◌, ◌∙◌, ap, sym, subst, refl, codes, Option, Some, None, List, string_bytes}
 use Rattle.std.specs.Prelude.{option_map}
 use Rattle.clap.specs.Words.{Row, Text, subcommand_rows_of, rows_of, found_of, first_of}
 use Rattle.clap.proofs.WalkLemmas.{first_value-rows}
+use Rattle.cbs_run.specs.Verbs.{action_name}
+use Rattle.cbs_run.specs.Words.{AsksForm}
+use Rattle.cbs_run.specs.declared.words.Action.{Action}
 use Rattle.cbs_run.proofs.words.asked_in.Goals as goal
 
 -- the name and the rows that were asked for apart, together
@@ -23,20 +26,33 @@ same_rows p q e = let same : p ≡ q = cc in ap (λ (r : Text × List Row). r.1)
 not_both : {A : Type 0} (o : Option A) {x : A} → o ≡ None → o ≡ Some x → ⊥
 not_both o p q = absurd cc
 
+same_form : (a : Action) (said named : Option Text) → said ≡ named → AsksForm said a → AsksForm named a
+same_form a said named e asks = subst (λ (o : Option Text). AsksForm o a) e asks
+
 pub returns-clause-ok : goal.returns-clause-ok
 returns-clause-ok c =
     let inner = c.in-Some.inner.now in
     let entered : subcommand_rows_of c.args.matches.now ≡ Some (c.in-Some.name.now, rows_of (found_of inner)) =
     both_are _ _ _ _ _ (rw c.in-Some.is at c.subcommand.ensures.name) (rw c.in-Some.is at c.subcommand.ensures.rows) in
+    let named : Some (c.in-Some.name.now, rows_of (found_of inner)) ≡ Some (action_name c.in-Some-action_of.action, rows_of (found_of inner)) =
+    ap (λ (t : Text). Some (t, rows_of (found_of inner))) c.in-Some-action_of.ensures.0 in
+    let form = same_form c.in-Some-action_of.action _ _ (c.get_str-form.ensures ∙ first_value-rows (found_of inner) (codes "as"))
+    c.in-Some-action_of.ensures.1 in
     let file : first_of (codes "FILE") (rows_of (found_of inner)) ≡ Some (string_bytes c.in_ok-file.file) =
     sym (first_value-rows (found_of inner) (codes "FILE")) ∙ (sym (rw c.in-Some-get_str.is at c.get_str.ensures) ∙ ap Some (sym c.in_ok-file.ensures.ok)) in
-    (rows_of (found_of inner), entered ∙ rw c.in-Some-action_of.ensures refl, file)
+    (rows_of (found_of inner), entered ∙ named, form, file)
 
 pub returns-in_default-action_of-clause-refused : goal.returns-in_default-action_of-clause-refused
 returns-in_default-action_of-clause-refused c = λ asked named.
-    let entered : subcommand_rows_of c.args.matches.now ≡ Some (c.in-Some.name.now, rows_of (found_of c.in-Some.inner.now)) =
+    let inner = c.in-Some.inner.now in
+    let entered : subcommand_rows_of c.args.matches.now ≡ Some (c.in-Some.name.now, rows_of (found_of inner)) =
     both_are _ _ _ _ _ (rw c.in-Some.is at c.subcommand.ensures.name) (rw c.in-Some.is at c.subcommand.ensures.rows) in
-    absurd (c.in_default-action_of.ensures asked.action (sym (same_name _ _ (sym entered ∙ named.1))))
+    let same : rows_of (found_of inner) ≡ named.0 = same_rows _ _ (sym entered ∙ named.1) in
+    let said = c.get_str-form.ensures ∙ first_value-rows (found_of inner) (codes "as") in
+    absurd (c.in_default-action_of.ensures asked.action (
+      same_name _ _ (sym entered ∙ named.1),
+      same_form asked.action _ _ (ap (first_of (codes "as")) (sym same) ∙ sym said) named.2,
+    ))
 
 pub returns-in_default-get_str-clause-refused : goal.returns-in_default-get_str-clause-refused
 returns-in_default-get_str-clause-refused c = λ asked named.
@@ -46,4 +62,4 @@ returns-in_default-get_str-clause-refused c = λ asked named.
     let same : rows_of (found_of inner) ≡ named.0 = same_rows _ _ (sym entered ∙ named.1) in
     let none : first_of (codes "FILE") (rows_of (found_of inner)) ≡ None =
     sym (first_value-rows (found_of inner) (codes "FILE")) ∙ sym (rw c.in_default-get_str.is at c.get_str.ensures) in
-    absurd (not_both _ (sym (ap (first_of (codes "FILE")) same) ∙ none) named.2)
+    absurd (not_both _ (sym (ap (first_of (codes "FILE")) same) ∙ none) named.3)
