@@ -4,6 +4,8 @@
 mod reported;
 mod task_report;
 mod task_steps;
+#[cfg(test)]
+mod tests;
 mod watched;
 mod within;
 

@@ -1,11 +1,10 @@
-use Rattle.std.proofs.Common.{◌≡◌, ◌∙◌, false, sym, ap₂, ◌∷◌, subst}
+use Rattle.std.proofs.Common.{◌≡◌, ◌∙◌, false, sym, ap₂}
 use Rattle.std.proofs.lemmas.Result.{on_ok_weaker}
 use Rattle.cbs_core.specs.Calls.{Makes}
 use Rattle.cbs_job.specs.FileJobs.{of_files}
-use Rattle.cbs_report.specs.Tallies.{HasSeen}
-use Rattle.cbs_steps.specs.History.{◌⊕◌, world_after, reply_in}
+use Rattle.cbs_steps.specs.History.{◌⊕◌, world_after}
 use Rattle.cbs_steps.specs.Replies.{is_lack}
-use Rattle.cbs_planning.specs.Tasks.{asked_of, seen_of_step, seen_after}
+use Rattle.cbs_planning.specs.Tasks.{seen_of_step, seen_after}
 use Rattle.cbs_planning.proofs.TaskSteps.{on_ok_always}
 use Rattle.cbs_planning.proofs.task_steps.show_step.Goals as goal
 
