@@ -1,6 +1,6 @@
 //! Reports in a form, and that of a task file from its bytes to a status.
 
-ghost use Rattle.std.specs.Prelude.{◌≡◌, ◌+◌, ◌-◌, ◌<◌, ◌^◌, IfOk, string_bytes};
+ghost use Rattle.std.specs.Prelude.{◌≡◌, ◌+◌, ◌-◌, ◌<◌, ◌≤◌, ◌^◌, IfOk, length, string_bytes};
 ghost use Rattle.cbs_tables.specs.Memory.{memory_wanted};
 ghost use Rattle.cbs_file.specs.Spelling.{file};
 ghost use Rattle.cbs_run.specs.Printing.{EndsPrinting, Prints};
@@ -19,12 +19,13 @@ use cbs_planning::task_report_of;
 use cbs_print::{RunReport, report_text};
 use std::alloc::{AllocError, Global};
 
-/// Returns the text of a report in this form.
+/// Returns the text of a report in this form, of at most 64 servers.
 pub(crate) fn text_of(
     alloc: Global,
     form: Form,
     report: &RunReport,
 ) -> Result<String, AllocError>
+    requires { length report.now.servers.items ≤ 64 }
     ensures { IfOk result (λ text. string_bytes text ≡ text_in form report.now) }
 {
     match form {

@@ -11,7 +11,7 @@ returns-in-Ok-print_task_report-clause-ends g c =
     let p = c.in-Ok-print_task_report.ensures in
     done c.in-Ok.file p.0 c.in-Ok.ensures.read p.1 p.2 (untouched _)
 
-pub returns-clause-ends : goal.returns-clause-ends
-returns-clause-ends g c =
+pub returns-in-Err-print_task_report-clause-ends : goal.returns-in-Err-print_task_report-clause-ends
+returns-in-Err-print_task_report-clause-ends g c =
     stopped c.in-Ok.file c.in-Err-print_task_report.error c.in-Ok.ensures.read c.in-Err-print_task_report.ensures
     (tries c.write_run_fault-written.result _ _ _ c.write_run_fault-written.ensures.ok c.write_run_fault-written.ensures.err)
