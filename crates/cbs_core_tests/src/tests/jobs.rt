@@ -1,10 +1,9 @@
 //! Tasks, and the jobs of files, run on worked examples.
 
-use super::same;
+use super::{same, says};
 use cbs_job::{FileJob, PeakJob, SumJob, Task, TaskError, Work};
 use std::alloc::Global;
 use std::process::Abort;
-use std::test::Fail;
 
 /// Makes a task of `work`, and looks whether and why it is refused, and at the units left.
 fn answers<W: Work>(rt: &impl Abort, work: W, units: u32, refusal: Option<TaskError>) {
@@ -102,33 +101,22 @@ fn each_unit_takes_a_number_in(rt: HostRuntime) {
     }
 }
 
-#[test]
-fn errors_have_numbers_and_names(rt: HostRuntime) {
-    let errors = [
-        (TaskError::EmptyJob, 1, "EmptyJob"),
-        (TaskError::TooLong, 2, "TooLong"),
-    ];
-    for &(error, number, name) in &errors {
-        same(&rt, name, error.number(), number);
-        same(&rt, name, error.name(), name);
-    }
+/// Looks for the number and the name of an error.
+fn is_named(rt: &impl Abort, error: TaskError, number: u8, name: &str) {
+    same(rt, name, (error.number(), error.name()), (number, name));
 }
 
 #[test]
-fn errors_say_what_is_wrong(rt: HostRuntime) -> Result<(), Fail> {
+fn errors_have_numbers_and_names(rt: HostRuntime) {
+    is_named(&rt, TaskError::EmptyJob, 1, "EmptyJob");
+    is_named(&rt, TaskError::TooLong, 2, "TooLong");
+}
+
+#[test]
+fn errors_say_what_is_wrong(rt: HostRuntime) {
     let alloc = rt.alloc();
-    for (error, text) in [
-        (
-            TaskError::EmptyJob,
-            "the job is empty: a job has at least 1 unit",
-        ),
-        (
-            TaskError::TooLong,
-            "the job is too long: a job has at most 1000000 units",
-        ),
-    ] {
-        let said = format!(in alloc; "{error}")?;
-        same(&rt, text, said.as_str(), text);
-    }
-    Ok(())
+    let text = "the job is empty: a job has at least 1 unit";
+    says(&rt, alloc, &TaskError::EmptyJob, text);
+    let text = "the job is too long: a job has at most 1000000 units";
+    says(&rt, alloc, &TaskError::TooLong, text);
 }

@@ -1,9 +1,8 @@
 //! Reservations and plans, run on worked examples.
 
-use super::same;
+use super::{same, says};
 use cbs_rate::{AdmitError, Bound, Plan, RateError, Reservation};
 use std::process::Abort;
-use std::test::Fail;
 
 /// The reservation of `budget` in every `period`, which there has to be.
 fn reserved(rt: &impl Abort, budget: u64, period: u64) -> Reservation {
@@ -130,75 +129,48 @@ fn compares_bandwidths_exactly(rt: HostRuntime) {
     assert!(rt; third.at_most(&third));
 }
 
+/// Looks for the number and the name of an error.
+fn is_named(rt: &impl Abort, error: RateError, number: u8, name: &str) {
+    same(rt, name, (error.number(), error.name()), (number, name));
+}
+
+/// The same of a refused admission.
+fn refusal_is_named(rt: &impl Abort, error: AdmitError, number: u8, name: &str) {
+    same(rt, name, (error.number(), error.name()), (number, name));
+}
+
 #[test]
 fn errors_have_numbers_and_names(rt: HostRuntime) {
-    let rates = [
-        (RateError::ZeroBudget, 1, "ZeroBudget"),
-        (RateError::PeriodTooLong, 2, "PeriodTooLong"),
-        (RateError::BudgetOverPeriod, 3, "BudgetOverPeriod"),
-        (RateError::BadBound, 4, "BadBound"),
-    ];
-    for &(error, number, name) in &rates {
-        same(&rt, name, error.number(), number);
-        same(&rt, name, error.name(), name);
-    }
-    let admissions = [
-        (AdmitError::TooManyServers, 1, "TooManyServers"),
-        (AdmitError::PeriodsTooFine, 2, "PeriodsTooFine"),
-        (AdmitError::OverBound, 3, "OverBound"),
-    ];
-    for &(error, number, name) in &admissions {
-        same(&rt, name, error.number(), number);
-        same(&rt, name, error.name(), name);
-    }
+    is_named(&rt, RateError::ZeroBudget, 1, "ZeroBudget");
+    is_named(&rt, RateError::PeriodTooLong, 2, "PeriodTooLong");
+    is_named(&rt, RateError::BudgetOverPeriod, 3, "BudgetOverPeriod");
+    is_named(&rt, RateError::BadBound, 4, "BadBound");
+    refusal_is_named(&rt, AdmitError::TooManyServers, 1, "TooManyServers");
+    refusal_is_named(&rt, AdmitError::PeriodsTooFine, 2, "PeriodsTooFine");
+    refusal_is_named(&rt, AdmitError::OverBound, 3, "OverBound");
 }
 
 #[test]
-fn errors_say_what_is_wrong(rt: HostRuntime) -> Result<(), Fail> {
+fn errors_say_what_is_wrong(rt: HostRuntime) {
     let alloc = rt.alloc();
-    for (error, text) in [
-        (
-            RateError::ZeroBudget,
-            "the budget is 0: a reservation needs a budget of at least 1 tick",
-        ),
-        (
-            RateError::PeriodTooLong,
-            "the period is longer than 1000000000 ticks",
-        ),
-        (
-            RateError::BudgetOverPeriod,
-            "the budget is larger than the period",
-        ),
-        (
-            RateError::BadBound,
-            "a bound N/D needs 1 <= N <= D <= 1000000",
-        ),
-    ] {
-        let said = format!(in alloc; "{error}")?;
-        same(&rt, text, said.as_str(), text);
-    }
-    Ok(())
+    let text = "the budget is 0: a reservation needs a budget of at least 1 tick";
+    says(&rt, alloc, &RateError::ZeroBudget, text);
+    let text = "the period is longer than 1000000000 ticks";
+    says(&rt, alloc, &RateError::PeriodTooLong, text);
+    let text = "the budget is larger than the period";
+    says(&rt, alloc, &RateError::BudgetOverPeriod, text);
+    let text = "a bound N/D needs 1 <= N <= D <= 1000000";
+    says(&rt, alloc, &RateError::BadBound, text);
 }
 
 #[test]
-fn refused_admissions_say_what_is_wrong(rt: HostRuntime) -> Result<(), Fail> {
+fn refused_admissions_say_what_is_wrong(rt: HostRuntime) {
     let alloc = rt.alloc();
-    for (error, text) in [
-        (
-            AdmitError::TooManyServers,
-            "the plan has 64 servers already, and takes no more",
-        ),
-        (
-            AdmitError::PeriodsTooFine,
-            "the least common multiple of all periods would pass 10^18: choose periods that share more factors",
-        ),
-        (
-            AdmitError::OverBound,
-            "the total bandwidth would pass the plan's bound: a smaller budget or a longer period may fit",
-        ),
-    ] {
-        let said = format!(in alloc; "{error}")?;
-        same(&rt, text, said.as_str(), text);
-    }
-    Ok(())
+    let text = "the plan has 64 servers already, and takes no more";
+    says(&rt, alloc, &AdmitError::TooManyServers, text);
+    let text = "the least common multiple of all periods would pass 10^18: choose periods that share more factors";
+    says(&rt, alloc, &AdmitError::PeriodsTooFine, text);
+    let text =
+        "the total bandwidth would pass the plan's bound: a smaller budget or a longer period may fit";
+    says(&rt, alloc, &AdmitError::OverBound, text);
 }

@@ -1,6 +1,6 @@
 //! The rules of one server, run on worked examples.
 
-use super::same;
+use super::{same, same_at};
 use cbs_rate::{AdmitError, Bound, MAX_PERIOD, Reservation};
 use cbs_rules::{LIMIT, MAX_DEADLINE, Mode, ServerState, Setup};
 use std::process::Abort;
@@ -13,6 +13,28 @@ enum Event {
     Replenish(u64),
 }
 
+/// Has an event happen to a server.
+fn happens(rt: &impl Abort, mode: Mode, server: &mut ServerState, event: Event) {
+    assert!(rt; server.deadline() <= MAX_DEADLINE);
+    match event {
+        Event::Arrive(now) => {
+            assert!(rt; !server.throttled() && now <= LIMIT);
+            server.arrive_idle(mode, now);
+        }
+        Event::Consume => {
+            assert!(rt; !server.throttled() && server.budget() > 0);
+            server.consume(mode);
+        }
+        Event::Replenish(now) => server.replenish(now),
+    }
+}
+
+/// Looks at the budget, the deadline and the mark of a server.
+fn shows(rt: &impl Abort, at: (&str, usize), server: &ServerState, wanted: (u64, u128, bool)) {
+    let state = (server.budget(), server.deadline(), server.throttled());
+    same_at(rt, at, "state", state, wanted);
+}
+
 /// Takes a new server with `budget` ticks in every `period` through `life`: each event with the
 /// budget, the deadline and the mark that it leaves.
 fn lives(
@@ -23,23 +45,10 @@ fn lives(
 ) {
     let reservation = Reservation::new(budget, period).expect(rt, "a reservation");
     let mut server = ServerState::fresh(reservation);
-    let state = (server.budget(), server.deadline(), server.throttled());
-    same(rt, "a new server", state, (0, 0, false));
-    for (i, &(event, budget, deadline, throttled)) in life.iter().enumerate() {
-        assert!(rt; server.deadline() <= MAX_DEADLINE);
-        match event {
-            Event::Arrive(now) => {
-                assert!(rt; !server.throttled() && now <= LIMIT);
-                server.arrive_idle(mode, now);
-            }
-            Event::Consume => {
-                assert!(rt; !server.throttled() && server.budget() > 0);
-                server.consume(mode);
-            }
-            Event::Replenish(now) => server.replenish(now),
-        }
-        let state = (server.budget(), server.deadline(), server.throttled());
-        same(rt, "event", (i, state), (i, (budget, deadline, throttled)));
+    shows(rt, ("a new server", 0), &server, (0, 0, false));
+    for (place, &(event, budget, deadline, throttled)) in life.iter().enumerate() {
+        happens(rt, mode, &mut server, event);
+        shows(rt, ("event", place), &server, (budget, deadline, throttled));
     }
 }
 

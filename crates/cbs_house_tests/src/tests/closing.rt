@@ -236,10 +236,8 @@ pub fn two_clients(
 ) -> (House<SumJob>, Vec<Client<SumJob>>) {
     let plan = plan_of(rt, &[(2, 5), (2, 5)]);
     let modes = Modes::uniform(mode, plan.len() as u16);
-    let Ok(opened) = open_house(alloc, plan, modes, 2, 2) else {
-        panic!(rt; "a house");
-    };
-    opened
+    let opened = open_house(alloc, plan, modes, 2, 2);
+    opened.ok().expect(rt, "a house")
 }
 
 /// The task of one unit of this number.
@@ -328,6 +326,13 @@ fn late_clients_that_send_more_than_fits_are_finished(rt: HostRuntime) {
     }
 }
 
+/// Sends two jobs, each a unit: of 10 times the client's server, and of one more.
+fn sends_two(rt: &impl Abort, alloc: Global, client: &mut Client<SumJob>) {
+    let first = 10 * u32::from(client.server());
+    sends(rt, client, sum_of(rt, alloc, &[first]), 0);
+    sends(rt, client, sum_of(rt, alloc, &[first + 1]), 1);
+}
+
 /// What a sink is told of two clients' jobs.
 const OF_TWO: [(u16, u64, u64); 4] = [(0, 0, 0), (0, 1, 1), (1, 0, 10), (1, 1, 11)];
 
@@ -337,9 +342,7 @@ fn a_sink_is_told_in_the_order_of_the_completions(rt: HostRuntime) {
     let (mut house, mut clients) = two_clients(&rt, alloc, Mode::Soft);
     let mut seen = Seen::nothing(alloc);
     for client in &mut clients {
-        let first = 10 * u32::from(client.server());
-        sends(&rt, client, sum_of(&rt, alloc, &[first]), 0);
-        sends(&rt, client, sum_of(&rt, alloc, &[first + 1]), 1);
+        sends_two(&rt, alloc, client);
     }
     // Both have the deadline 5, and the first server's two units are a whole budget.
     let sent = ("both have sent", 0);

@@ -34,6 +34,20 @@ fn plays<A: Allocator + Clone>(
     }
 }
 
+/// The same while no memory of this heap is found.
+fn plays_full(
+    rt: &impl Abort,
+    alloc: Global,
+    heap: &LocalHeap,
+    name: &str,
+    collector: &mut Collector<&LocalHeap>,
+    rows: &[Row],
+) {
+    let ballast = filled(rt, alloc, heap);
+    plays(rt, name, collector, rows);
+    drop(ballast);
+}
+
 /// Makes the call of a row, which stands at this place of the rows of this name.
 fn play<A: Allocator + Clone>(
     rt: &impl Abort,
@@ -94,9 +108,8 @@ fn only_the_next_completion_is_taken(rt: HostRuntime) {
     let mut collector = Collector::new(&heap, 1).expect(&rt, "a collector");
     plays(&rt, "there is room", &mut collector, &ROOM);
     // From here on no memory is found, and none is wanted.
-    let ballast = filled(&rt, rt.alloc(), &heap);
-    plays(&rt, "only the next is taken", &mut collector, &NEXT);
-    drop(ballast);
+    let name = "only the next is taken";
+    plays_full(&rt, rt.alloc(), &heap, name, &mut collector, &NEXT);
 }
 
 /// A collector for so many servers.
@@ -168,15 +181,14 @@ const BEHIND: [Row; 11] = [
 
 #[test]
 fn completions_are_numbered_on_behind_results_handed_out(rt: HostRuntime) {
-    let heap = LocalHeap::new(rt.alloc(), 1 << 12).expect(&rt, "a heap");
+    let alloc = rt.alloc();
+    let heap = LocalHeap::new(alloc, 1 << 12).expect(&rt, "a heap");
     let mut collector = Collector::new(&heap, 1).expect(&rt, "a collector");
     plays(&rt, "four are announced", &mut collector, &FOUR);
-    let ballast = filled(&rt, rt.alloc(), &heap);
-    plays(&rt, "no memory is found", &mut collector, &REFUSED);
-    drop(ballast);
+    let name = "no memory is found";
+    plays_full(&rt, alloc, &heap, name, &mut collector, &REFUSED);
     plays(&rt, "memory is found", &mut collector, &HANDED);
     // The three that are announced have their places.
-    let ballast = filled(&rt, rt.alloc(), &heap);
-    plays(&rt, "one was handed out", &mut collector, &BEHIND);
-    drop(ballast);
+    let name = "one was handed out";
+    plays_full(&rt, alloc, &heap, name, &mut collector, &BEHIND);
 }

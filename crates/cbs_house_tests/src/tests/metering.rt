@@ -222,28 +222,26 @@ const TOOK: [(u64, u64); 7] = [
     (30_001, 3),
 ];
 
+/// Runs a unit that takes `step` nanoseconds, and looks how many ticks it is charged.
+fn is_charged(rt: &impl Abort, alloc: Global, at: (&str, usize), step: u64, wanted: u64) {
+    let clock = Steady {
+        now: AtomicU64::new(7),
+        step,
+    };
+    let mut meter = ClockMeter::new(&clock, Duration::from_micros(10)).expect(rt, "a meter");
+    let (mut house, client) = one_job(rt, alloc);
+    polls(rt, &mut house, 0, Poll::Took(0));
+    house.run_metered(&mut meter);
+    let charges = house.charges(0).map(|it| it.total);
+    same_at(rt, at, "charges", charges, Ok(wanted));
+    same_at(rt, at, "now", house.now(), wanted.saturating_add(1));
+    drop(client);
+}
+
 #[test]
 fn a_clock_meter_charges_each_further_tick_that_was_begun(rt: HostRuntime) {
     for (place, &(step, wanted)) in TOOK.iter().enumerate() {
-        let clock = Steady {
-            now: AtomicU64::new(7),
-            step,
-        };
-        let tick = Duration::from_micros(10);
-        let mut meter = ClockMeter::new(&clock, tick).expect(&rt, "a meter");
-        let (mut house, client) = one_job(&rt, rt.alloc());
-        polls(&rt, &mut house, 0, Poll::Took(0));
-        house.run_metered(&mut meter);
-        let charges = house.charges(0).map(|it| it.total);
-        same_at(&rt, ("took", place), "charges", charges, Ok(wanted));
-        same_at(
-            &rt,
-            ("took", place),
-            "now",
-            house.now(),
-            wanted.saturating_add(1),
-        );
-        drop(client);
+        is_charged(&rt, rt.alloc(), ("took", place), step, wanted);
     }
 }
 
@@ -304,29 +302,41 @@ impl<'a> Work for SlowJob<'a> {
     }
 }
 
+/// A house of a soft server with 2 ticks in every 5, to which a job of two such units was sent.
+fn slow_house<'a>(rt: &impl Abort, alloc: Global, wall: &'a Wall) -> House<SlowJob<'a>> {
+    let plan = plan_of(rt, &[(2, 5)]);
+    let modes = Modes::uniform(Mode::Soft, plan.len() as u16);
+    let opened = open_house(alloc, plan, modes, 4, 4);
+    let (house, mut clients) = opened.ok().expect(rt, "a house");
+    for client in &mut clients {
+        sends_slow(rt, client, wall);
+    }
+    house
+}
+
+/// Sends a job of two such units.
+fn sends_slow<'a>(rt: &impl Abort, client: &mut Client<SlowJob<'a>>, wall: &'a Wall) {
+    let task = Task::new(SlowJob { units: 2, wall }).ok();
+    let sent = client.send(task.expect(rt, "a task"));
+    same(rt, "send", sent.is_ok(), true);
+}
+
+/// Takes a turn, and looks at the clock.
+fn turns_until<W: Work, M: Meter>(rt: &impl Abort, house: &mut House<W>, meter: &mut M, now: u64) {
+    house.turn_metered(meter);
+    same(rt, "now", house.now(), now);
+}
+
 #[test]
 fn a_clock_meter_takes_the_time_of_the_unit(rt: HostRuntime) {
     let wall = Wall {
         nanos: AtomicU64::new(7),
     };
-    let plan = plan_of(&rt, &[(2, 5)]);
-    let modes = Modes::uniform(Mode::Soft, plan.len() as u16);
-    let opened = open_house(rt.alloc(), plan, modes, 4, 4);
-    let (mut house, mut clients) = opened.ok().expect(&rt, "a house");
-    let mut client = clients.pop().expect(&rt, "a client");
-    let job = SlowJob {
-        units: 2,
-        wall: &wall,
-    };
-    let task = Task::new(job).ok().expect(&rt, "a task");
-    same(&rt, "send", client.send(task).is_ok(), true);
+    let mut house = slow_house(&rt, rt.alloc(), &wall);
     let mut meter = ClockMeter::new(&wall, Duration::from_micros(10)).expect(&rt, "a meter");
     // A turn each: a unit of 25 microseconds is one of three ticks.
-    for now in [3, 6] {
-        house.turn_metered(&mut meter);
-        same(&rt, "now", house.now(), now);
-    }
+    turns_until(&rt, &mut house, &mut meter, 3);
+    turns_until(&rt, &mut house, &mut meter, 6);
     let charges = house.charges(0).map(|it| (it.total, it.most));
     same(&rt, "charges", charges, Ok((4, 2)));
-    drop(client);
 }

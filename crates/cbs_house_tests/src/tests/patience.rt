@@ -1,17 +1,15 @@
 //! How long a side waits that has nothing to do: its turns, and its sleeps.
 
-ghost use Rattle.cbs_house.specs.Rounds.{Ready};
-
+use super::calls::{ends, polls, sends, stands_at};
 use super::polling::one_client;
-use super::{filled, lists_of, plan_of, same, same_at, sum_of};
+use super::serving::{opened, rounds, serves};
+use super::{filled, same, same_at, sum_of};
 use cbs_core::Ran;
-use cbs_house::{
-    Feed, Gate, House, HouseError, NoSink, Poll, SendError, Turn, open_feeds, serve, serve_round,
-};
+use cbs_house::{Client, Gate, House, HouseError, NoSink, Poll, SendError, Turn};
 use cbs_job::SumJob;
-use cbs_rules::{Mode, Modes};
+use cbs_rules::Mode;
 use linked_list_allocator::LocalHeap;
-use std::alloc::Global;
+use std::alloc::{Allocator, Global};
 use std::io;
 use std::process::Abort;
 use std::sync::atomic::{AtomicU64, Ordering};
@@ -115,65 +113,49 @@ const WAITS: [(u64, (u64, u64, u64)); 8] = [
 fn a_house_waits_for_as_many_turns_as_it_is_told(rt: HostRuntime) {
     let alloc = rt.alloc();
     let (mut house, client) = one_client(&rt, alloc, Mode::Soft, (2, 5), (4, 4));
+    let stalled = Err(HouseError::Stalled);
     for (place, &(idle_turns, wanted)) in WAITS.iter().enumerate() {
-        let at = ("waits", place);
-        let naps = Naps::none();
-        let answer = house.run_until_closed(&naps, &mut NoSink, idle_turns);
-        same_at(
-            &rt,
-            at,
-            "run_until_closed",
-            answer,
-            Err(HouseError::Stalled),
-        );
-        same_at(&rt, at, "sleeps", naps.seen(), wanted);
+        closes(&rt, ("waits", place), &mut house, (idle_turns, stalled), wanted);
     }
     drop(client);
+}
+
+/// Runs a house until its clients have ended, or it did nothing for so many turns; and looks at the answer and at its
+/// sleeps.
+fn closes<A: Allocator>(
+    rt: &impl Abort,
+    at: (&str, usize),
+    house: &mut House<SumJob, A>,
+    run: (u64, Result<(), HouseError>),
+    sleeps: (u64, u64, u64),
+) {
+    let (idle_turns, wanted) = run;
+    let naps = Naps::none();
+    let answer = house.run_until_closed(&naps, &mut NoSink, idle_turns);
+    same_at(rt, at, "run_until_closed", answer, wanted);
+    same_at(rt, at, "sleeps", naps.seen(), sleeps);
 }
 
 #[test]
 fn a_house_does_not_wait_after_the_last_end(rt: HostRuntime) {
     let alloc = rt.alloc();
     let (mut house, mut client) = one_client(&rt, alloc, Mode::Throttled, (1, 4), (4, 4));
-    same(
-        &rt,
-        "send",
-        client.send(sum_of(&rt, alloc, &[5, 7])).is_ok(),
-        true,
-    );
-    same(&rt, "end", client.end(), Ok(()));
-    let naps = Naps::none();
-    let answer = house.run_until_closed(&naps, &mut NoSink, 100_000);
-    same(&rt, "run_until_closed", answer, Ok(()));
-    same(&rt, "sleeps", naps.seen(), (0, 0, 0));
-    same(&rt, "now", house.now(), 5);
-}
-
-/// A house of one server, with a feed of two jobs.
-fn one_feed<R: Abort>(rt: &R, alloc: Global) -> (House<SumJob>, Vec<Feed<SumJob>>)
-    ensures { Ready result.0 result.1.items }
-{
-    let plan = plan_of(rt, &[(2, 5)]);
-    let modes = Modes::uniform(Mode::Soft, plan.len() as u16);
-    let lists = lists_of(rt, alloc, &[&[&[1], &[2]]]);
-    assert!(rt; lists.len() == plan.len());
-    let Ok(opened) = open_feeds(alloc, plan, modes, 4, 4, lists) else {
-        panic!(rt; "a house with its feeds");
-    };
-    opened
+    sends(&rt, &mut client, sum_of(&rt, alloc, &[5, 7]), 0);
+    ends(&rt, &mut client, Ok(()));
+    closes(&rt, ("ended", 0), &mut house, (100_000, Ok(())), (0, 0, 0));
+    stands_at(&rt, &house, 5);
 }
 
 #[test]
 fn each_side_of_a_round_takes_all_its_turns(rt: HostRuntime) {
     let alloc = rt.alloc();
-    let (mut house, mut feeds) = one_feed(&rt, alloc);
+    let (mut house, mut feeds) = opened(&rt, alloc, &[(2, 5)], 4, &[&[&[1], &[2]]]);
     let gate = Counted::new();
-    serve_round(&rt, &mut house, &mut feeds, 10, &gate);
+    rounds(&rt, &mut house, &mut feeds, 10, &gate, (0, 0));
     same(&rt, "a round of 10 turns", gate.seen(), (10, 10));
     // One round, and one for each message that is left: two jobs and the end. Each has 10,000 turns.
     let gate = Counted::new();
-    let answer = serve(&rt, &mut house, &mut feeds, &gate);
-    same(&rt, "serve", answer, Err(HouseError::Stalled));
+    serves(&rt, &mut house, &mut feeds, &gate, Err(HouseError::Stalled));
     same(&rt, "four rounds", gate.seen(), (40_000, 40_000));
 }
 
@@ -182,29 +164,27 @@ fn a_run_stops_at_the_first_poll_without_memory(rt: HostRuntime) {
     let alloc = rt.alloc();
     let heap = LocalHeap::new(alloc, 1 << 14).expect(&rt, "a heap");
     let (mut house, mut client) = one_client(&rt, &heap, Mode::Soft, (2, 5), (4, 4));
-    same(
-        &rt,
-        "send",
-        client.send(sum_of(&rt, alloc, &[1, 2, 3])).is_ok(),
-        true,
-    );
-    same(&rt, "end", client.end(), Ok(()));
+    sends(&rt, &mut client, sum_of(&rt, alloc, &[1, 2, 3]), 0);
+    ends(&rt, &mut client, Ok(()));
     let ballast = filled(&rt, alloc, &heap);
+    is_refused_memory(&rt, &mut house);
+    let run = (100_000, Err(HouseError::OutOfMemory));
+    closes(&rt, ("without memory", 0), &mut house, run, (0, 0, 0));
+    drop(ballast);
+    let run = (100_000, Ok(()));
+    closes(&rt, ("with memory", 1), &mut house, run, (0, 0, 0));
+    stands_at(&rt, &house, 3);
+}
+
+/// Takes a turn in which a poll is refused memory.
+fn is_refused_memory<A: Allocator>(rt: &impl Abort, house: &mut House<SumJob, A>) {
     let refused = Turn {
         took: 0,
         out_of_memory: true,
         ran: Ran::Idle,
         advanced: 0,
     };
-    same(&rt, "turn", house.turn(), refused);
-    let naps = Naps::none();
-    let answer = house.run_until_closed(&naps, &mut NoSink, 100_000);
-    same(&rt, "without memory", answer, Err(HouseError::OutOfMemory));
-    same(&rt, "sleeps", naps.seen(), (0, 0, 0));
-    drop(ballast);
-    let answer = house.run_until_closed(&naps, &mut NoSink, 100_000);
-    same(&rt, "with memory", answer, Ok(()));
-    same(&rt, "now", house.now(), 3);
+    same(rt, "turn", house.turn(), refused);
 }
 
 /// In how many tries a client gives up at a full ring, and how it slept meanwhile: after each try but the last it rests
@@ -224,20 +204,43 @@ fn a_client_tries_as_often_as_it_is_told(rt: HostRuntime) {
     same(&rt, "at a free ring", sent.ok(), Some(0));
     for (place, &(tries, wanted)) in TRIES.iter().enumerate() {
         let at = ("tries", place);
-        let naps = Naps::none();
-        let sent = client.send_within(&naps, sum_of(&rt, alloc, &[2]), tries);
-        let error = sent.err().map(|refused| refused.error);
-        same_at(&rt, at, "send_within", error, Some(SendError::RingFull));
-        same_at(&rt, at, "sleeps of a send", naps.seen(), wanted);
-        let naps = Naps::none();
-        let ended = client.end_within(&naps, tries);
-        same_at(&rt, at, "end_within", ended, Err(SendError::RingFull));
-        same_at(&rt, at, "sleeps of an end", naps.seen(), wanted);
+        send_gives_up(&rt, alloc, at, &mut client, tries, wanted);
+        let full = Err(SendError::RingFull);
+        end_answers(&rt, at, &mut client, (tries, full), wanted);
     }
-    same(&rt, "poll", house.poll(0), Poll::Took(0));
+    polls(&rt, &mut house, 0, Poll::Took(0));
+    let none = (0, 0, 0);
+    end_answers(&rt, ("the end", 0), &mut client, (1000, Ok(())), none);
+    let ended = Err(SendError::Ended);
+    end_answers(&rt, ("after the end", 1), &mut client, (1000, ended), none);
+}
+
+/// Sends a job at a full ring, in so many tries, and looks at the sleeps.
+fn send_gives_up(
+    rt: &impl Abort,
+    alloc: Global,
+    at: (&str, usize),
+    client: &mut Client<SumJob>,
+    tries: u64,
+    sleeps: (u64, u64, u64),
+) {
     let naps = Naps::none();
-    same(&rt, "end_within", client.end_within(&naps, 1000), Ok(()));
-    let ended = client.end_within(&naps, 1000);
-    same(&rt, "after the end", ended, Err(SendError::Ended));
-    same(&rt, "sleeps", naps.seen(), (0, 0, 0));
+    let sent = client.send_within(&naps, sum_of(rt, alloc, &[2]), tries);
+    let error = sent.err().map(|refused| refused.error);
+    same_at(rt, at, "send_within", error, Some(SendError::RingFull));
+    same_at(rt, at, "sleeps of a send", naps.seen(), sleeps);
+}
+
+/// Ends a client in so many tries, and looks at the answer and at the sleeps.
+fn end_answers(
+    rt: &impl Abort,
+    at: (&str, usize),
+    client: &mut Client<SumJob>,
+    end: (u64, Result<(), SendError>),
+    sleeps: (u64, u64, u64),
+) {
+    let (tries, wanted) = end;
+    let naps = Naps::none();
+    same_at(rt, at, "end_within", client.end_within(&naps, tries), wanted);
+    same_at(rt, at, "sleeps of an end", naps.seen(), sleeps);
 }

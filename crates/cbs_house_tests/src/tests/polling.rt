@@ -175,19 +175,21 @@ fn each_message_is_taken_or_waits(rt: HostRuntime) {
     plays_all(&rt, rt.alloc(), &CASES);
 }
 
+/// Looks that a house with these limits is refused by this error.
+fn is_refused(rt: &impl Abort, alloc: Global, backlog: u64, ring: u64, error: HouseError) {
+    let plan = plan_of(rt, &[(2, 5)]);
+    let modes = Modes::uniform(Mode::Soft, plan.len() as u16);
+    let refused = open_house::<SumJob, _>(alloc, plan, modes, backlog, ring).err();
+    same(rt, "refused", refused, Some(error));
+}
+
 #[test]
 fn limits_are_tested_in_their_order(rt: HostRuntime) {
-    for &(backlog, ring, error) in &[
-        (0, 0, HouseError::BadBacklog),
-        (4097, 4, HouseError::BadBacklog),
-        (4, 0, HouseError::BadRing),
-        (4, 1025, HouseError::BadRing),
-    ] {
-        let plan = plan_of(&rt, &[(2, 5)]);
-        let modes = Modes::uniform(Mode::Soft, plan.len() as u16);
-        let refused = open_house::<SumJob, _>(rt.alloc(), plan, modes, backlog, ring).err();
-        same(&rt, "refused", refused, Some(error));
-    }
+    let alloc = rt.alloc();
+    is_refused(&rt, alloc, 0, 0, HouseError::BadBacklog);
+    is_refused(&rt, alloc, 4097, 4, HouseError::BadBacklog);
+    is_refused(&rt, alloc, 4, 0, HouseError::BadRing);
+    is_refused(&rt, alloc, 4, 1025, HouseError::BadRing);
 }
 
 /// A house of one throttled server with a tick in every 1000000000, to which a job of so many ones was

@@ -1,14 +1,14 @@
 //! Feeds that are served.
 
-ghost use Rattle.std.specs.Prelude.{◌<◌, length};
+ghost use Rattle.std.specs.Prelude.{◌<◌, ◌≤◌, length};
 ghost use Rattle.cbs_house.specs.Rounds.{Ready};
 
 use super::calls::{drains, gave, sends};
 use super::meeting::{Meet, Shut};
 use super::polling::one_client;
 use super::{lists_of, plan_of, same, sum_of};
-use cbs_house::{Feed, Gate, House, HouseError, OpenGate, Round, open_feeds, serve, serve_round};
-use cbs_job::SumJob;
+use cbs_house::{Feed, Gate, House, HouseError, OpenGate, open_feeds, serve, serve_round};
+use cbs_job::{SumJob, Task};
 use cbs_rules::{Mode, Modes};
 use std::alloc::Global;
 use std::process::Abort;
@@ -26,9 +26,21 @@ pub fn opened<R: Abort>(
 ) -> (House<SumJob>, Vec<Feed<SumJob>>)
     ensures { Ready result.0 result.1.items }
 {
+    with_lists(rt, alloc, rates, ring, lists_of(rt, alloc, lists))
+}
+
+/// A house of servers with these reservations, and for each a feed of the list at its place.
+pub fn with_lists<R: Abort>(
+    rt: &R,
+    alloc: Global,
+    rates: &[(u64, u64)],
+    ring: u64,
+    lists: Vec<Vec<Task<SumJob>>>,
+) -> (House<SumJob>, Vec<Feed<SumJob>>)
+    ensures { Ready result.0 result.1.items }
+{
     let plan = plan_of(rt, rates);
     let modes = Modes::uniform(Mode::Soft, plan.len() as u16);
-    let lists = lists_of(rt, alloc, lists);
     assert!(rt; lists.len() == plan.len());
     let Ok(opened) = open_feeds(alloc, plan, modes, 4, ring, lists) else {
         panic!(rt; "a house with its feeds");
@@ -49,8 +61,25 @@ fn two_feeds<R: Abort>(rt: &R, alloc: Global) -> (House<SumJob>, Vec<Feed<SumJob
     )
 }
 
+/// Serves a round of so many turns, and looks how many messages were sent and taken.
+pub fn rounds<R: Threads + Clock + Sync + Abort, G: Gate + Sync>(
+    rt: &R,
+    house: &mut House<SumJob>,
+    feeds: &mut [Feed<SumJob>],
+    turns: u64,
+    gate: &G,
+    wanted: (u64, u64),
+)
+    requires ready { Ready house.old feeds.old }
+    requires turns { turns ≤ 1000000000 }
+    ensures { Ready house.new feeds.new }
+{
+    let round = serve_round(rt, house, feeds, turns, gate);
+    same(rt, "round", (round.sent, round.took), wanted);
+}
+
 /// Serves feeds.
-fn serves<R: Threads + Clock + Sync + Abort, G: Gate + Sync>(
+pub fn serves<R: Threads + Clock + Sync + Abort, G: Gate + Sync>(
     rt: &R,
     house: &mut House<SumJob>,
     feeds: &mut [Feed<SumJob>],
@@ -86,8 +115,7 @@ fn both_sides_of_a_round_run_at_once(rt: HostRuntime) {
     let alloc = rt.alloc();
     let (mut house, mut feeds) = two_feeds(&rt, alloc);
     let gate = Meet::new(true);
-    let round = serve_round(&rt, &mut house, &mut feeds, 1_000_000_000, &gate);
-    same(&rt, "round", round, Round { sent: 6, took: 6 });
+    rounds(&rt, &mut house, &mut feeds, 1_000_000_000, &gate, (6, 6));
     assert!(rt; gate.first.met() == 3 && gate.second.met() == 2);
     drains(&rt, &mut house, Ok(()));
     gave(&rt, &house, 0, &[1, 2, 3]);
@@ -109,8 +137,7 @@ fn serving_runs_both_sides_at_once(rt: HostRuntime) {
 fn a_gate_that_holds_all_back_stalls(rt: HostRuntime) {
     let alloc = rt.alloc();
     let (mut house, mut feeds) = opened(&rt, alloc, &[(2, 5)], 4, &[&[&[1], &[2]]]);
-    let round = serve_round(&rt, &mut house, &mut feeds, 10, &Shut);
-    same(&rt, "round", round, Round { sent: 0, took: 0 });
+    rounds(&rt, &mut house, &mut feeds, 10, &Shut, (0, 0));
     assert!(rt; feeds.len() == 1);
     same(
         &rt,
@@ -161,33 +188,31 @@ fn a_turn_polls_and_then_runs(rt: HostRuntime) {
     sends(&rt, &mut client, sum_of(&rt, alloc, &[1]), 0);
     sends(&rt, &mut client, sum_of(&rt, alloc, &[2]), 1);
     let mut feed = Feed::new(client, Vec::new(alloc));
-    let round = serve_round(&rt, &mut house, from_mut(&mut feed), 2, &Shut);
-    same(&rt, "two turns", round, Round { sent: 0, took: 2 });
+    rounds(&rt, &mut house, from_mut(&mut feed), 2, &Shut, (0, 2));
     same(&rt, "now", house.now(), 2);
     gave(&rt, &house, 0, &[1, 2]);
+}
+
+/// Looks that a feed of two jobs is refused by this error, and comes back.
+fn is_refused(rt: &impl Abort, alloc: Global, backlog: u64, ring: u64, wanted: HouseError) {
+    let plan = plan_of(rt, &[(2, 5)]);
+    let modes = Modes::uniform(Mode::Soft, plan.len() as u16);
+    let lists = lists_of(rt, alloc, &[&[&[1], &[2]]]);
+    assert!(rt; lists.len() == plan.len());
+    let opened = open_feeds(alloc, plan, modes, backlog, ring, lists);
+    let refused = opened.err().expect(rt, "refused");
+    same(rt, "error", refused.error, wanted);
+    for list in refused.lists {
+        same(rt, "jobs back", list.len(), 2);
+    }
 }
 
 #[test]
 fn feeds_are_refused_with_their_jobs(rt: HostRuntime) {
     let alloc = rt.alloc();
-    let refused_by = [
-        (0, 4, HouseError::BadBacklog),
-        (4097, 4, HouseError::BadBacklog),
-        (4, 0, HouseError::BadRing),
-        (4, 1025, HouseError::BadRing),
-        (0, 0, HouseError::BadBacklog),
-    ];
-    for (backlog, ring, wanted) in refused_by {
-        let plan = plan_of(&rt, &[(2, 5)]);
-        let modes = Modes::uniform(Mode::Soft, plan.len() as u16);
-        let lists = lists_of(&rt, alloc, &[&[&[1], &[2]]]);
-        assert!(rt; lists.len() == plan.len());
-        let Err(refused) = open_feeds(alloc, plan, modes, backlog, ring, lists) else {
-            panic!(rt; "refused");
-        };
-        same(&rt, "error", refused.error, wanted);
-        for list in refused.lists {
-            same(&rt, "jobs back", list.len(), 2);
-        }
-    }
+    is_refused(&rt, alloc, 0, 4, HouseError::BadBacklog);
+    is_refused(&rt, alloc, 4097, 4, HouseError::BadBacklog);
+    is_refused(&rt, alloc, 4, 0, HouseError::BadRing);
+    is_refused(&rt, alloc, 4, 1025, HouseError::BadRing);
+    is_refused(&rt, alloc, 0, 0, HouseError::BadBacklog);
 }

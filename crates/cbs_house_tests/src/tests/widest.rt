@@ -3,8 +3,9 @@
 ghost use Rattle.cbs_house.specs.Rounds.{Ready};
 
 use super::calls::gave;
+use super::serving::with_lists;
 use super::{plan_of, same, sum_of, sums_of};
-use cbs_house::{Client, Feed, House, NoSink, OpenGate, open_feeds, open_house, serve};
+use cbs_house::{Client, Feed, House, NoSink, OpenGate, open_house, serve};
 use cbs_job::SumJob;
 use cbs_rules::{Mode, Modes};
 use std::alloc::Global;
@@ -18,18 +19,12 @@ const RATES: [(u64, u64); 64] = [(1, 64); 64];
 fn fed<R: Abort>(rt: &R, alloc: Global) -> (House<SumJob>, Vec<Feed<SumJob>>)
     ensures { Ready result.0 result.1.items }
 {
-    let plan = plan_of(rt, &RATES);
-    let modes = Modes::uniform(Mode::Soft, plan.len() as u16);
     let mut lists = Vec::new(alloc);
     for number in 0..64 {
         let list = sums_of(rt, alloc, &[&[number, 1000], &[number]]);
         lists.push(list).ok().expect(rt, "memory");
     }
-    assert!(rt; lists.len() == plan.len());
-    let Ok(opened) = open_feeds(alloc, plan, modes, 4, 4, lists) else {
-        panic!(rt; "a house with its feeds");
-    };
-    opened
+    with_lists(rt, alloc, &RATES, 4, lists)
 }
 
 /// Returns a house, and a client of each server.
