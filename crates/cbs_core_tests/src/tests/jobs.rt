@@ -43,18 +43,22 @@ fn takes_one_to_a_million_units(rt: HostRuntime) {
         (1_000_001, Some(TaskError::TooLong)),
     ] {
         assert!(rt; units <= numbers.len());
-        let numbers = &numbers[..units];
-        let units = units as u32;
-        answers(&rt, sum(&rt, alloc, numbers), units, refusal);
-        answers(&rt, peak(&rt, alloc, numbers), units, refusal);
-        answers(&rt, FileJob::from(sum(&rt, alloc, numbers)), units, refusal);
-        answers(
-            &rt,
-            FileJob::from(peak(&rt, alloc, numbers)),
-            units,
-            refusal,
-        );
+        all_answer(&rt, alloc, &numbers[..units], units as u32, refusal);
     }
+}
+
+/// Makes a task of each kind of job of these numbers.
+fn all_answer(
+    rt: &impl Abort,
+    alloc: Global,
+    numbers: &[u32],
+    units: u32,
+    refusal: Option<TaskError>,
+) {
+    answers(rt, sum(rt, alloc, numbers), units, refusal);
+    answers(rt, peak(rt, alloc, numbers), units, refusal);
+    answers(rt, FileJob::from(sum(rt, alloc, numbers)), units, refusal);
+    answers(rt, FileJob::from(peak(rt, alloc, numbers)), units, refusal);
 }
 
 /// Starts a task of `work` and does all its units: `outputs` are those before each unit and at the end.

@@ -2,7 +2,7 @@
 
 use super::rows::{Row, does, plays};
 use super::{core_of, filled, same, sum_of};
-use cbs_core::{CoreError, Ran};
+use cbs_core::{Core, CoreError, Ran};
 use cbs_job::{FileJob, PeakJob, SumJob, Task, Work};
 use cbs_rules::Mode;
 use linked_list_allocator::LocalHeap;
@@ -71,17 +71,28 @@ const WITHOUT_MEMORY: [Row; 15] = [
     Row::Now(11),
 ];
 
+/// No room is made while no memory is found.
+const REFUSED: [Row; 1] = [Row::MakeRoom(1, Err(CoreError::OutOfMemory))];
+
 #[test]
 fn room_is_enough_for_the_next_job(rt: HostRuntime) {
     let alloc = rt.alloc();
     let heap = LocalHeap::new(alloc, 1 << 13).expect(&rt, "a heap");
     let mut core = core_of(&rt, &heap, Mode::Throttled, &[(2, 5), (2, 5)], 4);
-    let ballast = filled(&rt, alloc, &heap);
-    let refused = Err(CoreError::OutOfMemory);
-    same(&rt, "make_room", core.make_room(1), refused);
-    drop(ballast);
+    plays_full(&rt, alloc, &heap, &mut core, &REFUSED);
     same(&rt, "make_room", core.make_room(1), Ok(()));
-    let ballast = filled(&rt, alloc, &heap);
-    plays(&rt, alloc, "without memory", &mut core, &WITHOUT_MEMORY);
+    plays_full(&rt, alloc, &heap, &mut core, &WITHOUT_MEMORY);
+}
+
+/// Makes calls of a core while no memory of its heap is found.
+fn plays_full(
+    rt: &impl Abort,
+    alloc: Global,
+    heap: &LocalHeap,
+    core: &mut Core<SumJob, &LocalHeap>,
+    rows: &[Row],
+) {
+    let ballast = filled(rt, alloc, heap);
+    plays(rt, alloc, "without memory", core, rows);
     drop(ballast);
 }

@@ -98,26 +98,31 @@ fn tells_the_greatest_budget(rt: HostRuntime) {
     leaves(&rt, &[(1, 1000); 64], &[(1000, 0)]);
 }
 
+/// Looks that there is no reservation of `budget` in every `period`, for this error.
+fn refuses(rt: &impl Abort, budget: u64, period: u64, error: RateError) {
+    let made = (budget, period, Reservation::new(budget, period));
+    same(rt, "reservation", made, (budget, period, Err(error)));
+}
+
+/// Looks that there is no bound of these two numbers.
+fn refuses_bound(rt: &impl Abort, num: u64, den: u64) {
+    let made = (num, den, Bound::new(num, den));
+    same(rt, "bound", made, (num, den, Err(RateError::BadBound)));
+}
+
 #[test]
 fn refuses_numbers_outside_the_limits(rt: HostRuntime) {
-    let reservations = [
-        (0, 5, RateError::ZeroBudget),
-        (0, 0, RateError::ZeroBudget),
-        (5, 1_000_000_001, RateError::PeriodTooLong),
-        (6, 5, RateError::BudgetOverPeriod),
-        (1, 0, RateError::BudgetOverPeriod),
-    ];
-    for &(budget, period, error) in &reservations {
-        let made = (budget, period, Reservation::new(budget, period));
-        same(&rt, "reservation", made, (budget, period, Err(error)));
-    }
+    refuses(&rt, 0, 5, RateError::ZeroBudget);
+    refuses(&rt, 0, 0, RateError::ZeroBudget);
+    refuses(&rt, 5, 1_000_000_001, RateError::PeriodTooLong);
+    refuses(&rt, 6, 5, RateError::BudgetOverPeriod);
+    refuses(&rt, 1, 0, RateError::BudgetOverPeriod);
     let longest = reserved(&rt, 1_000_000_000, 1_000_000_000);
     same(&rt, "budget", longest.budget(), 1_000_000_000);
     same(&rt, "period", longest.period(), 1_000_000_000);
-    for &(num, den) in &[(0, 1), (2, 1), (1, 1_000_001)] {
-        let made = (num, den, Bound::new(num, den));
-        same(&rt, "bound", made, (num, den, Err(RateError::BadBound)));
-    }
+    refuses_bound(&rt, 0, 1);
+    refuses_bound(&rt, 2, 1);
+    refuses_bound(&rt, 1, 1_000_001);
 }
 
 #[test]

@@ -130,22 +130,25 @@ fn the_limits_are_those_of_a_clock_of_a_million_million_ticks(rt: HostRuntime) {
     same(&rt, "MAX_DEADLINE", MAX_DEADLINE, latest);
 }
 
+/// Looks what a setup answers to a server.
+fn admits(
+    rt: &impl Abort,
+    setup: &mut Setup,
+    (reservation, mode): (Reservation, Mode),
+    wanted: Result<u16, AdmitError>,
+) {
+    same(rt, "admit", setup.admit(reservation, mode), wanted);
+}
+
 #[test]
 fn a_setup_has_a_mode_for_each_server(rt: HostRuntime) {
     let two_in_four = Reservation::new(2, 4).expect(&rt, "a reservation");
     let one_in_four = Reservation::new(1, 4).expect(&rt, "a reservation");
     let mut setup = Setup::new(Bound::new(3, 4).expect(&rt, "a bound"));
-    let first = setup.admit(two_in_four, Mode::Throttled);
-    same(&rt, "admit", first, Ok(0));
-    let over = setup.admit(two_in_four, Mode::Soft);
-    same(
-        &rt,
-        "admit over the bound",
-        over,
-        Err(AdmitError::OverBound),
-    );
-    let last = setup.admit(one_in_four, Mode::Soft);
-    same(&rt, "admit", last, Ok(1));
+    let over = Err(AdmitError::OverBound);
+    admits(&rt, &mut setup, (two_in_four, Mode::Throttled), Ok(0));
+    admits(&rt, &mut setup, (two_in_four, Mode::Soft), over);
+    admits(&rt, &mut setup, (one_in_four, Mode::Soft), Ok(1));
     same(&rt, "plan", setup.plan().get(1), Some(one_in_four));
     same(&rt, "modes", setup.modes().len(), 2);
     let (plan, modes) = setup.into_parts();

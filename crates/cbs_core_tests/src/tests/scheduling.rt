@@ -4,6 +4,8 @@ use super::core_of;
 use super::rows::{Case, Row, plays, plays_all};
 use cbs_core::{Ran, ServerView};
 use cbs_rules::Mode;
+use std::alloc::Global;
+use std::process::Abort;
 
 const CASES: [Case; 4] = [
     Case {
@@ -162,13 +164,16 @@ const REPLENISHED: [Row; 5] = [
     Row::State(0, 1, 10, false),
 ];
 
+/// Takes a server from exhausted to replenished by these advances.
+fn waits_by(rt: &impl Abort, alloc: Global, name: &str, advances: &[Row]) {
+    let mut core = core_of(rt, alloc, Mode::Throttled, &[(2, 5)], 4);
+    plays(rt, alloc, name, &mut core, &EXHAUSTED);
+    plays(rt, alloc, name, &mut core, advances);
+    plays(rt, alloc, name, &mut core, &REPLENISHED);
+}
+
 #[test]
 fn a_jump_is_its_ticks(rt: HostRuntime) {
-    let alloc = rt.alloc();
-    for (name, advances) in [("a jump", &JUMP[..]), ("ticks", &TICKS[..])] {
-        let mut core = core_of(&rt, alloc, Mode::Throttled, &[(2, 5)], 4);
-        for rows in [&EXHAUSTED[..], advances, &REPLENISHED[..]] {
-            plays(&rt, alloc, name, &mut core, rows);
-        }
-    }
+    waits_by(&rt, rt.alloc(), "a jump", &JUMP);
+    waits_by(&rt, rt.alloc(), "ticks", &TICKS);
 }

@@ -302,7 +302,7 @@ impl<'a> Work for SlowJob<'a> {
     }
 }
 
-/// A house of a soft server with 2 ticks in every 5, to which a job of two such units was sent.
+/// A house of a soft server with 2 ticks in every 5. Its client sent a job of two such units, and is gone.
 fn slow_house<'a>(rt: &impl Abort, alloc: Global, wall: &'a Wall) -> House<SlowJob<'a>> {
     let plan = plan_of(rt, &[(2, 5)]);
     let modes = Modes::uniform(Mode::Soft, plan.len() as u16);

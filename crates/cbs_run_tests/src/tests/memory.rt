@@ -1,11 +1,13 @@
 //! The bound on what a file may want of memory.
 
-use super::fakes::{Memory, replays};
+use super::fakes::{Memory, Outcome, replays};
 use super::{FIRST, FIRST_LINES, same};
 use cbs_file::{FileFault, FileKind, Place, read_file, read_file_within, wants_within};
 use cbs_run::{Verb, memory_bound, run_bytes_within};
 use std::alloc::Global;
 use std::process::Abort;
+use std::thread::Threads;
+use std::time::Clock;
 
 /// Bytes, and what they want: 1400 for each dot, 750 for a `[`, 700 for a `=`, 500 for a `{`, 100 for a comma, 4 for another.
 const WANTED: [(&str, u64); 6] = [
@@ -23,10 +25,15 @@ const FIRST_WANTS: u64 = 18_572;
 #[test]
 fn bytes_want_the_sum_of_their_charges(rt: HostRuntime) {
     for (bytes, wanted) in &WANTED {
-        let enough = wants_within(bytes.as_bytes(), *wanted);
-        let too_little = wants_within(bytes.as_bytes(), *wanted - 1);
-        same(&rt, bytes, (enough, too_little), (true, false));
+        want(&rt, bytes, *wanted);
     }
+}
+
+/// Looks that bytes want so much of memory, and not less.
+fn want(rt: &impl Abort, bytes: &str, wanted: u64) {
+    let enough = wants_within(bytes.as_bytes(), wanted);
+    let too_little = wants_within(bytes.as_bytes(), wanted.saturating_sub(1));
+    same(rt, bytes, (enough, too_little), (true, false));
 }
 
 #[test]
@@ -39,22 +46,19 @@ fn a_file_that_wants_more_than_the_bound_is_not_read(rt: HostRuntime) {
     };
     same(&rt, "fault", fault, Some(expected));
     let line = "cbsrun: file fault 7 OutOfMemory at top\n";
-    for (memory, status, lines, fault) in &[
-        (FIRST_WANTS - 1, 3, "", line),
-        (FIRST_WANTS, 0, FIRST_LINES, ""),
-    ] {
-        let mut out = Memory::ample(alloc);
-        let mut err = Memory::ample(alloc);
-        let file = FIRST.as_bytes();
-        let verb = Verb::Replay;
-        let left = run_bytes_within(&rt, alloc, *memory, verb, file, &mut out, &mut err);
-        same(&rt, "status", left, *status);
-        assert!(rt; out.holds(lines.as_bytes()), "the output at status {left}");
-        assert!(rt;
-            err.holds(fault.as_bytes()),
-            "the error output at status {left}"
-        );
-    }
+    let too_little = ran_within(&rt, alloc, FIRST_WANTS - 1);
+    too_little.leaves(&rt, "too little", 3, "", line);
+    let enough = ran_within(&rt, alloc, FIRST_WANTS);
+    enough.leaves(&rt, "enough", 0, FIRST_LINES, "");
+}
+
+/// Replays the first example where a file may want so much of memory.
+fn ran_within<R: Threads + Clock + Sync>(rt: &R, alloc: Global, memory: u64) -> Outcome {
+    let mut out = Memory::ample(alloc);
+    let mut err = Memory::ample(alloc);
+    let (verb, file) = (Verb::Replay, FIRST.as_bytes());
+    let status = run_bytes_within(rt, alloc, memory, verb, file, &mut out, &mut err);
+    Outcome { status, out, err }
 }
 
 /// How many dots a comment after the first example has, so that the file wants just less than the bound.
@@ -93,16 +97,17 @@ fn a_file_may_want_2_gib(rt: HostRuntime) {
 
 #[test]
 fn a_bound_is_a_whole_number_of_mebibytes(rt: HostRuntime) {
-    for (text, bound) in &[
-        ("0", Some(0)),
-        ("1", Some(1_048_576)),
-        ("2048", Some(2_147_483_648)),
-        ("18446744073709551615", Some(u64::MAX)),
-        ("18446744073709551616", None),
-        ("", None),
-        ("-1", None),
-        ("2 GiB", None),
-    ] {
-        same(&rt, text, memory_bound(text).ok(), *bound);
-    }
+    is_bound(&rt, "0", Some(0));
+    is_bound(&rt, "1", Some(1_048_576));
+    is_bound(&rt, "2048", Some(2_147_483_648));
+    is_bound(&rt, "18446744073709551615", Some(u64::MAX));
+    is_bound(&rt, "18446744073709551616", None);
+    is_bound(&rt, "", None);
+    is_bound(&rt, "-1", None);
+    is_bound(&rt, "2 GiB", None);
+}
+
+/// Looks which bound a text is, if it is one.
+fn is_bound(rt: &impl Abort, text: &str, bound: Option<u64>) {
+    same(rt, text, memory_bound(text).ok(), bound);
 }

@@ -3,6 +3,8 @@
 use super::fakes::serves;
 use std::alloc::Global;
 use std::process::Abort;
+use std::thread::Threads;
+use std::time::Clock;
 
 const HEAD: &str = "format = 1\nmode = \"throttled\"\nbound = [1, 1]\nbacklog = 2\n";
 
@@ -26,11 +28,15 @@ step = [
 fn results_are_those_of_the_file_at_every_ring(rt: HostRuntime) {
     let alloc = rt.alloc();
     let results = "server 0: 6 9\nserver 1:\nserver 2: 10 50\n";
-    for ring in &[1u64, 1024] {
-        let file = format!(in alloc; "{HEAD}ring = {ring}\n{THREE}").expect(&rt, "memory");
-        for _time in 0..50 {
-            serves(&rt, alloc, "three servers", file.as_bytes(), 0, results, "");
-        }
+    serves_often(&rt, alloc, 1, results);
+    serves_often(&rt, alloc, 1024, results);
+}
+
+/// Serves the file of three servers fifty times, with rings of so many places.
+fn serves_often<R: Abort + Threads + Clock + Sync>(rt: &R, alloc: Global, ring: u64, results: &str) {
+    let file = format!(in alloc; "{HEAD}ring = {ring}\n{THREE}").expect(rt, "memory");
+    for _time in 0..50 {
+        serves(rt, alloc, "three servers", file.as_bytes(), 0, results, "");
     }
 }
 

@@ -34,16 +34,9 @@ fn a_writer_that_fails_has_the_front(rt: HostRuntime) {
     let fault = Some(RunError::WriteFault);
     let lines = FIRST_LINES.as_bytes();
     for room in 0..lines.len() {
-        writes(
-            &rt,
-            alloc,
-            "whole calls",
-            room,
-            usize::MAX,
-            &lines[..room],
-            fault,
-        );
-        writes(&rt, alloc, "a byte a call", room, 1, &lines[..room], fault);
+        let front = &lines[..room];
+        writes(&rt, alloc, "whole calls", room, usize::MAX, front, fault);
+        writes(&rt, alloc, "a byte a call", room, 1, front, fault);
     }
     writes(&rt, alloc, "no byte a call", usize::MAX, 0, b"", fault);
     writes(&rt, alloc, "all, a byte a call", usize::MAX, 1, lines, None);
@@ -157,11 +150,11 @@ fn a_library_writer_is_written_to(rt: HostRuntime) {
     assert!(rt; write_text(&mut out, b"abc").is_ok());
     assert!(rt; matches!(out.write(b""), Ok(0)));
     let (memory, large) = (RunError::OutOfMemory, ReadError::TooLarge);
-    same(
-        &rt,
-        "run",
-        (memory.number(), memory.name()),
-        (1, "OutOfMemory"),
-    );
-    same(&rt, "read", (large.number(), large.name()), (3, "TooLarge"));
+    is_named(&rt, (memory.number(), memory.name()), (1, "OutOfMemory"));
+    is_named(&rt, (large.number(), large.name()), (3, "TooLarge"));
+}
+
+/// Looks for the number and the name of an error.
+fn is_named(rt: &impl Abort, named: (u8, &str), wanted: (u8, &str)) {
+    same(rt, "error", named, wanted);
 }
