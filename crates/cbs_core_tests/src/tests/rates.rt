@@ -173,7 +173,8 @@ fn refused_admissions_say_what_is_wrong(rt: HostRuntime) {
     let alloc = rt.alloc();
     let text = "the plan has 64 servers already, and takes no more";
     says(&rt, alloc, &AdmitError::TooManyServers, text);
-    let text = "the least common multiple of all periods would pass 10^18: choose periods that share more factors";
+    let text =
+        "the least common multiple of all periods would pass 10^18: choose periods that share more factors";
     says(&rt, alloc, &AdmitError::PeriodsTooFine, text);
     let text =
         "the total bandwidth would pass the plan's bound: a smaller budget or a longer period may fit";

@@ -115,7 +115,13 @@ fn a_house_waits_for_as_many_turns_as_it_is_told(rt: HostRuntime) {
     let (mut house, client) = one_client(&rt, alloc, Mode::Soft, (2, 5), (4, 4));
     let stalled = Err(HouseError::Stalled);
     for (place, &(idle_turns, wanted)) in WAITS.iter().enumerate() {
-        closes(&rt, ("waits", place), &mut house, (idle_turns, stalled), wanted);
+        closes(
+            &rt,
+            ("waits", place),
+            &mut house,
+            (idle_turns, stalled),
+            wanted,
+        );
     }
     drop(client);
 }
@@ -241,6 +247,12 @@ fn end_answers(
 ) {
     let (tries, wanted) = end;
     let naps = Naps::none();
-    same_at(rt, at, "end_within", client.end_within(&naps, tries), wanted);
+    same_at(
+        rt,
+        at,
+        "end_within",
+        client.end_within(&naps, tries),
+        wanted,
+    );
     same_at(rt, at, "sleeps of an end", naps.seen(), sleeps);
 }

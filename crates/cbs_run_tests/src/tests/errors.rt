@@ -17,8 +17,7 @@ fn files_say_what_is_wrong(rt: HostRuntime) {
     says(&rt, alloc, &FileKind::WrongType, text);
     let text = "a value is out of range";
     says(&rt, alloc, &FileKind::OutOfRange, text);
-    let text =
-        "the plan does not take this server: too many, too fine periods, or over the bound";
+    let text = "the plan does not take this server: too many, too fine periods, or over the bound";
     says(&rt, alloc, &FileKind::NotAdmitted, text);
     let text = "out of memory";
     says(&rt, alloc, &FileKind::OutOfMemory, text);

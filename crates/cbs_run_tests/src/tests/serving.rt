@@ -33,7 +33,12 @@ fn results_are_those_of_the_file_at_every_ring(rt: HostRuntime) {
 }
 
 /// Serves the file of three servers fifty times, with rings of so many places.
-fn serves_often<R: Abort + Threads + Clock + Sync>(rt: &R, alloc: Global, ring: u64, results: &str) {
+fn serves_often<R: Abort + Threads + Clock + Sync>(
+    rt: &R,
+    alloc: Global,
+    ring: u64,
+    results: &str,
+) {
     let file = format!(in alloc; "{HEAD}ring = {ring}\n{THREE}").expect(rt, "memory");
     for _time in 0..50 {
         serves(rt, alloc, "three servers", file.as_bytes(), 0, results, "");
