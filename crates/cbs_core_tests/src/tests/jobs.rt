@@ -1,0 +1,126 @@
+//! Tasks, and the jobs of files, run on worked examples.
+
+use super::{same, says};
+use cbs_job::{FileJob, PeakJob, SumJob, Task, TaskError, Work};
+use std::alloc::Global;
+use std::process::Abort;
+
+/// Makes a task of `work`, and looks whether and why it is refused, and at the units left.
+fn answers<W: Work>(rt: &impl Abort, work: W, units: u32, refusal: Option<TaskError>) {
+    match Task::new(work) {
+        Ok(task) => {
+            same(rt, "task", (units, None), (units, refusal));
+            same(rt, "left of the task", task.left(), units);
+            same(rt, "left once started", task.start().left(), units);
+        }
+        Err(refused) => {
+            same(rt, "task", (units, Some(refused.error)), (units, refusal));
+            same(rt, "left once refused", refused.work.left(), units);
+        }
+    }
+}
+
+/// A sum of these numbers.
+fn sum(rt: &impl Abort, alloc: Global, numbers: &[u32]) -> SumJob {
+    assert!(rt; numbers.len() <= 1_000_001);
+    SumJob::new(Vec::from_slice(alloc, numbers).expect(rt, "memory"))
+}
+
+/// A peak of these numbers.
+fn peak(rt: &impl Abort, alloc: Global, numbers: &[u32]) -> PeakJob {
+    assert!(rt; numbers.len() <= 1_000_001);
+    PeakJob::new(Vec::from_slice(alloc, numbers).expect(rt, "memory"))
+}
+
+#[test]
+fn takes_one_to_a_million_units(rt: HostRuntime) {
+    let alloc = rt.alloc();
+    let numbers = vec![in alloc; 7; 1_000_001].expect(&rt, "memory");
+    for &(units, refusal) in &[
+        (0, Some(TaskError::EmptyJob)),
+        (1, None),
+        (1_000_000, None),
+        (1_000_001, Some(TaskError::TooLong)),
+    ] {
+        assert!(rt; units <= numbers.len());
+        all_answer(&rt, alloc, &numbers[..units], units as u32, refusal);
+    }
+}
+
+/// Makes a task of each kind of job of these numbers.
+fn all_answer(
+    rt: &impl Abort,
+    alloc: Global,
+    numbers: &[u32],
+    units: u32,
+    refusal: Option<TaskError>,
+) {
+    answers(rt, sum(rt, alloc, numbers), units, refusal);
+    answers(rt, peak(rt, alloc, numbers), units, refusal);
+    answers(rt, FileJob::from(sum(rt, alloc, numbers)), units, refusal);
+    answers(rt, FileJob::from(peak(rt, alloc, numbers)), units, refusal);
+}
+
+/// Starts a task of `work` and does all its units: `outputs` are those before each unit and at the end.
+fn comes_to<W: Work>(rt: &impl Abort, work: W, outputs: &[u64]) {
+    let Ok(task) = Task::new(work) else {
+        panic!(rt; "a task");
+    };
+    let mut running = task.start();
+    let mut units = outputs.len();
+    for &output in outputs {
+        same(rt, "output", (units, running.output()), (units, output));
+        units = units.saturating_sub(1);
+        same(rt, "left", running.left() as usize, units);
+        if running.left() > 0 {
+            running.step();
+        }
+    }
+    same(rt, "left at the end", units, 0);
+}
+
+/// Numbers, and the outputs of a sum and of a peak of them before each unit and at the end.
+const OUTPUTS: [(&[u32], &[u64], &[u64]); 3] = [
+    (&[4, 9, 2], &[0, 4, 13, 15], &[0, 4, 9, 9]),
+    (
+        &[4_294_967_295, 4_294_967_295],
+        &[0, 4_294_967_295, 8_589_934_590],
+        &[0, 4_294_967_295, 4_294_967_295],
+    ),
+    (
+        &[0, 4_294_967_295, 1],
+        &[0, 0, 4_294_967_295, 4_294_967_296],
+        &[0, 0, 4_294_967_295, 4_294_967_295],
+    ),
+];
+
+#[test]
+fn each_unit_takes_a_number_in(rt: HostRuntime) {
+    let alloc = rt.alloc();
+    for &(numbers, sums, peaks) in &OUTPUTS {
+        comes_to(&rt, sum(&rt, alloc, numbers), sums);
+        comes_to(&rt, peak(&rt, alloc, numbers), peaks);
+        comes_to(&rt, FileJob::from(sum(&rt, alloc, numbers)), sums);
+        comes_to(&rt, FileJob::from(peak(&rt, alloc, numbers)), peaks);
+    }
+}
+
+/// Looks for the number and the name of an error.
+fn is_named(rt: &impl Abort, error: TaskError, number: u8, name: &str) {
+    same(rt, name, (error.number(), error.name()), (number, name));
+}
+
+#[test]
+fn errors_have_numbers_and_names(rt: HostRuntime) {
+    is_named(&rt, TaskError::EmptyJob, 1, "EmptyJob");
+    is_named(&rt, TaskError::TooLong, 2, "TooLong");
+}
+
+#[test]
+fn errors_say_what_is_wrong(rt: HostRuntime) {
+    let alloc = rt.alloc();
+    let text = "the job is empty: a job has at least 1 unit";
+    says(&rt, alloc, &TaskError::EmptyJob, text);
+    let text = "the job is too long: a job has at most 1000000 units";
+    says(&rt, alloc, &TaskError::TooLong, text);
+}

@@ -1,0 +1,364 @@
+//! Houses that run until every client has ended.
+
+ghost use Rattle.std.specs.Prelude.{◌≡◌};
+ghost use Rattle.std.specs.Thread.{IsSync};
+ghost use Rattle.cbs_clients.specs.Houses.{rings_of};
+
+use super::calls::{ends, gave, sends, stands_at};
+use super::rows::{Opened, Row};
+use super::{plan_of, same, same_at, sum_of};
+use cbs_house::{Client, House, HouseError, SendError, Sink, open_house};
+use cbs_job::{Completion, SumJob, Task};
+use cbs_rules::{Mode, Modes};
+use std::alloc::Global;
+use std::process::Abort;
+use std::thread::{Threads, join_mut, sleep, yield_now};
+use std::time::{Clock, Duration};
+
+/// How many turns in a row with nothing to do a house waits for clients on threads.
+const PATIENCE: u64 = 1_000_000;
+
+/// A sink that keeps what it is told.
+#[derive(Drop)]
+struct Seen {
+    told: Vec<Completion>,
+    lost: bool,
+}
+
+impl Seen {
+    fn nothing(alloc: Global) -> Seen {
+        Seen {
+            told: Vec::new(alloc),
+            lost: false,
+        }
+    }
+}
+
+impl Sink for Seen {
+    fn tell(&mut self, done: Completion) {
+        if self.told.push(done).is_err() {
+            self.lost = true;
+        }
+    }
+}
+
+/// Runs a house until its clients have ended, or it did nothing for so many turns.
+fn closes<R: Clock + Abort>(
+    rt: &R,
+    at: (&str, usize),
+    house: &mut House<SumJob>,
+    seen: &mut Seen,
+    run: (u64, Result<(), HouseError>),
+)
+    ensures { rings_of house.new ≡ rings_of house.old }
+{
+    let (idle_turns, wanted) = run;
+    let answer = house.run_until_closed(rt, seen, idle_turns);
+    same_at(rt, at, "run_until_closed", answer, wanted);
+}
+
+/// Looks at what a sink was told: server, number and result of each job, in order.
+fn was_told(rt: &impl Abort, at: (&str, usize), seen: &Seen, wanted: &[(u16, u64, u64)]) {
+    assert!(rt; !seen.lost);
+    same_at(rt, at, "told", seen.told.len(), wanted.len());
+    for (done, &(server, seq, output)) in seen.told.iter().zip(wanted) {
+        let wanted = Completion {
+            server,
+            seq,
+            result: output,
+        };
+        same_at(rt, at, "told", *done, wanted);
+    }
+}
+
+/// What is done with a house of one server, its client and a sink.
+#[derive(Clone, Copy)]
+enum Step {
+    /// Calls of the house or of its client.
+    Rows(&'static [Row]),
+    /// The house runs until its client has ended, or it did nothing for so many turns.
+    Close(u64, Result<(), HouseError>),
+    /// What the sink was told so far: server, number and result of each job, in order.
+    Told(&'static [(u16, u64, u64)]),
+}
+
+/// What is done with a new house, in steps.
+#[derive(Clone, Copy)]
+struct Closing {
+    name: &'static str,
+    mode: Mode,
+    /// The budget and the period of its server.
+    rate: (u64, u64),
+    /// The backlog, and how many places the ring has.
+    limits: (u64, u64),
+    steps: &'static [Step],
+}
+
+/// Runs the house of a case, as `closes`.
+fn closes_opened<R: Clock + Abort>(
+    rt: &R,
+    at: (&str, usize),
+    opened: &mut Opened,
+    seen: &mut Seen,
+    run: (u64, Result<(), HouseError>),
+) {
+    closes(rt, at, &mut opened.house, seen, run);
+}
+
+/// Makes the steps of a case, and looks at each answer.
+fn goes<R: Clock + Abort>(rt: &R, alloc: Global, case: &Closing) {
+    let mut opened = Opened::new(rt, alloc, case.mode, case.rate, case.limits);
+    let mut seen = Seen::nothing(alloc);
+    for (place, &step) in case.steps.iter().enumerate() {
+        let at = (case.name, place);
+        match step {
+            Step::Rows(rows) => opened.plays(rt, alloc, case.name, rows),
+            Step::Close(idle_turns, wanted) => {
+                closes_opened(rt, at, &mut opened, &mut seen, (idle_turns, wanted));
+            }
+            Step::Told(wanted) => was_told(rt, at, &seen, wanted),
+        }
+    }
+}
+
+/// A client ends at once.
+const ENDED: [Step; 5] = [
+    Step::Rows(&[Row::End(Ok(()))]),
+    Step::Close(1, Ok(())),
+    Step::Close(1, Ok(())),
+    Step::Told(&[]),
+    Step::Rows(&[Row::Now(0)]),
+];
+
+/// A client sends nothing, and ends at last.
+const SILENT: [Step; 6] = [
+    Step::Close(0, Err(HouseError::Stalled)),
+    Step::Close(1, Err(HouseError::Stalled)),
+    Step::Close(100, Err(HouseError::Stalled)),
+    Step::Rows(&[Row::Now(0), Row::End(Ok(()))]),
+    Step::Close(100, Ok(())),
+    Step::Told(&[]),
+];
+
+/// What a client sends that does not end.
+const SENT: [Row; 3] = [Row::Send(&[5], 0), Row::Send(&[7], 1), Row::Send(&[9], 2)];
+
+/// What the sink is told of that.
+const TOLD: [(u16, u64, u64); 3] = [(0, 0, 5), (0, 1, 7), (0, 2, 9)];
+
+/// The results are handed out, and the client sends a last job and ends.
+const LAST: [Row; 3] = [
+    Row::TakeResults(0, Ok(&[5, 7, 9])),
+    Row::Send(&[11], 3),
+    Row::End(Ok(())),
+];
+
+/// What the sink is told in all.
+const ALL_TOLD: [(u16, u64, u64); 4] = [(0, 0, 5), (0, 1, 7), (0, 2, 9), (0, 3, 11)];
+
+const CASES: [Closing; 6] = [
+    Closing {
+        name: "a soft house of a client that ends at once takes no time",
+        mode: Mode::Soft,
+        rate: (2, 5),
+        limits: (4, 4),
+        steps: &ENDED,
+    },
+    Closing {
+        name: "a throttled house of a client that ends at once takes no time",
+        mode: Mode::Throttled,
+        rate: (2, 5),
+        limits: (4, 4),
+        steps: &ENDED,
+    },
+    Closing {
+        name: "a client that never sends stalls a soft house until it ends",
+        mode: Mode::Soft,
+        rate: (2, 5),
+        limits: (4, 4),
+        steps: &SILENT,
+    },
+    Closing {
+        name: "a client that never sends stalls a throttled house until it ends",
+        mode: Mode::Throttled,
+        rate: (2, 5),
+        limits: (4, 4),
+        steps: &SILENT,
+    },
+    Closing {
+        name: "what a client that never ends sent to a soft house is not lost",
+        mode: Mode::Soft,
+        rate: (1, 4),
+        limits: (1, 4),
+        steps: &[
+            Step::Rows(&SENT),
+            Step::Close(100, Err(HouseError::Stalled)),
+            Step::Told(&TOLD),
+            Step::Rows(&[Row::Results(0, Ok(&[5, 7, 9])), Row::Now(3)]),
+            Step::Rows(&LAST),
+            Step::Close(100, Ok(())),
+            Step::Told(&ALL_TOLD),
+            Step::Rows(&[Row::Results(0, Ok(&[11])), Row::Now(4)]),
+        ],
+    },
+    Closing {
+        name: "what a client that never ends sent to a throttled house is not lost",
+        mode: Mode::Throttled,
+        rate: (1, 4),
+        limits: (1, 4),
+        // A unit at 0, at 4 and at 8; the last one comes when the budget has been used up, and waits until 12.
+        steps: &[
+            Step::Rows(&SENT),
+            Step::Close(100, Err(HouseError::Stalled)),
+            Step::Told(&TOLD),
+            Step::Rows(&[Row::Results(0, Ok(&[5, 7, 9])), Row::Now(9)]),
+            Step::Rows(&LAST),
+            Step::Close(100, Ok(())),
+            Step::Told(&ALL_TOLD),
+            Step::Rows(&[Row::Results(0, Ok(&[11])), Row::Now(13)]),
+        ],
+    },
+];
+
+#[test]
+fn each_house_stalls_or_closes(rt: HostRuntime) {
+    let alloc = rt.alloc();
+    for case in &CASES {
+        goes(&rt, alloc, case);
+    }
+}
+
+/// A house of two servers with 2 ticks in every 5 each, with a backlog and rings of two places, and its clients.
+pub fn two_clients(
+    rt: &impl Abort,
+    alloc: Global,
+    mode: Mode,
+) -> (House<SumJob>, Vec<Client<SumJob>>) {
+    let plan = plan_of(rt, &[(2, 5), (2, 5)]);
+    let modes = Modes::uniform(mode, plan.len() as u16);
+    let opened = open_house(alloc, plan, modes, 2, 2);
+    opened.ok().expect(rt, "a house")
+}
+
+/// The task of one unit of this number.
+pub fn unit_of(alloc: Global, number: u32) -> Option<Task<SumJob>> {
+    let numbers = Vec::from_slice(alloc, &[number]).ok()?;
+    Task::new(SumJob::new(numbers)).ok()
+}
+
+/// Sends a job, again and again while the ring is full. Whether it was sent.
+fn sends_at_last(client: &mut Client<SumJob>, task: Task<SumJob>) -> bool {
+    let mut task = task;
+    for _try in 0..PATIENCE {
+        match client.send(task) {
+            Ok(_number) => return true,
+            Err(refused) => task = refused.task,
+        }
+        yield_now();
+    }
+    false
+}
+
+/// Ends a client, again and again while the ring is full. Whether it has ended.
+fn ends_at_last(client: &mut Client<SumJob>) -> bool {
+    for _try in 0..PATIENCE {
+        if client.end() != Err(SendError::RingFull) {
+            return true;
+        }
+        yield_now();
+    }
+    false
+}
+
+/// Sends the jobs 0 to 9 of the client of server 0, and none of the others', and ends each. Whether all were sent.
+fn sends_ten(alloc: Global, clients: &mut [Client<SumJob>]) -> bool {
+    for client in clients {
+        if client.server() == 0 {
+            for number in 0..10 {
+                let Some(task) = unit_of(alloc, number) else {
+                    return false;
+                };
+                if !sends_at_last(client, task) {
+                    return false;
+                }
+            }
+        }
+        if !ends_at_last(client) {
+            return false;
+        }
+    }
+    true
+}
+
+/// The house and its clients at once, which start when the house has long been running.
+fn runs_with_late_clients<R: Threads + Clock + Sync + Abort>(
+    rt: &R,
+    alloc: Global,
+    house: &mut House<SumJob>,
+    clients: &mut [Client<SumJob>],
+    seen: &mut Seen,
+) {
+    let (sent, run) = join_mut(
+        rt,
+        &mut || -> bool
+            requires { IsSync R.row }
+        {
+            sleep(rt, Duration::from_micros(20_000));
+            sends_ten(alloc, clients)
+        },
+        &mut || -> Result<(), HouseError> { house.run_until_closed(rt, seen, PATIENCE) },
+    );
+    assert!(rt; sent);
+    same(rt, "run_until_closed", run, Ok(()));
+}
+
+#[test]
+fn late_clients_that_send_more_than_fits_are_finished(rt: HostRuntime) {
+    let alloc = rt.alloc();
+    for mode in [Mode::Soft, Mode::Throttled] {
+        let (mut house, mut clients) = two_clients(&rt, alloc, mode);
+        let mut seen = Seen::nothing(alloc);
+        runs_with_late_clients(&rt, alloc, &mut house, &mut clients, &mut seen);
+        gave(&rt, &house, 0, &[0, 1, 2, 3, 4, 5, 6, 7, 8, 9]);
+        gave(&rt, &house, 1, &[]);
+        let told = [0, 1, 2, 3, 4, 5, 6, 7, 8, 9].map(|number| (0, number, number));
+        was_told(&rt, ("late clients", 0), &seen, &told);
+    }
+}
+
+/// Sends two jobs, each a unit: of 10 times the client's server, and of one more.
+fn sends_two(rt: &impl Abort, alloc: Global, client: &mut Client<SumJob>) {
+    let first = 10 * u32::from(client.server());
+    sends(rt, client, sum_of(rt, alloc, &[first]), 0);
+    sends(rt, client, sum_of(rt, alloc, &[first + 1]), 1);
+}
+
+/// What a sink is told of two clients' jobs.
+const OF_TWO: [(u16, u64, u64); 4] = [(0, 0, 0), (0, 1, 1), (1, 0, 10), (1, 1, 11)];
+
+#[test]
+fn a_sink_is_told_in_the_order_of_the_completions(rt: HostRuntime) {
+    let alloc = rt.alloc();
+    let (mut house, mut clients) = two_clients(&rt, alloc, Mode::Soft);
+    let mut seen = Seen::nothing(alloc);
+    for client in &mut clients {
+        sends_two(&rt, alloc, client);
+    }
+    // Both have the deadline 5, and the first server's two units are a whole budget.
+    let sent = ("both have sent", 0);
+    closes(
+        &rt,
+        sent,
+        &mut house,
+        &mut seen,
+        (1, Err(HouseError::Stalled)),
+    );
+    was_told(&rt, sent, &seen, &OF_TWO);
+    for client in &mut clients {
+        ends(&rt, client, Ok(()));
+    }
+    let ended = ("both have ended", 1);
+    closes(&rt, ended, &mut house, &mut seen, (1, Ok(())));
+    was_told(&rt, ended, &seen, &OF_TWO);
+    stands_at(&rt, &house, 4);
+}

@@ -1,0 +1,260 @@
+//! Messages on their way from a client to the results.
+
+ghost use Rattle.cbs_clients.specs.Houses.{rings_of};
+ghost use Rattle.cbs_clients.specs.Clients.{IsOpened};
+
+use super::calls::{polls, sends};
+use super::rows::{Case, Opened, Row, does_all, plays_all};
+use super::{filled, plan_of, same, sum_of};
+use cbs_core::{Ran, ServerView};
+use cbs_house::{Client, House, HouseError, Poll, SendError, open_house};
+use cbs_job::SumJob;
+use cbs_rules::{LIMIT, Mode, Modes};
+use linked_list_allocator::LocalHeap;
+use std::alloc::{Allocator, Global};
+use std::process::Abort;
+
+/// A house of one server with this reservation, and its client.
+pub fn one_client<R: Abort, A: Allocator + Copy>(
+    rt: &R,
+    alloc: A,
+    mode: Mode,
+    rate: (u64, u64),
+    limits: (u64, u64),
+) -> (House<SumJob, A>, Client<SumJob, A>)
+    ensures { IsOpened (rings_of result.0) result.1 }
+{
+    let (backlog, ring) = limits;
+    let plan = plan_of(rt, &[rate]);
+    let modes = Modes::uniform(mode, plan.len() as u16);
+    let opened = open_house(alloc, plan, modes, backlog, ring);
+    let Ok((house, mut clients)) = opened else {
+        panic!(rt; "a house");
+    };
+    let Some(client) = clients.pop() else {
+        panic!(rt; "a client");
+    };
+    (house, client)
+}
+
+/// What is sent before the first poll.
+const SENT: [Row; 7] = [
+    Row::Send(&[5], 0),
+    Row::Send(&[7], 1),
+    Row::End(Ok(())),
+    Row::Refused(8, SendError::Ended),
+    Row::End(Err(SendError::Ended)),
+    Row::Client(0, 2, true),
+    Row::Settle(3),
+];
+
+/// The polls that take what was sent.
+const TAKEN: [Row; 3] = [
+    Row::Poll(0, Poll::Took(0)),
+    Row::Poll(0, Poll::Took(1)),
+    Row::Poll(0, Poll::Closed),
+];
+
+/// What the server shows that was closed with two jobs, when both are finished.
+const CLOSED: ServerView = ServerView {
+    budget: 2,
+    deadline: 10,
+    throttled: false,
+    closed: true,
+    accepted: 2,
+    finished: 2,
+};
+
+/// What is done with what was taken.
+const DRAINED: [Row; 10] = [
+    Row::Poll(0, Poll::Nothing),
+    Row::Settle(0),
+    Row::Drain(Ok(())),
+    Row::Results(0, Ok(&[5, 7])),
+    Row::Now(2),
+    Row::View(0, Ok(CLOSED)),
+    Row::IdleSpan(Some(LIMIT - 2)),
+    Row::Run(Ran::Idle),
+    Row::Advance(3, Ok(())),
+    Row::Now(5),
+];
+
+#[test]
+fn messages_are_taken_in_order(rt: HostRuntime) {
+    let alloc = rt.alloc();
+    let heap = LocalHeap::new(alloc, 1 << 14).expect(&rt, "a heap");
+    let mut opened = Opened::new(&rt, &heap, Mode::Soft, (2, 5), (4, 4));
+    // The polls that take a message alone want memory.
+    let ballast = filled(&rt, alloc, &heap);
+    opened.plays(&rt, alloc, "messages are sent", &SENT);
+    drop(ballast);
+    opened.plays(&rt, alloc, "messages are taken in order", &TAKEN);
+    let ballast = filled(&rt, alloc, &heap);
+    opened.plays(&rt, alloc, "what was taken is done", &DRAINED);
+    drop(ballast);
+}
+
+const CASES: [Case; 4] = [
+    Case {
+        name: "a client sees the free slots of its ring",
+        mode: Mode::Soft,
+        rate: (2, 5),
+        limits: (1, 4),
+        rows: &[
+            Row::Free(4),
+            Row::Send(&[5], 0),
+            Row::End(Ok(())),
+            Row::Free(2),
+            Row::Poll(0, Poll::Took(0)),
+            Row::Free(3),
+        ],
+    },
+    Case {
+        name: "a poll beside the client takes what it sent",
+        mode: Mode::Soft,
+        rate: (2, 5),
+        limits: (1, 4),
+        rows: &[
+            Row::Send(&[5], 0),
+            Row::Send(&[7], 1),
+            Row::End(Ok(())),
+            Row::PollBeside(Poll::Took(0)),
+            Row::PollBeside(Poll::Full),
+            Row::Drain(Ok(())),
+            Row::PollBeside(Poll::Took(1)),
+            Row::Drain(Ok(())),
+            Row::PollBeside(Poll::Closed),
+            Row::PollBeside(Poll::Nothing),
+            Row::Results(0, Ok(&[5, 7])),
+        ],
+    },
+    Case {
+        name: "a full ring and a full backlog lose nothing",
+        mode: Mode::Soft,
+        rate: (2, 5),
+        limits: (1, 1),
+        rows: &[
+            Row::Send(&[1], 0),
+            Row::Refused(2, SendError::RingFull),
+            Row::End(Err(SendError::RingFull)),
+            Row::Settle(1),
+            Row::Poll(0, Poll::Took(0)),
+            Row::Settle(0),
+            Row::Send(&[2], 1),
+            Row::Poll(0, Poll::Full),
+            Row::Settle(1),
+            Row::Done(0, 1),
+            Row::Poll(0, Poll::Took(1)),
+            Row::Poll(3, Poll::NoSuchServer),
+            Row::View(3, Err(HouseError::NoSuchServer)),
+            Row::Results(3, Err(HouseError::NoSuchServer)),
+        ],
+    },
+    Case {
+        name: "an end waits behind a full backlog",
+        mode: Mode::Soft,
+        rate: (2, 5),
+        limits: (1, 2),
+        rows: &[
+            Row::Send(&[1], 0),
+            Row::End(Ok(())),
+            Row::Settle(2),
+            Row::Poll(0, Poll::Took(0)),
+            Row::Poll(0, Poll::Full),
+            Row::Settle(1),
+            Row::Done(0, 1),
+            Row::Poll(0, Poll::Closed),
+            Row::Poll(0, Poll::Nothing),
+            Row::Refused(2, SendError::Ended),
+        ],
+    },
+];
+
+#[test]
+fn each_message_is_taken_or_waits(rt: HostRuntime) {
+    plays_all(&rt, rt.alloc(), &CASES);
+}
+
+/// Looks that a house with these limits is refused by this error.
+fn is_refused(rt: &impl Abort, alloc: Global, backlog: u64, ring: u64, error: HouseError) {
+    let plan = plan_of(rt, &[(2, 5)]);
+    let modes = Modes::uniform(Mode::Soft, plan.len() as u16);
+    let refused = open_house::<SumJob, _>(alloc, plan, modes, backlog, ring).err();
+    same(rt, "refused", refused, Some(error));
+}
+
+#[test]
+fn limits_are_tested_in_their_order(rt: HostRuntime) {
+    let alloc = rt.alloc();
+    is_refused(&rt, alloc, 0, 0, HouseError::BadBacklog);
+    is_refused(&rt, alloc, 4097, 4, HouseError::BadBacklog);
+    is_refused(&rt, alloc, 4, 0, HouseError::BadRing);
+    is_refused(&rt, alloc, 4, 1025, HouseError::BadRing);
+}
+
+/// A house of one throttled server with a tick in every 1000000000, to which a job of so many ones was
+/// sent, and taken by a poll.
+fn with_ones(rt: &impl Abort, alloc: Global, ones: &[u32]) -> House<SumJob> {
+    let (mut house, mut client) = one_client(
+        rt,
+        alloc,
+        Mode::Throttled,
+        (1, 1_000_000_000),
+        (4, 4),
+    );
+    sends(rt, &mut client, sum_of(rt, alloc, ones), 0);
+    polls(rt, &mut house, 0, Poll::Took(0));
+    house
+}
+
+/// What the server shows when its job of three units is finished.
+const WAITED: ServerView = ServerView {
+    budget: 0,
+    deadline: 3_000_000_000,
+    throttled: true,
+    closed: false,
+    accepted: 1,
+    finished: 1,
+};
+
+/// A job of three units is finished.
+const REPLENISHED: [Row; 5] = [
+    Row::Drain(Ok(())),
+    Row::Now(2_000_000_001),
+    Row::Results(0, Ok(&[3])),
+    Row::View(0, Ok(WAITED)),
+    Row::Advance(1, Ok(())),
+];
+
+#[test]
+fn a_drain_waits_for_replenishments(rt: HostRuntime) {
+    let mut house = with_ones(&rt, rt.alloc(), &[1, 1, 1]);
+    let name = "a drain waits for replenishments";
+    does_all(&rt, name, &mut house, &REPLENISHED);
+}
+
+/// What the server shows when the clock has ended.
+const UNFINISHED: ServerView = ServerView {
+    budget: 1,
+    deadline: 1_001_000_000_000,
+    throttled: false,
+    closed: false,
+    accepted: 1,
+    finished: 0,
+};
+
+/// A job of 1001 units is not finished.
+const ENDED: [Row; 5] = [
+    Row::Drain(Err(HouseError::ClockEnd)),
+    Row::Now(1_000_000_000_000),
+    Row::Results(0, Ok(&[])),
+    Row::View(0, Ok(UNFINISHED)),
+    Row::Advance(1, Err(HouseError::ClockEnd)),
+];
+
+#[test]
+fn the_clock_ends_with_a_job_unfinished(rt: HostRuntime) {
+    let mut house = with_ones(&rt, rt.alloc(), &[1; 1001]);
+    let name = "the clock ends with a job unfinished";
+    does_all(&rt, name, &mut house, &ENDED);
+}

@@ -1,0 +1,113 @@
+//! The bound on what a file may want of memory.
+
+use super::fakes::{Memory, Outcome, replays};
+use super::{FIRST, FIRST_LINES, same};
+use cbs_file::{FileFault, FileKind, Place, read_file, read_file_within, wants_within};
+use cbs_run::{Verb, memory_bound, run_bytes_within};
+use std::alloc::Global;
+use std::process::Abort;
+use std::thread::Threads;
+use std::time::Clock;
+
+/// Bytes, and what they want: 1400 for each dot, 750 for a `[`, 700 for a `=`, 500 for a `{`, 100 for a comma, 4 for another.
+const WANTED: [(&str, u64); 6] = [
+    ("ab\n", 12),
+    ("a=1", 708),
+    ("[a.b]", 2162),
+    ("{a=1},", 1312),
+    ("[[],[]]", 2362),
+    ("# a.b\n", 1420),
+];
+
+/// What the first example wants: 16 times 700, 5 times 500, 4 times 750, 11 times 100, and 193 times 4.
+const FIRST_WANTS: u64 = 18_572;
+
+#[test]
+fn bytes_want_the_sum_of_their_charges(rt: HostRuntime) {
+    for (bytes, wanted) in &WANTED {
+        want(&rt, bytes, *wanted);
+    }
+}
+
+/// Looks that bytes want so much of memory, and not less.
+fn want(rt: &impl Abort, bytes: &str, wanted: u64) {
+    let enough = wants_within(bytes.as_bytes(), wanted);
+    let too_little = wants_within(bytes.as_bytes(), wanted.saturating_sub(1));
+    same(rt, bytes, (enough, too_little), (true, false));
+}
+
+#[test]
+fn a_file_that_wants_more_than_the_bound_is_not_read(rt: HostRuntime) {
+    let alloc = rt.alloc();
+    let fault = read_file_within(alloc, FIRST_WANTS - 1, FIRST.as_bytes()).err();
+    let expected = FileFault {
+        kind: FileKind::OutOfMemory,
+        place: Place::Top,
+    };
+    same(&rt, "fault", fault, Some(expected));
+    let line = "cbsrun: file fault 7 OutOfMemory at top\n";
+    let too_little = ran_within(&rt, alloc, FIRST_WANTS - 1);
+    too_little.leaves(&rt, "too little", 3, "", line);
+    let enough = ran_within(&rt, alloc, FIRST_WANTS);
+    enough.leaves(&rt, "enough", 0, FIRST_LINES, "");
+}
+
+/// Replays the first example where a file may want so much of memory.
+fn ran_within<R: Threads + Clock + Sync>(rt: &R, alloc: Global, memory: u64) -> Outcome {
+    let mut out = Memory::ample(alloc);
+    let mut err = Memory::ample(alloc);
+    let (verb, file) = (Verb::Replay, FIRST.as_bytes());
+    let status = run_bytes_within(rt, alloc, memory, verb, file, &mut out, &mut err);
+    Outcome { status, out, err }
+}
+
+/// How many dots a comment after the first example has, so that the file wants just less than the bound.
+///
+/// The bound is 2147483648. The first example wants 18572 of it, and the `#` 4. So 2147465072 are left: 1533903
+/// times 1400, and 872.
+const DOTS: usize = 1_533_903;
+
+/// How many letters take the rest: 872 is 218 times 4.
+const LETTERS: usize = 218;
+
+/// Returns the first example with a comment after it that takes the rest of the bound.
+fn longest(rt: &impl Abort, alloc: Global) -> Vec<u8> {
+    let mut file = Vec::from_slice(alloc, FIRST.as_bytes()).expect(rt, "memory");
+    for (byte, count) in [(b'#', 1), (b'.', DOTS), (b'x', LETTERS)] {
+        for _ in 0..count {
+            file.push(byte).ok().expect(rt, "memory");
+        }
+    }
+    file
+}
+
+#[test]
+fn a_file_may_want_2_gib(rt: HostRuntime) {
+    let alloc = rt.alloc();
+    let mut file = longest(&rt, alloc);
+    same(&rt, "at 2 GiB", read_file(alloc, &file).is_ok(), true);
+    replays(&rt, alloc, "at 2 GiB", &file, 0, FIRST_LINES, "");
+    // A letter more wants 4 bytes more.
+    file.push(b'x').ok().expect(&rt, "memory");
+    let kind = read_file(alloc, &file).err().map(|fault| fault.kind);
+    same(&rt, "past 2 GiB", kind, Some(FileKind::OutOfMemory));
+    let line = "cbsrun: file fault 7 OutOfMemory at top\n";
+    replays(&rt, alloc, "past 2 GiB", &file, 3, "", line);
+}
+
+#[test]
+fn a_bound_is_a_whole_number_of_mebibytes(rt: HostRuntime) {
+    is_bound(&rt, "0", Some(0));
+    is_bound(&rt, "1", Some(1_048_576));
+    is_bound(&rt, "2048", Some(2_147_483_648));
+    is_bound(&rt, "18446744073709551615", Some(u64::MAX));
+    is_bound(&rt, "18446744073709551616", None);
+    is_bound(&rt, "", None);
+    is_bound(&rt, "-1", None);
+    is_bound(&rt, "2 GiB", None);
+}
+
+/// Looks which bound a text is, if it is one.
+fn is_bound(rt: &impl Abort, text: &str, bound: Option<u64>) {
+    same(rt, text, memory_bound(text).ok(), bound);
+}
