@@ -1,7 +1,7 @@
 //! Command lines.
 
 use super::same;
-use cbs_run::{Action, Verb, WordsFault, read_words};
+use cbs_run::{Action, Form, Verb, WordsFault, read_words};
 use std::alloc::Global;
 use std::process::Abort;
 
@@ -51,12 +51,14 @@ fn a_verb_and_a_file_are_wanted(rt: HostRuntime) {
     let alloc = rt.alloc();
     for (line, action) in &[
         ("cbsrun check a.toml", Action::Check),
-        ("cbsrun simulate a.toml", Action::Simulate),
+        ("cbsrun simulate a.toml", Action::Simulate(Form::Report)),
         ("cbsrun replay a.toml", Action::Run(Verb::Replay)),
         ("cbsrun serve a.toml", Action::Run(Verb::Serve)),
     ] {
         asks(&rt, alloc, line, *action, "a.toml");
     }
+    asks(&rt, alloc, "cbsrun check -", Action::Check, "-");
+    asks(&rt, alloc, "cbsrun check -- -V", Action::Check, "-V");
     for line in &[
         "",
         "cbsrun",
@@ -80,9 +82,57 @@ fn a_verb_and_a_file_are_wanted(rt: HostRuntime) {
         "cbsrun simulate --help",
         "cbsrun replay --help",
         "cbsrun serve --help",
+        "cbsrun help check",
+        "cbsrun --version",
+        "cbsrun -V",
     ] {
         refuses(&rt, alloc, line, 2, "Help");
     }
+}
+
+#[test]
+fn a_form_stands_before_or_after_the_file(rt: HostRuntime) {
+    let alloc = rt.alloc();
+    let trace = Action::Run(Verb::Replay);
+    for (line, action) in &[
+        ("cbsrun simulate --as report a.toml", Action::Simulate(Form::Report)),
+        ("cbsrun simulate a.toml --as json", Action::Simulate(Form::Json)),
+        ("cbsrun replay --as=lines a.toml", trace),
+        ("cbsrun replay a.toml --as=report", Action::Replay(Form::Report)),
+        ("cbsrun replay --as json -- a.toml", Action::Replay(Form::Json)),
+    ] {
+        asks(&rt, alloc, line, *action, "a.toml");
+    }
+    for line in &[
+        "cbsrun simulate --as lines a.toml",
+        "cbsrun simulate --as xml a.toml",
+        "cbsrun simulate --as",
+        "cbsrun simulate --as json --as json a.toml",
+        "cbsrun replay --as Report a.toml",
+        "cbsrun check --as json a.toml",
+        "cbsrun serve --as lines a.toml",
+    ] {
+        refuses(&rt, alloc, line, 1, "Usage");
+    }
+}
+
+#[test]
+fn an_unknown_form_is_named(rt: HostRuntime) {
+    let text = fault(&rt, rt.alloc(), "cbsrun replay --as xml a.toml", 1, "Usage");
+    let wanted = "error: invalid value 'xml' for '--as <FORMAT>'
+
+For more information, try 'cbsrun replay --help'.
+";
+    same(&rt, "text", text.as_str(), wanted);
+}
+
+#[test]
+fn the_version_names_the_toolchain(rt: HostRuntime) {
+    let text = fault(&rt, rt.alloc(), "cbsrun --version", 2, "Help");
+    let mut lines = text.lines();
+    same(&rt, "version", lines.next(), Some("cbsrun 0.1.0"));
+    let toolchain = lines.next().unwrap_or("");
+    assert!(rt; toolchain.starts_with("proved by "), "{toolchain}");
 }
 
 #[test]
@@ -97,6 +147,7 @@ fn help_teaches(rt: HostRuntime) {
         "serve",
         "task file",
         "units = [1, 2, 3]",
+        "cbsrun simulate LOAD.toml",
         "cbsrun check FIRST.toml",
         "cbsrun replay FIRST.toml",
         "cbsrun serve FIRST.toml",
