@@ -35,7 +35,10 @@ fn plan_of(bound: Bound, servers: &[Value]) -> Option<Plan> {
 fn refused_at<'a>(document: Document<'a>, number: u64) -> Option<Refused<'a>> {
     let number = usize::try_from(number).ok()?;
     let reservation = reservation_of(document.servers.get(number)?)?;
-    let mut plan = plan_of(bound_at(document.top).ok()?, document.servers.get(..number)?)?;
+    let mut plan = plan_of(
+        bound_at(document.top).ok()?,
+        document.servers.get(..number)?,
+    )?;
     let why = plan.admit(reservation).err()?;
     Some(Refused {
         number,

@@ -5,9 +5,8 @@ ghost use Rattle.std.specs.Prelude.{◌-◌, ◌<◌, ◌^◌};
 use cbs_run::{ByteOutput, FromRead, ReadError, read_all, write_pieces};
 use std::alloc::{AllocError, Global};
 use std::fmt::Write;
-use std::fs;
 use std::fs::File;
-use std::io;
+use std::{fs, io};
 
 /// The name of standard input.
 const STANDARD_INPUT: &str = "-";
@@ -60,9 +59,10 @@ fn reason(
         Unread::Opened(fault) if name == STANDARD_INPUT => {
             write!(text, "cannot read standard input: {fault}")?;
         }
-        Unread::Opened(ReadError::ReadFault) if fs::metadata(rt, name).is_ok_and(|m| m.is_dir()) => {
-            write!(text, "cannot read {name}: it is a folder")?;
-        }
+        Unread::Opened(ReadError::ReadFault) if fs::metadata(rt, name).is_ok_and(|m| m.is_dir()) =>
+            {
+                write!(text, "cannot read {name}: it is a folder")?;
+            }
         Unread::Opened(fault) => write!(text, "cannot read {name}: {fault}")?,
     }
     Ok(text)

@@ -95,11 +95,23 @@ fn a_form_stands_before_or_after_the_file(rt: HostRuntime) {
     let alloc = rt.alloc();
     let trace = Action::Run(Verb::Replay);
     for (line, action) in &[
-        ("cbsrun simulate --as report a.toml", Action::Simulate(Form::Report)),
-        ("cbsrun simulate a.toml --as json", Action::Simulate(Form::Json)),
+        (
+            "cbsrun simulate --as report a.toml",
+            Action::Simulate(Form::Report),
+        ),
+        (
+            "cbsrun simulate a.toml --as json",
+            Action::Simulate(Form::Json),
+        ),
         ("cbsrun replay --as=lines a.toml", trace),
-        ("cbsrun replay a.toml --as=report", Action::Replay(Form::Report)),
-        ("cbsrun replay --as json -- a.toml", Action::Replay(Form::Json)),
+        (
+            "cbsrun replay a.toml --as=report",
+            Action::Replay(Form::Report),
+        ),
+        (
+            "cbsrun replay --as json -- a.toml",
+            Action::Replay(Form::Json),
+        ),
     ] {
         asks(&rt, alloc, line, *action, "a.toml");
     }
