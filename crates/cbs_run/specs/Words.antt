@@ -5,7 +5,6 @@ use Rattle.cbs_run.specs.Verbs.{action_name, form_name}
 use Rattle.cbs_run.specs.declared.words.Action.{Action}
 use Rattle.cbs_run.specs.declared.words.Action.TheVariants as action
 use Rattle.cbs_run.specs.declared.words.Verb.TheVariants.{Replay, Serve}
-use Rattle.cbs_run.specs.declared.words.Form.{Form}
 use Rattle.cbs_run.specs.declared.words.Form.TheVariants.{Report}
 use Rattle.cbs_run.specs.declared.words.Asked.{Asked}
 use Rattle.cbs_run.specs.declared.words.WordsFault.{WordsFault}

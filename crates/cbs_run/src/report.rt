@@ -20,11 +20,7 @@ use cbs_print::{RunReport, report_text};
 use std::alloc::{AllocError, Global};
 
 /// Returns the text of a report in this form, of at most 64 servers.
-pub(crate) fn text_of(
-    alloc: Global,
-    form: Form,
-    report: &RunReport,
-) -> Result<String, AllocError>
+pub(crate) fn text_of(alloc: Global, form: Form, report: &RunReport) -> Result<String, AllocError>
     requires { length report.now.servers.items ≤ 64 }
     ensures { IfOk result (λ text. string_bytes text ≡ text_in form report.now) }
 {
