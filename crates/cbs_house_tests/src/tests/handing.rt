@@ -2,8 +2,8 @@
 
 use super::calls::{drains, polls, runs, sends};
 use super::polling::one_client;
-use super::rows::{Case, Opened, Row, hands_out, plays_all};
-use super::{filled, sum_of};
+use super::rows::{Case, Opened, Row, hands_out, plays_all, plays_full};
+use super::sum_of;
 use cbs_core::{Ran, ServerView};
 use cbs_house::{Client, House, HouseError, Poll};
 use cbs_job::{Completion, SumJob};
@@ -94,13 +94,11 @@ fn jobs_held_keep_the_places_of_their_results(rt: HostRuntime) {
     let heap = LocalHeap::new(alloc, 1 << 14).expect(&rt, "a heap");
     let mut opened = Opened::new(&rt, &heap, Mode::Soft, (2, 5), (4, 4));
     opened.plays(&rt, alloc, "jobs are held", &HELD);
-    let ballast = filled(&rt, alloc, &heap);
-    opened.plays(&rt, alloc, "no memory is found", &REFUSED);
-    drop(ballast);
+    let name = "no memory is found";
+    plays_full(&rt, alloc, &heap, &mut opened, name, &REFUSED);
     opened.plays(&rt, alloc, "memory is found", &HANDED);
-    let ballast = filled(&rt, alloc, &heap);
-    opened.plays(&rt, alloc, "jobs held keep their places", &FINISHED);
-    drop(ballast);
+    let name = "jobs held keep their places";
+    plays_full(&rt, alloc, &heap, &mut opened, name, &FINISHED);
 }
 
 /// Sends a job of a single unit, as the job of this number, and takes it.

@@ -1,7 +1,6 @@
 //! What is done where no memory is found.
 
-use super::filled;
-use super::rows::{Opened, Row};
+use super::rows::{Opened, Row, plays_full};
 use cbs_core::Ran;
 use cbs_house::Poll;
 use cbs_rules::Mode;
@@ -42,12 +41,10 @@ fn what_is_taken_is_done_without_memory(rt: HostRuntime) {
     let alloc = rt.alloc();
     let heap = LocalHeap::new(alloc, 1 << 14).expect(&rt, "a heap");
     let mut opened = Opened::new(&rt, &heap, Mode::Throttled, (2, 5), (4, 4));
-    let ballast = filled(&rt, alloc, &heap);
-    opened.plays(&rt, alloc, "no memory is found for a job", &REFUSED);
-    drop(ballast);
+    let name = "no memory is found for a job";
+    plays_full(&rt, alloc, &heap, &mut opened, name, &REFUSED);
     opened.plays(&rt, alloc, "a job is taken", &TAKEN);
-    let ballast = filled(&rt, alloc, &heap);
-    opened.plays(&rt, alloc, "no memory is found", &WITHOUT_MEMORY);
-    drop(ballast);
+    let name = "no memory is found";
+    plays_full(&rt, alloc, &heap, &mut opened, name, &WITHOUT_MEMORY);
     opened.plays(&rt, alloc, "memory is found", &WITH_MEMORY);
 }

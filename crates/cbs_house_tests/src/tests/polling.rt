@@ -4,8 +4,8 @@ ghost use Rattle.cbs_clients.specs.Houses.{rings_of};
 ghost use Rattle.cbs_clients.specs.Clients.{IsOpened};
 
 use super::calls::{polls, sends};
-use super::rows::{Case, Opened, Row, does_all, plays_all};
-use super::{filled, plan_of, same, sum_of};
+use super::rows::{Case, Opened, Row, does_all, plays_all, plays_full};
+use super::{plan_of, same, sum_of};
 use cbs_core::{Ran, ServerView};
 use cbs_house::{Client, House, HouseError, Poll, SendError, open_house};
 use cbs_job::SumJob;
@@ -85,13 +85,11 @@ fn messages_are_taken_in_order(rt: HostRuntime) {
     let heap = LocalHeap::new(alloc, 1 << 14).expect(&rt, "a heap");
     let mut opened = Opened::new(&rt, &heap, Mode::Soft, (2, 5), (4, 4));
     // The polls that take a message alone want memory.
-    let ballast = filled(&rt, alloc, &heap);
-    opened.plays(&rt, alloc, "messages are sent", &SENT);
-    drop(ballast);
+    let name = "messages are sent";
+    plays_full(&rt, alloc, &heap, &mut opened, name, &SENT);
     opened.plays(&rt, alloc, "messages are taken in order", &TAKEN);
-    let ballast = filled(&rt, alloc, &heap);
-    opened.plays(&rt, alloc, "what was taken is done", &DRAINED);
-    drop(ballast);
+    let name = "what was taken is done";
+    plays_full(&rt, alloc, &heap, &mut opened, name, &DRAINED);
 }
 
 const CASES: [Case; 4] = [

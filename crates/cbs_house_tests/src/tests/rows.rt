@@ -5,11 +5,12 @@ ghost use Rattle.cbs_clients.specs.Houses.{rings_of};
 ghost use Rattle.cbs_clients.specs.Clients.{IsOpened};
 
 use super::polling::one_client;
-use super::{same_at, sum_of};
+use super::{filled, same_at, sum_of};
 use cbs_core::{Ran, ServerView};
 use cbs_house::{Client, House, HouseError, Poll, SendError, Turn};
 use cbs_job::{Completion, SumJob};
 use cbs_rules::Mode;
+use linked_list_allocator::LocalHeap;
 use std::alloc::{Allocator, Global};
 use std::process::Abort;
 
@@ -163,6 +164,20 @@ impl<A: Allocator + Clone> Opened<A> {
             turns(rt, at, &mut self.house, (0, Ran::Idle, 0));
         }
     }
+}
+
+/// Makes the calls of these rows in turn while no memory of this heap is found, and looks at each answer.
+pub fn plays_full(
+    rt: &impl Abort,
+    alloc: Global,
+    heap: &LocalHeap,
+    opened: &mut Opened<&LocalHeap>,
+    name: &str,
+    rows: &[Row],
+) {
+    let ballast = filled(rt, alloc, heap);
+    opened.plays(rt, alloc, name, rows);
+    drop(ballast);
 }
 
 /// Makes the calls of these rows in turn, each of the house alone, and looks at each answer.
