@@ -5,10 +5,12 @@ use Rattle.cbs_load.specs.Loads.{LoadFile}
 use Rattle.cbs_rate.specs.Plan.{Planned, common_multiple}
 use Rattle.cbs_rules.specs.declared.mode.Mode.{Mode}
 use Rattle.cbs_size.specs.Budgets.{AreGreatest}
+use Rattle.cbs_size.specs.Lateness.{greatest_delay, BoundsLateness}
 use Rattle.cbs_size.specs.ServerLoads.{AreServerLoads}
 use Rattle.cbs_size.specs.declared.server_load.ServerLoad.{ServerLoad}
 use Rattle.cbs_text.specs.Columns.{columns_text}
 use Rattle.cbs_check.specs.Fractions.{fraction_text}
+use Rattle.cbs_check.specs.Lateness.{lateness_text}
 use Rattle.cbs_check.specs.Notes.{notes_text, set_off}
 use Rattle.cbs_check.specs.Servers.{reserved, servers_table}
 use Rattle.cbs_check.specs.Sources.{sources_text}
@@ -38,7 +40,8 @@ plan_text names modes plan budgets =
 -- what is told of a load, by the greatest budgets of its servers and by what is told of their sources
 abbrev pub load_text : LoadFile → List ℕ → List ServerLoad → List ℕ
 load_text f budgets loads =
-    plan_text f.names f.modes f.plan budgets ++ sources_text f.names f.plan.rates loads f.sources ++ set_off (notes_text f.names f.plan.rates loads)
+    plan_text f.names f.modes f.plan budgets ++ sources_text f.names f.plan.rates loads f.sources ++ lateness_text f
+    ++ set_off (notes_text f.names f.plan.rates loads)
 
 -- the names of servers that have none of their own
 abbrev pub numbered : ℕ → List (List ℕ)
@@ -55,11 +58,13 @@ pub record IsPlanText (plan : Planned) (modes : List Mode) (text : List ℕ) : T
   pub split : IsSplit plan
   pub text_is : text ≡ plan_text (numbered (length plan.rates)) modes plan budgets
 
--- the text of a load: by the greatest budget of each server, what its sources ask for, and what is promised of them
+-- the text of a load: by the greatest budget of each server, what its sources ask for, and what is promised of them. By what is told
+-- of overruns, no server is ever later
 pub record IsLoadText (f : LoadFile) (text : List ℕ) : Type 0 where
   pub budgets : List ℕ
   pub loads : List ServerLoad
   pub greatest : AreGreatest f.plan (length f.plan.rates) budgets
   pub told : AreServerLoads f (length f.plan.rates) loads
   pub split : IsSplit f.plan
+  pub late : BoundsLateness f (greatest_delay f)
   pub text_is : text ≡ load_text f budgets loads

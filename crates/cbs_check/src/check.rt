@@ -4,6 +4,7 @@ ghost use Rattle.std.specs.Prelude.{◌≡◌, ◌++◌, length, map, IfOk, OnOk
 ghost use Rattle.cbs_check.specs.Checks.{left_over, fits_text, periods_text, plan_text, numbered, IsPlanText, IsLoadText};
 
 use crate::fractions::append_fraction;
+use crate::lateness::append_lateness;
 use crate::notes::append_notes;
 use crate::numbers::append_pair;
 use crate::servers::append_servers;
@@ -114,7 +115,8 @@ pub fn check_plan(alloc: Global, plan: &Plan, modes: &Modes) -> Result<String, A
 /// Returns what is told of a load, as text: first of its servers, as by [`check_plan`].
 ///
 /// A table of its sources follows, if it has any: what each may ask for, and whether its jobs are in time always, whatever the others
-/// do. A note stands for each server whose sources may ask for more than it has. The only error is out of memory.
+/// do. If units may overrun, a line says how late they can make a server. A note stands for each server whose sources may ask for
+/// more than it has. The only error is out of memory.
 pub fn check_load(alloc: Global, load: &Load) -> Result<String, AllocError>
     ensures { IfOk result (λ text. IsLoadText load.now (string_bytes text)) }
 {
@@ -130,6 +132,7 @@ pub fn check_load(alloc: Global, load: &Load) -> Result<String, AllocError>
         &budgets,
     )?;
     append_sources(alloc, &mut text, load, &loads)?;
+    append_lateness(&mut text, load)?;
     append_notes(alloc, &mut text, load, &loads)?;
     Ok(text)
 }

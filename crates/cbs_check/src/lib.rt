@@ -4,6 +4,7 @@
 mod cells;
 mod check;
 mod fractions;
+mod lateness;
 mod notes;
 mod numbers;
 mod servers;

@@ -276,6 +276,8 @@ SOURCE OF  units  every   asks  share  within  in time always
 alone          3     20   3/20    2/5      20      yes, by 20
 other          1    100  1/100   1/10      60    not promised
 third          2     20   1/10    1/4      14      yes, by 14
+
+Units that overrun make a server late by at most 6 ticks.
 ";
 
 /// Jobs that come a tick too close together.
@@ -351,6 +353,130 @@ note: what the sources of fine ask for is not summed:
       the ticks between their jobs share too few factors
 ";
 
+/// Two servers, of which one overruns: it delays the other.
+const LATE: &str = "\
+load = 1
+bound = [1, 1]
+backlog = 2
+until = 200
+[[server]]
+name = \"first\"
+mode = \"soft\"
+budget = 1
+period = 4
+[[source]]
+server = \"first\"
+every = 20
+units = 1
+overrun = 3
+within = 20
+[[server]]
+name = \"second\"
+mode = \"soft\"
+budget = 1
+period = 4
+[[source]]
+server = \"second\"
+every = 8
+units = 1
+within = 8
+";
+
+/// What is told of it.
+const LATE_TEXT: &str = "\
+fits: 1/2 of the time is reserved, 1/2 is left under the bound 1/1
+
+SERVER  mode  budget  period  share          greatest budget
+first   soft       1       4    1/4  25.0 %                3
+second  soft       1       4    1/4  25.0 %                3
+all                             1/2  50.0 %
+
+The periods come together every 4 ticks.
+
+SOURCE OF  units  every  asks  share  within  in time always
+first          1     20  1/20    1/4      20      yes, by 16
+second         1      8   1/8    1/4       8       yes, by 7
+
+Units that overrun make a server late by at most 3 ticks.
+";
+
+/// A server alone, which overruns and asks for too much: nobody delays it.
+const ALONE: &str = "\
+load = 1
+bound = [1, 1]
+backlog = 2
+until = 200
+[[server]]
+name = \"alone\"
+mode = \"soft\"
+budget = 1
+period = 4
+[[source]]
+server = \"alone\"
+every = 2
+units = 1
+overrun = [0, 5]
+";
+
+/// What is told of it.
+const ALONE_TEXT: &str = "\
+fits: 1/4 of the time is reserved, 3/4 is left under the bound 1/1
+
+SERVER  mode  budget  period  share          greatest budget
+alone   soft       1       4    1/4  25.0 %                4
+all                             1/4  25.0 %
+
+The periods come together every 4 ticks.
+
+SOURCE OF  units  every  asks  share  within  in time always
+alone          1      2   1/2!   1/4       4    not promised
+
+Overruns make no server late.
+
+note: alone may ask for 1/2 of the time and has 1/4 reserved;
+      2 in every 4 would cover it
+";
+
+/// Two servers, of which one overruns by a tick.
+const A_TICK: &str = "\
+load = 1
+bound = [1, 1]
+backlog = 2
+until = 200
+[[server]]
+name = \"plain\"
+mode = \"soft\"
+budget = 1
+period = 4
+[[server]]
+name = \"other\"
+mode = \"throttled\"
+budget = 1
+period = 4
+[[source]]
+server = \"other\"
+every = 8
+units = 1
+overrun = [0, 1]
+";
+
+/// What is told of it.
+const A_TICK_TEXT: &str = "\
+fits: 1/2 of the time is reserved, 1/2 is left under the bound 1/1
+
+SERVER       mode  budget  period  share          greatest budget
+plain        soft       1       4    1/4  25.0 %                3
+other   throttled       1       4    1/4  25.0 %                3
+all                                  1/2  50.0 %
+
+The periods come together every 4 ticks.
+
+SOURCE OF  units  every  asks  share  within  in time always
+other          1      8   1/8    1/4       4    not promised
+
+Units that overrun make a server late by at most 1 tick.
+";
+
 /// Tests what is told of a load.
 fn tells(rt: &impl Abort, alloc: Global, toml: &str, wanted: &str) {
     let load = read_load(alloc, toml.as_bytes()).ok().expect(rt, "a load");
@@ -376,6 +502,13 @@ fn two_sources_of_one_server(rt: HostRuntime) {
 #[test]
 fn overruns_delay_the_others(rt: HostRuntime) {
     tells(&rt, rt.alloc(), OVERRUNS, OVERRUNS_TEXT);
+}
+
+#[test]
+fn overruns_make_others_late(rt: HostRuntime) {
+    tells(&rt, rt.alloc(), LATE, LATE_TEXT);
+    tells(&rt, rt.alloc(), ALONE, ALONE_TEXT);
+    tells(&rt, rt.alloc(), A_TICK, A_TICK_TEXT);
 }
 
 #[test]

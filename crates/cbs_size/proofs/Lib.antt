@@ -3,3 +3,4 @@ pub mod Removed
 pub mod Joins
 pub mod Charges
 pub mod Greatest
+pub mod LateServers

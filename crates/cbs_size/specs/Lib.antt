@@ -2,3 +2,4 @@ pub mod Budgets
 pub mod Asked
 pub mod Joined
 pub mod ServerLoads
+pub mod Lateness

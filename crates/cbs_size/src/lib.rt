@@ -5,6 +5,7 @@
 mod asked;
 mod budgets;
 mod divisor;
+mod lateness;
 mod server_load;
 #[cfg(test)]
 mod tests;
@@ -12,4 +13,5 @@ mod tests;
 pub use asked::Asked;
 pub use budgets::greatest_budgets;
 pub use divisor::greatest_common_divisor;
+pub use lateness::greatest_delay;
 pub use server_load::{ServerLoad, server_loads};

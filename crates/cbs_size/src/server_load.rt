@@ -60,7 +60,7 @@ fn sources_of(
 }
 
 /// Returns the most ticks that a unit of a server is charged: the greatest overrun of its sources.
-fn most_charged(sources: &[SourceTerms], server: u16) -> u64
+pub(crate) fn most_charged(sources: &[SourceTerms], server: u16) -> u64
     ensures { result ≡ most_charged sources.now server }
 {
     let mut most = 0;
@@ -73,7 +73,7 @@ fn most_charged(sources: &[SourceTerms], server: u16) -> u64
 }
 
 /// Returns the most that each server is charged for one unit, all together.
-fn all_charges(sources: &[SourceTerms], servers: u16) -> u128
+pub(crate) fn all_charges(sources: &[SourceTerms], servers: u16) -> u128
     ensures { result ≡ all_charges sources.now servers }
 {
     let mut charges = 0;

@@ -1,6 +1,8 @@
 //! The numbers of a robot's load, by hand.
 
-use crate::{Asked, ServerLoad, greatest_budgets, greatest_common_divisor, server_loads};
+use crate::{
+    Asked, ServerLoad, greatest_budgets, greatest_common_divisor, greatest_delay, server_loads,
+};
 use cbs_load::read_load;
 
 /// Control, vision, a throttled lidar, and bursts of logging, which overrun.
@@ -69,6 +71,59 @@ fn numbers_of_a_robot(rt: HostRuntime) {
         promised: None,
     };
     assert!(rt; loads[..] == [control, vision, logging]);
+    // nobody else delays logging, which delays both others
+    assert!(rt; greatest_delay(&load) == 7);
+}
+
+/// Three servers, each of which overruns.
+const ALL_OVERRUN: &str = "\
+load = 1
+bound = [1, 1]
+backlog = 4
+until = 200
+[[server]]
+name = \"a\"
+mode = \"soft\"
+budget = 1
+period = 5
+[[source]]
+server = \"a\"
+every = 12
+units = 1
+overrun = 4
+[[server]]
+name = \"b\"
+mode = \"soft\"
+budget = 1
+period = 5
+[[source]]
+server = \"b\"
+every = 12
+units = 1
+overrun = [0, 2]
+[[source]]
+server = \"b\"
+every = 12
+units = 1
+[[server]]
+name = \"c\"
+mode = \"throttled\"
+budget = 1
+period = 5
+[[source]]
+server = \"c\"
+every = 12
+units = 1
+overrun = [1, 3]
+";
+
+#[test]
+fn the_greatest_delay(rt: HostRuntime) {
+    let load = read_load(rt.alloc(), ALL_OVERRUN.as_bytes())
+        .ok()
+        .expect(&rt, "a load");
+    // a is delayed by 2 + 3 ticks, b by 4 + 3, c by 4 + 2
+    assert!(rt; greatest_delay(&load) == 7);
 }
 
 #[test]

@@ -1,4 +1,5 @@
 use Rattle.std.proofs.Common.{refl}
+use Rattle.cbs_size.proofs.LateServers.{bounded}
 use Rattle.cbs_check.proofs.Plans.{split_of}
 use Rattle.cbs_check.proofs.check.check_load.Goals as goal
 
@@ -9,8 +10,10 @@ returns c = record {
   greatest = rw c.plan.ensures at c.in_ok-budgets.ensures.greatest;
   told = c.in_ok-loads.ensures;
   split = split_of c.args.load.now.plan (rw c.plan.ensures at c.in_ok-budgets.ensures.lawful);
+  late = bounded c.args.load.now (rw c.plan.ensures at c.in_ok-budgets.ensures.lawful) c.names.ensures.lawful.moded;
   text_is = rw (
     c.in_ok-append_notes.ensures,
+    c.in_ok-append_lateness.ensures,
     c.in_ok-append_sources.ensures,
     c.in_ok-append_plan.ensures,
     c.new-text.ensures.bytes,

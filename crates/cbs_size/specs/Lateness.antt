@@ -1,0 +1,36 @@
+-- How late overruns can make the servers of a load.
+use Rattle.std.specs.Prelude.{◌≡◌, ℕ, ◌+◌, ◌≤◌, ◌<◌, true, max, List, length}
+use Rattle.std.specs.List.{fold, range_with_len}
+use Rattle.cbs_load.specs.Loads.{LoadFile}
+use Rattle.cbs_simulate.specs.Loading.{loading}
+use Rattle.cbs_simulate.specs.declared.load_job.LoadJob.{LoadJob}
+use Rattle.cbs_steps.specs.Accounts.{face_of}
+use Rattle.cbs_steps.specs.Faces.{is_ready}
+use Rattle.cbs_steps.specs.History.{World, History, account, world_after}
+use Rattle.cbs_steps.specs.Quiet.{AdvanceQuietly}
+use Rattle.cbs_steps.specs.Setups.{terms_of}
+use Rattle.cbs_steps.specs.declared.step.Step.{Step}
+use Rattle.cbs_size.specs.ServerLoads.{most_charged, delay_of}
+
+-- the greatest of the delays of all servers by the others; 0 if there is no server
+abbrev pub greatest_delay : LoadFile → ℕ
+greatest_delay f = fold (λ most s. max most (delay_of f s)) 0 (range_with_len 0 (length f.plan.rates))
+
+-- the servers of a load, and what they were given to do, the newest step first
+abbrev pub history_of : LoadFile → List (Step LoadJob) → History LoadJob
+history_of f steps = record { setup = record { servers = terms_of f.modes f.plan.rates; backlog = f.backlog }; steps = steps }
+
+-- no server was charged more for one unit than its sources may overrun
+abbrev pub IsChargedWithin : LoadFile → World LoadJob → Type 0
+IsChargedWithin f w = (s : ℕ) → s < length w.accounts → (account w.accounts s).charges.most ≤ most_charged f.sources s
+
+-- if a server is ready, its deadline has passed by less than n ticks
+abbrev pub AreLateByLess : ℕ → World LoadJob → Type 0
+AreLateByLess n w = (s : ℕ) → s < length w.accounts → is_ready (face_of loading (account w.accounts s)) ≡ true
+    → w.now < (account w.accounts s).state.deadline + n
+
+-- Whatever the servers of a load are given to do: if each advance was quiet, and none was charged more for one unit than its sources
+-- may overrun, each unit begins less than n ticks after the deadline of its server.
+abbrev pub BoundsLateness : LoadFile → ℕ → Type 0
+BoundsLateness f n = (steps : List (Step LoadJob)) → AdvanceQuietly loading (history_of f steps).setup steps
+    → IsChargedWithin f (world_after loading (history_of f steps)) → AreLateByLess n (world_after loading (history_of f steps))

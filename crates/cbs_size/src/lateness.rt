@@ -1,0 +1,24 @@
+//! How late overruns can make the servers of a load.
+
+ghost use Rattle.std.specs.Prelude.{◌≡◌};
+ghost use Rattle.cbs_size.specs.Lateness.{greatest_delay, BoundsLateness};
+
+use crate::server_load::{all_charges, most_charged};
+use cbs_load::Load;
+
+/// Returns by how many ticks units that overrun can make a server of a load late, at most: the greatest of the delays of all
+/// servers by the others. The others delay a server by the most that each of them is charged for one unit, all together.
+pub fn greatest_delay(load: &Load) -> u128
+    ensures value { result ≡ greatest_delay load.now }
+    ensures bounds { BoundsLateness load.now result }
+{
+    let sources = load.sources();
+    let servers = load.plan().len() as u16;
+    let charges = all_charges(sources, servers);
+    let mut greatest = 0;
+    for server in 0..servers {
+        let delay = charges.saturating_sub(u128::from(most_charged(sources, server)));
+        greatest = greatest.max(delay);
+    }
+    greatest
+}
