@@ -4,6 +4,7 @@ mod errors;
 mod fakes;
 mod files;
 mod memory;
+mod printing;
 mod serving;
 mod shapes;
 mod streams;

@@ -1,0 +1,186 @@
+//! Texts that are printed of a file: what `check` says of it, and reports.
+
+use super::fakes::{Memory, Outcome};
+use cbs_run::{Form, check_bytes_within, report_bytes_within, simulate_bytes_within};
+use std::alloc::Global;
+
+/// Ample memory for a file.
+const MEMORY: u64 = 1 << 30;
+
+const TASKS: &str = "format = 2
+bound = [1, 1]
+backlog = 2
+ring = 1
+server = [{ budget = 1, period = 2, mode = \"soft\" }]
+step = [
+  { op = \"submit\", server = 0, job = \"sum\", units = [5] },
+  { op = \"run\" },
+  { op = \"advance\", ticks = 3 },
+]
+";
+
+const LOAD: &str = "load = 1
+bound = [1, 1]
+backlog = 2
+until = 4
+server = [{ name = \"a\", mode = \"soft\", budget = 1, period = 2 }]
+source = [{ server = \"a\", every = 2, units = 1 }]
+";
+
+const TASKS_CHECKED: &str = "fits: 1/2 of the time is reserved, 1/2 is left under the bound 1/1
+
+SERVER    mode  budget  period  share          greatest budget
+server 0  soft       1       2    1/2  50.0 %                2
+all                               1/2  50.0 %
+
+The periods come together every 2 ticks.
+";
+
+const LOAD_CHECKED: &str = "fits: 1/2 of the time is reserved, 1/2 is left under the bound 1/1
+
+SERVER  mode  budget  period  share          greatest budget
+a       soft       1       2    1/2  50.0 %                2
+all                             1/2  50.0 %
+
+The periods come together every 2 ticks.
+
+SOURCE OF  units  every  asks  share  within  in time always
+a              1      2   1/2    1/2       2       yes, by 2
+";
+
+const LOAD_REPORTED: &str = "in time: no job late, none refused, of 2
+
+a.toml, ticks 0 to 4: 2 run (50.0 %), 2 idle
+
+JOBS  released  refused  finished  unfinished  late  backlog
+a            2        0         2           0     0   1 of 2
+all          2        0         2           0     0
+
+TICKS  budget  reserved   asked     got  run  used up  throttled
+a      1 in 2    50.0 %  50.0 %  50.0 %    2        2          0
+all              50.0 %  50.0 %  50.0 %    2        2          0
+
+RESPONSE  least  mean  median  95 %  99 %  greatest  within
+a             1   1.0       1     1     1         1       2
+
+EARLY  least  mean
+a          1   1.0
+";
+
+const TASKS_REPORTED: &str = "in time: no job late, none refused, of 1
+
+a.toml, ticks 0 to 4: 1 run (25.0 %), 3 idle
+
+JOBS      released  refused  finished  unfinished  late  backlog
+server 0         1        0         1           0     -   1 of 2
+all              1        0         1           0     0
+
+TICKS     budget  reserved   asked     got  run  used up  throttled
+server 0  1 in 2    50.0 %  25.0 %  25.0 %    1        1          0
+all                 50.0 %  25.0 %  25.0 %    1        1          0
+
+RESPONSE  least  mean  median  95 %  99 %  greatest  within
+server 0      1   1.0       1     1     1         1       -
+
+EARLY     least  mean
+server 0      1   1.0
+";
+
+const TASKS_AS_JSON: &str =
+    "{\"backlog\":2,\"bound\":[1,1],\"clock\":4,\"file\":\"a.toml\",\"in_time\":true,\
+\"jobs\":{\"finished\":1,\"late_finished\":0,\"late_unfinished\":0,\"refused\":0,\"released\":1,\"unfinished\":0},\
+\"report\":1,\"reserved\":[1,2],\"seed\":null,\"servers\":[{\"budget\":1,\"charged_ticks\":{\"all\":0,\"greatest\":0},\
+\"early_ticks\":{\"least\":1,\"mean\":[1,1]},\"exhaustions\":1,\"greatest_backlog\":1,\
+\"jobs\":{\"finished\":1,\"late_finished\":0,\"late_unfinished\":0,\"refused\":0,\"released\":1,\"unfinished\":0},\
+\"mode\":\"soft\",\"name\":\"server 0\",\"period\":2,\
+\"response_ticks\":{\"greatest\":1,\"least\":1,\"mean\":[1,1],\"median\":1,\"p95\":1,\"p99\":1},\
+\"throttled_with_job_ticks\":0,\"units\":{\"asked\":1,\"run\":1},\"within_ticks\":null}],\
+\"ticks\":{\"charged\":0,\"idle\":3,\"run\":1},\"unit\":\"tick\"}\n";
+
+const FAULT: &str = "cbsrun: file fault 5 OutOfRange at top\n";
+
+const LOAD_EXPLAINED: &str = "cbsrun: file fault 5 OutOfRange at top
+
+error: `load` is 2, and has to be 1
+  --> a.toml: top
+  |
+  | load = 2
+  |        ^ 1
+";
+
+const TASKS_EXPLAINED: &str = "cbsrun: file fault 5 OutOfRange at top
+
+error: `format` is 3, and has to be 1 or 2
+  --> a.toml: top
+  |
+  | format = 3
+  |          ^ 1 to 2
+";
+
+/// What is asked of a file.
+#[derive(Clone, Copy)]
+enum Asked {
+    Check,
+    Simulate(Form),
+    Replay(Form),
+}
+
+/// Prints what is asked of a file, which may want so much memory, to a writer with room for so many bytes.
+fn printed(alloc: Global, asked: Asked, memory: u64, file: &str, room: usize) -> Outcome {
+    let mut out = Memory::new(alloc, room, usize::MAX);
+    let mut err = Memory::ample(alloc);
+    let bytes = file.as_bytes();
+    let name = "a.toml";
+    let status = match asked {
+        Asked::Check => check_bytes_within(alloc, memory, name, bytes, &mut out, &mut err),
+        Asked::Simulate(form) => {
+            simulate_bytes_within(alloc, memory, form, name, bytes, &mut out, &mut err)
+        }
+        Asked::Replay(form) => {
+            report_bytes_within(alloc, memory, form, name, bytes, &mut out, &mut err)
+        }
+    };
+    Outcome { status, out, err }
+}
+
+#[test]
+fn a_text_is_printed_whole(rt: HostRuntime) {
+    let alloc = rt.alloc();
+    for (asked, file, text) in &[
+        (Asked::Check, TASKS, TASKS_CHECKED),
+        (Asked::Check, LOAD, LOAD_CHECKED),
+        (Asked::Simulate(Form::Report), LOAD, LOAD_REPORTED),
+        (Asked::Replay(Form::Report), TASKS, TASKS_REPORTED),
+        (Asked::Replay(Form::Json), TASKS, TASKS_AS_JSON),
+    ] {
+        printed(alloc, *asked, MEMORY, file, usize::MAX).leaves(&rt, text, 0, text, "");
+    }
+}
+
+#[test]
+fn a_writer_that_fails_has_a_prefix(rt: HostRuntime) {
+    let alloc = rt.alloc();
+    let fault = "cbsrun: run fault 2 WriteFault\n";
+    for (asked, file, prefix) in &[
+        (Asked::Check, LOAD, "fits:"),
+        (Asked::Simulate(Form::Json), LOAD, "{\"bac"),
+        (Asked::Replay(Form::Report), TASKS, "in ti"),
+    ] {
+        printed(alloc, *asked, MEMORY, file, 5).leaves(&rt, prefix, 4, prefix, fault);
+    }
+}
+
+#[test]
+fn a_fault_is_explained_if_there_is_memory(rt: HostRuntime) {
+    let alloc = rt.alloc();
+    let no_memory = "cbsrun: file fault 7 OutOfMemory at top\n";
+    for (asked, file, explained) in &[
+        (Asked::Check, "load = 2\n", LOAD_EXPLAINED),
+        (Asked::Simulate(Form::Report), "load = 2\n", LOAD_EXPLAINED),
+        (Asked::Replay(Form::Report), "format = 3\n", TASKS_EXPLAINED),
+    ] {
+        assert!(rt; explained.starts_with(FAULT), "{explained}");
+        printed(alloc, *asked, MEMORY, file, 0).leaves(&rt, explained, 3, "", explained);
+        printed(alloc, *asked, 10, file, 0).leaves(&rt, no_memory, 3, "", no_memory);
+    }
+}
