@@ -1,3 +1,5 @@
 mod Runs
+mod Waits
+mod WaitingMoves
 mod Servers
 mod TaskSteps
