@@ -73,7 +73,7 @@ module _ (s : ℕ) where
       rw (of, is) (view_there v.accounts s lt)
 
   -- what is shown after a jump
-  shown_jump : (n : ℕ) (u : World LoadJob) → shows (jumped n u) s ≡ with_replenishment (u.now + n) (shows u s)
+  pub shown_jump : (n : ℕ) (u : World LoadJob) → shows (jumped n u) s ≡ with_replenishment (u.now + n) (shows u s)
   shown_jump n u = ap (face_of loading) (replenished_account (u.now + n) u.accounts s)
 
   ahead_jump : (n : ℕ) (u : World LoadJob) → IsAhead (u.now + n) (shows (jumped n u) s)
