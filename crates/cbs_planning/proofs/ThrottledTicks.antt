@@ -1,29 +1,39 @@
 -- What is reckoned of a server's own steps are the ticks at which it waits.
 use Rattle.std.proofs.Common.{◌≡◌, ℕ, zero, suc, ◌+◌, ◌-◌, ◌≤◌, ◌<◌, Bool, true, false, not, ◌&&◌, leb, ltb, List, [], ◌∷◌, length, map, arith, refl, ap, sym, subst, ◌∙◌, inl, inr, Option, Some, None}
-use Rattle.std.specs.Prelude.{if◌then◌else◌}
 use Rattle.std.proofs.lemmas.Bool.Decides.{nat_tests}
 use Rattle.std.proofs.lemmas.List.{length-map}
+use Rattle.cbs_core.specs.Held.{CoreHeld}
+use Rattle.cbs_load.specs.Loads.{LoadFile}
+use Rattle.cbs_rate.specs.Plan.{Planned}
+use Rattle.cbs_rate.specs.Rate.{Rate}
 use Rattle.cbs_rules.specs.Rules.{Terms, clock_end}
+use Rattle.cbs_rules.specs.declared.mode.Mode.{Mode}
 use Rattle.cbs_simulate.specs.Loading.{loading, job_of}
 use Rattle.cbs_simulate.specs.MoveLaws.{AllMoves, ChargesOwed, IsGranted}
-use Rattle.cbs_simulate.specs.Moves.{Move, submit, run, pass, charge, step_of, Simulation, clock_of, after_move, after_moves}
+use Rattle.cbs_simulate.specs.Drawing.{released_by_all}
+use Rattle.cbs_simulate.specs.Merging.{merged}
+use Rattle.cbs_simulate.specs.Moves.{Move, submit, run, pass, charge, step_of, Simulation, clock_of, after_move, after_moves, moves_of}
 use Rattle.cbs_simulate.specs.Shown.{Sight, answer_in, promised_in, sight_of, shown}
+use Rattle.cbs_simulate.specs.Simulating.{Simulates}
 use Rattle.cbs_simulate.specs.declared.load_job.LoadJob.{LoadJob}
+use Rattle.cbs_simulate.specs.declared.release.Release.{Release}
 use Rattle.cbs_steps.specs.Accounts.{face_of, new_account}
-use Rattle.cbs_steps.specs.Faces.{Face, submit_refusal}
-use Rattle.cbs_steps.specs.History.{World, Setup, History, account, chosen, faces, ticks, after_charging, charge_refusal, charge_reply, world_after, reply_in}
+use Rattle.cbs_steps.specs.Faces.{submit_refusal}
+use Rattle.cbs_steps.specs.History.{World, History, account, chosen, faces, ticks, after_charging, charge_refusal, charge_reply, world_after, reply_in}
 use Rattle.cbs_steps.specs.OnTime.{IsAhead}
+use Rattle.cbs_steps.specs.Setups.{terms_of}
 use Rattle.cbs_steps.specs.declared.error.CoreError.{CoreError}
-use Rattle.cbs_steps.specs.declared.reply.Reply.{Reply}
 use Rattle.cbs_steps.specs.declared.reply.Reply.TheVariants as reply
 use Rattle.cbs_steps.proofs.OnTime.{reservation, rates_after}
-use Rattle.cbs_steps.proofs.Ticks.{jumped, ticks_none, ticks_some}
-use Rattle.cbs_report.specs.Figures.{is_server, steps_of, throttled, waited, one_if}
-use Rattle.cbs_views.specs.Events.{server_of, begun}
+use Rattle.cbs_steps.proofs.Ticks.{ticks_none, ticks_some}
+use Rattle.cbs_report.specs.Figures.{steps_of, throttled, waited}
+use Rattle.cbs_views.specs.Events.{begun}
 use Rattle.cbs_views.specs.declared.seen.Event.TheVariants as event
 use Rattle.cbs_views.specs.declared.seen.Seen.{Seen}
+use Rattle.cbs_planning.specs.Loads.{start_of, withins, AreThrottled}
 use Rattle.cbs_planning.specs.Sights.{seen_of}
 use Rattle.cbs_planning.specs.Throttled.{is_waiting, shows, is_charge_of, waits_in, waits_at, count_ticks}
+use Rattle.cbs_planning.proofs.Runs.{simulation}
 use Rattle.cbs_planning.proofs.Waits.{passed, wait, waited_is, wait_none, wait_more, wait_counted}
 use Rattle.cbs_planning.proofs.WaitingMoves.{IsOwn, IsOther, Leaves, seen_as, shown_jump, run_leaves, pass_leaves, charge_leaves, submit_leaves}
 
@@ -133,8 +143,8 @@ module _ (s : ℕ) (within : List (Option ℕ)) where
         let f = shows w s in
         let each : (j : ℕ) → 0 ≤ j → j < 0 + k → waits_in sim m s (w.now + j) ≡ is_waiting (passed w.now j f) =
         λ j from to. let e : w.now + j - w.now ≡ j = omega arith in
-            ap (λ b. not b && is_waiting (shows (ticks (w.now + j - w.now) w) s)) h.charge
-            ∙ (ap (λ i. is_waiting (shows (ticks i w) s)) e ∙ ap is_waiting (shown_ticks j w)) in
+        ap (λ b. not b && is_waiting (shows (ticks (w.now + j - w.now) w) s)) h.charge
+        ∙ (ap (λ i. is_waiting (shows (ticks i w) s)) e ∙ ap is_waiting (shown_ticks j w)) in
         let all = wait_counted w.now f old.ahead (waits_in sim m s) k 0 each in
         let z : w.now + 0 ≡ w.now = omega arith in
         let y : 0 + k ≡ k = omega arith in
@@ -193,3 +203,57 @@ module _ (s : ℕ) (within : List (Option ℕ)) where
       count_same (waits_at sim (m ∷ ms) s) (waits_at next ms s) d (until - d) (λ i from to. let f : ltb i d ≡ false = grind (arith, nat_tests) in rw f refl) in
       let from = ap (λ t. count_ticks (waits_at sim (m ∷ ms) s) t (until - d)) clock in
       (omega arith, omega (arith, rest.1, all, first, then_, from))
+
+-- nobody waits at the start
+at_start : (ts : List Terms) (s : ℕ)
+    → (let f = face_of loading (account (map new_account ts) s) in (is_waiting f ≡ false) × IsAhead 0 f)
+at_start [] s = (refl, λ e. cc)
+at_start (t ∷ ts) zero = (refl, λ e. cc)
+at_start (t ∷ ts) (suc s) = at_start ts s
+
+-- there are terms for as many servers as reservations
+as_many : (modes : List Mode) (rates : List Rate) → length modes ≡ length rates → length (terms_of modes rates) ≡ length rates
+as_many [] [] e = refl
+as_many [] (r ∷ rates) e = e
+as_many (m ∷ modes) [] e = absurd (omega arith)
+as_many (m ∷ modes) (r ∷ rates) e = let rest = as_many modes rates (omega arith) in omega arith
+
+-- a simulation whose charges are granted, and which ends at a tick
+pub record IsWhole (until : ℕ) (sim : Simulation LoadJob) : Type 0 where
+  pub granted : AllMoves loading job_of (IsGranted loading job_of) sim (moves_of loading job_of until sim)
+  pub ends : clock_of loading job_of (after_moves loading job_of sim (moves_of loading job_of until sim)) ≡ until
+
+all_granted : (until : ℕ) (sim : Simulation LoadJob) (ms : List Move) → AllMoves loading job_of (ChargesOwed loading job_of until) sim ms
+    → AllMoves loading job_of (IsGranted loading job_of) sim ms
+all_granted until sim [] charges = tt
+all_granted until sim (m ∷ ms) charges = (charges.0.granted, all_granted until (after_move loading job_of sim m) ms charges.1)
+
+-- so each is that a core made
+pub whole_if_made : {S : Type 0} (saw : S → S → List Sight → Type 0) (until : ℕ) (sim : Simulation LoadJob) (new : CoreHeld LoadJob) (w v : S)
+    → Simulates loading job_of until saw sim new w v → IsWhole until sim
+whole_if_made saw until sim new w v made = record {
+  granted = all_granted until sim (moves_of loading job_of until sim) made.charges;
+  ends = sym made.state.world.clock ∙ made.clock;
+}
+
+-- it is that of the load whose servers and releases these are
+pub whole_of : (f : LoadFile) (modes : List Mode) (plan : Planned) (backlog until : ℕ) (coming : List Release)
+    → modes ≡ f.modes → plan ≡ f.plan → backlog ≡ f.backlog → until ≡ f.until → coming ≡ merged (released_by_all 0 f.sources f.until f.seed)
+    → IsWhole until (simulation modes plan backlog coming) → IsWhole f.until (start_of f)
+whole_of f modes plan backlog until coming a b c d e whole = rw (a, b, c, d, e) at whole
+
+-- the ticks that are reckoned of a server's own steps are those in which it is throttled and has a job
+pub throttled_is : (f : LoadFile) → length f.modes ≡ length f.plan.rates → IsWhole f.until (start_of f) → AreThrottled f
+throttled_is f moded whole s lt =
+    let sim = start_of f in
+    let w = world_after loading sim.history in
+    let start = at_start sim.history.setup.servers s in
+    let there : s < length sim.history.setup.servers = omega (arith, as_many f.modes f.plan.rates moded) in
+    let old : Reckons s (withins f) sim [] 0 = record {
+      so_far = λ n. let none : wait 0 n (shows w s) ≡ 0 = rw (start.0) refl in omega (arith, none);
+      ahead = start.1;
+    } in
+    let all = reckoned s (withins f) f.until sim (moves_of loading job_of f.until sim) [] 0 there old whole.granted whole.ends in
+    let z : f.until - 0 ≡ f.until = omega arith in
+    let same = ap (count_ticks (waits_at sim (moves_of loading job_of f.until sim) s) 0) z in
+    omega (arith, all.1, same)

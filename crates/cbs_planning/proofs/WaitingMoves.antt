@@ -14,11 +14,10 @@ use Rattle.cbs_simulate.specs.declared.event.Event.TheVariants as happening
 use Rattle.cbs_simulate.specs.declared.load_job.LoadJob.{LoadJob}
 use Rattle.cbs_simulate.specs.declared.release.Release.{Release}
 use Rattle.cbs_steps.specs.Accounts.{Account, need, finished, face_of, no_account, account_with_job, account_with_unit, account_with_charge, account_with_replenishment, account_let_go}
-use Rattle.cbs_steps.specs.Faces.{Face, view_of, is_ready, with_replenishment}
-use Rattle.cbs_steps.specs.History.{World, account, faces, chosen, tick, ticks, let_go, after_submit, after_run, after_advance, after_charging, run_reply, unit_reply}
+use Rattle.cbs_steps.specs.Faces.{view_of, is_ready, with_replenishment}
+use Rattle.cbs_steps.specs.History.{World, account, faces, chosen, ticks, let_go, after_submit, after_run, after_advance, after_charging, run_reply, unit_reply}
 use Rattle.cbs_steps.specs.OnTime.{IsAhead}
 use Rattle.cbs_steps.specs.declared.error.CoreError.{CoreError}
-use Rattle.cbs_steps.specs.declared.reply.Ran.{Ran}
 use Rattle.cbs_steps.specs.declared.reply.Ran.TheVariants as ran
 use Rattle.cbs_steps.proofs.Demands.{replenished_ahead}
 use Rattle.cbs_steps.proofs.Histories.{chosen_is_ready}

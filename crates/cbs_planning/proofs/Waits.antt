@@ -1,10 +1,10 @@
 -- How long a server waits, throttled and with a job, if nothing else comes.
-use Rattle.std.proofs.Common.{◌≡◌, ℕ, zero, suc, ◌+◌, ◌-◌, ◌≤◌, ◌<◌, Bool, true, false, ◌&&◌, ltb, arith, refl, ap, sym, ◌∙◌, inl, inr, Some}
+use Rattle.std.proofs.Common.{◌≡◌, ℕ, zero, suc, ◌+◌, ◌-◌, ◌≤◌, ◌<◌, Bool, true, false, ◌&&◌, ltb, arith, refl, ◌∙◌, inl, inr, Some}
 use Rattle.std.specs.Prelude.{min, if◌then◌else◌}
 use Rattle.std.proofs.lemmas.Bool.{cases_Bool}
 use Rattle.std.proofs.lemmas.Bool.Decides.{nat_tests}
 use Rattle.cbs_report.specs.Figures.{one_if, waited}
-use Rattle.cbs_steps.specs.Faces.{Face, is_active, is_ready, with_replenishment, view_of}
+use Rattle.cbs_steps.specs.Faces.{Face, is_ready, with_replenishment, view_of}
 use Rattle.cbs_steps.specs.OnTime.{IsAhead}
 use Rattle.cbs_planning.specs.Throttled.{is_waiting, count_ticks}
 

@@ -1,4 +1,4 @@
 pub mod Sights
-pub mod Loads
 pub mod Throttled
+pub mod Loads
 pub mod Tasks

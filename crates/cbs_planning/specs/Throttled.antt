@@ -1,6 +1,5 @@
--- In how many ticks of its simulation a server of a load is throttled and has a job, by the faces that the rules give.
+-- In how many ticks of a simulation a server is throttled and has a job, by the faces that the rules give.
 use Rattle.std.specs.Prelude.{ℕ, zero, suc, ◌+◌, ◌-◌, Bool, false, not, ◌&&◌, eqb, ltb, if◌then◌else◌, List, [], ◌∷◌}
-use Rattle.cbs_load.specs.Loads.{LoadFile}
 use Rattle.cbs_report.specs.Figures.{one_if}
 use Rattle.cbs_simulate.specs.Loading.{loading, job_of}
 use Rattle.cbs_simulate.specs.Moves.{Move, charge, Simulation, clock_of, after_move, moves_of}
@@ -8,7 +7,6 @@ use Rattle.cbs_simulate.specs.declared.load_job.LoadJob.{LoadJob}
 use Rattle.cbs_steps.specs.Accounts.{face_of}
 use Rattle.cbs_steps.specs.Faces.{Face, is_active}
 use Rattle.cbs_steps.specs.History.{World, account, ticks, world_after}
-use Rattle.cbs_planning.specs.Loads.{start_of}
 
 -- a server that shows this waits: it has an unfinished job, and is throttled
 abbrev pub is_waiting : Face → Bool
@@ -39,6 +37,6 @@ abbrev pub count_ticks : (ℕ → Bool) → ℕ → ℕ → ℕ
 count_ticks at t zero = 0
 count_ticks at t (suc n) = one_if (at t) + count_ticks at (t + 1) n
 
--- the ticks before the end of a load's simulation at which server s waits
-abbrev pub throttled_ticks : LoadFile → ℕ → ℕ
-throttled_ticks f s = count_ticks (waits_at (start_of f) (moves_of loading job_of f.until (start_of f)) s) 0 f.until
+-- the ticks before the end of a simulation at which server s waits
+abbrev pub ticks_waiting : ℕ → Simulation LoadJob → ℕ → ℕ
+ticks_waiting until sim s = count_ticks (waits_at sim (moves_of loading job_of until sim) s) 0 until
