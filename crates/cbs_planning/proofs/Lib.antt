@@ -1,3 +1,6 @@
 mod Runs
+mod Waits
+mod WaitingMoves
+mod ThrottledTicks
 mod Servers
 mod TaskSteps

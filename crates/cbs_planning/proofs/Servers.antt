@@ -6,10 +6,10 @@ use Rattle.cbs_file.specs.TaskFiles.{File}
 use Rattle.cbs_load.specs.Loads.{LoadFile}
 use Rattle.cbs_rate.specs.Rate.{Rate}
 use Rattle.cbs_report.specs.Reports.{AreAllFigures}
-use Rattle.cbs_report.specs.Figures.{AreFigures, steps_of}
+use Rattle.cbs_report.specs.Figures.{AreFigures, steps_of, told}
 use Rattle.cbs_report.specs.declared.figures.Figures.{Figures}
 use Rattle.cbs_print.specs.declared.report.ServerReport.{ServerReport}
-use Rattle.cbs_planning.specs.Loads.{IsServerReport, seen_in, within_of}
+use Rattle.cbs_planning.specs.Loads.{AreThrottled, IsServerReport, seen_in, within_of}
 use Rattle.cbs_planning.specs.Tasks.{IsTaskServerReport, clock_of_tasks, name_of, seen_in_tasks}
 use Rattle.cbs_views.specs.declared.seen.Seen.{Seen}
 
@@ -58,14 +58,16 @@ figures_at rates now seen fs s r all reservation figures =
 pub server_is : (f : LoadFile) (s : ℕ) (r : ServerReport) (fs : List Figures)
     → AreAllFigures (map (λ rate. rate.budget) f.plan.rates) f.until (seen_in f) fs
     → Some (string_bytes r.name) ≡ slice_get f.names s → Some r.mode ≡ slice_get f.modes s → Some r.reservation ≡ slice_get f.plan.rates s → r.within ≡ within_of s f.sources
-    → slice_get fs s ≡ Some r.figures → IsServerReport f s r
-server_is f s r fs all name mode reservation within figures =
+    → slice_get fs s ≡ Some r.figures → AreThrottled f → s < length f.plan.rates → IsServerReport f s r
+server_is f s r fs all name mode reservation within figures waits there =
+    let own = figures_at f.plan.rates f.until (seen_in f) fs s r all reservation figures in
     record {
       name = name;
       mode = mode;
       reservation = reservation;
       within = within;
-      figures = figures_at f.plan.rates f.until (seen_in f) fs s r all reservation figures;
+      figures = own;
+      held = own.held ∙ ap told (waits s there);
     }
 
 -- .. of a task file

@@ -1,3 +1,4 @@
 pub mod Sights
+pub mod Throttled
 pub mod Loads
 pub mod Tasks

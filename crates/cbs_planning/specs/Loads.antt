@@ -1,8 +1,8 @@
 -- What comes of a load.
-use Rattle.std.specs.Prelude.{◌≡◌, ℕ, eqb, min, max, if◌then◌else◌, List, [], ◌∷◌, length, map, sum_by, slice_get, string_bytes, Option, Some, None}
+use Rattle.std.specs.Prelude.{◌≡◌, ℕ, ◌<◌, eqb, min, max, if◌then◌else◌, List, [], ◌∷◌, length, map, sum_by, slice_get, string_bytes, Option, Some, None}
 use Rattle.cbs_load.specs.Loads.{LoadFile}
 use Rattle.cbs_rate.specs.Plan.{common_multiple, share}
-use Rattle.cbs_report.specs.Figures.{AreFigures, steps_of, told, total}
+use Rattle.cbs_report.specs.Figures.{AreFigures, steps_of, throttled, told, total}
 use Rattle.cbs_report.specs.Tallies.{ticks_idle}
 use Rattle.cbs_simulate.specs.Bounds.{Bounds}
 use Rattle.cbs_simulate.specs.Drawing.{released_by_all}
@@ -17,6 +17,7 @@ use Rattle.cbs_print.specs.declared.report.RunReport.{RunReport}
 use Rattle.cbs_print.specs.declared.report.ServerReport.{ServerReport}
 use Rattle.cbs_views.specs.declared.seen.Seen.{Seen}
 use Rattle.cbs_planning.specs.Sights.{seen_of}
+use Rattle.cbs_planning.specs.Throttled.{ticks_waiting}
 
 -- the start of a load: no step is made, and all that its sources release comes
 abbrev pub start_of : LoadFile → Simulation LoadJob
@@ -25,6 +26,10 @@ start_of f = record {
   coming = merged (released_by_all 0 f.sources f.until f.seed);
   owing = None;
 }
+
+-- the ticks of a load in which server s is throttled and has a job
+abbrev pub throttled_ticks : LoadFile → ℕ → ℕ
+throttled_ticks f s = ticks_waiting f.until (start_of f) s
 
 -- within how many ticks the jobs of each source are to be finished
 abbrev pub withins : LoadFile → List (Option ℕ)
@@ -45,6 +50,10 @@ abbrev pub within_of : ℕ → List SourceTerms → Option Bounds
 within_of s [] = None
 within_of s (t ∷ ts) = if eqb t.server s then widened t.within (within_of s ts) else within_of s ts
 
+-- what is reckoned of each server's own steps are the ticks in which it is throttled and has a job
+abbrev pub AreThrottled : LoadFile → Type 0
+AreThrottled f = (s : ℕ) → s < length f.plan.rates → throttled f.until (steps_of s (seen_in f)) ≡ throttled_ticks f s
+
 -- the report of server s of a load
 pub record IsServerReport (f : LoadFile) (s : ℕ) (r : ServerReport) : Type 0 where
   pub name : Some (string_bytes r.name) ≡ slice_get f.names s
@@ -52,6 +61,7 @@ pub record IsServerReport (f : LoadFile) (s : ℕ) (r : ServerReport) : Type 0 w
   pub reservation : Some r.reservation ≡ slice_get f.plan.rates s
   pub within : r.within ≡ within_of s f.sources
   pub figures : AreFigures r.reservation.budget f.until (steps_of s (seen_in f)) r.figures
+  pub held : r.figures.throttled ≡ told (throttled_ticks f s)
 
 -- the report of a load with a name
 pub record IsReportOf (name : List ℕ) (f : LoadFile) (r : RunReport) : Type 0 where

@@ -1,10 +1,10 @@
 //! The report of a load.
 
-ghost use Rattle.std.specs.Prelude.{◌≡◌, ◌≤◌, ◌<◌, ℕ, IfOk, length, map, slice_get, string_bytes, Some};
+ghost use Rattle.std.specs.Prelude.{◌≡◌, ◌≤◌, ◌<◌, ℕ, IfOk, OnOk, length, map, slice_get, string_bytes, Some};
 ghost use Rattle.cbs_report.specs.Figures.{told, total};
 ghost use Rattle.cbs_report.specs.Reports.{AreAllFigures};
 ghost use Rattle.cbs_report.specs.Tallies.{ticks_idle};
-ghost use Rattle.cbs_planning.specs.Loads.{IsReportOf, seen_in, within_of};
+ghost use Rattle.cbs_planning.specs.Loads.{AreThrottled, IsReportOf, seen_in, within_of};
 
 use crate::watched::Watched;
 use crate::within::{by_source, within_of};
@@ -18,6 +18,7 @@ use std::alloc::{AllocError, Global};
 fn simulated(alloc: Global, load: &Load) -> Result<(Vec<Figures>, u64), AllocError>
     ensures figures { IfOk result (λ r. AreAllFigures (map (λ rate. rate.budget) load.now.plan.rates) load.now.until (seen_in load.now) r.0.items) }
     ensures idle { IfOk result (λ r. r.1 ≡ told (total (λ o. ticks_idle o.event) (seen_in load.now))) }
+    ensures throttled { OnOk result (AreThrottled load.now) }
 {
     let mut releases = load_of(alloc, load.sources(), load.until(), load.seed())?;
     let mut watched = Watched {

@@ -16,7 +16,8 @@ loop-server-preserved c =
     let at : slice_get fs l.server ≡ Some c.index-figures.result.now =
     some_at fs l.server c.index-figures.result.now lt (rw c.from.ensures at c.index-figures.ensures) in
     let told = c.in_ok-server_report.ensures in
-    let one = server_is f l.server r fs all told.name told.mode told.reservation told.within (rw told.figures at) in
+    let there : l.server < length f.plan.rates = omega (arith, figure_count f.plan.rates f.until (seen_in f) fs all) in
+    let one = server_is f l.server r fs all told.name told.mode told.reservation told.within (rw told.figures at) c.in_ok-figures.ensures.throttled there in
     record {
       count = ap length c.in_ok-push.ensures.items ∙ (length-append l.servers.items (r ∷ []) ∙ ap (λ n. n + 1) l.invariant.count);
       each = rw c.in_ok-push.ensures.items (each_more (IsServerReport f) 0 l.server l.servers.items r l.invariant.each (omega (arith, l.invariant.count)) one);

@@ -1,0 +1,259 @@
+-- What is reckoned of a server's own steps are the ticks at which it waits.
+use Rattle.std.proofs.Common.{◌≡◌, ℕ, zero, suc, ◌+◌, ◌-◌, ◌≤◌, ◌<◌, Bool, true, false, not, ◌&&◌, leb, ltb, List, [], ◌∷◌, length, map, arith, refl, ap, sym, subst, ◌∙◌, inl, inr, Option, Some, None}
+use Rattle.std.proofs.lemmas.Bool.Decides.{nat_tests}
+use Rattle.std.proofs.lemmas.List.{length-map}
+use Rattle.cbs_core.specs.Held.{CoreHeld}
+use Rattle.cbs_load.specs.Loads.{LoadFile}
+use Rattle.cbs_rate.specs.Plan.{Planned}
+use Rattle.cbs_rate.specs.Rate.{Rate}
+use Rattle.cbs_rules.specs.Rules.{Terms, clock_end}
+use Rattle.cbs_rules.specs.declared.mode.Mode.{Mode}
+use Rattle.cbs_simulate.specs.Loading.{loading, job_of}
+use Rattle.cbs_simulate.specs.MoveLaws.{AllMoves, ChargesOwed, IsGranted}
+use Rattle.cbs_simulate.specs.Drawing.{released_by_all}
+use Rattle.cbs_simulate.specs.Merging.{merged}
+use Rattle.cbs_simulate.specs.Moves.{Move, submit, run, pass, charge, step_of, Simulation, clock_of, after_move, after_moves, moves_of}
+use Rattle.cbs_simulate.specs.Shown.{Sight, answer_in, promised_in, sight_of, shown}
+use Rattle.cbs_simulate.specs.Simulating.{Simulates}
+use Rattle.cbs_simulate.specs.declared.load_job.LoadJob.{LoadJob}
+use Rattle.cbs_simulate.specs.declared.release.Release.{Release}
+use Rattle.cbs_steps.specs.Accounts.{face_of, new_account}
+use Rattle.cbs_steps.specs.Faces.{submit_refusal}
+use Rattle.cbs_steps.specs.History.{World, History, account, chosen, faces, ticks, after_charging, charge_refusal, charge_reply, world_after, reply_in}
+use Rattle.cbs_steps.specs.OnTime.{IsAhead}
+use Rattle.cbs_steps.specs.Setups.{terms_of}
+use Rattle.cbs_steps.specs.declared.error.CoreError.{CoreError}
+use Rattle.cbs_steps.specs.declared.reply.Reply.TheVariants as reply
+use Rattle.cbs_steps.proofs.OnTime.{reservation, rates_after}
+use Rattle.cbs_steps.proofs.Ticks.{ticks_none, ticks_some}
+use Rattle.cbs_report.specs.Figures.{steps_of, throttled, waited}
+use Rattle.cbs_views.specs.Events.{begun}
+use Rattle.cbs_views.specs.declared.seen.Event.TheVariants as event
+use Rattle.cbs_views.specs.declared.seen.Seen.{Seen}
+use Rattle.cbs_planning.specs.Loads.{start_of, withins, AreThrottled}
+use Rattle.cbs_planning.specs.Sights.{seen_of}
+use Rattle.cbs_planning.specs.Throttled.{is_waiting, shows, is_charge_of, waits_in, waits_at, count_ticks}
+use Rattle.cbs_planning.proofs.Runs.{simulation}
+use Rattle.cbs_planning.proofs.Waits.{passed, wait, waited_is, wait_none, wait_more, wait_counted}
+use Rattle.cbs_planning.proofs.WaitingMoves.{IsOwn, IsOther, Leaves, seen_as, shown_jump, run_leaves, pass_leaves, charge_leaves, submit_leaves}
+
+-- two tests that agree at so many ticks count the same
+count_same : (p q : ℕ → Bool) (t n : ℕ) → ((i : ℕ) → t ≤ i → i < t + n → p i ≡ q i) → count_ticks p t n ≡ count_ticks q t n
+count_same p q t zero same = refl
+count_same p q t (suc n) same =
+    let here : p t ≡ q t = same t (omega arith) (omega arith) in
+    rw (here, count_same p q (t + 1) n (λ i from to. same i (omega arith) (omega arith))) refl
+
+-- one that holds at none counts none
+count_none : (p : ℕ → Bool) (t n : ℕ) → ((i : ℕ) → t ≤ i → i < t + n → p i ≡ false) → count_ticks p t n ≡ 0
+count_none p t zero none = refl
+count_none p t (suc n) none =
+    let here : p t ≡ false = none t (omega arith) (omega arith) in
+    rw (here, count_none p (t + 1) n (λ i from to. none i (omega arith) (omega arith))) refl
+
+-- some ticks, and then some more
+count_split : (p : ℕ → Bool) (t k n : ℕ) → count_ticks p t (k + n) ≡ count_ticks p t k + count_ticks p (t + k) n
+count_split p t zero n = let e : 0 + n ≡ n = omega arith in let f : t + 0 ≡ t = omega arith in rw (e, f) (omega arith)
+count_split p t (suc k) n =
+    let e : suc k + n ≡ suc (k + n) = omega arith in
+    let f : t + suc k ≡ t + 1 + k = omega arith in
+    let rest = count_split p (t + 1) k n in
+    rw (e, f) (omega arith)
+
+-- a charge that is granted is not refused
+not_refused : (o : Option CoreError) → charge_reply {W = LoadJob} o ≡ reply.Charged → o ≡ None
+not_refused None e = refl
+not_refused (Some x) e = cc
+
+-- there are as many servers as were given
+counted : (N : History LoadJob) → length (world_after loading N).accounts ≡ length N.setup.servers
+counted N = omega (
+  arith,
+  ap length (rates_after loading N.setup N.steps),
+  length-map (world_after loading N).accounts (reservation loading),
+  length-map (map new_account N.setup.servers) (reservation loading),
+  length-map N.setup.servers (new_account {W = LoadJob}),
+)
+
+module _ (s : ℕ) (within : List (Option ℕ)) where
+  -- what a move leaves of server s
+  leaves : (sim : Simulation LoadJob) (m : Move) → IsGranted loading job_of sim m → s < length (world_after loading sim.history).accounts
+      → IsAhead (clock_of loading job_of sim) (shows (world_after loading sim.history) s)
+      → Leaves s (world_after loading sim.history) (world_after loading (after_move loading job_of sim m).history) (seen_of within (sight_of loading job_of sim m))
+      (is_charge_of s m)
+  leaves sim (submit r) granted lt ahead =
+      let w = world_after loading sim.history in
+      let answer = answer_in (reply_in loading sim.history (step_of loading job_of (submit r))) in
+      submit_leaves s w within r answer (promised_in loading (world_after loading (after_move loading job_of sim (submit r)).history) r.server answer)
+      (submit_refusal sim.history.setup.backlog (faces loading w) r.server) lt ahead
+  leaves sim run granted lt ahead = let w = world_after loading sim.history in run_leaves s w (chosen loading w) refl lt ahead
+  leaves sim (pass n) granted lt ahead = let w = world_after loading sim.history in pass_leaves s w n (leb (w.now + n) clock_end) ahead
+  leaves sim (charge t n) granted lt ahead =
+      let w = world_after loading sim.history in
+      let none = not_refused (charge_refusal w t n) granted in
+      subst (λ o. Leaves s w (after_charging w t n o) (seen_as s (event.Charged t n) (after_charging w t n o)) (is_charge_of s (charge t n))) (sym none)
+      (charge_leaves s w t n lt ahead)
+
+  -- So far so many ticks are counted, and what is reckoned of its steps is right, however many ticks pass before its next one.
+  record Reckons (sim : Simulation LoadJob) (seen : List Sight) (count : ℕ) : Type 0 where
+    so_far : (n : ℕ) → throttled (clock_of loading job_of sim + n) (steps_of s (map (seen_of within) seen))
+        ≡ count + wait (clock_of loading job_of sim) n (shows (world_after loading sim.history) s)
+    ahead : IsAhead (clock_of loading job_of sim) (shows (world_after loading sim.history) s)
+
+  -- what is shown once so many ticks have passed
+  shown_ticks : (j : ℕ) (w : World LoadJob) → shows (ticks j w) s ≡ passed w.now j (shows w s)
+  shown_ticks zero w = ap (λ v. shows v s) (ticks_none w)
+  shown_ticks (suc j) w = ap (λ v. shows v s) (ticks_some (suc j) w (omega arith)) ∙ shown_jump s (suc j) w
+
+  module _ (sim : Simulation LoadJob) (m : Move) (seen : List Sight) (count : ℕ) (old : Reckons sim seen count) where
+    abbrev w : World LoadJob
+    w = world_after loading sim.history
+
+    abbrev v : World LoadJob
+    v = world_after loading (after_move loading job_of sim m).history
+
+    abbrev o : Seen
+    o = seen_of within (sight_of loading job_of sim m)
+
+    abbrev own : List Seen
+    own = steps_of s (map (seen_of within) seen)
+
+    -- after a step of its own
+    after_own : (k : ℕ) → v.now ≡ w.now + k → IsAhead v.now (shows v s) → IsOwn s w v o (is_charge_of s m)
+        → Reckons (after_move loading job_of sim m) (sight_of loading job_of sim m ∷ seen) (count + count_ticks (waits_in sim m s) w.now k)
+    after_own k clock ahead h =
+        let none : count_ticks (waits_in sim m s) w.now k ≡ 0 = count_none (waits_in sim m s) w.now k (λ i from to. h.none i from (omega arith)) in
+        let z : w.now + 0 ≡ w.now = omega arith in
+        let e : throttled (w.now + 0) own ≡ count = omega (arith, old.so_far 0, wait_none w.now (shows w s)) in
+        let before : throttled w.now own ≡ count = ap (λ c. throttled c own) (sym z) ∙ e in
+        record {
+          so_far = λ n.
+              let view : waited o.view o.clock (v.now + n) ≡ wait v.now n (shows v s) = ap (λ x. waited x o.clock (v.now + n)) h.view ∙ waited_is v.now n (shows v s) in
+              let from : throttled (begun o) own ≡ count = ap (λ c. throttled c own) h.begun ∙ before in
+              let total : waited o.view o.clock (v.now + n) + throttled (begun o) own ≡ count + count_ticks (waits_in sim m s) w.now k + wait v.now n (shows v s) =
+              omega (arith, view, from, none) in
+              rw h.own total;
+          ahead = ahead;
+        }
+
+    -- after another
+    after_other : (k : ℕ) → v.now ≡ w.now + k → IsAhead v.now (shows v s) → IsOther s k w v o (is_charge_of s m)
+        → Reckons (after_move loading job_of sim m) (sight_of loading job_of sim m ∷ seen) (count + count_ticks (waits_in sim m s) w.now k)
+    after_other k clock ahead h =
+        let f = shows w s in
+        let each : (j : ℕ) → 0 ≤ j → j < 0 + k → waits_in sim m s (w.now + j) ≡ is_waiting (passed w.now j f) =
+        λ j from to. let e : w.now + j - w.now ≡ j = omega arith in
+        ap (λ b. not b && is_waiting (shows (ticks (w.now + j - w.now) w) s)) h.charge
+        ∙ (ap (λ i. is_waiting (shows (ticks i w) s)) e ∙ ap is_waiting (shown_ticks j w)) in
+        let all = wait_counted w.now f old.ahead (waits_in sim m s) k 0 each in
+        let z : w.now + 0 ≡ w.now = omega arith in
+        let y : 0 + k ≡ k = omega arith in
+        let a : count_ticks (waits_in sim m s) (w.now + 0) k ≡ wait w.now (0 + k) f = omega (arith, all, wait_none w.now f) in
+        let counted : count_ticks (waits_in sim m s) w.now k ≡ wait w.now k f =
+        ap (λ t. count_ticks (waits_in sim m s) t k) (sym z) ∙ (a ∙ ap (λ n. wait w.now n f) y) in
+        record {
+          so_far = λ n.
+              let e : v.now + n ≡ w.now + (k + n) = omega arith in
+              let same = ap (λ c. throttled c own) e in
+              let rest : wait v.now n (shows v s) ≡ wait (w.now + k) n (passed w.now k f) =
+              ap (λ c. wait c n (shows v s)) clock ∙ ap (wait (w.now + k) n) h.shown in
+              let total : throttled (v.now + n) own ≡ count + count_ticks (waits_in sim m s) w.now k + wait v.now n (shows v s) =
+              omega (arith, same, old.so_far (k + n), wait_more w.now k n f old.ahead, counted, rest) in
+              rw h.other total;
+          ahead = ahead;
+        }
+
+    -- after any
+    after_it : (l : Leaves s w v o (is_charge_of s m))
+        → Reckons (after_move loading job_of sim m) (sight_of loading job_of sim m ∷ seen) (count + count_ticks (waits_in sim m s) w.now l.ticks)
+    after_it l = elim l.sort [
+      | inl h ↦ after_own l.ticks l.clock l.ahead h
+      | inr h ↦ after_other l.ticks l.clock l.ahead h
+    ]
+
+  -- so it is to the end
+  reckoned : (until : ℕ) (sim : Simulation LoadJob) (ms : List Move) (seen : List Sight) (count : ℕ) → s < length sim.history.setup.servers
+      → Reckons sim seen count → AllMoves loading job_of (IsGranted loading job_of) sim ms → clock_of loading job_of (after_moves loading job_of sim ms) ≡ until
+      → (clock_of loading job_of sim ≤ until)
+      × (throttled until (steps_of s (map (seen_of within) (shown loading job_of sim ms seen)))
+      ≡ count + count_ticks (waits_at sim ms s) (clock_of loading job_of sim) (until - clock_of loading job_of sim))
+  reckoned until sim [] seen count lt old granted end =
+      let c = clock_of loading job_of sim in
+      let own = steps_of s (map (seen_of within) seen) in
+      let z : until - c ≡ 0 = omega arith in
+      let e : until ≡ c + 0 = omega arith in
+      let same = ap (λ t. throttled t own) e in
+      let none : count_ticks (waits_at sim [] s) c (until - c) ≡ 0 = rw z refl in
+      (omega arith, omega (arith, same, old.so_far 0, wait_none c (shows (world_after loading sim.history) s), none))
+  reckoned until sim (m ∷ ms) seen count lt old granted end =
+      let c = clock_of loading job_of sim in
+      let next = after_move loading job_of sim m in
+      let d = clock_of loading job_of next in
+      let there : s < length (world_after loading sim.history).accounts = omega (arith, counted sim.history) in
+      let l = leaves sim m granted.0 there old.ahead in
+      let k = l.ticks in
+      let clock : d ≡ c + k = l.clock in
+      let rest = reckoned until next ms (sight_of loading job_of sim m ∷ seen) (count + count_ticks (waits_in sim m s) c k) lt (after_it sim m seen count old l) granted.1 end in
+      let le = rest.0 in
+      let split : until - c ≡ k + (until - d) = omega arith in
+      let all = ap (count_ticks (waits_at sim (m ∷ ms) s) c) split ∙ count_split (waits_at sim (m ∷ ms) s) c k (until - d) in
+      let first : count_ticks (waits_at sim (m ∷ ms) s) c k ≡ count_ticks (waits_in sim m s) c k =
+      count_same (waits_at sim (m ∷ ms) s) (waits_in sim m s) c k (λ i from to. let t : ltb i d ≡ true = grind (arith, nat_tests) in rw t refl) in
+      let then_ : count_ticks (waits_at sim (m ∷ ms) s) d (until - d) ≡ count_ticks (waits_at next ms s) d (until - d) =
+      count_same (waits_at sim (m ∷ ms) s) (waits_at next ms s) d (until - d) (λ i from to. let f : ltb i d ≡ false = grind (arith, nat_tests) in rw f refl) in
+      let from = ap (λ t. count_ticks (waits_at sim (m ∷ ms) s) t (until - d)) clock in
+      (omega arith, omega (arith, rest.1, all, first, then_, from))
+
+-- nobody waits at the start
+at_start : (ts : List Terms) (s : ℕ)
+    → (let f = face_of loading (account (map new_account ts) s) in (is_waiting f ≡ false) × IsAhead 0 f)
+at_start [] s = (refl, λ e. cc)
+at_start (t ∷ ts) zero = (refl, λ e. cc)
+at_start (t ∷ ts) (suc s) = at_start ts s
+
+-- there are terms for as many servers as reservations
+as_many : (modes : List Mode) (rates : List Rate) → length modes ≡ length rates → length (terms_of modes rates) ≡ length rates
+as_many [] [] e = refl
+as_many [] (r ∷ rates) e = e
+as_many (m ∷ modes) [] e = absurd (omega arith)
+as_many (m ∷ modes) (r ∷ rates) e = let rest = as_many modes rates (omega arith) in omega arith
+
+-- a simulation whose charges are granted, and which ends at a tick
+pub record IsWhole (until : ℕ) (sim : Simulation LoadJob) : Type 0 where
+  pub granted : AllMoves loading job_of (IsGranted loading job_of) sim (moves_of loading job_of until sim)
+  pub ends : clock_of loading job_of (after_moves loading job_of sim (moves_of loading job_of until sim)) ≡ until
+
+all_granted : (until : ℕ) (sim : Simulation LoadJob) (ms : List Move) → AllMoves loading job_of (ChargesOwed loading job_of until) sim ms
+    → AllMoves loading job_of (IsGranted loading job_of) sim ms
+all_granted until sim [] charges = tt
+all_granted until sim (m ∷ ms) charges = (charges.0.granted, all_granted until (after_move loading job_of sim m) ms charges.1)
+
+-- so each is that a core made
+pub whole_if_made : {S : Type 0} (saw : S → S → List Sight → Type 0) (until : ℕ) (sim : Simulation LoadJob) (new : CoreHeld LoadJob) (w v : S)
+    → Simulates loading job_of until saw sim new w v → IsWhole until sim
+whole_if_made saw until sim new w v made = record {
+  granted = all_granted until sim (moves_of loading job_of until sim) made.charges;
+  ends = sym made.state.world.clock ∙ made.clock;
+}
+
+-- it is that of the load whose servers and releases these are
+pub whole_of : (f : LoadFile) (modes : List Mode) (plan : Planned) (backlog until : ℕ) (coming : List Release)
+    → modes ≡ f.modes → plan ≡ f.plan → backlog ≡ f.backlog → until ≡ f.until → coming ≡ merged (released_by_all 0 f.sources f.until f.seed)
+    → IsWhole until (simulation modes plan backlog coming) → IsWhole f.until (start_of f)
+whole_of f modes plan backlog until coming a b c d e whole = rw (a, b, c, d, e) at whole
+
+-- the ticks that are reckoned of a server's own steps are those in which it is throttled and has a job
+pub throttled_is : (f : LoadFile) → length f.modes ≡ length f.plan.rates → IsWhole f.until (start_of f) → AreThrottled f
+throttled_is f moded whole s lt =
+    let sim = start_of f in
+    let w = world_after loading sim.history in
+    let start = at_start sim.history.setup.servers s in
+    let there : s < length sim.history.setup.servers = omega (arith, as_many f.modes f.plan.rates moded) in
+    let old : Reckons s (withins f) sim [] 0 = record {
+      so_far = λ n. let none : wait 0 n (shows w s) ≡ 0 = rw (start.0) refl in omega (arith, none);
+      ahead = start.1;
+    } in
+    let all = reckoned s (withins f) f.until sim (moves_of loading job_of f.until sim) [] 0 there old whole.granted whole.ends in
+    let z : f.until - 0 ≡ f.until = omega arith in
+    let same = ap (count_ticks (waits_at sim (moves_of loading job_of f.until sim) s) 0) z in
+    omega (arith, all.1, same)
