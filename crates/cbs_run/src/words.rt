@@ -192,7 +192,9 @@ fn on_file<'a>(alloc: Global, name: &'a str, about: &'a str) -> Result<Command<'
     ensures app { IfOk result (λ c. app_of c ≡ on_file name.now) }
     ensures local { IfOk result (λ c. (out-Command c).has_globals ≡ false) }
 {
-    let file = Arg::new(alloc, "FILE").help("The file").required(true);
+    let file = Arg::new(alloc, "FILE")
+        .help("The file; - is standard input")
+        .required(true);
     Command::new(alloc, name).about(about).arg(file)
 }
 
@@ -307,10 +309,20 @@ fn refused(alloc: Global, error: &Error) -> Result<WordsFault, AllocError>
     })
 }
 
+/// Returns the names of the forms that a verb has.
+fn forms_of(verb: &str) -> &'static str {
+    match verb {
+        "replay" => "lines, report, json",
+        _ => "report, json",
+    }
+}
+
 /// Returns the fault of a command line that asks for a form of no such name.
 fn unknown_form(alloc: Global, verb: &str, form: &str) -> Result<WordsFault, AllocError> {
     let mut text = String::new(alloc);
-    writeln!(text, "error: invalid value '{form}' for '--as <FORMAT>'\n")?;
+    let forms = forms_of(verb);
+    writeln!(text, "error: invalid value '{form}' for '--as <FORMAT>'")?;
+    writeln!(text, "  [possible values: {forms}]\n")?;
     writeln!(text, "For more information, try 'cbsrun {verb} --help'.")?;
     Ok(WordsFault::Usage(text))
 }

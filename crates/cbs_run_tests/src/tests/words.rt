@@ -132,6 +132,7 @@ fn a_form_stands_before_or_after_the_file(rt: HostRuntime) {
 fn an_unknown_form_is_named(rt: HostRuntime) {
     let text = fault(&rt, rt.alloc(), "cbsrun replay --as xml a.toml", 1, "Usage");
     let wanted = "error: invalid value 'xml' for '--as <FORMAT>'
+  [possible values: lines, report, json]
 
 For more information, try 'cbsrun replay --help'.
 ";
