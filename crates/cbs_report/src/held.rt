@@ -61,6 +61,7 @@ impl Held {
     }
 
     /// Adds the ticks up to a step that began at a tick, and after which the server shows this.
+    #[inline(always)]
     pub fn add(&mut self, begun: u64, clock: u64, view: Option<ServerView>)
         ensures { self.new ≡ held_with begun clock view self.old }
     {

@@ -18,9 +18,11 @@ use crate::releases::Releases;
 use crate::watcher::Watcher;
 use cbs_core::Core;
 use cbs_rules::LIMIT;
+use cbs_steps::Ran;
 use std::alloc::{AllocError, Allocator};
 
 /// Shows what a move did.
+#[inline(always)]
 fn show<A: Allocator, S: Watcher>(
     core: &Core<LoadJob, A>,
     event: Event,
@@ -76,6 +78,7 @@ fn show_charge<A: Allocator, S: Watcher>(
 }
 
 /// Runs a unit, or lets ticks pass up to `stop`, and shows it. Returns what is then owed.
+#[inline(always)]
 fn show_next<A: Allocator, S: Watcher>(
     core: &mut Core<LoadJob, A>,
     stop: u64,
@@ -88,7 +91,13 @@ fn show_next<A: Allocator, S: Watcher>(
         → StopsAt loading job_of sim (move_to loading job_of stop sim) core.new) }
 {
     let (event, owing) = moves::go_on(core, stop);
-    show(core, event, watcher)?;
+    // Most moves are units that end no job: they are shown for themselves, so that what sees them tests once what they are.
+    match event {
+        Event::Ran(Ran::Unit { server, seq }) => {
+            show(core, Event::Ran(Ran::Unit { server, seq }), watcher)?;
+        }
+        _ => show(core, event, watcher)?,
+    }
     Ok(owing)
 }
 
