@@ -138,6 +138,17 @@ fn submit_due<A: Allocator, R: Releases, S: Watcher>(
     }
 }
 
+/// Keeps what is owed after a move before which nothing was. Most units leave nothing owed: they write nothing.
+#[inline(always)]
+fn keep_owed(owing: &mut Option<Charge>, owed: Option<Charge>)
+    requires { owing.old ≡ None }
+    ensures { owing.new ≡ owed }
+{
+    if owed.is_some() {
+        *owing = owed;
+    }
+}
+
 /// Makes the next move, and shows it. Returns whether there was one.
 ///
 /// It keeps the tick up to which no release comes, so that none is asked for while units run.
@@ -163,7 +174,8 @@ fn make_next<A: Allocator, R: Releases, S: Watcher>(
     match *owing {
         None => {
             if core.now() < *stop {
-                *owing = show_next(core, *stop, watcher)?;
+                let owed = show_next(core, *stop, watcher)?;
+                keep_owed(owing, owed);
                 return Ok(true);
             }
         }
