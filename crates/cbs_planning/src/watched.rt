@@ -32,6 +32,7 @@ fn arrival_of(within: &[Option<u64>], release: Release) -> Arrival
 }
 
 /// Returns what a move did, as a step.
+#[inline(always)]
 fn event_seen(within: &[Option<u64>], event: Happening) -> Event
     ensures { result ≡ event_seen within.now event }
 {
@@ -60,6 +61,7 @@ fn event_seen(within: &[Option<u64>], event: Happening) -> Event
 }
 
 /// Returns what the server of a step shows, if there is one.
+#[inline(always)]
 pub(crate) fn view_seen<W: Work, A: Allocator>(
     core: &Core<W, A>,
     event: &Event,
@@ -76,6 +78,7 @@ impl<V: View> Watcher for Watched<V> {
 
     ghost saw = { λ first now sights. (now.within ≡ first.within) × V.saw first.view now.view (map (seen_of first.within.items) sights) };
 
+    #[inline(always)]
     fn see<A: Allocator>(
         &mut self,
         moment: Moment,

@@ -61,10 +61,19 @@ impl Held {
     }
 
     /// Adds the ticks up to a step that began at a tick, and after which the server shows this.
+    #[inline(always)]
     pub fn add(&mut self, begun: u64, clock: u64, view: Option<ServerView>)
         ensures { self.new ≡ held_with begun clock view self.old }
     {
         self.ticks = self.until(begun);
-        self.wait = wait_of(clock, view);
+        match wait_of(clock, view) {
+            Some(wait) => self.wait = Some(wait),
+            // Most steps are of a server that did not wait and does not wait after them: it is left as it is.
+            None => {
+                if self.wait.is_some() {
+                    self.wait = None;
+                }
+            }
+        }
     }
 }

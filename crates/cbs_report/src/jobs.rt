@@ -108,6 +108,7 @@ impl<A: Allocator> JobTally<A> {
     }
 
     /// Adds a step, after which the clock is at `now`.
+    #[inline(always)]
     pub fn add(&mut self, now: u64, event: Event) -> Result<(), AllocError>
         ensures { OnOk result (self.new ≡ jobs_after now event self.old) }
     {

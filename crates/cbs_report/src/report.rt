@@ -66,6 +66,7 @@ impl<A: Allocator> Report<A> {
     }
 
     /// Adds a step of a server, if there is such a server.
+    #[inline(always)]
     fn add(&mut self, server: u16, seen: Seen) -> Result<(), AllocError>
         ensures adds { OnOk result (AddsStep server seen self.old.kept self.new.kept) }
         ensures idle { OnOk result (self.new.idle ≡ self.old.idle) }
@@ -78,6 +79,7 @@ impl<A: Allocator> Report<A> {
     }
 
     /// Adds the ticks of a step in which nobody ran.
+    #[inline(always)]
     fn pass(&mut self, event: Event)
         ensures { self.new ≡ passed event self.old }
     {
@@ -100,6 +102,7 @@ impl<A: Allocator> View for Report<A> {
 
     ghost saw = { λ first now seen. HasSeen first now seen };
 
+    #[inline(always)]
     fn see(&mut self, seen: Seen) -> Result<(), AllocError> {
         match seen.event.server() {
             Some(server) => self.add(server, seen),

@@ -61,6 +61,7 @@ impl Sums {
     }
 
     /// Adds a unit, if one ran, by what the server shows after it.
+    #[inline(always)]
     fn add_run(&mut self, budget: u64, ran: Ran, view: Option<ServerView>)
         ensures { self.new ≡ sums_with budget ran view self.old }
     {
@@ -72,6 +73,7 @@ impl Sums {
     }
 
     /// Adds a step, by what the server shows after it.
+    #[inline(always)]
     pub fn add(&mut self, budget: u64, event: Event, view: Option<ServerView>)
         ensures { self.new ≡ sums_after budget event view self.old }
     {

@@ -47,6 +47,7 @@ impl<A: Allocator + Clone> Tally<A> {
 
 impl<A: Allocator> Tally<A> {
     /// Adds a step of the server.
+    #[inline(always)]
     pub fn add(&mut self, seen: Seen) -> Result<(), AllocError>
         ensures adds { OnOk result ((own : List Seen) → self.old ≡ kept_of self.old.budget own → self.new ≡ kept_of self.old.budget (seen ∷ own)) }
         ensures budget { OnOk result (self.new.budget ≡ self.old.budget) }

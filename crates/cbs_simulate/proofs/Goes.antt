@@ -1,6 +1,7 @@
 -- The next move, as a core makes it.
-use Rattle.std.proofs.Common.{◌≡◌, ℕ, ◌-◌, ◌≤◌, ◌<◌, true, false, leb, ltb, List, [], ◌∷◌, arith, refl, ◌∙◌, ap, Option, Some, None}
+use Rattle.std.proofs.Common.{◌≡◌, ℕ, ◌-◌, ◌≤◌, ◌<◌, true, false, leb, ltb, List, [], ◌∷◌, arith, refl, ◌∙◌, ap, inl, inr, Option, Some, None}
 use Rattle.std.specs.Prelude.{min, slice_get, Result, Ok, Err, OnErr}
+use Rattle.std.proofs.lemmas.Bool.{cases_lt}
 use Rattle.std.proofs.lemmas.Bool.Decides.{nat_tests}
 use Rattle.cbs_job.specs.Work.{Meaning, whole}
 use Rattle.cbs_core.specs.Agreement.{Agrees, TellsOf}
@@ -13,7 +14,7 @@ use Rattle.cbs_steps.specs.declared.reply.Reply.TheVariants as reply
 use Rattle.cbs_steps.specs.declared.step.Step.TheVariants as step
 use Rattle.cbs_simulate.specs.Moves.{Move, submit, run, charge, idle_span, move_on, ran_in, owing_for, Simulation, next_of, coming_after, after_move}
 use Rattle.cbs_simulate.specs.Shown.{Sight, sight_of}
-use Rattle.cbs_simulate.specs.Simulating.{DoesMove, Stops, MakesMove, MakesNext, move_to, owing_told}
+use Rattle.cbs_simulate.specs.Simulating.{DoesMove, Stops, MakesMove, MakesNext, move_to, owing_told, stop_at}
 use Rattle.cbs_simulate.specs.declared.charge.Charge.{Charge}
 use Rattle.cbs_simulate.specs.declared.event.Event.{Event}
 use Rattle.cbs_simulate.specs.declared.event.Event.TheVariants as event
@@ -145,6 +146,34 @@ module _ {W : Type 0} (work : Meaning W) (job : Release → W) where
         let le = later r refl in
         let f : ltb r.tick until ≡ false = grind (arith, nat_tests) in
         rw (t, f) refl
+
+    -- up to the tick at which a release comes, the next move is the one up to that
+    pub before_stop : (coming : List Release) → (world_after work M).now < stop_at until coming
+        → (let sim : Simulation W = record { history = M; coming = coming; owing = None } in
+        next_of work job until sim ≡ Some (move_to work job (stop_at until coming) sim))
+    before_stop [] lt = none_left [] refl lt
+    before_stop (r ∷ rs) lt = none_come (r ∷ rs) r refl (omega arith) (omega arith)
+
+    -- from that tick on, the first release is submitted, if it came before `until`
+    pub one_due : (coming : List Release) (o : Option Charge) (r : Release) → slice_get coming 0 ≡ Some r → stop_at until coming ≤ (world_after work M).now
+        → r.tick < until → ((world_after work M).now < until → o ≡ None)
+        → next_of work job until (record { history = M; coming = coming; owing = o }) ≡ Some (submit r)
+    one_due [] o r e due sooner free = cc
+    one_due (q ∷ rs) o r e due sooner free = elim (cases_lt (world_after work M).now until) [
+      | inl lt ↦
+          let same : q ≡ r = cc in
+          let d : min r.tick until ≤ (world_after work M).now = rw same at due in
+          let come : r.tick ≤ (world_after work M).now = omega arith in
+          rw (free lt) (one_come (q ∷ rs) r e lt come)
+      | inr ge ↦ one_late (q ∷ rs) o r e ge sooner
+    ]
+
+    -- and there is no next move if there is none that did
+    pub none_due : (coming : List Release) (o : Option Charge) → stop_at until coming ≤ (world_after work M).now
+        → ((r : Release) → slice_get coming 0 ≡ Some r → until ≤ r.tick)
+        → next_of work job until (record { history = M; coming = coming; owing = o }) ≡ None
+    none_due [] o due later = none_late [] o due later
+    none_due (r ∷ rs) o due later = let le = later r refl in none_late (r ∷ rs) o (omega arith) later
 
     -- what is owed is charged first
     pub makes_charge : {S : Type 0} (saw : S → S → List Sight → Type 0) (coming : List Release) (c : Charge) (new : CoreHeld W) (w v : S)

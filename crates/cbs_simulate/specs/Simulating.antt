@@ -1,5 +1,5 @@
 -- What a core makes of a load.
-use Rattle.std.specs.Prelude.{◌≡◌, ℕ, List, ◌∷◌, Option, Some, None}
+use Rattle.std.specs.Prelude.{◌≡◌, ℕ, min, List, [], ◌∷◌, Option, Some, None}
 use Rattle.std.specs.List.{AllByRecursion}
 use Rattle.std.specs.Option.{option_and_then}
 use Rattle.cbs_job.specs.Work.{Meaning}
@@ -18,6 +18,11 @@ use Rattle.cbs_simulate.specs.Shown.{Sight, event_of, sight_of, shown}
 use Rattle.cbs_simulate.specs.declared.charge.Charge.{Charge}
 use Rattle.cbs_simulate.specs.declared.event.Event.{Event}
 use Rattle.cbs_simulate.specs.declared.release.Release.{Release}
+
+-- the tick up to which no release comes, but no later than `until`
+abbrev pub stop_at : ℕ → List Release → ℕ
+stop_at until [] = until
+stop_at until (r ∷ rs) = min r.tick until
 
 -- what is owed for a run, as a core that made it tells
 abbrev pub owing_told : {W : Type 0} → Meaning W → CoreHeld W → Ran → Option Charge

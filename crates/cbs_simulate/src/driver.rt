@@ -7,7 +7,7 @@ ghost use Rattle.cbs_simulate.specs.Loading.{loading, job_of};
 ghost use Rattle.cbs_simulate.specs.Moves.{submit, charge, Simulation, clock_of};
 ghost use Rattle.cbs_simulate.specs.Releases.{IsInOrder, MakesJob};
 ghost use Rattle.cbs_simulate.specs.Shown.{Sight};
-ghost use Rattle.cbs_simulate.specs.Simulating.{MakesMove, MakesNext, Stops, StopsAt, Ended, Simulates, move_to};
+ghost use Rattle.cbs_simulate.specs.Simulating.{MakesMove, MakesNext, Stops, StopsAt, Ended, Simulates, move_to, stop_at};
 
 use crate::charge::Charge;
 use crate::event::{Event, Moment};
@@ -18,9 +18,11 @@ use crate::releases::Releases;
 use crate::watcher::Watcher;
 use cbs_core::Core;
 use cbs_rules::LIMIT;
+use cbs_steps::Ran;
 use std::alloc::{AllocError, Allocator};
 
 /// Shows what a move did.
+#[inline(always)]
 fn show<A: Allocator, S: Watcher>(
     core: &Core<LoadJob, A>,
     event: Event,
@@ -34,6 +36,19 @@ fn show<A: Allocator, S: Watcher>(
         event,
     };
     watcher.see(moment, core)
+}
+
+/// Shows what a move did, by a call.
+#[inline(never)]
+fn show_apart<A: Allocator, S: Watcher>(
+    core: &Core<LoadJob, A>,
+    event: Event,
+    watcher: &mut S,
+) -> Result<(), AllocError>
+    ensures { OnOk result ((first : S) (seen : List Sight) → S.saw first watcher.old seen
+        → S.saw first watcher.new (record { moment = record { clock = core.now.clock; event = event }; faces = core.now.faces } ∷ seen)) }
+{
+    show(core, event, watcher)
 }
 
 /// Submits the release that comes next, and shows it.
@@ -57,6 +72,7 @@ fn submit_first<A: Allocator, R: Releases, S: Watcher>(
 }
 
 /// Charges what is owed, as far as `until`, and shows it.
+#[inline(never)]
 fn show_charge<A: Allocator, S: Watcher>(
     core: &mut Core<LoadJob, A>,
     owed: Charge,
@@ -76,6 +92,7 @@ fn show_charge<A: Allocator, S: Watcher>(
 }
 
 /// Runs a unit, or lets ticks pass up to `stop`, and shows it. Returns what is then owed.
+#[inline(always)]
 fn show_next<A: Allocator, S: Watcher>(
     core: &mut Core<LoadJob, A>,
     stop: u64,
@@ -88,48 +105,45 @@ fn show_next<A: Allocator, S: Watcher>(
         → StopsAt loading job_of sim (move_to loading job_of stop sim) core.new) }
 {
     let (event, owing) = moves::go_on(core, stop);
-    show(core, event, watcher)?;
+    // Most moves are units that end no job: they are shown in place, so that what sees them tests once what they are. The
+    // others are shown apart, so that the loop over units stays small.
+    match event {
+        Event::Ran(Ran::Unit { server, seq }) => {
+            show(core, Event::Ran(Ran::Unit { server, seq }), watcher)?;
+        }
+        _ => show_apart(core, event, watcher)?,
+    }
     Ok(owing)
 }
 
-/// Makes the next move before `until` if nothing is owed, and shows it. Returns what is then owed.
-fn make_free<A: Allocator, R: Releases, S: Watcher>(
-    core: &mut Core<LoadJob, A>,
-    releases: &mut R,
-    until: u64,
-    watcher: &mut S,
-) -> Result<Option<Charge>, AllocError>
-    requires { core.old.clock < until }
-    ensures makes { IfOk result (λ owing. (M : History LoadJob) → Agrees loading core.old M
-        → MakesNext loading job_of until S.saw (record { history = M; coming = R.coming releases.old; owing = None })
-        core.new (R.coming releases.new) owing watcher.old watcher.new) }
-    ensures stopped { OnErr result ((M : History LoadJob) → Agrees loading core.old M
-        → Stops loading job_of until (record { history = M; coming = R.coming releases.old; owing = None }) core.new) }
+/// Returns the tick up to which nobody but a server may have something to do: that of the next release, but no later than
+/// `until`.
+#[inline(never)]
+fn stop_of<R: Releases>(releases: &R, until: u64) -> u64
+    ensures { result ≡ stop_at until (R.coming releases.now) }
 {
-    let now = core.now();
     match releases.first() {
-        Some(release) if release.tick <= now => {
-            submit_first(core, releases, release, watcher)?;
-            Ok(None)
-        }
-        Some(release) => show_next(core, release.tick.min(until), watcher),
-        None => show_next(core, until, watcher),
+        Some(release) => release.tick.min(until),
+        None => until,
     }
 }
 
-/// Submits the next release, if it came before `until`, at which the clock stands, and shows it. Returns whether it did.
-fn submit_last<A: Allocator, R: Releases, S: Watcher>(
+/// Submits the next release, which has come, if it came before `until`, and shows it. Returns whether it did.
+#[inline(never)]
+fn submit_due<A: Allocator, R: Releases, S: Watcher>(
     core: &mut Core<LoadJob, A>,
     releases: &mut R,
     until: u64,
     watcher: &mut S,
 ) -> Result<bool, AllocError>
-    requires { until ≤ core.old.clock }
+    requires { stop_at until (R.coming releases.old) ≤ core.old.clock }
     ensures moved { IfOk result (λ moved. moved ≡ true → (sim : Simulation LoadJob) → Agrees loading core.old sim.history → sim.coming ≡ R.coming releases.old
+        → (core.old.clock < until → sim.owing ≡ None)
         → MakesNext loading job_of until S.saw sim core.new (R.coming releases.new) sim.owing watcher.old watcher.new) }
     ensures ended { IfOk result (λ moved. moved ≡ false → (sim : Simulation LoadJob) → Agrees loading core.old sim.history → sim.coming ≡ R.coming releases.old
         → Ended loading job_of until sim core.old core.new (R.coming releases.new) sim.owing watcher.old watcher.new) }
     ensures stopped { OnErr result ((sim : Simulation LoadJob) → Agrees loading core.old sim.history → sim.coming ≡ R.coming releases.old
+        → (core.old.clock < until → sim.owing ≡ None)
         → Stops loading job_of until sim core.new) }
 {
     match releases.first() {
@@ -141,14 +155,30 @@ fn submit_last<A: Allocator, R: Releases, S: Watcher>(
     }
 }
 
+/// Keeps what is owed after a move before which nothing was. Most units leave nothing owed: they write nothing.
+#[inline(always)]
+fn keep_owed(owing: &mut Option<Charge>, owed: Option<Charge>)
+    requires { owing.old ≡ None }
+    ensures { owing.new ≡ owed }
+{
+    if owed.is_some() {
+        *owing = owed;
+    }
+}
+
 /// Makes the next move, and shows it. Returns whether there was one.
+///
+/// It keeps the tick up to which no release comes, so that none is asked for while units run.
 fn make_next<A: Allocator, R: Releases, S: Watcher>(
     core: &mut Core<LoadJob, A>,
     releases: &mut R,
     owing: &mut Option<Charge>,
+    stop: &mut u64,
     until: u64,
     watcher: &mut S,
 ) -> Result<bool, AllocError>
+    requires { stop.old ≡ stop_at until (R.coming releases.old) }
+    ensures stop { IfOk result (λ moved. stop.new ≡ stop_at until (R.coming releases.new)) }
     ensures moved { IfOk result (λ moved. moved ≡ true → (M : History LoadJob) → Agrees loading core.old M
         → MakesNext loading job_of until S.saw (record { history = M; coming = R.coming releases.old; owing = owing.old })
         core.new (R.coming releases.new) owing.new watcher.old watcher.new) }
@@ -158,17 +188,25 @@ fn make_next<A: Allocator, R: Releases, S: Watcher>(
     ensures stopped { OnErr result ((M : History LoadJob) → Agrees loading core.old M
         → Stops loading job_of until (record { history = M; coming = R.coming releases.old; owing = owing.old }) core.new) }
 {
-    if core.now() >= until {
-        return submit_last(core, releases, until, watcher);
-    }
     match *owing {
-        Some(owed) => {
-            show_charge(core, owed, until, watcher)?;
-            *owing = None;
+        None => {
+            if core.now() < *stop {
+                let owed = show_next(core, *stop, watcher)?;
+                keep_owed(owing, owed);
+                return Ok(true);
+            }
         }
-        None => *owing = make_free(core, releases, until, watcher)?,
+        Some(owed) => {
+            if core.now() < until {
+                show_charge(core, owed, until, watcher)?;
+                *owing = None;
+                return Ok(true);
+            }
+        }
     }
-    Ok(true)
+    let moved = submit_due(core, releases, until, watcher)?;
+    *stop = stop_of(releases, until);
+    Ok(moved)
 }
 
 /// Runs a load up to a tick. At each moment it first charges what the last unit took beyond its first tick, then submits every
@@ -195,6 +233,7 @@ pub fn simulate<A: Allocator, R: Releases, S: Watcher>(
         → Stops loading job_of until (record { history = M; coming = R.coming releases.old; owing = None }) core.new) }
 {
     let mut owing = None;
-    while make_next(core, releases, &mut owing, until, watcher)? {}
+    let mut stop = stop_of(releases, until);
+    while make_next(core, releases, &mut owing, &mut stop, until, watcher)? {}
     Ok(())
 }

@@ -52,6 +52,7 @@ pub(crate) fn submit<A: Allocator>(
 }
 
 /// Runs a unit of the chosen server. Returns what is then owed for it, beside the event.
+#[inline(always)]
 pub(crate) fn run<A: Allocator>(core: &mut Core<LoadJob, A>) -> (Event, Option<Charge>)
     ensures { (sim : Simulation LoadJob) → Agrees loading core.old sim.history → DoesMove loading job_of sim run core.new result.0 result.1 }
 {
@@ -60,6 +61,7 @@ pub(crate) fn run<A: Allocator>(core: &mut Core<LoadJob, A>) -> (Event, Option<C
 }
 
 /// Returns what is owed for a run that was just answered so.
+#[inline(always)]
 fn owing<A: Allocator>(core: &Core<LoadJob, A>, ran: Ran) -> Option<Charge>
     ensures { result ≡ owing_told loading core.now ran }
 {
@@ -87,6 +89,7 @@ pub(crate) fn charge<A: Allocator>(core: &mut Core<LoadJob, A>, server: u16, tic
 }
 
 /// Runs a unit if somebody is ready, and else lets ticks pass, up to `stop` at most.
+#[inline(always)]
 pub(crate) fn go_on<A: Allocator>(core: &mut Core<LoadJob, A>, stop: u64) -> (Event, Option<Charge>)
     requires { core.old.clock ≤ stop }
     ensures { (sim : Simulation LoadJob) → Agrees loading core.old sim.history
@@ -103,6 +106,7 @@ pub(crate) fn go_on<A: Allocator>(core: &mut Core<LoadJob, A>, stop: u64) -> (Ev
 
 /// Returns for how many ticks nobody will be ready, or `None` if somebody is. It first asks who is ready, since that takes
 /// less time than the search for a span.
+#[inline(always)]
 fn span_if_idle<A: Allocator>(core: &Core<LoadJob, A>) -> Option<u64>
     ensures { TellsOf loading core.now (λ w. result ≡ idle_span w.now (faces loading w)) }
 {

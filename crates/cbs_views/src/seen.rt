@@ -66,6 +66,7 @@ pub enum Event {
 }
 
 /// Returns the server of a unit, or `None` if none ran.
+#[inline]
 fn server_of_unit(ran: Ran) -> Option<u16>
     ensures { result ≡ server_of_unit ran }
 {
@@ -77,6 +78,7 @@ fn server_of_unit(ran: Ran) -> Option<u16>
 }
 
 /// Returns the ticks that a run takes: one for a unit.
+#[inline]
 fn ticks_of_run(ran: Ran) -> u64
     ensures { result ≡ ticks_of_run ran }
 {
@@ -89,6 +91,7 @@ fn ticks_of_run(ran: Ran) -> u64
 impl Event {
     /// Returns the server that the step is of: the one that a job came for, that ran, or that was charged. Returns `None` if
     /// there is none.
+    #[inline]
     pub fn server(&self) -> Option<u16>
         ensures { result ≡ server_of self.now }
     {
@@ -105,6 +108,7 @@ impl Event {
     }
 
     /// Returns the ticks that the step took.
+    #[inline]
     pub fn ticks(&self) -> u64
         ensures { result ≡ ticks_of self.now }
     {
@@ -134,6 +138,7 @@ pub struct Seen {
 
 impl Seen {
     /// Returns the clock before the step.
+    #[inline]
     pub fn begun(&self) -> u64
         ensures { result ≡ begun self.now }
     {

@@ -5,17 +5,20 @@ use Rattle.cbs_simulate.proofs.driver.simulate.Goals as goal
 
 pub loop-smaller : goal.loop-smaller
 loop-smaller g c = smaller loading job_of c.args.until g.S.Watcher.saw c.requires.end _ _ _ _ _ _ _ _ c.requires.early c.requires.order
-    c.loop.invariant _ _ _ (c.in_ok-make_next.ensures.moved c.if-branch.true) c.requires.history
+    c.loop.invariant.made _ _ _ (c.in_ok-make_next.ensures.moved c.if-branch.true) c.requires.history
 
 pub loop-preserved : goal.loop-preserved
-loop-preserved g c = preserved loading job_of c.args.until g.S.Watcher.saw c.requires.end _ _ _ _ _ _ _ _ c.requires.early c.requires.order
-    c.loop.invariant _ _ _ (c.in_ok-make_next.ensures.moved c.if-branch.true)
+loop-preserved g c = record {
+  made = preserved loading job_of c.args.until g.S.Watcher.saw c.requires.end _ _ _ _ _ _ _ _ c.requires.early c.requires.order
+      c.loop.invariant.made _ _ _ (c.in_ok-make_next.ensures.moved c.if-branch.true);
+  stop = c.in_ok-make_next.ensures.stop;
+}
 
 pub returns-clause-simulates : goal.returns-clause-simulates
 returns-clause-simulates g c = all_made loading job_of c.args.until g.S.Watcher.saw c.requires.end _ _ _ _ _ _ _ _ c.requires.early c.requires.order
-    c.loop.invariant _ _ _ (c.in_ok-make_next.ensures.ended c.if-branch.false)
+    c.loop.invariant.made _ _ _ (c.in_ok-make_next.ensures.ended c.if-branch.false)
 
 pub returns-in_err-make_next-clause-stopped : goal.returns-in_err-make_next-clause-stopped
 returns-in_err-make_next-clause-stopped g c = on_err c.from_residual.result
-    (stopped loading job_of c.args.until g.S.Watcher.saw c.requires.end _ _ _ _ _ _ _ _ c.requires.early c.requires.order c.loop.invariant
+    (stopped loading job_of c.args.until g.S.Watcher.saw c.requires.end _ _ _ _ _ _ _ _ c.requires.early c.requires.order c.loop.invariant.made
     c.in_err-make_next.ensures.stopped)
