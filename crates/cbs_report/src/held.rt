@@ -66,14 +66,10 @@ impl Held {
         ensures { self.new ≡ held_with begun clock view self.old }
     {
         self.ticks = self.until(begun);
-        match wait_of(clock, view) {
-            Some(wait) => self.wait = Some(wait),
-            // Most steps are of a server that did not wait and does not wait after them: it is left as it is.
-            None => {
-                if self.wait.is_some() {
-                    self.wait = None;
-                }
-            }
+        let wait = wait_of(clock, view);
+        // Most steps are of a server that did not wait and does not wait after them: it is left as it is.
+        if self.wait.is_some() || wait.is_some() {
+            self.wait = wait;
         }
     }
 }

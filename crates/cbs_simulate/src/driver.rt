@@ -38,19 +38,6 @@ fn show<A: Allocator, S: Watcher>(
     watcher.see(moment, core)
 }
 
-/// Shows what a move did, by a call.
-#[inline(never)]
-fn show_apart<A: Allocator, S: Watcher>(
-    core: &Core<LoadJob, A>,
-    event: Event,
-    watcher: &mut S,
-) -> Result<(), AllocError>
-    ensures { OnOk result ((first : S) (seen : List Sight) → S.saw first watcher.old seen
-        → S.saw first watcher.new (record { moment = record { clock = core.now.clock; event = event }; faces = core.now.faces } ∷ seen)) }
-{
-    show(core, event, watcher)
-}
-
 /// Submits the release that comes next, and shows it.
 fn submit_first<A: Allocator, R: Releases, S: Watcher>(
     core: &mut Core<LoadJob, A>,
@@ -72,7 +59,6 @@ fn submit_first<A: Allocator, R: Releases, S: Watcher>(
 }
 
 /// Charges what is owed, as far as `until`, and shows it.
-#[inline(never)]
 fn show_charge<A: Allocator, S: Watcher>(
     core: &mut Core<LoadJob, A>,
     owed: Charge,
@@ -105,20 +91,18 @@ fn show_next<A: Allocator, S: Watcher>(
         → StopsAt loading job_of sim (move_to loading job_of stop sim) core.new) }
 {
     let (event, owing) = moves::go_on(core, stop);
-    // Most moves are units that end no job: they are shown in place, so that what sees them tests once what they are. The
-    // others are shown apart, so that the loop over units stays small.
+    // Most moves are units that end no job: they are shown for themselves, so that what sees them tests once what they are.
     match event {
         Event::Ran(Ran::Unit { server, seq }) => {
             show(core, Event::Ran(Ran::Unit { server, seq }), watcher)?;
         }
-        _ => show_apart(core, event, watcher)?,
+        _ => show(core, event, watcher)?,
     }
     Ok(owing)
 }
 
 /// Returns the tick up to which nobody but a server may have something to do: that of the next release, but no later than
 /// `until`.
-#[inline(never)]
 fn stop_of<R: Releases>(releases: &R, until: u64) -> u64
     ensures { result ≡ stop_at until (R.coming releases.now) }
 {
@@ -129,7 +113,6 @@ fn stop_of<R: Releases>(releases: &R, until: u64) -> u64
 }
 
 /// Submits the next release, which has come, if it came before `until`, and shows it. Returns whether it did.
-#[inline(never)]
 fn submit_due<A: Allocator, R: Releases, S: Watcher>(
     core: &mut Core<LoadJob, A>,
     releases: &mut R,
@@ -152,17 +135,6 @@ fn submit_due<A: Allocator, R: Releases, S: Watcher>(
             Ok(true)
         }
         _ => Ok(false),
-    }
-}
-
-/// Keeps what is owed after a move before which nothing was. Most units leave nothing owed: they write nothing.
-#[inline(always)]
-fn keep_owed(owing: &mut Option<Charge>, owed: Option<Charge>)
-    requires { owing.old ≡ None }
-    ensures { owing.new ≡ owed }
-{
-    if owed.is_some() {
-        *owing = owed;
     }
 }
 
@@ -191,8 +163,7 @@ fn make_next<A: Allocator, R: Releases, S: Watcher>(
     match *owing {
         None => {
             if core.now() < *stop {
-                let owed = show_next(core, *stop, watcher)?;
-                keep_owed(owing, owed);
+                *owing = show_next(core, *stop, watcher)?;
                 return Ok(true);
             }
         }
