@@ -50,7 +50,7 @@ fn is_within(time: u64, within: Option<u64>) -> bool
     }
 }
 
-/// Adds a cell to a row that tells whether each job is finished in time, if it is finished within so many ticks.
+/// Adds a cell to a row: whether each job is finished in time, if it is finished within so many ticks.
 fn push_promise(
     alloc: Global,
     row: &mut Vec<Cell>,
@@ -68,7 +68,7 @@ fn push_promise(
     Ok(())
 }
 
-/// Adds a cell to a row that tells whether each job is finished in the time that is wanted.
+/// Adds a cell to a row: whether each job is finished in the time that is wanted.
 fn push_in_time(
     alloc: Global,
     row: &mut Vec<Cell>,
