@@ -326,11 +326,12 @@ within = 80
 #[derive(Drop)]
 struct Nobody;
 
-impl Watcher for Nobody {
+impl Watcher<()> for Nobody {
     ghost saw = { λ first it seen. Unit {0} };
 
     fn see<A: Allocator>(
         &mut self,
+        _lent: &mut (),
         _moment: Moment,
         _core: &Core<LoadJob, A>,
     ) -> Result<(), AllocError> {
@@ -353,6 +354,7 @@ fn comes_to(rt: &impl Abort, alloc: Global, text: &str, rows: [(u64, u64); 4]) {
         &mut releases,
         until,
         &mut Nobody,
+        &mut (),
     )
     .ok()
     .expect(rt, "a simulation");

@@ -1,12 +1,14 @@
 -- The steps of a load, as they are seen.
-use Rattle.std.proofs.Common.{◌≡◌, ℕ, List, [], map, Option, None, refl}
+use Rattle.std.proofs.Common.{◌≡◌, ◌⊎◌, ◌∙◌, ℕ, List, [], ◌++◌, ap, inl, map, sym, Option, None, refl}
+use Rattle.std.proofs.lemmas.List.{append-nil, map-append}
 use Rattle.cbs_load.specs.Loads.{LoadFile}
 use Rattle.cbs_rate.specs.Plan.{Planned}
 use Rattle.cbs_rules.specs.declared.mode.Mode.{Mode}
 use Rattle.cbs_simulate.specs.Drawing.{released_by_all}
 use Rattle.cbs_simulate.specs.Loading.{loading, job_of}
 use Rattle.cbs_simulate.specs.Merging.{merged}
-use Rattle.cbs_simulate.specs.Moves.{Simulation, moves_of}
+use Rattle.cbs_simulate.specs.Moves.{Move, Simulation, after_moves, moves_of}
+use Rattle.cbs_simulate.proofs.Loop.{shown_before, shown_on}
 use Rattle.cbs_simulate.specs.Shown.{shown}
 use Rattle.cbs_simulate.specs.declared.load_job.LoadJob.{LoadJob}
 use Rattle.cbs_simulate.specs.declared.release.Release.{Release}
@@ -16,6 +18,7 @@ use Rattle.cbs_report.specs.declared.figures.Figures.{Figures}
 use Rattle.cbs_views.specs.declared.seen.Seen.{Seen}
 use Rattle.cbs_planning.specs.Sights.{seen_of}
 use Rattle.cbs_planning.specs.Loads.{seen_in, withins}
+use Rattle.cbs_planning.specs.Showing.{SawSome}
 
 -- a simulation of these servers and releases
 abbrev pub simulation : List Mode → Planned → ℕ → List Release → Simulation LoadJob
@@ -36,3 +39,26 @@ same_seen f within modes plan backlog until coming a b c d e g = rw (a, b, c, d,
 -- figures with the same budgets up to the same tick
 pub same_figures : (bs cs : List ℕ) (m n : ℕ) (seen : List Seen) (fs : List Figures) → bs ≡ cs → m ≡ n → AreAllFigures bs m seen fs → AreAllFigures cs n seen fs
 same_figures bs cs m n seen fs b e h = rw (← b, ← e) h
+
+-- a view that saw no step
+pub saw_none : {S : Type 0} (saw failed : S → S → List Seen → Type 0) (first now : S) (steps : List Seen) → saw first now [] → SawSome saw failed first now steps
+saw_none saw failed first now steps was = record { later = steps; done = []; all = append-nil steps; seen = inl was }
+
+-- a view of some of the moves of a simulation saw some first steps
+pub saw_some : {S : Type 0} (saw failed : S → S → List Seen → Type 0) (first now : S) (within : List (Option ℕ)) (until : ℕ) (sim : Simulation LoadJob)
+    (done left : List Move) (steps : List Seen) → done ++ left ≡ moves_of loading job_of until sim
+    → map (seen_of within) (shown loading job_of sim (moves_of loading job_of until sim) []) ≡ steps
+    → saw first now (map (seen_of within) (shown loading job_of sim done [])) ⊎ failed first now (map (seen_of within) (shown loading job_of sim done []))
+    → SawSome saw failed first now steps
+saw_some saw failed first now within until sim done left steps all same seen =
+    let rest = after_moves loading job_of sim done in
+    let before = shown loading job_of sim done [] in
+    let later = shown loading job_of rest left [] in
+    record {
+      later = map (seen_of within) later;
+      done = map (seen_of within) before;
+      all = sym (map-append (seen_of within) later before)
+          ∙ ap (map (seen_of within)) (sym (shown_before loading job_of rest left before) ∙ sym (shown_on loading job_of sim done left []))
+          ∙ ap (λ ms. map (seen_of within) (shown loading job_of sim ms [])) all ∙ same;
+      seen = seen;
+    }

@@ -2,3 +2,4 @@ pub mod Sights
 pub mod Throttled
 pub mod Loads
 pub mod Tasks
+pub mod Showing

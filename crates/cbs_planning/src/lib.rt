@@ -2,6 +2,7 @@
 #![tactic(auto)]
 
 mod reported;
+mod showing;
 mod task_report;
 mod task_steps;
 #[cfg(test)]
@@ -10,4 +11,6 @@ mod watched;
 mod within;
 
 pub use reported::report_of;
+pub use showing::{Stopped, show_load};
 pub use task_report::task_report_of;
+pub use task_steps::show_steps;

@@ -6,12 +6,11 @@ ghost use Rattle.cbs_report.specs.Reports.{AreAllFigures};
 ghost use Rattle.cbs_report.specs.Tallies.{ticks_idle};
 ghost use Rattle.cbs_planning.specs.Loads.{AreThrottled, IsReportOf, seen_in, within_of};
 
-use crate::watched::Watched;
-use crate::within::{by_source, within_of};
+use crate::showing::show_load;
+use crate::within::within_of;
 use cbs_load::Load;
 use cbs_print::{RunReport, ServerReport};
 use cbs_report::{Figures, Report};
-use cbs_simulate::{load_of, simulate_plan};
 use std::alloc::{AllocError, Global};
 
 /// Simulates a load up to its end. Returns the figures of its servers, and the ticks in which nobody ran.
@@ -20,24 +19,12 @@ fn simulated(alloc: Global, load: &Load) -> Result<(Vec<Figures>, u64), AllocErr
     ensures idle { IfOk result (λ r. r.1 ≡ told (total (λ o. ticks_idle o.event) (seen_in load.now))) }
     ensures throttled { OnOk result (AreThrottled load.now) }
 {
-    let mut releases = load_of(alloc, load.sources(), load.until(), load.seed())?;
-    let mut watched = Watched {
-        view: Report::new(alloc, load.plan())?,
-        within: by_source(alloc, load.sources())?,
-    };
-    let Ok(_core) = simulate_plan(
-        alloc,
-        load.plan(),
-        load.modes(),
-        load.backlog(),
-        &mut releases,
-        load.until(),
-        &mut watched,
-    ) else {
+    let report = Report::new(alloc, load.plan())?;
+    let Ok(report) = show_load(alloc, load, report, &mut ()) else {
         return Err(AllocError);
     };
-    let idle = watched.view.idle();
-    let figures = watched.view.figures(alloc, load.until())?;
+    let idle = report.idle();
+    let figures = report.figures(alloc, load.until())?;
     Ok((figures, idle))
 }
 

@@ -38,7 +38,7 @@ fn outcome_of(
         return Err(AllocError);
     };
     let mut report = Report::new(alloc, setup.plan())?;
-    show_steps(&mut core, steps, &mut report)?;
+    show_steps(&mut core, steps, &mut report, &mut ())?;
     let clock = core.now();
     let idle = report.idle();
     let figures = report.figures(alloc, clock)?;

@@ -3,7 +3,6 @@
 ghost use Rattle.std.specs.Prelude.{◌≡◌, ◌∷◌, List, OnOk};
 ghost use Rattle.cbs_core.specs.Agreement.{Agrees, TellsOf};
 ghost use Rattle.cbs_job.specs.FileJobs.{of_files};
-ghost use Rattle.cbs_report.specs.Tallies.{HasSeen, Reported};
 ghost use Rattle.cbs_simulate.specs.Moves.{ran_in};
 ghost use Rattle.cbs_simulate.specs.Shown.{answer_in, promised_in};
 ghost use Rattle.cbs_steps.specs.Continuations.{◌⊕⊕◌};
@@ -15,7 +14,6 @@ ghost use Rattle.cbs_planning.specs.Tasks.{asked_of, refusal_in, advance_seen, c
 use crate::watched::view_seen;
 use cbs_core::{Core, CoreError, Ran, Reply, Step};
 use cbs_job::FileJob;
-use cbs_report::Report;
 use cbs_views::{Arrival, Event, Seen, View};
 use std::alloc::AllocError;
 
@@ -172,36 +170,40 @@ fn seen_of_step(core: &Core<FileJob>, asked: Asked, reply: &Reply<FileJob>) -> S
     }
 }
 
-/// Makes a step, and shows it to the report.
-fn show_step(
+/// Makes a step, and shows it to the view.
+fn show_step<C, V: View<C>>(
     core: &mut Core<FileJob>,
     step: Step<FileJob>,
-    report: &mut Report,
+    view: &mut V,
+    lent: &mut C,
 ) -> Result<(), AllocError>
     ensures state { OnOk result ((M : History FileJob) → Agrees of_files core.old M → Agrees of_files core.new (M ⊕ step)) }
-    ensures seen { OnOk result ((M : History FileJob) → Agrees of_files core.old M → (first : Reported) (seen : List Seen)
-        → HasSeen first report.old seen → HasSeen first report.new (seen_after M step ∷ seen)) }
+    ensures seen { OnOk result ((M : History FileJob) → Agrees of_files core.old M → (first : (V × C)) (seen : List Seen)
+        → V.saw first (view.old, lent.old) seen → V.saw first (view.new, lent.new) (seen_after M step ∷ seen)) }
 {
     let asked = asked_of(&step);
     let reply = core.step(step);
     if lacks_memory(&reply) {
         return Err(AllocError);
     }
-    report.see(seen_of_step(core, asked, &reply))
+    view.see(lent, seen_of_step(core, asked, &reply))
 }
 
-/// Makes steps, in order, and shows each to the report.
-pub(crate) fn show_steps(
+/// Makes steps, in order, and shows each to the view.
+///
+/// Refuses if out of memory, or if the view fails: then the core has made the first steps, up to some step.
+pub fn show_steps<C, V: View<C>>(
     core: &mut Core<FileJob>,
     steps: Vec<Step<FileJob>>,
-    report: &mut Report,
+    view: &mut V,
+    lent: &mut C,
 ) -> Result<(), AllocError>
     ensures state { OnOk result ((M : History FileJob) → Agrees of_files core.old M → Agrees of_files core.new (M ⊕⊕ steps.items)) }
-    ensures seen { OnOk result ((M : History FileJob) → Agrees of_files core.old M → (first : Reported) (seen : List Seen)
-        → HasSeen first report.old seen → HasSeen first report.new (seen_from M steps.items seen)) }
+    ensures seen { OnOk result ((M : History FileJob) → Agrees of_files core.old M → (first : (V × C)) (seen : List Seen)
+        → V.saw first (view.old, lent.old) seen → V.saw first (view.new, lent.new) (seen_from M steps.items seen)) }
 {
     for step in steps {
-        show_step(core, step, report)?;
+        show_step(core, step, view, lent)?;
     }
     Ok(())
 }

@@ -12,7 +12,7 @@ use std::alloc::{AllocError, Allocator};
 
 /// A view of a simulation, and within how many ticks the jobs of each source are to be finished.
 #[derive(Drop)]
-pub struct Watched<V: View> {
+pub struct Watched<V> {
     /// The view.
     pub view: V,
     /// The ticks by source, if they are wanted.
@@ -72,24 +72,31 @@ pub(crate) fn view_seen<W: Work, A: Allocator>(
     core.view(server).ok()
 }
 
-impl<V: View> Watcher for Watched<V> {
+impl<C, V: View<C>> Watcher<C> for Watched<V> {
     ghost use Rattle.std.specs.Prelude.{map};
     ghost use Rattle.cbs_planning.specs.Sights.{seen_of};
 
-    ghost saw = { λ first now sights. (now.within ≡ first.within) × V.saw first.view now.view (map (seen_of first.within.items) sights) };
+    ghost saw = { λ first now sights. (now.0.within ≡ first.0.within)
+        × V.saw (first.0.view, first.1) (now.0.view, now.1) (map (seen_of first.0.within.items) sights) };
+
+    ghost failed = { λ first now sights. V.failed (first.0.view, first.1) (now.0.view, now.1) (map (seen_of first.0.within.items) sights) };
 
     #[inline(always)]
     fn see<A: Allocator>(
         &mut self,
+        lent: &mut C,
         moment: Moment,
         core: &Core<LoadJob, A>,
     ) -> Result<(), AllocError> {
         let event = event_seen(&self.within, moment.event);
         let view = view_seen(core, &event);
-        self.view.see(Seen {
-            clock: moment.clock,
-            event,
-            view,
-        })
+        self.view.see(
+            lent,
+            Seen {
+                clock: moment.clock,
+                event,
+                view,
+            },
+        )
     }
 }

@@ -97,13 +97,13 @@ impl<A: Allocator> Report<A> {
     }
 }
 
-impl<A: Allocator> View for Report<A> {
+impl<A: Allocator> View<()> for Report<A> {
     ghost use Rattle.cbs_report.specs.Tallies.{HasSeen};
 
-    ghost saw = { λ first now seen. HasSeen first now seen };
+    ghost saw = { λ first now seen. HasSeen first.0 now.0 seen };
 
     #[inline(always)]
-    fn see(&mut self, seen: Seen) -> Result<(), AllocError> {
+    fn see(&mut self, _lent: &mut (), seen: Seen) -> Result<(), AllocError> {
         match seen.event.server() {
             Some(server) => self.add(server, seen),
             None => {

@@ -91,7 +91,7 @@ fn figures_of(
             event: *event,
             view: *view,
         };
-        report.see(seen).ok().expect(rt, "memory");
+        report.see(&mut (), seen).ok().expect(rt, "memory");
     }
     let idle = report.idle();
     let figures = report.figures(alloc, now).ok().expect(rt, "memory");
@@ -210,7 +210,7 @@ fn percentiles_are_by_nearest_rank(rt: HostRuntime) {
                 event,
                 view: None,
             };
-            report.see(seen).ok().expect(&rt, "memory");
+            report.see(&mut (), seen).ok().expect(&rt, "memory");
         }
     }
     let figures = report.figures(alloc, 150).ok().expect(&rt, "memory");

@@ -1,5 +1,5 @@
 -- The laws of a simulation from the start.
-use Rattle.std.proofs.Common.{◌≡◌, ℕ, ◌≤◌, List, [], ◌∷◌, arith, refl, ap, None}
+use Rattle.std.proofs.Common.{◌≡◌, ℕ, ◌≤◌, List, [], ◌∷◌, arith, refl, ap, inl, None}
 use Rattle.std.specs.List.{AllByRecursion}
 use Rattle.cbs_job.specs.Work.{Meaning}
 use Rattle.cbs_core.specs.Held.{CoreHeld}
@@ -11,8 +11,9 @@ use Rattle.cbs_simulate.specs.Moves.{Move, charged_by, Simulation, after_move, a
 use Rattle.cbs_simulate.specs.MoveLaws.{AllMoves}
 use Rattle.cbs_simulate.specs.Releases.{IsInOrder}
 use Rattle.cbs_simulate.specs.Shown.{Sight}
-use Rattle.cbs_simulate.specs.Simulating.{Simulates, SimulatesAlone}
+use Rattle.cbs_simulate.specs.Simulating.{Simulates, SimulatesAlone, Stops, SeesSome}
 use Rattle.cbs_simulate.specs.declared.release.Release.{Release}
+use Rattle.cbs_simulate.proofs.Loop.{first_moves}
 use Rattle.cbs_simulate.proofs.MoveSteps.{IsGoing}
 use Rattle.cbs_simulate.proofs.Simulations.{moves_are, quiet_steps}
 use Rattle.cbs_simulate.proofs.Uncharged.{uncharged, free_steps, at_ticks, plain_new}
@@ -49,3 +50,18 @@ module _ {W : Type 0} (work : Meaning W) (job : Release → W) where
         at_tick = λ plain. at_ticks work job sim ms (none plain) h.on_tick;
         uncharged = λ plain. free_steps work job sim ms (none plain) h.quiet tt;
       }
+
+  -- a watcher saw no move
+  pub sees_none : (until : ℕ) {S : Type 0} (saw failed : S → S → List Sight → Type 0) (sim : Simulation W) (w : S)
+      → SeesSome work job until saw failed sim w w
+  sees_none until saw failed sim w = record { done = []; left = moves_of work job until sim; all = refl; seen = λ first seen was. inl was }
+
+  -- a new core that stopped did so after some of the moves
+  pub sees_some : (until : ℕ) → until ≤ clock_end → {S : Type 0} (saw failed : S → S → List Sight → Type 0) (ts : List Terms) (backlog : ℕ)
+      (coming : List Release) (new : CoreHeld W) (w v : S) → IsInOrder 0 coming
+      → (let sim : Simulation W = record { history = record { setup = record { servers = ts; backlog = backlog }; steps = [] }; coming = coming; owing = None } in
+      Stops work job until saw failed sim new w v → SeesSome work job until saw failed sim w v)
+  sees_some until ends saw failed ts backlog coming new w v order h =
+      let sim : Simulation W = record { history = record { setup = record { servers = ts; backlog = backlog }; steps = [] }; coming = coming; owing = None } in
+      let going : IsGoing work job until ends 0 sim = record { early = omega arith; waited = omega arith; order = order; owed = λ lt c e. cc } in
+      record { done = h.moves; left = moves_of work job until (after_moves work job sim h.moves); all = first_moves work job until ends 0 sim h.moves going h.each; seen = h.seen }

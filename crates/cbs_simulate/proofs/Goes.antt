@@ -26,6 +26,11 @@ pub on_err : {T E P : Type 0} (r : Result T E) → P → OnErr r P
 on_err (Ok x) p = tt
 on_err (Err e) p = p
 
+-- what follows at an error from what holds at an error
+pub on_err_with : {T E P Q : Type 0} (r : Result T E) → (P → Q) → OnErr r P → OnErr r Q
+on_err_with (Ok x) f p = tt
+on_err_with (Err e) f p = f p
+
 module _ {W : Type 0} (work : Meaning W) (job : Release → W) where
   -- a run, as it was answered
   pub runs : (constant : (j : W) → whole work j ≡ work.output j) (sim : Simulation W) (old new : CoreHeld W) (r : Ran) (o : Option Charge)
@@ -48,24 +53,33 @@ module _ {W : Type 0} (work : Meaning W) (job : Release → W) where
       let answer : reply.Accepted q ≡ reply_in work sim.history (step.Submit r.server (job r)) = rw is at (makes.reply sim.history agrees) in
       record { event = rw (← answer) (ap (event.Submitted r (Ok q)) (told _ state)); state = state; owed = refl }
 
+  -- what a core shows of a move that it made
+  sight_is : (sim : Simulation W) (m : Move) (new : CoreHeld W) (e : Event) (o : Option Charge) → DoesMove work job sim m new e o
+      → record { moment = record { clock = new.clock; event = e }; faces = new.faces } ≡ sight_of work job sim m
+  sight_is sim m new e o moves =
+      let at = moves.state.world.clock in
+      let shown = moves.state.world.shown in
+      rw (at, shown, moves.event) refl
+
   -- a move that a core made, and that a watcher saw
   pub sees : {S : Type 0} (saw : S → S → List Sight → Type 0) (sim : Simulation W) (m : Move) (new : CoreHeld W) (e : Event) (o : Option Charge) (w v : S)
       → DoesMove work job sim m new e o
       → ((first : S) (seen : List Sight) → saw first w seen → saw first v (record { moment = record { clock = new.clock; event = e }; faces = new.faces } ∷ seen))
       → MakesMove work job saw sim m new o w v
   sees saw sim m new e o w v moves sight =
-      let at = moves.state.world.clock in
-      let shown = moves.state.world.shown in
-      let is : record { moment = record { clock = new.clock; event = e }; faces = new.faces } ≡ sight_of work job sim m = rw (at, shown, moves.event) refl in
-      record { state = moves.state; owed = moves.owed; seen = λ first seen was. rw is at (sight first seen was) }
+      record { state = moves.state; owed = moves.owed; seen = λ first seen was. rw (sight_is sim m new e o moves) at (sight first seen was) }
 
   -- a core that did nothing stopped before any move, and one that made the next move stopped after it
-  pub stops_first : (until : ℕ) (sim : Simulation W) (new : CoreHeld W) → Agrees work new sim.history → Stops work job until sim new
-  stops_first until sim new state = record { moves = []; each = tt; state = state }
+  pub stops_first : {S : Type 0} (saw failed : S → S → List Sight → Type 0) (until : ℕ) (sim : Simulation W) (new : CoreHeld W) (w : S)
+      → Agrees work new sim.history → Stops work job until saw failed sim new w w
+  stops_first saw failed until sim new w state = record { moves = []; each = tt; state = state; seen = λ first seen was. inl was }
 
-  pub stops_after : (until : ℕ) (sim : Simulation W) (m : Move) (new : CoreHeld W) → next_of work job until sim ≡ Some m
-      → Agrees work new (after_move work job sim m).history → Stops work job until sim new
-  stops_after until sim m new next state = record { moves = m ∷ []; each = (next, tt); state = state }
+  pub stops_after : {S : Type 0} (saw failed : S → S → List Sight → Type 0) (until : ℕ) (sim : Simulation W) (m : Move) (new : CoreHeld W) (e : Event)
+      (o : Option Charge) (w v : S) → next_of work job until sim ≡ Some m → DoesMove work job sim m new e o
+      → ((first : S) (seen : List Sight) → saw first w seen → failed first v (record { moment = record { clock = new.clock; event = e }; faces = new.faces } ∷ seen))
+      → Stops work job until saw failed sim new w v
+  stops_after saw failed until sim m new e o w v next moves fails =
+      record { moves = m ∷ []; each = (next, tt); state = moves.state; seen = λ first seen was. inr (rw (sight_is sim m new e o moves) at (fails first seen was)) }
 
   -- only its room for jobs differs from that of a core that agrees
   pub same_but_room : (M : History W) (old new : CoreHeld W) (rooms : List ℕ) → new ≡ record old { rooms = rooms } → Agrees work old M → Agrees work new M
@@ -176,6 +190,12 @@ module _ {W : Type 0} (work : Meaning W) (job : Release → W) where
     none_due (r ∷ rs) o due later = let le = later r refl in none_late (r ∷ rs) o (omega arith) later
 
     -- what is owed is charged first
+    pub charge_next : (coming : List Release) (c : Charge) → (world_after work M).now < until
+        → next_of work job until (record { history = M; coming = coming; owing = Some c })
+        ≡ Some (charge c.server (min c.ticks (until - (world_after work M).now)))
+    charge_next coming c early = let f : leb until (world_after work M).now ≡ false = grind (arith, nat_tests) in rw f refl
+
+    -- so a core that charged it made the next move
     pub makes_charge : {S : Type 0} (saw : S → S → List Sight → Type 0) (coming : List Release) (c : Charge) (new : CoreHeld W) (w v : S)
         → (world_after work M).now < until
         → (let sim : Simulation W = record { history = M; coming = coming; owing = Some c } in
@@ -183,7 +203,7 @@ module _ {W : Type 0} (work : Meaning W) (job : Release → W) where
         → MakesNext work job until saw sim new coming None w v)
     makes_charge saw coming c new w v early makes = record {
       move = charge c.server (min c.ticks (until - (world_after work M).now));
-      next = let f : leb until (world_after work M).now ≡ false = grind (arith, nat_tests) in rw f refl;
+      next = charge_next coming c early;
       makes = makes;
       rest = refl;
     }

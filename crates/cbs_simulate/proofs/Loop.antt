@@ -1,12 +1,12 @@
 -- A simulation under way: the moves made so far, and one more.
-use Rattle.std.proofs.Common.{◌≡◌, ℕ, ◌+◌, ◌-◌, ◌≤◌, ◌<◌, List, [], ◌∷◌, ◌++◌, length, arith, refl, sym, subst, ◌∙◌, ap, inl, inr, Option, Some, None}
+use Rattle.std.proofs.Common.{append_assoc, ◌≡◌, ℕ, ◌+◌, ◌-◌, ◌≤◌, ◌<◌, List, [], ◌∷◌, ◌++◌, length, arith, refl, sym, subst, ◌∙◌, ap, inl, inr, Option, Some, None}
 use Rattle.std.proofs.lemmas.Bool.{cases_lt}
 use Rattle.cbs_job.specs.Work.{Meaning}
 use Rattle.cbs_rules.specs.Rules.{clock_end}
 use Rattle.cbs_core.specs.Agreement.{Agrees, HasHistory}
 use Rattle.cbs_core.specs.Held.{CoreHeld}
 use Rattle.cbs_steps.specs.History.{History}
-use Rattle.cbs_simulate.specs.Moves.{Move, Simulation, next_of, after_move, after_moves, AreNext, AreMoves}
+use Rattle.cbs_simulate.specs.Moves.{Move, Simulation, next_of, after_move, after_moves, AreNext, AreMoves, moves_of}
 use Rattle.cbs_simulate.specs.Releases.{IsInOrder}
 use Rattle.cbs_simulate.specs.Shown.{Sight, sight_of, shown}
 use Rattle.cbs_simulate.specs.Simulating.{MakesNext, MakesSome, Stops, Ended, Simulates}
@@ -32,6 +32,31 @@ module _ {W : Type 0} (work : Meaning W) (job : Release → W) where
       → shown work job sim (ms ++ m ∷ []) seen ≡ sight_of work job (after_moves work job sim ms) m ∷ shown work job sim ms seen
   shown_more sim [] m seen = refl
   shown_more sim (n ∷ ms) m seen = shown_more (after_move work job sim n) ms m (sight_of work job sim n ∷ seen)
+
+  -- what is shown of some moves, and then of others
+  pub shown_on : (sim : Simulation W) (ms ns : List Move) (seen : List Sight)
+      → shown work job sim (ms ++ ns) seen ≡ shown work job (after_moves work job sim ms) ns (shown work job sim ms seen)
+  shown_on sim [] ns seen = refl
+  shown_on sim (m ∷ ms) ns seen = shown_on (after_move work job sim m) ms ns (sight_of work job sim m ∷ seen)
+
+  -- what is shown stands before what was seen
+  pub shown_before : (sim : Simulation W) (ms : List Move) (seen : List Sight) → shown work job sim ms seen ≡ shown work job sim ms [] ++ seen
+  shown_before sim [] seen = refl
+  shown_before sim (m ∷ ms) seen =
+      let next = after_move work job sim m in
+      let s = sight_of work job sim m in
+      shown_before next ms (s ∷ seen) ∙ sym (append_assoc (shown work job next ms []) (s ∷ []) seen)
+      ∙ ap (λ x. x ++ seen) (sym (shown_before next ms (s ∷ [])))
+
+  -- some next moves are the first of all moves
+  pub first_moves : (until : ℕ) (ends : until ≤ clock_end) (since : ℕ) (sim : Simulation W) (ms : List Move) → IsGoing work job until ends since sim
+      → AreNext work job until sim ms → ms ++ moves_of work job until (after_moves work job sim ms) ≡ moves_of work job until sim
+  first_moves until ends since sim ms going each =
+      let laws = goes work job until ends since sim ms going each in
+      let left = moves_of work job until (after_moves work job sim ms) in
+      let rest = moves_are work job until ends laws.last (after_moves work job sim ms) laws.going in
+      are_moves work job until ends since sim (ms ++ left) going
+      (record { each = next_more until sim ms left each rest.each; ended = rw (after_more sim ms left) rest.ended })
 
   module _ (until : ℕ) {S : Type 0} (saw : S → S → List Sight → Type 0) where
     -- no move yet
@@ -77,15 +102,17 @@ module _ {W : Type 0} (work : Meaning W) (job : Release → W) where
       going_first M agrees = let e = agrees.world.clock in record { early = rw (← e) early; waited = omega arith; order = order; owed = λ lt c e. cc }
 
       -- if the core stopped, it stopped after these, and some more
-      pub stopped : ((M : History W) → Agrees work mid M → Stops work job until (record { history = M; coming = now; owing = o }) new)
-          → (M : History W) → Agrees work first M → Stops work job until (record { history = M; coming = coming; owing = None }) new
-      stopped stops M agrees =
+      pub stopped : (failed : S → S → List Sight → Type 0) (v : S)
+          → ((M : History W) → Agrees work mid M → Stops work job until saw failed (record { history = M; coming = now; owing = o }) new u v)
+          → (M : History W) → Agrees work first M → Stops work job until saw failed (record { history = M; coming = coming; owing = None }) new w v
+      stopped failed v stops M agrees =
           let h = made M agrees in
-          let k : Stops work job until (last_of M agrees) new = rw (at_last M agrees) at (stops (last_of M agrees).history h.state) in
+          let k : Stops work job until saw failed (last_of M agrees) new u v = rw (at_last M agrees) at (stops (last_of M agrees).history h.state) in
           record {
             moves = h.moves ++ k.moves;
             each = next_more until (sim_from M) h.moves k.moves h.each k.each;
             state = rw (after_more (sim_from M) h.moves k.moves) k.state;
+            seen = λ first seen was. rw (shown_on (sim_from M) h.moves k.moves seen) (k.seen first _ (h.seen first seen was));
           }
 
       module _ (then : List Release) (p : Option Charge) (v : S) where

@@ -1,5 +1,5 @@
 -- What a core makes of a load.
-use Rattle.std.specs.Prelude.{◌≡◌, ℕ, min, List, [], ◌∷◌, Option, Some, None}
+use Rattle.std.specs.Prelude.{◌≡◌, ◌⊎◌, ℕ, min, List, [], ◌∷◌, ◌++◌, Option, Some, None}
 use Rattle.std.specs.List.{AllByRecursion}
 use Rattle.std.specs.Option.{option_and_then}
 use Rattle.cbs_job.specs.Work.{Meaning}
@@ -66,15 +66,28 @@ module _ {W : Type 0} (work : Meaning W) (job : Release → W) where
     pub rest : coming ≡ (after_moves work job sim moves).coming
     pub owed : owing ≡ (after_moves work job sim moves).owing
 
-  -- a core stopped after some moves of the simulation, each the next one where it stands
-  pub record Stops (until : ℕ) (sim : Simulation W) (new : CoreHeld W) : Type 0 where
+  -- a watcher that had seen this saw what the moves show, or failed to see the last of them
+  abbrev pub SawOrFailed : {S : Type 0} → (S → S → List Sight → Type 0) → (S → S → List Sight → Type 0) → Simulation W → List Move → S → S → Type 0
+  SawOrFailed {S} saw failed sim ms w v =
+      (first : S) (seen : List Sight) → saw first w seen → saw first v (shown work job sim ms seen) ⊎ failed first v (shown work job sim ms seen)
+
+  -- a core stopped after some moves of the simulation, each the next one where it stands, which the watcher saw, but maybe the last
+  pub record Stops {S : Type 0} (until : ℕ) (saw failed : S → S → List Sight → Type 0) (sim : Simulation W) (new : CoreHeld W) (w v : S) : Type 0 where
     pub moves : List Move
     pub each : AreNext work job until sim moves
     pub state : Agrees work new (after_moves work job sim moves).history
+    pub seen : SawOrFailed saw failed sim moves w v
 
   -- if this is the next move, it stopped after it at most
-  abbrev pub StopsAt : Simulation W → Move → CoreHeld W → Type 0
-  StopsAt sim m new = (until : ℕ) → next_of work job until sim ≡ Some m → Stops until sim new
+  abbrev pub StopsAt : {S : Type 0} → (S → S → List Sight → Type 0) → (S → S → List Sight → Type 0) → Simulation W → Move → CoreHeld W → S → S → Type 0
+  StopsAt saw failed sim m new w v = (until : ℕ) → next_of work job until sim ≡ Some m → Stops until saw failed sim new w v
+
+  -- a watcher saw some first moves of the simulation, but maybe the last of these
+  pub record SeesSome {S : Type 0} (until : ℕ) (saw failed : S → S → List Sight → Type 0) (sim : Simulation W) (w v : S) : Type 0 where
+    pub done : List Move
+    pub left : List Move
+    pub all : done ++ left ≡ moves_of work job until sim
+    pub seen : SawOrFailed saw failed sim done w v
 
   -- there is no next move, and nothing changed
   pub record Ended {S : Type 0} (until : ℕ) (sim : Simulation W) (old new : CoreHeld W) (coming : List Release) (owing : Option Charge) (w v : S) : Type 0 where

@@ -1,10 +1,10 @@
 //! Simulating from the start.
 
-ghost use Rattle.std.specs.Prelude.{◌≡◌, ◌≤◌, [], length, IfOk, None};
+ghost use Rattle.std.specs.Prelude.{◌≡◌, ◌≤◌, [], length, IfOk, OnErr, None};
 ghost use Rattle.cbs_rate.specs.Refusals.{RefusesByOrMemory};
 ghost use Rattle.cbs_steps.specs.Setups.{terms_of, new_refusal};
 ghost use Rattle.cbs_simulate.specs.Loading.{loading, job_of};
-ghost use Rattle.cbs_simulate.specs.Simulating.{SimulatesAlone};
+ghost use Rattle.cbs_simulate.specs.Simulating.{SimulatesAlone, SeesSome};
 
 use crate::driver::simulate;
 use crate::load_job::LoadJob;
@@ -21,8 +21,9 @@ use std::alloc::Allocator;
 /// There must be a mode for each server of the plan, and `until` is at most [`LIMIT`].
 ///
 /// Refuses a backlog outside 1 to [`MAX_BACKLOG`](cbs_core::MAX_BACKLOG) by [`CoreError::BadBacklog`], and by
-/// [`CoreError::OutOfMemory`] if an allocation is refused.
-pub fn simulate_plan<A: Allocator + Clone, R: Releases, S: Watcher>(
+/// [`CoreError::OutOfMemory`] if an allocation is refused, or if the watcher fails. The watcher has then seen the first moves, up to
+/// some move.
+pub fn simulate_plan<A: Allocator + Clone, R: Releases, C, S: Watcher<C>>(
     alloc: A,
     plan: &Plan,
     modes: &Modes,
@@ -30,6 +31,7 @@ pub fn simulate_plan<A: Allocator + Clone, R: Releases, S: Watcher>(
     releases: &mut R,
     until: u64,
     watcher: &mut S,
+    lent: &mut C,
 ) -> Result<Core<LoadJob, A>, CoreError>
     requires modes { length modes.now ≡ length plan.now.rates }
     requires end { until ≤ LIMIT }
@@ -39,11 +41,18 @@ pub fn simulate_plan<A: Allocator + Clone, R: Releases, S: Watcher>(
           coming = R.coming releases.old;
           owing = None;
         })
-        core watcher.old watcher.new) }
+        core (watcher.old, lent.old) (watcher.new, lent.new)) }
+    ensures stopped { OnErr result (SeesSome loading job_of until S.saw S.failed
+        (record {
+          history = record { setup = record { servers = terms_of modes.now plan.now.rates; backlog = backlog }; steps = [] };
+          coming = R.coming releases.old;
+          owing = None;
+        })
+        (watcher.old, lent.old) (watcher.new, lent.new)) }
     ensures refusal { RefusesByOrMemory CoreError.OutOfMemory result (new_refusal backlog) }
 {
     let mut core = Core::of(alloc, plan, modes, backlog)?;
-    match simulate(&mut core, releases, until, watcher) {
+    match simulate(&mut core, releases, until, watcher, lent) {
         Ok(()) => Ok(core),
         Err(_) => Err(CoreError::OutOfMemory),
     }

@@ -23,80 +23,86 @@ use std::alloc::{AllocError, Allocator};
 
 /// Shows what a move did.
 #[inline(always)]
-fn show<A: Allocator, S: Watcher>(
+fn show<A: Allocator, C, S: Watcher<C>>(
     core: &Core<LoadJob, A>,
     event: Event,
     watcher: &mut S,
+    lent: &mut C,
 ) -> Result<(), AllocError>
-    ensures { OnOk result ((first : S) (seen : List Sight) → S.saw first watcher.old seen
-        → S.saw first watcher.new (record { moment = record { clock = core.now.clock; event = event }; faces = core.now.faces } ∷ seen)) }
+    ensures saw { OnOk result ((first : (S × C)) (seen : List Sight) → S.saw first (watcher.old, lent.old) seen
+        → S.saw first (watcher.new, lent.new) (record { moment = record { clock = core.now.clock; event = event }; faces = core.now.faces } ∷ seen)) }
+    ensures failed { OnErr result ((first : (S × C)) (seen : List Sight) → S.saw first (watcher.old, lent.old) seen
+        → S.failed first (watcher.new, lent.new) (record { moment = record { clock = core.now.clock; event = event }; faces = core.now.faces } ∷ seen)) }
 {
     let moment = Moment {
         clock: core.now(),
         event,
     };
-    watcher.see(moment, core)
+    watcher.see(lent, moment, core)
 }
 
 /// Submits the release that comes next, and shows it.
-fn submit_first<A: Allocator, R: Releases, S: Watcher>(
+fn submit_first<A: Allocator, R: Releases, C, S: Watcher<C>>(
     core: &mut Core<LoadJob, A>,
     releases: &mut R,
     release: Release,
     watcher: &mut S,
+    lent: &mut C,
 ) -> Result<(), AllocError>
     requires next { slice_get (R.coming releases.old) 0 ≡ Some release }
     requires units { MakesJob release }
     ensures makes { OnOk result ((sim : Simulation LoadJob) → Agrees loading core.old sim.history
-        → MakesMove loading job_of S.saw sim (submit release) core.new sim.owing watcher.old watcher.new) }
+        → MakesMove loading job_of S.saw sim (submit release) core.new sim.owing (watcher.old, lent.old) (watcher.new, lent.new)) }
     ensures rest { OnOk result (R.coming releases.new ≡ drop 1 (R.coming releases.old)) }
     ensures stopped { OnErr result ((sim : Simulation LoadJob) → Agrees loading core.old sim.history
-        → StopsAt loading job_of sim (submit release) core.new) }
+        → StopsAt loading job_of S.saw S.failed sim (submit release) core.new (watcher.old, lent.old) (watcher.new, lent.new)) }
 {
     let event = moves::submit(core, release)?;
     releases.pass();
-    show(core, event, watcher)
+    show(core, event, watcher, lent)
 }
 
 /// Charges what is owed, as far as `until`, and shows it.
-fn show_charge<A: Allocator, S: Watcher>(
+fn show_charge<A: Allocator, C, S: Watcher<C>>(
     core: &mut Core<LoadJob, A>,
     owed: Charge,
     until: u64,
     watcher: &mut S,
+    lent: &mut C,
 ) -> Result<(), AllocError>
     requires { core.old.clock ≤ until }
     ensures makes { OnOk result ((sim : Simulation LoadJob) → Agrees loading core.old sim.history
         → MakesMove loading job_of S.saw sim (charge owed.server (min owed.ticks (until - clock_of loading job_of sim))) core.new None
-        watcher.old watcher.new) }
+        (watcher.old, lent.old) (watcher.new, lent.new)) }
     ensures stopped { OnErr result ((sim : Simulation LoadJob) → Agrees loading core.old sim.history
-        → StopsAt loading job_of sim (charge owed.server (min owed.ticks (until - clock_of loading job_of sim))) core.new) }
+        → StopsAt loading job_of S.saw S.failed sim (charge owed.server (min owed.ticks (until - clock_of loading job_of sim))) core.new (watcher.old, lent.old) (watcher.new, lent.new)) }
 {
     let left = until - core.now();
     let event = moves::charge(core, owed.server, owed.ticks.min(left));
-    show(core, event, watcher)
+    show(core, event, watcher, lent)
 }
 
 /// Runs a unit, or lets ticks pass up to `stop`, and shows it. Returns what is then owed.
 #[inline(always)]
-fn show_next<A: Allocator, S: Watcher>(
+fn show_next<A: Allocator, C, S: Watcher<C>>(
     core: &mut Core<LoadJob, A>,
     stop: u64,
     watcher: &mut S,
+    lent: &mut C,
 ) -> Result<Option<Charge>, AllocError>
     requires { core.old.clock ≤ stop }
     ensures makes { IfOk result (λ owing. (sim : Simulation LoadJob) → Agrees loading core.old sim.history
-        → MakesMove loading job_of S.saw sim (move_to loading job_of stop sim) core.new owing watcher.old watcher.new) }
+        → MakesMove loading job_of S.saw sim (move_to loading job_of stop sim) core.new owing (watcher.old, lent.old) (watcher.new, lent.new)) }
     ensures stopped { OnErr result ((sim : Simulation LoadJob) → Agrees loading core.old sim.history
-        → StopsAt loading job_of sim (move_to loading job_of stop sim) core.new) }
+        → StopsAt loading job_of S.saw S.failed sim (move_to loading job_of stop sim) core.new (watcher.old, lent.old) (watcher.new, lent.new)) }
 {
     let (event, owing) = moves::go_on(core, stop);
     // Most moves are units that end no job: they are shown for themselves, so that what sees them tests once what they are.
     match event {
         Event::Ran(Ran::Unit { server, seq }) => {
-            show(core, Event::Ran(Ran::Unit { server, seq }), watcher)?;
+            show(core, Event::Ran(Ran::Unit { server, seq }), watcher, lent)?;
         }
-        _ => show(core, event, watcher)?,
+        _ => show(core, event, watcher, lent)?,
     }
     Ok(owing)
 }
@@ -113,25 +119,26 @@ fn stop_of<R: Releases>(releases: &R, until: u64) -> u64
 }
 
 /// Submits the next release, which has come, if it came before `until`, and shows it. Returns whether it did.
-fn submit_due<A: Allocator, R: Releases, S: Watcher>(
+fn submit_due<A: Allocator, R: Releases, C, S: Watcher<C>>(
     core: &mut Core<LoadJob, A>,
     releases: &mut R,
     until: u64,
     watcher: &mut S,
+    lent: &mut C,
 ) -> Result<bool, AllocError>
     requires { stop_at until (R.coming releases.old) ≤ core.old.clock }
     ensures moved { IfOk result (λ moved. moved ≡ true → (sim : Simulation LoadJob) → Agrees loading core.old sim.history → sim.coming ≡ R.coming releases.old
         → (core.old.clock < until → sim.owing ≡ None)
-        → MakesNext loading job_of until S.saw sim core.new (R.coming releases.new) sim.owing watcher.old watcher.new) }
+        → MakesNext loading job_of until S.saw sim core.new (R.coming releases.new) sim.owing (watcher.old, lent.old) (watcher.new, lent.new)) }
     ensures ended { IfOk result (λ moved. moved ≡ false → (sim : Simulation LoadJob) → Agrees loading core.old sim.history → sim.coming ≡ R.coming releases.old
-        → Ended loading job_of until sim core.old core.new (R.coming releases.new) sim.owing watcher.old watcher.new) }
+        → Ended loading job_of {S = (S × C)} until sim core.old core.new (R.coming releases.new) sim.owing (watcher.old, lent.old) (watcher.new, lent.new)) }
     ensures stopped { OnErr result ((sim : Simulation LoadJob) → Agrees loading core.old sim.history → sim.coming ≡ R.coming releases.old
         → (core.old.clock < until → sim.owing ≡ None)
-        → Stops loading job_of until sim core.new) }
+        → Stops loading job_of until S.saw S.failed sim core.new (watcher.old, lent.old) (watcher.new, lent.new)) }
 {
     match releases.first() {
         Some(release) if release.tick < until => {
-            submit_first(core, releases, release, watcher)?;
+            submit_first(core, releases, release, watcher, lent)?;
             Ok(true)
         }
         _ => Ok(false),
@@ -141,41 +148,43 @@ fn submit_due<A: Allocator, R: Releases, S: Watcher>(
 /// Makes the next move, and shows it. Returns whether there was one.
 ///
 /// It keeps the tick up to which no release comes, so that none is asked for while units run.
-fn make_next<A: Allocator, R: Releases, S: Watcher>(
+fn make_next<A: Allocator, R: Releases, C, S: Watcher<C>>(
     core: &mut Core<LoadJob, A>,
     releases: &mut R,
     owing: &mut Option<Charge>,
     stop: &mut u64,
     until: u64,
     watcher: &mut S,
+    lent: &mut C,
 ) -> Result<bool, AllocError>
     requires { stop.old ≡ stop_at until (R.coming releases.old) }
     ensures stop { IfOk result (λ moved. stop.new ≡ stop_at until (R.coming releases.new)) }
     ensures moved { IfOk result (λ moved. moved ≡ true → (M : History LoadJob) → Agrees loading core.old M
         → MakesNext loading job_of until S.saw (record { history = M; coming = R.coming releases.old; owing = owing.old })
-        core.new (R.coming releases.new) owing.new watcher.old watcher.new) }
+        core.new (R.coming releases.new) owing.new (watcher.old, lent.old) (watcher.new, lent.new)) }
     ensures ended { IfOk result (λ moved. moved ≡ false → (M : History LoadJob) → Agrees loading core.old M
-        → Ended loading job_of until (record { history = M; coming = R.coming releases.old; owing = owing.old })
-        core.old core.new (R.coming releases.new) owing.new watcher.old watcher.new) }
+        → Ended loading job_of {S = (S × C)} until (record { history = M; coming = R.coming releases.old; owing = owing.old })
+        core.old core.new (R.coming releases.new) owing.new (watcher.old, lent.old) (watcher.new, lent.new)) }
     ensures stopped { OnErr result ((M : History LoadJob) → Agrees loading core.old M
-        → Stops loading job_of until (record { history = M; coming = R.coming releases.old; owing = owing.old }) core.new) }
+        → Stops loading job_of until S.saw S.failed (record { history = M; coming = R.coming releases.old; owing = owing.old }) core.new
+        (watcher.old, lent.old) (watcher.new, lent.new)) }
 {
     match *owing {
         None => {
             if core.now() < *stop {
-                *owing = show_next(core, *stop, watcher)?;
+                *owing = show_next(core, *stop, watcher, lent)?;
                 return Ok(true);
             }
         }
         Some(owed) => {
             if core.now() < until {
-                show_charge(core, owed, until, watcher)?;
+                show_charge(core, owed, until, watcher, lent)?;
                 *owing = None;
                 return Ok(true);
             }
         }
     }
-    let moved = submit_due(core, releases, until, watcher)?;
+    let moved = submit_due(core, releases, until, watcher, lent)?;
     *stop = stop_of(releases, until);
     Ok(moved)
 }
@@ -186,12 +195,14 @@ fn make_next<A: Allocator, R: Releases, S: Watcher>(
 ///
 /// The clock may not be later than `until`, nor than the first release, and `until` is at most [`LIMIT`].
 ///
-/// Answers an error if out of memory: the core has then made the first of these moves, up to some move, and no other.
-pub fn simulate<A: Allocator, R: Releases, S: Watcher>(
+/// Returns an error if out of memory, or if the watcher fails: the core has then made the first of these moves, up to some move,
+/// and no other, and the watcher has seen them, but maybe the last.
+pub fn simulate<A: Allocator, R: Releases, C, S: Watcher<C>>(
     core: &mut Core<LoadJob, A>,
     releases: &mut R,
     until: u64,
     watcher: &mut S,
+    lent: &mut C,
 ) -> Result<(), AllocError>
     requires end { until ≤ LIMIT }
     requires early { core.old.clock ≤ until }
@@ -199,12 +210,13 @@ pub fn simulate<A: Allocator, R: Releases, S: Watcher>(
     requires history { HasHistory loading core.old }
     ensures simulates { OnOk result ((M : History LoadJob) → Agrees loading core.old M
         → Simulates loading job_of until S.saw (record { history = M; coming = R.coming releases.old; owing = None })
-        core.new watcher.old watcher.new) }
+        core.new (watcher.old, lent.old) (watcher.new, lent.new)) }
     ensures stopped { OnErr result ((M : History LoadJob) → Agrees loading core.old M
-        → Stops loading job_of until (record { history = M; coming = R.coming releases.old; owing = None }) core.new) }
+        → Stops loading job_of until S.saw S.failed (record { history = M; coming = R.coming releases.old; owing = None }) core.new
+        (watcher.old, lent.old) (watcher.new, lent.new)) }
 {
     let mut owing = None;
     let mut stop = stop_of(releases, until);
-    while make_next(core, releases, &mut owing, &mut stop, until, watcher)? {}
+    while make_next(core, releases, &mut owing, &mut stop, until, watcher, lent)? {}
     Ok(())
 }

@@ -22,11 +22,12 @@ struct Moments {
     seen: Vec<Moment>,
 }
 
-impl Watcher for Moments {
+impl Watcher<()> for Moments {
     ghost saw = { λ first moments seen. Unit {0} };
 
     fn see<A: Allocator>(
         &mut self,
+        _lent: &mut (),
         moment: Moment,
         _core: &Core<LoadJob, A>,
     ) -> Result<(), AllocError> {

@@ -1,6 +1,6 @@
 //! What watches a simulation.
 
-ghost use Rattle.std.specs.Prelude.{List, ◌∷◌, OnOk};
+ghost use Rattle.std.specs.Prelude.{List, ◌∷◌, OnOk, OnErr};
 ghost use Rattle.cbs_simulate.specs.Shown.{Sight};
 
 use crate::event::Moment;
@@ -8,16 +8,23 @@ use crate::load_job::LoadJob;
 use cbs_core::Core;
 use std::alloc::{AllocError, Allocator};
 
-/// Sees each moment of a simulation, in order.
-pub trait Watcher {
-    /// What it held at first, and what it holds after it saw these moments, the newest first.
-    ghost saw: { Self → Self → List Sight → Type 0 };
+/// Sees each moment of a simulation, in order. `C` is what it is lent for that, such as a writer.
+pub trait Watcher<C> {
+    /// What it and what it is lent held at first, and what they hold after it saw these moments, the newest first.
+    ghost saw: { (Self × C) → (Self × C) → List Sight → Type 0 };
 
-    /// Sees a moment, and the core as it stands then. An error, if out of memory, ends the simulation.
+    /// What they hold after it failed to see the newest of these moments.
+    ghost failed: { (Self × C) → (Self × C) → List Sight → Type 0 } = { λ _ _ _. Unit {0} };
+
+    /// Sees a moment, and the core as it stands then. An error ends the simulation: out of memory, or what the watcher keeps of it.
     fn see<A: Allocator>(
         &mut self,
+        lent: &mut C,
         moment: Moment,
         core: &Core<LoadJob, A>,
     ) -> Result<(), AllocError>
-        ensures { OnOk result ((first : Self) (seen : List Sight) → saw first self.old seen → saw first self.new (record { moment = moment; faces = core.now.faces } ∷ seen)) };
+        ensures saw { OnOk result ((first : (Self × C)) (seen : List Sight) → saw first (self.old, lent.old) seen
+            → saw first (self.new, lent.new) (record { moment = moment; faces = core.now.faces } ∷ seen)) }
+        ensures failed { OnErr result ((first : (Self × C)) (seen : List Sight) → saw first (self.old, lent.old) seen
+            → failed first (self.new, lent.new) (record { moment = moment; faces = core.now.faces } ∷ seen)) };
 }

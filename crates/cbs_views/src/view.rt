@@ -1,17 +1,23 @@
 //! What views a run.
 
-ghost use Rattle.std.specs.Prelude.{List, ◌∷◌, OnOk};
+ghost use Rattle.std.specs.Prelude.{List, ◌∷◌, OnOk, OnErr};
 ghost use Rattle.cbs_views.specs.declared.seen.Seen.{Seen};
 
 use crate::seen::Seen;
 use std::alloc::AllocError;
 
-/// Sees each step of a run, in order.
-pub trait View {
-    /// What it held first, and what it holds after it saw these steps, the newest first.
-    ghost saw: { Self → Self → List Seen → Type 0 };
+/// Sees each step of a run, in order. `C` is what it is lent for that, such as a writer; a view that needs nothing has `()`.
+pub trait View<C> {
+    /// What it and what it is lent held first, and what they hold after it saw these steps, the newest first.
+    ghost saw: { (Self × C) → (Self × C) → List Seen → Type 0 };
 
-    /// Sees a step. An error, if out of memory, ends the run.
-    fn see(&mut self, seen: Seen) -> Result<(), AllocError>
-        ensures { OnOk result ((first : Self) (all : List Seen) → saw first self.old all → saw first self.new (seen ∷ all)) };
+    /// What they hold after it failed to see the newest of these steps.
+    ghost failed: { (Self × C) → (Self × C) → List Seen → Type 0 } = { λ _ _ _. Unit {0} };
+
+    /// Sees a step. An error ends the run: out of memory, or what the view keeps of it.
+    fn see(&mut self, lent: &mut C, seen: Seen) -> Result<(), AllocError>
+        ensures saw { OnOk result ((first : (Self × C)) (all : List Seen) → saw first (self.old, lent.old) all
+            → saw first (self.new, lent.new) (seen ∷ all)) }
+        ensures failed { OnErr result ((first : (Self × C)) (all : List Seen) → saw first (self.old, lent.old) all
+            → failed first (self.new, lent.new) (seen ∷ all)) };
 }

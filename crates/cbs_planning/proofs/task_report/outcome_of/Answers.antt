@@ -15,9 +15,9 @@ agrees c = rw (← c.plan.ensures.value, ← c.modes.ensures.value) c.in-Ok.ensu
 
 -- the report has seen the steps
 abbrev has_seen : (c : goal.After-drop-core-2)
-    → HasSeen c.in_ok-report.report c.show_steps.new.report (seen_from (start_with c.args.setup.now c.args.backlog) c.args.steps.items [])
+    → HasSeen c.in_ok-report.report c.show_steps.new.view (seen_from (start_with c.args.setup.now c.args.backlog) c.args.steps.items [])
 has_seen c =
-    c.in_ok-show_steps.ensures.seen (start_with c.args.setup.now c.args.backlog) (agrees c) c.in_ok-report.report [] c.in_ok-report.ensures.none
+    c.in_ok-show_steps.ensures.seen (start_with c.args.setup.now c.args.backlog) (agrees c) (c.in_ok-report.report, tt) [] c.in_ok-report.ensures.none
 
 pub returns-clause-clock : goal.returns-clause-clock
 returns-clause-clock c =

@@ -8,7 +8,7 @@ use Rattle.cbs_planning.proofs.TaskSteps.{none_seen, seen_more}
 use Rattle.cbs_planning.proofs.task_steps.show_steps.Goals as goal
 
 pub loop-step-init : goal.loop-step-init
-loop-step-init c =
+loop-step-init g c =
     let steps : into_iter_items c.into_iter-step-iterator.result ≡ c.args.steps.items = c.into_iter-step-iterator.ensures.into_iter_gives.0 in
     record {
       count = search rules;
@@ -18,7 +18,7 @@ loop-step-init c =
     }
 
 pub loop-step-preserved : goal.loop-step-preserved
-loop-step-preserved c = record {
+loop-step-preserved g c = record {
   count = omega (arith, ap length c.in-Some.ensures.steps.0, c.in-Some.ensures.steps.1, c.loop-step.invariant.count);
   split = c.loop-step.invariant.split ∙ ap (λ xs. c.loop-step.yielded ++ xs) c.in-Some.ensures.steps.0
       ∙ sym (append_assoc c.loop-step.yielded (c.in-Some.step ∷ []) (into_iter_items c.next.new.self));
@@ -30,11 +30,11 @@ loop-step-preserved c = record {
 }
 
 pub returns-clause-state : goal.returns-clause-state
-returns-clause-state c = λ M agrees.
+returns-clause-state g c = λ M agrees.
     let none : into_iter_items c.loop-step.step-iterator ≡ [] = nil_from_length _ (sym c.loop-step.invariant.count ∙ c.in-None.ensures.steps.0) in
     rw (all_yielded c.args.steps.items c.loop-step.yielded _ c.loop-step.invariant.split none) (c.loop-step.invariant.state M agrees)
 
 pub returns-clause-seen : goal.returns-clause-seen
-returns-clause-seen c = λ M agrees first seen saw.
+returns-clause-seen g c = λ M agrees first seen saw.
     let none : into_iter_items c.loop-step.step-iterator ≡ [] = nil_from_length _ (sym c.loop-step.invariant.count ∙ c.in-None.ensures.steps.0) in
     rw (all_yielded c.args.steps.items c.loop-step.yielded _ c.loop-step.invariant.split none) (c.loop-step.invariant.seen M agrees first seen saw)

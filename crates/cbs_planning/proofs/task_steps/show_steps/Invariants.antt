@@ -3,7 +3,6 @@ use Rattle.std.specs.Vec.Iter.{into_iter_items, into_iter_len}
 use Rattle.cbs_core.specs.Agreement.{Agrees}
 use Rattle.cbs_job.specs.FileJobs.{of_files}
 use Rattle.cbs_job.specs.declared.file.FileJob.{FileJob}
-use Rattle.cbs_report.specs.Tallies.{HasSeen, Reported}
 use Rattle.cbs_steps.specs.Continuations.{◌⊕⊕◌}
 use Rattle.cbs_steps.specs.History.{History}
 use Rattle.cbs_views.specs.declared.seen.Seen.{Seen}
@@ -12,10 +11,10 @@ use Rattle.cbs_planning.proofs.task_steps.show_steps.Given as goal
 
 -- the core made the first steps, and the report saw them
 abbrev pub invariant-loop-step : goal.invariant-loop-step
-invariant-loop-step l = record {
+invariant-loop-step g l = record {
   count : into_iter_len l.step-iterator ≡ length (into_iter_items l.step-iterator);
   split : l.fn.steps.items ≡ l.yielded ++ into_iter_items l.step-iterator;
   state : (M : History FileJob) → Agrees of_files l.fn.core M → Agrees of_files l.core (M ⊕⊕ l.yielded);
-  seen : (M : History FileJob) → Agrees of_files l.fn.core M → (first : Reported) (seen : List Seen) → HasSeen first l.fn.report seen
-      → HasSeen first l.report (seen_from M l.yielded seen);
+  seen : (M : History FileJob) → Agrees of_files l.fn.core M → (first : g.row.V.Denot × g.row.C.Denot) (seen : List Seen)
+      → g.V.View.saw first (l.fn.view, l.fn.lent) seen → g.V.View.saw first (l.view, l.lent) (seen_from M l.yielded seen);
 }

@@ -1,6 +1,6 @@
 use Rattle.std.proofs.Common.{◌≡◌, refl}
 use Rattle.cbs_simulate.specs.Loading.{loading, job_of}
-use Rattle.cbs_simulate.proofs.AloneLaws.{alone}
+use Rattle.cbs_simulate.proofs.AloneLaws.{alone, sees_some, sees_none}
 use Rattle.cbs_simulate.proofs.alone.simulate_plan.Goals as goal
 
 pub simulate-requires-clause-order : goal.simulate-requires-clause-order
@@ -11,3 +11,8 @@ pub returns-in-Ok-clause-simulates : goal.returns-in-Ok-clause-simulates
 returns-in-Ok-clause-simulates g c =
     alone loading job_of (λ r. refl) c.args.until c.requires.end g.S.Watcher.saw _ c.args.backlog _ _ _ _ (g.R.Releases.ordered c.args.releases.now)
     c.in_ok-core.ensures.punctual (c.in-Ok.ensures.simulates _ c.in_ok-core.ensures.start)
+
+pub returns-in-Err-clause-stopped : goal.returns-in-Err-clause-stopped
+returns-in-Err-clause-stopped g c =
+    sees_some loading job_of c.args.until c.requires.end g.S.Watcher.saw g.S.Watcher.failed _ c.args.backlog _ _ _ _ (g.R.Releases.ordered c.args.releases.now)
+    (c.in-Err.ensures.stopped _ c.in_ok-core.ensures.start)

@@ -1,7 +1,15 @@
+use Rattle.std.proofs.Common.{None}
 use Rattle.cbs_simulate.specs.Loading.{loading, job_of}
 use Rattle.cbs_simulate.proofs.Goes.{on_err}
-use Rattle.cbs_simulate.proofs.Loop.{smaller, preserved, stopped, all_made}
+use Rattle.cbs_simulate.proofs.Loop.{none_made, smaller, preserved, stopped, all_made}
 use Rattle.cbs_simulate.proofs.driver.simulate.Goals as goal
+
+pub loop-init : goal.loop-init
+loop-init g c = record {
+  made = λ M agrees. none_made loading job_of c.args.until g.S.Watcher.saw
+      (record { history = M; coming = g.R.Releases.coming c.args.releases.now; owing = None }) c.args.core.now (c.args.watcher.now, c.args.lent.now) agrees;
+  stop = c.stop_of-stop.ensures;
+}
 
 pub loop-smaller : goal.loop-smaller
 loop-smaller g c = smaller loading job_of c.args.until g.S.Watcher.saw c.requires.end _ _ _ _ _ _ _ _ c.requires.early c.requires.order
@@ -21,4 +29,4 @@ returns-clause-simulates g c = all_made loading job_of c.args.until g.S.Watcher.
 pub returns-in_err-make_next-clause-stopped : goal.returns-in_err-make_next-clause-stopped
 returns-in_err-make_next-clause-stopped g c = on_err c.from_residual.result
     (stopped loading job_of c.args.until g.S.Watcher.saw c.requires.end _ _ _ _ _ _ _ _ c.requires.early c.requires.order c.loop.invariant.made
-    c.in_err-make_next.ensures.stopped)
+    g.S.Watcher.failed _ c.in_err-make_next.ensures.stopped)
