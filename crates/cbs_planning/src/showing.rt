@@ -18,7 +18,7 @@ pub struct Stopped<V> {
     pub view: V,
 }
 
-/// Simulates a load up to its end, and shows each step to the view, which it returns.
+/// Simulates a load up to its end, and shows each step to the view, which it returns. The view has to be ready.
 ///
 /// Refuses if out of memory, or if the view fails. The view has then seen some first steps, but maybe the last of these.
 pub fn show_load<C, V: View<C>>(
@@ -27,6 +27,7 @@ pub fn show_load<C, V: View<C>>(
     view: V,
     lent: &mut C,
 ) -> Result<V, Stopped<V>>
+    requires { V.ready view lent.old }
     ensures seen { IfOk result (λ shown. (first : (V × C)) → V.saw first (view, lent.old) [] → V.saw first (shown, lent.new) (seen_in load.now)) }
     ensures throttled { OnOk result (AreThrottled load.now) }
     ensures stopped { IfErr result (λ e. (first : (V × C)) → V.saw first (view, lent.old) []

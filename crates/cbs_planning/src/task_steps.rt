@@ -177,6 +177,8 @@ fn show_step<C, V: View<C>>(
     view: &mut V,
     lent: &mut C,
 ) -> Result<(), AllocError>
+    requires { V.ready view.old lent.old }
+    ensures ready { OnOk result (V.ready view.new lent.new) }
     ensures state { OnOk result ((M : History FileJob) → Agrees of_files core.old M → Agrees of_files core.new (M ⊕ step)) }
     ensures seen { OnOk result ((M : History FileJob) → Agrees of_files core.old M → (first : (V × C)) (seen : List Seen)
         → V.saw first (view.old, lent.old) seen → V.saw first (view.new, lent.new) (seen_after M step ∷ seen)) }
@@ -189,7 +191,7 @@ fn show_step<C, V: View<C>>(
     view.see(lent, seen_of_step(core, asked, &reply))
 }
 
-/// Makes steps, in order, and shows each to the view.
+/// Makes steps, in order, and shows each to the view, which has to be ready.
 ///
 /// Refuses if out of memory, or if the view fails: then the core has made the first steps, up to some step.
 pub fn show_steps<C, V: View<C>>(
@@ -198,6 +200,7 @@ pub fn show_steps<C, V: View<C>>(
     view: &mut V,
     lent: &mut C,
 ) -> Result<(), AllocError>
+    requires { V.ready view.old lent.old }
     ensures state { OnOk result ((M : History FileJob) → Agrees of_files core.old M → Agrees of_files core.new (M ⊕⊕ steps.items)) }
     ensures seen { OnOk result ((M : History FileJob) → Agrees of_files core.old M → (first : (V × C)) (seen : List Seen)
         → V.saw first (view.old, lent.old) seen → V.saw first (view.new, lent.new) (seen_from M steps.items seen)) }

@@ -76,6 +76,8 @@ impl<C, V: View<C>> Watcher<C> for Watched<V> {
     ghost use Rattle.std.specs.Prelude.{map};
     ghost use Rattle.cbs_planning.specs.Sights.{seen_of};
 
+    ghost ready = { λ w c. V.ready w.view c };
+
     ghost saw = { λ first now sights. (now.0.within ≡ first.0.within)
         × V.saw (first.0.view, first.1) (now.0.view, now.1) (map (seen_of first.0.within.items) sights) };
 

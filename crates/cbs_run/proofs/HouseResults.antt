@@ -24,7 +24,7 @@ use Rattle.cbs_core.proofs.Laws.{new_count, terms_count}
 use Rattle.cbs_file.specs.TaskFiles.{File, IsFile}
 use Rattle.cbs_run.specs.ResultLines.{jobs_for, results_by_server}
 use Rattle.cbs_run.specs.ServingStops.{HouseStops}
-use Rattle.cbs_run.specs.StepTexts.{start_of}
+use Rattle.cbs_lines.specs.StepTexts.{start_of}
 
 module _ {X Y : Type 0} where
   -- what is the same at each is the same of all

@@ -1,6 +1,3 @@
-pub mod WrittenText
-pub mod Writers
-pub mod StepTexts
 pub mod JobLists
 pub mod HouseResults
 pub mod ResultLines

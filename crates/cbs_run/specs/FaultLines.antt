@@ -2,10 +2,10 @@
 use Rattle.std.specs.Prelude.{ℕ, List, ◌++◌, codes, decimal}
 use Rattle.cbs_tables.specs.Faults.{file_kind_number, file_kind_name, place_text}
 use Rattle.cbs_run.specs.Reads.{read_error_number, read_error_name}
-use Rattle.cbs_run.specs.Runs.{run_error_number, run_error_name}
+use Rattle.cbs_lines.specs.Runs.{run_error_number, run_error_name}
 use Rattle.cbs_tables.specs.declared.fault.FileFault.{FileFault}
 use Rattle.cbs_run.specs.declared.input.ReadError.{ReadError}
-use Rattle.cbs_run.specs.declared.run_error.RunError.{RunError}
+use Rattle.cbs_lines.specs.declared.run_error.RunError.{RunError}
 
 -- the line of a read fault: its number and its name
 unfoldable pub read_line : ReadError → List ℕ

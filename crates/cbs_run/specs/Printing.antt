@@ -1,34 +1,36 @@
 -- What a command that prints a text of a file leaves, by its status.
 use Rattle.std.specs.Prelude.{◌≡◌, ◌⊎◌, ℕ, List, ◌++◌, Result, Ok, Err}
 use Rattle.cbs_run.specs.FaultLines.{file_line, run_line}
-use Rattle.cbs_run.specs.Writers.{Writer, IsUntouched, Writes, FailsToWrite, TriesToWrite}
-use Rattle.cbs_run.specs.declared.run_error.RunError.{RunError}
-use Rattle.cbs_run.specs.declared.run_error.RunError.TheVariants.{OutOfMemory, WriteFault, ClockEnd, Stalled}
+use Rattle.cbs_lines.specs.Writers.{Writer, IsUntouched, Writes, FailsToWrite, TriesToWrite}
+use Rattle.cbs_lines.specs.declared.run_error.RunError.{RunError}
+use Rattle.cbs_lines.specs.declared.run_error.RunError.TheVariants.{OutOfMemory, WriteFault, ClockEnd, Stalled}
 use Rattle.cbs_tables.specs.Documents.{no_memory}
 use Rattle.cbs_tables.specs.declared.fault.FileFault.{FileFault}
 
--- what a command that prints a text left at an error: nothing, if out of memory; or a prefix of the text, if a call failed. It stops
--- for no other cause
-abbrev pub StopsPrinting : (List ℕ → Type 0) → RunError → Writer → Writer → Type 0
-StopsPrinting is OutOfMemory old new = IsUntouched old new
-StopsPrinting is WriteFault old new = (text : List ℕ) × is text × FailsToWrite old new text
-StopsPrinting is ClockEnd old new = ⊥
-StopsPrinting is Stalled old new = ⊥
+-- what a command that prints a text left at an error: what it leaves if out of memory; or a prefix of the text, if a call failed. It
+-- stops for no other cause
+abbrev pub StopsPrinting : (List ℕ → Type 0) → (Writer → Writer → Type 0) → RunError → Writer → Writer → Type 0
+StopsPrinting is short OutOfMemory old new = short old new
+StopsPrinting is short WriteFault old new = (text : List ℕ) × is text × FailsToWrite old new text
+StopsPrinting is short ClockEnd old new = ⊥
+StopsPrinting is short Stalled old new = ⊥
 
--- what a command that prints a text left, by its answer: at Ok the whole text
+-- what a command that prints a text left, by its answer: at Ok the whole text. A text that is made before it is written leaves nothing
+-- if out of memory
 abbrev pub Prints : (List ℕ → Type 0) → Result (Unit {0}) RunError → Writer → Writer → Type 0
 Prints is (Ok x) old new = (text : List ℕ) × is text × Writes old new text
-Prints is (Err error) old new = StopsPrinting is error old new
+Prints is (Err error) old new = StopsPrinting is IsUntouched error old new
 
 -- the line of a fault was written, and some text below it; or a prefix of both, and then a call failed
 abbrev pub Explains : FileFault → Writer → Writer → Type 0
 Explains fault old new = (below : List ℕ) × TriesToWrite old new (file_line fault ++ below)
 
 -- a command that prints a text of the file which the bytes spell by `read` ended with the status, and left out and err so
-pub data EndsPrinting {F : Type 0} (read : List ℕ → Result F FileFault) (is : F → List ℕ → Type 0) (bytes : List ℕ) (out out' err err' : Writer)
-    : ℕ → Type 0 where
-  done : (f : F) (text : List ℕ) → read bytes ≡ Ok f → is f text → Writes out out' text → IsUntouched err err' → EndsPrinting read is bytes out out' err err' 0
+pub data EndsPrinting {F : Type 0} (read : List ℕ → Result F FileFault) (is : F → List ℕ → Type 0) (short : F → Writer → Writer → Type 0)
+    (bytes : List ℕ) (out out' err err' : Writer) : ℕ → Type 0 where
+  done : (f : F) (text : List ℕ) → read bytes ≡ Ok f → is f text → Writes out out' text → IsUntouched err err'
+      → EndsPrinting read is short bytes out out' err err' 0
   refused : (fault : FileFault) → (fault ≡ no_memory) ⊎ (read bytes ≡ Err fault) → IsUntouched out out' → Explains fault err err'
-      → EndsPrinting read is bytes out out' err err' 3
-  stopped : (f : F) (error : RunError) → read bytes ≡ Ok f → StopsPrinting (is f) error out out' → TriesToWrite err err' (run_line error)
-      → EndsPrinting read is bytes out out' err err' 4
+      → EndsPrinting read is short bytes out out' err err' 3
+  stopped : (f : F) (error : RunError) → read bytes ≡ Ok f → StopsPrinting (is f) (short f) error out out' → TriesToWrite err err' (run_line error)
+      → EndsPrinting read is short bytes out out' err err' 4

@@ -11,10 +11,10 @@ use Rattle.cbs_clients.specs.declared.error.HouseError.{HouseError}
 use Rattle.cbs_clients.specs.declared.error.HouseError.TheVariants as house
 use Rattle.cbs_file.specs.TaskFiles.{File}
 use Rattle.cbs_run.specs.ResultLines.{result_lines}
-use Rattle.cbs_run.specs.StepTexts.{start_of}
-use Rattle.cbs_run.specs.Writers.{Writer, IsUntouched, FailsToWrite}
-use Rattle.cbs_run.specs.declared.run_error.RunError.{RunError}
-use Rattle.cbs_run.specs.declared.run_error.RunError.TheVariants as run
+use Rattle.cbs_lines.specs.StepTexts.{start_of}
+use Rattle.cbs_lines.specs.Writers.{Writer, IsUntouched, FailsToWrite}
+use Rattle.cbs_lines.specs.declared.run_error.RunError.{RunError}
+use Rattle.cbs_lines.specs.declared.run_error.RunError.TheVariants as run
 
 -- a core with the file's servers, modes and backlog comes, by steps of serving, into such a state
 pub record ComesTo (f : File) (state : CoreHeld FileJob → Type 0) : Type 0 where

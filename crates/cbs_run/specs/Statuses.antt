@@ -6,8 +6,8 @@ use Rattle.cbs_file.specs.TaskFiles.{File}
 use Rattle.cbs_tables.specs.declared.fault.FileFault.{FileFault}
 use Rattle.cbs_run.specs.FaultLines.{file_line, run_line}
 use Rattle.cbs_run.specs.Verbs.{output_of, StopsShort}
-use Rattle.cbs_run.specs.Writers.{Writer, IsUntouched, Writes, TriesToWrite}
-use Rattle.cbs_run.specs.declared.run_error.RunError.{RunError}
+use Rattle.cbs_lines.specs.Writers.{Writer, IsUntouched, Writes, TriesToWrite}
+use Rattle.cbs_lines.specs.declared.run_error.RunError.{RunError}
 use Rattle.cbs_run.specs.declared.words.Verb.{Verb}
 
 -- a run over the bytes ended with the status, and left out and err so

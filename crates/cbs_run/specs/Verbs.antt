@@ -3,9 +3,9 @@ use Rattle.std.specs.Prelude.{ℕ, List, codes}
 use Rattle.cbs_file.specs.TaskFiles.{File}
 use Rattle.cbs_run.specs.ResultLines.{result_lines}
 use Rattle.cbs_run.specs.ServingStops.{ServeStops}
-use Rattle.cbs_run.specs.Traces.{trace, TraceStops}
-use Rattle.cbs_run.specs.Writers.{Writer}
-use Rattle.cbs_run.specs.declared.run_error.RunError.{RunError}
+use Rattle.cbs_lines.specs.Traces.{trace, TraceStops}
+use Rattle.cbs_lines.specs.Writers.{Writer}
+use Rattle.cbs_lines.specs.declared.run_error.RunError.{RunError}
 use Rattle.cbs_run.specs.declared.words.Action.{Action}
 use Rattle.cbs_run.specs.declared.words.Action.TheVariants as action
 use Rattle.cbs_run.specs.declared.words.Form.{Form}
@@ -22,6 +22,7 @@ name_of Serve = codes "serve"
 abbrev pub action_name : Action → List ℕ
 action_name action.Check = codes "check"
 action_name (action.Simulate form) = codes "simulate"
+action_name action.SimulateLines = codes "simulate"
 action_name (action.Replay form) = codes "replay"
 action_name (action.Run verb) = name_of verb
 

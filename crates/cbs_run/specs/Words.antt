@@ -50,10 +50,11 @@ command_line =
     let replaying = with_subcommand simulating (in_a_form (codes "replay")).top in
     with_verb replaying (codes "serve")
 
--- What a form asks of an action: of simulate a report, as text if there is no name; of replay the trace, by its name or by none, or a
--- report by its name. The others have no form.
+-- What a form asks of an action: of simulate a report, as text if there is no name, or the lines by their name; of replay the lines, by
+-- their name or by none, or a report by its name. The others have no form.
 abbrev pub AsksForm : Option Text → Action → Type 0
 AsksForm name (action.Simulate form) = MatchOption name (form ≡ Report) (λ n. n ≡ form_name form)
+AsksForm name action.SimulateLines = MatchOption name ⊥ (λ n. n ≡ codes "lines")
 AsksForm name (action.Replay form) = MatchOption name ⊥ (λ n. n ≡ form_name form)
 AsksForm name (action.Run Replay) = MatchOption name ⊤ (λ n. n ≡ codes "lines")
 AsksForm name (action.Run Serve) = ⊤

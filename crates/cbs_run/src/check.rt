@@ -7,14 +7,14 @@ ghost use Rattle.cbs_tables.specs.Memory.{memory_wanted};
 ghost use Rattle.cbs_run.specs.Checked.{any_file, IsCheckText};
 ghost use Rattle.cbs_run.specs.Printing.{EndsPrinting, Prints};
 ghost use Rattle.cbs_run.specs.Statuses.{LacksMemory};
+ghost use Rattle.cbs_lines.specs.Writers.{IsUntouched};
 
 use crate::explained::write_explained;
 use crate::fault_lines::write_run_fault;
-use crate::output::{ByteOutput, write_text};
 use crate::run::{BAD_FILE, DONE, RUN_FAULT};
-use crate::run_error::RunError;
 use cbs_check::{check_load, check_plan};
 use cbs_file::{FileFault, TaskFile, read_file_within};
+use cbs_lines::{ByteOutput, RunError, write_text};
 use cbs_load::{Load, is_load_within, read_load_within};
 use std::alloc::{AllocError, Global};
 
@@ -83,7 +83,7 @@ pub fn check_bytes_within<O: ByteOutput, E: ByteOutput>(
 ) -> u8
     requires out { O.failed out.old < 2 ^ 64 - 1 }
     requires err { E.failed err.old < 2 ^ 64 - 1 }
-    ensures ends { EndsPrinting any_file IsCheckText bytes.now
+    ensures ends { EndsPrinting any_file IsCheckText (λ f. IsUntouched) bytes.now
         (record { written = O.written out.old; failed = O.failed out.old }) (record { written = O.written out.new; failed = O.failed out.new })
         (record { written = E.written err.old; failed = E.failed err.old }) (record { written = E.written err.new; failed = E.failed err.new })
         result }

@@ -4,12 +4,12 @@ ghost use Rattle.std.specs.Prelude.{◌≡◌, ◌+◌, ◌-◌, ◌<◌, ◌^�
 ghost use Rattle.cbs_tables.specs.Documents.{no_memory};
 ghost use Rattle.cbs_run.specs.FaultLines.{file_line};
 ghost use Rattle.cbs_run.specs.Printing.{Explains};
-ghost use Rattle.cbs_run.specs.Writers.{TriesToWrite};
+ghost use Rattle.cbs_lines.specs.Writers.{TriesToWrite};
 
 use crate::fault_lines::write_file_fault;
-use crate::output::{ByteOutput, write_pieces};
 use cbs_explain::explain;
 use cbs_file::{FileFault, FileKind};
+use cbs_lines::{ByteOutput, write_pieces};
 use std::alloc::Global;
 
 /// Writes the line of a file's fault. Below it, after an empty line, stands what a person needs to know of the fault: nothing, if

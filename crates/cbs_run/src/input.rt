@@ -2,7 +2,7 @@
 
 ghost use Rattle.std.specs.Prelude.{◌≡◌, ℕ, ◌+◌, ◌<◌, ◌≤◌, ◌^◌, ◌-◌, ◌↔◌, List, length, take, Option, IfOk, IfErr, OnErr, if◌then◌else◌};
 ghost use Rattle.std.specs.Io.KnownBytes.{Consumes, IsAtEnd, Keeps};
-ghost use Rattle.cbs_run.specs.Counted.{Counted};
+ghost use Rattle.cbs_lines.specs.Counted.{Counted};
 ghost use Rattle.cbs_run.specs.Reads.{is_read_fault, read_error_number, read_error_name};
 
 use std::alloc::Global;

@@ -2,36 +2,26 @@
 //! what is told of either.
 #![tactic(auto)]
 
-mod call;
 mod check;
 mod environment;
 mod explained;
 mod fault_lines;
 mod input;
 mod jobs_by_server;
-mod line;
-mod numbers;
-mod output;
-mod pending;
 mod report;
 mod result_lines;
 mod run;
-mod run_error;
 mod serve;
 mod simulate;
-mod steps;
-mod trace;
 mod words;
 
+pub use cbs_lines::{ByteOutput, RunError, ToWrite, replay, write_pieces, write_text};
 pub use check::check_bytes_within;
 pub use environment::{MEMORY_VARIABLE, memory_bound};
 pub use fault_lines::{write_file_fault, write_read_fault, write_run_fault};
 pub use input::{ByteInput, FromRead, MAX_BYTES, ReadError, read_all};
-pub use output::{ByteOutput, ToWrite, write_pieces, write_text};
 pub use report::report_bytes_within;
 pub use run::{BAD_FILE, DONE, RUN_FAULT, WRONG_WORDS, run_bytes, run_bytes_within};
-pub use run_error::RunError;
 pub use serve::serve_file;
-pub use simulate::simulate_bytes_within;
-pub use trace::replay;
+pub use simulate::{simulate_bytes_within, simulate_lines_within};
 pub use words::{Action, Asked, Form, Verb, WordsFault, read_words};

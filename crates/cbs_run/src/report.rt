@@ -6,15 +6,15 @@ ghost use Rattle.cbs_file.specs.Spelling.{file};
 ghost use Rattle.cbs_run.specs.Printing.{EndsPrinting, Prints};
 ghost use Rattle.cbs_run.specs.Reported.{IsTaskReportText, text_in};
 ghost use Rattle.cbs_run.specs.Statuses.{LacksMemory};
+ghost use Rattle.cbs_lines.specs.Writers.{IsUntouched};
 
 use crate::explained::write_explained;
 use crate::fault_lines::write_run_fault;
-use crate::output::{ByteOutput, write_text};
 use crate::run::{BAD_FILE, DONE, RUN_FAULT};
-use crate::run_error::RunError;
 use crate::words::Form;
 use cbs_file::{TaskFile, read_file_within};
 use cbs_json::report_json;
+use cbs_lines::{ByteOutput, RunError, write_text};
 use cbs_planning::task_report_of;
 use cbs_print::{RunReport, report_text};
 use std::alloc::{AllocError, Global};
@@ -69,7 +69,7 @@ pub fn report_bytes_within<O: ByteOutput, E: ByteOutput>(
 ) -> u8
     requires out { O.failed out.old < 2 ^ 64 - 1 }
     requires err { E.failed err.old < 2 ^ 64 - 1 }
-    ensures ends { EndsPrinting file (IsTaskReportText form name.now) bytes.now
+    ensures ends { EndsPrinting file (IsTaskReportText form name.now) (λ f. IsUntouched) bytes.now
         (record { written = O.written out.old; failed = O.failed out.old }) (record { written = O.written out.new; failed = O.failed out.new })
         (record { written = E.written err.old; failed = E.failed err.old }) (record { written = E.written err.new; failed = E.failed err.new })
         result }

@@ -4,9 +4,9 @@ ghost use Rattle.std.specs.Prelude.{◌≡◌, ◌++◌, IfOk, OnOk, length, str
 ghost use Rattle.cbs_clients.specs.Houses.{core_of, results_of};
 ghost use Rattle.cbs_run.specs.ResultLines.{server_line, kept_lines};
 
-use crate::numbers::append_pair;
 use cbs_house::House;
 use cbs_job::FileJob;
+use cbs_lines::append_pair;
 use std::alloc::{AllocError, Global};
 
 /// Appends the line of a server with these results. The only error is out of memory.

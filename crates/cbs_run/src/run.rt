@@ -4,15 +4,13 @@ ghost use Rattle.std.specs.Prelude.{◌+◌, ◌-◌, ◌<◌, ◌^◌};
 ghost use Rattle.cbs_tables.specs.Memory.{memory_wanted, usual_bound};
 ghost use Rattle.cbs_run.specs.Statuses.{Ends, LacksMemory};
 ghost use Rattle.cbs_run.specs.Verbs.{output_of, StopsShort};
-ghost use Rattle.cbs_run.specs.Writers.{Leaves};
+ghost use Rattle.cbs_lines.specs.Writers.{Leaves};
 
 use crate::fault_lines::{write_file_fault, write_run_fault};
-use crate::output::ByteOutput;
-use crate::run_error::RunError;
 use crate::serve::serve_file;
-use crate::trace::replay;
 use crate::words::Verb;
 use cbs_file::{MEMORY, TaskFile, read_file_within};
+use cbs_lines::{ByteOutput, RunError, replay};
 use std::alloc::Global;
 use std::thread::Threads;
 use std::time::Clock;

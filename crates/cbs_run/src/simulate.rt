@@ -3,17 +3,19 @@
 ghost use Rattle.std.specs.Prelude.{◌+◌, ◌-◌, ◌<◌, ◌^◌};
 ghost use Rattle.cbs_tables.specs.Memory.{memory_wanted};
 ghost use Rattle.cbs_load.specs.Spelling.{load};
+ghost use Rattle.cbs_planning.specs.Loads.{seen_in};
+ghost use Rattle.cbs_lines.specs.LoadLines.{AreLoadLines, WritesSomeLines};
 ghost use Rattle.cbs_run.specs.Printing.{EndsPrinting, Prints};
 ghost use Rattle.cbs_run.specs.Reported.{IsReportText};
 ghost use Rattle.cbs_run.specs.Statuses.{LacksMemory};
+ghost use Rattle.cbs_lines.specs.Writers.{IsUntouched};
 
 use crate::explained::write_explained;
 use crate::fault_lines::write_run_fault;
-use crate::output::{ByteOutput, write_text};
 use crate::report::text_of;
 use crate::run::{BAD_FILE, DONE, RUN_FAULT};
-use crate::run_error::RunError;
 use crate::words::Form;
+use cbs_lines::{ByteOutput, RunError, write_load_lines, write_text};
 use cbs_load::{Load, read_load_within};
 use cbs_planning::report_of;
 use std::alloc::Global;
@@ -57,7 +59,7 @@ pub fn simulate_bytes_within<O: ByteOutput, E: ByteOutput>(
 ) -> u8
     requires out { O.failed out.old < 2 ^ 64 - 1 }
     requires err { E.failed err.old < 2 ^ 64 - 1 }
-    ensures ends { EndsPrinting load (IsReportText form name.now) bytes.now
+    ensures ends { EndsPrinting load (IsReportText form name.now) (λ f. IsUntouched) bytes.now
         (record { written = O.written out.old; failed = O.failed out.old }) (record { written = O.written out.new; failed = O.failed out.new })
         (record { written = E.written err.old; failed = E.failed err.old }) (record { written = E.written err.new; failed = E.failed err.new })
         result }
@@ -74,6 +76,49 @@ pub fn simulate_bytes_within<O: ByteOutput, E: ByteOutput>(
         }
     };
     match print_report(alloc, form, name, &load, out) {
+        Ok(()) => DONE,
+        Err(error) => {
+            let _written = write_run_fault(err, error);
+            RUN_FAULT
+        }
+    }
+}
+
+/// Simulates the load that the bytes spell, and writes a line for each step, with this name for its file. Returns the status.
+///
+/// At status 0 all lines are on `out`, and nothing on `err`. At status 3 the file has a fault, as in [`simulate_bytes_within`].
+/// At status 4 the run ended early: the line of that goes to `err`. If out of memory, `out` has the lines of some first steps, and
+/// if a write failed, a prefix of all lines. A line on `err` that cannot be written changes no status.
+///
+/// If the bytes want more than `memory` bytes of memory, the status is 3, with the line of out of memory on `err`, and
+/// nothing is parsed.
+pub fn simulate_lines_within<O: ByteOutput, E: ByteOutput>(
+    alloc: Global,
+    memory: u64,
+    name: &str,
+    bytes: &[u8],
+    out: &mut O,
+    err: &mut E,
+) -> u8
+    requires out { O.failed out.old < 2 ^ 64 - 1 }
+    requires err { E.failed err.old < 2 ^ 64 - 1 }
+    ensures ends { EndsPrinting load AreLoadLines (λ f. WritesSomeLines (seen_in f)) bytes.now
+        (record { written = O.written out.old; failed = O.failed out.old }) (record { written = O.written out.new; failed = O.failed out.new })
+        (record { written = E.written err.old; failed = E.failed err.old }) (record { written = E.written err.new; failed = E.failed err.new })
+        result }
+    ensures bounded { memory < memory_wanted bytes.now → LacksMemory
+        (record { written = O.written out.old; failed = O.failed out.old }) (record { written = O.written out.new; failed = O.failed out.new })
+        (record { written = E.written err.old; failed = E.failed err.old }) (record { written = E.written err.new; failed = E.failed err.new })
+        result }
+{
+    let load = match read_load_within(alloc, memory, bytes) {
+        Ok(load) => load,
+        Err(fault) => {
+            write_explained(alloc, name, bytes, fault, err);
+            return BAD_FILE;
+        }
+    };
+    match write_load_lines(alloc, &load, out) {
         Ok(()) => DONE,
         Err(error) => {
             let _written = write_run_fault(err, error);

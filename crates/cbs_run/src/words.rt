@@ -16,8 +16,8 @@ const ABOUT: &str =
     "Sizes, simulates and runs Constant Bandwidth Servers under EDF: jobs on one thread, \
 each server with a budget of so many ticks in every period.";
 
-// The version, and below it the toolchain that the proofs were checked by.
-const VERSION: &str = "0.1.0\nproved by rattle-kit-13f logic dac8208d650f15bf";
+// The version, and below it the logic that the proofs were checked by: several kits have it.
+const VERSION: &str = "0.1.0\nproved by rattle logic dac8208d650f15bf";
 
 const FILES: &str = "\
 FILE is a task file or a load, in TOML; - is standard input. --help has an example
@@ -90,15 +90,15 @@ Exit status:
 const CHECK: &str = "Says what the servers of a file have and could have, and which jobs of a load \
 are in time always; or what is wrong with the file";
 
-const SIMULATE: &str = "Releases the jobs of a load's sources, runs them, and reports";
+const SIMULATE: &str = "Releases the jobs of a load's sources, runs them, and reports, or writes a line for each step";
 
 const REPLAY: &str = "Runs the steps of a task file, and writes a line for each, or reports";
 
 const SERVE: &str = "Gives each server's submits to a client of its own, serves them all, \
 and writes the results of each server";
 
-const REPORTS: &str = "What is written: report, figures of each server as text, or json, the same \
-for programs [default: report]";
+const REPORTS: &str = "What is written: report, figures of each server as text, json, the same \
+for programs, or lines, one for each step [default: report]";
 
 const TRACES: &str = "What is written: lines, one for each step, report, figures of each server as \
 text, or json, the same for programs [default: lines]";
@@ -129,6 +129,8 @@ pub enum Action {
     Check,
     /// To simulate a load, and to report in this form what came of it.
     Simulate(Form),
+    /// To simulate a load, and to write a line for each step.
+    SimulateLines,
     /// To make the steps of a task file, and to report in this form what came of them.
     Replay(Form),
     /// To do with a task file what the verb says.
@@ -268,6 +270,7 @@ fn simulated_as(form: Option<&str>) -> Option<Action>
 {
     match form {
         None => Some(Action::Simulate(Form::Report)),
+        Some("lines") => Some(Action::SimulateLines),
         Some(name) => form_of(name).map(Action::Simulate),
     }
 }
@@ -309,20 +312,11 @@ fn refused(alloc: Global, error: &Error) -> Result<WordsFault, AllocError>
     })
 }
 
-/// Returns the names of the forms that a verb has.
-fn forms_of(verb: &str) -> &'static str {
-    match verb {
-        "replay" => "lines, report, json",
-        _ => "report, json",
-    }
-}
-
 /// Returns the fault of a command line that asks for a form of no such name.
 fn unknown_form(alloc: Global, verb: &str, form: &str) -> Result<WordsFault, AllocError> {
     let mut text = String::new(alloc);
-    let forms = forms_of(verb);
     writeln!(text, "error: invalid value '{form}' for '--as <FORMAT>'")?;
-    writeln!(text, "  [possible values: {forms}]\n")?;
+    writeln!(text, "  [possible values: lines, report, json]\n")?;
     writeln!(text, "For more information, try 'cbsrun {verb} --help'.")?;
     Ok(WordsFault::Usage(text))
 }

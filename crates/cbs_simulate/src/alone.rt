@@ -18,7 +18,7 @@ use std::alloc::Allocator;
 
 /// Runs a load up to a tick, as [`simulate`] does, on a core of its own, which it returns.
 ///
-/// There must be a mode for each server of the plan, and `until` is at most [`LIMIT`].
+/// There must be a mode for each server of the plan, `until` is at most [`LIMIT`], and the watcher has to be ready.
 ///
 /// Refuses a backlog outside 1 to [`MAX_BACKLOG`](cbs_core::MAX_BACKLOG) by [`CoreError::BadBacklog`], and by
 /// [`CoreError::OutOfMemory`] if an allocation is refused, or if the watcher fails. The watcher has then seen the first moves, up to
@@ -35,6 +35,7 @@ pub fn simulate_plan<A: Allocator + Clone, R: Releases, C, S: Watcher<C>>(
 ) -> Result<Core<LoadJob, A>, CoreError>
     requires modes { length modes.now ≡ length plan.now.rates }
     requires end { until ≤ LIMIT }
+    requires ready { S.ready watcher.old lent.old }
     ensures simulates { IfOk result (λ core. SimulatesAlone loading job_of until S.saw
         (record {
           history = record { setup = record { servers = terms_of modes.now plan.now.rates; backlog = backlog }; steps = [] };

@@ -29,6 +29,8 @@ fn show<A: Allocator, C, S: Watcher<C>>(
     watcher: &mut S,
     lent: &mut C,
 ) -> Result<(), AllocError>
+    requires { S.ready watcher.old lent.old }
+    ensures ready { OnOk result (S.ready watcher.new lent.new) }
     ensures saw { OnOk result ((first : (S × C)) (seen : List Sight) → S.saw first (watcher.old, lent.old) seen
         → S.saw first (watcher.new, lent.new) (record { moment = record { clock = core.now.clock; event = event }; faces = core.now.faces } ∷ seen)) }
     ensures failed { OnErr result ((first : (S × C)) (seen : List Sight) → S.saw first (watcher.old, lent.old) seen
@@ -51,6 +53,8 @@ fn submit_first<A: Allocator, R: Releases, C, S: Watcher<C>>(
 ) -> Result<(), AllocError>
     requires next { slice_get (R.coming releases.old) 0 ≡ Some release }
     requires units { MakesJob release }
+    requires ready { S.ready watcher.old lent.old }
+    ensures ready { OnOk result (S.ready watcher.new lent.new) }
     ensures makes { OnOk result ((sim : Simulation LoadJob) → Agrees loading core.old sim.history
         → MakesMove loading job_of S.saw sim (submit release) core.new sim.owing (watcher.old, lent.old) (watcher.new, lent.new)) }
     ensures rest { OnOk result (R.coming releases.new ≡ drop 1 (R.coming releases.old)) }
@@ -70,7 +74,9 @@ fn show_charge<A: Allocator, C, S: Watcher<C>>(
     watcher: &mut S,
     lent: &mut C,
 ) -> Result<(), AllocError>
-    requires { core.old.clock ≤ until }
+    requires early { core.old.clock ≤ until }
+    requires ready { S.ready watcher.old lent.old }
+    ensures ready { OnOk result (S.ready watcher.new lent.new) }
     ensures makes { OnOk result ((sim : Simulation LoadJob) → Agrees loading core.old sim.history
         → MakesMove loading job_of S.saw sim (charge owed.server (min owed.ticks (until - clock_of loading job_of sim))) core.new None
         (watcher.old, lent.old) (watcher.new, lent.new)) }
@@ -90,7 +96,9 @@ fn show_next<A: Allocator, C, S: Watcher<C>>(
     watcher: &mut S,
     lent: &mut C,
 ) -> Result<Option<Charge>, AllocError>
-    requires { core.old.clock ≤ stop }
+    requires early { core.old.clock ≤ stop }
+    requires ready { S.ready watcher.old lent.old }
+    ensures ready { OnOk result (S.ready watcher.new lent.new) }
     ensures makes { IfOk result (λ owing. (sim : Simulation LoadJob) → Agrees loading core.old sim.history
         → MakesMove loading job_of S.saw sim (move_to loading job_of stop sim) core.new owing (watcher.old, lent.old) (watcher.new, lent.new)) }
     ensures stopped { OnErr result ((sim : Simulation LoadJob) → Agrees loading core.old sim.history
@@ -126,7 +134,9 @@ fn submit_due<A: Allocator, R: Releases, C, S: Watcher<C>>(
     watcher: &mut S,
     lent: &mut C,
 ) -> Result<bool, AllocError>
-    requires { stop_at until (R.coming releases.old) ≤ core.old.clock }
+    requires late { stop_at until (R.coming releases.old) ≤ core.old.clock }
+    requires ready { S.ready watcher.old lent.old }
+    ensures ready { OnOk result (S.ready watcher.new lent.new) }
     ensures moved { IfOk result (λ moved. moved ≡ true → (sim : Simulation LoadJob) → Agrees loading core.old sim.history → sim.coming ≡ R.coming releases.old
         → (core.old.clock < until → sim.owing ≡ None)
         → MakesNext loading job_of until S.saw sim core.new (R.coming releases.new) sim.owing (watcher.old, lent.old) (watcher.new, lent.new)) }
@@ -157,7 +167,9 @@ fn make_next<A: Allocator, R: Releases, C, S: Watcher<C>>(
     watcher: &mut S,
     lent: &mut C,
 ) -> Result<bool, AllocError>
-    requires { stop.old ≡ stop_at until (R.coming releases.old) }
+    requires stop { stop.old ≡ stop_at until (R.coming releases.old) }
+    requires ready { S.ready watcher.old lent.old }
+    ensures ready { OnOk result (S.ready watcher.new lent.new) }
     ensures stop { IfOk result (λ moved. stop.new ≡ stop_at until (R.coming releases.new)) }
     ensures moved { IfOk result (λ moved. moved ≡ true → (M : History LoadJob) → Agrees loading core.old M
         → MakesNext loading job_of until S.saw (record { history = M; coming = R.coming releases.old; owing = owing.old })
@@ -193,7 +205,7 @@ fn make_next<A: Allocator, R: Releases, C, S: Watcher<C>>(
 /// release that has come; then it runs a unit if somebody is ready, and else lets ticks pass, up to the next release, or
 /// until somebody may be ready. It shows each move to the watcher.
 ///
-/// The clock may not be later than `until`, nor than the first release, and `until` is at most [`LIMIT`].
+/// The clock may not be later than `until`, nor than the first release, and `until` is at most [`LIMIT`]. The watcher has to be ready.
 ///
 /// Returns an error if out of memory, or if the watcher fails: the core has then made the first of these moves, up to some move,
 /// and no other, and the watcher has seen them, but maybe the last.
@@ -208,6 +220,7 @@ pub fn simulate<A: Allocator, R: Releases, C, S: Watcher<C>>(
     requires early { core.old.clock ≤ until }
     requires order { IsInOrder core.old.clock (R.coming releases.old) }
     requires history { HasHistory loading core.old }
+    requires ready { S.ready watcher.old lent.old }
     ensures simulates { OnOk result ((M : History LoadJob) → Agrees loading core.old M
         → Simulates loading job_of until S.saw (record { history = M; coming = R.coming releases.old; owing = None })
         core.new (watcher.old, lent.old) (watcher.new, lent.new)) }

@@ -10,7 +10,8 @@ use cbs_file::MEMORY;
 use cbs_run::{
     Action, Asked, BAD_FILE, ByteOutput, DONE, MEMORY_VARIABLE, RUN_FAULT, RunError, ToWrite,
     WRONG_WORDS, WordsFault, check_bytes_within, memory_bound, read_words, report_bytes_within,
-    run_bytes_within, simulate_bytes_within, write_pieces, write_read_fault, write_run_fault,
+    run_bytes_within, simulate_bytes_within, simulate_lines_within,
+    write_pieces, write_read_fault, write_run_fault,
 };
 use std::alloc::{AllocError, Global};
 use std::env;
@@ -76,6 +77,7 @@ fn answered<R: Threads + Clock + Sync, O: ByteOutput, E: ByteOutput>(
         Action::Simulate(form) => {
             simulate_bytes_within(alloc, memory, form, name, bytes, out, err)
         }
+        Action::SimulateLines => simulate_lines_within(alloc, memory, name, bytes, out, err),
         Action::Replay(form) => report_bytes_within(alloc, memory, form, name, bytes, out, err),
         Action::Run(verb) => run_bytes_within(threads, alloc, memory, verb, bytes, out, err),
     }

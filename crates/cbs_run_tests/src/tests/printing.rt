@@ -1,7 +1,9 @@
 //! Texts that are printed of a file: what `check` says of it, and reports.
 
 use super::fakes::{Memory, Outcome};
-use cbs_run::{Form, check_bytes_within, report_bytes_within, simulate_bytes_within};
+use cbs_run::{
+    Form, check_bytes_within, report_bytes_within, simulate_bytes_within, simulate_lines_within,
+};
 use std::alloc::Global;
 
 /// Ample memory for a file.
@@ -67,6 +69,35 @@ EARLY  least  mean
 a          1   1.0
 ";
 
+const LOAD_LINES: &str = "@0 submit 0 job 0 accepted c=1 d=2
+@1 run 0 job 0 done 0 c=1 d=4
+@2 advance 1
+@2 submit 0 job 1 accepted c=1 d=4
+@3 run 0 job 1 done 0 c=1 d=6
+@4 advance 1
+";
+
+/// Two units that take a tick more than their first, and a job that comes meanwhile and finds no place.
+const OVERRUN: &str = "load = 1
+bound = [1, 1]
+backlog = 1
+until = 6
+server = [{ name = \"a\", mode = \"soft\", budget = 2, period = 4 }]
+source = [
+  { server = \"a\", every = 10, units = 2, overrun = 1 },
+  { server = \"a\", first = 1, every = 10, units = 1 },
+]
+";
+
+const OVERRUN_LINES: &str = "@0 submit 0 job 0 accepted c=2 d=4
+@1 run 0 job 0 c=1 d=4
+@2 charge 0 1 c=2 d=8
+@2 submit 0 refused BacklogFull
+@3 run 0 job 0 done 1 c=1 d=8
+@4 charge 0 1 c=2 d=12
+@6 advance 2
+";
+
 const TASKS_REPORTED: &str = "in time: no job late, none refused, of 1
 
 a.toml, ticks 0 to 4: 1 run (25.0 %), 3 idle
@@ -122,6 +153,7 @@ error: `format` is 3, and has to be 1 or 2
 enum Asked {
     Check,
     Simulate(Form),
+    SimulateLines,
     Replay(Form),
 }
 
@@ -135,6 +167,9 @@ fn printed(alloc: Global, asked: Asked, memory: u64, file: &str, room: usize) ->
         Asked::Check => check_bytes_within(alloc, memory, name, bytes, &mut out, &mut err),
         Asked::Simulate(form) => {
             simulate_bytes_within(alloc, memory, form, name, bytes, &mut out, &mut err)
+        }
+        Asked::SimulateLines => {
+            simulate_lines_within(alloc, memory, name, bytes, &mut out, &mut err)
         }
         Asked::Replay(form) => {
             report_bytes_within(alloc, memory, form, name, bytes, &mut out, &mut err)
@@ -150,6 +185,8 @@ fn a_text_is_printed_whole(rt: HostRuntime) {
         (Asked::Check, TASKS, TASKS_CHECKED),
         (Asked::Check, LOAD, LOAD_CHECKED),
         (Asked::Simulate(Form::Report), LOAD, LOAD_REPORTED),
+        (Asked::SimulateLines, LOAD, LOAD_LINES),
+        (Asked::SimulateLines, OVERRUN, OVERRUN_LINES),
         (Asked::Replay(Form::Report), TASKS, TASKS_REPORTED),
         (Asked::Replay(Form::Json), TASKS, TASKS_AS_JSON),
     ] {
@@ -164,6 +201,7 @@ fn a_writer_that_fails_has_a_prefix(rt: HostRuntime) {
     for (asked, file, prefix) in &[
         (Asked::Check, LOAD, "fits:"),
         (Asked::Simulate(Form::Json), LOAD, "{\"bac"),
+        (Asked::SimulateLines, LOAD, "@0 su"),
         (Asked::Replay(Form::Report), TASKS, "in ti"),
     ] {
         printed(alloc, *asked, MEMORY, file, 5).leaves(&rt, prefix, 4, prefix, fault);
@@ -177,6 +215,7 @@ fn a_fault_is_explained_if_there_is_memory(rt: HostRuntime) {
     for (asked, file, explained) in &[
         (Asked::Check, "load = 2\n", LOAD_EXPLAINED),
         (Asked::Simulate(Form::Report), "load = 2\n", LOAD_EXPLAINED),
+        (Asked::SimulateLines, "load = 2\n", LOAD_EXPLAINED),
         (Asked::Replay(Form::Report), "format = 3\n", TASKS_EXPLAINED),
     ] {
         assert!(rt; explained.starts_with(FAULT), "{explained}");

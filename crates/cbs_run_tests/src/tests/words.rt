@@ -103,6 +103,10 @@ fn a_form_stands_before_or_after_the_file(rt: HostRuntime) {
             "cbsrun simulate a.toml --as json",
             Action::Simulate(Form::Json),
         ),
+        (
+            "cbsrun simulate --as lines a.toml",
+            Action::SimulateLines,
+        ),
         ("cbsrun replay --as=lines a.toml", trace),
         (
             "cbsrun replay a.toml --as=report",
@@ -116,7 +120,6 @@ fn a_form_stands_before_or_after_the_file(rt: HostRuntime) {
         asks(&rt, alloc, line, *action, "a.toml");
     }
     for line in &[
-        "cbsrun simulate --as lines a.toml",
         "cbsrun simulate --as xml a.toml",
         "cbsrun simulate --as",
         "cbsrun simulate --as json --as json a.toml",

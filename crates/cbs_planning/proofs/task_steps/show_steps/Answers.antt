@@ -13,6 +13,7 @@ loop-step-init g c =
     record {
       count = search rules;
       split = sym steps;
+      ready = c.requires;
       state = λ M agrees. agrees;
       seen = λ M agrees first seen saw. rw (none_seen M seen) saw;
     }
@@ -22,6 +23,7 @@ loop-step-preserved g c = record {
   count = omega (arith, ap length c.in-Some.ensures.steps.0, c.in-Some.ensures.steps.1, c.loop-step.invariant.count);
   split = c.loop-step.invariant.split ∙ ap (λ xs. c.loop-step.yielded ++ xs) c.in-Some.ensures.steps.0
       ∙ sym (append_assoc c.loop-step.yielded (c.in-Some.step ∷ []) (into_iter_items c.next.new.self));
+  ready = c.in_ok-show_step.ensures.ready;
   state = λ M agrees. rw (after-push of_files M c.loop-step.yielded c.in-Some.step)
       (c.in_ok-show_step.ensures.state (M ⊕⊕ c.loop-step.yielded) (c.loop-step.invariant.state M agrees));
   seen = λ M agrees first seen saw. rw (seen_more M c.loop-step.yielded c.in-Some.step seen)

@@ -14,6 +14,7 @@ abbrev pub invariant-loop-step : goal.invariant-loop-step
 invariant-loop-step g l = record {
   count : into_iter_len l.step-iterator ≡ length (into_iter_items l.step-iterator);
   split : l.fn.steps.items ≡ l.yielded ++ into_iter_items l.step-iterator;
+  ready : g.V.View.ready l.view l.lent;
   state : (M : History FileJob) → Agrees of_files l.fn.core M → Agrees of_files l.core (M ⊕⊕ l.yielded);
   seen : (M : History FileJob) → Agrees of_files l.fn.core M → (first : g.row.V.Denot × g.row.C.Denot) (seen : List Seen)
       → g.V.View.saw first (l.fn.view, l.fn.lent) seen → g.V.View.saw first (l.view, l.lent) (seen_from M l.yielded seen);

@@ -1,5 +1,5 @@
 use Rattle.std.proofs.Common.{[], inr}
-use Rattle.cbs_run.proofs.Writers.{tries, tries_below, tries_alone}
+use Rattle.cbs_lines.proofs.Writers.{tries, tries_below, tries_alone}
 use Rattle.cbs_run.proofs.explained.write_explained.Goals as goal
 
 pub returns-in_default-clause-explained : goal.returns-in_default-clause-explained

@@ -1,5 +1,5 @@
 use Rattle.std.proofs.Common.{◌++◌, take, length-append, length-take, arith, refl, rules}
-use Rattle.cbs_run.proofs.WrittenText.{Consumes-then}
+use Rattle.cbs_lines.proofs.WrittenText.{Consumes-then}
 use Rattle.cbs_run.proofs.input.read_all.Goals as goal
 
 pub returns-then-n-len-clause-refused : goal.returns-then-n-len-clause-refused

@@ -1,5 +1,5 @@
 use Rattle.cbs_run.specs.Statuses.{done, refused, stopped}
-use Rattle.cbs_run.proofs.Writers.{tries, untouched}
+use Rattle.cbs_lines.proofs.Writers.{tries, untouched}
 use Rattle.cbs_run.proofs.run.run_bytes_within.Goals as goal
 
 pub returns-in-Err-clause-ends : goal.returns-in-Err-clause-ends

@@ -9,7 +9,7 @@ use Rattle.cbs_simulate.proofs.driver.make_next.Goals.{in-None+else-now-stop, in
 pub returns-then-now-stop-clause-moved : goal.returns-then-now-stop-clause-moved
 returns-then-now-stop-clause-moved g c = λ t M agrees.
     let coming = g.R.Releases.coming c.args.releases.now in
-    let is : c.args.stop.now ≡ stop_at c.args.until coming = c.requires in
+    let is : c.args.stop.now ≡ stop_at c.args.until coming = c.requires.stop in
     let now : c.now.result ≡ (world_after loading M).now = c.now.ensures.now M agrees in
     let before = c.if-now-stop.true in
     let early : (world_after loading M).now < stop_at c.args.until coming = omega arith in
@@ -48,7 +48,7 @@ returns-in_err-moved-clause-stopped g c = on_err c.from_residual-in_err-moved.re
 pub returns-in_err-owing-in-None-clause-stopped : goal.returns-in_err-owing-in-None-clause-stopped
 returns-in_err-owing-in-None-clause-stopped g c = on_err c.from_residual.result (λ M agrees.
     let coming = g.R.Releases.coming c.args.releases.now in
-    let is : c.args.stop.now ≡ stop_at c.args.until coming = c.requires in
+    let is : c.args.stop.now ≡ stop_at c.args.until coming = c.requires.stop in
     let now : c.now.result ≡ (world_after loading M).now = c.now.ensures.now M agrees in
     let before = c.if-now-stop.true in
     let early : (world_after loading M).now < stop_at c.args.until coming = omega arith in

@@ -8,6 +8,7 @@ pub loop-init : goal.loop-init
 loop-init g c = record {
   made = λ M agrees. none_made loading job_of c.args.until g.S.Watcher.saw
       (record { history = M; coming = g.R.Releases.coming c.args.releases.now; owing = None }) c.args.core.now (c.args.watcher.now, c.args.lent.now) agrees;
+  ready = c.requires.ready;
   stop = c.stop_of-stop.ensures;
 }
 
@@ -19,6 +20,7 @@ pub loop-preserved : goal.loop-preserved
 loop-preserved g c = record {
   made = preserved loading job_of c.args.until g.S.Watcher.saw c.requires.end _ _ _ _ _ _ _ _ c.requires.early c.requires.order
       c.loop.invariant.made _ _ _ (c.in_ok-make_next.ensures.moved c.if-branch.true);
+  ready = c.in_ok-make_next.ensures.ready;
   stop = c.in_ok-make_next.ensures.stop;
 }
 

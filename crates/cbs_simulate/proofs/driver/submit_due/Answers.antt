@@ -8,7 +8,7 @@ use Rattle.cbs_simulate.proofs.driver.submit_due.Goals as goal
 pub returns-in_err-submit_first-in-Some-clause-stopped : goal.returns-in_err-submit_first-in-Some-clause-stopped
 returns-in_err-submit_first-in-Some-clause-stopped g c = on_err c.from_residual.result (λ sim agrees same free.
     let at = agrees.world.clock in
-    let late = c.requires in
+    let late = c.requires.late in
     let first : slice_get sim.coming 0 ≡ Some c.in-Some.release = rw same (sym c.in-Some.ensures.next) in
     let due : stop_at c.args.until sim.coming ≤ (world_after loading sim.history).now = rw same (omega arith) in
     c.in_err-submit_first-in-Some.ensures.stopped sim agrees c.args.until

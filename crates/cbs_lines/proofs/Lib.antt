@@ -1,0 +1,4 @@
+pub mod WrittenText
+pub mod Writers
+pub mod StepTexts
+pub mod LoadLineSteps

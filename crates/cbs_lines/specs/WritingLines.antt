@@ -1,0 +1,19 @@
+-- What the lines of a load have written while they are made.
+use Rattle.std.specs.Prelude.{◌≡◌, ◌⊎◌, ◌+◌, true, false, List, ◌∷◌}
+use Rattle.cbs_views.specs.declared.seen.Seen.{Seen}
+use Rattle.cbs_lines.specs.LoadLines.{lines_of}
+use Rattle.cbs_lines.specs.Writers.{Writer, FailsToWrite}
+use Rattle.cbs_lines.specs.Writes.{AppendsAllBut}
+use Rattle.cbs_lines.specs.declared.load_lines.LoadLines.{LoadLines}
+
+-- the lines of the steps were written, but for what waits, and no call failed
+pub record HasWritten (lines : LoadLines) (old new : Writer) (seen : List Seen) : Type 0 where
+  pub well : lines.write_failed ≡ false
+  pub written : AppendsAllBut old.written new.written lines.pending (lines_of seen)
+  pub none_failed : new.failed ≡ old.failed
+
+-- a prefix of the lines was written, and then a call failed; or those of all steps but the newest, but for what waits
+abbrev pub FailedToWrite : LoadLines → Writer → Writer → List Seen → Type 0
+FailedToWrite lines old new seen =
+    ((lines.write_failed ≡ true) × FailsToWrite old new (lines_of seen))
+    ⊎ ((o : Seen) × (os : List Seen) × (seen ≡ o ∷ os) × HasWritten lines old new os)
