@@ -1,6 +1,7 @@
 //! Loads, simulated, and task files, replayed: what comes of them, as a report.
 #![tactic(auto)]
 
+mod progress;
 mod reported;
 mod showing;
 mod task_report;
@@ -10,6 +11,7 @@ mod tests;
 mod watched;
 mod within;
 
+pub use progress::{NoProgress, Progress};
 pub use reported::report_of;
 pub use showing::{Stopped, show_load};
 pub use task_report::task_report_of;

@@ -6,6 +6,7 @@ ghost use Rattle.cbs_report.specs.Reports.{AreAllFigures};
 ghost use Rattle.cbs_report.specs.Tallies.{ticks_idle};
 ghost use Rattle.cbs_planning.specs.Loads.{AreThrottled, IsReportOf, seen_in, within_of};
 
+use crate::progress::{Progress, Telling};
 use crate::showing::show_load;
 use crate::within::within_of;
 use cbs_load::Load;
@@ -14,17 +15,22 @@ use cbs_report::{Figures, Report};
 use std::alloc::{AllocError, Global};
 
 /// Simulates a load up to its end. Returns the figures of its servers, and the ticks in which nobody ran.
-fn simulated(alloc: Global, load: &Load) -> Result<(Vec<Figures>, u64), AllocError>
+fn simulated<P: Progress>(
+    alloc: Global,
+    load: &Load,
+    progress: &mut P,
+) -> Result<(Vec<Figures>, u64), AllocError>
     ensures figures { IfOk result (λ r. AreAllFigures (map (λ rate. rate.budget) load.now.plan.rates) load.now.until (seen_in load.now) r.0.items) }
     ensures idle { IfOk result (λ r. r.1 ≡ told (total (λ o. ticks_idle o.event) (seen_in load.now))) }
     ensures throttled { OnOk result (AreThrottled load.now) }
 {
     let report = Report::new(alloc, load.plan())?;
-    let Ok(report) = show_load(alloc, load, report, &mut ()) else {
+    let telling = Telling::new(report, load.until());
+    let Ok(told) = show_load(alloc, load, telling, progress) else {
         return Err(AllocError);
     };
-    let idle = report.idle();
-    let figures = report.figures(alloc, load.until())?;
+    let idle = told.view.idle();
+    let figures = told.view.figures(alloc, load.until())?;
     Ok((figures, idle))
 }
 
@@ -52,12 +58,18 @@ fn server_report(
     })
 }
 
-/// Simulates a load, and returns the report of that, with this name for its file. The only error is out of memory.
-pub fn report_of(alloc: Global, file: &str, load: &Load) -> Result<RunReport, AllocError>
+/// Simulates a load, and returns the report of that, with this name for its file. Tells now and then how far it is. The only error is
+/// out of memory.
+pub fn report_of<P: Progress>(
+    alloc: Global,
+    file: &str,
+    load: &Load,
+    progress: &mut P,
+) -> Result<RunReport, AllocError>
     ensures report { IfOk result (IsReportOf file.now load.now) }
     ensures few { IfOk result (λ r. length r.servers.items ≤ 64) }
 {
-    let (figures, idle) = simulated(alloc, load)?;
+    let (figures, idle) = simulated(alloc, load, progress)?;
     let mut servers = Vec::with_capacity(alloc, figures.len())?;
     for server in 0..load.plan().len() as u16 {
         let figures = figures[usize::from(server)];

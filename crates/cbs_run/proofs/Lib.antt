@@ -1,3 +1,4 @@
 pub mod JobLists
 pub mod HouseResults
 pub mod ResultLines
+pub mod Printings

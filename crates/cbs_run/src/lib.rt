@@ -16,6 +16,7 @@ mod simulate;
 mod words;
 
 pub use cbs_lines::{ByteOutput, RunError, ToWrite, replay, write_pieces, write_text};
+pub use cbs_planning::{NoProgress, Progress};
 pub use check::check_bytes_within;
 pub use environment::{MEMORY_VARIABLE, memory_bound};
 pub use fault_lines::{write_file_fault, write_read_fault, write_run_fault};

@@ -17,29 +17,30 @@ use crate::run::{BAD_FILE, DONE, RUN_FAULT};
 use crate::words::Form;
 use cbs_lines::{ByteOutput, RunError, write_load_lines, write_text};
 use cbs_load::{Load, read_load_within};
-use cbs_planning::report_of;
+use cbs_planning::{Progress, report_of};
 use std::alloc::Global;
 
 /// Simulates a load, and prints the report of that in this form, with this name for its file.
-fn print_report<O: ByteOutput>(
+fn print_report<P: Progress, O: ByteOutput>(
     alloc: Global,
     form: Form,
     name: &str,
     load: &Load,
+    progress: &mut P,
     out: &mut O,
 ) -> Result<(), RunError>
     requires { O.failed out.old < 2 ^ 64 - 1 }
     ensures { Prints (IsReportText form name.now load.now) result
         (record { written = O.written out.old; failed = O.failed out.old }) (record { written = O.written out.new; failed = O.failed out.new }) }
 {
-    let report = report_of(alloc, name, load)?;
+    let report = report_of(alloc, name, load, progress)?;
     let text = text_of(alloc, form, &report)?;
     write_text(out, text.as_bytes())?;
     Ok(())
 }
 
-/// Simulates the load that the bytes spell, and prints the report of that in this form, with this name for its file. Returns
-/// the status.
+/// Simulates the load that the bytes spell, and prints the report of that in this form, with this name for its file. Tells now
+/// and then how far it is. Returns the status.
 ///
 /// At status 0 the whole report is on `out`, and nothing on `err`. At status 3 the file has a fault: its line goes to
 /// `err`, with what a person needs to know of it below, and nothing to `out`. At status 4 the run ended early: the line of
@@ -48,12 +49,13 @@ fn print_report<O: ByteOutput>(
 ///
 /// If the bytes want more than `memory` bytes of memory, the status is 3, with the line of out of memory on `err`, and
 /// nothing is parsed.
-pub fn simulate_bytes_within<O: ByteOutput, E: ByteOutput>(
+pub fn simulate_bytes_within<P: Progress, O: ByteOutput, E: ByteOutput>(
     alloc: Global,
     memory: u64,
     form: Form,
     name: &str,
     bytes: &[u8],
+    progress: &mut P,
     out: &mut O,
     err: &mut E,
 ) -> u8
@@ -75,7 +77,7 @@ pub fn simulate_bytes_within<O: ByteOutput, E: ByteOutput>(
             return BAD_FILE;
         }
     };
-    match print_report(alloc, form, name, &load, out) {
+    match print_report(alloc, form, name, &load, progress, out) {
         Ok(()) => DONE,
         Err(error) => {
             let _written = write_run_fault(err, error);

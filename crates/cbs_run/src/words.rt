@@ -90,7 +90,8 @@ Exit status:
 const CHECK: &str = "Says what the servers of a file have and could have, and which jobs of a load \
 are in time always; or what is wrong with the file";
 
-const SIMULATE: &str = "Releases the jobs of a load's sources, runs them, and reports, or writes a line for each step";
+const SIMULATE: &str =
+    "Releases the jobs of a load's sources, runs them, and reports, or writes a line for each step";
 
 const REPLAY: &str = "Runs the steps of a task file, and writes a line for each, or reports";
 

@@ -2,13 +2,17 @@
 #![tactic(auto)]
 
 mod bytes;
+mod paint;
+mod progress;
 
 ghost use Rattle.std.specs.Prelude.{◌-◌, ◌<◌, ◌^◌};
 
 use crate::bytes::{bytes_of, write_reason};
+use crate::paint::Painted;
+use crate::progress::Teller;
 use cbs_file::MEMORY;
 use cbs_run::{
-    Action, Asked, BAD_FILE, ByteOutput, DONE, MEMORY_VARIABLE, RUN_FAULT, RunError, ToWrite,
+    Action, Asked, BAD_FILE, ByteOutput, DONE, Form, MEMORY_VARIABLE, Progress, RUN_FAULT, RunError, ToWrite,
     WRONG_WORDS, WordsFault, check_bytes_within, memory_bound, read_words, report_bytes_within,
     run_bytes_within, simulate_bytes_within, simulate_lines_within,
     write_pieces, write_read_fault, write_run_fault,
@@ -16,7 +20,7 @@ use cbs_run::{
 use std::alloc::{AllocError, Global};
 use std::env;
 use std::env::VarError;
-use std::io::ErrorKind;
+use std::io::{ErrorKind, IsTerminal};
 use std::process::ExitCode;
 use std::thread::Threads;
 use std::time::Clock;
@@ -59,12 +63,13 @@ fn asked_of(rt: &HostRuntime, alloc: Global) -> Result<(Asked, u64), WordsFault>
 }
 
 /// Does with the bytes of a file what the command line asks for, and returns the status. It serves on `threads`.
-fn answered<R: Threads + Clock + Sync, O: ByteOutput, E: ByteOutput>(
+fn answered<R: Threads + Clock + Sync, P: Progress, O: ByteOutput, E: ByteOutput>(
     threads: &R,
     alloc: Global,
     memory: u64,
     asked: &Asked,
     bytes: &[u8],
+    progress: &mut P,
     out: &mut O,
     err: &mut E,
 ) -> u8
@@ -75,7 +80,7 @@ fn answered<R: Threads + Clock + Sync, O: ByteOutput, E: ByteOutput>(
     match asked.action {
         Action::Check => check_bytes_within(alloc, memory, name, bytes, out, err),
         Action::Simulate(form) => {
-            simulate_bytes_within(alloc, memory, form, name, bytes, out, err)
+            simulate_bytes_within(alloc, memory, form, name, bytes, progress, out, err)
         }
         Action::SimulateLines => simulate_lines_within(alloc, memory, name, bytes, out, err),
         Action::Replay(form) => report_bytes_within(alloc, memory, form, name, bytes, out, err),
@@ -83,29 +88,69 @@ fn answered<R: Threads + Clock + Sync, O: ByteOutput, E: ByteOutput>(
     }
 }
 
-/// The status of a program that reads its words, its environment, its file and its steps. It serves on `threads`.
-fn status<R: Threads + Clock + Sync>(rt: &HostRuntime, threads: &R) -> u8 {
-    let alloc = rt.alloc();
+/// Returns whether the environment allows colours: it does not if `NO_COLOR` is there and not empty.
+fn may_have_colours(rt: &HostRuntime) -> bool {
+    env::var(rt, "NO_COLOR").map_or(true, |value| value.is_empty())
+}
+
+/// Returns whether what is asked for is a text for people.
+fn is_for_people(action: Action) -> bool {
+    matches!(
+        action,
+        Action::Check | Action::Simulate(Form::Report) | Action::Replay(Form::Report)
+    )
+}
+
+/// Writes why the words of the command line ask for nothing, and returns the status.
+fn status_of_words(rt: &HostRuntime, fault: WordsFault) -> u8 {
     let mut out = ToWrite::new(rt.stdout());
     let mut err = ToWrite::new(rt.stderr());
-    let (asked, memory) = match asked_of(rt, alloc) {
-        Ok(asked) => asked,
-        Err(WordsFault::Help(text)) => {
+    match fault {
+        WordsFault::Help(text) => {
             let _written = write_pieces(&mut out, &[text.as_str()]);
-            return DONE;
+            DONE
         }
-        Err(WordsFault::Usage(text)) => {
+        WordsFault::Usage(text) => {
             let _written = write_pieces(&mut err, &[text.as_str()]);
-            return WRONG_WORDS;
+            WRONG_WORDS
         }
-        Err(WordsFault::OutOfMemory) => {
+        WordsFault::OutOfMemory => {
             let _written = write_run_fault(&mut err, RunError::OutOfMemory);
-            return RUN_FAULT;
+            RUN_FAULT
         }
-    };
+    }
+}
+
+/// Does what the command line asks for, and returns the status. It serves on `threads`.
+fn status_of<R: Threads + Clock + Sync>(
+    rt: &HostRuntime,
+    threads: &R,
+    asked: &Asked,
+    memory: u64,
+) -> u8 {
+    let alloc = rt.alloc();
+    let colours = may_have_colours(rt);
+    let in_out = colours && is_for_people(asked.action) && rt.stdout().is_terminal();
+    let mut out = ToWrite::new(Painted::new(rt.stdout(), alloc, in_out));
+    let in_err = colours && rt.stderr().is_terminal();
+    let mut err = ToWrite::new(Painted::new(rt.stderr(), alloc, in_err));
     let name = asked.file.as_str();
     match bytes_of(rt, alloc, name) {
-        Ok(bytes) => answered(threads, alloc, memory, &asked, &bytes, &mut out, &mut err),
+        Ok(bytes) => {
+            let mut teller = Teller::new(rt);
+            let status = answered(
+                threads,
+                alloc,
+                memory,
+                asked,
+                &bytes,
+                &mut teller,
+                &mut out,
+                &mut err,
+            );
+            teller.end();
+            status
+        }
         Err(unread) => {
             let _written = write_read_fault(&mut err, unread.fault());
             if !matches!(asked.action, Action::Run(_)) {
@@ -113,6 +158,14 @@ fn status<R: Threads + Clock + Sync>(rt: &HostRuntime, threads: &R) -> u8 {
             }
             BAD_FILE
         }
+    }
+}
+
+/// The status of a program that reads its words, its environment, its file and its steps. It serves on `threads`.
+fn status<R: Threads + Clock + Sync>(rt: &HostRuntime, threads: &R) -> u8 {
+    match asked_of(rt, rt.alloc()) {
+        Ok((asked, memory)) => status_of(rt, threads, &asked, memory),
+        Err(fault) => status_of_words(rt, fault),
     }
 }
 

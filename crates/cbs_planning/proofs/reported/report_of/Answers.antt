@@ -5,7 +5,7 @@ use Rattle.cbs_planning.proofs.Servers.{each_is, each_more, figure_count, server
 use Rattle.cbs_planning.proofs.reported.report_of.Goals as goal
 
 pub loop-server-preserved : goal.loop-server-preserved
-loop-server-preserved c =
+loop-server-preserved g c =
     let f = c.args.load.now in
     let l = c.loop-server in
     let r = c.in_ok-server_report.field-0 in
@@ -24,12 +24,12 @@ loop-server-preserved c =
     }
 
 pub returns-clause-few : goal.returns-clause-few
-returns-clause-few c =
+returns-clause-few g c =
     let few = c.len-server-end.ensures.lawful.few in
     omega (arith, few, c.loop-server.invariant.count, c.len-server-end.ensures.value, c.loop-server-test.false)
 
 pub returns-clause-report : goal.returns-clause-report
-returns-clause-report c =
+returns-clause-report g c =
     let f = c.args.load.now in
     let l = c.loop-server in
     record {

@@ -5,4 +5,4 @@ use Rattle.cbs_planning.proofs.reported.report_of.Given as goal
 
 -- the reports of the first servers
 abbrev pub invariant-loop-server : goal.invariant-loop-server
-invariant-loop-server l = record { count : length l.servers.items ≡ l.server; each : EachFrom (IsServerReport l.fn.load) 0 l.servers.items }
+invariant-loop-server g l = record { count : length l.servers.items ≡ l.server; each : EachFrom (IsServerReport l.fn.load) 0 l.servers.items }

@@ -1,6 +1,7 @@
 use Rattle.std.proofs.Common.{refl}
 use Rattle.cbs_run.specs.Printing.{done, refused, stopped}
 use Rattle.cbs_lines.proofs.Writers.{tries, untouched}
+use Rattle.cbs_run.proofs.Printings.{prints_short}
 use Rattle.cbs_run.proofs.simulate.simulate_lines_within.Goals as goal
 
 pub returns-in-Err-clause-ends : goal.returns-in-Err-clause-ends
@@ -13,5 +14,6 @@ returns-in-Ok-write_load_lines-clause-ends g c =
 
 pub returns-clause-ends : goal.returns-clause-ends
 returns-clause-ends g c =
-    stopped c.in-Ok.load c.in-Err-write_load_lines.error c.in-Ok.ensures.read c.in-Err-write_load_lines.ensures
+    stopped c.in-Ok.load c.in-Err-write_load_lines.error c.in-Ok.ensures.read
+    (prints_short _ _ c.in-Err-write_load_lines.error _ _ c.in-Err-write_load_lines.ensures)
     (tries c.write_run_fault-written.result _ _ _ c.write_run_fault-written.ensures.ok c.write_run_fault-written.ensures.err)

@@ -1,0 +1,61 @@
+//! How far a simulation is.
+
+ghost use Rattle.std.specs.Prelude.{◌≡◌};
+
+use cbs_views::{Seen, View};
+use std::alloc::AllocError;
+
+/// After how many steps it is told again: they take some milliseconds.
+const STEPS: u32 = 65_536;
+
+/// Is told now and then how far a simulation is.
+pub trait Progress {
+    /// Is told the clock, and the tick at which the simulation ends.
+    fn tell(&mut self, clock: u64, until: u64);
+}
+
+/// Tells nobody.
+pub struct NoProgress;
+
+impl Progress for NoProgress {
+    fn tell(&mut self, _clock: u64, _until: u64) {}
+}
+
+/// A view that tells how far the simulation is which it sees.
+#[derive(Drop)]
+pub(crate) struct Telling<V> {
+    pub(crate) view: V,
+    until: u64,
+    left: u32,
+}
+
+impl<V> Telling<V> {
+    /// Returns a view of a simulation that ends at this tick.
+    pub(crate) fn new(view: V, until: u64) -> Telling<V>
+        ensures { result.view ≡ view }
+    {
+        Telling {
+            view,
+            until,
+            left: STEPS,
+        }
+    }
+}
+
+impl<P: Progress, V: View<()>> View<P> for Telling<V> {
+    ghost ready = { λ it _. V.ready it.view tt };
+
+    ghost saw = { λ first now seen. V.saw (first.0.view, tt) (now.0.view, tt) seen };
+
+    ghost failed = { λ first now seen. V.failed (first.0.view, tt) (now.0.view, tt) seen };
+
+    #[inline(always)]
+    fn see(&mut self, lent: &mut P, seen: Seen) -> Result<(), AllocError> {
+        if self.left == 0 {
+            self.left = STEPS;
+            lent.tell(seen.clock, self.until);
+        }
+        self.left -= 1;
+        self.view.see(&mut (), seen)
+    }
+}

@@ -1,0 +1,144 @@
+//! Colours for a terminal. What has a colour has a mark as well, so that nothing is said by the colour alone.
+
+use std::alloc::{AllocError, Global};
+use std::io;
+use std::io::Write;
+
+/// How a piece of text is painted.
+#[derive(Clone, Copy)]
+enum Style {
+    /// What is to be looked at.
+    Alarm,
+    /// That all is well.
+    Well,
+    /// A heading.
+    Heading,
+}
+
+impl Style {
+    /// Returns the escape sequence that begins it.
+    fn begin(self) -> &'static str {
+        match self {
+            Style::Alarm => "\x1b[1;31m",
+            Style::Well => "\x1b[32m",
+            Style::Heading => "\x1b[1m",
+        }
+    }
+}
+
+/// The escape sequence that ends each style.
+const END: &str = "\x1b[0m";
+
+/// The first words of the lines that are painted, and how these words are.
+const WORDS: [(&str, Style); 6] = [
+    ("not in time:", Style::Alarm),
+    ("in time:", Style::Well),
+    ("fits:", Style::Well),
+    ("error:", Style::Alarm),
+    ("note:", Style::Heading),
+    ("help:", Style::Heading),
+];
+
+/// The first words of the headings of tables.
+const HEADINGS: [&str; 7] = [
+    "JOBS", "TICKS", "RESPONSE", "EARLY", "CHARGES", "SERVER", "SOURCE OF",
+];
+
+/// Appends a piece in a style.
+fn append(text: &mut String, style: Style, piece: &str) -> Result<(), AllocError> {
+    text.push_str(style.begin())?;
+    text.push_str(piece)?;
+    text.push_str(END)
+}
+
+/// Appends a part of a line that ends at a mark: its last entry is painted, which begins after two blanks.
+fn append_marked(text: &mut String, part: &str) -> Result<(), AllocError> {
+    match part.rsplit_once("  ") {
+        Some((before, entry)) => {
+            text.push_str(before)?;
+            text.push_str("  ")?;
+            append(text, Style::Alarm, entry)
+        }
+        None => append(text, Style::Alarm, part),
+    }
+}
+
+/// Appends a line of a table.
+fn append_row(text: &mut String, line: &str) -> Result<(), AllocError> {
+    for part in line.split_inclusive('!') {
+        if part.ends_with('!') {
+            append_marked(text, part)?;
+        } else {
+            text.push_str(part)?;
+        }
+    }
+    Ok(())
+}
+
+/// Appends a line that is painted.
+fn append_line(text: &mut String, line: &str) -> Result<(), AllocError> {
+    for (word, style) in WORDS {
+        if let Some(rest) = line.strip_prefix(word) {
+            append(text, style, word)?;
+            return text.push_str(rest);
+        }
+    }
+    for word in HEADINGS {
+        if line.starts_with(word) {
+            return append(text, Style::Heading, line);
+        }
+    }
+    append_row(text, line)
+}
+
+/// Returns a text that is painted. Without the escape sequences it is the text.
+fn painted(alloc: Global, text: &str) -> Result<String, AllocError> {
+    let mut colours = String::with_capacity(alloc, text.len())?;
+    for line in text.split_inclusive('\n') {
+        match line.strip_suffix('\n') {
+            Some(line) => {
+                append_line(&mut colours, line)?;
+                colours.push_str("\n")?;
+            }
+            None => append_line(&mut colours, line)?,
+        }
+    }
+    Ok(colours)
+}
+
+/// A writer whose text is painted, if it may be: a piece that is no text, or for which there is no memory, stays as it is.
+#[derive(Drop)]
+pub struct Painted<W> {
+    writer: W,
+    alloc: Global,
+    may: bool,
+}
+
+impl<W> Painted<W> {
+    /// Returns such a writer.
+    pub fn new(writer: W, alloc: Global, may: bool) -> Painted<W> {
+        Painted { writer, alloc, may }
+    }
+}
+
+impl<W: Write> Write for Painted<W> {
+    fn write(&mut self, buf: &[u8]) -> io::Result<usize> {
+        if !self.may {
+            return self.writer.write(buf);
+        }
+        let Ok(text) = str::from_utf8(buf) else {
+            return self.writer.write(buf);
+        };
+        match painted(self.alloc, text) {
+            Ok(colours) => {
+                self.writer.write_all(colours.as_bytes())?;
+                Ok(buf.len())
+            }
+            Err(_) => self.writer.write(buf),
+        }
+    }
+
+    fn flush(&mut self) -> io::Result<()> {
+        self.writer.flush()
+    }
+}

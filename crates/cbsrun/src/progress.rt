@@ -1,0 +1,57 @@
+//! How far a long run is, on a terminal.
+
+use cbs_run::Progress;
+use std::io::IsTerminal;
+use std::time::Duration;
+
+/// After how long a run is told of first.
+const FIRST: Duration = Duration::from_secs(2);
+
+/// After how long it is told of again.
+const AGAIN: Duration = Duration::from_millis(200);
+
+/// Tells on standard error how far a run is, if that is a terminal and the run takes longer than two seconds.
+#[derive(Drop)]
+pub struct Teller<'a> {
+    rt: &'a HostRuntime,
+    next: Option<Duration>,
+    told: bool,
+}
+
+impl<'a> Teller<'a> {
+    /// Returns one for a run that begins now.
+    pub fn new(rt: &'a HostRuntime) -> Teller<'a> {
+        let next = if rt.stderr().is_terminal() {
+            rt.monotonic().ok().and_then(|now| now.checked_add(FIRST))
+        } else {
+            None
+        };
+        Teller {
+            rt,
+            next,
+            told: false,
+        }
+    }
+
+    /// Takes away what was told, if something was.
+    pub fn end(&mut self) {
+        if self.told {
+            let _written = eprint!(self.rt; "\r\x1b[K");
+        }
+    }
+}
+
+impl Progress for Teller<'_> {
+    fn tell(&mut self, clock: u64, until: u64) {
+        let (Some(next), Ok(now)) = (self.next, self.rt.monotonic()) else {
+            return;
+        };
+        if now < next {
+            return;
+        }
+        let percent = u128::from(clock) * 100 / u128::from(until.max(1));
+        let _written = eprint!(self.rt; "\rcbsrun: at tick {clock} of {until}, {percent} %");
+        self.told = true;
+        self.next = now.checked_add(AGAIN);
+    }
+}
