@@ -12,9 +12,9 @@ use crate::paint::Painted;
 use crate::progress::Teller;
 use cbs_file::MEMORY;
 use cbs_run::{
-    Action, Asked, BAD_FILE, ByteOutput, DONE, Form, MEMORY_VARIABLE, Progress, RUN_FAULT, RunError, ToWrite,
-    WRONG_WORDS, WordsFault, check_bytes_within, memory_bound, read_words, report_bytes_within,
-    run_bytes_within, simulate_bytes_within, simulate_lines_within,
+    Action, Asked, BAD_FILE, ByteOutput, DONE, Form, MEMORY_VARIABLE, Progress, RUN_FAULT,
+    RunError, ToWrite, WRONG_WORDS, WordsFault, check_bytes_within, memory_bound, read_words,
+    report_bytes_within, run_bytes_within, simulate_bytes_within, simulate_lines_within,
     write_pieces, write_read_fault, write_run_fault,
 };
 use std::alloc::{AllocError, Global};

@@ -41,7 +41,13 @@ const WORDS: [(&str, Style); 6] = [
 
 /// The first words of the headings of tables.
 const HEADINGS: [&str; 7] = [
-    "JOBS", "TICKS", "RESPONSE", "EARLY", "CHARGES", "SERVER", "SOURCE OF",
+    "JOBS",
+    "TICKS",
+    "RESPONSE",
+    "EARLY",
+    "CHARGES",
+    "SERVER",
+    "SOURCE OF",
 ];
 
 /// Appends a piece in a style.
@@ -92,7 +98,7 @@ fn append_line(text: &mut String, line: &str) -> Result<(), AllocError> {
 }
 
 /// Returns a text that is painted. Without the escape sequences it is the text.
-fn painted(alloc: Global, text: &str) -> Result<String, AllocError> {
+fn in_colours(alloc: Global, text: &str) -> Result<String, AllocError> {
     let mut colours = String::with_capacity(alloc, text.len())?;
     for line in text.split_inclusive('\n') {
         match line.strip_suffix('\n') {
@@ -129,7 +135,7 @@ impl<W: Write> Write for Painted<W> {
         let Ok(text) = str::from_utf8(buf) else {
             return self.writer.write(buf);
         };
-        match painted(self.alloc, text) {
+        match in_colours(self.alloc, text) {
             Ok(colours) => {
                 self.writer.write_all(colours.as_bytes())?;
                 Ok(buf.len())

@@ -2,13 +2,13 @@
 
 use cbs_run::Progress;
 use std::io::IsTerminal;
-use std::time::Duration;
+use std::time::{Clock, Duration};
 
-/// After how long a run is told of first.
-const FIRST: Duration = Duration::from_secs(2);
+/// After how many milliseconds a run is told of first.
+const FIRST: u64 = 2000;
 
-/// After how long it is told of again.
-const AGAIN: Duration = Duration::from_millis(200);
+/// After how many milliseconds it is told of again.
+const AGAIN: u64 = 200;
 
 /// Tells on standard error how far a run is, if that is a terminal and the run takes longer than two seconds.
 #[derive(Drop)]
@@ -22,7 +22,9 @@ impl<'a> Teller<'a> {
     /// Returns one for a run that begins now.
     pub fn new(rt: &'a HostRuntime) -> Teller<'a> {
         let next = if rt.stderr().is_terminal() {
-            rt.monotonic().ok().and_then(|now| now.checked_add(FIRST))
+            rt.monotonic()
+                .ok()
+                .and_then(|now| now.checked_add(Duration::from_millis(FIRST)))
         } else {
             None
         };
@@ -52,6 +54,6 @@ impl Progress for Teller<'_> {
         let percent = u128::from(clock) * 100 / u128::from(until.max(1));
         let _written = eprint!(self.rt; "\rcbsrun: at tick {clock} of {until}, {percent} %");
         self.told = true;
-        self.next = now.checked_add(AGAIN);
+        self.next = now.checked_add(Duration::from_millis(AGAIN));
     }
 }
