@@ -1,10 +1,6 @@
 //! What is wrong with a task file or a load file, as a text for a person: what stands below the line of a fault.
 #![tactic(auto)]
 
-#[cfg(test)]
-mod broken_files;
-#[cfg(test)]
-mod broken_values;
 mod faults;
 mod finding;
 mod fractions;
@@ -19,8 +15,6 @@ mod remarks;
 mod shown;
 mod spot;
 mod sums;
-#[cfg(test)]
-mod tests;
 mod values;
 mod wants;
 

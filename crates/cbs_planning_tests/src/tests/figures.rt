@@ -1,6 +1,6 @@
 //! The figures of steps by hand.
 
-use crate::{Figures, Ranks, Report};
+use cbs_report::{Figures, Ranks, Report};
 use cbs_job::Completion;
 use cbs_rate::{Bound, Plan, Reservation};
 use cbs_steps::{CoreError, Ran, ServerView};
