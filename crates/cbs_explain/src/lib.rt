@@ -2,20 +2,13 @@
 #![tactic(auto)]
 
 mod faults;
-mod finding;
-mod fractions;
-mod keys;
 mod limits;
-mod nearest;
 mod not_toml;
 mod notes;
 mod over;
 mod page;
 mod remarks;
 mod shown;
-mod spot;
-mod sums;
 mod values;
-mod wants;
 
 pub use faults::explain;

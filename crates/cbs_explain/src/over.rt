@@ -1,70 +1,14 @@
 //! A server with which the plan is over the bound: by how much, and what would fit.
 
-use crate::fractions::{Fraction, Percent};
-use crate::limits::reservation_of;
 use crate::page::{append_bar, append_note, append_times};
-use crate::spot::{Document, Spot, name_of};
-use crate::sums::{excess, least_period, share, total};
+use cbs_findings::{Fraction, Percent, Refused, Spot, excess, name_of, reservations, share};
 use cbs_guarantee::{Part, SplitError, split};
-use cbs_rate::{AdmitError, Plan, Reservation};
 use std::alloc::{AllocError, Global};
 use std::fmt::Write;
 use toml::Value;
 
 /// The columns before the bar.
 const MARGIN: usize = 3;
-
-/// A server that a plan does not take.
-#[derive(Drop)]
-pub(crate) struct Refused<'a> {
-    /// Its number.
-    pub number: usize,
-    /// Why it is not taken.
-    pub why: AdmitError,
-    /// The plan of the servers before it.
-    pub plan: Plan,
-    pub reservation: Reservation,
-    pub document: Document<'a>,
-}
-
-impl Refused<'_> {
-    /// Returns what the servers before it have.
-    fn before(&self) -> Fraction {
-        share(self.plan.bandwidth())
-    }
-
-    /// Returns what it would have.
-    fn own(&self) -> Fraction {
-        Fraction {
-            part: u128::from(self.reservation.budget()),
-            whole: u128::from(self.reservation.period()),
-        }
-    }
-
-    /// Returns what all would have together.
-    fn total(&self) -> Fraction {
-        total(self.plan.bandwidth(), self.reservation)
-    }
-
-    /// Returns the bound.
-    fn bound(&self) -> Fraction {
-        let bound = self.plan.bound();
-        Fraction {
-            part: u128::from(bound.num()),
-            whole: u128::from(bound.den()),
-        }
-    }
-
-    /// Returns the least period in which its budget fits into what is left, if the plan takes that.
-    fn least_period(&self) -> Option<u64> {
-        let budget = self.reservation.budget();
-        let period = least_period(budget, excess(self.bound(), self.before())?)?;
-        if self.plan.greatest_budget(period) < budget {
-            return None;
-        }
-        Some(period)
-    }
-}
 
 /// Appends two blanks, and a text to the right of a column.
 fn append_right(text: &mut String, width: usize, what: &str) -> Result<(), AllocError> {
@@ -93,11 +37,7 @@ fn append_row(
 }
 
 /// Appends a row of the servers before, if there are any.
-fn append_before(
-    alloc: Global,
-    text: &mut String,
-    refused: &Refused<'_>,
-) -> Result<(), AllocError> {
+fn append_before(alloc: Global, text: &mut String, refused: &Refused) -> Result<(), AllocError> {
     let label = match refused.number {
         0 => return Ok(()),
         1 => String::from_str(alloc, "server 0")?,
@@ -107,7 +47,7 @@ fn append_before(
 }
 
 /// Appends the sum: the servers before, the server, and by how much they are over the bound.
-fn append_sum(alloc: Global, text: &mut String, refused: &Refused<'_>) -> Result<(), AllocError> {
+fn append_sum(alloc: Global, text: &mut String, refused: &Refused) -> Result<(), AllocError> {
     let budget = refused.reservation.budget();
     let period = refused.reservation.period();
     let label = format!(in alloc; "budget = {budget}, period = {period}")?;
@@ -126,11 +66,7 @@ fn append_help(text: &mut String, words: &str) -> Result<(), AllocError> {
 }
 
 /// Appends the greatest budget at this period.
-fn append_greatest(
-    alloc: Global,
-    text: &mut String,
-    refused: &Refused<'_>,
-) -> Result<(), AllocError> {
+fn append_greatest(alloc: Global, text: &mut String, refused: &Refused) -> Result<(), AllocError> {
     let period = refused.reservation.period();
     let words = match refused.plan.greatest_budget(period) {
         0 => format!(in alloc; "at period {period} no budget fits")?,
@@ -142,25 +78,13 @@ fn append_greatest(
 }
 
 /// Appends the least period for this budget, if there is one.
-fn append_least(alloc: Global, text: &mut String, refused: &Refused<'_>) -> Result<(), AllocError> {
+fn append_least(alloc: Global, text: &mut String, refused: &Refused) -> Result<(), AllocError> {
     let Some(period) = refused.least_period() else {
         return Ok(());
     };
     let budget = refused.reservation.budget();
     let words = format!(in alloc; "a budget of {budget} fits from period {period} on")?;
     append_help(text, &words)
-}
-
-/// Returns the reservations of all servers, if each has one.
-fn reservations(alloc: Global, servers: &[Value]) -> Result<Option<Vec<Reservation>>, AllocError> {
-    let mut all = Vec::new(alloc);
-    for entry in servers {
-        let Some(reservation) = reservation_of(entry) else {
-            return Ok(None);
-        };
-        all.push(reservation)?;
-    }
-    Ok(Some(all))
 }
 
 /// Returns the name of a server, or its number in words.
@@ -205,8 +129,12 @@ fn append_parts(
 }
 
 /// Appends a split of all servers over as few executors as first fit finds, if there is one.
-fn append_split(alloc: Global, text: &mut String, refused: &Refused<'_>) -> Result<(), AllocError> {
-    let servers = refused.document.servers;
+fn append_split(
+    alloc: Global,
+    text: &mut String,
+    servers: &[Value],
+    refused: &Refused,
+) -> Result<(), AllocError> {
     let Some(all) = reservations(alloc, servers)? else {
         return Ok(());
     };
@@ -231,7 +159,7 @@ pub(crate) fn append_over(
     alloc: Global,
     text: &mut String,
     spot: &Spot<'_>,
-    refused: &Refused<'_>,
+    refused: &Refused,
 ) -> Result<(), AllocError> {
     let number = refused.number;
     let total = refused.total();
@@ -243,5 +171,5 @@ pub(crate) fn append_over(
     append_sum(alloc, text, refused)?;
     append_greatest(alloc, text, refused)?;
     append_least(alloc, text, refused)?;
-    append_split(alloc, text, refused)
+    append_split(alloc, text, spot.document.servers, refused)
 }

@@ -10,7 +10,7 @@ const FARTHEST: usize = 2;
 const LONGEST: usize = 64;
 
 /// Returns the nearest of some words, and of equally near ones the first, if it is near enough. The only error is out of memory.
-pub(crate) fn nearest<'a>(
+pub fn nearest_word<'a>(
     alloc: Global,
     word: &str,
     among: &[&'a str],
