@@ -51,8 +51,7 @@ fn append_unknown(
     value: &Value,
 ) -> Result<(), AllocError> {
     let phrase = spot.subject.phrase();
-    write!(text, "error: no key of {phrase}: `{key}`")?;
-    append_spot(text, spot)?;
+    writeln!(text, "error: no key of {phrase}: `{key}`\n  --> {spot}")?;
     let remark = absent_remark(alloc, spot, key)?;
     append_key_line(alloc, text, key, value, &remark)?;
     append_keys_note(alloc, text, spot.subject, false)
@@ -66,8 +65,7 @@ fn append_missing(
     key: Key,
 ) -> Result<(), AllocError> {
     let name = key.name;
-    write!(text, "error: `{name}` is missing")?;
-    append_spot(text, spot)?;
+    writeln!(text, "error: `{name}` is missing\n  --> {spot}")?;
     append_keys_note(alloc, text, spot.subject, true)
 }
 
@@ -112,11 +110,10 @@ fn append_taken(
     other: usize,
 ) -> Result<(), AllocError> {
     let name = Shown(value);
-    write!(
+    writeln!(
         text,
-        "error: `name` is {name}, which server {other} has already"
+        "error: `name` is {name}, which server {other} has already\n  --> {spot}"
     )?;
-    append_spot(text, spot)?;
     append_taken_line(alloc, text, value)
 }
 
@@ -124,8 +121,10 @@ fn append_taken(
 fn append_no_table(text: &mut String, spot: &Spot<'_>, value: &Value) -> Result<(), AllocError> {
     let place = spot.place;
     let phrase = type_phrase(value);
-    write!(text, "error: {place} is {phrase}, and has to be a table")?;
-    append_spot(text, spot)
+    writeln!(
+        text,
+        "error: {place} is {phrase}, and has to be a table\n  --> {spot}"
+    )
 }
 
 /// Appends what is said of a fault.
@@ -153,18 +152,18 @@ fn append_kind(text: &mut String, kind: FileKind) -> Result<(), AllocError> {
 /// Returns that a document says in no way what it is, or that it is of the other kind.
 fn other_kind(top: &Table) -> &'static str {
     if optional(top, "load").is_some() {
-        "error: this is a load file, and a task file is wanted"
+        "this is a load file, and a task file is wanted"
     } else if optional(top, "format").is_some() {
-        "error: this is a task file, and a load file is wanted"
+        "this is a task file, and a load file is wanted"
     } else {
-        "error: neither `format` nor `load` is there"
+        "neither `format` nor `load` is there"
     }
 }
 
 /// Appends that a document says in no way what it is, or that it is of the other kind.
 fn append_other_kind(text: &mut String, spot: &Spot<'_>) -> Result<(), AllocError> {
-    text.push_str(other_kind(spot.document.top))?;
-    append_spot(text, spot)?;
+    let kind = other_kind(spot.document.top);
+    writeln!(text, "error: {kind}\n  --> {spot}")?;
     append_bar(text, 2)?;
     text.push_str("  = note: a task file has `format = 2`, and a load file `load = 1`\n")
 }

@@ -1,6 +1,6 @@
 //! A server with which the plan is over the bound: by how much, and what would fit.
 
-use crate::page::{append_bar, append_note, append_times};
+use crate::page::{append_bar, append_note};
 use cbs_findings::{Fraction, Percent, Refused, Spot, excess, name_of, reservations, share};
 use cbs_guarantee::{Part, SplitError, split};
 use std::alloc::{AllocError, Global};
@@ -10,13 +10,6 @@ use toml::Value;
 /// The columns before the bar.
 const MARGIN: usize = 3;
 
-/// Appends two blanks, and a text to the right of a column.
-fn append_right(text: &mut String, width: usize, what: &str) -> Result<(), AllocError> {
-    text.push_str("  ")?;
-    append_times(text, width.saturating_sub(what.chars().count()), " ")?;
-    text.push_str(what)
-}
-
 /// Appends a row of the sum.
 fn append_row(
     alloc: Global,
@@ -25,15 +18,10 @@ fn append_row(
     fraction: Fraction,
     end: &str,
 ) -> Result<(), AllocError> {
-    let shown = format!(in alloc; "{fraction}")?;
     let percent = Percent(fraction);
+    let fraction = format!(in alloc; "{fraction}")?;
     let percent = format!(in alloc; "{percent}")?;
-    append_times(text, MARGIN, " ")?;
-    write!(text, "| {label}")?;
-    append_times(text, 24usize.saturating_sub(label.chars().count()), " ")?;
-    append_right(text, 10, &shown)?;
-    append_right(text, 7, &percent)?;
-    text.push_str(end)
+    writeln!(text, "   | {label:<24}  {fraction:>10}  {percent:>7}{end}")
 }
 
 /// Appends a row of the servers before, if there are any.
@@ -43,7 +31,7 @@ fn append_before(alloc: Global, text: &mut String, refused: &Refused) -> Result<
         1 => String::from_str(alloc, "server 0")?,
         number => format!(in alloc; "servers 0 to {}", number.saturating_sub(1))?,
     };
-    append_row(alloc, text, &label, refused.before(), "\n")
+    append_row(alloc, text, &label, refused.before(), "")
 }
 
 /// Appends the sum: the servers before, the server, and by how much they are over the bound.
@@ -53,9 +41,9 @@ fn append_sum(alloc: Global, text: &mut String, refused: &Refused) -> Result<(),
     let label = format!(in alloc; "budget = {budget}, period = {period}")?;
     append_bar(text, MARGIN)?;
     append_before(alloc, text, refused)?;
-    append_row(alloc, text, &label, refused.own(), "\n")?;
+    append_row(alloc, text, &label, refused.own(), "")?;
     if let Some(excess) = excess(refused.total(), refused.bound()) {
-        append_row(alloc, text, "", excess, "  too much\n")?;
+        append_row(alloc, text, "", excess, "  too much")?;
     }
     append_bar(text, MARGIN)
 }
@@ -120,8 +108,7 @@ fn append_parts(
 ) -> Result<(), AllocError> {
     for (place, part) in parts.iter().enumerate() {
         let sum = share(part.plan.bandwidth());
-        append_times(text, MARGIN + 8, " ")?;
-        write!(text, "{}: ", place + 1)?;
+        write!(text, "           {}: ", place + 1)?;
         append_names(alloc, text, servers, &part.servers)?;
         writeln!(text, "  ({sum})")?;
     }
