@@ -7,23 +7,11 @@ use crate::page::append_bar;
 use crate::remarks::{append_key_line, append_outside_line, append_taken_line, append_type_line};
 use crate::shown::{Shown, type_phrase};
 use crate::values::{append_outside, append_wrong_type};
-use cbs_findings::{Document, Finding, Key, Spot, Want, find, nearest_word, spot_at};
-use cbs_tables::{FileFault, FileKind, Place, optional};
+use cbs_findings::{Document, Finding, Key, Spot, Want, find, nearest_key, spot_at};
+use cbs_tables::{FileFault, FileKind, Place};
 use std::alloc::{AllocError, Global};
 use std::fmt::Write;
-use toml::{Table, Value};
-
-/// Returns the keys of a kind of table that a table does not have.
-fn absent_keys(
-    alloc: Global,
-    spot: &Spot<'_>,
-    table: &Table,
-) -> Result<Vec<&'static str>, AllocError> {
-    let keys = spot.subject.keys().iter();
-    keys.filter(|key| optional(table, key.name).is_none())
-        .map(|key| key.name)
-        .collect(alloc)
-}
+use toml::Value;
 
 /// Appends the place of a fault.
 fn append_spot(text: &mut String, spot: &Spot<'_>) -> Result<(), AllocError> {
@@ -31,12 +19,8 @@ fn append_spot(text: &mut String, spot: &Spot<'_>) -> Result<(), AllocError> {
 }
 
 /// Returns which key may be meant by a key that a table may not have, if one is near.
-fn absent_remark(alloc: Global, spot: &Spot<'_>, key: &str) -> Result<String, AllocError> {
-    let Some(table) = spot.table else {
-        return Ok(String::new(alloc));
-    };
-    let absent = absent_keys(alloc, spot, table)?;
-    match nearest_word(alloc, key, &absent)? {
+fn key_remark(alloc: Global, spot: &Spot<'_>, key: &str) -> Result<String, AllocError> {
+    match nearest_key(alloc, spot, key)? {
         Some(name) => format!(in alloc; "did you mean `{name}`?"),
         None => Ok(String::new(alloc)),
     }
@@ -52,7 +36,7 @@ fn append_unknown(
 ) -> Result<(), AllocError> {
     let phrase = spot.subject.phrase();
     writeln!(text, "error: no key of {phrase}: `{key}`\n  --> {spot}")?;
-    let remark = absent_remark(alloc, spot, key)?;
+    let remark = key_remark(alloc, spot, key)?;
     append_key_line(alloc, text, key, value, &remark)?;
     append_keys_note(alloc, text, spot.subject, false)
 }
@@ -150,10 +134,10 @@ fn append_kind(text: &mut String, kind: FileKind) -> Result<(), AllocError> {
 }
 
 /// Returns that a document says in no way what it is, or that it is of the other kind.
-fn other_kind(top: &Table) -> &'static str {
-    if optional(top, "load").is_some() {
+fn other_kind(document: Document<'_>) -> &'static str {
+    if document.has("load") {
         "this is a load file, and a task file is wanted"
-    } else if optional(top, "format").is_some() {
+    } else if document.has("format") {
         "this is a task file, and a load file is wanted"
     } else {
         "neither `format` nor `load` is there"
@@ -162,7 +146,7 @@ fn other_kind(top: &Table) -> &'static str {
 
 /// Appends that a document says in no way what it is, or that it is of the other kind.
 fn append_other_kind(text: &mut String, spot: &Spot<'_>) -> Result<(), AllocError> {
-    let kind = other_kind(spot.document.top);
+    let kind = other_kind(spot.document);
     writeln!(text, "error: {kind}\n  --> {spot}")?;
     append_bar(text, 2)?;
     text.push_str("  = note: a task file has `format = 2`, and a load file `load = 1`\n")

@@ -1,11 +1,10 @@
 //! A server with which the plan is over the bound: by how much, and what would fit.
 
 use crate::page::{append_bar, append_note};
-use cbs_findings::{Fraction, Percent, Refused, Spot, excess, name_of, reservations, share};
+use cbs_findings::{Document, Fraction, Percent, Refused, Spot, excess, reservations, share};
 use cbs_guarantee::{Part, SplitError, split};
 use std::alloc::{AllocError, Global};
 use std::fmt::Write;
-use toml::Value;
 
 /// The columns before the bar.
 const MARGIN: usize = 3;
@@ -76,8 +75,8 @@ fn append_least(alloc: Global, text: &mut String, refused: &Refused) -> Result<(
 }
 
 /// Returns the name of a server, or its number in words.
-fn called(alloc: Global, servers: &[Value], number: usize) -> Result<String, AllocError> {
-    match servers.get(number).and_then(name_of) {
+fn called(alloc: Global, document: Document<'_>, number: usize) -> Result<String, AllocError> {
+    match document.server_name(number) {
         Some(name) => String::from_str(alloc, name),
         None => format!(in alloc; "server {number}"),
     }
@@ -87,14 +86,13 @@ fn called(alloc: Global, servers: &[Value], number: usize) -> Result<String, All
 fn append_names(
     alloc: Global,
     text: &mut String,
-    servers: &[Value],
+    document: Document<'_>,
     part: &[usize],
 ) -> Result<(), AllocError> {
     for (place, number) in part.iter().enumerate() {
-        if place > 0 {
-            text.push_str(", ")?;
-        }
-        text.push_str(&called(alloc, servers, *number)?)?;
+        let separator = if place > 0 { ", " } else { "" };
+        let name = called(alloc, document, *number)?;
+        write!(text, "{separator}{name}")?;
     }
     Ok(())
 }
@@ -103,13 +101,13 @@ fn append_names(
 fn append_parts(
     alloc: Global,
     text: &mut String,
-    servers: &[Value],
+    document: Document<'_>,
     parts: &[Part],
 ) -> Result<(), AllocError> {
     for (place, part) in parts.iter().enumerate() {
         let sum = share(part.plan.bandwidth());
         write!(text, "           {}: ", place + 1)?;
-        append_names(alloc, text, servers, &part.servers)?;
+        append_names(alloc, text, document, &part.servers)?;
         writeln!(text, "  ({sum})")?;
     }
     Ok(())
@@ -119,10 +117,10 @@ fn append_parts(
 fn append_split(
     alloc: Global,
     text: &mut String,
-    servers: &[Value],
+    document: Document<'_>,
     refused: &Refused,
 ) -> Result<(), AllocError> {
-    let Some(all) = reservations(alloc, servers)? else {
+    let Some(all) = reservations(alloc, document.servers)? else {
         return Ok(());
     };
     match split(alloc, refused.plan.bound(), &all) {
@@ -131,7 +129,7 @@ fn append_split(
             let count = all.len();
             let words = format!(in alloc; "on {executors} executors all {count} servers fit:")?;
             append_help(text, &words)?;
-            append_parts(alloc, text, servers, &parts)
+            append_parts(alloc, text, document, &parts)
         }
         Err(SplitError::OverBound { server }) => {
             let words = format!(in alloc; "server {server} is over the bound even alone")?;
@@ -158,5 +156,5 @@ pub(crate) fn append_over(
     append_sum(alloc, text, refused)?;
     append_greatest(alloc, text, refused)?;
     append_least(alloc, text, refused)?;
-    append_split(alloc, text, spot.document.servers, refused)
+    append_split(alloc, text, spot.document, refused)
 }

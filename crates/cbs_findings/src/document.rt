@@ -49,6 +49,16 @@ impl<'a> Document<'a> {
             servers: entries(top, "server"),
         }
     }
+
+    /// Returns whether the top table has a key.
+    pub fn has(self, key: &str) -> bool {
+        optional(self.top, key).is_some()
+    }
+
+    /// Returns the name of the server with a number, if there is such a server and it has a name.
+    pub fn server_name(self, number: usize) -> Option<&'a str> {
+        name_of(self.servers.get(number)?)
+    }
 }
 
 /// Returns the values of an array, if there is one at a key.
@@ -72,7 +82,7 @@ pub(crate) fn text_at<'a>(entry: &'a Value, key: &str) -> Option<&'a str> {
 }
 
 /// Returns the name of a server, if its entry has one.
-pub fn name_of(entry: &Value) -> Option<&str> {
+pub(crate) fn name_of(entry: &Value) -> Option<&str> {
     text_at(entry, "name")
 }
 

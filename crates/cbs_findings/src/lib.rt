@@ -13,11 +13,11 @@ mod sums;
 mod wants;
 
 pub use broken::{Broken, Position, Quote, broken_at};
-pub use document::{Document, Kind, name_of, server_names};
+pub use document::{Document, Kind, server_names};
 pub use finding::{Finding, find};
 pub use fractions::{Fraction, Percent};
 pub use keys::{Key, Subject, Want, Words};
-pub use nearest::nearest_word;
+pub use nearest::{nearest_key, nearest_word};
 pub use refused::{Refused, refused_at, reservations};
 pub use spot::{Spot, spot_at};
 pub use sums::{excess, share};

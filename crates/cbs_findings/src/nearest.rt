@@ -1,7 +1,10 @@
 //! What a misspelt word may have been meant to be.
 
+use crate::spot::Spot;
+use cbs_tables::optional;
 use std::alloc::{AllocError, Global};
 use strsim::levenshtein;
+use toml::Table;
 
 /// The greatest distance at which a word is taken for a misspelt one.
 const FARTHEST: usize = 2;
@@ -28,4 +31,29 @@ pub fn nearest_word<'a>(
         }
     }
     Ok(found)
+}
+
+/// Returns the keys of a kind of table that a table does not have.
+fn absent_keys(
+    alloc: Global,
+    spot: &Spot<'_>,
+    table: &Table,
+) -> Result<Vec<&'static str>, AllocError> {
+    let keys = spot.subject.keys().iter();
+    keys.filter(|key| optional(table, key.name).is_none())
+        .map(|key| key.name)
+        .collect(alloc)
+}
+
+/// Returns the key that may be meant by one that a table may not have: the nearest of those that the table does not have yet, if it is
+/// near enough. The only error is out of memory.
+pub fn nearest_key(
+    alloc: Global,
+    spot: &Spot<'_>,
+    key: &str,
+) -> Result<Option<&'static str>, AllocError> {
+    match spot.table {
+        Some(table) => nearest_word(alloc, key, &absent_keys(alloc, spot, table)?),
+        None => Ok(None),
+    }
 }
