@@ -9,7 +9,5 @@ mod notes;
 mod numbers;
 mod servers;
 mod sources;
-#[cfg(test)]
-mod tests;
 
 pub use check::{check_load, check_plan};

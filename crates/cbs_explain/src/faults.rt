@@ -1,39 +1,29 @@
 //! The text of a fault.
 
-use crate::finding::{Finding, find};
-use crate::keys::{Key, Want};
 use crate::limits::append_not_admitted;
-use crate::nearest::nearest;
 use crate::not_toml::append_not_toml;
 use crate::notes::{append_keys_note, append_servers_note};
 use crate::page::append_bar;
 use crate::remarks::{append_key_line, append_outside_line, append_taken_line, append_type_line};
 use crate::shown::{Shown, type_phrase};
-use crate::spot::{Document, Spot, spot_at};
 use crate::values::{append_outside, append_wrong_type};
+use cbs_findings::{Document, Finding, Key, Spot, Want, find, nearest_key, spot_at};
 use cbs_tables::{FileFault, FileKind, Place};
 use std::alloc::{AllocError, Global};
 use std::fmt::Write;
-use toml::{Table, Value};
-
-/// Returns the keys of a kind of table that a table does not have.
-fn absent_keys(
-    alloc: Global,
-    spot: &Spot<'_>,
-    table: &Table,
-) -> Result<Vec<&'static str>, AllocError> {
-    let mut names = Vec::new(alloc);
-    for key in spot.subject.keys() {
-        if table.get(key.name).is_none() {
-            names.push(key.name)?;
-        }
-    }
-    Ok(names)
-}
+use toml::Value;
 
 /// Appends the place of a fault.
 fn append_spot(text: &mut String, spot: &Spot<'_>) -> Result<(), AllocError> {
     writeln!(text, "\n  --> {spot}")
+}
+
+/// Returns which key may be meant by a key that a table may not have, if one is near.
+fn key_remark(alloc: Global, spot: &Spot<'_>, key: &str) -> Result<String, AllocError> {
+    match nearest_key(alloc, spot, key)? {
+        Some(name) => format!(in alloc; "did you mean `{name}`?"),
+        None => Ok(String::new(alloc)),
+    }
 }
 
 /// Appends what is said of a key that a table may not have.
@@ -45,15 +35,8 @@ fn append_unknown(
     value: &Value,
 ) -> Result<(), AllocError> {
     let phrase = spot.subject.phrase();
-    write!(text, "error: no key of {phrase}: `{key}`")?;
-    append_spot(text, spot)?;
-    let mut remark = String::new(alloc);
-    if let Some(table) = spot.table {
-        let absent = absent_keys(alloc, spot, table)?;
-        if let Some(name) = nearest(alloc, key, &absent)? {
-            write!(remark, "did you mean `{name}`?")?;
-        }
-    }
+    writeln!(text, "error: no key of {phrase}: `{key}`\n  --> {spot}")?;
+    let remark = key_remark(alloc, spot, key)?;
     append_key_line(alloc, text, key, value, &remark)?;
     append_keys_note(alloc, text, spot.subject, false)
 }
@@ -66,8 +49,7 @@ fn append_missing(
     key: Key,
 ) -> Result<(), AllocError> {
     let name = key.name;
-    write!(text, "error: `{name}` is missing")?;
-    append_spot(text, spot)?;
+    writeln!(text, "error: `{name}` is missing\n  --> {spot}")?;
     append_keys_note(alloc, text, spot.subject, true)
 }
 
@@ -97,7 +79,7 @@ fn append_range_fault(
     append_outside(text, key, value, spot)?;
     append_spot(text, spot)?;
     append_outside_line(alloc, text, key, value, spot)?;
-    if key.want == Want::ServerName {
+    if matches!(key.want, Want::ServerName) {
         append_servers_note(alloc, text, spot.document.servers)?;
     }
     Ok(())
@@ -112,12 +94,21 @@ fn append_taken(
     other: usize,
 ) -> Result<(), AllocError> {
     let name = Shown(value);
-    write!(
+    writeln!(
         text,
-        "error: `name` is {name}, which server {other} has already"
+        "error: `name` is {name}, which server {other} has already\n  --> {spot}"
     )?;
-    append_spot(text, spot)?;
     append_taken_line(alloc, text, value)
+}
+
+/// Appends what is said of an entry that is no table.
+fn append_no_table(text: &mut String, spot: &Spot<'_>, value: &Value) -> Result<(), AllocError> {
+    let place = spot.place;
+    let phrase = type_phrase(value);
+    writeln!(
+        text,
+        "error: {place} is {phrase}, and has to be a table\n  --> {spot}"
+    )
 }
 
 /// Appends what is said of a fault.
@@ -133,12 +124,7 @@ fn append_finding(
         Finding::WrongType(key, value) => append_type_fault(alloc, text, spot, key, value),
         Finding::OutOfRange(key, value) => append_range_fault(alloc, text, spot, key, value),
         Finding::Taken(value, other) => append_taken(alloc, text, spot, value, other),
-        Finding::NoTable(value) => {
-            let place = spot.place;
-            let phrase = type_phrase(value);
-            write!(text, "error: {place} is {phrase}, and has to be a table")?;
-            append_spot(text, spot)
-        }
+        Finding::NoTable(value) => append_no_table(text, spot, value),
     }
 }
 
@@ -147,17 +133,21 @@ fn append_kind(text: &mut String, kind: FileKind) -> Result<(), AllocError> {
     writeln!(text, "error: {kind}")
 }
 
+/// Returns that a document says in no way what it is, or that it is of the other kind.
+fn other_kind(document: Document<'_>) -> &'static str {
+    if document.has("load") {
+        "this is a load file, and a task file is wanted"
+    } else if document.has("format") {
+        "this is a task file, and a load file is wanted"
+    } else {
+        "neither `format` nor `load` is there"
+    }
+}
+
 /// Appends that a document says in no way what it is, or that it is of the other kind.
 fn append_other_kind(text: &mut String, spot: &Spot<'_>) -> Result<(), AllocError> {
-    let top = spot.document.top;
-    text.push_str(if top.get("load").is_some() {
-        "error: this is a load file, and a task file is wanted"
-    } else if top.get("format").is_some() {
-        "error: this is a task file, and a load file is wanted"
-    } else {
-        "error: neither `format` nor `load` is there"
-    })?;
-    append_spot(text, spot)?;
+    let kind = other_kind(spot.document);
+    writeln!(text, "error: {kind}\n  --> {spot}")?;
     append_bar(text, 2)?;
     text.push_str("  = note: a task file has `format = 2`, and a load file `load = 1`\n")
 }

@@ -1,27 +1,14 @@
 //! What is wrong with a task file or a load file, as a text for a person: what stands below the line of a fault.
 #![tactic(auto)]
 
-#[cfg(test)]
-mod broken_files;
-#[cfg(test)]
-mod broken_values;
 mod faults;
-mod finding;
-mod fractions;
-mod keys;
 mod limits;
-mod nearest;
 mod not_toml;
 mod notes;
 mod over;
 mod page;
 mod remarks;
 mod shown;
-mod spot;
-mod sums;
-#[cfg(test)]
-mod tests;
 mod values;
-mod wants;
 
 pub use faults::explain;

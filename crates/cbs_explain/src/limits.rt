@@ -1,53 +1,12 @@
 //! Why a plan does not take a server.
 
-use crate::over::{Refused, append_over};
+use crate::over::append_over;
 use crate::page::{Marked, append_bar, append_line, append_note};
-use crate::spot::{Document, Spot};
-use cbs_rate::{AdmitError, Bound, MAX_COMMON_MULTIPLE, MAX_SERVERS, Plan, Reservation};
-use cbs_size::greatest_common_divisor;
-use cbs_tables::{FileKind, bound_of, integer, items, pair, present, reservation};
+use cbs_findings::{Refused, Spot, refused_at};
+use cbs_rate::{AdmitError, MAX_COMMON_MULTIPLE, MAX_SERVERS};
+use cbs_tables::FileKind;
 use std::alloc::{AllocError, Global};
 use std::fmt::Write;
-use toml::{Table, Value};
-
-/// Returns the bound of a document.
-pub(crate) fn bound_at(top: &Table) -> Result<Bound, FileKind> {
-    bound_of(pair(items(present(top, "bound")?)?)?)
-}
-
-/// Returns the reservation of a server.
-pub(crate) fn reservation_of(entry: &Value) -> Option<Reservation> {
-    let budget = integer(entry.as_table()?.get("budget")?).ok()?;
-    let period = integer(entry.as_table()?.get("period")?).ok()?;
-    reservation(budget, period).ok()
-}
-
-/// Returns the plan of servers, if it takes them all.
-fn plan_of(bound: Bound, servers: &[Value]) -> Option<Plan> {
-    let mut plan = Plan::new(bound);
-    for entry in servers {
-        plan.admit(reservation_of(entry)?).ok()?;
-    }
-    Some(plan)
-}
-
-/// Returns the server with a number, if the plan of those before it refuses it.
-fn refused_at<'a>(document: Document<'a>, number: u64) -> Option<Refused<'a>> {
-    let number = usize::try_from(number).ok()?;
-    let reservation = reservation_of(document.servers.get(number)?)?;
-    let mut plan = plan_of(
-        bound_at(document.top).ok()?,
-        document.servers.get(..number)?,
-    )?;
-    let why = plan.admit(reservation).err()?;
-    Some(Refused {
-        number,
-        why,
-        plan,
-        reservation,
-        document,
-    })
-}
 
 /// Appends that a plan takes no more servers.
 fn append_too_many(text: &mut String, spot: &Spot<'_>) -> Result<(), AllocError> {
@@ -69,26 +28,16 @@ fn append_period(alloc: Global, text: &mut String, period: u64) -> Result<(), Al
     append_line(text, "  ", &line, marked)
 }
 
-/// Returns the ticks after which the periods of a plan and one more come together.
-fn multiple_with(plan: &Plan, period: u64) -> u128 {
-    let common = u128::from(plan.bandwidth().of);
-    let period = u128::from(period);
-    match greatest_common_divisor(common, period) {
-        0 => 0,
-        divisor => (common / divisor).saturating_mul(period),
-    }
-}
-
 /// Appends that the period of a server makes the periods too fine.
 fn append_too_fine(
     alloc: Global,
     text: &mut String,
     spot: &Spot<'_>,
-    refused: &Refused<'_>,
+    refused: &Refused,
 ) -> Result<(), AllocError> {
     let number = refused.number;
     let period = refused.reservation.period();
-    let multiple = multiple_with(&refused.plan, period);
+    let multiple = refused.common_multiple();
     let before = refused.plan.bandwidth().of;
     writeln!(
         text,

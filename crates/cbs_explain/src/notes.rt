@@ -1,21 +1,15 @@
 //! Notes below a fault: which keys a table has, and which servers there are.
 
-use crate::keys::{Key, Subject};
 use crate::page::{append_bar, append_list, append_note};
-use crate::remarks::server_names;
+use cbs_findings::{Key, Subject, server_names};
 use std::alloc::{AllocError, Global};
 use std::fmt::Write;
 use toml::Value;
 
 /// Returns the names of some keys: of all, or of those that may be left out.
 fn key_names(alloc: Global, keys: &[Key], all: bool) -> Result<Vec<&'static str>, AllocError> {
-    let mut names = Vec::new(alloc);
-    for key in keys {
-        if all || !key.required {
-            names.push(key.name)?;
-        }
-    }
-    Ok(names)
+    let named = keys.iter().filter(|key| all || !key.required);
+    named.map(|key| key.name).collect(alloc)
 }
 
 /// Appends which keys a table has.

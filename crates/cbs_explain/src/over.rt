@@ -1,77 +1,13 @@
 //! A server with which the plan is over the bound: by how much, and what would fit.
 
-use crate::fractions::{Fraction, Percent};
-use crate::limits::reservation_of;
-use crate::page::{append_bar, append_note, append_times};
-use crate::spot::{Document, Spot, name_of};
-use crate::sums::{excess, least_period, share, total};
+use crate::page::{append_bar, append_note};
+use cbs_findings::{Document, Fraction, Percent, Refused, Spot, excess, reservations, share};
 use cbs_guarantee::{Part, SplitError, split};
-use cbs_rate::{AdmitError, Plan, Reservation};
 use std::alloc::{AllocError, Global};
 use std::fmt::Write;
-use toml::Value;
 
 /// The columns before the bar.
 const MARGIN: usize = 3;
-
-/// A server that a plan does not take.
-#[derive(Drop)]
-pub(crate) struct Refused<'a> {
-    /// Its number.
-    pub number: usize,
-    /// Why it is not taken.
-    pub why: AdmitError,
-    /// The plan of the servers before it.
-    pub plan: Plan,
-    pub reservation: Reservation,
-    pub document: Document<'a>,
-}
-
-impl Refused<'_> {
-    /// Returns what the servers before it have.
-    fn before(&self) -> Fraction {
-        share(self.plan.bandwidth())
-    }
-
-    /// Returns what it would have.
-    fn own(&self) -> Fraction {
-        Fraction {
-            part: u128::from(self.reservation.budget()),
-            whole: u128::from(self.reservation.period()),
-        }
-    }
-
-    /// Returns what all would have together.
-    fn total(&self) -> Fraction {
-        total(self.plan.bandwidth(), self.reservation)
-    }
-
-    /// Returns the bound.
-    fn bound(&self) -> Fraction {
-        let bound = self.plan.bound();
-        Fraction {
-            part: u128::from(bound.num()),
-            whole: u128::from(bound.den()),
-        }
-    }
-
-    /// Returns the least period in which its budget fits into what is left, if the plan takes that.
-    fn least_period(&self) -> Option<u64> {
-        let budget = self.reservation.budget();
-        let period = least_period(budget, excess(self.bound(), self.before())?)?;
-        if self.plan.greatest_budget(period) < budget {
-            return None;
-        }
-        Some(period)
-    }
-}
-
-/// Appends two blanks, and a text to the right of a column.
-fn append_right(text: &mut String, width: usize, what: &str) -> Result<(), AllocError> {
-    text.push_str("  ")?;
-    append_times(text, width.saturating_sub(what.chars().count()), " ")?;
-    text.push_str(what)
-}
 
 /// Appends a row of the sum.
 fn append_row(
@@ -81,41 +17,32 @@ fn append_row(
     fraction: Fraction,
     end: &str,
 ) -> Result<(), AllocError> {
-    let shown = format!(in alloc; "{fraction}")?;
     let percent = Percent(fraction);
+    let fraction = format!(in alloc; "{fraction}")?;
     let percent = format!(in alloc; "{percent}")?;
-    append_times(text, MARGIN, " ")?;
-    write!(text, "| {label}")?;
-    append_times(text, 24usize.saturating_sub(label.chars().count()), " ")?;
-    append_right(text, 10, &shown)?;
-    append_right(text, 7, &percent)?;
-    text.push_str(end)
+    writeln!(text, "   | {label:<24}  {fraction:>10}  {percent:>7}{end}")
 }
 
 /// Appends a row of the servers before, if there are any.
-fn append_before(
-    alloc: Global,
-    text: &mut String,
-    refused: &Refused<'_>,
-) -> Result<(), AllocError> {
+fn append_before(alloc: Global, text: &mut String, refused: &Refused) -> Result<(), AllocError> {
     let label = match refused.number {
         0 => return Ok(()),
         1 => String::from_str(alloc, "server 0")?,
         number => format!(in alloc; "servers 0 to {}", number.saturating_sub(1))?,
     };
-    append_row(alloc, text, &label, refused.before(), "\n")
+    append_row(alloc, text, &label, refused.before(), "")
 }
 
 /// Appends the sum: the servers before, the server, and by how much they are over the bound.
-fn append_sum(alloc: Global, text: &mut String, refused: &Refused<'_>) -> Result<(), AllocError> {
+fn append_sum(alloc: Global, text: &mut String, refused: &Refused) -> Result<(), AllocError> {
     let budget = refused.reservation.budget();
     let period = refused.reservation.period();
     let label = format!(in alloc; "budget = {budget}, period = {period}")?;
     append_bar(text, MARGIN)?;
     append_before(alloc, text, refused)?;
-    append_row(alloc, text, &label, refused.own(), "\n")?;
+    append_row(alloc, text, &label, refused.own(), "")?;
     if let Some(excess) = excess(refused.total(), refused.bound()) {
-        append_row(alloc, text, "", excess, "  too much\n")?;
+        append_row(alloc, text, "", excess, "  too much")?;
     }
     append_bar(text, MARGIN)
 }
@@ -126,11 +53,7 @@ fn append_help(text: &mut String, words: &str) -> Result<(), AllocError> {
 }
 
 /// Appends the greatest budget at this period.
-fn append_greatest(
-    alloc: Global,
-    text: &mut String,
-    refused: &Refused<'_>,
-) -> Result<(), AllocError> {
+fn append_greatest(alloc: Global, text: &mut String, refused: &Refused) -> Result<(), AllocError> {
     let period = refused.reservation.period();
     let words = match refused.plan.greatest_budget(period) {
         0 => format!(in alloc; "at period {period} no budget fits")?,
@@ -142,7 +65,7 @@ fn append_greatest(
 }
 
 /// Appends the least period for this budget, if there is one.
-fn append_least(alloc: Global, text: &mut String, refused: &Refused<'_>) -> Result<(), AllocError> {
+fn append_least(alloc: Global, text: &mut String, refused: &Refused) -> Result<(), AllocError> {
     let Some(period) = refused.least_period() else {
         return Ok(());
     };
@@ -151,21 +74,9 @@ fn append_least(alloc: Global, text: &mut String, refused: &Refused<'_>) -> Resu
     append_help(text, &words)
 }
 
-/// Returns the reservations of all servers, if each has one.
-fn reservations(alloc: Global, servers: &[Value]) -> Result<Option<Vec<Reservation>>, AllocError> {
-    let mut all = Vec::new(alloc);
-    for entry in servers {
-        let Some(reservation) = reservation_of(entry) else {
-            return Ok(None);
-        };
-        all.push(reservation)?;
-    }
-    Ok(Some(all))
-}
-
 /// Returns the name of a server, or its number in words.
-fn called(alloc: Global, servers: &[Value], number: usize) -> Result<String, AllocError> {
-    match servers.get(number).and_then(name_of) {
+fn called(alloc: Global, document: Document<'_>, number: usize) -> Result<String, AllocError> {
+    match document.server_name(number) {
         Some(name) => String::from_str(alloc, name),
         None => format!(in alloc; "server {number}"),
     }
@@ -175,14 +86,13 @@ fn called(alloc: Global, servers: &[Value], number: usize) -> Result<String, All
 fn append_names(
     alloc: Global,
     text: &mut String,
-    servers: &[Value],
+    document: Document<'_>,
     part: &[usize],
 ) -> Result<(), AllocError> {
     for (place, number) in part.iter().enumerate() {
-        if place > 0 {
-            text.push_str(", ")?;
-        }
-        text.push_str(&called(alloc, servers, *number)?)?;
+        let separator = if place > 0 { ", " } else { "" };
+        let name = called(alloc, document, *number)?;
+        write!(text, "{separator}{name}")?;
     }
     Ok(())
 }
@@ -191,23 +101,26 @@ fn append_names(
 fn append_parts(
     alloc: Global,
     text: &mut String,
-    servers: &[Value],
+    document: Document<'_>,
     parts: &[Part],
 ) -> Result<(), AllocError> {
     for (place, part) in parts.iter().enumerate() {
         let sum = share(part.plan.bandwidth());
-        append_times(text, MARGIN + 8, " ")?;
-        write!(text, "{}: ", place + 1)?;
-        append_names(alloc, text, servers, &part.servers)?;
+        write!(text, "           {}: ", place + 1)?;
+        append_names(alloc, text, document, &part.servers)?;
         writeln!(text, "  ({sum})")?;
     }
     Ok(())
 }
 
 /// Appends a split of all servers over as few executors as first fit finds, if there is one.
-fn append_split(alloc: Global, text: &mut String, refused: &Refused<'_>) -> Result<(), AllocError> {
-    let servers = refused.document.servers;
-    let Some(all) = reservations(alloc, servers)? else {
+fn append_split(
+    alloc: Global,
+    text: &mut String,
+    document: Document<'_>,
+    refused: &Refused,
+) -> Result<(), AllocError> {
+    let Some(all) = reservations(alloc, document.servers)? else {
         return Ok(());
     };
     match split(alloc, refused.plan.bound(), &all) {
@@ -216,7 +129,7 @@ fn append_split(alloc: Global, text: &mut String, refused: &Refused<'_>) -> Resu
             let count = all.len();
             let words = format!(in alloc; "on {executors} executors all {count} servers fit:")?;
             append_help(text, &words)?;
-            append_parts(alloc, text, servers, &parts)
+            append_parts(alloc, text, document, &parts)
         }
         Err(SplitError::OverBound { server }) => {
             let words = format!(in alloc; "server {server} is over the bound even alone")?;
@@ -231,7 +144,7 @@ pub(crate) fn append_over(
     alloc: Global,
     text: &mut String,
     spot: &Spot<'_>,
-    refused: &Refused<'_>,
+    refused: &Refused,
 ) -> Result<(), AllocError> {
     let number = refused.number;
     let total = refused.total();
@@ -243,5 +156,5 @@ pub(crate) fn append_over(
     append_sum(alloc, text, refused)?;
     append_greatest(alloc, text, refused)?;
     append_least(alloc, text, refused)?;
-    append_split(alloc, text, refused)
+    append_split(alloc, text, spot.document, refused)
 }

@@ -6,18 +6,9 @@ use std::fmt::Write;
 /// The most columns of a line that is broken.
 const COLUMNS: usize = 80;
 
-/// Appends a text so many times.
-pub(crate) fn append_times(text: &mut String, count: usize, what: &str) -> Result<(), AllocError> {
-    for _time in 0..count {
-        text.push_str(what)?;
-    }
-    Ok(())
-}
-
 /// Appends a bar below so many columns, and nothing beside it.
 pub(crate) fn append_bar(text: &mut String, margin: usize) -> Result<(), AllocError> {
-    append_times(text, margin, " ")?;
-    text.push_str("|\n")
+    writeln!(text, "{:margin$}|", "")
 }
 
 /// A part of a line to which carets point, and what is said of it.
@@ -31,48 +22,52 @@ pub(crate) struct Marked<'a> {
     pub remark: &'a str,
 }
 
-/// Appends carets below a part of a line, of which one at least is made.
-fn append_carets(text: &mut String, marked: Marked<'_>) -> Result<(), AllocError> {
-    append_times(text, marked.from, " ")?;
-    append_times(text, marked.count.max(1), "^")?;
-    if !marked.remark.is_empty() {
-        text.push_str(" ")?;
-        text.push_str(marked.remark)?;
-    }
-    text.push_str("\n")
-}
-
-/// Appends a line of a document, with carets below. Before its bar stands its number, or blanks.
+/// Appends a line of a document, with carets below, of which one at least is made. Before its bar stands its number, or blanks.
 pub(crate) fn append_line(
     text: &mut String,
     gutter: &str,
     line: &str,
     marked: Marked<'_>,
 ) -> Result<(), AllocError> {
-    append_bar(text, gutter.len())?;
+    let margin = gutter.len();
+    let from = marked.from;
+    let count = marked.count.max(1);
+    let remark = marked.remark;
+    let blank = if remark.is_empty() { "" } else { " " };
+    append_bar(text, margin)?;
     writeln!(text, "{gutter}| {line}")?;
-    append_times(text, gutter.len(), " ")?;
-    text.push_str("| ")?;
-    append_carets(text, marked)
+    writeln!(
+        text,
+        "{:margin$}| {:from$}{:^<count$}{blank}{remark}",
+        "", "", ""
+    )
+}
+
+/// Appends a word at a column, or in a new line if it does not fit, and returns the column after it.
+fn append_word(
+    text: &mut String,
+    indent: usize,
+    column: usize,
+    word: &str,
+) -> Result<usize, AllocError> {
+    let width = word.chars().count();
+    if column == indent {
+        text.push_str(word)?;
+        Ok(column.saturating_add(width))
+    } else if column.saturating_add(width) < COLUMNS {
+        write!(text, " {word}")?;
+        Ok(column.saturating_add(width).saturating_add(1))
+    } else {
+        write!(text, "\n{:indent$}{word}", "")?;
+        Ok(indent.saturating_add(width))
+    }
 }
 
 /// Appends words in lines of at most [`COLUMNS`] columns, from a column on, which is that of the later lines, too.
 fn append_broken(text: &mut String, indent: usize, words: &str) -> Result<(), AllocError> {
     let mut column = indent;
     for word in words.split(' ') {
-        let width = word.chars().count();
-        if column == indent {
-            text.push_str(word)?;
-        } else if column.saturating_add(width) < COLUMNS {
-            write!(text, " {word}")?;
-            column = column.saturating_add(1);
-        } else {
-            text.push_str("\n")?;
-            append_times(text, indent, " ")?;
-            text.push_str(word)?;
-            column = indent;
-        }
-        column = column.saturating_add(width);
+        column = append_word(text, indent, column, word)?;
     }
     text.push_str("\n")
 }
@@ -84,13 +79,9 @@ pub(crate) fn append_note(
     kind: &str,
     words: &str,
 ) -> Result<(), AllocError> {
-    append_times(text, margin, " ")?;
-    write!(text, "= {kind}: ")?;
-    append_broken(
-        text,
-        margin.saturating_add(kind.len()).saturating_add(4),
-        words,
-    )
+    let indent = margin.saturating_add(kind.len()).saturating_add(4);
+    write!(text, "{:margin$}= {kind}: ", "")?;
+    append_broken(text, indent, words)
 }
 
 /// Appends words one after another, each between two marks, and with another word before the last.

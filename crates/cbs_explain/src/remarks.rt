@@ -1,26 +1,12 @@
 //! The line of a value that is not what its key wants, with carets and a remark.
 
-use crate::keys::{Key, Want};
-use crate::nearest::nearest;
 use crate::page::{Marked, append_line};
 use crate::shown::Shown;
-use crate::spot::{Spot, name_of};
 use crate::values::{append_allowed, append_type, period_at};
-use crate::wants::two_numbers;
+use cbs_findings::{Key, Spot, Want, nearest_word, server_names, two_numbers};
 use std::alloc::{AllocError, Global};
 use std::fmt::Write;
 use toml::Value;
-
-/// Returns the names of servers.
-pub(crate) fn server_names(alloc: Global, servers: &[Value]) -> Result<Vec<&str>, AllocError> {
-    let mut names = Vec::new(alloc);
-    for entry in servers {
-        if let Some(name) = name_of(entry) {
-            names.push(name)?;
-        }
-    }
-    Ok(names)
-}
 
 /// Returns the word that may be meant by a value, if it is a text and its key wants one of some words.
 fn meant<'a>(
@@ -33,8 +19,8 @@ fn meant<'a>(
         return Ok(None);
     };
     match want {
-        Want::Word(words) => nearest(alloc, word, words.list()),
-        Want::ServerName => nearest(alloc, word, &server_names(alloc, spot.document.servers)?),
+        Want::Word(words) => nearest_word(alloc, word, words.list()),
+        Want::ServerName => nearest_word(alloc, word, &server_names(alloc, spot.document.servers)?),
         _ => Ok(None),
     }
 }

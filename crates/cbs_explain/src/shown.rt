@@ -38,18 +38,16 @@ impl fmt::Display for Shown<'_> {
             return write!(f, "{entry}");
         };
         f.write_str("[")?;
-        for (place, entry) in entries.iter().enumerate() {
-            if place > 0 {
-                f.write_str(", ")?;
-            }
-            if place == MOST_ENTRIES {
-                f.write_str("..")?;
-                break;
-            }
+        for (place, entry) in entries.iter().take(MOST_ENTRIES).enumerate() {
+            let separator = if place > 0 { ", " } else { "" };
             let entry = ShownEntry(entry);
-            write!(f, "{entry}")?;
+            write!(f, "{separator}{entry}")?;
         }
-        f.write_str("]")
+        f.write_str(if entries.len() > MOST_ENTRIES {
+            ", ..]"
+        } else {
+            "]"
+        })
     }
 }
 

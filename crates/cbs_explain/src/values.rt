@@ -1,10 +1,8 @@
 //! What is said of a value that is not what its key wants.
 
-use crate::keys::{Key, Want};
 use crate::page::append_list;
 use crate::shown::{Shown, type_phrase};
-use crate::spot::Spot;
-use crate::wants::{MAX_NUMBER, first_bad_unit, period_of, two_numbers};
+use cbs_findings::{Key, MAX_NUMBER, Spot, Want, first_bad_unit, period_of, two_numbers};
 use std::alloc::AllocError;
 use std::fmt::Write;
 use toml::Value;

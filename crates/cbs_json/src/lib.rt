@@ -4,7 +4,5 @@
 mod json;
 mod server;
 mod sums;
-#[cfg(test)]
-mod tests;
 
 pub use json::report_json;

@@ -6,8 +6,6 @@ mod file;
 mod load;
 mod server;
 mod source;
-#[cfg(test)]
-mod tests;
 mod top;
 
 pub use file::{is_load_within, read_load, read_load_within};

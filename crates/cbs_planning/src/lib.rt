@@ -6,8 +6,6 @@ mod reported;
 mod showing;
 mod task_report;
 mod task_steps;
-#[cfg(test)]
-mod tests;
 mod watched;
 mod within;
 

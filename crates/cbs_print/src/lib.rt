@@ -6,8 +6,6 @@ mod notes;
 mod numbers;
 mod report;
 mod tables;
-#[cfg(test)]
-mod tests;
 mod text;
 mod totals;
 mod verdict;

@@ -10,8 +10,6 @@ mod ranks;
 mod report;
 mod sums;
 mod tally;
-#[cfg(test)]
-mod tests;
 
 pub use figures::{Figures, Ranks};
 pub use report::Report;

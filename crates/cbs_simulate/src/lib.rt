@@ -14,8 +14,6 @@ mod release;
 mod releases;
 mod source;
 mod terms;
-#[cfg(test)]
-mod tests;
 mod watcher;
 
 pub use alone::simulate_plan;

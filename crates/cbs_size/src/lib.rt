@@ -7,8 +7,6 @@ mod budgets;
 mod divisor;
 mod lateness;
 mod server_load;
-#[cfg(test)]
-mod tests;
 
 pub use asked::Asked;
 pub use budgets::greatest_budgets;

@@ -3,8 +3,6 @@
 
 mod cell;
 mod columns;
-#[cfg(test)]
-mod tests;
 
 pub use cell::Cell;
 pub use columns::append_columns;

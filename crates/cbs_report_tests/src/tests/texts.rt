@@ -2,46 +2,14 @@
 //!
 //! The three loads and what is said of them were worked out by a program of its own, from another scheduler.
 
-use crate::verdict::append_verdict;
-use crate::{RunReport, ServerReport, report_text};
+use crate::tests::{NOTHING, ranks};
+use cbs_print::{RunReport, ServerReport, report_text};
 use cbs_rate::{Bandwidth, Bound, Reservation};
-use cbs_report::{Figures, Ranks};
+use cbs_report::Figures;
 use cbs_rules::Mode;
 use cbs_simulate::Range;
 use std::alloc::{AllocError, Global};
 use std::process::Abort;
-
-/// The figures of a server that was asked for nothing.
-const NOTHING: Figures = Figures {
-    refused: 0,
-    finished: 0,
-    unfinished: 0,
-    late_finished: 0,
-    late_unfinished: 0,
-    greatest_backlog: 0,
-    asked: 0,
-    run: 0,
-    used_up: 0,
-    throttled: 0,
-    charged: 0,
-    greatest_charge: 0,
-    responses: None,
-    response_total: 0,
-    early_count: 0,
-    early_total: 0,
-    early_least: None,
-};
-
-/// Returns response times by their ranks.
-fn ranks(least: u64, median: u64, p95: u64, p99: u64, greatest: u64) -> Option<Ranks> {
-    Some(Ranks {
-        least,
-        median,
-        p95,
-        p99,
-        greatest,
-    })
-}
 
 /// Returns the bound of the whole time.
 fn whole(rt: &impl Abort) -> Bound {
@@ -76,12 +44,23 @@ fn says(rt: &impl Abort, alloc: Global, report: &RunReport, wanted: &str) {
     assert_eq!(rt; text.as_str(), wanted);
 }
 
-/// Requires that the verdict on servers is this.
-fn verdict_is(rt: &impl Abort, alloc: Global, servers: &[ServerReport], wanted: &str) {
+/// Requires that the report of a run of these servers begins so.
+fn begins(rt: &impl Abort, alloc: Global, servers: Vec<ServerReport>, wanted: &str) {
     assert!(rt; servers.len() <= 64);
-    let mut text = String::new(alloc);
-    append_verdict(&mut text, servers).ok().expect(rt, "memory");
-    assert_eq!(rt; text.as_str(), wanted);
+    let report = RunReport {
+        file: String::from_str(alloc, "MANY.toml")
+            .ok()
+            .expect(rt, "memory"),
+        seed: Some(7),
+        clock: 0,
+        idle: 0,
+        backlog: 4,
+        bound: whole(rt),
+        reserved: Bandwidth { ticks: 5, of: 9 },
+        servers,
+    };
+    let text = report_text(alloc, &report).ok().expect(rt, "memory");
+    assert!(rt; text.as_str().starts_with(wanted), "{text}");
 }
 
 /// Returns the first server of the robot.
@@ -635,18 +614,22 @@ fn verdicts_count_the_others(rt: HostRuntime) {
         finished: 7,
         ..NOTHING
     };
-    let servers = vec![in alloc;
+    let all = vec![in alloc;
         server(&rt, alloc, "a", 1, 9, None, NOTHING),
         server(&rt, alloc, "b", 1, 9, None, refused),
         server(&rt, alloc, "c", 1, 9, None, late),
         server(&rt, alloc, "d", 1, 9, None, NOTHING),
         server(&rt, alloc, "e", 1, 9, None, refused),
     ];
-    let servers = servers.ok().expect(&rt, "memory");
     let two = "not in time: b: 3 of 10 refused, and 2 servers more\n";
-    verdict_is(&rt, alloc, &servers, two);
+    begins(&rt, alloc, all.ok().expect(&rt, "memory"), two);
+    let last = vec![in alloc;
+        server(&rt, alloc, "c", 1, 9, None, late),
+        server(&rt, alloc, "d", 1, 9, None, NOTHING),
+        server(&rt, alloc, "e", 1, 9, None, refused),
+    ];
     let one = "not in time: c: 2 of 5 jobs late, and 1 server more\n";
-    verdict_is(&rt, alloc, &servers[2..], one);
+    begins(&rt, alloc, last.ok().expect(&rt, "memory"), one);
 }
 
 /// Returns what is said of a run of one server, "arm", with this reservation and these figures.

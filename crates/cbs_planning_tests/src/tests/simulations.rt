@@ -3,14 +3,14 @@
 ghost use Rattle.std.specs.Prelude.{◌≤◌, ◌<◌, All, length};
 ghost use Rattle.cbs_simulate.specs.Drawing.{IsLawful};
 
-use crate::{
-    Event, LoadJob, Moment, Range, Release, Releases, Source, SourceTerms, Watcher, load_of,
-    simulate_plan,
-};
 use cbs_core::Core;
 use cbs_job::Completion;
 use cbs_rate::{Bound, Reservation};
 use cbs_rules::{Mode, Setup};
+use cbs_simulate::{
+    Event, LoadJob, Moment, Range, Release, Releases, Source, SourceTerms, Watcher, load_of,
+    simulate_plan,
+};
 use cbs_steps::Ran;
 use rand_pcg::Pcg64;
 use std::alloc::{AllocError, Allocator, Global};
@@ -87,6 +87,7 @@ fn shown(
         &mut load,
         until,
         &mut moments,
+        &mut (),
     )
     .ok()
     .expect(rt, "simulated");

@@ -1,7 +1,7 @@
 //! What is told of files, byte for byte. The two loads with comments are examples of this project, and their texts are an
 //! independent program's, as are all others here.
 
-use crate::{check_load, check_plan};
+use cbs_check::{check_load, check_plan};
 use cbs_load::read_load;
 use cbs_rate::{Bound, Plan, Reservation};
 use cbs_rules::{Mode, Modes};

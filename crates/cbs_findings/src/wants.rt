@@ -1,22 +1,24 @@
 //! Whether a value is what its key wants.
 
+use crate::document::server_named;
 use crate::keys::Want;
-use crate::spot::{Spot, server_named};
+use crate::spot::Spot;
 use cbs_job::MAX_UNITS;
 use cbs_rate::MAX_PERIOD;
 use cbs_tables::{
-    FileKind, all_integers, below, bound_of, integer, items, number, pair, sized, text, within,
+    FileKind, all_integers, below, bound_of, integer, items, number, optional, pair, sized, text,
+    within,
 };
 use toml::{Table, Value};
 
 /// The greatest number of a unit.
-pub(crate) const MAX_NUMBER: u64 = 4_294_967_295;
+pub const MAX_NUMBER: u64 = 4_294_967_295;
 
 /// The longest name of a server, in bytes.
 const MAX_NAME: usize = 32;
 
 /// Returns whether a text is a name: 1 to [`MAX_NAME`] letters, digits, `-` and `_`.
-pub(crate) fn is_name(name: &str) -> bool {
+fn is_name(name: &str) -> bool {
     let bytes = name.as_bytes();
     !bytes.is_empty()
         && bytes.len() <= MAX_NAME
@@ -24,22 +26,20 @@ pub(crate) fn is_name(name: &str) -> bool {
 }
 
 /// Returns the period of a table, if it is one.
-pub(crate) fn period_of(table: &Table) -> Option<u64> {
-    number(1, MAX_PERIOD, table.get("period")?).ok()
+pub fn period_of(table: &Table) -> Option<u64> {
+    number(1, MAX_PERIOD, optional(table, "period")?).ok()
 }
 
 /// Returns the first of some values that is not what a unit wants, from 1.
-pub(crate) fn first_bad_unit(values: &[Value]) -> Option<usize> {
-    for (place, value) in values.iter().enumerate() {
-        if number(0, MAX_NUMBER, value).is_err() {
-            return Some(place + 1);
-        }
-    }
-    None
+pub fn first_bad_unit(values: &[Value]) -> Option<usize> {
+    let place = values
+        .iter()
+        .position(|value| number(0, MAX_NUMBER, value).is_err())?;
+    Some(place + 1)
 }
 
 /// Returns the least and the greatest number of a range, for both of which one number stands.
-pub(crate) fn two_numbers(value: &Value) -> Result<(i64, i64), FileKind> {
+pub fn two_numbers(value: &Value) -> Result<(i64, i64), FileKind> {
     if let Some(number) = value.as_integer() {
         return Ok((number, number));
     }

@@ -1,6 +1,6 @@
 //! Texts of faults: those of the commonest, and what the tests of other broken files share.
 
-use crate::explain;
+use cbs_explain::explain;
 use cbs_file::read_file;
 use cbs_load::read_load;
 use cbs_tables::FileFault;

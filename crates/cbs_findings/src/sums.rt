@@ -7,7 +7,7 @@ use crate::fractions::Fraction;
 use cbs_rate::{Bandwidth, Reservation};
 
 /// Returns a part of the time as a fraction.
-pub(crate) fn share(bandwidth: Bandwidth) -> Fraction
+pub fn share(bandwidth: Bandwidth) -> Fraction
     ensures part { result.part ≡ bandwidth.ticks }
     ensures whole { result.whole ≡ bandwidth.of }
 {
@@ -33,7 +33,7 @@ pub(crate) fn total(before: Bandwidth, own: Reservation) -> Fraction
 }
 
 /// Returns by how much a fraction is greater than another, if it is not less.
-pub(crate) fn excess(greater: Fraction, less: Fraction) -> Option<Fraction>
+pub fn excess(greater: Fraction, less: Fraction) -> Option<Fraction>
     ensures part { IfSome result (λ excess. excess.part + less.part * greater.whole ≡ greater.part * less.whole) }
     ensures whole { IfSome result (λ excess. excess.whole ≡ greater.whole * less.whole) }
 {

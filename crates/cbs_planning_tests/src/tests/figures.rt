@@ -1,8 +1,8 @@
 //! The figures of steps by hand.
 
-use crate::{Figures, Ranks, Report};
 use cbs_job::Completion;
 use cbs_rate::{Bound, Plan, Reservation};
+use cbs_report::{Figures, Ranks, Report};
 use cbs_steps::{CoreError, Ran, ServerView};
 use cbs_views::{Arrival, Event, Seen, View};
 use std::alloc::Global;

@@ -1,6 +1,6 @@
 //! Rows by hand: what is promised of sources, and parts by first fit.
 
-use crate::{NotPromised, Part, Source, SplitError, guaranteed, split};
+use cbs_guarantee::{NotPromised, Part, Source, SplitError, guaranteed, split};
 use cbs_rate::{Bound, Reservation};
 use std::alloc::Global;
 use std::fmt::Debug;

@@ -1,14 +1,15 @@
 //! What a fault is about: the first key that fails.
 
+use crate::document::{name_of, server_named, value_at};
 use crate::keys::{Key, Subject};
-use crate::spot::{Spot, name_of, server_named};
+use crate::spot::Spot;
 use crate::wants::test;
-use cbs_tables::{FileKind, Place};
+use cbs_tables::{FileKind, Place, optional};
 use toml::{Table, Value};
 
 /// What a fault is about.
 #[derive(Clone, Copy)]
-pub(crate) enum Finding<'a> {
+pub enum Finding<'a> {
     /// A key that a table may not have.
     Unknown(&'a str, &'a Value),
     /// A key that has to be there.
@@ -25,7 +26,7 @@ pub(crate) enum Finding<'a> {
 
 /// Returns the fault of a key, if it has one.
 fn fault_of(key: Key, table: &Table, spot: &Spot<'_>) -> Option<FileKind> {
-    match table.get(key.name) {
+    match optional(table, key.name) {
         Some(value) => test(key.want, value, spot).err(),
         None if key.required => Some(FileKind::MissingKey),
         None => None,
@@ -34,27 +35,26 @@ fn fault_of(key: Key, table: &Table, spot: &Spot<'_>) -> Option<FileKind> {
 
 /// Returns the first key with a fault of a kind.
 fn first_key(kind: FileKind, table: &Table, spot: &Spot<'_>) -> Option<Key> {
-    for key in spot.subject.keys() {
-        if fault_of(*key, table, spot) == Some(kind) {
-            return Some(*key);
-        }
-    }
-    None
+    let mut keys = spot.subject.keys().iter().copied();
+    keys.find(|key| fault_of(*key, table, spot) == Some(kind))
 }
 
 /// Returns whether tables of a kind have a key.
-pub(crate) fn has_key(subject: Subject, name: &str) -> bool {
+fn has_key(subject: Subject, name: &str) -> bool {
     subject.keys().iter().any(|key| key.name == name)
 }
 
 /// Returns the first key that a table may not have.
 fn unknown<'a>(table: &'a Table, subject: Subject) -> Option<Finding<'a>> {
-    for (name, value) in table.iter() {
-        if !has_key(subject, name.as_str()) {
-            return Some(Finding::Unknown(name.as_str(), value));
-        }
-    }
-    None
+    let (name, value) = table
+        .iter()
+        .find(|entry| !has_key(subject, entry.0.as_str()))?;
+    Some(Finding::Unknown(name.as_str(), value))
+}
+
+/// Returns the number of the first server with the name of an entry.
+fn first_of_name(servers: &[Value], entry: &Value) -> Option<usize> {
+    server_named(servers, name_of(entry)?)
 }
 
 /// Returns the name of a server that an earlier one has.
@@ -62,35 +62,38 @@ fn taken<'a>(spot: &Spot<'a>) -> Option<Finding<'a>> {
     let Place::Server(number) = spot.place else {
         return None;
     };
-    let value = spot.table?.get("name")?;
-    let name = name_of(spot.entry?)?;
-    let other = server_named(spot.document.servers, name)?;
-    if (other as u64) < number {
-        Some(Finding::Taken(value, other))
-    } else {
-        None
+    let entry = spot.entry?;
+    let other = first_of_name(spot.document.servers, entry)?;
+    if other as u64 >= number {
+        return None;
+    }
+    Some(Finding::Taken(value_at(entry, "name")?, other))
+}
+
+/// Returns what a fault of a kind is about, by the first key that has such a fault.
+fn found<'a>(kind: FileKind, table: &'a Table, key: Key) -> Option<Finding<'a>> {
+    if kind == FileKind::MissingKey {
+        return Some(Finding::Missing(key));
+    }
+    let value = optional(table, key.name)?;
+    match kind {
+        FileKind::WrongType => Some(Finding::WrongType(key, value)),
+        FileKind::OutOfRange => Some(Finding::OutOfRange(key, value)),
+        _ => None,
     }
 }
 
 /// Returns what a fault of a kind is about, if it can be told.
-pub(crate) fn find<'a>(kind: FileKind, spot: &Spot<'a>) -> Option<Finding<'a>> {
+pub fn find<'a>(kind: FileKind, spot: &Spot<'a>) -> Option<Finding<'a>> {
     let Some(table) = spot.table else {
         return Some(Finding::NoTable(spot.entry?));
     };
     if kind == FileKind::UnknownKey {
         return unknown(table, spot.subject);
     }
-    let Some(key) = first_key(kind, table, spot) else {
-        return if kind == FileKind::OutOfRange {
-            taken(spot)
-        } else {
-            None
-        };
-    };
-    match kind {
-        FileKind::MissingKey => Some(Finding::Missing(key)),
-        FileKind::WrongType => Some(Finding::WrongType(key, table.get(key.name)?)),
-        FileKind::OutOfRange => Some(Finding::OutOfRange(key, table.get(key.name)?)),
-        _ => None,
+    match first_key(kind, table, spot) {
+        Some(key) => found(kind, table, key),
+        None if kind == FileKind::OutOfRange => taken(spot),
+        None => None,
     }
 }

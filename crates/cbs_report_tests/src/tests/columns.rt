@@ -1,6 +1,6 @@
 //! Tables by hand.
 
-use crate::{Cell, append_columns};
+use cbs_text::{Cell, append_columns};
 use std::alloc::{AllocError, Global};
 use std::process::Abort;
 

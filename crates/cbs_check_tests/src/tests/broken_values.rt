@@ -1,6 +1,6 @@
 //! Texts of faults of misspelt words, texts that are no TOML, and values that are not what is wanted.
 
-use crate::tests::{CONTROL, SOURCE, TOP, file_says, load_says, step_says};
+use crate::tests::faults::{CONTROL, SOURCE, TOP, file_says, load_says, step_says};
 
 #[test]
 fn misspelt_words(rt: HostRuntime) {

@@ -1,9 +1,9 @@
 //! The numbers of a robot's load, by hand.
 
-use crate::{
+use cbs_load::read_load;
+use cbs_size::{
     Asked, ServerLoad, greatest_budgets, greatest_common_divisor, greatest_delay, server_loads,
 };
-use cbs_load::read_load;
 
 /// Control, vision, a throttled lidar, and bursts of logging, which overrun.
 const ROBOT: &str = "\

@@ -15,8 +15,8 @@ const MAX_SOURCES: u64 = 65_536;
 const MAX_INTEGER: u64 = 9_223_372_036_854_775_807;
 
 /// A set of words of which a key has one.
-#[derive(Clone, Copy, Debug, PartialEq, Eq)]
-pub(crate) enum Words {
+#[derive(Clone, Copy)]
+pub enum Words {
     Modes,
     Steps,
     Jobs,
@@ -30,7 +30,7 @@ static JOBS: [&str; 2] = ["sum", "peak"];
 
 impl Words {
     /// Returns the words.
-    pub(crate) fn list(self) -> &'static [&'static str] {
+    pub fn list(self) -> &'static [&'static str] {
         match self {
             Words::Modes => &MODES,
             Words::Steps => &STEPS,
@@ -40,8 +40,8 @@ impl Words {
 }
 
 /// What a key wants of its value.
-#[derive(Clone, Copy, Debug, PartialEq, Eq)]
-pub(crate) enum Want {
+#[derive(Clone, Copy)]
+pub enum Want {
     /// A number from the first to the second.
     Number(u64, u64),
     /// A number from 1 to the period of the same table.
@@ -65,8 +65,8 @@ pub(crate) enum Want {
 }
 
 /// A key of a table.
-#[derive(Clone, Copy, Debug, PartialEq, Eq)]
-pub(crate) struct Key {
+#[derive(Clone, Copy)]
+pub struct Key {
     pub name: &'static str,
     /// Whether it has to be there.
     pub required: bool,
@@ -175,8 +175,8 @@ static CLOSE: [Key; 2] = [
 ];
 
 /// A kind of table.
-#[derive(Clone, Copy, Debug, PartialEq, Eq)]
-pub(crate) enum Subject {
+#[derive(Clone, Copy)]
+pub enum Subject {
     /// The top table of a task file of format 1.
     FormatOne,
     /// The top table of a task file of format 2.
@@ -202,7 +202,7 @@ pub(crate) enum Subject {
 
 impl Subject {
     /// Returns the keys, in the order in which they are tested.
-    pub(crate) fn keys(self) -> &'static [Key] {
+    pub fn keys(self) -> &'static [Key] {
         match self {
             Subject::FormatOne => &FORMAT_ONE,
             Subject::FormatTwo => &FORMAT_TWO,
@@ -220,7 +220,7 @@ impl Subject {
     }
 
     /// Returns what such a table is called.
-    pub(crate) fn phrase(self) -> &'static str {
+    pub fn phrase(self) -> &'static str {
         match self {
             Subject::FormatOne => "a task file of format 1",
             Subject::FormatTwo => "a task file",

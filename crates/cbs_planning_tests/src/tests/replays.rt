@@ -1,7 +1,7 @@
 //! The report of a task file, worked out by hand from the file's comments.
 
-use crate::task_report_of;
 use cbs_file::read_file;
+use cbs_planning::task_report_of;
 use cbs_report::{Figures, Ranks};
 
 /// Two throttled servers. The first has to wait for its deadline, the second refuses a job after its close.

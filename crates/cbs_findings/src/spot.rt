@@ -1,82 +1,10 @@
 //! The table of a document in which a fault stands.
 
+use crate::document::{Document, Kind, entries, name_of, server_named, text_at};
 use crate::keys::Subject;
 use cbs_tables::Place;
 use std::fmt;
 use toml::{Table, Value};
-
-/// What kind of document is read.
-#[derive(Clone, Copy, Debug, PartialEq, Eq)]
-pub(crate) enum Kind {
-    FormatOne,
-    FormatTwo,
-    Load,
-}
-
-/// Returns the kind of a document: it is a load file if it has a key `load`.
-fn kind_of(top: &Table) -> Kind {
-    if top.get("load").is_some() {
-        return Kind::Load;
-    }
-    match top.get("format") {
-        Some(Value::Integer(1)) => Kind::FormatOne,
-        _ => Kind::FormatTwo,
-    }
-}
-
-/// A document that is read again.
-#[derive(Clone, Copy)]
-pub(crate) struct Document<'a> {
-    /// The name of its file.
-    pub name: &'a str,
-    pub kind: Kind,
-    pub top: &'a Table,
-    /// The entries of `server`, none if it is no array.
-    pub servers: &'a [Value],
-}
-
-impl<'a> Document<'a> {
-    /// Returns the document of a table.
-    pub(crate) fn new(name: &'a str, top: &'a Table) -> Document<'a> {
-        Document {
-            name,
-            kind: kind_of(top),
-            top,
-            servers: entries(top, "server"),
-        }
-    }
-}
-
-/// Returns the entries of an array, none if there is no array.
-fn entries<'a>(table: &'a Table, key: &str) -> &'a [Value] {
-    match table.get(key) {
-        Some(Value::Array(entries)) => entries,
-        _ => &[],
-    }
-}
-
-/// Returns the text at a key, if a table has one.
-fn text_at<'a>(entry: &'a Value, key: &str) -> Option<&'a str> {
-    match entry.as_table()?.get(key)? {
-        Value::String(text) => Some(text.as_str()),
-        _ => None,
-    }
-}
-
-/// Returns the name of a server, if its entry has one.
-pub(crate) fn name_of(entry: &Value) -> Option<&str> {
-    text_at(entry, "name")
-}
-
-/// Returns the number of the first server of a name.
-pub(crate) fn server_named(servers: &[Value], name: &str) -> Option<usize> {
-    for (number, entry) in servers.iter().enumerate() {
-        if name_of(entry) == Some(name) {
-            return Some(number);
-        }
-    }
-    None
-}
 
 /// What is said of an entry beside its number.
 #[derive(Clone, Copy)]
@@ -92,9 +20,12 @@ enum Label<'a> {
 
 /// The table in which a fault stands, or the entry that should be one.
 #[derive(Clone, Copy)]
-pub(crate) struct Spot<'a> {
+pub struct Spot<'a> {
+    /// The document.
     pub document: Document<'a>,
+    /// The place of the fault in it.
     pub place: Place,
+    /// The kind of the table.
     pub subject: Subject,
     /// The table; none for an entry that is no table.
     pub table: Option<&'a Table>,
@@ -103,17 +34,23 @@ pub(crate) struct Spot<'a> {
     label: Label<'a>,
 }
 
-impl fmt::Display for Spot<'_> {
+impl fmt::Display for Label<'_> {
     fn fmt<W: fmt::Write>(&self, f: &mut fmt::Formatter<W>) -> fmt::Result {
-        let name = self.document.name;
-        let place = self.place;
-        write!(f, "{name}: {place}")?;
-        match self.label {
+        match *self {
             Label::Nothing => Ok(()),
             Label::Named(name) => write!(f, ", {name:?}"),
             Label::Of(name) => write!(f, ", of {name:?}"),
             Label::Does(what) => write!(f, ", {what}"),
         }
+    }
+}
+
+impl fmt::Display for Spot<'_> {
+    fn fmt<W: fmt::Write>(&self, f: &mut fmt::Formatter<W>) -> fmt::Result {
+        let name = self.document.name;
+        let place = self.place;
+        let label = self.label;
+        write!(f, "{name}: {place}{label}")
     }
 }
 
@@ -184,7 +121,7 @@ fn entry_at<'a>(document: Document<'a>, key: &str, number: u64) -> Option<&'a Va
 }
 
 /// Returns the table at a place of a document, if there is an entry.
-pub(crate) fn spot_at(document: Document<'_>, place: Place) -> Option<Spot<'_>> {
+pub fn spot_at(document: Document<'_>, place: Place) -> Option<Spot<'_>> {
     let kind = document.kind;
     let (entry, subject, label) = match place {
         Place::Top => return Some(top_spot(document)),

@@ -6,9 +6,11 @@ use cbs_size::greatest_common_divisor;
 use std::fmt;
 
 /// A part of the time, as a fraction.
-#[derive(Clone, Copy, Debug, PartialEq, Eq)]
-pub(crate) struct Fraction {
+#[derive(Clone, Copy)]
+pub struct Fraction {
+    /// The part.
     pub part: u128,
+    /// The whole that it is a part of.
     pub whole: u128,
 }
 
@@ -46,7 +48,7 @@ impl fmt::Display for Fraction {
 
 /// A fraction in per cent, with one decimal.
 #[derive(Clone, Copy)]
-pub(crate) struct Percent(pub Fraction);
+pub struct Percent(pub Fraction);
 
 impl fmt::Display for Percent {
     fn fmt<W: fmt::Write>(&self, f: &mut fmt::Formatter<W>) -> fmt::Result {

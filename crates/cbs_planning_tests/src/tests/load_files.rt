@@ -1,7 +1,7 @@
 //! Load files: what a good one holds, and the fault of each faulty one.
 
-use crate::{Load, read_load};
 use cbs_core::Core;
+use cbs_load::{Load, read_load};
 use cbs_rules::Mode;
 use cbs_simulate::{LoadJob, Moment, Range, SourceTerms, Watcher, simulate_plan};
 use std::alloc::{AllocError, Allocator, Global};

@@ -1,0 +1,6 @@
+//! Whole texts of files.
+
+mod broken_files;
+mod broken_values;
+mod checks;
+mod faults;

@@ -1,0 +1,102 @@
+//! Documents that are read again, and their entries.
+
+use cbs_tables::{items, members, optional, text};
+use std::alloc::{AllocError, Global};
+use toml::{Table, Value};
+
+/// What kind of document is read.
+#[derive(Clone, Copy, PartialEq, Eq)]
+pub enum Kind {
+    /// A task file of format 1.
+    FormatOne,
+    /// A task file of format 2.
+    FormatTwo,
+    /// A load file.
+    Load,
+}
+
+/// Returns the kind of a document: it is a load file if it has a key `load`.
+fn kind_of(top: &Table) -> Kind {
+    if optional(top, "load").is_some() {
+        return Kind::Load;
+    }
+    match optional(top, "format") {
+        Some(Value::Integer(1)) => Kind::FormatOne,
+        _ => Kind::FormatTwo,
+    }
+}
+
+/// A document that is read again.
+#[derive(Clone, Copy)]
+pub struct Document<'a> {
+    /// The name of its file.
+    pub name: &'a str,
+    /// What kind of file it is.
+    pub kind: Kind,
+    /// Its top table.
+    pub top: &'a Table,
+    /// The entries of `server`, none if it is no array.
+    pub servers: &'a [Value],
+}
+
+impl<'a> Document<'a> {
+    /// Returns the document of a table.
+    pub fn new(name: &'a str, top: &'a Table) -> Document<'a> {
+        Document {
+            name,
+            kind: kind_of(top),
+            top,
+            servers: entries(top, "server"),
+        }
+    }
+
+    /// Returns whether the top table has a key.
+    pub fn has(self, key: &str) -> bool {
+        optional(self.top, key).is_some()
+    }
+
+    /// Returns the name of the server with a number, if there is such a server and it has a name.
+    pub fn server_name(self, number: usize) -> Option<&'a str> {
+        name_of(self.servers.get(number)?)
+    }
+}
+
+/// Returns the values of an array, if there is one at a key.
+fn array_at<'a>(table: &'a Table, key: &str) -> Option<&'a [Value]> {
+    Some(items(optional(table, key)?).ok()?.as_slice())
+}
+
+/// Returns the entries of an array, none if there is no array.
+pub(crate) fn entries<'a>(table: &'a Table, key: &str) -> &'a [Value] {
+    array_at(table, key).unwrap_or(&[])
+}
+
+/// Returns the value at a key, if an entry is a table that has it.
+pub(crate) fn value_at<'a>(entry: &'a Value, key: &str) -> Option<&'a Value> {
+    optional(members(entry).ok()?, key)
+}
+
+/// Returns the text at a key, if an entry is a table that has one.
+pub(crate) fn text_at<'a>(entry: &'a Value, key: &str) -> Option<&'a str> {
+    text(value_at(entry, key)?).ok()
+}
+
+/// Returns the name of a server, if its entry has one.
+pub(crate) fn name_of(entry: &Value) -> Option<&str> {
+    text_at(entry, "name")
+}
+
+/// Returns the number of the first server of a name.
+pub(crate) fn server_named(servers: &[Value], name: &str) -> Option<usize> {
+    servers
+        .iter()
+        .position(|entry| name_of(entry) == Some(name))
+}
+
+/// Returns the names of servers. The only error is out of memory.
+pub fn server_names(alloc: Global, servers: &[Value]) -> Result<Vec<&str>, AllocError> {
+    servers
+        .iter()
+        .filter_map(|entry| name_of(entry))
+        .collect(alloc)
+}

@@ -1,0 +1,24 @@
+//! What is found wrong with a task file or a load file: the table, the key and the value that a fault is about, and what would fit.
+#![tactic(auto)]
+
+mod broken;
+mod document;
+mod finding;
+mod fractions;
+mod keys;
+mod nearest;
+mod refused;
+mod spot;
+mod sums;
+mod wants;
+
+pub use broken::{Broken, Position, Quote, broken_at};
+pub use document::{Document, Kind, server_names};
+pub use finding::{Finding, find};
+pub use fractions::{Fraction, Percent};
+pub use keys::{Key, Subject, Want, Words};
+pub use nearest::{nearest_key, nearest_word};
+pub use refused::{Refused, refused_at, reservations};
+pub use spot::{Spot, spot_at};
+pub use sums::{excess, share};
+pub use wants::{MAX_NUMBER, first_bad_unit, period_of, two_numbers};

@@ -1,0 +1,126 @@
+//! A server that a plan does not take, and what would fit in its place.
+
+use crate::document::{Document, value_at};
+use crate::fractions::Fraction;
+use crate::sums::{excess, least_period, share, total};
+use cbs_rate::{AdmitError, Bound, Plan, Reservation};
+use cbs_size::greatest_common_divisor;
+use cbs_tables::{FileKind, bound_of, integer, items, pair, present, reservation};
+use std::alloc::{AllocError, Global};
+use toml::{Table, Value};
+
+/// A server that a plan does not take.
+#[derive(Drop)]
+pub struct Refused {
+    /// Its number.
+    pub number: usize,
+    /// Why it is not taken.
+    pub why: AdmitError,
+    /// The plan of the servers before it.
+    pub plan: Plan,
+    /// What it asks for.
+    pub reservation: Reservation,
+}
+
+impl Refused {
+    /// Returns what the servers before it have.
+    pub fn before(&self) -> Fraction {
+        share(self.plan.bandwidth())
+    }
+
+    /// Returns what it would have.
+    pub fn own(&self) -> Fraction {
+        Fraction {
+            part: u128::from(self.reservation.budget()),
+            whole: u128::from(self.reservation.period()),
+        }
+    }
+
+    /// Returns what all would have together.
+    pub fn total(&self) -> Fraction {
+        total(self.plan.bandwidth(), self.reservation)
+    }
+
+    /// Returns the bound.
+    pub fn bound(&self) -> Fraction {
+        let bound = self.plan.bound();
+        Fraction {
+            part: u128::from(bound.num()),
+            whole: u128::from(bound.den()),
+        }
+    }
+
+    /// Returns the least period in which its budget fits into what is left, if the plan takes that.
+    pub fn least_period(&self) -> Option<u64> {
+        let budget = self.reservation.budget();
+        let period = least_period(budget, excess(self.bound(), self.before())?)?;
+        if self.plan.greatest_budget(period) < budget {
+            return None;
+        }
+        Some(period)
+    }
+
+    /// Returns the ticks after which all periods come together.
+    pub fn common_multiple(&self) -> u128 {
+        let common = u128::from(self.plan.bandwidth().of);
+        let period = u128::from(self.reservation.period());
+        match greatest_common_divisor(common, period) {
+            0 => 0,
+            divisor => (common / divisor).saturating_mul(period),
+        }
+    }
+}
+
+/// Returns the bound of a document.
+fn bound_at(top: &Table) -> Result<Bound, FileKind> {
+    bound_of(pair(items(present(top, "bound")?)?)?)
+}
+
+/// Returns the number at a key of a server.
+fn number_at(entry: &Value, key: &str) -> Option<i64> {
+    integer(value_at(entry, key)?).ok()
+}
+
+/// Returns the reservation of a server.
+fn reservation_of(entry: &Value) -> Option<Reservation> {
+    reservation(number_at(entry, "budget")?, number_at(entry, "period")?).ok()
+}
+
+/// Returns the plan of servers, if it takes them all.
+fn plan_of(bound: Bound, servers: &[Value]) -> Option<Plan> {
+    let mut plan = Plan::new(bound);
+    for entry in servers {
+        plan.admit(reservation_of(entry)?).ok()?;
+    }
+    Some(plan)
+}
+
+/// Returns the server with a number, if the plan of those before it refuses it.
+pub fn refused_at(document: Document<'_>, number: u64) -> Option<Refused> {
+    let number = usize::try_from(number).ok()?;
+    let reservation = reservation_of(document.servers.get(number)?)?;
+    let bound = bound_at(document.top).ok()?;
+    let mut plan = plan_of(bound, document.servers.get(..number)?)?;
+    let why = plan.admit(reservation).err()?;
+    Some(Refused {
+        number,
+        why,
+        plan,
+        reservation,
+    })
+}
+
+/// Returns the reservations of all servers, if each has one. The only error is out of memory.
+pub fn reservations(
+    alloc: Global,
+    servers: &[Value],
+) -> Result<Option<Vec<Reservation>>, AllocError> {
+    let mut all = Vec::new(alloc);
+    for entry in servers {
+        let Some(reservation) = reservation_of(entry) else {
+            return Ok(None);
+        };
+        all.push(reservation)?;
+    }
+    Ok(Some(all))
+}
