@@ -111,6 +111,7 @@ struct cbs_turned {
     uint64_t advanced;    /* by how many ticks it advanced, with nobody ready; the tick of a unit is not counted */
     struct cbs_unit ran;  /* the unit that is to be done now */
     bool out_of_memory;   /* whether there was no memory for some job, which stays in its ring */
+    bool over;            /* whether every server is closed and no job is held: after the unit that is to be done now, all is over */
 };
 
 /* What a poll did. */

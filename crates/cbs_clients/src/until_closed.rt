@@ -72,7 +72,7 @@ impl<W: Work, A: Allocator> House<W, A> {
         let mut unclosed = self.open_servers();
         let mut idle = 0;
         let mut pause = Pause::new();
-        'turns: while !self.is_over(unclosed) {
+        'turns: while !self.is_over_with(unclosed) {
             if idle == most {
                 return Err(HouseError::Stalled);
             }
@@ -87,8 +87,19 @@ impl<W: Work, A: Allocator> House<W, A> {
         Ok(())
     }
 
-    /// Returns whether every server is closed and every job is finished, if so many servers are open.
-    fn is_over(&self, unclosed: u16) -> bool
+    /// Returns whether every server is closed and every job is finished: nothing more will be taken, and nothing is to be done.
+    pub fn is_over(&self) -> bool
+        ensures { IsTrue result ↔ IsOver (core_of self.now) }
+    {
+        if self.is_busy() {
+            return false;
+        }
+        let unclosed = self.open_servers();
+        self.is_over_with(unclosed)
+    }
+
+    /// Returns the same, if so many servers are open.
+    fn is_over_with(&self, unclosed: u16) -> bool
         requires { unclosed ≡ open_servers (core_of self.now) }
         ensures over { IsTrue result ↔ IsOver (core_of self.now) }
         ensures waits { result ≡ false → HoldsNoJob (core_of self.now) → IsWaiting self.now }
