@@ -252,7 +252,7 @@ impl Drop for Counted {
 #[test]
 fn no_token_leaks() {
     let mut unfinished = 0;
-    for turns in 0..200 {
+    for turns in 0..100 {
         let (mut house, clients) = open::<Counted>(3, 2);
         let senders: Vec<_> = clients
             .into_iter()
@@ -266,10 +266,14 @@ fn no_token_leaks() {
                 })
             })
             .collect();
-        let mut done = 0;
-        for _ in 0..turns {
-            if let cbs::Ran::Unit(unit) = house.turn().ran {
-                done += u64::from(unit.into_token().is_some());
+        let (mut units, mut done) = (0, 0);
+        while units < turns {
+            match house.turn().ran {
+                cbs::Ran::Unit(unit) => {
+                    units += 1;
+                    done += u64::from(unit.into_token().is_some());
+                }
+                _ => thread::yield_now(), // for the senders
             }
         }
         let left = house.into_unfinished();
@@ -277,14 +281,15 @@ fn no_token_leaks() {
         for pair in left.windows(2) {
             assert!((pair[0].server, pair[0].seq) < (pair[1].server, pair[1].seq));
         }
-        let left = left.len() as u64;
+        let lost = left.len() as u64;
+        drop(left);
         let senders: Vec<_> = senders
             .into_iter()
             .map(|sender| sender.join().unwrap())
             .collect();
         assert_eq!(
             senders.iter().map(|(_client, sent)| sent).sum::<u64>(),
-            done + left
+            done + lost
         );
         assert_eq!(ALIVE.load(std::sync::atomic::Ordering::SeqCst), 0);
     }
