@@ -17,14 +17,16 @@ fn open<T>(servers: usize, ring: usize) -> (House<T>, Vec<Client<T>>) {
     plan.open(4, ring).unwrap()
 }
 
-/// Does this on a thread of its own, and fails if that takes more than a second.
+/// Does this on a thread of its own, and fails if that takes more than a second, or than what `CBS_TEST_SECONDS` says: under
+/// valgrind all takes longer.
 fn within_a_second(work: impl FnOnce() + Send + 'static) {
     let (done, is_done) = mpsc::channel();
     let worker = thread::spawn(move || {
         work();
         done.send(()).expect("somebody waits for it");
     });
-    let ended = is_done.recv_timeout(Duration::from_secs(1));
+    let seconds = std::env::var("CBS_TEST_SECONDS").map_or(1, |word| word.parse().unwrap());
+    let ended = is_done.recv_timeout(Duration::from_secs(seconds));
     assert_ne!(
         ended,
         Err(mpsc::RecvTimeoutError::Timeout),
