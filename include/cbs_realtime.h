@@ -42,17 +42,13 @@ struct cbs_bell {
 static inline int cbs_bell_open(struct cbs_bell *bell) {
     pthread_condattr_t monotonic;
     int error = pthread_condattr_init(&monotonic);
-    if (error != 0) {
-        return error;
-    }
     bell->rung = bell->listening = bell->stop = false;
-    if ((error = pthread_condattr_setclock(&monotonic, CLOCK_MONOTONIC)) == 0
-        && (error = pthread_cond_init(&bell->rings, &monotonic)) == 0
-        && (error = pthread_mutex_init(&bell->lock, NULL)) != 0) {
-        pthread_cond_destroy(&bell->rings);
+    if (error == 0) {
+        pthread_condattr_setclock(&monotonic, CLOCK_MONOTONIC);
+        error = pthread_cond_init(&bell->rings, &monotonic);
+        pthread_condattr_destroy(&monotonic);
     }
-    pthread_condattr_destroy(&monotonic);
-    return error;
+    return error == 0 ? pthread_mutex_init(&bell->lock, NULL) : error;
 }
 
 /* Frees a bell that nobody rings any more. */
@@ -196,21 +192,30 @@ static inline uint32_t cbs_realtime_begin(struct cbs_realtime *self, struct cbs_
     return self->begun ? (uint32_t)CBS_OK : status;
 }
 
-/* Lets the ticks pass that are over, as long as nobody is ready. Tells whether the house's next tick is still to come. */
-static inline uint32_t cbs_realtime_catch_up(struct cbs_realtime *self, struct cbs_handle *house, bool *ahead) {
-    uint64_t over = cbs_realtime_time(self) / self->tick, now, span, behind;
-    uint32_t status;
-    if ((status = cbs_now(house, &now)) != CBS_OK || (status = cbs_idle_span(house, &span)) != CBS_OK) {
-        return status;
+/* The house's clock, and its idle span: no call refuses a house that is open. */
+static inline uint64_t cbs_realtime_now(struct cbs_handle *house) {
+    uint64_t now = 0;
+    cbs_now(house, &now);
+    return now;
+}
+
+static inline uint64_t cbs_realtime_span(struct cbs_handle *house) {
+    uint64_t span = UINT64_MAX;
+    cbs_idle_span(house, &span);
+    return span;
+}
+
+/* Lets the ticks pass that are over, as long as nobody is ready. Returns whether the house's next tick is still to come. */
+static inline bool cbs_realtime_catch_up(struct cbs_realtime *self, struct cbs_handle *house) {
+    uint64_t over = cbs_realtime_time(self) / self->tick, at = cbs_realtime_now(house) - self->first, span = cbs_realtime_span(house);
+    uint64_t behind = over > at ? over - at : 0;
+    if (span != UINT64_MAX && behind > 0) {
+        span = span < behind ? span : behind;
+        behind -= cbs_advance(house, span) == CBS_OK ? span : 0;
     }
-    behind = over > now - self->first ? over - (now - self->first) : 0;
-    span = span == UINT64_MAX ? 0 : span < behind ? span : behind;
-    self->counts.behind = behind - span;
-    if (self->counts.most_behind < self->counts.behind) {
-        self->counts.most_behind = self->counts.behind;
-    }
-    *ahead = now - self->first > over;
-    return cbs_advance(house, span);
+    self->counts.behind = behind;
+    self->counts.most_behind = behind > self->counts.most_behind ? behind : self->counts.most_behind;
+    return at > over;
 }
 
 /* Polls each server once, and tells whether a message was taken. */
@@ -243,36 +248,24 @@ static inline uint32_t cbs_realtime_work(struct cbs_realtime *self, struct cbs_h
     self->counts.units++;
     self->counts.overruns += took > self->tick;
     self->counts.longest = took > self->counts.longest ? took : self->counts.longest;
-    self->counts.charged += ticks;
-    return cbs_charge(house, unit->server, ticks);
-}
-
-/* Sleeps until somebody who waits gets a budget, or until the bell rings. */
-static inline uint32_t cbs_realtime_rest(struct cbs_realtime *self, struct cbs_handle *house) {
-    uint64_t now, span;
-    uint32_t status;
-    if ((status = cbs_now(house, &now)) == CBS_OK && (status = cbs_idle_span(house, &span)) == CBS_OK) {
-        cbs_clock_wait(self->bell, self->held > 0 ? cbs_realtime_due(self, now + span) : UINT64_MAX);
-    }
+    uint32_t status = cbs_charge(house, unit->server, ticks);
+    self->counts.charged += status == CBS_OK ? ticks : 0;
     return status;
 }
 
 /* Takes messages, and does a unit if its tick has come, or sleeps until it comes. Tells whether there was nothing to do. */
 static inline uint32_t cbs_realtime_step(struct cbs_realtime *self, struct cbs_handle *house, bool *idle) {
     struct cbs_unit unit;
-    bool ahead = false, took = false;
-    uint64_t now;
-    uint32_t status;
+    bool took, ahead = cbs_realtime_catch_up(self, house);
+    uint32_t status = cbs_realtime_poll(self, house, &took);
     *idle = false;
-    if ((status = cbs_realtime_catch_up(self, house, &ahead)) != CBS_OK || (status = cbs_realtime_poll(self, house, &took)) != CBS_OK) {
+    self->over = status == CBS_OK && self->unclosed == 0 && self->held == 0;
+    if (status != CBS_OK || self->over) {
         return status;
     }
-    self->over = self->unclosed == 0 && self->held == 0;
-    if (self->over || ahead) {
-        if (!self->over && (status = cbs_now(house, &now)) == CBS_OK) {
-            cbs_clock_sleep(cbs_realtime_due(self, now));
-        }
-        return status;
+    if (ahead) {
+        cbs_clock_sleep(cbs_realtime_due(self, cbs_realtime_now(house)));
+        return CBS_OK;
     }
     if ((status = cbs_run(house, &unit)) != CBS_OK || unit.kind == CBS_RUN_CLOCK_END) {
         return status != CBS_OK ? status : (uint32_t)CBS_HOUSE_CLOCK_END;
@@ -291,8 +284,9 @@ static inline uint32_t cbs_realtime_run(struct cbs_realtime *self, struct cbs_ha
         if ((status = cbs_realtime_step(self, house, &idle)) != CBS_OK || self->over) {
             break;
         }
-        if (idle && listens) {
-            status = cbs_realtime_rest(self, house);
+        if (idle && listens) { /* until somebody who waits gets a budget, or the bell rings */
+            uint64_t next = cbs_realtime_now(house) + (self->held > 0 ? cbs_realtime_span(house) : 0);
+            cbs_clock_wait(self->bell, self->held > 0 ? cbs_realtime_due(self, next) : UINT64_MAX);
         } else if (idle) {
             cbs_bell_listen(self->bell); /* and one more step, lest a message came before */
         }

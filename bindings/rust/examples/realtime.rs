@@ -13,9 +13,9 @@ use std::time::{Duration, Instant};
 
 const TICK: Duration = Duration::from_millis(1);
 
-type Answer = Result<(), Box<dyn Error>>;
+type Answer<T = ()> = Result<T, Box<dyn Error>>;
 
-fn open<T>(servers: &[(u64, u64, Mode)]) -> Result<(House<T>, Vec<Client<T>>), Box<dyn Error>> {
+fn open<T>(servers: &[(u64, u64, Mode)]) -> Answer<(House<T>, Vec<Client<T>>)> {
     let mut plan = Plan::new();
     for &(budget, period, mode) in servers {
         plan.admit(budget, period, mode)?;
@@ -41,7 +41,7 @@ fn stop_after<T>(time: Duration, house: &House<T>) -> thread::JoinHandle<()> {
 }
 
 /// Returns how long this thread was on a processor.
-fn on_processor() -> Result<Duration, Box<dyn Error>> {
+fn on_processor() -> Answer<Duration> {
     let text = std::fs::read_to_string("/proc/thread-self/schedstat")?;
     let nanos = text.split_whitespace().next().ok_or("no time")?.parse()?;
     Ok(Duration::from_nanos(nanos))

@@ -19,7 +19,7 @@ impl<W: Work, A: Allocator> House<W, A> {
     ghost use Rattle.cbs_core.specs.Held.{HoldsNoJob};
     ghost use Rattle.cbs_clients.specs.Houses.{core_of, rings_of, IsHouseOnTime, AllFinished, ServesOn, ServesBy};
     ghost use Rattle.cbs_host.specs.Meters.{NothingBeyond, NeverCharges};
-    ghost use Rattle.cbs_clients.specs.UntilClosed.{open_servers, IsOver, RunEnds, RunsTelling, IsWaiting, RunStops, TakesTurnOfRun};
+    ghost use Rattle.cbs_clients.specs.UntilClosed.{open_servers, AllClosed, IsOver, RunEnds, RunsTelling, IsWaiting, RunStops, TakesTurnOfRun};
     ghost use Rattle.cbs_clients.specs.Sinks.{Tells};
 
     /// Takes turns ([`turn`](House::turn)) until every server is closed and every job is finished, and
@@ -91,14 +91,22 @@ impl<W: Work, A: Allocator> House<W, A> {
     pub fn is_over(&self) -> bool
         ensures { IsTrue result ↔ IsOver (core_of self.now) }
     {
-        if self.is_busy() {
-            return false;
-        }
-        let unclosed = self.open_servers();
-        self.is_over_with(unclosed)
+        !self.is_busy() && self.are_all_closed()
     }
 
-    /// Returns the same, if so many servers are open.
+    /// Returns whether every server is closed. It looks no further than the first that is open.
+    fn are_all_closed(&self) -> bool
+        ensures { IsTrue result ↔ AllClosed (core_of self.now) }
+    {
+        for server in 0..self.servers() {
+            if !self.is_closed(server) {
+                return false;
+            }
+        }
+        true
+    }
+
+    /// Returns whether every server is closed and every job is finished, if so many servers are open.
     fn is_over_with(&self, unclosed: u16) -> bool
         requires { unclosed ≡ open_servers (core_of self.now) }
         ensures over { IsTrue result ↔ IsOver (core_of self.now) }
