@@ -91,7 +91,7 @@ impl<W: Work, A: Allocator> House<W, A> {
     pub fn is_over(&self) -> bool
         ensures { IsTrue result ↔ IsOver (core_of self.now) }
     {
-        !self.is_busy() && self.are_all_closed()
+        self.are_all_closed() && !self.is_busy()
     }
 
     /// Returns whether every server is closed. It looks no further than the first that is open.

@@ -1,10 +1,10 @@
 //! Clients and houses that are freed, and servers that are not there.
 
 use super::{NO_EVENT, NO_VIEW, is, opened, polls, same, sends, waits};
-use crate::{TurnEvent, View};
 use crate::client::{cbs_end, cbs_send};
 use crate::handles::cbs_free;
 use crate::house::{cbs_poll, cbs_promised, cbs_turn, cbs_view};
+use crate::{TurnEvent, View};
 use cbs_embed::Handle;
 use std::process::Abort;
 
