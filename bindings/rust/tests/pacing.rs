@@ -372,7 +372,7 @@ fn a_charge_past_the_clocks_end_is_told() {
     assert_eq!(ended, Err(RunError::ClockEnd));
 }
 
-// What was done before counts: the house is behind handed over with a job in progress, and with one server closed.
+// What was done before counts: a job is in progress, and one server is closed.
 #[test]
 fn a_house_that_was_served_before_goes_on() {
     let (mut house, mut clients) = open::<u64>(&[(1, 2, Mode::Soft), (1, 2, Mode::Soft)]);
