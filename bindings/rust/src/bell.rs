@@ -21,12 +21,21 @@ impl Bell {
     }
 
     /// Wakes who listens, if somebody does. What was done before is seen by whoever wakes.
+    #[inline]
     pub fn ring(&self) {
-        // Either this load sees that somebody listens, or who listens looks after what was sent, and sees that.
+        Bell::ring_each(Some(self));
+    }
+
+    /// Rings each of these.
+    pub(crate) fn ring_each<'a>(bells: impl IntoIterator<Item = &'a Bell>) {
+        // Either a load below sees that somebody listens, or who listens looks after what was done, and sees that.
         fence(Ordering::SeqCst);
-        if self.listening.load(Ordering::SeqCst) && self.listening.swap(false, Ordering::SeqCst) {
-            *self.rung() = true;
-            self.ringing.notify_one();
+        for bell in bells {
+            if bell.listening.load(Ordering::SeqCst) && bell.listening.swap(false, Ordering::SeqCst)
+            {
+                *bell.rung() = true;
+                bell.ringing.notify_one();
+            }
         }
     }
 

@@ -131,6 +131,7 @@ extern "C" {
 #[derive(Clone, Copy, Debug, PartialEq, Eq)]
 pub(crate) struct Status(pub(crate) u32);
 
+#[inline]
 fn answered<T>(status: u32, value: T) -> Result<T, Status> {
     match status {
         0 => Ok(value),
@@ -194,72 +195,85 @@ pub(crate) fn status_text(status: u32) -> String {
     String::from_utf8_lossy(&text[..length.min(text.len())]).into_owned()
 }
 
+#[inline]
 pub(crate) fn turn(house: &mut Handle) -> Result<Turn, Status> {
     let mut turn = Turn::default();
     let status = unsafe { cbs_turn(house.0.get(), &mut turn) };
     answered(status, turn)
 }
 
+#[inline]
 pub(crate) fn poll(house: &mut Handle, server: u16) -> Result<u32, Status> {
     let mut kind = 0;
     let status = unsafe { cbs_poll(house.0.get(), server, &mut kind) };
     answered(status, kind)
 }
 
+#[inline]
 pub(crate) fn run(house: &mut Handle) -> Result<Unit, Status> {
     let mut unit = Unit::default();
     let status = unsafe { cbs_run(house.0.get(), &mut unit) };
     answered(status, unit)
 }
 
+#[inline]
 pub(crate) fn advance(house: &mut Handle, ticks: u64) -> Result<(), Status> {
     answered(unsafe { cbs_advance(house.0.get(), ticks) }, ())
 }
 
+#[inline]
 pub(crate) fn charge(house: &mut Handle, server: u16, ticks: u64) -> Result<(), Status> {
     answered(unsafe { cbs_charge(house.0.get(), server, ticks) }, ())
 }
 
+#[inline]
 pub(crate) fn charges(house: &Handle, server: u16) -> Result<(u64, u64), Status> {
     let (mut total, mut most) = (0, 0);
     let status = unsafe { cbs_charges(house.0.get(), server, &mut total, &mut most) };
     answered(status, (total, most))
 }
 
+#[inline]
 pub(crate) fn now(house: &Handle) -> Result<u64, Status> {
     let mut now = 0;
     let status = unsafe { cbs_now(house.0.get(), &mut now) };
     answered(status, now)
 }
 
+#[inline]
 pub(crate) fn idle_span(house: &Handle) -> Result<u64, Status> {
     let mut span = 0;
     let status = unsafe { cbs_idle_span(house.0.get(), &mut span) };
     answered(status, span)
 }
 
+#[inline]
 pub(crate) fn view(house: &Handle, server: u16) -> Result<View, Status> {
     let mut view = View::default();
     let status = unsafe { cbs_view(house.0.get(), server, &mut view) };
     answered(status, view)
 }
 
+#[inline]
 pub(crate) fn promised(house: &Handle, server: u16) -> Result<(u64, u64), Status> {
     let (mut low, mut high) = (0, 0);
     let status = unsafe { cbs_promised(house.0.get(), server, &mut low, &mut high) };
     answered(status, (low, high))
 }
 
+#[inline]
 pub(crate) fn send(client: &mut Handle, token: u64, units: u32) -> Result<u64, Status> {
     let mut seq = 0;
     let status = unsafe { cbs_send(client.0.get(), token, units, &mut seq) };
     answered(status, seq)
 }
 
+#[inline]
 pub(crate) fn end(client: &mut Handle) -> Result<(), Status> {
     answered(unsafe { cbs_end(client.0.get()) }, ())
 }
 
+#[inline]
 pub(crate) fn waiting(client: &Handle) -> Result<u64, Status> {
     let mut waiting = 0;
     let status = unsafe { cbs_waiting(client.0.get(), &mut waiting) };

@@ -217,9 +217,7 @@ impl<T> House<T> {
     pub fn turn(&mut self) -> Turn<'_, T> {
         let turn = certain(ffi::turn(&mut self.handle));
         if turn.took > 0 {
-            for served in &self.servers {
-                served.tokens.room.ring();
-            }
+            Bell::ring_each(self.servers.iter().map(|served| &served.tokens.room));
         }
         Turn {
             took: turn.took as usize, // at most one of each server
