@@ -5,6 +5,7 @@
  * many units the job has. cbs_run and cbs_turn tell which unit of which job is next, and the program does it.
  * A unit takes one tick of the house's clock; nothing is measured, nothing is interrupted. A program whose unit took
  * longer charges its server the ticks beyond the first (cbs_charge), so that a unit takes no other server's share.
+ * cbs_realtime.h, beside this header, does so: it serves a house in real time.
  *
  *     struct cbs_server servers[2] = {{2, 5, CBS_SOFT}, {1, 10, CBS_THROTTLED}};
  *     struct cbs_handle house = CBS_HANDLE_INIT, clients[2] = {CBS_HANDLE_INIT, CBS_HANDLE_INIT};
@@ -111,6 +112,7 @@ struct cbs_turned {
     uint64_t advanced;    /* by how many ticks it advanced, with nobody ready; the tick of a unit is not counted */
     struct cbs_unit ran;  /* the unit that is to be done now */
     bool out_of_memory;   /* whether there was no memory for some job, which stays in its ring */
+    bool over;            /* whether every server is closed and no job is held: all is over, after the unit that is to be done now */
 };
 
 /* What a poll did. */
@@ -216,7 +218,7 @@ size_t cbs_status_text(uint32_t status, char *out, size_t n);
 
 /* Takes a turn: polls each server once, in their order, and then runs one unit. If nobody is ready and a job is not
  * finished (all who have one wait for their deadline), it advances the clock by the idle span instead; if no job is
- * there, or the clock stands at its end, it leaves the clock alone. No turn takes anybody's time. */
+ * there, or the clock stands at its end, it leaves the clock alone. No turn takes anybody's time. It tells when all is over. */
 uint32_t cbs_turn(struct cbs_handle *house, struct cbs_turned *out);
 
 /* Takes the next message of one server, if there is one and room for it, and writes what it did to *kind (CBS_POLL_..).

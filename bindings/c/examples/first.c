@@ -1,5 +1,4 @@
-#include <cbs.h>
-#include <pthread.h>
+#include <cbs_realtime.h>
 #include <sched.h>
 #include <stdio.h>
 
@@ -13,7 +12,8 @@ static struct job jobs[2];
 
 struct sender {
     struct cbs_handle client; /* freed by the sender's thread */
-    uint32_t status;          /* of its last call */
+    struct cbs_bell *bell;
+    uint32_t status; /* of its last send */
 };
 
 /* Says what a status means, if it is not CBS_OK. Returns whether it is CBS_OK. */
@@ -38,62 +38,43 @@ static void *sends(void *of) {
         while ((me->status = cbs_send(&me->client, (uintptr_t)job, job->units, &number)) == CBS_SEND_RING_FULL) {
             sched_yield();
         }
+        cbs_bell_ring(me->bell);
     }
     cbs_free(&me->client);
+    cbs_bell_ring(me->bell);
     return NULL;
 }
 
 /* Does one unit of a job. */
-static void does(struct job *job) {
+static void does(void *context, const struct cbs_unit *unit) {
+    struct job *job = (struct job *)(uintptr_t)unit->token;
+    (void)context;
     CBS_TSAN_ACQUIRE(job);
     job->done++;
     printf("%s: %u of %u\n", job->name, (unsigned)job->done, (unsigned)job->units);
 }
 
-/* Takes turns until the client has ended and its jobs are finished. Returns CBS_OK, or why it stopped before. */
-static uint32_t serve(struct cbs_handle *house) {
-    struct cbs_shown shown = {0};
-    uint32_t status = CBS_OK;
-    while (status == CBS_OK && !(shown.closed && shown.finished == shown.accepted)) {
-        struct cbs_turned turn;
-        if ((status = cbs_turn(house, &turn)) != CBS_OK) {
-            return status;
-        }
-        if (turn.ran.kind == CBS_RUN_UNIT || turn.ran.kind == CBS_RUN_DONE) {
-            does((struct job *)(uintptr_t)turn.ran.token);
-        } else if (turn.ran.kind == CBS_RUN_CLOCK_END) {
-            return CBS_HOUSE_CLOCK_END;
-        } else if (turn.out_of_memory) {
-            return CBS_HOUSE_OUT_OF_MEMORY; /* this program does not wait for memory */
-        } else if (turn.took == 0 && turn.advanced == 0) {
-            sched_yield(); /* nothing to do */
-        }
-        status = cbs_view(house, 0, &shown);
-    }
-    return status;
-}
-
 int main(void) {
     struct cbs_server servers[1] = {{2, 5, CBS_SOFT}}; /* 2 ticks in every 5 */
     struct cbs_handle house = CBS_HANDLE_INIT;
-    struct sender sender = {CBS_HANDLE_INIT, CBS_OK};
+    struct cbs_bell bell;
+    struct sender sender = {CBS_HANDLE_INIT, &bell, CBS_OK};
+    struct cbs_realtime realtime = cbs_realtime_of(1000000, &bell, does, NULL); /* a tick is a millisecond */
     pthread_t thread;
-    uint64_t now = 0;
-    if (!is_well("open", cbs_open(servers, 1, 8, 8, &house, &sender.client, 1))) {
+    if (cbs_bell_open(&bell) != 0 || !is_well("open", cbs_open(servers, 1, 8, 8, &house, &sender.client, 1))) {
         return 1;
     }
     if (pthread_create(&thread, NULL, sends, &sender) != 0) {
         fprintf(stderr, "sender: there is no thread\n");
-        cbs_free(&sender.client); /* nobody else would, and the house would wait for its end */
-        cbs_free(&house);
         return 1;
     }
-    bool served = is_well("serve", serve(&house)) && is_well("now", cbs_now(&house, &now));
+    bool served = is_well("serve", cbs_realtime_run(&realtime, &house)); /* until the client is gone and its jobs are finished */
     cbs_free(&house); /* a sender that is still at work gets CBS_CALL_HOUSE_GONE, and ends */
     pthread_join(thread, NULL);
+    cbs_bell_close(&bell);
     if (!is_well("sender", sender.status) || !served) {
         return 1;
     }
-    printf("finished at tick %llu\n", (unsigned long long)now);
+    printf("%llu units are done\n", (unsigned long long)realtime.counts.units);
     return 0;
 }

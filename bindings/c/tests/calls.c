@@ -328,8 +328,36 @@ static void charging(void) {
 static void turns(struct setup *setup, uint64_t took, uint64_t advanced, uint32_t kind, uint64_t token) {
     struct cbs_turned turn;
     CHECK(cbs_turn(&setup->house, &turn) == CBS_OK);
-    CHECK(turn.took == took && turn.advanced == advanced && !turn.out_of_memory);
+    CHECK(turn.took == took && turn.advanced == advanced && !turn.out_of_memory && !turn.over);
     CHECK(turn.ran.kind == kind && (kind < CBS_RUN_UNIT || turn.ran.token == token));
+}
+
+static bool is_over(struct setup *setup) {
+    struct cbs_turned turn;
+    CHECK(cbs_turn(&setup->house, &turn) == CBS_OK);
+    return turn.over;
+}
+
+/* All is over with the turn that tells of the last unit, if the servers are closed by then; and with that which closes the last. */
+static void ending(void) {
+    struct cbs_server servers[2] = {{1, 10, CBS_THROTTLED}, {1, 2, CBS_SOFT}};
+    struct setup setup;
+    uint64_t seq;
+    set_up(&setup, servers, 2, 4, 4);
+    CHECK(cbs_send(&setup.clients[1], 6, 3, &seq) == CBS_OK);
+    cbs_free(&setup.clients[1]);
+    CHECK(cbs_end(&setup.clients[0]) == CBS_OK);
+    CHECK(!is_over(&setup)); /* server 0 is closed */
+    CHECK(!is_over(&setup)); /* so is server 1; a unit is left */
+    CHECK(is_over(&setup) && is_over(&setup));
+    tear_down(&setup);
+    set_up(&setup, servers, 2, 4, 4);
+    CHECK(cbs_send(&setup.clients[1], 6, 1, &seq) == CBS_OK);
+    cbs_free(&setup.clients[1]);
+    CHECK(!is_over(&setup) && !is_over(&setup) && !is_over(&setup)); /* server 0 is open */
+    cbs_free(&setup.clients[0]);
+    CHECK(is_over(&setup));
+    tear_down(&setup);
 }
 
 /* A throttled server with 1 tick in every 10, and a soft one with 1 in every 2. */
@@ -377,6 +405,7 @@ static void layouts(void) {
     CHECK(sizeof(struct cbs_handle) == 16 && sizeof(struct cbs_server) == 24 && sizeof(struct cbs_unit) == 24);
     CHECK(sizeof(struct cbs_turned) == 48 && sizeof(struct cbs_shown) == 48);
     CHECK(offsetof(struct cbs_turned, ran) == 16 && offsetof(struct cbs_turned, out_of_memory) == 40);
+    CHECK(offsetof(struct cbs_turned, over) == 41);
     CHECK(offsetof(struct cbs_server, period) == 8 && offsetof(struct cbs_server, mode) == 16);
     CHECK(offsetof(struct cbs_unit, server) == 4 && sizeof((struct cbs_unit *)0)->server == 2);
     CHECK(offsetof(struct cbs_unit, seq) == 8 && offsetof(struct cbs_unit, token) == 16);
@@ -464,6 +493,7 @@ int main(void) {
     throttling();
     charging();
     turning();
+    ending();
     clock_ends();
     greatest_budgets();
     greatest_budgets_of_none();

@@ -39,23 +39,26 @@ static void starts(struct sender *sender, struct cbs_handle client, uint32_t uni
     CHECK(pthread_create(&sender->thread, NULL, sends, sender) == 0);
 }
 
-/* Takes turns until each server is closed, and checks how many jobs were finished in all. */
+/* Takes turns until all is over, as a turn tells it and the servers show it, and checks how many jobs were finished in all. */
 static void serves(struct setup *setup, uint64_t jobs) {
     uint64_t finished = 0;
-    for (size_t closed = 0; closed < setup->n;) {
+    for (bool over = false; !over;) {
         struct cbs_turned turn;
+        size_t closed = 0;
         CHECK(cbs_turn(&setup->house, &turn) == CBS_OK);
         CHECK(turn.ran.kind != CBS_RUN_CLOCK_END && !turn.out_of_memory);
         if (turn.ran.kind == CBS_RUN_IDLE && turn.took == 0 && turn.advanced == 0) {
             sched_yield();
         }
-        closed = finished = 0;
+        finished = 0;
         for (uint16_t server = 0; server < setup->n; server++) {
             struct cbs_shown shown;
             CHECK(cbs_view(&setup->house, server, &shown) == CBS_OK);
             closed += shown.closed && shown.finished == shown.accepted;
             finished += shown.finished;
         }
+        over = turn.over;
+        CHECK(over == (closed == setup->n));
     }
     CHECK(finished == jobs);
 }

@@ -112,26 +112,20 @@ static void does(const struct cbs_unit *unit) {
     }
 }
 
-static bool all_done(struct cbs_handle *house) {
-    for (size_t server = 0; server < n; server++) {
-        struct cbs_shown view;
-        CHECK(cbs_view(house, (uint16_t)server, &view) == CBS_OK);
-        if (!view.closed || view.finished < counts[server]) {
-            return false;
-        }
-    }
-    return true;
-}
-
 static void serve(struct cbs_handle *house) {
-    while (!all_done(house)) {
-        struct cbs_turned turn;
+    struct cbs_turned turn;
+    do {
         CHECK(cbs_turn(house, &turn) == CBS_OK && turn.ran.kind != CBS_RUN_CLOCK_END);
         if (turn.ran.kind >= CBS_RUN_UNIT) {
             does(&turn.ran);
         } else if (turn.took == 0 && turn.advanced == 0) {
             sched_yield();
         }
+    } while (!turn.over);
+    for (size_t server = 0; server < n; server++) {
+        struct cbs_shown view;
+        CHECK(cbs_view(house, (uint16_t)server, &view) == CBS_OK);
+        CHECK(view.closed && view.finished == counts[server]);
     }
 }
 

@@ -52,20 +52,11 @@ static void does(const struct cbs_unit *unit, uint64_t finished[CLIENTS]) {
     finished[unit->server] += unit->kind == CBS_RUN_DONE;
 }
 
-static bool all_closed(struct cbs_handle *house) {
-    bool all = true;
-    for (uint16_t server = 0; server < CLIENTS; server++) {
-        struct cbs_shown view;
-        CHECK(cbs_view(house, server, &view) == CBS_OK);
-        all = all && view.closed && view.finished == view.accepted;
-    }
-    return all;
-}
-
 int main(void) {
     static const struct cbs_server servers[CLIENTS] = {
         {2, 5, CBS_SOFT}, {1, 5, CBS_THROTTLED}, {1, 10, CBS_SOFT}, {3, 10, CBS_THROTTLED}};
     struct setup setup;
+    struct cbs_turned turn;
     struct sender senders[CLIENTS];
     pthread_t threads[CLIENTS];
     uint64_t finished[CLIENTS] = {0, 0, 0, 0};
@@ -75,8 +66,7 @@ int main(void) {
         senders[i].number = i;
         CHECK(pthread_create(&threads[i], NULL, sends, &senders[i]) == 0);
     }
-    while (!all_closed(&setup.house)) {
-        struct cbs_turned turn;
+    do {
         CHECK(cbs_turn(&setup.house, &turn) == CBS_OK);
         CHECK(turn.ran.kind != CBS_RUN_CLOCK_END);
         if (turn.ran.kind >= CBS_RUN_UNIT) {
@@ -84,7 +74,7 @@ int main(void) {
         } else if (turn.took == 0 && turn.advanced == 0) {
             sched_yield();
         }
-    }
+    } while (!turn.over);
     for (unsigned i = 0; i < CLIENTS; i++) {
         CHECK(pthread_join(threads[i], NULL) == 0);
         CHECK(finished[i] == JOBS);

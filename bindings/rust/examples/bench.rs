@@ -18,7 +18,7 @@ const NAMES: [&str; 7] = [
 ];
 
 /// Calls with the servers in turn. Nothing is divided here: that would be measured.
-fn timed(servers: u16, mut call: impl FnMut(u16, u64)) -> f64 {
+fn timed(servers: usize, mut call: impl FnMut(usize, u64)) -> f64 {
     let start = Instant::now();
     let mut server = 0;
     for number in 0..CALLS {
@@ -31,27 +31,27 @@ fn timed(servers: u16, mut call: impl FnMut(u16, u64)) -> f64 {
     start.elapsed().as_nanos() as f64 / CALLS as f64
 }
 
-fn job(house: &mut House, clients: &mut [Client], server: u16, number: u64) {
-    clients[usize::from(server)]
+fn job(house: &mut House, clients: &mut [Client], server: usize, number: u64) {
+    clients[server]
         .send(number, 1)
         .expect("a place in the ring");
     assert_eq!(house.poll(server), Ok(Poll::Took));
-    assert!(matches!(house.run(), Ran::Unit(unit) if unit.last && unit.token == number));
+    assert!(matches!(house.run(), Ran::Unit(unit) if unit.is_last() && *unit.token == number));
 }
 
 /// Gives each server a job that is longer than what is measured.
 fn load(house: &mut House, clients: &mut [Client]) {
-    for (server, client) in (0..).zip(clients) {
+    for (server, client) in clients.iter_mut().enumerate() {
         client.send(7, 1_000_000).expect("a place in the ring");
         assert_eq!(house.poll(server), Ok(Poll::Took));
     }
 }
 
 fn round(plan: &Plan) -> [f64; 7] {
-    let (mut house, mut clients) = plan.open(4096, 1024).expect("memory");
+    let (mut house, mut clients) = plan.open::<u64>(4096, 1024).expect("memory");
     let n = house.servers();
     let now = timed(n, |_, _| assert_eq!(house.now(), 0));
-    let idle = timed(n, |_, _| assert_eq!(house.run(), Ran::Idle));
+    let idle = timed(n, |_, _| assert!(matches!(house.run(), Ran::Idle)));
     let nothing = timed(n, |server, _| {
         assert_eq!(house.poll(server), Ok(Poll::Nothing))
     });
@@ -61,10 +61,10 @@ fn round(plan: &Plan) -> [f64; 7] {
     });
     load(&mut house, &mut clients);
     let unit = timed(n, |_, _| {
-        assert!(matches!(house.run(), Ran::Unit(unit) if !unit.last))
+        assert!(matches!(house.run(), Ran::Unit(unit) if !unit.is_last()))
     });
     let turn = timed(n, |_, _| {
-        assert!(matches!(house.turn().ran, Ran::Unit(unit) if !unit.last))
+        assert!(matches!(house.turn().ran, Ran::Unit(unit) if !unit.is_last()))
     });
     [now, idle, nothing, span, jobs, unit, turn]
 }

@@ -1,63 +1,139 @@
-use crate::error::{not_answered, SendError};
+use crate::bell::{Bell, RingsAtLast};
+use crate::error::{not_answered, Refused, SendError};
 use crate::ffi::{self, Handle};
-use std::fmt;
+use crate::tokens::Tokens;
+use std::sync::Arc;
 
 /// The sender's side of one server. It may go to another thread, and sends while the house runs.
+///
+/// A job has a token: a value of any type, which the house shows with each unit, and hands out with the last.
 ///
 /// A client that is dropped has ended: the house takes the jobs that it sent, and then closes its server. So a sender that
 /// returns early, or panics, keeps no house waiting.
 ///
 /// ```
-/// use cbs::{Mode, Plan};
+/// use cbs::{Ended, Mode, Plan};
 ///
 /// let mut plan = Plan::new();
 /// plan.admit(2, 5, Mode::Soft)?;
 /// let (mut house, mut clients) = plan.open(4, 4)?;
-/// clients[0].send(7, 1)?;
+/// clients[0].send("wash", 2)?;
 /// drop(clients);
-/// while !house.view(0)?.closed {
-///     house.turn();
-/// }
-/// assert_eq!(house.view(0)?.accepted, 1);
+/// let mut units = 0;
+/// assert_eq!(house.run_until_closed(|unit| units += unit.token.len())?, Ended::Closed);
+/// assert_eq!(units, 8);
 /// # Ok::<(), Box<dyn std::error::Error>>(())
 /// ```
-pub struct Client {
+#[derive(Debug)]
+pub struct Client<T = u64> {
+    // The house wakes after the end was sent: fields are dropped in this order.
     handle: Handle,
+    tokens: Arc<Tokens<T>>,
+    bell: RingsAtLast,
+    server: usize,
+    sent: u64,
 }
 
-impl Client {
-    pub(crate) fn new(handle: Handle) -> Client {
-        Client { handle }
+impl<T> Client<T> {
+    pub(crate) fn new(
+        handle: Handle,
+        tokens: Arc<Tokens<T>>,
+        bell: Arc<Bell>,
+        server: usize,
+    ) -> Client<T> {
+        Client {
+            handle,
+            tokens,
+            bell: RingsAtLast(bell),
+            server,
+            sent: 0,
+        }
     }
 
-    /// Sends a job of 1 to 1,000,000 units, and returns its number among those of this client, from 0. It never waits. Jobs
-    /// are taken, run and finished in the order of their sends.
+    /// Returns the number of its server, from 0.
+    #[must_use]
+    pub fn server(&self) -> usize {
+        self.server
+    }
+
+    /// Sends a job of 1 to 1,000,000 units, and returns its number among those of this client, from 0. It never waits, and wakes
+    /// a house that sleeps. Jobs are taken, run and finished in the order of their sends.
     ///
     /// # Errors
     ///
-    /// [`SendError`]: nothing was sent then. [`SendError::RingFull`] passes when the house has polled;
-    /// [`SendError::HouseGone`] does not.
+    /// [`Refused`]: nothing was sent then, and the token is handed back. [`SendError::RingFull`] passes when the house has
+    /// polled; [`SendError::HouseGone`] does not.
     ///
     /// ```
     /// use cbs::{Mode, Plan, SendError};
-    /// use std::thread;
     ///
     /// let mut plan = Plan::new();
     /// plan.admit(2, 5, Mode::Soft)?;
     /// let (house, mut clients) = plan.open(4, 1)?;
-    /// let mut client = clients.remove(0);
-    /// thread::spawn(move || {
-    ///     assert_eq!(client.send(7, 1), Ok(0));
-    ///     assert_eq!(client.send(8, 1), Err(SendError::RingFull));
-    ///     assert_eq!(client.send(8, 0), Err(SendError::EmptyJob));
-    /// })
-    /// .join()
-    /// .unwrap();
-    /// drop(house);
+    /// assert_eq!(clients[0].send(String::from("wash"), 1)?, 0);
+    /// let refused = clients[0].send(String::from("dry"), 1).unwrap_err();
+    /// assert_eq!((refused.error, refused.token.as_str()), (SendError::RingFull, "dry"));
+    /// # drop(house);
     /// # Ok::<(), Box<dyn std::error::Error>>(())
     /// ```
-    pub fn send(&mut self, token: u64, units: u32) -> Result<u64, SendError> {
-        ffi::send(&mut self.handle, token, units).map_err(SendError::of)
+    pub fn send(&mut self, token: T, units: u32) -> Result<u64, Refused<T>> {
+        let number = self.sent;
+        self.tokens.put(number, token);
+        match ffi::send(&mut self.handle, number, units) {
+            Ok(_number) => {
+                self.sent += 1;
+                let lost = self.tokens.sent(number);
+                self.bell.0.ring();
+                lost.map_or(Ok(number), |token| {
+                    let error = SendError::HouseGone;
+                    Err(Refused { error, token })
+                })
+            }
+            Err(status) => {
+                let token = self.tokens.take(number);
+                Err(Refused {
+                    error: SendError::of(status),
+                    token: token.expect("the house takes no token of a job that was not sent"),
+                })
+            }
+        }
+    }
+
+    /// Sends a job, and waits while the ring is full.
+    ///
+    /// # Errors
+    ///
+    /// [`Refused`], as [`send`](Client::send), but never by [`SendError::RingFull`].
+    ///
+    /// ```
+    /// use cbs::{Mode, Plan};
+    /// use std::thread;
+    ///
+    /// let mut plan = Plan::new();
+    /// plan.admit(2, 5, Mode::Soft)?;
+    /// let (mut house, mut clients) = plan.open(1, 1)?;
+    /// let mut client = clients.remove(0);
+    /// let sender = thread::spawn(move || (0..100).try_for_each(|number| client.blocking_send(number, 1).map(drop)));
+    /// house.run_until_closed(|_unit| {})?;
+    /// sender.join().unwrap()?;
+    /// # Ok::<(), Box<dyn std::error::Error>>(())
+    /// ```
+    pub fn blocking_send(&mut self, mut token: T, units: u32) -> Result<u64, Refused<T>> {
+        loop {
+            for listens in [false, true] {
+                if listens {
+                    self.tokens.room.listen();
+                }
+                match self.send(token, units) {
+                    Err(refused) if refused.error == SendError::RingFull => token = refused.token,
+                    sent => {
+                        self.tokens.room.leave();
+                        return sent;
+                    }
+                }
+            }
+            self.tokens.room.wait(None);
+        }
     }
 
     /// Sends the end, after all jobs: nothing more can be sent, and the server closes when the house takes the end. Dropping
@@ -67,18 +143,16 @@ impl Client {
     ///
     /// [`SendError::RingFull`]; [`SendError::Ended`] if it was sent before; [`SendError::HouseGone`].
     pub fn end(&mut self) -> Result<(), SendError> {
-        ffi::end(&mut self.handle).map_err(SendError::of)
+        ffi::end(&mut self.handle).map_err(SendError::of)?;
+        self.bell.0.ring();
+        Ok(())
     }
 
     /// Returns how many messages of this client stand in its ring, not taken yet. While the house polls there may be fewer
     /// by now.
-    pub fn waiting(&mut self) -> u64 {
-        ffi::waiting(&mut self.handle).unwrap_or_else(|status| not_answered(status))
-    }
-}
-
-impl fmt::Debug for Client {
-    fn fmt(&self, f: &mut fmt::Formatter<'_>) -> fmt::Result {
-        f.debug_struct("Client").finish_non_exhaustive()
+    #[must_use]
+    pub fn waiting(&self) -> usize {
+        let waiting = ffi::waiting(&self.handle).unwrap_or_else(|status| not_answered(status));
+        waiting as usize // at most 1025
     }
 }

@@ -32,6 +32,7 @@ macro_rules! errors {
                 }
             }
 
+            #[allow(dead_code)] // one of these enums is never made of a status
             pub(crate) fn of(status: Status) -> $name {
                 match status.0 {
                     $($status => $name::$variant,)+
@@ -93,6 +94,16 @@ errors! {
 }
 
 errors! {
+    /// Why a call that serves ends before all is over. Nothing is lost: it may be called again.
+    RunError {
+        /// There was no memory for a job, which stays in its ring.
+        OutOfMemory = 0x303,
+        /// The clock stands at its end, 10^12 ticks.
+        ClockEnd = 0x305,
+    }
+}
+
+errors! {
     /// Why a client sends nothing.
     SendError {
         /// The job has no unit.
@@ -105,5 +116,36 @@ errors! {
         RingFull = 0x502,
         /// The house was dropped: nothing that is sent would be taken.
         HouseGone = 0x605,
+    }
+}
+
+/// A job that was not sent: why, and its token, which is the sender's again.
+#[derive(Clone, Copy, PartialEq, Eq)]
+pub struct Refused<T> {
+    /// Why it was not sent.
+    pub error: SendError,
+    /// What would have been sent with it.
+    pub token: T,
+}
+
+impl<T> fmt::Debug for Refused<T> {
+    fn fmt(&self, f: &mut fmt::Formatter<'_>) -> fmt::Result {
+        f.debug_struct("Refused")
+            .field("error", &self.error)
+            .finish_non_exhaustive()
+    }
+}
+
+impl<T> fmt::Display for Refused<T> {
+    fn fmt(&self, f: &mut fmt::Formatter<'_>) -> fmt::Result {
+        self.error.fmt(f)
+    }
+}
+
+impl<T> Error for Refused<T> {}
+
+impl<T> From<Refused<T>> for SendError {
+    fn from(refused: Refused<T>) -> SendError {
+        refused.error
     }
 }

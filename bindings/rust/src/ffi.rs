@@ -1,25 +1,39 @@
 //! The declarations of `include/cbs.h`, and the one type that owns a handle. All that is unsafe in this crate stands here.
 //!
-//! What the header asks of a program is kept so: an open handle is owned by one [`Handle`], which is not `Clone`; each call
-//! takes it by `&mut`, so that it is in one call at a time; it goes to another thread as any value does, ordered by whatever
-//! sends it there; references are never null, and out parameters are locals of their own.
+//! What the header asks of a program is kept so: an open handle is owned by one [`Handle`], which is not `Clone`; it is not
+//! `Sync`, and no call comes back into the program, so that it is in one call at a time, also by `&`; it goes to another thread
+//! as any value does, ordered by whatever sends it there; references are never null, and out parameters are locals of their own.
 
+use std::cell::UnsafeCell;
 use std::ffi::c_void;
+use std::fmt;
 use std::ptr;
 
-/// `struct cbs_handle`, not open or owned by this value alone.
+/// `struct cbs_handle`.
 #[repr(C)]
-pub(crate) struct Handle {
+struct Raw {
     full: bool,
     at: *mut c_void,
 }
 
+/// A handle that is not open, or that this value alone owns. The library may write to it also by a call that only reads.
+#[repr(transparent)]
+pub(crate) struct Handle(UnsafeCell<Raw>);
+
 impl Handle {
-    /// A handle that is not open.
-    pub(crate) const SHUT: Handle = Handle {
-        full: false,
-        at: ptr::null_mut(),
-    };
+    /// Returns a handle that is not open.
+    fn shut() -> Handle {
+        Handle(UnsafeCell::new(Raw {
+            full: false,
+            at: ptr::null_mut(),
+        }))
+    }
+
+    /// Frees what it holds. It is not open then.
+    pub(crate) fn free(&mut self) {
+        // SAFETY: the handle is not open, or is owned by this value, which is in no other call.
+        unsafe { cbs_free(self.0.get()) }
+    }
 }
 
 // SAFETY: the library proves of what a handle owns, a house or a client, that it may go to another thread.
@@ -27,8 +41,13 @@ unsafe impl Send for Handle {}
 
 impl Drop for Handle {
     fn drop(&mut self) {
-        // SAFETY: the handle is not open, or is owned by this value, which is in no other call.
-        unsafe { cbs_free(self) }
+        self.free();
+    }
+}
+
+impl fmt::Debug for Handle {
+    fn fmt(&self, f: &mut fmt::Formatter<'_>) -> fmt::Result {
+        f.write_str("Handle")
     }
 }
 
@@ -59,6 +78,7 @@ pub(crate) struct Turn {
     pub(crate) advanced: u64,
     pub(crate) ran: Unit,
     pub(crate) out_of_memory: bool,
+    pub(crate) over: bool,
 }
 
 /// `struct cbs_shown`.
@@ -84,33 +104,34 @@ extern "C" {
         n: usize,
         backlog: u64,
         ring: u64,
-        house: *mut Handle,
-        clients: *mut Handle,
+        house: *mut Raw,
+        clients: *mut Raw,
         clients_n: usize,
     ) -> u32;
-    fn cbs_free(handle: *mut Handle);
+    fn cbs_free(handle: *mut Raw);
     fn cbs_admit(servers: *const Server, n: usize) -> u32;
     fn cbs_greatest_budget(servers: *const Server, n: usize, period: u64, out: *mut u64) -> u32;
     fn cbs_status_text(status: u32, out: *mut u8, n: usize) -> usize;
-    fn cbs_turn(house: *mut Handle, out: *mut Turn) -> u32;
-    fn cbs_poll(house: *mut Handle, server: u16, kind: *mut u32) -> u32;
-    fn cbs_run(house: *mut Handle, out: *mut Unit) -> u32;
-    fn cbs_advance(house: *mut Handle, ticks: u64) -> u32;
-    fn cbs_charge(house: *mut Handle, server: u16, ticks: u64) -> u32;
-    fn cbs_charges(house: *mut Handle, server: u16, total: *mut u64, most: *mut u64) -> u32;
-    fn cbs_now(house: *mut Handle, out: *mut u64) -> u32;
-    fn cbs_idle_span(house: *mut Handle, out: *mut u64) -> u32;
-    fn cbs_view(house: *mut Handle, server: u16, out: *mut View) -> u32;
-    fn cbs_promised(house: *mut Handle, server: u16, low: *mut u64, high: *mut u64) -> u32;
-    fn cbs_send(client: *mut Handle, token: u64, units: u32, seq: *mut u64) -> u32;
-    fn cbs_end(client: *mut Handle) -> u32;
-    fn cbs_waiting(client: *mut Handle, out: *mut u64) -> u32;
+    fn cbs_turn(house: *mut Raw, out: *mut Turn) -> u32;
+    fn cbs_poll(house: *mut Raw, server: u16, kind: *mut u32) -> u32;
+    fn cbs_run(house: *mut Raw, out: *mut Unit) -> u32;
+    fn cbs_advance(house: *mut Raw, ticks: u64) -> u32;
+    fn cbs_charge(house: *mut Raw, server: u16, ticks: u64) -> u32;
+    fn cbs_charges(house: *mut Raw, server: u16, total: *mut u64, most: *mut u64) -> u32;
+    fn cbs_now(house: *mut Raw, out: *mut u64) -> u32;
+    fn cbs_idle_span(house: *mut Raw, out: *mut u64) -> u32;
+    fn cbs_view(house: *mut Raw, server: u16, out: *mut View) -> u32;
+    fn cbs_promised(house: *mut Raw, server: u16, low: *mut u64, high: *mut u64) -> u32;
+    fn cbs_send(client: *mut Raw, token: u64, units: u32, seq: *mut u64) -> u32;
+    fn cbs_end(client: *mut Raw) -> u32;
+    fn cbs_waiting(client: *mut Raw, out: *mut u64) -> u32;
 }
 
 /// A status that is not 0.
 #[derive(Clone, Copy, Debug, PartialEq, Eq)]
 pub(crate) struct Status(pub(crate) u32);
 
+#[inline]
 fn answered<T>(status: u32, value: T) -> Result<T, Status> {
     match status {
         0 => Ok(value),
@@ -118,8 +139,9 @@ fn answered<T>(status: u32, value: T) -> Result<T, Status> {
     }
 }
 
-// SAFETY of the calls below: each handle is not open or owned by the `Handle` that is borrowed, which is in no other call;
-// slices give a pointer that is not null, and their length; each out parameter is a local of its own.
+// SAFETY of the calls below: each handle is not open or owned by the `Handle` that is borrowed, which is in no other call, since
+// it is not `Sync` and no call runs code of the program; slices give a pointer that is not null, and their length; each out
+// parameter is a local of its own.
 
 /// Ends the program if the library that was linked is not of the version that this crate was written for.
 fn must_fit() {
@@ -137,16 +159,16 @@ pub(crate) fn open(
     ring: u64,
 ) -> Result<(Handle, Vec<Handle>), Status> {
     must_fit();
-    let mut house = Handle::SHUT;
-    let mut clients: Vec<Handle> = servers.iter().map(|_| Handle::SHUT).collect();
+    let house = Handle::shut();
+    let mut clients: Vec<Handle> = servers.iter().map(|_| Handle::shut()).collect();
     let status = unsafe {
         cbs_open(
             servers.as_ptr(),
             servers.len(),
             backlog,
             ring,
-            &mut house,
-            clients.as_mut_ptr(),
+            house.0.get(),
+            clients.as_mut_ptr().cast(), // a `Handle` is a `Raw` in memory
             clients.len(),
         )
     };
@@ -173,75 +195,88 @@ pub(crate) fn status_text(status: u32) -> String {
     String::from_utf8_lossy(&text[..length.min(text.len())]).into_owned()
 }
 
+#[inline]
 pub(crate) fn turn(house: &mut Handle) -> Result<Turn, Status> {
     let mut turn = Turn::default();
-    let status = unsafe { cbs_turn(house, &mut turn) };
+    let status = unsafe { cbs_turn(house.0.get(), &mut turn) };
     answered(status, turn)
 }
 
+#[inline]
 pub(crate) fn poll(house: &mut Handle, server: u16) -> Result<u32, Status> {
     let mut kind = 0;
-    let status = unsafe { cbs_poll(house, server, &mut kind) };
+    let status = unsafe { cbs_poll(house.0.get(), server, &mut kind) };
     answered(status, kind)
 }
 
+#[inline]
 pub(crate) fn run(house: &mut Handle) -> Result<Unit, Status> {
     let mut unit = Unit::default();
-    let status = unsafe { cbs_run(house, &mut unit) };
+    let status = unsafe { cbs_run(house.0.get(), &mut unit) };
     answered(status, unit)
 }
 
+#[inline]
 pub(crate) fn advance(house: &mut Handle, ticks: u64) -> Result<(), Status> {
-    answered(unsafe { cbs_advance(house, ticks) }, ())
+    answered(unsafe { cbs_advance(house.0.get(), ticks) }, ())
 }
 
+#[inline]
 pub(crate) fn charge(house: &mut Handle, server: u16, ticks: u64) -> Result<(), Status> {
-    answered(unsafe { cbs_charge(house, server, ticks) }, ())
+    answered(unsafe { cbs_charge(house.0.get(), server, ticks) }, ())
 }
 
-pub(crate) fn charges(house: &mut Handle, server: u16) -> Result<(u64, u64), Status> {
+#[inline]
+pub(crate) fn charges(house: &Handle, server: u16) -> Result<(u64, u64), Status> {
     let (mut total, mut most) = (0, 0);
-    let status = unsafe { cbs_charges(house, server, &mut total, &mut most) };
+    let status = unsafe { cbs_charges(house.0.get(), server, &mut total, &mut most) };
     answered(status, (total, most))
 }
 
-pub(crate) fn now(house: &mut Handle) -> Result<u64, Status> {
+#[inline]
+pub(crate) fn now(house: &Handle) -> Result<u64, Status> {
     let mut now = 0;
-    let status = unsafe { cbs_now(house, &mut now) };
+    let status = unsafe { cbs_now(house.0.get(), &mut now) };
     answered(status, now)
 }
 
-pub(crate) fn idle_span(house: &mut Handle) -> Result<u64, Status> {
+#[inline]
+pub(crate) fn idle_span(house: &Handle) -> Result<u64, Status> {
     let mut span = 0;
-    let status = unsafe { cbs_idle_span(house, &mut span) };
+    let status = unsafe { cbs_idle_span(house.0.get(), &mut span) };
     answered(status, span)
 }
 
-pub(crate) fn view(house: &mut Handle, server: u16) -> Result<View, Status> {
+#[inline]
+pub(crate) fn view(house: &Handle, server: u16) -> Result<View, Status> {
     let mut view = View::default();
-    let status = unsafe { cbs_view(house, server, &mut view) };
+    let status = unsafe { cbs_view(house.0.get(), server, &mut view) };
     answered(status, view)
 }
 
-pub(crate) fn promised(house: &mut Handle, server: u16) -> Result<(u64, u64), Status> {
+#[inline]
+pub(crate) fn promised(house: &Handle, server: u16) -> Result<(u64, u64), Status> {
     let (mut low, mut high) = (0, 0);
-    let status = unsafe { cbs_promised(house, server, &mut low, &mut high) };
+    let status = unsafe { cbs_promised(house.0.get(), server, &mut low, &mut high) };
     answered(status, (low, high))
 }
 
+#[inline]
 pub(crate) fn send(client: &mut Handle, token: u64, units: u32) -> Result<u64, Status> {
     let mut seq = 0;
-    let status = unsafe { cbs_send(client, token, units, &mut seq) };
+    let status = unsafe { cbs_send(client.0.get(), token, units, &mut seq) };
     answered(status, seq)
 }
 
+#[inline]
 pub(crate) fn end(client: &mut Handle) -> Result<(), Status> {
-    answered(unsafe { cbs_end(client) }, ())
+    answered(unsafe { cbs_end(client.0.get()) }, ())
 }
 
-pub(crate) fn waiting(client: &mut Handle) -> Result<u64, Status> {
+#[inline]
+pub(crate) fn waiting(client: &Handle) -> Result<u64, Status> {
     let mut waiting = 0;
-    let status = unsafe { cbs_waiting(client, &mut waiting) };
+    let status = unsafe { cbs_waiting(client.0.get(), &mut waiting) };
     answered(status, waiting)
 }
 

@@ -1,42 +1,46 @@
-use crate::error::{not_answered, HouseError};
+use crate::bell::{Bell, Stopper};
+use crate::error::{not_answered, HouseError, RunError};
 use crate::ffi::{self, Handle, Status};
-use std::fmt;
+use crate::tokens::Tokens;
+use crate::unit::{Token, Unfinished, Unit};
+use std::sync::Arc;
 
 /// The serving thread's side: it owns the executor, takes jobs from the rings, and tells which unit is next.
 ///
-/// It may go to another thread. Every call takes `&mut`, since a handle is in one call at a time. When it is dropped, each
-/// later send of its clients returns [`SendError::HouseGone`](crate::SendError::HouseGone), so that senders end, too.
-pub struct House {
+/// It may go to another thread. When it is dropped, the tokens of all jobs that are not finished are dropped, and each later
+/// send of its clients is refused by [`SendError::HouseGone`](crate::SendError::HouseGone), so that senders end, too.
+#[derive(Debug)]
+pub struct House<T = u64> {
     handle: Handle,
-    servers: u16,
+    servers: Vec<Served<T>>,
+    bell: Arc<Bell>,
+    stopper: Stopper,
 }
 
-/// A unit of a job, which the program does.
-#[derive(Clone, Copy, Debug, PartialEq, Eq)]
-pub struct Unit {
-    /// The server of the job.
-    pub server: u16,
-    /// The number of the job among those of its server, from 0, as [`Client::send`](crate::Client::send) returned it.
-    pub seq: u64,
-    /// What was sent with the job.
-    pub token: u64,
-    /// Whether it is the last unit of the job.
-    pub last: bool,
+/// The jobs of one server, as the crate sees them.
+#[derive(Debug)]
+struct Served<T> {
+    tokens: Arc<Tokens<T>>,
+    /// How many jobs had a unit.
+    begun: u64,
+    /// The token of the job that had a unit and is not finished. Jobs of a server run one after another.
+    current: Option<T>,
 }
 
 /// What is to be done now.
-#[derive(Clone, Copy, Debug, PartialEq, Eq)]
-pub enum Ran {
+#[derive(Debug)]
+pub enum Ran<'h, T = u64> {
     /// Nothing: nobody was ready. The clock stays.
     Idle,
     /// Nothing: the clock stands at its end, 10^12 ticks, with a job unfinished.
     ClockEnd,
     /// This unit. It took one tick; what it takes beyond that is for the program to [charge](House::charge).
-    Unit(Unit),
+    Unit(Unit<'h, T>),
 }
 
 /// What a poll did.
-#[derive(Clone, Copy, Debug, PartialEq, Eq)]
+#[derive(Clone, Copy, Debug, PartialEq, Eq, Hash)]
+#[must_use]
 pub enum Poll {
     /// No message was there, or the server is closed.
     Nothing,
@@ -51,20 +55,26 @@ pub enum Poll {
 }
 
 /// What a turn did.
-#[derive(Clone, Copy, Debug, PartialEq, Eq)]
-pub struct Turn {
+#[derive(Debug)]
+#[must_use]
+#[non_exhaustive]
+pub struct Turn<'h, T = u64> {
     /// How many messages it took, ends included: at most one of each server.
-    pub took: u64,
+    pub took: usize,
     /// By how many ticks it advanced, with nobody ready. The tick of a unit is not counted.
     pub advanced: u64,
     /// What is to be done now.
-    pub ran: Ran,
+    pub ran: Ran<'h, T>,
     /// Whether there was no memory for some job, which stays in its ring.
     pub out_of_memory: bool,
+    /// Whether all is over but the unit that is to be done now: every server is closed, and no job is held.
+    pub over: bool,
 }
 
 /// What a server shows.
 #[derive(Clone, Copy, Debug, PartialEq, Eq)]
+#[must_use]
+#[non_exhaustive]
 pub struct View {
     /// The ticks that it may still use by its deadline.
     pub budget: u64,
@@ -82,11 +92,22 @@ pub struct View {
 
 /// What a server was charged for units that took longer than a tick, in ticks.
 #[derive(Clone, Copy, Debug, PartialEq, Eq)]
+#[must_use]
+#[non_exhaustive]
 pub struct Charges {
     /// In all.
     pub total: u64,
     /// At most for one unit.
     pub most: u64,
+}
+
+/// Why a call that serves has ended.
+#[derive(Clone, Copy, Debug, PartialEq, Eq, Hash)]
+pub enum Ended {
+    /// Every client has ended or is gone, and every job is finished.
+    Closed,
+    /// It was [told to stop](House::stopper).
+    Stopped,
 }
 
 fn certain<T>(answer: Result<T, Status>) -> T {
@@ -97,27 +118,84 @@ fn wide(low: u64, high: u64) -> u128 {
     u128::from(high) << 64 | u128::from(low)
 }
 
-fn ran_of(unit: ffi::Unit) -> Ran {
-    match unit.kind {
-        0 => Ran::Idle,
-        1 => Ran::ClockEnd,
-        kind => Ran::Unit(Unit {
-            server: unit.server,
-            seq: unit.seq,
-            token: unit.token,
-            last: kind == 3,
-        }),
+/// Returns the number of a server as the library wants it. It has none that does not fit.
+fn number(server: usize) -> Result<u16, HouseError> {
+    u16::try_from(server).map_err(|_| HouseError::NoSuchServer)
+}
+
+impl<T> Served<T> {
+    /// Returns the token of the job of this number, which gets a unit.
+    fn token(&mut self, seq: u64, last: bool) -> Token<'_, T> {
+        if self.current.is_none() {
+            self.current = self.tokens.take(seq);
+            self.begun = seq + 1;
+        }
+        let current = &mut self.current;
+        let put = "the client puts a token down before it sends";
+        if last {
+            Token::Last(current.take().expect(put))
+        } else {
+            Token::Kept(current.as_mut().expect(put))
+        }
+    }
+
+    /// Takes the tokens of all jobs that are not finished, with their numbers, once the library's house is gone.
+    fn unfinished(&mut self) -> impl Iterator<Item = (u64, T)> + '_ {
+        let sent = self.tokens.leave();
+        self.tokens.room.ring();
+        let current = self.current.take().map(|token| (self.begun - 1, token));
+        let begun = std::mem::replace(&mut self.begun, sent);
+        let tokens = &self.tokens;
+        let others = (begun..sent).filter_map(move |seq| Some((seq, tokens.take(seq)?)));
+        current.into_iter().chain(others)
     }
 }
 
-impl House {
-    pub(crate) fn new(handle: Handle, servers: u16) -> House {
-        House { handle, servers }
+impl<T> House<T> {
+    pub(crate) fn new(handle: Handle, tokens: Vec<Arc<Tokens<T>>>, bell: Arc<Bell>) -> House<T> {
+        let served = |tokens| Served {
+            tokens,
+            begun: 0,
+            current: None,
+        };
+        House {
+            handle,
+            servers: tokens.into_iter().map(served).collect(),
+            stopper: Stopper::new(Arc::clone(&bell)),
+            bell,
+        }
     }
 
     /// Returns how many servers it has. They are numbered from 0.
-    pub fn servers(&self) -> u16 {
-        self.servers
+    #[must_use]
+    pub fn servers(&self) -> usize {
+        self.servers.len()
+    }
+
+    /// Returns what tells this house to stop, from any thread: [`run_until_closed`](House::run_until_closed) and
+    /// [`Realtime::run`](crate::realtime::Realtime::run) then return.
+    #[must_use]
+    pub fn stopper(&self) -> Stopper {
+        self.stopper.clone()
+    }
+
+    pub(crate) fn bell(&self) -> &Bell {
+        &self.bell
+    }
+
+    fn ran(&mut self, unit: ffi::Unit) -> Ran<'_, T> {
+        match unit.kind {
+            0 => Ran::Idle,
+            1 => Ran::ClockEnd,
+            kind => {
+                let server = usize::from(unit.server);
+                Ran::Unit(Unit {
+                    server,
+                    seq: unit.seq,
+                    token: self.servers[server].token(unit.seq, kind == 3),
+                })
+            }
+        }
     }
 
     /// Takes a turn: polls each server once, and then runs one unit. If nobody is ready and a job is not finished, it
@@ -131,19 +209,77 @@ impl House {
     /// plan.admit(1, 10, Mode::Throttled)?;
     /// let (mut house, mut clients) = plan.open(4, 4)?;
     /// clients[0].send(7, 2)?;
-    /// assert!(matches!(house.turn().ran, Ran::Unit(unit) if unit.token == 7 && !unit.last));
+    /// assert!(matches!(house.turn().ran, Ran::Unit(unit) if *unit.token == 7 && !unit.is_last()));
     /// assert_eq!(house.turn().advanced, 9); // its budget is used up until tick 10
-    /// assert!(matches!(house.turn().ran, Ran::Unit(unit) if unit.last));
+    /// assert!(matches!(house.turn().ran, Ran::Unit(unit) if unit.is_last()));
     /// # Ok::<(), Box<dyn std::error::Error>>(())
     /// ```
-    pub fn turn(&mut self) -> Turn {
+    pub fn turn(&mut self) -> Turn<'_, T> {
         let turn = certain(ffi::turn(&mut self.handle));
-        Turn {
-            took: turn.took,
-            advanced: turn.advanced,
-            ran: ran_of(turn.ran),
-            out_of_memory: turn.out_of_memory,
+        if turn.took > 0 {
+            Bell::ring_each(self.servers.iter().map(|served| &served.tokens.room));
         }
+        Turn {
+            took: turn.took as usize, // at most one of each server
+            advanced: turn.advanced,
+            ran: self.ran(turn.ran),
+            out_of_memory: turn.out_of_memory,
+            over: turn.over,
+        }
+    }
+
+    /// Takes turns until every client has ended or is gone and all jobs are finished, or until it is told to
+    /// [stop](House::stopper), and calls `work` with each unit. While there is nothing to do it sleeps, and a send wakes it.
+    ///
+    /// Nothing is measured, and the clock jumps where all who have a job wait for their deadline. In real time serve by
+    /// [`Realtime`](crate::realtime::Realtime).
+    ///
+    /// # Errors
+    ///
+    /// [`RunError`]. Nothing is lost: it may be called again.
+    ///
+    /// ```
+    /// use cbs::{Mode, Plan};
+    ///
+    /// let mut plan = Plan::new();
+    /// plan.admit(2, 5, Mode::Soft)?;
+    /// let (mut house, mut clients) = plan.open(4, 4)?;
+    /// clients[0].send(vec![3, 4], 2)?;
+    /// drop(clients);
+    /// let mut sum = 0;
+    /// house.run_until_closed(|mut unit| sum += unit.token.pop().unwrap_or(0))?;
+    /// assert_eq!(sum, 7);
+    /// # Ok::<(), Box<dyn std::error::Error>>(())
+    /// ```
+    pub fn run_until_closed(
+        &mut self,
+        mut work: impl FnMut(Unit<'_, T>),
+    ) -> Result<Ended, RunError> {
+        let bell = Arc::clone(&self.bell);
+        let mut listens = false;
+        while !self.stopper.is_told() {
+            let turn = self.turn();
+            let (over, out_of_memory) = (turn.over, turn.out_of_memory);
+            let idle = turn.took == 0 && turn.advanced == 0 && matches!(turn.ran, Ran::Idle);
+            match turn.ran {
+                Ran::Unit(unit) => work(unit),
+                Ran::ClockEnd => return Err(RunError::ClockEnd),
+                Ran::Idle => {}
+            }
+            if over {
+                return Ok(Ended::Closed);
+            }
+            if out_of_memory {
+                return Err(RunError::OutOfMemory);
+            }
+            match (idle, listens) {
+                (true, false) => bell.listen(), // and one more turn, lest a message came before
+                (true, true) => bell.wait(None),
+                (false, _) => bell.leave(),
+            }
+            listens = idle && !listens;
+        }
+        Ok(Ended::Stopped)
     }
 
     /// Takes the next message of one server, if there is one and room for it. What is not taken stays in its ring.
@@ -151,11 +287,14 @@ impl House {
     /// # Errors
     ///
     /// [`HouseError::NoSuchServer`].
-    pub fn poll(&mut self, server: u16) -> Result<Poll, HouseError> {
-        let kind = ffi::poll(&mut self.handle, server).map_err(HouseError::of)?;
+    pub fn poll(&mut self, server: usize) -> Result<Poll, HouseError> {
+        let kind = ffi::poll(&mut self.handle, number(server)?).map_err(HouseError::of)?;
         Ok(match kind {
             0 => Poll::Nothing,
-            1 => Poll::Took,
+            1 => {
+                self.servers[server].tokens.room.ring();
+                Poll::Took
+            }
             2 => Poll::Closed,
             3 => Poll::Full,
             _ => Poll::NoMemory,
@@ -164,8 +303,10 @@ impl House {
 
     /// Runs: of the servers that are ready, that with the earliest deadline gets a tick; of several, the one with the lowest
     /// number. The program does the unit after the call.
-    pub fn run(&mut self) -> Ran {
-        ran_of(certain(ffi::run(&mut self.handle)))
+    #[must_use]
+    pub fn run(&mut self) -> Ran<'_, T> {
+        let unit = certain(ffi::run(&mut self.handle));
+        self.ran(unit)
     }
 
     /// Lets ticks pass in which nothing runs. While somebody is ready that takes the time from the one who is, and no promise
@@ -183,6 +324,7 @@ impl House {
     ///
     /// Round up: of a unit that took `took` nanoseconds these are `(took - 1) / tick`. Charge after the unit and before the
     /// next poll. A job that comes between may renew the server, and the new budget pays then.
+    /// [`Realtime`](crate::realtime::Realtime) measures and charges by itself.
     ///
     /// # Errors
     ///
@@ -195,16 +337,17 @@ impl House {
     /// let mut plan = Plan::new();
     /// plan.admit(1, 10, Mode::Throttled)?;
     /// let (mut house, mut clients) = plan.open(4, 4)?;
-    /// clients[0].send(7, 2)?;
+    /// clients[0].send("wash", 2)?;
     /// if let Ran::Unit(unit) = house.turn().ran {
-    ///     house.charge(unit.server, 3)?; // it took four ticks
+    ///     let server = unit.server;
+    ///     house.charge(server, 3)?; // it took four ticks
     /// }
     /// assert_eq!(house.now(), 4);
     /// assert_eq!(house.view(0)?.deadline, 40); // three periods pay for the three ticks
     /// # Ok::<(), Box<dyn std::error::Error>>(())
     /// ```
-    pub fn charge(&mut self, server: u16, ticks: u64) -> Result<(), HouseError> {
-        ffi::charge(&mut self.handle, server, ticks).map_err(HouseError::of)
+    pub fn charge(&mut self, server: usize, ticks: u64) -> Result<(), HouseError> {
+        ffi::charge(&mut self.handle, number(server)?, ticks).map_err(HouseError::of)
     }
 
     /// Returns what a server was charged.
@@ -212,20 +355,23 @@ impl House {
     /// # Errors
     ///
     /// [`HouseError::NoSuchServer`].
-    pub fn charges(&mut self, server: u16) -> Result<Charges, HouseError> {
-        let (total, most) = ffi::charges(&mut self.handle, server).map_err(HouseError::of)?;
+    pub fn charges(&self, server: usize) -> Result<Charges, HouseError> {
+        let charges = ffi::charges(&self.handle, number(server)?);
+        let (total, most) = charges.map_err(HouseError::of)?;
         Ok(Charges { total, most })
     }
 
     /// Returns the clock, in ticks.
-    pub fn now(&mut self) -> u64 {
-        certain(ffi::now(&mut self.handle))
+    #[must_use]
+    pub fn now(&self) -> u64 {
+        certain(ffi::now(&self.handle))
     }
 
     /// Returns the greatest number of ticks before whose last nobody is ready, or `None` if somebody is ready now. If no job
     /// is there it reaches to the clock's end: do not advance by it then.
-    pub fn idle_span(&mut self) -> Option<u64> {
-        Some(certain(ffi::idle_span(&mut self.handle))).filter(|&span| span != u64::MAX)
+    #[must_use]
+    pub fn idle_span(&self) -> Option<u64> {
+        Some(certain(ffi::idle_span(&self.handle))).filter(|&span| span != u64::MAX)
     }
 
     /// Returns what a server shows.
@@ -233,8 +379,8 @@ impl House {
     /// # Errors
     ///
     /// [`HouseError::NoSuchServer`].
-    pub fn view(&mut self, server: u16) -> Result<View, HouseError> {
-        let view = ffi::view(&mut self.handle, server).map_err(HouseError::of)?;
+    pub fn view(&self, server: usize) -> Result<View, HouseError> {
+        let view = ffi::view(&self.handle, number(server)?).map_err(HouseError::of)?;
         Ok(View {
             budget: view.budget,
             deadline: wide(view.deadline_low, view.deadline_high),
@@ -251,16 +397,36 @@ impl House {
     /// # Errors
     ///
     /// [`HouseError::NoSuchServer`].
-    pub fn promised(&mut self, server: u16) -> Result<Option<u128>, HouseError> {
-        let (low, high) = ffi::promised(&mut self.handle, server).map_err(HouseError::of)?;
+    pub fn promised(&self, server: usize) -> Result<Option<u128>, HouseError> {
+        let promised = ffi::promised(&self.handle, number(server)?);
+        let (low, high) = promised.map_err(HouseError::of)?;
         Ok(Some(wide(low, high)).filter(|&tick| tick != u128::MAX))
+    }
+
+    /// Drops the house, and returns the tokens of all jobs that were not finished, those in the rings too: server by server,
+    /// in the order of their sends.
+    #[must_use]
+    pub fn into_unfinished(mut self) -> Vec<Unfinished<T>> {
+        self.leave()
+    }
+
+    fn leave(&mut self) -> Vec<Unfinished<T>> {
+        self.handle.free();
+        let mut all = Vec::new();
+        for (server, served) in self.servers.iter_mut().enumerate() {
+            let unfinished = served.unfinished();
+            all.extend(unfinished.map(|(seq, token)| Unfinished { server, seq, token }));
+        }
+        all
+    }
+
+    pub(crate) fn is_told_to_stop(&self) -> bool {
+        self.stopper.is_told()
     }
 }
 
-impl fmt::Debug for House {
-    fn fmt(&self, f: &mut fmt::Formatter<'_>) -> fmt::Result {
-        f.debug_struct("House")
-            .field("servers", &self.servers)
-            .finish_non_exhaustive()
+impl<T> Drop for House<T> {
+    fn drop(&mut self) {
+        drop(self.leave());
     }
 }

@@ -1,7 +1,10 @@
+use crate::bell::Bell;
 use crate::client::Client;
 use crate::error::{not_answered, OpenError, PlanError};
 use crate::ffi::{self, Server};
 use crate::house::House;
+use crate::tokens::Tokens;
+use std::sync::Arc;
 
 /// What a server does after its budget is used up.
 #[derive(Clone, Copy, Debug, PartialEq, Eq, Hash)]
@@ -20,6 +23,7 @@ pub struct Plan {
 
 impl Plan {
     /// A plan with no server.
+    #[must_use]
     pub fn new() -> Plan {
         Plan::default()
     }
@@ -39,8 +43,8 @@ impl Plan {
     /// assert_eq!(plan.greatest_budget(5), 3);
     /// assert_eq!(plan.admit(3, 5, Mode::Throttled), Ok(1));
     /// ```
-    pub fn admit(&mut self, budget: u64, period: u64, mode: Mode) -> Result<u16, PlanError> {
-        let number = self.servers.len() as u16; // at most 64 are in it
+    pub fn admit(&mut self, budget: u64, period: u64, mode: Mode) -> Result<usize, PlanError> {
+        let number = self.servers.len();
         let mode = match mode {
             Mode::Soft => 0,
             Mode::Throttled => 1,
@@ -60,31 +64,45 @@ impl Plan {
     }
 
     /// Returns the greatest budget with which a server of this period would be admitted now; 0 if none would.
+    #[must_use]
     pub fn greatest_budget(&self, period: u64) -> u64 {
         ffi::greatest_budget(&self.servers, period).unwrap_or_else(|status| not_answered(status))
     }
 
     /// Returns how many servers it has, at most 64.
+    #[must_use]
     pub fn len(&self) -> usize {
         self.servers.len()
     }
 
     /// Returns whether it has none.
+    #[must_use]
     pub fn is_empty(&self) -> bool {
         self.servers.is_empty()
     }
 
     /// Opens a house with these servers, and a client for each, in their order. A server takes at most `backlog` jobs that are
-    /// not finished (1 to 4096); a client's ring has places for `ring` messages (1 to 1024).
+    /// not finished (1 to 4096); a client's ring has places for `ring` messages (1 to 1024). The type of the tokens is that of
+    /// what is sent.
     ///
     /// # Errors
     ///
     /// [`OpenError`]: `backlog` or `ring` is out of range, or there is not the memory.
-    pub fn open(&self, backlog: u64, ring: u64) -> Result<(House, Vec<Client>), OpenError> {
-        let (house, clients) = ffi::open(&self.servers, backlog, ring).map_err(OpenError::of)?;
-        Ok((
-            House::new(house, self.servers.len() as u16),
-            clients.into_iter().map(Client::new).collect(),
-        ))
+    pub fn open<T>(
+        &self,
+        backlog: usize,
+        ring: usize,
+    ) -> Result<(House<T>, Vec<Client<T>>), OpenError> {
+        let opened = ffi::open(&self.servers, backlog as u64, ring as u64);
+        let (house, handles) = opened.map_err(OpenError::of)?;
+        let bell = Arc::new(Bell::default());
+        let mut tokens = Vec::with_capacity(handles.len());
+        let mut clients = Vec::with_capacity(handles.len());
+        for (server, handle) in handles.into_iter().enumerate() {
+            let shared = Arc::new(Tokens::new(backlog + ring));
+            tokens.push(Arc::clone(&shared));
+            clients.push(Client::new(handle, shared, Arc::clone(&bell), server));
+        }
+        Ok((House::new(house, tokens, bell), clients))
     }
 }

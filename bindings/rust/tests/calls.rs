@@ -1,15 +1,14 @@
 //! Every call of the crate, with everything that it can return but out of memory (`bindings/c/tests/memory.c` has that).
 
 use cbs::{
-    Charges, Client, House, HouseError, Mode, OpenError, Plan, PlanError, Poll, Ran, SendError,
-    Unit,
+    Client, House, HouseError, Mode, OpenError, Plan, PlanError, Poll, Ran, RunError, SendError,
 };
 use std::error::Error;
 
 fn plan(servers: &[(u64, u64, Mode)]) -> Plan {
     let mut plan = Plan::new();
     for (number, &(budget, period, mode)) in servers.iter().enumerate() {
-        assert_eq!(plan.admit(budget, period, mode), Ok(number as u16));
+        assert_eq!(plan.admit(budget, period, mode), Ok(number));
     }
     plan
 }
@@ -18,13 +17,25 @@ fn open(servers: &[(u64, u64, Mode)]) -> (House, Vec<Client>) {
     plan(servers).open(4, 2).unwrap()
 }
 
-fn unit(server: u16, seq: u64, token: u64, last: bool) -> Ran {
-    Ran::Unit(Unit {
-        server,
-        seq,
-        token,
-        last,
-    })
+/// What a run told: the server, the number, the token and whether it is the last unit.
+type Told = Option<(usize, u64, u64, bool)>;
+
+fn told(ran: Ran<'_>) -> Told {
+    match ran {
+        Ran::Unit(unit) => Some((unit.server, unit.seq, *unit.token, unit.is_last())),
+        Ran::Idle => None,
+        Ran::ClockEnd => panic!("the clock is at its end"),
+    }
+}
+
+fn unit(server: usize, seq: u64, token: u64, last: bool) -> Told {
+    Some((server, seq, token, last))
+}
+
+/// Sends a job, which is refused by this error, with its token.
+fn refuses(client: &mut Client, token: u64, units: u32, error: SendError) {
+    let refused = client.send(token, units).unwrap_err();
+    assert_eq!((refused.error, refused.token), (error, token));
 }
 
 #[test]
@@ -65,32 +76,35 @@ fn a_plan_refuses_too_many_and_too_fine() {
 #[test]
 fn a_house_refuses_its_sizes() {
     let plan = plan(&[(2, 5, Mode::Soft)]);
-    assert_eq!(plan.open(0, 4).unwrap_err(), OpenError::BadBacklog);
-    assert_eq!(plan.open(4097, 4).unwrap_err(), OpenError::BadBacklog);
-    assert_eq!(plan.open(4, 0).unwrap_err(), OpenError::BadRing);
-    assert_eq!(plan.open(4, 1025).unwrap_err(), OpenError::BadRing);
-    assert_eq!(plan.open(4096, 1024).unwrap().1.len(), 1);
-    assert_eq!(Plan::new().open(1, 1).unwrap().0.servers(), 0);
+    assert_eq!(plan.open::<u64>(0, 4).unwrap_err(), OpenError::BadBacklog);
+    assert_eq!(
+        plan.open::<u64>(4097, 4).unwrap_err(),
+        OpenError::BadBacklog
+    );
+    assert_eq!(plan.open::<u64>(4, 0).unwrap_err(), OpenError::BadRing);
+    assert_eq!(plan.open::<u64>(4, 1025).unwrap_err(), OpenError::BadRing);
+    assert_eq!(plan.open::<u64>(4096, 1024).unwrap().1.len(), 1);
+    assert_eq!(Plan::new().open::<u64>(1, 1).unwrap().0.servers(), 0);
 }
 
 #[test]
 fn a_soft_server_goes_on_at_a_later_deadline() {
     let (mut house, mut clients) = open(&[(2, 5, Mode::Soft)]);
-    assert_eq!(house.run(), Ran::Idle);
-    assert_eq!(clients[0].send(7, 3), Ok(0));
+    assert_eq!(told(house.run()), None);
+    assert_eq!(clients[0].send(7, 3).unwrap(), 0);
     assert_eq!(clients[0].waiting(), 1);
     assert_eq!(house.poll(0), Ok(Poll::Took));
     assert_eq!(clients[0].waiting(), 0);
     assert_eq!(house.promised(0), Ok(Some(10)));
     assert_eq!(house.idle_span(), None);
-    assert_eq!(house.run(), unit(0, 0, 7, false));
-    assert_eq!(house.run(), unit(0, 0, 7, false));
+    assert_eq!(told(house.run()), unit(0, 0, 7, false));
+    assert_eq!(told(house.run()), unit(0, 0, 7, false));
     let view = house.view(0).unwrap();
     assert_eq!(
         (view.budget, view.deadline, view.accepted, view.finished),
         (2, 10, 1, 0)
     );
-    assert_eq!(house.run(), unit(0, 0, 7, true));
+    assert_eq!(told(house.run()), unit(0, 0, 7, true));
     assert_eq!(house.promised(0), Ok(None));
     assert_eq!(house.now(), 3);
     assert!(!house.view(0).unwrap().throttled);
@@ -99,16 +113,17 @@ fn a_soft_server_goes_on_at_a_later_deadline() {
 #[test]
 fn a_throttled_server_waits_for_its_deadline() {
     let (mut house, mut clients) = open(&[(1, 10, Mode::Throttled)]);
-    assert_eq!(clients[0].send(7, 2), Ok(0));
+    assert_eq!(clients[0].send(7, 2).unwrap(), 0);
     let turn = house.turn();
     assert_eq!(
-        (turn.took, turn.advanced, turn.ran, turn.out_of_memory),
-        (1, 0, unit(0, 0, 7, false), false)
+        (turn.took, turn.advanced, turn.out_of_memory, turn.over),
+        (1, 0, false, false)
     );
+    assert_eq!(told(turn.ran), unit(0, 0, 7, false));
     assert!(house.view(0).unwrap().throttled);
     assert_eq!(house.idle_span(), Some(9));
     assert_eq!(house.advance(9), Ok(()));
-    assert_eq!(house.run(), unit(0, 0, 7, true));
+    assert_eq!(told(house.run()), unit(0, 0, 7, true));
     assert_eq!(house.now(), 11);
 }
 
@@ -118,7 +133,7 @@ fn a_throttled_server_pays_for_a_long_unit() {
     let (mut house, mut clients) = open(&[(1, 10, Mode::Throttled), (1, 10, Mode::Soft)]);
     clients[0].send(7, 2).unwrap();
     assert_eq!(house.charge(0, 1), Err(HouseError::NotRunning));
-    assert_eq!(house.turn().ran, unit(0, 0, 7, false));
+    assert_eq!(told(house.turn().ran), unit(0, 0, 7, false));
     assert_eq!(house.charge(2, 1), Err(HouseError::NoSuchServer));
     assert_eq!(house.charge(1, 1), Err(HouseError::NotRunning));
     assert_eq!(house.charge(0, u64::MAX), Err(HouseError::ClockEnd));
@@ -129,8 +144,10 @@ fn a_throttled_server_pays_for_a_long_unit() {
     assert_eq!(house.now(), 5);
     let view = house.view(0).unwrap();
     assert_eq!((view.budget, view.deadline, view.throttled), (0, 50, true));
-    assert_eq!(house.charges(0), Ok(Charges { total: 4, most: 4 }));
-    assert_eq!(house.charges(1), Ok(Charges { total: 0, most: 0 }));
+    let charges = house.charges(0).unwrap();
+    assert_eq!((charges.total, charges.most), (4, 4));
+    let charges = house.charges(1).unwrap();
+    assert_eq!((charges.total, charges.most), (0, 0));
     assert_eq!(house.charges(2), Err(HouseError::NoSuchServer));
     assert_eq!(house.advance(1), Ok(()));
     assert_eq!(house.charge(0, 1), Err(HouseError::NotRunning));
@@ -142,11 +159,11 @@ fn a_throttled_server_pays_for_a_long_unit() {
 fn a_soft_server_pays_by_later_deadlines() {
     let (mut house, mut clients) = open(&[(1, 10, Mode::Soft)]);
     clients[0].send(7, 2).unwrap();
-    assert_eq!(house.turn().ran, unit(0, 0, 7, false));
+    assert_eq!(told(house.turn().ran), unit(0, 0, 7, false));
     assert_eq!(house.charge(0, 3), Ok(()));
     let view = house.view(0).unwrap();
     assert_eq!((view.budget, view.deadline, view.throttled), (1, 50, false));
-    assert_eq!(house.turn().ran, unit(0, 0, 7, true));
+    assert_eq!(told(house.turn().ran), unit(0, 0, 7, true));
     assert_eq!(house.now(), 5);
 }
 
@@ -154,16 +171,16 @@ fn a_soft_server_pays_by_later_deadlines() {
 fn a_client_ends_once_behind_its_jobs() {
     let (mut house, mut clients) = open(&[(2, 5, Mode::Soft)]);
     let client = &mut clients[0];
-    assert_eq!(client.send(1, 0), Err(SendError::EmptyJob));
-    assert_eq!(client.send(1, 1_000_001), Err(SendError::TooLong));
-    assert_eq!(client.send(1, 1), Ok(0));
-    assert_eq!(client.send(2, 1), Ok(1));
-    assert_eq!(client.send(3, 1), Err(SendError::RingFull));
+    refuses(client, 1, 0, SendError::EmptyJob);
+    refuses(client, 1, 1_000_001, SendError::TooLong);
+    assert_eq!(client.send(1, 1).unwrap(), 0);
+    assert_eq!(client.send(2, 1).unwrap(), 1);
+    refuses(client, 3, 1, SendError::RingFull);
     assert_eq!(client.end(), Err(SendError::RingFull));
     assert_eq!(house.poll(0), Ok(Poll::Took));
     assert_eq!(client.end(), Ok(()));
     assert_eq!(client.end(), Err(SendError::Ended));
-    assert_eq!(client.send(3, 1), Err(SendError::Ended));
+    refuses(client, 3, 1, SendError::Ended);
     assert_eq!(house.poll(0), Ok(Poll::Took));
     assert_eq!(house.poll(0), Ok(Poll::Closed));
     assert_eq!(house.poll(0), Ok(Poll::Nothing));
@@ -181,9 +198,9 @@ fn a_full_backlog_leaves_messages_in_the_ring() {
     assert_eq!(house.poll(0), Ok(Poll::Took));
     assert_eq!(house.poll(0), Ok(Poll::Full));
     assert_eq!(clients[0].waiting(), 1);
-    assert_eq!(house.run(), unit(0, 0, 1, true));
+    assert_eq!(told(house.run()), unit(0, 0, 1, true));
     assert_eq!(house.poll(0), Ok(Poll::Took));
-    assert_eq!(house.run(), unit(0, 1, 2, true));
+    assert_eq!(told(house.run()), unit(0, 1, 2, true));
 }
 
 #[test]
@@ -193,7 +210,11 @@ fn the_clock_ends() {
     assert_eq!(house.advance(1_000_000_000_000), Ok(()));
     assert_eq!(house.advance(1), Err(HouseError::ClockEnd));
     clients[0].send(7, 1).unwrap();
-    assert_eq!(house.turn().ran, Ran::ClockEnd);
+    assert!(matches!(house.turn().ran, Ran::ClockEnd));
+    assert_eq!(
+        house.run_until_closed(|_unit| unreachable!()),
+        Err(RunError::ClockEnd)
+    );
 }
 
 #[test]
@@ -208,6 +229,51 @@ fn errors_have_the_texts_of_the_library() {
 }
 
 #[test]
+fn a_turn_tells_that_all_is_over() {
+    let (mut house, mut clients) = open(&[(2, 5, Mode::Soft), (1, 10, Mode::Throttled)]);
+    assert!(!house.turn().over);
+    assert_eq!((clients[0].server(), clients[1].server()), (0, 1));
+    clients[0].send(7, 3).unwrap();
+    drop(clients.pop());
+    assert!(!house.turn().over); // it closes server 1
+    drop(clients);
+    assert!(!house.turn().over); // it closes server 0, and a unit is left
+    let turn = house.turn();
+    assert!(turn.over);
+    assert_eq!(told(turn.ran), unit(0, 0, 7, true));
+    assert!(house.turn().over);
+}
+
+#[test]
+fn servers_are_numbered_in_16_bits() {
+    let (mut house, _clients) = open(&[(2, 5, Mode::Soft)]);
+    for server in [1, 65_535, 65_536, usize::MAX] {
+        assert_eq!(house.poll(server), Err(HouseError::NoSuchServer));
+        assert_eq!(house.charge(server, 1), Err(HouseError::NoSuchServer));
+        assert_eq!(house.charges(server), Err(HouseError::NoSuchServer));
+        assert_eq!(house.view(server), Err(HouseError::NoSuchServer));
+        assert_eq!(house.promised(server), Err(HouseError::NoSuchServer));
+    }
+}
+
+#[test]
+fn everything_has_a_debug_text() {
+    let (mut house, mut clients) = open(&[(2, 5, Mode::Soft)]);
+    clients[0].send(7, 2).unwrap();
+    for text in [
+        format!("{house:?}"),
+        format!("{:?}", house.turn()),
+        format!("{:?}", house.view(0)),
+        format!("{clients:?}"),
+        format!("{:?}", house.stopper()),
+        format!("{:?}", clients[0].send(7, 0)),
+        format!("{:?}", cbs::Job::new(|unit| unit)),
+    ] {
+        assert!(!text.is_empty());
+    }
+}
+
+#[test]
 fn both_sides_may_go_to_other_threads() {
     fn is_send<T: Send>() {}
     is_send::<House>();
@@ -216,7 +282,8 @@ fn both_sides_may_go_to_other_threads() {
     let mut client = clients.remove(0);
     let sender = std::thread::spawn(move || {
         for token in 0..1000 {
-            while client.send(token, 1) == Err(SendError::RingFull) {
+            while let Err(refused) = client.send(token, 1) {
+                assert_eq!(refused.error, SendError::RingFull);
                 std::thread::yield_now();
             }
         }
@@ -224,8 +291,8 @@ fn both_sides_may_go_to_other_threads() {
     let server = std::thread::spawn(move || {
         let mut next = 0;
         while next < 1000 {
-            match house.turn().ran {
-                Ran::Idle => std::thread::yield_now(),
+            match told(house.turn().ran) {
+                None => std::thread::yield_now(),
                 ran => {
                     assert_eq!(ran, unit(0, next, next, true));
                     next += 1;

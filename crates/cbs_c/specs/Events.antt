@@ -25,7 +25,13 @@ tick_event t = ran_event t.ran t.token
 
 -- the event of a turn
 abbrev pub turn_event : Turned → TurnEvent
-turn_event t = record { took = t.turn.took; advanced = t.turn.advanced; ran = ran_event t.turn.ran t.token; out_of_memory = t.turn.out_of_memory }
+turn_event t = record {
+  took = t.turn.took;
+  advanced = t.turn.advanced;
+  ran = ran_event t.turn.ran t.token;
+  out_of_memory = t.turn.out_of_memory;
+  over = t.over;
+}
 
 -- what C sees of a server
 abbrev pub view_shown : ServerView → View

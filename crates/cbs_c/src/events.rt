@@ -33,6 +33,8 @@ pub struct TurnEvent {
     pub ran: Event,
     /// Whether there was no memory for some message.
     pub out_of_memory: bool,
+    /// Whether every server is closed and every job is finished.
+    pub over: bool,
 }
 
 /// What a server shows: `struct cbs_shown`.
@@ -77,7 +79,7 @@ pub(crate) fn event_of(ticked: Ticked) -> Event
 pub(crate) fn turn_event_of(turned: Turned) -> TurnEvent
     ensures { result ≡ turn_event turned }
 {
-    let Turned { turn, token } = turned;
+    let Turned { turn, token, over } = turned;
     TurnEvent {
         took: turn.took,
         advanced: turn.advanced,
@@ -86,6 +88,7 @@ pub(crate) fn turn_event_of(turned: Turned) -> TurnEvent
             token,
         }),
         out_of_memory: turn.out_of_memory,
+        over,
     }
 }
 

@@ -84,6 +84,7 @@ fn turns(rt: &impl Abort, house: &mut Handle, took: u64, advanced: u64, wanted: 
         advanced: 9,
         ran: NO_EVENT,
         out_of_memory: true,
+        over: true,
     };
     is(rt, cbs_turn(house, &mut out), 0);
     let turn = TurnEvent {
@@ -91,6 +92,7 @@ fn turns(rt: &impl Abort, house: &mut Handle, took: u64, advanced: u64, wanted: 
         advanced,
         ran: wanted,
         out_of_memory: false,
+        over: false,
     };
     same(rt, "turn", out, turn);
 }

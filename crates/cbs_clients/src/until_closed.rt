@@ -19,7 +19,7 @@ impl<W: Work, A: Allocator> House<W, A> {
     ghost use Rattle.cbs_core.specs.Held.{HoldsNoJob};
     ghost use Rattle.cbs_clients.specs.Houses.{core_of, rings_of, IsHouseOnTime, AllFinished, ServesOn, ServesBy};
     ghost use Rattle.cbs_host.specs.Meters.{NothingBeyond, NeverCharges};
-    ghost use Rattle.cbs_clients.specs.UntilClosed.{open_servers, IsOver, RunEnds, RunsTelling, IsWaiting, RunStops, TakesTurnOfRun};
+    ghost use Rattle.cbs_clients.specs.UntilClosed.{open_servers, AllClosed, IsOver, RunEnds, RunsTelling, IsWaiting, RunStops, TakesTurnOfRun};
     ghost use Rattle.cbs_clients.specs.Sinks.{Tells};
 
     /// Takes turns ([`turn`](House::turn)) until every server is closed and every job is finished, and
@@ -72,7 +72,7 @@ impl<W: Work, A: Allocator> House<W, A> {
         let mut unclosed = self.open_servers();
         let mut idle = 0;
         let mut pause = Pause::new();
-        'turns: while !self.is_over(unclosed) {
+        'turns: while !self.is_over_with(unclosed) {
             if idle == most {
                 return Err(HouseError::Stalled);
             }
@@ -87,8 +87,27 @@ impl<W: Work, A: Allocator> House<W, A> {
         Ok(())
     }
 
+    /// Returns whether every server is closed and every job is finished: nothing more will be taken, and nothing is to be done.
+    pub fn is_over(&self) -> bool
+        ensures { IsTrue result ↔ IsOver (core_of self.now) }
+    {
+        self.are_all_closed() && !self.is_busy()
+    }
+
+    /// Returns whether every server is closed. It looks no further than the first that is open.
+    fn are_all_closed(&self) -> bool
+        ensures { IsTrue result ↔ AllClosed (core_of self.now) }
+    {
+        for server in 0..self.servers() {
+            if !self.is_closed(server) {
+                return false;
+            }
+        }
+        true
+    }
+
     /// Returns whether every server is closed and every job is finished, if so many servers are open.
-    fn is_over(&self, unclosed: u16) -> bool
+    fn is_over_with(&self, unclosed: u16) -> bool
         requires { unclosed ≡ open_servers (core_of self.now) }
         ensures over { IsTrue result ↔ IsOver (core_of self.now) }
         ensures waits { result ≡ false → HoldsNoJob (core_of self.now) → IsWaiting self.now }

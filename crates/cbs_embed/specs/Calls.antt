@@ -1,5 +1,5 @@
 -- What a call on a handle does to what the handle holds: what the call of the house or of the client does, or a refusal.
-use Rattle.std.specs.Prelude.{ℕ, slice_get, ◌≡◌, ◌+◌, ◌<◌, ◌≤◌, Option, Some, None, Result, Ok, Err, length, map}
+use Rattle.std.specs.Prelude.{ℕ, slice_get, ◌≡◌, ◌↔◌, IsTrue, ◌+◌, ◌<◌, ◌≤◌, Option, Some, None, Result, Ok, Err, length, map}
 use Rattle.std.specs.Global.{Global}
 use Rattle.cbs_steps.specs.declared.charges.Charges as charges
 use Rattle.cbs_steps.specs.declared.view.ServerView.{ServerView}
@@ -9,11 +9,11 @@ use Rattle.cbs_clients.specs.Calls.{PollOf, RunOf, TurnOf, AdvanceOf, ChargeOf, 
 use Rattle.cbs_clients.specs.Clients.{free, slots_of}
 use Rattle.cbs_clients.specs.Houses.{core_of, IsHouseOnTime, received, HandsOutResults}
 use Rattle.cbs_clients.specs.Messages.{jobs_among}
+use Rattle.cbs_clients.specs.UntilClosed.{IsOver}
 use Rattle.cbs_clients.specs.declared.client.Client as client
 use Rattle.cbs_clients.specs.declared.error.HouseError.TheVariants.{NoSuchServer}
 use Rattle.cbs_clients.specs.declared.house.House as house
 use Rattle.cbs_host.specs.declared.poll.Poll.{Poll}
-use Rattle.cbs_clients.specs.declared.turn.Turn.{Turn}
 use Rattle.cbs_job.specs.Tasks.{task_refusal}
 use Rattle.cbs_embed.specs.Jobs.{counting}
 use Rattle.cbs_embed.specs.contracts.job.UnitJobWork.TheImpl.{ghosts}
@@ -89,16 +89,18 @@ abbrev pub Runs : TheHouse → Result Ticked Refusal → TheHouse → Type 0
 Runs old (Ok ticked) new = RunsAndDrops old ticked.ran ticked.token new
 Runs old (Err e) new = ⊥
 
--- the house took a turn, which told this, with this token, and the result of a finished job was dropped once it was told
-pub record TurnsAndDrops (old : TheHouse) (told : Turn) (token : ℕ) (new : TheHouse) : Type 0 where
+-- The house took a turn, which told this: what ran, with this token, and whether all is over afterwards. The result of a finished
+-- job was dropped once it was told.
+pub record TurnsAndDrops (old : TheHouse) (told : Turned) (new : TheHouse) : Type 0 where
   pub between : TheHouse
-  pub turn : TurnOf counting old told between
-  pub named : NamesToken told.ran token between
-  pub drops : Drops told.ran between new
+  pub turn : TurnOf counting old told.turn between
+  pub named : NamesToken told.turn.ran told.token between
+  pub drops : Drops told.turn.ran between new
+  pub over : IsTrue told.over ↔ IsOver (core_of new)
   pub on_time : IsHouseOnTime old → IsHouseOnTime new
 
 abbrev pub Turns : TheHouse → Result Turned Refusal → TheHouse → Type 0
-Turns old (Ok turned) new = TurnsAndDrops old turned.turn turned.token new
+Turns old (Ok turned) new = TurnsAndDrops old turned new
 Turns old (Err e) new = ⊥
 
 -- the house has a server s

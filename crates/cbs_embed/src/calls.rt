@@ -64,13 +64,15 @@ pub fn run(handle: &mut Handle) -> Result<Ticked, Refusal>
     run_house(handle.house_mut()?)
 }
 
-/// What a turn did, and the token of the job that got a unit.
+/// What a turn did, the token of the job that got a unit, and whether all is over.
 #[derive(Clone, Copy, Debug, PartialEq, Eq)]
 pub struct Turned {
     /// What the turn did.
     pub turn: Turn,
     /// The token of the job that got a unit, or 0.
     pub token: u64,
+    /// Whether every server is closed and every job is finished, after the turn.
+    pub over: bool,
 }
 
 fn turn_house(house: &mut House<UnitJob>) -> Result<Turned, Refusal>
@@ -79,10 +81,11 @@ fn turn_house(house: &mut House<UnitJob>) -> Result<Turned, Refusal>
     let turn = house.turn();
     let token = token_of(house, turn.ran);
     forget(house, turn.ran);
-    Ok(Turned { turn, token })
+    let over = house.is_over();
+    Ok(Turned { turn, token, over })
 }
 
-/// Takes a turn, as [`House::turn`]. Returns what it did, and the token of the unit's job.
+/// Takes a turn, as [`House::turn`]. Returns what it did, the token of the unit's job, and whether all is over.
 pub fn turn(handle: &mut Handle) -> Result<Turned, Refusal>
     ensures { OnHeld (InHouse Turns) (held_by handle.old) result (held_by handle.new) }
 {

@@ -70,15 +70,17 @@ fn a_turn_lies_as_in_c(rt: HostRuntime) {
         advanced: 6,
         ran: EVENT,
         out_of_memory: false,
+        over: true,
     };
     let text =
-        "TurnEvent { took: 5, advanced: 6, ran: Event { kind: 1, server: 2, seq: 3, token: 4 }, out_of_memory: false }";
+        "TurnEvent { took: 5, advanced: 6, ran: Event { kind: 1, server: 2, seq: 3, token: 4 }, out_of_memory: false, over: true }";
     shows(&rt, alloc, &turn, text);
-    // At 0, 8, 16 and 40.
+    // At 0, 8, 16, 40 and 41.
     same(&rt, "took", size_of_val(&turn.took), 8);
     same(&rt, "advanced", size_of_val(&turn.advanced), 8);
     same(&rt, "ran", size_of_val(&turn.ran), 24);
     same(&rt, "out_of_memory", size_of_val(&turn.out_of_memory), 1);
+    same(&rt, "over", size_of_val(&turn.over), 1);
     same(
         &rt,
         "turn",

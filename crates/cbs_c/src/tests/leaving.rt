@@ -1,10 +1,10 @@
 //! Clients and houses that are freed, and servers that are not there.
 
-use super::{NO_VIEW, is, opened, polls, same, sends, waits};
-use crate::View;
+use super::{NO_EVENT, NO_VIEW, is, opened, polls, same, sends, waits};
 use crate::client::{cbs_end, cbs_send};
 use crate::handles::cbs_free;
-use crate::house::{cbs_poll, cbs_promised, cbs_view};
+use crate::house::{cbs_poll, cbs_promised, cbs_turn, cbs_view};
+use crate::{TurnEvent, View};
 use cbs_embed::Handle;
 use std::process::Abort;
 
@@ -37,6 +37,49 @@ fn a_freed_client_closes_its_server(rt: HostRuntime) {
     cbs_free(alloc, &mut throttled);
     polls(&rt, &mut house, 1, 2);
     polls(&rt, &mut house, 1, 0);
+    cbs_free(alloc, &mut house);
+}
+
+/// Takes a turn, and is told whether all is over.
+fn is_over(rt: &impl Abort, house: &mut Handle, wanted: bool) {
+    let mut out = TurnEvent {
+        took: 9,
+        advanced: 9,
+        ran: NO_EVENT,
+        out_of_memory: true,
+        over: !wanted,
+    };
+    is(rt, cbs_turn(house, &mut out), 0);
+    same(rt, "over", out.over, wanted);
+}
+
+#[test]
+fn a_turn_tells_that_all_is_over(rt: HostRuntime) {
+    let alloc = rt.alloc();
+    let (mut house, mut soft, mut throttled) = opened(&rt, alloc, 4);
+    is_over(&rt, &mut house, false);
+    sends(&rt, &mut soft, 7, 3, 0);
+    cbs_free(alloc, &mut throttled);
+    // Server 1 is closed, then server 0, whose last unit comes with the third turn.
+    is_over(&rt, &mut house, false);
+    cbs_free(alloc, &mut soft);
+    is_over(&rt, &mut house, false);
+    is_over(&rt, &mut house, true);
+    is_over(&rt, &mut house, true);
+    cbs_free(alloc, &mut house);
+}
+
+#[test]
+fn a_turn_waits_for_a_client_that_is_idle(rt: HostRuntime) {
+    let alloc = rt.alloc();
+    let (mut house, mut soft, mut throttled) = opened(&rt, alloc, 4);
+    sends(&rt, &mut soft, 7, 1, 0);
+    cbs_free(alloc, &mut soft);
+    is_over(&rt, &mut house, false);
+    is_over(&rt, &mut house, false);
+    is_over(&rt, &mut house, false);
+    cbs_free(alloc, &mut throttled);
+    is_over(&rt, &mut house, true);
     cbs_free(alloc, &mut house);
 }
 

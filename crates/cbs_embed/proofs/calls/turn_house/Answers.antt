@@ -9,5 +9,6 @@ returns c =
       turn = t.ensures;
       named = c.token_of-token.ensures;
       drops = c.forget.ensures;
+      over = c.is_over-over.ensures;
       on_time = λ on. drops_on_time t.result.ran t.new.self c.forget.new.house c.forget.ensures (t.ensures.on_time on);
     }

@@ -58,7 +58,7 @@ returns-in_err-move_on-clause-ends g c =
     let t = c.in_err-move_on.ensures.turn in
     let due : IsDue c.max-most.result l.idle (core_of l.self) =
     record {
-      unfinished = λ over. false≢true (sym c.turns-test.true ∙ c.is_over.ensures.over.1 over);
+      unfinished = λ over. false≢true (sym c.turns-test.true ∙ c.is_over_with.ensures.over.1 over);
       patient = omega (arith, l.invariant.within, c.if-idle-most.false);
     } in
     let why : IfErr c.from_residual.result (λ error. turn_stop t.turn ≡ Some error) = search rules in
@@ -82,7 +82,7 @@ turns-preserved-then-branch g c =
     let t = c.in_ok-move_on.ensures.turn in
     let due : IsDue c.max-most.result l.idle (core_of l.self) =
     record {
-      unfinished = λ over. false≢true (sym c.turns-test.true ∙ c.is_over.ensures.over.1 over);
+      unfinished = λ over. false≢true (sym c.turns-test.true ∙ c.is_over_with.ensures.over.1 over);
       patient = omega (arith, l.invariant.within, c.if-idle-most.false);
     } in
     let moved : moves_on (core_of l.self) (core_of m.new.self) ≡ true = sym t.is.1 ∙ c.if-branch.true in
@@ -103,7 +103,7 @@ turns-preserved g c =
     let t = c.in_ok-move_on.ensures.turn in
     let due : IsDue c.max-most.result l.idle (core_of l.self) =
     record {
-      unfinished = λ over. false≢true (sym c.turns-test.true ∙ c.is_over.ensures.over.1 over);
+      unfinished = λ over. false≢true (sym c.turns-test.true ∙ c.is_over_with.ensures.over.1 over);
       patient = omega (arith, l.invariant.within, c.if-idle-most.false);
     } in
     let still : moves_on (core_of l.self) (core_of m.new.self) ≡ false = sym t.is.1 ∙ c.if-branch.false in

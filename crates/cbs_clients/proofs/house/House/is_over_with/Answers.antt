@@ -3,7 +3,7 @@ use Rattle.std.proofs.lemmas.Bool.Decides.{nat_tests}
 use Rattle.cbs_clients.specs.Houses.{core_of}
 use Rattle.cbs_clients.specs.UntilClosed.{open_servers}
 use Rattle.cbs_clients.proofs.OpenServers.{some_open, none_counted}
-use Rattle.cbs_clients.proofs.house.House.is_over.Goals as goal
+use Rattle.cbs_clients.proofs.house.House.is_over_with.Goals as goal
 
 pub returns-else-unclosed-eq0-clause-over : goal.returns-else-unclosed-eq0-clause-over
 returns-else-unclosed-eq0-clause-over g c =

@@ -1,0 +1,257 @@
+//! Jobs that are closures.
+
+use crate::error::RunError;
+use crate::house::{Ended, House};
+use crate::unit::Unit;
+use std::any::Any;
+use std::error::Error;
+use std::fmt;
+use std::future::Future;
+use std::panic::{catch_unwind, AssertUnwindSafe};
+use std::pin::Pin;
+use std::sync::{Arc, Condvar, Mutex, MutexGuard, PoisonError};
+use std::task::{Context, Poll, Waker};
+
+/// A job that is a closure: it is called once for each unit, with the number of the unit, from 0. What its last call returns is the
+/// job's result, which its [`JobHandle`] gives. It is a token as any other.
+///
+/// ```
+/// use cbs::{Job, Mode, Plan};
+///
+/// let mut plan = Plan::new();
+/// plan.admit(2, 5, Mode::Soft)?;
+/// let (mut house, mut clients) = plan.open(4, 4)?;
+/// let mut sum = 0;
+/// let (job, result) = Job::new(move |unit| {
+///     sum += unit;
+///     sum
+/// });
+/// clients[0].send(job, 4)?;
+/// drop(clients);
+/// house.run_jobs()?;
+/// assert_eq!(result.join()?, 0 + 1 + 2 + 3);
+/// # Ok::<(), Box<dyn std::error::Error>>(())
+/// ```
+#[must_use]
+pub struct Job(Box<dyn Step + Send>);
+
+/// What is done at a unit.
+trait Step {
+    fn step(&mut self, last: bool);
+}
+
+impl Job {
+    /// Makes a job of a closure, and the handle of its result.
+    ///
+    /// A closure that panics ends its job, and neither the house nor the other jobs: what is left of its units does nothing.
+    pub fn new<R, F>(work: F) -> (Job, JobHandle<R>)
+    where
+        R: Send + 'static,
+        F: FnMut(u32) -> R + Send + 'static,
+    {
+        let shared = Arc::new(Shared {
+            state: Mutex::new(State::Waits(None)),
+            changed: Condvar::new(),
+        });
+        let handle = JobHandle(Arc::clone(&shared));
+        let closure = Closure {
+            work: Some(work),
+            unit: 0,
+            shared,
+        };
+        (Job(Box::new(closure)), handle)
+    }
+}
+
+impl fmt::Debug for Job {
+    fn fmt(&self, f: &mut fmt::Formatter<'_>) -> fmt::Result {
+        f.debug_struct("Job").finish_non_exhaustive()
+    }
+}
+
+impl Unit<'_, Job> {
+    /// Does the unit: calls the job's closure.
+    pub fn run(mut self) {
+        let last = self.is_last();
+        self.token.0.step(last);
+    }
+}
+
+impl House<Job> {
+    /// Runs the jobs, as [`run_until_closed`](House::run_until_closed) with [`Unit::run`].
+    ///
+    /// # Errors
+    ///
+    /// [`RunError`].
+    pub fn run_jobs(&mut self) -> Result<Ended, RunError> {
+        self.run_until_closed(|unit| unit.run())
+    }
+}
+
+/// What a job and its handle share.
+struct Shared<R> {
+    state: Mutex<State<R>>,
+    changed: Condvar,
+}
+
+enum State<R> {
+    /// The job is not finished. Perhaps a future waits for it.
+    Waits(Option<Waker>),
+    Ended(Result<R, JobError>),
+    /// The result was taken.
+    Taken,
+}
+
+impl<R> Shared<R> {
+    fn state(&self) -> MutexGuard<'_, State<R>> {
+        self.state.lock().unwrap_or_else(PoisonError::into_inner)
+    }
+
+    /// Ends the job, unless it has ended.
+    fn end(&self, result: Result<R, JobError>) {
+        let mut state = self.state();
+        if let State::Waits(waker) = &mut *state {
+            let waker = waker.take();
+            *state = State::Ended(result);
+            drop(state);
+            self.changed.notify_all();
+            if let Some(waker) = waker {
+                waker.wake();
+            }
+        }
+    }
+}
+
+struct Closure<R, F> {
+    /// None once it panicked.
+    work: Option<F>,
+    unit: u32,
+    shared: Arc<Shared<R>>,
+}
+
+impl<R, F: FnMut(u32) -> R> Step for Closure<R, F> {
+    fn step(&mut self, last: bool) {
+        let unit = self.unit;
+        self.unit += 1;
+        if let Some(work) = &mut self.work {
+            match catch_unwind(AssertUnwindSafe(|| work(unit))) {
+                Ok(result) if last => self.shared.end(Ok(result)),
+                Ok(_) => {}
+                Err(payload) => {
+                    self.work = None;
+                    self.shared.end(Err(JobError::Panicked(Payload(payload))));
+                }
+            }
+        }
+    }
+}
+
+impl<R, F> Drop for Closure<R, F> {
+    fn drop(&mut self) {
+        self.shared.end(Err(JobError::Lost));
+    }
+}
+
+/// The handle of a job's result. It may be waited for by [`join`](JobHandle::join), or as a future by any executor.
+///
+/// A handle that is dropped does not end its job.
+#[must_use]
+pub struct JobHandle<R>(Arc<Shared<R>>);
+
+impl<R> JobHandle<R> {
+    /// Returns whether the job has ended.
+    #[must_use]
+    pub fn is_finished(&self) -> bool {
+        !matches!(*self.0.state(), State::Waits(_))
+    }
+
+    /// Waits until the job has ended, and returns its result.
+    ///
+    /// # Errors
+    ///
+    /// [`JobError`].
+    pub fn join(self) -> Result<R, JobError> {
+        let mut state = self.0.state();
+        loop {
+            match std::mem::replace(&mut *state, State::Taken) {
+                State::Ended(result) => return result,
+                State::Taken => panic!("the result was taken by a poll"),
+                waits => *state = waits,
+            }
+            let waited = self.0.changed.wait(state);
+            state = waited.unwrap_or_else(PoisonError::into_inner);
+        }
+    }
+}
+
+impl<R> Future for JobHandle<R> {
+    type Output = Result<R, JobError>;
+
+    fn poll(self: Pin<&mut Self>, context: &mut Context<'_>) -> Poll<Self::Output> {
+        let mut state = self.0.state();
+        match std::mem::replace(&mut *state, State::Taken) {
+            State::Ended(result) => Poll::Ready(result),
+            State::Taken => panic!("the result was taken by a poll before"),
+            State::Waits(_) => {
+                *state = State::Waits(Some(context.waker().clone()));
+                Poll::Pending
+            }
+        }
+    }
+}
+
+impl<R> fmt::Debug for JobHandle<R> {
+    fn fmt(&self, f: &mut fmt::Formatter<'_>) -> fmt::Result {
+        f.debug_struct("JobHandle")
+            .field("finished", &self.is_finished())
+            .finish_non_exhaustive()
+    }
+}
+
+/// Why a job has no result.
+#[derive(Debug)]
+#[non_exhaustive]
+pub enum JobError {
+    /// The job was dropped before its last unit: it was not sent, or its house was dropped.
+    Lost,
+    /// Its closure panicked, with this.
+    Panicked(Payload),
+}
+
+impl fmt::Display for JobError {
+    fn fmt(&self, f: &mut fmt::Formatter<'_>) -> fmt::Result {
+        match self {
+            JobError::Lost => f.write_str("the job was dropped before its last unit"),
+            JobError::Panicked(payload) => match payload.text() {
+                Some(text) => write!(f, "the job panicked: {text}"),
+                None => f.write_str("the job panicked"),
+            },
+        }
+    }
+}
+
+impl Error for JobError {}
+
+/// What a closure panicked with.
+pub struct Payload(Box<dyn Any + Send>);
+
+impl Payload {
+    /// Returns the text of the panic, if it has one.
+    #[must_use]
+    pub fn text(&self) -> Option<&str> {
+        let literal = self.0.downcast_ref::<&str>().copied();
+        literal.or_else(|| self.0.downcast_ref::<String>().map(String::as_str))
+    }
+
+    /// Returns the payload itself, for [`std::panic::resume_unwind`].
+    #[must_use]
+    pub fn into_inner(self) -> Box<dyn Any + Send> {
+        self.0
+    }
+}
+
+impl fmt::Debug for Payload {
+    fn fmt(&self, f: &mut fmt::Formatter<'_>) -> fmt::Result {
+        self.text().fmt(f)
+    }
+}
