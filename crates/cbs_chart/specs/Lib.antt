@@ -1,4 +1,5 @@
 pub mod Charts
+pub mod Counts
 pub mod Courses
 pub mod Deadlines
 pub mod Jobs

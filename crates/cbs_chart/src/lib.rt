@@ -2,10 +2,12 @@
 #![tactic(auto)]
 
 mod chart;
+mod counts;
 mod course;
 mod deadlines;
 mod jobs;
 mod marks;
+mod picture;
 mod row;
 mod stretch;
 mod stretches;
@@ -14,8 +16,10 @@ mod waits;
 mod window;
 
 pub use chart::{Chart, ServerChart};
+pub use counts::Counts;
 pub use course::Corner;
 pub use jobs::ChartJob;
+pub use picture::{Drawn, Picture};
 pub use stretch::{Kind, Stretch};
 pub use view::ChartView;
 pub use window::{MOST_TICKS, Window, WindowError};
