@@ -1,5 +1,5 @@
 -- What a server does, drawn by counts of ticks in cells.
-use Rattle.std.specs.Prelude.{ℕ, ◌+◌, ◌-◌, ◌*◌, ◌/◌, min, max, eqb, leb, ltb, if◌then◌else◌, List, [], ◌∷◌, ◌++◌, codes, decimal, flat_map, get_or, length, map}
+use Rattle.std.specs.Prelude.{ℕ, ◌+◌, ◌-◌, ◌*◌, ◌/◌, min, max, eqb, if◌then◌else◌, List, [], ◌++◌, codes, decimal, flat_map, get_or, length, map}
 use Rattle.std.specs.List.{range_with_len}
 use Rattle.cbs_chart.specs.Counts.{counts_of}
 use Rattle.cbs_chart.specs.declared.counts.Counts.{Counts}

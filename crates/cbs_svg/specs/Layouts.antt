@@ -1,5 +1,5 @@
 -- Where the parts of a row stand, from its top.
-use Rattle.std.specs.Prelude.{ℕ, ◌≤◌, Bool, true, false, ltb, leb, ◌&&◌, eqb, not, if◌then◌else◌}
+use Rattle.std.specs.Prelude.{ℕ, ◌≤◌, Bool, true, false, ltb, leb, if◌then◌else◌}
 use Rattle.cbs_svg.specs.Axes.{AxisSeen}
 
 -- whether there are many rows; whether cells have several ticks; whether budgets are drawn; where the parts of a row stand

@@ -1,11 +1,11 @@
 -- Marks of ticks: what comes, what ends, what is refused, and deadlines.
-use Rattle.std.specs.Prelude.{ℕ, ◌+◌, ◌-◌, ◌*◌, ◌/◌, min, max, if◌then◌else◌, ltb, eqb, leb, List, [], ◌∷◌, ◌++◌, codes, decimal, flat_map, Option, Some, None}
+use Rattle.std.specs.Prelude.{ℕ, ◌+◌, ◌-◌, ◌*◌, ◌/◌, min, max, if◌then◌else◌, List, [], ◌++◌, codes, decimal, flat_map}
 use Rattle.std.specs.List.{range_with_len}
 use Rattle.cbs_chart.specs.declared.course.Corner.{Corner}
 use Rattle.cbs_chart.specs.declared.stretch.Stretch.{Stretch}
 use Rattle.cbs_svg.specs.Axes.{AxisSeen, right_of, x_at}
 use Rattle.cbs_svg.specs.Layouts.{LayoutSeen}
-use Rattle.cbs_svg.specs.Shapes.{arrow_down_text, arrow_up_text, cross_text, label_text, lines_text, path_text, upright_text}
+use Rattle.cbs_svg.specs.Shapes.{arrow_down_text, arrow_up_text, cross_text, label_text, lines_text, upright_text}
 
 -- how wide the lines of marks are, how wide half of an arrow's head is, and how high that is
 abbrev pub stroke_of : AxisSeen → ℕ

@@ -1,5 +1,5 @@
 -- The row of a server.
-use Rattle.std.specs.Prelude.{ℕ, ◌+◌, ◌-◌, true, eqb, if◌then◌else◌, List, [], ◌∷◌, ◌++◌, codes, decimal, flat_map, length}
+use Rattle.std.specs.Prelude.{ℕ, ◌+◌, ◌-◌, true, eqb, if◌then◌else◌, List, [], ◌++◌, codes, decimal, flat_map, length}
 use Rattle.cbs_chart.specs.Counts.{counts_of}
 use Rattle.cbs_chart.specs.declared.chart.ServerChart.{ServerChart}
 use Rattle.cbs_chart.specs.declared.counts.Counts.{Counts}

@@ -1,5 +1,5 @@
 -- The elements of a picture, and their shapes.
-use Rattle.std.specs.Prelude.{ℕ, ◌+◌, ◌-◌, ◌*◌, ◌/◌, eqb, if◌then◌else◌, max, min, List, [], ◌++◌, codes, decimal, length}
+use Rattle.std.specs.Prelude.{ℕ, ◌+◌, ◌-◌, eqb, if◌then◌else◌, List, [], ◌++◌, codes, decimal, length}
 use Rattle.cbs_chart.specs.declared.stretch.Stretch.{Stretch}
 use Rattle.cbs_svg.specs.Axes.{AxisSeen, x_at}
 

@@ -1,5 +1,5 @@
 -- What a server does, drawn tick by tick.
-use Rattle.std.specs.Prelude.{ℕ, ◌+◌, ◌-◌, ◌*◌, ◌/◌, ◌%◌, Bool, true, false, eqb, leb, ltb, not, ◌&&◌, if◌then◌else◌, max, List, [], ◌++◌, codes, decimal, find, flat_map, length, Option, Some, None}
+use Rattle.std.specs.Prelude.{ℕ, ◌+◌, ◌-◌, ◌/◌, ◌%◌, Bool, true, false, eqb, leb, ltb, not, ◌&&◌, if◌then◌else◌, max, List, [], ◌++◌, codes, decimal, find, flat_map, length, Option, Some, None}
 use Rattle.std.specs.List.{find}
 use Rattle.cbs_chart.specs.declared.jobs.ChartJob.{ChartJob}
 use Rattle.cbs_chart.specs.declared.stretch.Kind.{Kind}

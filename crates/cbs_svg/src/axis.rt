@@ -1,6 +1,7 @@
 //! Where ticks stand.
 
-ghost use Rattle.std.specs.Prelude.{◌≡◌, ◌≤◌, ◌<◌};
+ghost use Rattle.std.specs.Prelude.{◌≡◌, ◌+◌, ◌≤◌, ◌<◌};
+ghost use Rattle.cbs_chart.specs.Counts.{told};
 ghost use Rattle.cbs_svg.specs.Axes.{axis_of, cell_of, cells_of, right_of, tick_of_cell, x_at, x_of_cell};
 
 use cbs_chart::Window;
@@ -133,5 +134,20 @@ impl Axis {
         ensures { result ≡ tick_of_cell self.now cell }
     {
         self.from.saturating_add(cell * self.cell)
+    }
+
+    /// Returns how many ticks there are.
+    pub fn ticks(&self) -> u64
+        ensures value { result ≡ self.now.ticks }
+        ensures few { result ≤ 20000 }
+    {
+        self.ticks
+    }
+
+    /// Returns the tick at a place, as far as a clock goes.
+    pub fn tick(&self, place: u64) -> u64
+        ensures { result ≡ told (self.now.from + place) }
+    {
+        self.from.saturating_add(place)
     }
 }

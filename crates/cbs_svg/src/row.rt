@@ -57,7 +57,7 @@ pub(crate) fn terms_text(alloc: Global, reservation: Reservation) -> Result<Stri
 
 /// Returns a reservation and a mode in short.
 #[tactic(auto, unfolding(crate::specs::Rows::short_terms_text))]
-fn short_terms_text(
+pub(crate) fn short_terms_text(
     alloc: Global,
     reservation: Reservation,
     mode: Mode,

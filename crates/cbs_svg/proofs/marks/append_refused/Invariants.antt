@@ -1,4 +1,4 @@
-use Rattle.std.proofs.Common.{◌≡◌, ◌++◌, take, string_bytes}
+use Rattle.std.proofs.Common.{◌≡◌, take, string_bytes}
 use Rattle.std.specs.Prelude.{flat_map}
 use Rattle.cbs_svg.specs.Marks.{crosses_text}
 use Rattle.cbs_svg.proofs.marks.append_refused.Given as goal
