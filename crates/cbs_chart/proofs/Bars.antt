@@ -1,31 +1,29 @@
 -- Bars cover exactly the ticks of units.
-use Rattle.std.proofs.Common.{◌≡◌, ◌∙◌, ℕ, ◌+◌, ◌<◌, ◌≤◌, Bool, true, false, ◌&&◌, ◌||◌, eqb, leb, ltb, cond, List, [], ◌∷◌, length, map, Option, Some, None, arith, refl, sym, ap, subst, inl, inr}
-use Rattle.std.specs.Prelude.{get_or, set, is_none}
-use Rattle.std.specs.List.{list_any}
+use Rattle.std.proofs.Common.{◌≡◌, ◌∙◌, ℕ, ◌<◌, ◌≤◌, Bool, true, false, ◌&&◌, ◌||◌, eqb, ltb, cond, List, [], ◌∷◌, length, Option, Some, None, arith, refl, sym, ap, subst, inl, inr}
+use Rattle.std.specs.Prelude.{set}
 use Rattle.std.proofs.lemmas.Bool.{cases_Bool}
 use Rattle.std.proofs.lemmas.Bool.Decides.{nat_tests}
 use Rattle.std.proofs.lemmas.List.{get_or-map, get_or-set_same, get_or-set_other, length-map, length-set}
 use Rattle.cbs_rate.specs.Rate.{Rate}
 use Rattle.cbs_report.specs.Figures.{is_server, steps_of}
-use Rattle.cbs_steps.specs.declared.reply.Ran.{Ran}
 use Rattle.cbs_steps.specs.declared.reply.Ran.TheVariants as unit
 use Rattle.cbs_views.specs.Events.{server_of, begun}
 use Rattle.cbs_views.specs.declared.seen.Event.{Event}
 use Rattle.cbs_views.specs.declared.seen.Event.TheVariants as event
 use Rattle.cbs_views.specs.declared.seen.Seen.{Seen}
-use Rattle.cbs_chart.specs.Charts.{IsChart, IsServerChart, Kept, RowSeen, idle_seen, kept_seen, kept_after, kept_with, new_kept, new_row, no_row, ran, rate_at, row_after, row_at, row_seen, runs_unit_of, took}
+use Rattle.cbs_chart.specs.Charts.{IsChart, IsServerChart, Kept, idle_seen, kept_seen, kept_with, new_kept, new_row, no_row, ran, rate_at, row_after, row_at, row_seen, runs_unit_of, took}
 use Rattle.cbs_chart.specs.Courses.{course_until}
 use Rattle.cbs_chart.specs.Deadlines.{deadlines_until}
 use Rattle.cbs_chart.specs.Jobs.{all_jobs}
 use Rattle.cbs_chart.specs.Rendered.{IsRowChart}
-use Rattle.cbs_chart.specs.Rows.{has_job, kind_of, last_of, spans_after, spans_seen, spans_until, step_stretch, throttled_stretch, waiting_stretch}
+use Rattle.cbs_chart.specs.Rows.{has_job, kind_of, last_of, spans_seen, spans_until, step_stretch, throttled_stretch, waiting_stretch}
 use Rattle.cbs_chart.specs.Stretches.{Joined, all_of, is_covered, same_kind, shows, takes, with_stretch}
 use Rattle.cbs_chart.specs.declared.chart.Chart.{Chart}
 use Rattle.cbs_chart.specs.declared.chart.ServerChart.{ServerChart}
-use Rattle.cbs_chart.specs.declared.stretch.Kind.{Kind}
 use Rattle.cbs_chart.specs.declared.stretch.Kind.TheVariants as kind
 use Rattle.cbs_chart.specs.declared.waits.Last.{Last}
 use Rattle.cbs_chart.specs.declared.window.Window.{Window}
+use Rattle.cbs_chart.proofs.Apart.{apart_at_end}
 use Rattle.cbs_chart.proofs.Covers.{with_covers}
 use Rattle.cbs_chart.proofs.Rows.{AreRowCharts, charts_count, chart_at}
 
@@ -202,6 +200,11 @@ chart_seen w rates end seen k c is window idle charts =
           let lt : s < length rates = let h = at.0 in omega (arith, rows.count) in
           let row = rows.rows s lt in
           ap (is_covered (kind.Runs j) t) (at.1.spans ∙ ap (λ r. all_of (spans_until w r.last end r.spans)) row) ∙ bars_at_end w s j t end seen a b;
+      apart = λ s server e.
+          let at = chart_at w end k.rows c.servers.items s server charts e in
+          let lt : s < length rates = let h = at.0 in omega (arith, rows.count) in
+          let spans = at.1.spans ∙ ap (λ r. all_of (spans_until w r.last end r.spans)) (rows.rows s lt) in
+          rw spans (apart_at_end w end (steps_of s seen));
     })
   where
     server_chart : (w : Window) (rates : List Rate) (end : ℕ) (seen : List Seen) (k : Kept) (s : ℕ) (server : ServerChart) → AreRows w rates seen k

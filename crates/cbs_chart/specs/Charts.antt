@@ -1,8 +1,8 @@
 -- What is kept of all servers, and what a picture shows of them.
-use Rattle.std.specs.Prelude.{◌≡◌, ℕ, ◌+◌, ◌<◌, ◌≤◌, Bool, false, ◌&&◌, eqb, leb, ltb, if◌then◌else◌, List, [], ◌∷◌, length, map, get_or, set, slice_get, is_none, Option, Some, None}
+use Rattle.std.specs.Prelude.{◌≡◌, ℕ, ◌<◌, ◌≤◌, Bool, false, ◌&&◌, eqb, leb, ltb, if◌then◌else◌, List, [], ◌∷◌, length, map, get_or, set, slice_get, is_none, Option, Some, None}
 use Rattle.std.specs.List.{list_any}
 use Rattle.cbs_rate.specs.Rate.{Rate}
-use Rattle.cbs_report.specs.Figures.{is_server, steps_of}
+use Rattle.cbs_report.specs.Figures.{steps_of}
 use Rattle.cbs_steps.specs.declared.reply.Ran.{Ran}
 use Rattle.cbs_steps.specs.declared.reply.Ran.TheVariants as unit
 use Rattle.cbs_views.specs.Events.{begun, server_of}
@@ -14,7 +14,7 @@ use Rattle.cbs_chart.specs.Deadlines.{deadlines_after, deadlines_until, deadline
 use Rattle.cbs_chart.specs.Jobs.{JobsSeen, jobs_after, jobs_seen, no_jobs, all_jobs, late_stretch}
 use Rattle.cbs_chart.specs.Marks.{arrivals_after, arrivals_seen, completions_after, completions_seen, refusals_after, refusals_seen}
 use Rattle.cbs_chart.specs.Rows.{idle_after, last_of, last_seen, refused_after, refused_seen, spans_after, spans_until, spans_seen}
-use Rattle.cbs_chart.specs.Stretches.{Joined, all_of, is_covered, nothing_joined, takes}
+use Rattle.cbs_chart.specs.Stretches.{AreApart, Joined, all_of, is_covered, nothing_joined, takes}
 use Rattle.cbs_chart.specs.declared.chart.Chart.{Chart}
 use Rattle.cbs_chart.specs.declared.chart.ServerChart.{ServerChart}
 use Rattle.cbs_chart.specs.declared.stretch.Kind.TheVariants as kind
@@ -174,3 +174,5 @@ pub record IsChart (rates : List Rate) (end : ℕ) (seen : List Seen) (c : Chart
   -- tick t is covered by a bar of server s with the number of job j exactly if the steps ran a unit of job j of s in it
   pub bars : (s j t : ℕ) (server : ServerChart) → slice_get c.servers.items s ≡ Some server → c.window.from ≤ t → t < c.window.to
       → is_covered (kind.Runs j) t server.spans.items ≡ ran s j t seen
+  -- neighbouring units of one job are one bar
+  pub apart : (s : ℕ) (server : ServerChart) → slice_get c.servers.items s ≡ Some server → AreApart server.spans.items

@@ -1,5 +1,5 @@
 -- The jobs of one server, of its steps, the newest first.
-use Rattle.std.specs.Prelude.{ℕ, ◌+◌, Bool, ◌&&◌, ltb, if◌then◌else◌, min, List, [], ◌∷◌, ◌++◌, drop, filter, map, slice_get, unwrap_or, Option, Some, None}
+use Rattle.std.specs.Prelude.{ℕ, ◌+◌, Bool, ◌&&◌, ltb, if◌then◌else◌, min, List, [], ◌∷◌, ◌++◌, drop, filter, slice_get, unwrap_or, Option, Some, None}
 use Rattle.cbs_steps.specs.declared.reply.Ran.{Ran}
 use Rattle.cbs_steps.specs.declared.reply.Ran.TheVariants as ran
 use Rattle.cbs_views.specs.declared.seen.Arrival.{Arrival}

@@ -1,5 +1,5 @@
 -- Stretches of ticks in which one thing goes on.
-use Rattle.std.specs.Prelude.{ℕ, ◌<◌, ◌≤◌, Bool, true, false, ◌&&◌, eqb, leb, ltb, if◌then◌else◌, max, min, List, [], ◌∷◌, ◌++◌, Option, Some, None}
+use Rattle.std.specs.Prelude.{◌≡◌, ℕ, Bool, true, false, ◌&&◌, eqb, leb, ltb, if◌then◌else◌, max, min, List, [], ◌∷◌, ◌++◌, Option, Some, None}
 use Rattle.std.specs.Option.{option_to_list}
 use Rattle.std.specs.List.{list_any}
 use Rattle.cbs_chart.specs.declared.stretch.Kind.{Kind}
@@ -61,3 +61,9 @@ joined_with p done (Some q) =
 -- what of one more is within a window, if something is
 abbrev pub with_stretch : Window → Stretch → Joined → Joined
 with_stretch w p j = if ltb (max p.from w.from) (min p.to w.to) then joined_with (clipped w p) j.done j.last else j
+
+-- no stretch is of the kind of the one before it and begins within that or at its end: neighbours of one kind are one stretch
+abbrev pub AreApart : List Stretch → Type 0
+AreApart [] = Unit {0}
+AreApart (p ∷ []) = Unit {0}
+AreApart (p ∷ q ∷ ps) = (joins p q ≡ false) × AreApart (q ∷ ps)

@@ -11,6 +11,8 @@ mod picture;
 mod row;
 mod stretch;
 mod stretches;
+#[cfg(test)]
+mod tests;
 mod view;
 mod waits;
 mod window;

@@ -1,5 +1,5 @@
 -- What a server does, drawn by counts of ticks in cells.
-use Rattle.std.specs.Prelude.{ℕ, ◌+◌, ◌-◌, ◌*◌, ◌/◌, min, max, eqb, if◌then◌else◌, List, [], ◌++◌, codes, decimal, flat_map, get_or, length, map}
+use Rattle.std.specs.Prelude.{ℕ, ◌+◌, ◌-◌, ◌*◌, ◌/◌, min, max, eqb, if◌then◌else◌, List, [], ◌++◌, codes, decimal, flat_map, get_or, length, map, slice_get, unwrap_or}
 use Rattle.std.specs.List.{range_with_len}
 use Rattle.cbs_chart.specs.Counts.{counts_of}
 use Rattle.cbs_chart.specs.declared.counts.Counts.{Counts}
@@ -42,17 +42,26 @@ heights_of a whole layer cs = map (layer_height a whole layer) cs
 abbrev pub height_before : List ℕ → ℕ → ℕ
 height_before hs i = if eqb i 0 then 0 else get_or hs (i - 1) 0
 
--- the edge of cell i, if its height is another than before
+-- the edge of a cell between two heights: it begins columns, ends them, or goes on with another height
+abbrev pub edge_between : AxisSeen → ℕ → ℕ → ℕ → ℕ → List ℕ
+edge_between a base before height i =
+    if eqb height before then []
+    else if eqb before 0 then codes "M" ++ decimal (x_of_cell a i) ++ codes " " ++ decimal base ++ codes "V" ++ decimal (base - height)
+    else if eqb height 0 then codes "H" ++ decimal (x_of_cell a i) ++ codes "V" ++ decimal base ++ codes "z"
+    else codes "H" ++ decimal (x_of_cell a i) ++ codes "V" ++ decimal (base - height)
+
+-- the edge of cell i
 abbrev pub edge_text : AxisSeen → ℕ → List ℕ → ℕ → List ℕ
-edge_text a base hs i =
-    if eqb (get_or hs i 0) (height_before hs i) then []
-    else codes "H" ++ decimal (x_of_cell a i) ++ codes "V" ++ decimal (base - get_or hs i 0)
+edge_text a base hs i = edge_between a base (height_before hs i) (get_or hs i 0) i
 
 -- the edges of all cells
 unfoldable pub edges_text : AxisSeen → ℕ → List ℕ → List ℕ
 edges_text a base hs = flat_map (edge_text a base hs) (range_with_len 0 (length hs))
 
+-- the end of columns at the right edge, if the last cell has a height
+unfoldable pub end_text : AxisSeen → ℕ → ℕ → List ℕ
+end_text a base height = if eqb height 0 then [] else codes "H" ++ decimal (right_of a) ++ codes "V" ++ decimal base ++ codes "z"
+
 -- columns on a base line
 unfoldable pub columns_shape : AxisSeen → ℕ → List ℕ → List ℕ
-columns_shape a base hs =
-    codes "M" ++ decimal a.left ++ codes " " ++ decimal base ++ edges_text a base hs ++ codes "H" ++ decimal (right_of a) ++ codes "V" ++ decimal base ++ codes "z"
+columns_shape a base hs = edges_text a base hs ++ end_text a base (unwrap_or (slice_get hs (length hs - 1)) 0)

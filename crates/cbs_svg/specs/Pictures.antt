@@ -14,7 +14,7 @@ use Rattle.cbs_svg.specs.Rows.{layer_text, row_text, short_terms_text, terms_tex
 use Rattle.cbs_svg.specs.Scales.{numbers_text, scale_text, ticks_numbered, uprights_text}
 use Rattle.cbs_svg.specs.Shapes.{label_text, path_text, stretch_text}
 use Rattle.cbs_svg.specs.declared.columns.Layer.TheVariants.{Idle}
-use Rattle.cbs_svg.specs.declared.style.TheConstants.{STYLE, LEGEND, COLUMN_LEGEND}
+use Rattle.cbs_svg.specs.declared.style.TheConstants.{STYLE, LEGEND, BUDGET_LEGEND, COLUMN_LEGEND}
 
 -- how wide a server's words are, at most those of a hundred letters
 abbrev pub words_width : ℕ → Drawn → ℕ
@@ -69,10 +69,22 @@ unfoldable pub words_text : ℕ → ℕ → Window → List ℕ → List ℕ →
 words_text left scale w heading summary servers =
     opening_text left scale ++ title_text heading ++ description_text w summary servers ++ STYLE.now ++ page_text left scale
 
+-- what the course of a budget stands for, if it is drawn
+unfoldable pub budget_legend : LayoutSeen → List ℕ
+budget_legend l = if l.budgets then BUDGET_LEGEND.now else []
+
+-- what the shapes stand for, tick by tick
+unfoldable pub fine_legend : LayoutSeen → List ℕ
+fine_legend l = LEGEND.now ++ budget_legend l
+
+-- .. and in columns
+abbrev pub legend_text : LayoutSeen → List ℕ
+legend_text l = if l.dense then COLUMN_LEGEND.now else fine_legend l
+
 -- heading, summary and legend
 unfoldable pub top_text : LayoutSeen → List ℕ → List ℕ → List ℕ
 top_text l heading summary =
-    label_text (codes "h") 1600 3000 heading ++ label_text (codes "m") 1600 5000 summary ++ (if l.dense then COLUMN_LEGEND.now else LEGEND.now)
+    label_text (codes "h") 1600 3000 heading ++ label_text (codes "m") 1600 5000 summary ++ legend_text l
 
 -- faint lines through all rows at the numbered ticks, the heading of the units, and the numbers once more if there are many rows
 unfoldable pub grid_text : AxisSeen → LayoutSeen → ℕ → List ℕ → List ℕ

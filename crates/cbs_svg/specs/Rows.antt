@@ -81,6 +81,11 @@ layer_shape a base whole layer cs = columns_shape a base (heights_of a whole lay
 unfoldable pub layer_text : AxisSeen → ℕ → ℕ → Layer → List ℕ → List Counts → List ℕ
 layer_text a base whole layer class cs = path_text class (layer_shape a base whole layer cs)
 
+-- the columns of charged ticks, if there are some
+unfoldable pub charged_text : AxisSeen → LayoutSeen → Window → ServerChart → List Counts → List ℕ
+charged_text a l w c cs =
+    if eqb (counts_of w.from w.to c.spans.items).charged 0 then [] else layer_text a (l.bar + l.height) l.height layer.Charged (codes "fee") cs
+
 -- how many units ran in which ticks
 unfoldable pub units_title : List ℕ → ℕ → Window → List ℕ
 units_title name units w = name ++ codes ": " ++ decimal units ++ codes " units in ticks " ++ decimal w.from ++ codes " to " ++ decimal w.to
@@ -89,7 +94,7 @@ units_title name units w = name ++ codes ": " ++ decimal units ++ codes " units 
 unfoldable pub bars_text : AxisSeen → LayoutSeen → Window → List ℕ → Mode → ServerChart → List Counts → List ℕ
 bars_text a l w name mode c cs =
     layer_text a (l.bar + l.height) l.height layer.Active (codes "wait") cs ++ layer_text a (l.bar + l.height) l.height layer.Held (codes "hatch") cs
-    ++ layer_text a (l.bar + l.height) l.height layer.Charged (codes "charged") cs
+    ++ charged_text a l w c cs
     ++ titled_text (bar_class mode true) (layer_shape a (l.bar + l.height) l.height layer.Runs cs) (units_title name (units_of w c) w)
 
 -- a band over cells in which something goes on, if it does in one

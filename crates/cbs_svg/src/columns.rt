@@ -1,7 +1,7 @@
 //! What a server does, drawn by counts of ticks in cells.
 
 ghost use Rattle.std.specs.Prelude.{◌≡◌, ◌≤◌, ◌<◌, ◌++◌, IfOk, OnOk, length, string_bytes};
-ghost use Rattle.cbs_svg.specs.Columns.{cell_counts, columns_shape, count_up_to, counts_at, edge_text, edges_text, height_before, height_of, heights_of, layer_height};
+ghost use Rattle.cbs_svg.specs.Columns.{cell_counts, columns_shape, count_up_to, counts_at, edge_between, edge_text, edges_text, end_text, height_before, height_of, heights_of, layer_height};
 
 use crate::axis::Axis;
 use cbs_chart::{Counts, Stretch};
@@ -126,7 +126,32 @@ fn height_before(heights: &[u64], cell: usize) -> u64
     if cell == 0 { 0 } else { heights[cell - 1] }
 }
 
-/// Appends the edge of a cell, if its height is another than before.
+/// Appends the edge of a cell between two heights: it begins columns, ends them, or goes on with another height.
+fn append_edge_between(
+    shape: &mut String,
+    axis: &Axis,
+    base: u64,
+    before: u64,
+    height: u64,
+    cell: u64,
+) -> Result<(), AllocError>
+    ensures { OnOk result (string_bytes shape.new ≡ string_bytes shape.old ++ edge_between axis.now base before height cell) }
+{
+    if height == before {
+        return Ok(());
+    }
+    let x = axis.x_of_cell(cell);
+    let y = base.saturating_sub(height);
+    if before == 0 {
+        return write!(shape, "M{x} {base}V{y}");
+    }
+    if height == 0 {
+        return write!(shape, "H{x}V{base}z");
+    }
+    write!(shape, "H{x}V{y}")
+}
+
+/// Appends the edge of a cell.
 fn append_edge(
     shape: &mut String,
     axis: &Axis,
@@ -137,13 +162,8 @@ fn append_edge(
     requires { cell < length heights.now }
     ensures { OnOk result (string_bytes shape.new ≡ string_bytes shape.old ++ edge_text axis.now base heights.now cell) }
 {
-    let height = heights[cell];
-    if height == height_before(heights, cell) {
-        return Ok(());
-    }
-    let x = axis.x_of_cell(cell as u64);
-    let y = base.saturating_sub(height);
-    write!(shape, "H{x}V{y}")
+    let before = height_before(heights, cell);
+    append_edge_between(shape, axis, base, before, heights[cell], cell as u64)
 }
 
 /// Appends the edges of all cells.
@@ -162,6 +182,18 @@ fn append_edges(
     Ok(())
 }
 
+/// Appends the end of columns at the right edge, if the last cell has a height.
+#[tactic(auto, unfolding(crate::specs::Columns::end_text))]
+fn append_end(shape: &mut String, axis: &Axis, base: u64, height: u64) -> Result<(), AllocError>
+    ensures { OnOk result (string_bytes shape.new ≡ string_bytes shape.old ++ end_text axis.now base height) }
+{
+    if height == 0 {
+        return Ok(());
+    }
+    let right = axis.right();
+    write!(shape, "H{right}V{base}z")
+}
+
 /// Appends columns on a base line.
 #[tactic(auto, unfolding(crate::specs::Columns::columns_shape))]
 pub(crate) fn append_columns(
@@ -172,9 +204,6 @@ pub(crate) fn append_columns(
 ) -> Result<(), AllocError>
     ensures { OnOk result (string_bytes shape.new ≡ string_bytes shape.old ++ columns_shape axis.now base heights.now) }
 {
-    let left = axis.left();
-    write!(shape, "M{left} {base}")?;
     append_edges(shape, axis, base, heights)?;
-    let right = axis.right();
-    write!(shape, "H{right}V{base}z")
+    append_end(shape, axis, base, heights.last().copied().unwrap_or(0))
 }

@@ -2,7 +2,7 @@
 
 ghost use Rattle.std.specs.Prelude.{◌≡◌, ◌≤◌, ◌++◌, IfOk, OnOk, length, string_bytes};
 ghost use Rattle.cbs_svg.specs.Heads.{heading_text, summary_text};
-ghost use Rattle.cbs_svg.specs.Pictures.{axis_for, body_text, description_text, drawn_text, grid_text, idle_boxes, idle_shape, idle_text, layout_for, left_of, opening_text, page_text, rows_text, scale_of, sentences_text, server_row, server_sentence, svg_text, title_text, top_text, words_text, words_width};
+ghost use Rattle.cbs_svg.specs.Pictures.{axis_for, body_text, budget_legend, description_text, drawn_text, fine_legend, grid_text, idle_boxes, idle_shape, idle_text, layout_for, left_of, legend_text, opening_text, page_text, rows_text, scale_of, sentences_text, server_row, server_sentence, svg_text, title_text, top_text, words_text, words_width};
 ghost use Rattle.cbs_svg.specs.Escapes.{escaped};
 
 use crate::axis::Axis;
@@ -14,7 +14,7 @@ use crate::row::{append_layer, append_row, short_terms_text, terms_text};
 use crate::scale::{append_numbers, append_scale, append_uprights, ticks_of};
 use crate::shapes::{append_label, append_path, append_stretch};
 use crate::spans::Place;
-use crate::style::{COLUMN_LEGEND, LEGEND, STYLE};
+use crate::style::{BUDGET_LEGEND, COLUMN_LEGEND, LEGEND, STYLE};
 use cbs_chart::{Counts, Drawn, Picture, Stretch, Window};
 use std::alloc::{AllocError, Global};
 use std::fmt::Write;
@@ -155,6 +155,36 @@ fn append_words(
     append_page(text, left, scale)
 }
 
+/// Appends what the course of a budget stands for, if it is drawn.
+#[tactic(auto, unfolding(crate::specs::Pictures::budget_legend))]
+fn append_budget_legend(text: &mut String, layout: &Layout) -> Result<(), AllocError>
+    ensures { OnOk result (string_bytes text.new ≡ string_bytes text.old ++ budget_legend layout.now) }
+{
+    if !layout.has_budgets() {
+        return Ok(());
+    }
+    text.push_str(BUDGET_LEGEND)
+}
+
+/// Appends what the shapes stand for, tick by tick.
+#[tactic(auto, unfolding(crate::specs::Pictures::fine_legend))]
+fn append_fine_legend(text: &mut String, layout: &Layout) -> Result<(), AllocError>
+    ensures { OnOk result (string_bytes text.new ≡ string_bytes text.old ++ fine_legend layout.now) }
+{
+    text.push_str(LEGEND)?;
+    append_budget_legend(text, layout)
+}
+
+/// Appends what the shapes stand for.
+fn append_legend(text: &mut String, layout: &Layout) -> Result<(), AllocError>
+    ensures { OnOk result (string_bytes text.new ≡ string_bytes text.old ++ legend_text layout.now) }
+{
+    if layout.is_dense() {
+        return text.push_str(COLUMN_LEGEND);
+    }
+    append_fine_legend(text, layout)
+}
+
 /// Appends heading, summary and legend.
 #[tactic(auto, unfolding(crate::specs::Pictures::top_text))]
 fn append_top(
@@ -167,10 +197,7 @@ fn append_top(
 {
     append_label(text, "h", 1600, 3000, heading)?;
     append_label(text, "m", 1600, 5000, summary)?;
-    if layout.is_dense() {
-        return text.push_str(COLUMN_LEGEND);
-    }
-    text.push_str(LEGEND)
+    append_legend(text, layout)
 }
 
 /// Appends faint lines through all rows at the numbered ticks, the heading of the units, and the numbers once more if there are

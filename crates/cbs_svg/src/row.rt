@@ -1,7 +1,7 @@
 //! The row of a server.
 
 ghost use Rattle.std.specs.Prelude.{◌≡◌, ◌≤◌, ◌++◌, IfOk, OnOk, string_bytes};
-ghost use Rattle.cbs_svg.specs.Rows.{band_text, bars_text, dense_text, fine_text, inside_text, lates_text, layer_shape, layer_text, line_text, marks_text, mode_text, names_text, row_text, short_terms_text, spans_text, terms_text, text_line, units_of, units_text, units_title};
+ghost use Rattle.cbs_svg.specs.Rows.{band_text, bars_text, charged_text, dense_text, fine_text, inside_text, lates_text, layer_shape, layer_text, line_text, marks_text, mode_text, names_text, row_text, short_terms_text, spans_text, terms_text, text_line, units_of, units_text, units_title};
 
 use crate::axis::Axis;
 use crate::columns::{Layer, append_columns, cell_counts, heights_of};
@@ -249,6 +249,36 @@ pub(crate) fn append_layer(
     append_path(text, class, &shape)
 }
 
+/// Appends the columns of charged ticks, if there are some.
+#[tactic(auto, unfolding(crate::specs::Rows::charged_text))]
+fn append_charged(
+    alloc: Global,
+    text: &mut String,
+    place: &Place<'_>,
+    window: Window,
+    chart: &ServerChart,
+    counts: &[Counts],
+) -> Result<(), AllocError>
+    ensures { OnOk result (string_bytes text.new ≡ string_bytes text.old
+        ++ charged_text place.now.axis place.now.layout window chart.now counts.now) }
+{
+    if Counts::of(&chart.spans, window.from, window.to).charged == 0 {
+        return Ok(());
+    }
+    let height = place.layout.height();
+    let base = place.layout.bar() + height;
+    append_layer(
+        alloc,
+        text,
+        &place.axis,
+        base,
+        height,
+        Layer::Charged,
+        "fee",
+        counts,
+    )
+}
+
 /// Returns how many units ran in which ticks.
 #[tactic(auto, unfolding(crate::specs::Rows::units_title))]
 fn units_title(alloc: Global, name: &str, units: u64, window: Window) -> Result<String, AllocError>
@@ -295,16 +325,7 @@ fn append_bars(
         "hatch",
         counts,
     )?;
-    append_layer(
-        alloc,
-        text,
-        axis,
-        base,
-        height,
-        Layer::Charged,
-        "charged",
-        counts,
-    )?;
+    append_charged(alloc, text, place, window, chart, counts)?;
     let shape = layer_shape(alloc, axis, base, height, Layer::Runs, counts)?;
     let title = units_title(alloc, place.name, units_of(window, chart), window)?;
     append_titled(text, bar_class(place.mode, true), &shape, &title)
