@@ -1,0 +1,13 @@
+use Rattle.std.proofs.Common.{◌≡◌, ◌++◌}
+use Rattle.std.specs.Prelude.{filter}
+use Rattle.std.specs.VecDeque.{deque_len}
+use Rattle.cbs_chart.specs.Jobs.{came_before_end}
+use Rattle.cbs_chart.proofs.jobs.Jobs.into_all.Given as goal
+
+abbrev pub decreases-loop-job : goal.decreases-loop-job
+decreases-loop-job l = deque_len l.waiting
+
+-- what was taken, and what is still to be taken
+abbrev pub invariant-loop-job : goal.invariant-loop-job
+invariant-loop-job l =
+    l.all.items ++ filter (came_before_end l.window) l.waiting.items ≡ l.fn.self.finished ++ filter (came_before_end l.window) l.fn.self.waiting

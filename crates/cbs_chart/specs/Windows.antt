@@ -1,0 +1,15 @@
+-- The ticks that a picture shows.
+use Rattle.std.specs.Prelude.{◌≡◌, ℕ, ◌+◌, ◌-◌, ◌<◌, ◌≤◌, Result, Ok, Err}
+use Rattle.cbs_chart.specs.declared.window.Window.{Window}
+use Rattle.cbs_chart.specs.declared.window.WindowError.{WindowError}
+use Rattle.cbs_chart.specs.declared.window.WindowError.TheVariants.{Empty, TooLong}
+
+-- how many ticks a window has
+abbrev pub ticks_of : Window → ℕ
+ticks_of w = w.to - w.from
+
+-- the ticks from one up to another are a window, if there are some, and at most 20000
+abbrev pub AnswersWindow : ℕ → ℕ → Result Window WindowError → Type 0
+AnswersWindow from to (Ok w) = (w.from ≡ from) × (w.to ≡ to)
+AnswersWindow from to (Err Empty) = to ≤ from
+AnswersWindow from to (Err TooLong) = from + 20000 < to

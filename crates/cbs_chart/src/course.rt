@@ -1,0 +1,164 @@
+//! The course of a server's budget.
+
+ghost use Rattle.std.specs.Prelude.{◌≡◌, OnOk};
+ghost use Rattle.cbs_chart.specs.Courses.{budget_at, course_after, course_until, fallen, no_course, spent, with_corner};
+
+use crate::waits::Last;
+use crate::window::Window;
+use cbs_rate::Reservation;
+use cbs_views::{Event, Seen};
+use std::alloc::{AllocError, Global};
+use std::marker::Model;
+
+/// A tick, and the budget that a server has there.
+#[derive(Clone, Copy, Debug, PartialEq, Eq)]
+pub struct Corner {
+    /// The tick.
+    pub tick: u64,
+    /// The budget.
+    pub budget: u64,
+}
+
+/// The budget of a server in a window: straight lines from corner to corner.
+#[derive(Drop)]
+pub(crate) struct Course {
+    /// The budget at the window's first tick.
+    opening: u64,
+    /// The corners after that.
+    corners: Vec<Corner>,
+}
+
+impl Model for Course {
+    ghost use Rattle.cbs_chart.specs.Courses.{CourseSeen};
+
+    ghost Value = { CourseSeen };
+
+    ghost view = { λ c. record { opening = c.opening; corners = c.corners.items } };
+}
+
+/// Returns the budget of a server at a tick, before a step of its own.
+fn budget_at(reservation: Reservation, last: Option<Last>, to: u64) -> u64
+    ensures { result ≡ budget_at reservation last to }
+{
+    let Some(last) = last else {
+        return 0;
+    };
+    if last.is_renewed(to) {
+        return reservation.budget();
+    }
+    last.view.budget
+}
+
+/// Returns what a step leaves of a budget, before that is renewed.
+fn spent(event: &Event, budget: u64) -> u64
+    ensures { result ≡ spent event.now budget }
+{
+    match event {
+        Event::Ran(_) => budget.saturating_sub(event.ticks()),
+        Event::Accepted { .. }
+        | Event::NotAccepted { .. }
+        | Event::Advanced(_)
+        | Event::NotAdvanced(..)
+        | Event::Closed(_)
+        | Event::NotClosed(..)
+        | Event::Charged { .. }
+        | Event::NotCharged { .. } => budget,
+    }
+}
+
+impl Course {
+    /// Returns the course of a server before its first step.
+    pub fn new(alloc: Global) -> Course
+        ensures { result ≡ no_course }
+    {
+        Course {
+            opening: 0,
+            corners: Vec::new(alloc),
+        }
+    }
+
+    /// Adds a corner, if the window shows it or opens with it.
+    fn add_corner(&mut self, window: Window, tick: u64, budget: u64) -> Result<(), AllocError>
+        ensures { OnOk result (self.new ≡ with_corner window tick budget self.old) }
+    {
+        if tick <= window.from {
+            self.opening = budget;
+        } else if tick <= window.to {
+            self.corners.push(Corner { tick, budget })?;
+        }
+        Ok(())
+    }
+
+    /// Adds the corners of a step that begins with one budget, leaves another of it, and is followed by a third.
+    fn add_fall(
+        &mut self,
+        window: Window,
+        seen: &Seen,
+        before: u64,
+        after: u64,
+    ) -> Result<(), AllocError>
+        ensures { OnOk result (self.new ≡ fallen window seen.now before after self.old) }
+    {
+        let left = spent(&seen.event, before);
+        if left == before && after == before {
+            return Ok(());
+        }
+        self.add_corner(window, seen.begun(), before)?;
+        self.add_corner(window, seen.clock, left)?;
+        self.add_corner(window, seen.clock, after)
+    }
+
+    /// Adds the corners of a server that is replenished before a tick, if no step of it was made since.
+    pub fn add_renewed(
+        &mut self,
+        window: Window,
+        reservation: Reservation,
+        last: Option<Last>,
+        to: u64,
+    ) -> Result<(), AllocError>
+        ensures { OnOk result (self.new ≡ course_until window reservation last to self.old) }
+    {
+        let Some(last) = last else {
+            return Ok(());
+        };
+        if last.is_renewed(to) {
+            let tick = last.view.deadline as u64;
+            self.add_corner(window, tick, last.view.budget)?;
+            self.add_corner(window, tick, reservation.budget())?;
+        }
+        Ok(())
+    }
+
+    /// Adds a step of the server.
+    #[inline]
+    pub fn add(
+        &mut self,
+        window: Window,
+        reservation: Reservation,
+        last: Option<Last>,
+        seen: &Seen,
+    ) -> Result<(), AllocError>
+        ensures { OnOk result (self.new ≡ course_after window reservation last seen.now self.old) }
+    {
+        let begun = seen.begun();
+        self.add_renewed(window, reservation, last, begun)?;
+        let Some(view) = seen.view else {
+            return Ok(());
+        };
+        self.add_fall(
+            window,
+            seen,
+            budget_at(reservation, last, begun),
+            view.budget,
+        )
+    }
+
+    /// Returns the budget at the window's first tick, and the corners after that.
+    pub fn into_parts(self) -> (u64, Vec<Corner>)
+        ensures opening { result.0 ≡ self.opening }
+        ensures corners { result.1.items ≡ self.corners }
+    {
+        let Course { opening, corners } = self;
+        (opening, corners)
+    }
+}

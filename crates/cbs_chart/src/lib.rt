@@ -1,0 +1,27 @@
+//! What a picture shows of a run: what each server does in each tick of a window, and what comes and ends in it.
+#![tactic(auto)]
+
+mod chart;
+mod counts;
+mod course;
+mod deadlines;
+mod jobs;
+mod marks;
+mod picture;
+mod row;
+mod stretch;
+mod stretches;
+#[cfg(test)]
+mod tests;
+mod view;
+mod waits;
+mod window;
+
+pub use chart::{Chart, ServerChart};
+pub use counts::Counts;
+pub use course::Corner;
+pub use jobs::ChartJob;
+pub use picture::{Drawn, Picture};
+pub use stretch::{Kind, Stretch};
+pub use view::ChartView;
+pub use window::{MOST_TICKS, Window, WindowError};

@@ -1,0 +1,87 @@
+//! The ticks at which jobs come and are finished, and how many are refused.
+
+ghost use Rattle.std.specs.Prelude.{◌≡◌, OnOk};
+ghost use Rattle.cbs_chart.specs.Marks.{arrivals_after, completions_after, refusals_after};
+
+use crate::window::Window;
+use cbs_steps::Ran;
+use cbs_views::{Event, Seen};
+use std::alloc::AllocError;
+
+/// Returns how many releases were refused in a window, after a step.
+#[inline]
+pub(crate) fn refusals_after(window: Window, event: &Event, refusals: u64) -> u64
+    ensures { result ≡ refusals_after window event.now refusals }
+{
+    match event {
+        Event::NotAccepted { job, .. } => {
+            if window.from <= job.came && job.came < window.to {
+                return refusals.saturating_add(1);
+            }
+            refusals
+        }
+        Event::Accepted { .. }
+        | Event::Ran(_)
+        | Event::Advanced(_)
+        | Event::NotAdvanced(..)
+        | Event::Closed(_)
+        | Event::NotClosed(..)
+        | Event::Charged { .. }
+        | Event::NotCharged { .. } => refusals,
+    }
+}
+
+/// Adds the tick at which a job came, if a step accepted it and the window shows it.
+#[inline]
+pub(crate) fn add_arrival(
+    window: Window,
+    event: &Event,
+    arrivals: &mut Vec<u64>,
+) -> Result<(), AllocError>
+    ensures { OnOk result (arrivals.new.items ≡ arrivals_after window event.now arrivals.old.items) }
+{
+    match event {
+        Event::Accepted { job, .. } => {
+            if window.from <= job.came && job.came < window.to {
+                arrivals.push(job.came)?;
+            }
+            Ok(())
+        }
+        Event::NotAccepted { .. }
+        | Event::Ran(_)
+        | Event::Advanced(_)
+        | Event::NotAdvanced(..)
+        | Event::Closed(_)
+        | Event::NotClosed(..)
+        | Event::Charged { .. }
+        | Event::NotCharged { .. } => Ok(()),
+    }
+}
+
+/// Adds the tick at which a step finished a job, if it did and the window shows it.
+#[inline]
+pub(crate) fn add_completion(
+    window: Window,
+    seen: &Seen,
+    completions: &mut Vec<u64>,
+) -> Result<(), AllocError>
+    ensures { OnOk result (completions.new.items ≡ completions_after window seen.now.clock seen.now.event completions.old.items) }
+{
+    match seen.event {
+        Event::Ran(Ran::Done(_)) => {
+            if window.from < seen.clock && seen.clock <= window.to {
+                completions.push(seen.clock)?;
+            }
+            Ok(())
+        }
+        Event::Ran(_)
+        | Event::Accepted { .. }
+        | Event::NotAccepted { .. }
+        | Event::Advanced(_)
+        | Event::NotAdvanced(..)
+        | Event::Closed(_)
+        | Event::NotClosed(..)
+        | Event::Charged { .. }
+        | Event::NotCharged { .. } => Ok(()),
+    }
+}

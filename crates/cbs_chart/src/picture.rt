@@ -1,0 +1,37 @@
+//! What is drawn.
+
+use crate::chart::ServerChart;
+use crate::stretch::Stretch;
+use crate::window::Window;
+use cbs_rate::{Bandwidth, Reservation};
+use cbs_rules::Mode;
+
+/// A server that is drawn.
+#[derive(Drop)]
+pub struct Drawn {
+    /// Its name.
+    pub name: String,
+    /// Its mode.
+    pub mode: Mode,
+    /// Its reservation.
+    pub reservation: Reservation,
+    /// What the window shows of it.
+    pub chart: ServerChart,
+}
+
+/// What is drawn of a run.
+#[derive(Drop)]
+pub struct Picture {
+    /// The name of the file that was run.
+    pub file: String,
+    /// The part of the time that is reserved for all servers together.
+    pub reserved: Bandwidth,
+    /// The window.
+    pub window: Window,
+    /// The clock at the end of the run.
+    pub end: u64,
+    /// The ticks in which nobody runs.
+    pub idle: Vec<Stretch>,
+    /// The servers, by number.
+    pub servers: Vec<Drawn>,
+}

@@ -1,0 +1,143 @@
+//! What is kept of one server.
+
+ghost use Rattle.std.specs.Prelude.{◌≡◌, OnOk};
+ghost use Rattle.cbs_chart.specs.Charts.{row_after, row_until, new_row};
+ghost use Rattle.cbs_chart.specs.Rows.{refused_after, spans_until};
+
+use crate::course::Course;
+use crate::deadlines::{add_deadlines, add_renewed};
+use crate::jobs::Jobs;
+use crate::marks::{add_arrival, add_completion, refusals_after};
+use crate::stretch::{Kind, Stretch};
+use crate::stretches::Stretches;
+use crate::waits::Last;
+use crate::window::Window;
+use cbs_rate::Reservation;
+use cbs_views::{Event, Seen};
+use std::alloc::{AllocError, Global};
+use std::marker::Model;
+
+/// What is kept of one server.
+#[derive(Drop)]
+pub(crate) struct Row {
+    pub(crate) reservation: Reservation,
+    pub(crate) last: Option<Last>,
+    pub(crate) spans: Stretches,
+    pub(crate) refused: Stretches,
+    pub(crate) refusals: u64,
+    pub(crate) arrivals: Vec<u64>,
+    pub(crate) completions: Vec<u64>,
+    pub(crate) jobs: Jobs,
+    pub(crate) deadlines: Vec<u64>,
+    pub(crate) course: Course,
+}
+
+impl Model for Row {
+    ghost use Rattle.cbs_chart.specs.Charts.{RowSeen};
+
+    ghost Value = { RowSeen };
+
+    ghost view = { λ r. record {
+      reservation = r.reservation;
+      last = r.last;
+      spans = r.spans;
+      refused = r.refused;
+      refusals = r.refusals;
+      arrivals = r.arrivals.items;
+      completions = r.completions.items;
+      jobs = r.jobs;
+      deadlines = r.deadlines.items;
+      course = r.course;
+    } };
+}
+
+/// Adds the stretches of a server up to a tick at which no step of it is made.
+#[inline]
+fn add_spans(
+    window: Window,
+    last: Option<Last>,
+    to: u64,
+    spans: &mut Stretches,
+) -> Result<(), AllocError>
+    ensures { OnOk result (spans.new ≡ spans_until window last to spans.old) }
+{
+    let Some(last) = last else {
+        return Ok(());
+    };
+    spans.add(window, last.throttled(to))?;
+    spans.add(window, last.waiting(to))
+}
+
+/// Adds a refused release, if a step is one.
+#[inline]
+fn add_refused(window: Window, event: &Event, refused: &mut Stretches) -> Result<(), AllocError>
+    ensures { OnOk result (refused.new ≡ refused_after window event.now refused.old) }
+{
+    match event {
+        Event::NotAccepted { job, .. } => refused.add(
+            window,
+            Stretch {
+                kind: Kind::Refused,
+                from: job.came,
+                to: job.came.saturating_add(1),
+            },
+        ),
+        Event::Accepted { .. }
+        | Event::Ran(_)
+        | Event::Advanced(_)
+        | Event::NotAdvanced(..)
+        | Event::Closed(_)
+        | Event::NotClosed(..)
+        | Event::Charged { .. }
+        | Event::NotCharged { .. } => Ok(()),
+    }
+}
+
+impl Row {
+    /// Returns what is kept of a server before its first step.
+    pub fn new(alloc: Global, reservation: Reservation) -> Row
+        ensures { result ≡ new_row reservation }
+    {
+        Row {
+            reservation,
+            last: None,
+            spans: Stretches::new(alloc),
+            refused: Stretches::new(alloc),
+            refusals: 0,
+            arrivals: Vec::new(alloc),
+            completions: Vec::new(alloc),
+            jobs: Jobs::new(alloc),
+            deadlines: Vec::new(alloc),
+            course: Course::new(alloc),
+        }
+    }
+
+    /// Adds a step of the server.
+    #[inline]
+    pub fn add(&mut self, window: Window, seen: &Seen) -> Result<(), AllocError>
+        ensures { OnOk result (self.new ≡ row_after window seen.now self.old) }
+    {
+        let last = self.last;
+        add_spans(window, last, seen.begun(), &mut self.spans)?;
+        self.spans.add(window, Stretch::of(seen))?;
+        add_refused(window, &seen.event, &mut self.refused)?;
+        self.refusals = refusals_after(window, &seen.event, self.refusals);
+        add_arrival(window, &seen.event, &mut self.arrivals)?;
+        add_completion(window, seen, &mut self.completions)?;
+        self.jobs.add(window, seen.clock, seen.event)?;
+        add_deadlines(window, self.reservation, last, seen, &mut self.deadlines)?;
+        self.course.add(window, self.reservation, last, seen)?;
+        self.last = Last::of(seen.clock, seen.view);
+        Ok(())
+    }
+
+    /// Adds what goes on after the last step of the server, up to a tick.
+    pub fn add_end(&mut self, window: Window, to: u64) -> Result<(), AllocError>
+        ensures { OnOk result (self.new ≡ row_until window to self.old) }
+    {
+        let last = self.last;
+        add_spans(window, last, to, &mut self.spans)?;
+        add_renewed(window, self.reservation, last, to, &mut self.deadlines)?;
+        self.course.add_renewed(window, self.reservation, last, to)
+    }
+}

@@ -1,0 +1,97 @@
+//! What collects a chart: a view of steps.
+
+ghost use Rattle.std.specs.Prelude.{◌≡◌, ◌∷◌, List, IfOk, OnOk};
+ghost use Rattle.cbs_rate.specs.Rate.{Rate};
+ghost use Rattle.cbs_views.specs.declared.seen.Seen.{Seen};
+ghost use Rattle.cbs_chart.specs.Charts.{IsChart, Kept, kept_seen, kept_with, new_kept};
+
+use crate::chart::Chart;
+use crate::row::Row;
+use crate::stretch::Stretch;
+use crate::stretches::Stretches;
+use crate::window::Window;
+use cbs_rate::Plan;
+use cbs_views::{Seen, View};
+use std::alloc::{AllocError, Global};
+use std::marker::Model;
+
+/// What is seen of the servers of a plan in a window.
+///
+/// It keeps what the window shows, and a job for each unfinished one.
+#[derive(Drop)]
+pub struct ChartView {
+    window: Window,
+    rows: Vec<Row>,
+    idle: Stretches,
+}
+
+impl Model for ChartView {
+    ghost use Rattle.cbs_chart.specs.Charts.{Kept};
+
+    ghost Value = { Kept };
+
+    ghost view = { λ c. record { window = c.window; rows = c.rows.items; idle = c.idle } };
+}
+
+impl ChartView {
+    /// Returns the view of the servers of a plan, before the first step.
+    pub fn new(alloc: Global, window: Window, plan: &Plan) -> Result<ChartView, AllocError>
+        ensures { IfOk result (λ view. view ≡ new_kept window plan.now.rates) }
+    {
+        let mut rows = Vec::with_capacity(alloc, plan.len())?;
+        for server in 0..plan.len() as u16 {
+            let reservation = plan.get(server).unwrap();
+            rows.push(Row::new(alloc, reservation))?;
+        }
+        Ok(ChartView {
+            window,
+            rows,
+            idle: Stretches::new(alloc),
+        })
+    }
+
+    /// Adds a step of a server, or of none.
+    #[inline]
+    fn add(&mut self, server: Option<u16>, seen: &Seen) -> Result<(), AllocError>
+        ensures { OnOk result (self.new ≡ kept_with server seen.now self.old) }
+    {
+        let Some(server) = server else {
+            return self.idle.add(self.window, Stretch::of(seen));
+        };
+        let index = usize::from(server);
+        if index < self.rows.len() {
+            self.rows[index].add(self.window, seen)?;
+        }
+        Ok(())
+    }
+
+    /// Returns what the window shows of a run that ends at a tick.
+    pub fn into_chart(self, alloc: Global, end: u64) -> Result<Chart, AllocError>
+        ensures { IfOk result (λ chart. (rates : List Rate) (seen : List Seen) → self ≡ kept_seen (new_kept self.window rates) seen
+            → IsChart rates end seen chart) }
+    {
+        let window = self.window;
+        let idle = self.idle.into_all()?;
+        let mut servers = Vec::with_capacity(alloc, self.rows.len())?;
+        for row in self.rows {
+            servers.push(row.into_chart(alloc, window, end)?)?;
+        }
+        Ok(Chart {
+            window,
+            end,
+            idle,
+            servers,
+        })
+    }
+}
+
+impl View<()> for ChartView {
+    ghost use Rattle.cbs_chart.specs.Charts.{kept_seen};
+
+    ghost saw = { λ first now seen. now.0 ≡ kept_seen first.0 seen };
+
+    #[inline]
+    fn see(&mut self, _lent: &mut (), seen: Seen) -> Result<(), AllocError> {
+        self.add(seen.event.server(), &seen)
+    }
+}

@@ -1,0 +1,12 @@
+use Rattle.std.proofs.Common.{append_assoc}
+use Rattle.cbs_svg.specs.Heads.{figures_text}
+use Rattle.cbs_svg.proofs.head.append_figures.Goals as goal
+
+pub returns : goal.returns
+unfolding figures_text
+returns c = simp append_assoc (simp (
+  append_assoc,
+  c.in_ok-write.ensures.bytes,
+  c.in_ok-append_servers.ensures,
+  c.tenths_of-tenths.ensures,
+) at c.write-2.ensures.bytes)

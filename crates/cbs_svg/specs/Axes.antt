@@ -1,0 +1,59 @@
+-- Where ticks stand.
+use Rattle.std.specs.Prelude.{ℕ, ◌+◌, ◌-◌, ◌*◌, ◌/◌, ◌<◌, ◌≤◌, max, min}
+use Rattle.std.specs.Int.{div_ceil}
+use Rattle.cbs_chart.specs.Counts.{told}
+use Rattle.cbs_chart.specs.Windows.{ticks_of}
+use Rattle.cbs_chart.specs.declared.window.Window.{Window}
+
+-- so many cells of a width, of so many ticks each, from the left edge on; the first tick, and how many there are
+pub record AxisSeen : Type 0 where
+  pub left : ℕ
+  pub from : ℕ
+  pub ticks : ℕ
+  pub cell : ℕ
+  pub cells : ℕ
+  pub width : ℕ
+
+-- an axis is within these limits
+pub record IsAxis (left ticks cell cells width : ℕ) : Type 0 where
+  pub near : left ≤ 100000
+  pub short : ticks ≤ 20000
+  pub some : 0 < cell
+  pub fine : cell ≤ 20000
+  pub few : cells ≤ 1000
+  pub narrow : width ≤ 5000
+
+-- how many ticks a cell has, of so many: one of up to 1000
+abbrev pub cell_of : ℕ → ℕ
+cell_of n = max 1 (div_ceil n 1000)
+
+-- how many cells there are
+abbrev pub cells_of : ℕ → ℕ
+cells_of n = max 1 (min 1000 (div_ceil n (cell_of n)))
+
+-- the axis of a window
+abbrev pub axis_of : Window → ℕ → AxisSeen
+axis_of w left = record {
+  left = left;
+  from = w.from;
+  ticks = ticks_of w;
+  cell = cell_of (ticks_of w);
+  cells = cells_of (ticks_of w);
+  width = min 5000 (100000 / cells_of (ticks_of w));
+}
+
+-- where a tick begins
+unfoldable pub x_at : AxisSeen → ℕ → ℕ
+x_at a t = a.left + min (t - a.from) a.ticks * a.width / a.cell
+
+-- where a cell begins
+abbrev pub x_of_cell : AxisSeen → ℕ → ℕ
+x_of_cell a i = a.left + min i a.cells * a.width
+
+-- the right edge
+abbrev pub right_of : AxisSeen → ℕ
+right_of a = a.left + a.cells * a.width
+
+-- the first tick of a cell, as far as a clock goes
+abbrev pub tick_of_cell : AxisSeen → ℕ → ℕ
+tick_of_cell a i = told (a.from + i * a.cell)

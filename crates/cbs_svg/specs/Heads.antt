@@ -1,0 +1,81 @@
+-- What stands around the rows: the head of a picture, its words, its legend, and the ticks in which nobody runs.
+use Rattle.std.specs.Prelude.{ℕ, ◌+◌, ◌-◌, ◌*◌, ◌/◌, ◌%◌, Bool, false, ◌&&◌, eqb, leb, ltb, max, if◌then◌else◌, List, [], ◌++◌, codes, count_by, decimal, length, sum_by, Option, Some, None}
+use Rattle.cbs_chart.specs.Counts.{counts_of, told}
+use Rattle.cbs_chart.specs.declared.jobs.ChartJob.{ChartJob}
+use Rattle.cbs_chart.specs.declared.picture.Drawn.{Drawn}
+use Rattle.cbs_chart.specs.declared.picture.Picture.{Picture}
+use Rattle.cbs_chart.specs.declared.window.Window.{Window}
+use Rattle.cbs_rate.specs.declared.bandwidth.Bandwidth.{Bandwidth}
+use Rattle.cbs_svg.specs.Rows.{mode_text, terms_text, units_of}
+
+-- the name of a file, and the ticks that are shown
+unfoldable pub heading_text : List ℕ → Window → List ℕ
+heading_text file w = file ++ codes ", ticks " ++ decimal w.from ++ codes " to " ++ decimal w.to
+
+-- how many servers there are
+abbrev pub servers_text : ℕ → List ℕ
+servers_text n = if eqb n 1 then codes "1 server" else decimal n ++ codes " servers"
+
+-- tenths of a per cent that are reserved, a half upward
+abbrev pub tenths_of : Bandwidth → ℕ
+tenths_of b = (2000 * b.ticks + b.of) / max 1 (2 * b.of)
+
+-- the units of all servers
+abbrev pub all_units : Window → List Drawn → ℕ
+all_units w servers = told (sum_by (λ d. units_of w d.chart) servers)
+
+-- what part of the time is reserved, and how the ticks went
+unfoldable pub figures_text : ℕ → Bandwidth → ℕ → ℕ → List ℕ
+figures_text servers b units idle =
+    servers_text servers ++ codes " with " ++ decimal (tenths_of b / 10) ++ codes "." ++ decimal (tenths_of b % 10) ++ codes " % of the time reserved. "
+    ++ decimal units ++ codes " units run, " ++ decimal idle ++ codes " ticks idle."
+
+-- a window shows a run that ends at a tick whole
+abbrev pub is_whole : Window → ℕ → Bool
+is_whole w end = eqb w.from 0 && leb end w.to
+
+-- the ticks of a run that are not shown, if there are some
+unfoldable pub hidden_text : Window → ℕ → List ℕ
+hidden_text w end =
+    if is_whole w end then []
+    else codes " Not shown: " ++ decimal w.from ++ codes " ticks before, " ++ decimal (end - w.to) ++ codes " after."
+
+-- how many ticks a column has, if it has several
+unfoldable pub column_text : ℕ → List ℕ
+column_text cell = if ltb 1 cell then codes " Each column is " ++ decimal cell ++ codes " ticks." else []
+
+-- the line below the heading
+unfoldable pub summary_text : Picture → ℕ → List ℕ
+summary_text p cell =
+    figures_text (length p.servers.items) p.reserved (all_units p.window p.servers.items) (counts_of p.window.from p.window.to p.idle.items).idle
+    ++ hidden_text p.window p.end ++ column_text cell
+
+-- a job took more ticks than it was to take
+abbrev pub exceeds : Option ℕ → ℕ → Bool
+exceeds None took = false
+exceeds (Some within) took = ltb within took
+
+-- a job was finished in the window, and late
+abbrev pub is_late_at : Window → ChartJob → Option ℕ → Bool
+is_late_at w job None = false
+is_late_at w job (Some finish) = ltb w.from finish && (leb finish w.to && exceeds job.within (finish - job.came))
+
+abbrev pub is_late : Window → ChartJob → Bool
+is_late w job = is_late_at w job job.finish
+
+-- who a server is, and how many units of it ran
+unfoldable pub who_text : List ℕ → List ℕ → List ℕ → ℕ → List ℕ
+who_text name mode terms units = name ++ codes ", " ++ mode ++ codes ", " ++ terms ++ codes ": ran " ++ decimal units ++ codes " units; "
+
+-- what came of its jobs
+unfoldable pub came_text : ℕ → ℕ → ℕ → ℕ → List ℕ
+came_text came refused finished late =
+    decimal came ++ codes " jobs came, " ++ decimal refused ++ codes " refused, " ++ decimal finished ++ codes " finished, " ++ decimal late
+    ++ codes " of those late.\n"
+
+-- what a picture shows of a server, in a sentence
+unfoldable pub sentence_text : Window → List ℕ → Drawn → List ℕ
+sentence_text w name d =
+    who_text name (mode_text d.mode) (terms_text d.reservation) (units_of w d.chart)
+    ++ came_text (told (length d.chart.arrivals.items + d.chart.refusals)) d.chart.refusals (length d.chart.completions.items)
+    (count_by (is_late w) d.chart.jobs.items)
