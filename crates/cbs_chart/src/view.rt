@@ -67,7 +67,9 @@ impl ChartView {
 
     /// Returns what the window shows of a run that ends at a tick.
     pub fn into_chart(self, alloc: Global, end: u64) -> Result<Chart, AllocError>
-        ensures { IfOk result (λ chart. (rates : List Rate) (seen : List Seen) → self ≡ kept_seen (new_kept self.window rates) seen
+        ensures window { IfOk result (λ chart. chart.window ≡ self.window) }
+        ensures end { IfOk result (λ chart. chart.end ≡ end) }
+        ensures chart { IfOk result (λ chart. (rates : List Rate) (seen : List Seen) → self ≡ kept_seen (new_kept self.window rates) seen
             → IsChart rates end seen chart) }
     {
         let window = self.window;

@@ -18,8 +18,8 @@ loop-row-preserved c =
       charts = rw c.in_ok-push.ensures.items more;
     }
 
-pub returns : goal.returns
-returns c = λ rates seen was.
+pub returns-clause-chart : goal.returns-clause-chart
+returns-clause-chart c = λ rates seen was.
     let l = c.loop-row in
     let none : into_iter_items l.row-iterator ≡ [] = nil_from_length _ (sym l.invariant.count ∙ c.in-None.ensures.steps.0) in
     let whole : c.args.self.rows ≡ l.yielded = l.invariant.all ∙ (ap (λ xs. l.yielded ++ xs) none ∙ append-nil l.yielded) in
