@@ -1,5 +1,5 @@
 -- What the lines of a load have written while they are made.
-use Rattle.std.specs.Prelude.{◌≡◌, ◌⊎◌, ◌+◌, true, false, List, ◌∷◌}
+use Rattle.std.specs.Prelude.{◌≡◌, ◌⊎◌, true, false, List, ◌∷◌}
 use Rattle.cbs_views.specs.declared.seen.Seen.{Seen}
 use Rattle.cbs_lines.specs.LoadLines.{lines_of}
 use Rattle.cbs_lines.specs.Writers.{Writer, FailsToWrite}

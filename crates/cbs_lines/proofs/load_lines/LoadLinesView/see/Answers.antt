@@ -1,4 +1,4 @@
-use Rattle.std.proofs.Common.{◌≡◌, ◌∙◌, refl, inr}
+use Rattle.std.proofs.Common.{◌≡◌, ◌∙◌, refl}
 use Rattle.cbs_lines.specs.LoadLines.{seen_line}
 use Rattle.cbs_lines.proofs.LoadLineSteps.{failed_line, wrote_line}
 use Rattle.cbs_lines.proofs.load_lines.LoadLinesView.see.Goals as goal
