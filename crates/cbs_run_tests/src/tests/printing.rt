@@ -2,7 +2,8 @@
 
 use super::fakes::{Memory, Outcome};
 use cbs_run::{
-    Form, NoProgress, check_bytes_within, report_bytes_within, simulate_bytes_within, simulate_lines_within,
+    Form, NoProgress, check_bytes_within, report_bytes_within, simulate_bytes_within,
+    simulate_lines_within,
 };
 use std::alloc::Global;
 
@@ -167,15 +168,15 @@ fn printed(alloc: Global, asked: Asked, memory: u64, file: &str, room: usize) ->
         Asked::Check => check_bytes_within(alloc, memory, name, bytes, &mut out, &mut err),
         Asked::Simulate(form) => {
             simulate_bytes_within(
-            alloc,
-            memory,
-            form,
-            name,
-            bytes,
-            &mut NoProgress,
-            &mut out,
-            &mut err,
-        )
+                alloc,
+                memory,
+                form,
+                name,
+                bytes,
+                &mut NoProgress,
+                &mut out,
+                &mut err,
+            )
         }
         Asked::SimulateLines => {
             simulate_lines_within(alloc, memory, name, bytes, &mut out, &mut err)

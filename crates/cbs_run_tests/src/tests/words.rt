@@ -103,10 +103,7 @@ fn a_form_stands_before_or_after_the_file(rt: HostRuntime) {
             "cbsrun simulate a.toml --as json",
             Action::Simulate(Form::Json),
         ),
-        (
-            "cbsrun simulate --as lines a.toml",
-            Action::SimulateLines,
-        ),
+        ("cbsrun simulate --as lines a.toml", Action::SimulateLines),
         ("cbsrun replay --as=lines a.toml", trace),
         (
             "cbsrun replay a.toml --as=report",
