@@ -15,6 +15,7 @@ pub trait Progress {
 }
 
 /// Tells nobody.
+#[derive(Drop)]
 pub struct NoProgress;
 
 impl Progress for NoProgress {
