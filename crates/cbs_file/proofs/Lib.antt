@@ -1,0 +1,4 @@
+pub mod OtherSteps
+pub mod PairLines
+pub mod ReadApart
+pub mod StepsRead

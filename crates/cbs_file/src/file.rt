@@ -1,12 +1,15 @@
 //! A task file, read from its bytes.
 
-ghost use Rattle.std.specs.Prelude.{◌≡◌, ◌<◌, ◌≤◌, map, Ok, Err, IfOk, All};
+ghost use Rattle.std.specs.Prelude.{◌≡◌, ◌<◌, ◌≤◌, ℕ, true, List, map, Ok, Err, IfOk, IfSome, All};
+ghost use Rattle.std.specs.Str.{is_utf8};
+ghost use Rattle.toml.specs.Parse.{parse_document};
 ghost use Rattle.toml.specs.View.{view, table_view};
 ghost use Rattle.cbs_tables.specs.declared.fault.FileKind.TheVariants.{OutOfMemory};
 ghost use Rattle.cbs_tables.specs.declared.fault.Place.TheVariants.{Step as AtStep};
 ghost use Rattle.cbs_file.specs.Entries.{step_entry};
 ghost use Rattle.cbs_tables.specs.Fields.{Gives, seen, each_from};
 ghost use Rattle.cbs_tables.specs.Memory.{memory_wanted, usual_bound};
+ghost use Rattle.cbs_file.specs.Streams.{IsDocument};
 ghost use Rattle.cbs_file.specs.TaskFiles.{IsFileStep};
 ghost use Rattle.cbs_file.specs.Spelling.{file, admitted_entry};
 ghost use Rattle.cbs_tables.specs.Documents.{document, faulty, at, no_memory, taken_in};
@@ -15,11 +18,13 @@ ghost use Rattle.cbs_rules.specs.Setups.{no_servers};
 
 use crate::entries::{server_entry, step_entry};
 use crate::format::Format;
+use crate::stream::{Document, StepsRead, read_document};
 use crate::task_file::TaskFile;
 use crate::top::top_table;
 use cbs_core::Step;
 use cbs_job::FileJob;
 use cbs_rate::Bound;
+use cbs_read::Stop;
 use cbs_rules::{Mode, Setup};
 use cbs_tables::{FileFault, FileKind, MEMORY, Place, at, document, faulty, wants_within};
 use std::alloc::Global;
@@ -75,9 +80,9 @@ fn steps_of(
     Ok(steps)
 }
 
-/// The task file that the bytes spell, or its first fault.
+/// Returns the task file that the bytes spell, or its first fault. The whole document stands in memory.
 #[tactic(auto, unfolding(crate::specs::Spelling::file))]
-fn spelled_file(alloc: Global, bytes: &[u8]) -> Result<TaskFile, FileFault>
+fn read_whole(alloc: Global, bytes: &[u8]) -> Result<TaskFile, FileFault>
     ensures { Gives no_memory (λ f. f) result (file bytes.now) }
 {
     let table = at(Place::Top, document(alloc, bytes))?;
@@ -94,6 +99,73 @@ fn spelled_file(alloc: Global, bytes: &[u8]) -> Result<TaskFile, FileFault>
         ring: top.ring,
         steps,
     })
+}
+
+/// Returns the file of a document whose steps were read apart, or its first fault. Returns `None` if they were read by other terms
+/// than the document has.
+fn finish(alloc: Global, document: Document) -> Option<Result<TaskFile, FileFault>>
+    requires { IfSome document.read (λ r. All (IsFileStep document.terms.servers) r.steps.items) }
+    ensures { (bytes : List ℕ) → is_utf8 bytes ≡ true → IsDocument document document.read (parse_document bytes)
+        → IfSome result (λ r. Gives no_memory (λ f. f) r (file bytes)) }
+{
+    let Document {
+        mut table,
+        terms,
+        read,
+    } = document;
+    let StepsRead { steps, fault } = read?;
+    let Ok(key) = String::from_str(alloc, "step") else {
+        return Some(Err(faulty(Place::Top, FileKind::OutOfMemory)));
+    };
+    let Ok(_) = table.insert(key, Value::Array(Vec::new(alloc))) else {
+        return Some(Err(faulty(Place::Top, FileKind::OutOfMemory)));
+    };
+    let top = match top_table(&table) {
+        Ok(top) => top,
+        Err(kind) => return Some(Err(faulty(Place::Top, kind))),
+    };
+    let setup = match setup_of(top.bound, top.mode, top.servers) {
+        Ok(setup) => setup,
+        Err(fault) => return Some(Err(fault)),
+    };
+    if !terms.are_of(top.format, setup.plan().len() as u64) {
+        return None;
+    }
+    match fault {
+        Some(kind) => Some(Err(faulty(Place::Step(steps.len() as u64), kind))),
+        None => Some(Ok(TaskFile {
+            setup,
+            backlog: top.backlog,
+            ring: top.ring,
+            steps,
+        })),
+    }
+}
+
+/// Returns the file that the bytes spell, or its first fault, if its document has simple keys alone, and the array of the steps
+/// last. Returns `None` for another shape.
+fn read_apart(alloc: Global, bytes: &[u8]) -> Option<Result<TaskFile, FileFault>>
+    ensures { IfSome result (λ r. Gives no_memory (λ f. f) r (file bytes.now)) }
+{
+    let Ok(text) = std::str::from_utf8(bytes) else {
+        return None;
+    };
+    match read_document(alloc, text) {
+        Ok(document) => finish(alloc, document),
+        Err(Stop::NotToml) => Some(Err(faulty(Place::Top, FileKind::NotToml))),
+        Err(Stop::OutOfMemory) => Some(Err(faulty(Place::Top, FileKind::OutOfMemory))),
+        Err(Stop::Unusual) => None,
+    }
+}
+
+/// Returns the task file that the bytes spell, or its first fault.
+fn spelled_file(alloc: Global, bytes: &[u8]) -> Result<TaskFile, FileFault>
+    ensures { Gives no_memory (λ f. f) result (file bytes.now) }
+{
+    match read_apart(alloc, bytes) {
+        Some(result) => result,
+        None => read_whole(alloc, bytes),
+    }
 }
 
 /// The task file that the bytes spell, or its first fault, as [`read_file`] reads it, where the bytes want at most `memory`

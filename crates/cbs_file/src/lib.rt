@@ -5,7 +5,9 @@
 mod entries;
 mod file;
 mod format;
+mod stream;
 mod task_file;
+mod terms;
 mod top;
 
 pub use cbs_tables::{FileFault, FileKind, MEMORY, Place, wants_within};

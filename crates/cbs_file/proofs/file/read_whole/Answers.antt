@@ -8,7 +8,7 @@ use Rattle.cbs_tables.specs.Documents.{at, document, no_memory, taken_in}
 use Rattle.cbs_file.specs.TopTables.{top_table, top_view}
 use Rattle.cbs_rules.specs.Setups.{no_servers}
 use Rattle.cbs_tables.proofs.Places.{Gives-at, gives_ok}
-use Rattle.cbs_file.proofs.file.spelled_file.Goals as goal
+use Rattle.cbs_file.proofs.file.read_whole.Goals as goal
 
 pub returns : goal.returns
 unfolding file

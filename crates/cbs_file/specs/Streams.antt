@@ -1,0 +1,53 @@
+-- What was read of the steps of a file, entry by entry.
+use Rattle.std.specs.Prelude.{◌≡◌, ℕ, codes, List, length, Option, Some, None, Result, Ok, Err, MatchResult, All}
+use Rattle.std.specs.Borrow.{Bor}
+use Rattle.std.specs.Ordering.{nat_cmp, match_ordering}
+use Rattle.std.specs.Cmp.Lexicographic.{slice_cmp}
+use Rattle.toml.specs.Data.{Data, array, Items, Members, no_members, member, get_member}
+use Rattle.toml.specs.View.{table_view}
+use Rattle.toml_parser.specs.Lexical.{Read}
+use Rattle.cbs_job.specs.declared.file.FileJob.{FileJob}
+use Rattle.cbs_steps.specs.declared.step.Step.{Step}
+use Rattle.cbs_read.specs.declared.stop.Stop.{Stop}
+use Rattle.cbs_read.specs.declared.stop.Stop.TheVariants.{NotToml}
+use Rattle.cbs_tables.specs.declared.fault.FileKind.{FileKind}
+use Rattle.cbs_tables.specs.declared.fault.FileFault.{FileFault}
+use Rattle.cbs_tables.specs.declared.fault.Place.TheVariants.{Step as AtStep}
+use Rattle.cbs_tables.specs.Documents.{at, faulty}
+use Rattle.cbs_tables.specs.Fields.{list_of, each_from}
+use Rattle.cbs_file.specs.declared.stream.Document.{Document}
+use Rattle.cbs_file.specs.declared.stream.StepsRead.{StepsRead}
+use Rattle.cbs_file.specs.declared.terms.Terms.{Terms}
+use Rattle.cbs_file.specs.Entries.{step_entry}
+use Rattle.cbs_file.specs.TaskFiles.{IsFileStep}
+
+-- the steps, or the first fault, which stands after them
+abbrev pub outcome : List (Step FileJob) → Option FileKind → Result (List (Step FileJob)) FileFault
+outcome steps None = Ok steps
+outcome steps (Some kind) = Err (faulty (AtStep (length steps)) kind)
+
+-- the entries spell what was read of them, by these terms
+abbrev pub Spells : Terms → StepsRead → List Data → Type 0
+Spells t r entries = (each_from 0 (λ i entry. at (AtStep i) (step_entry t.format t.servers entry)) entries ≡ outcome r.steps.items r.fault)
+    × All (IsFileStep t.servers) r.steps.items
+
+-- the items that the grammar gives spell what was read, or the grammar refuses
+abbrev pub ReadsSteps : Terms → Result (StepsRead × Bor (List ℕ)) Stop → Read Items → Type 0
+ReadsSteps t r expected =
+    MatchResult r (λ p. (ds : Items) × (expected ≡ Some (ds, p.1.now)) × Spells t p.0 (list_of ds)) (λ e. e ≡ NotToml → expected ≡ None)
+
+-- the members with one more, at its place in the order
+abbrev pub insert_member : List ℕ → Data → Members → Members
+insert_member k x no_members = member k x no_members
+insert_member k x (member l d ms) = match_ordering (slice_cmp nat_cmp k l) (member k x (member l d ms)) (member l x ms) (member l d (insert_member k x ms))
+
+-- a document that was read is the table, with the steps at their key if they were read apart
+abbrev pub IsDocument : Document → Option StepsRead → Option Members → Type 0
+IsDocument doc None expected = expected ≡ Some (table_view doc.table)
+IsDocument doc (Some r) expected =
+    (ds : Items) × (expected ≡ Some (insert_member (codes "step") (array ds) (table_view doc.table))) × (get_member (codes "step") (table_view doc.table) ≡ None)
+    × Spells doc.terms r (list_of ds)
+
+-- what was read is the document that the grammar gives, or the grammar refuses
+abbrev pub ReadsDocument : Result Document Stop → Option Members → Type 0
+ReadsDocument r expected = MatchResult r (λ p. IsDocument p p.read expected) (λ e. e ≡ NotToml → expected ≡ None)

@@ -1,0 +1,109 @@
+//! Values, arrays and inline tables.
+ghost use Rattle.std.specs.Prelude.{◌≡◌, ℕ, ◌<◌, ◌≤◌, length, IfOk};
+ghost use Rattle.toml.specs.Data.{no_items};
+ghost use Rattle.toml.specs.View.{view, array_view, table_view};
+ghost use Rattle.toml.specs.Tables.{no_nodes, put};
+ghost use Rattle.toml.specs.Parse as spec;
+ghost use Rattle.toml_parser.specs.Reading.{key_view};
+ghost use Rattle.cbs_read.specs.Reading.{Gives, Reads, Shortens, nodes_of};
+
+use crate::stop::Stop;
+use crate::tokens::{atom, key_equals, simple};
+use std::alloc::Global;
+use std::collections::BTreeMap;
+use toml::{Table, Value};
+use toml_parser::Key;
+use toml_parser::text::{first, skip, skip_blank};
+
+/// Returns the value at the front of a text, with arrays and inline tables at most `depth` deep and no key with dots, and the text
+/// after it.
+#[cycle(value)]
+pub fn value(alloc: Global, s: &str, depth: usize) -> Result<(Value, &str), Stop>
+    ensures value { Reads view result (spec.val depth s.now) }
+    ensures shorter { Shortens s.now result }
+{
+    let byte = first(s);
+    if byte != b'[' && byte != b'{' {
+        return atom(alloc, s);
+    }
+    if depth == 0 {
+        return Err(Stop::NotToml);
+    }
+    if byte == b'[' {
+        let (items, rest) = array(alloc, skip(s, 1), depth - 1)?;
+        Ok((Value::Array(items), rest))
+    } else {
+        let (members, rest) = inline_table(alloc, skip(s, 1), depth - 1)?;
+        Ok((Value::Table(members), rest))
+    }
+}
+
+/// Returns the items of an array whose bracket was read, and the text after it.
+#[cycle(value)]
+fn array(alloc: Global, s: &str, depth: usize) -> Result<(Vec<Value>, &str), Stop>
+    ensures value { (n : ℕ) → length s.now < n → Reads array_view result (spec.items (spec.val depth) n no_items s.now) }
+    ensures shorter { Shortens s.now result }
+{
+    let mut found = Vec::new(alloc);
+    let mut rest = s;
+    'items: loop {
+        let start = skip_blank(rest, true);
+        if first(start) == b']' {
+            return Ok((found, skip(start, 1)));
+        }
+        let (item, after) = value(alloc, start, depth)?;
+        let Ok(()) = found.push(item) else {
+            return Err(Stop::OutOfMemory);
+        };
+        rest = after_element(after, b']')?;
+    }
+}
+
+/// Returns the members of an inline table whose brace was read, and the text after it.
+#[cycle(value)]
+fn inline_table(alloc: Global, s: &str, depth: usize) -> Result<(Table, &str), Stop>
+    ensures value { (n : ℕ) → length s.now < n → Reads table_view result (spec.members (spec.val depth) n no_nodes s.now) }
+    ensures shorter { Shortens s.now result }
+{
+    let mut found = BTreeMap::new(alloc);
+    let mut rest = s;
+    'members: loop {
+        let start = skip_blank(rest, true);
+        if first(start) == b'}' {
+            return Ok((found, skip(start, 1)));
+        }
+        let (key, at_value) = key_equals(alloc, start)?;
+        let (member, after) = value(alloc, at_value, depth)?;
+        put(&mut found, key, member)?;
+        rest = after_element(after, b'}')?;
+    }
+}
+
+/// Adds a pair to a table. Refuses a key that the table has.
+pub fn put(table: &mut Table, key: Key, value: Value) -> Result<(), Stop>
+    ensures { Gives (λ _. nodes_of (table_view table.new)) result (put (key_view key) (view value) (nodes_of (table_view table.old))) }
+{
+    let key = simple(key)?;
+    if table.contains_key(key.as_str()) {
+        return Err(Stop::NotToml);
+    }
+    match table.insert(key, value) {
+        Ok(_) => Ok(()),
+        Err(_) => Err(Stop::OutOfMemory),
+    }
+}
+
+/// Returns the text after the comma that follows an element, or at the bracket that closes its array or table.
+pub fn after_element(s: &str, closing: u8) -> Result<&str, Stop>
+    ensures value { Gives (λ rest. rest.now) result (spec.after_element closing s.now) }
+    ensures within { IfOk result (λ rest. length rest.now ≤ length s.now) }
+{
+    let rest = skip_blank(s, true);
+    if first(rest) == b',' {
+        Ok(skip(rest, 1))
+    } else if first(rest) == closing {
+        Ok(rest)
+    } else {
+        Err(Stop::NotToml)
+    }
+}
