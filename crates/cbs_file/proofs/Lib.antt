@@ -1,4 +1,4 @@
+pub mod Documents
 pub mod OtherSteps
-pub mod PairLines
 pub mod ReadApart
 pub mod StepsRead

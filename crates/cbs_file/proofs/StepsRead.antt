@@ -15,7 +15,7 @@ use Rattle.std.specs.Result.{IsErrAnd}
 use Rattle.toml_parser.specs.Lexical.{Read}
 use Rattle.cbs_read.specs.declared.stop.Stop.{Stop}
 use Rattle.cbs_read.specs.declared.stop.Stop.TheVariants.{NotToml}
-use Rattle.cbs_file.specs.declared.stream.StepsRead.{StepsRead}
+use Rattle.cbs_file.specs.declared.steps.StepsRead.{StepsRead}
 use Rattle.cbs_file.specs.declared.terms.Terms.{Terms}
 use Rattle.std.specs.Prelude.{All}
 use Rattle.std.proofs.lemmas.List.Elements.{All-nil}

@@ -4,6 +4,7 @@ use Rattle.std.specs.Borrow.{Bor}
 use Rattle.std.specs.Ordering.{nat_cmp, match_ordering}
 use Rattle.std.specs.Cmp.Lexicographic.{slice_cmp}
 use Rattle.toml.specs.Data.{Data, array, Items, Members, no_members, member, get_member}
+use Rattle.toml.specs.Tables.{Nodes, close, Document as Lines}
 use Rattle.toml.specs.View.{table_view}
 use Rattle.toml_parser.specs.Lexical.{Read}
 use Rattle.cbs_job.specs.declared.file.FileJob.{FileJob}
@@ -16,7 +17,7 @@ use Rattle.cbs_tables.specs.declared.fault.Place.TheVariants.{Step as AtStep}
 use Rattle.cbs_tables.specs.Documents.{at, faulty}
 use Rattle.cbs_tables.specs.Fields.{list_of, each_from}
 use Rattle.cbs_file.specs.declared.stream.Document.{Document}
-use Rattle.cbs_file.specs.declared.stream.StepsRead.{StepsRead}
+use Rattle.cbs_file.specs.declared.steps.StepsRead.{StepsRead}
 use Rattle.cbs_file.specs.declared.terms.Terms.{Terms}
 use Rattle.cbs_file.specs.Entries.{step_entry}
 use Rattle.cbs_file.specs.TaskFiles.{IsFileStep}
@@ -40,6 +41,12 @@ ReadsSteps t r expected =
 abbrev pub insert_member : List ℕ → Data → Members → Members
 insert_member k x no_members = member k x no_members
 insert_member k x (member l d ms) = match_ordering (slice_cmp nat_cmp k l) (member k x (member l d ms)) (member l x ms) (member l d (insert_member k x ms))
+
+-- the lines that the grammar takes add the tables that spell what was read, at the key of the steps; or the grammar refuses
+abbrev pub ReadsStepTables : Terms → Nodes → Result StepsRead Stop → Option Lines → Type 0
+ReadsStepTables t root r expected = MatchResult r
+    (λ found. (ds : Items) × (doc : Lines) × (expected ≡ Some doc) × (close doc.0 ≡ insert_member (codes "step") (array ds) (close root)) × Spells t found (list_of ds))
+    (λ e. e ≡ NotToml → expected ≡ None)
 
 -- a document that was read is the table, with the steps at their key if they were read apart
 abbrev pub IsDocument : Document → Option StepsRead → Option Members → Type 0

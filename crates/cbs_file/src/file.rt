@@ -18,7 +18,8 @@ ghost use Rattle.cbs_rules.specs.Setups.{no_servers};
 
 use crate::entries::{server_entry, step_entry};
 use crate::format::Format;
-use crate::stream::{Document, StepsRead, read_document};
+use crate::steps::StepsRead;
+use crate::stream::{Document, read_document};
 use crate::task_file::TaskFile;
 use crate::top::top_table;
 use cbs_core::Step;

@@ -5,6 +5,7 @@
 mod entries;
 mod file;
 mod format;
+mod steps;
 mod stream;
 mod task_file;
 mod terms;

@@ -1,33 +1,21 @@
-//! The steps of a task file, read entry by entry, so that its document is never whole in memory.
+//! The document of a task file, read line by line, so that it is never whole in memory: its steps are read apart.
 
-ghost use Rattle.std.specs.Prelude.{◌≡◌, ◌<◌, ◌≤◌, ℕ, true, codes, length, List, ◌++◌, ◌∷◌, [], OnOk, IfOk, IfErr, IfSome, All};
-ghost use Rattle.toml.specs.Data.{Data, no_items};
+ghost use Rattle.std.specs.Prelude.{◌≡◌, ◌<◌, ◌≤◌, ℕ, true, codes, length, List, [], IfOk, IfSome, All, option_map};
 ghost use Rattle.toml.specs.Parse as spec;
-ghost use Rattle.toml.specs.View.{view};
+ghost use Rattle.toml.specs.Tables.{Nodes, close};
+ghost use Rattle.toml.specs.View.{table_view};
 ghost use Rattle.toml_parser.specs.Reading.{key_view};
-ghost use Rattle.cbs_read.specs.Reading.{Shortens};
-ghost use Rattle.cbs_read.specs.declared.stop.Stop.TheVariants.{OutOfMemory};
-ghost use Rattle.cbs_file.specs.Streams.{Spells, ReadsSteps, ReadsDocument};
+ghost use Rattle.cbs_file.specs.Streams.{ReadsDocument};
 ghost use Rattle.cbs_file.specs.TaskFiles.{IsFileStep};
 
-use crate::entries::step_entry;
+use crate::steps::{StepsRead, step_array, step_tables};
 use crate::terms::Terms;
-use cbs_core::Step;
-use cbs_job::FileJob;
-use cbs_read::{Stop, after_element, key_equals, put, value};
-use cbs_tables::FileKind;
+use cbs_read::{Stop, array_header, array_of_tables, ends_line, key_equals, put, value};
 use std::alloc::Global;
 use std::collections::BTreeMap;
 use toml::{Table, Value};
 use toml_parser::Key;
 use toml_parser::text::{byte_at, first, skip, skip_blank, skip_ws};
-
-/// What was read of the steps: those before the first fault, and its kind.
-#[derive(Drop)]
-pub struct StepsRead {
-    pub steps: Vec<Step<FileJob>>,
-    pub fault: Option<FileKind>,
-}
 
 /// The table of a document. If the steps stand last, it lacks them, and beside it stands what was read of them, by which terms.
 #[derive(Drop)]
@@ -35,68 +23,6 @@ pub struct Document {
     pub table: Table,
     pub terms: Terms,
     pub read: Option<StepsRead>,
-}
-
-impl StepsRead {
-    /// Takes one more entry.
-    fn take(&mut self, alloc: Global, terms: Terms, entry: &Value) -> Result<(), Stop>
-        ensures took { OnOk result ((entries : List Data) → Spells terms self.old entries → Spells terms self.new (entries ++ view entry.now ∷ [])) }
-        ensures memory { IfErr result (λ e. e ≡ OutOfMemory) }
-    {
-        if self.fault.is_some() {
-            return Ok(());
-        }
-        match step_entry(alloc, terms.format, terms.servers, entry) {
-            Ok(step) => {
-                let Ok(()) = self.steps.push(step) else {
-                    return Err(Stop::OutOfMemory);
-                };
-            }
-            Err(kind) => {
-                if kind == FileKind::OutOfMemory {
-                    return Err(Stop::OutOfMemory);
-                }
-                self.fault = Some(kind);
-            }
-        }
-        Ok(())
-    }
-}
-
-/// Takes one more entry, and lets it go.
-fn take(found: &mut StepsRead, alloc: Global, terms: Terms, entry: Value) -> Result<(), Stop>
-    ensures took { OnOk result ((entries : List Data) → Spells terms found.old entries → Spells terms found.new (entries ++ view entry ∷ [])) }
-    ensures memory { IfErr result (λ e. e ≡ OutOfMemory) }
-{
-    found.take(alloc, terms, &entry)
-}
-
-/// Returns the steps of an array whose bracket was read, and the text after it.
-fn steps(alloc: Global, terms: Terms, s: &str) -> Result<(StepsRead, &str), Stop>
-    ensures value { (n : ℕ) → length s.now < n → ReadsSteps terms result (spec.items (spec.val 79) n no_items s.now) }
-    ensures shorter { Shortens s.now result }
-{
-    let mut found = StepsRead {
-        steps: Vec::new(alloc),
-        fault: None,
-    };
-    let mut rest = s;
-    'items: loop {
-        let start = skip_blank(rest, true);
-        if first(start) == b']' {
-            return Ok((found, skip(start, 1)));
-        }
-        let (entry, after) = value(alloc, start, 79)?;
-        take(&mut found, alloc, terms, entry)?;
-        rest = after_element(after, b']')?;
-    }
-}
-
-/// Returns whether a line may end here.
-fn ends_line(s: &str) -> bool
-    ensures { result ≡ spec.ends_line s.now }
-{
-    s.is_empty() || matches!(first(s), b'#' | b'\n' | b'\r')
 }
 
 /// Returns whether the key is `step`.
@@ -118,7 +44,47 @@ fn skip_bom(s: &str) -> &str
     }
 }
 
-/// Returns the document of pairs with simple keys, of which the last may be the array of the steps.
+/// Returns the document of a table, whose other lines are arrays of tables.
+fn read_tables(alloc: Global, table: Table, s: &str) -> Result<Document, Stop>
+    ensures value { (n : ℕ) (root : Nodes) (path : List (List ℕ)) → close root ≡ table_view table → length s.now < n
+        → ReadsDocument result (option_map (λ doc. close doc.0) (spec.lines n (root, path) s.now)) }
+    ensures named { IfOk result (λ d. IfSome d.read (λ r. All (IsFileStep d.terms.servers) r.steps.items)) }
+{
+    let mut table = table;
+    let mut rest = s;
+    'arrays: loop {
+        let start = skip_blank(rest, true);
+        if start.is_empty() {
+            let terms = Terms::of(&table);
+            return Ok(Document {
+                table,
+                terms,
+                read: None,
+            });
+        }
+        let (key, body) = array_header(alloc, start)?;
+        if table.contains_key(key.as_str()) {
+            return Err(Stop::Unusual);
+        }
+        if key.as_str() == "step" {
+            let terms = Terms::of(&table);
+            let read = step_tables(alloc, terms, body)?;
+            return Ok(Document {
+                table,
+                terms,
+                read: Some(read),
+            });
+        }
+        let (tables, after) = array_of_tables(alloc, key.as_str(), body)?;
+        let Ok(_) = table.insert(key, Value::Array(tables)) else {
+            return Err(Stop::OutOfMemory);
+        };
+        rest = after;
+    }
+}
+
+/// Returns the document of a text with simple keys: pairs, and then arrays of tables under headers in double brackets. The steps stand
+/// last: as the array of a pair, or under such headers.
 pub fn read_document(alloc: Global, s: &str) -> Result<Document, Stop>
     ensures value { ReadsDocument result (spec.parse_document s.now) }
     ensures named { IfOk result (λ d. IfSome d.read (λ r. All (IsFileStep d.terms.servers) r.steps.items)) }
@@ -136,12 +102,12 @@ pub fn read_document(alloc: Global, s: &str) -> Result<Document, Stop>
             });
         }
         if first(start) == b'[' {
-            return Err(Stop::Unusual);
+            return read_tables(alloc, table, rest);
         }
         let (key, at_value) = key_equals(alloc, start)?;
         if is_step(&key) && first(at_value) == b'[' {
             let terms = Terms::of(&table);
-            let (read, after) = steps(alloc, terms, skip(at_value, 1))?;
+            let (read, after) = step_array(alloc, terms, skip(at_value, 1))?;
             if !ends_line(skip_ws(after)) {
                 return Err(Stop::NotToml);
             }

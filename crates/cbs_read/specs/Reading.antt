@@ -1,11 +1,21 @@
 -- How a result of a reader stands to what the grammar gives.
-use Rattle.std.specs.Prelude.{◌≡◌, ℕ, ◌<◌, List, length, Option, Some, None, Result, MatchResult, IfOk}
+use Rattle.std.specs.Prelude.{◌≡◌, ℕ, ◌<◌, List, [], ◌∷◌, length, Option, Some, None, option_map, Result, MatchResult, IfOk, String, Vec}
 use Rattle.std.specs.Borrow.{Bor}
+use Rattle.std.specs.BTreeMap.{BTreeMap}
+use Rattle.std.specs.declared.alloc.Global.{Global}
 use Rattle.toml_parser.specs.Lexical.{Read}
-use Rattle.toml.specs.Data.{Members, no_members, member}
-use Rattle.toml.specs.Tables.{Nodes, no_nodes, node, value}
+use Rattle.toml_parser.specs.Strings.{Key}
+use Rattle.toml.specs.Data.{Data, table, Items, no_items, push_item, Members, no_members, member}
+use Rattle.toml.specs.Parse.{lines}
+use Rattle.toml.specs.Tables.{Nodes, no_nodes, node, value, open_array, insert, close, put, key_value, Document, define}
+use Rattle.toml.specs.View.{array_view, table_view}
+use Rattle.toml.specs.declared.value.Value.{Value}
 use Rattle.cbs_read.specs.declared.stop.Stop.{Stop}
 use Rattle.cbs_read.specs.declared.stop.Stop.TheVariants.{NotToml}
+
+-- the map of a table
+abbrev pub Table : Type 0
+Table = BTreeMap (String Global) Value
 
 -- the result is what the grammar gives, seen through f; a refusal says that the grammar refuses, and other stops say nothing
 abbrev pub Gives : {A B : Type 0} → (A → B) → Result A Stop → Option B → Type 0
@@ -23,3 +33,25 @@ Shortens text r = IfOk r (λ p. length p.1.now < length text)
 abbrev pub nodes_of : Members → Nodes
 nodes_of no_members = no_nodes
 nodes_of (member k d ms) = node k (value d) (nodes_of ms)
+
+-- where the pairs of a text go: into the nodes that a document has there
+abbrev pub IsPlace : (Nodes → Document) → Type 0
+IsPlace at = (ns : Nodes) (key : Key) (d : Data) → define (at ns) (key, key_value d) ≡ option_map at (put key d ns)
+
+-- the lines of a text up to some other one are the pairs of a table, which go to a place; or the grammar refuses
+abbrev pub ReadsPairs : ℕ → (Nodes → Document) → List ℕ → Result (Table × Bor (List ℕ)) Stop → Type 0
+ReadsPairs n at text r = MatchResult r
+    (λ p. (m : ℕ) × (length p.1.now < m) × (lines n (at no_nodes) text ≡ lines m (at (nodes_of (table_view p.0))) p.1.now))
+    (λ e. e ≡ NotToml → lines n (at no_nodes) text ≡ None)
+
+-- the document in which an array of tables grows, at a key of the top table: what is done of it, and its last table
+abbrev pub growing : List ℕ → Nodes → Items → Nodes → Document
+growing key root done last = (insert key (open_array done last) root, key ∷ [])
+
+-- the lines of a text, after the header of the first table of an array, up to some other one are the tables of the array
+abbrev pub ReadsTables : List ℕ → ℕ → Nodes → List ℕ → Result (Vec Value Global × Bor (List ℕ)) Stop → Type 0
+ReadsTables key n root text r = MatchResult r
+    (λ p. (m : ℕ) × (length p.1.now < m) × (done : Items) × (last : Nodes)
+        × (lines n (growing key root no_items no_nodes) text ≡ lines m (growing key root done last) p.1.now)
+        × (array_view p.0 ≡ push_item done (table (close last))))
+    (λ e. e ≡ NotToml → lines n (growing key root no_items no_nodes) text ≡ None)

@@ -1,10 +1,14 @@
-//! TOML values and pairs, read from the front of a text over the tokens of `toml_parser`.
+//! TOML values, pairs and arrays of tables, read from the front of a text over the tokens of `toml_parser`.
 #![tactic(auto)]
 
+mod lines;
 mod stop;
+mod tables;
 mod tokens;
 mod values;
 
+pub use lines::{array_header, ends_line, pairs};
 pub use stop::Stop;
+pub use tables::tables as array_of_tables;
 pub use tokens::key_equals;
 pub use values::{after_element, put, value};

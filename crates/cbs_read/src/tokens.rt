@@ -3,6 +3,7 @@ ghost use Rattle.std.specs.Prelude.{◌≡◌, true, string_bytes, [], IfOk, IfE
 ghost use Rattle.toml.specs.View.{view};
 ghost use Rattle.toml.specs.Parse as spec;
 ghost use Rattle.toml_parser.specs.Reading.{key_view};
+ghost use Rattle.toml_parser.specs.Strings.{key};
 ghost use Rattle.toml_parser.specs.declared.error.ParseError.TheVariants.{OutOfMemory};
 ghost use Rattle.cbs_read.specs.Reading.{Reads, Shortens};
 ghost use Rattle.cbs_read.specs.declared.stop.Stop.TheVariants.{NotToml, Unusual};
@@ -50,6 +51,17 @@ pub fn atom(alloc: Global, s: &str) -> Result<(Value, &str), Stop>
             Ok((scalar, rest)) => Ok((scalar_value(scalar), rest)),
             Err(error) => Err(stop(error)),
         }
+    }
+}
+
+/// Returns the key at the front of a text, and the text after the blanks that follow it.
+pub fn dotted(alloc: Global, s: &str) -> Result<(Key, &str), Stop>
+    ensures value { Reads key_view result (key s.now) }
+    ensures shorter { Shortens s.now result }
+{
+    match dotted_key(alloc, s) {
+        Ok((key, rest)) => Ok((key, rest)),
+        Err(error) => Err(stop(error)),
     }
 }
 

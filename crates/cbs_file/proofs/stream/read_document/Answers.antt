@@ -6,12 +6,13 @@ use Rattle.toml_parser.specs.Strings.{Key}
 use Rattle.toml.specs.Data.{get_member, array}
 use Rattle.toml.specs.View.{table_view}
 use Rattle.toml.specs.Tables.{Document}
-use Rattle.toml.specs.Parse.{key_equals, val, ends_line}
+use Rattle.toml.specs.Parse.{parse_document, key_equals, val, ends_line}
 use Rattle.toml.proofs.Turns.{document_none, document_some, lines_end, lines_more, lines_bad, lines_refused, val_open_array}
 use Rattle.cbs_read.specs.Reading.{nodes_of}
-use Rattle.cbs_read.proofs.Pairs.{close-nodes_of, has_key, is_none, put_new}
+use Rattle.cbs_read.proofs.Puts.{close-nodes_of, has_key, is_none, put_new}
 use Rattle.cbs_file.specs.Streams.{insert_member}
-use Rattle.cbs_file.proofs.PairLines.{line_pair, line_no_end, line_no_key, line_no_value, define_pair, define_again, nodes_of-insert_member, document_err}
+use Rattle.cbs_read.proofs.LineReads.{line_pair, line_no_end, line_no_key, line_no_value, define_pair, define_again}
+use Rattle.cbs_file.proofs.Documents.{nodes_of-insert_member, document_err}
 use Rattle.cbs_file.proofs.stream.read_document.Goals as goal
 
 pub lines-init : goal.lines-init
@@ -201,3 +202,12 @@ pub returns-then-first-eq91-2-clause-named : goal.returns-then-first-eq91-2-clau
 returns-then-first-eq91-2-clause-named c =
     let (ds, got, spells) = c.in_ok-read.ensures.value (length c.in_ok-key.at_value.now) c.skip.ensures.shorter in
     spells.1
+
+pub returns-then-first-eq91-clause-value : goal.returns-then-first-eq91-clause-value
+unfolding parse_document
+returns-then-first-eq91-clause-value c =
+    let l = c.lines in
+    let m = l.invariant.2 in
+    let room = l.invariant.3 in
+    let loop = l.invariant.4 in
+    rw loop (c.read_tables.ensures.value m (nodes_of (table_view l.table)) [] (close-nodes_of (table_view l.table)) room)

@@ -3,7 +3,7 @@ use Rattle.toml.specs.Data.{get_member}
 use Rattle.toml.specs.Tables.{put}
 use Rattle.toml.specs.View.{table_view, view}
 use Rattle.cbs_read.specs.Reading.{nodes_of}
-use Rattle.cbs_read.proofs.Pairs.{put_new, put_again, is_none, has_key, nodes_of-insert}
+use Rattle.cbs_read.proofs.Puts.{put_new, put_again, is_none, has_key, nodes_of-insert}
 use Rattle.cbs_read.proofs.values.put.Goals as goal
 
 pub returns-then-contains_key : goal.returns-then-contains_key

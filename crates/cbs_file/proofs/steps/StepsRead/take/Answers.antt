@@ -4,7 +4,7 @@ use Rattle.toml.specs.View.{view}
 use Rattle.cbs_file.specs.TaskFiles.{IsFileStep}
 use Rattle.cbs_file.specs.Entries.{step_entry}
 use Rattle.cbs_file.proofs.StepsRead.{after_fault, one_more, first_fault}
-use Rattle.cbs_file.proofs.stream.StepsRead.take.Goals as goal
+use Rattle.cbs_file.proofs.steps.StepsRead.take.Goals as goal
 
 pub returns-then-is_some-clause-took : goal.returns-then-is_some-clause-took
 returns-then-is_some-clause-took c ds h = (after_fault c.args.terms c.args.self.now.steps.items c.args.self.now.fault ds (view c.args.entry.now) (rw (← c.is_some.ensures) c.if-is_some.true) h.0, h.1)

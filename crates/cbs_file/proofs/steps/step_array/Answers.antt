@@ -6,11 +6,11 @@ use Rattle.toml.specs.View.{view}
 use Rattle.toml.specs.Parse.{val}
 use Rattle.toml.proofs.Turns.{items_end, items_more, items_bad, items_bad_end}
 use Rattle.cbs_tables.specs.Fields.{list_of}
-use Rattle.cbs_file.proofs.StepsRead.{none_yet, steps_err, list_of-push}
-use Rattle.cbs_file.proofs.stream.steps.Goals as goal
+use Rattle.cbs_file.proofs.StepsRead.{steps_err, list_of-push}
+use Rattle.cbs_file.proofs.steps.step_array.Goals as goal
 
 pub items-init : goal.items-init
-items-init c = (search rules, le_refl _, λ n h. (n, no_items, h, refl, none_yet c.args.terms c.new.result.items c.new.ensures.items))
+items-init c = (search rules, le_refl _, λ n h. (n, no_items, h, refl, c.new-found.ensures c.args.terms))
 
 pub returns-then-first-eq93-clause-value : goal.returns-then-first-eq93-clause-value
 returns-then-first-eq93-clause-value c n h =

@@ -5,7 +5,7 @@ use Rattle.toml.specs.Data.{Items, no_items}
 use Rattle.toml.specs.Parse.{val, items}
 use Rattle.cbs_tables.specs.Fields.{list_of}
 use Rattle.cbs_file.specs.Streams.{Spells}
-use Rattle.cbs_file.proofs.stream.steps.Given as goal
+use Rattle.cbs_file.proofs.steps.step_array.Given as goal
 
 abbrev pub invariant-items : goal.invariant-items
 invariant-items l =

@@ -1,0 +1,112 @@
+//! The steps of a task file, read entry by entry: each is taken, and let go.
+
+ghost use Rattle.std.specs.Prelude.{◌≡◌, ◌<◌, ◌≤◌, ℕ, codes, length, List, ◌++◌, ◌∷◌, [], OnOk, IfErr};
+ghost use Rattle.toml.specs.Data.{Data, no_items};
+ghost use Rattle.toml.specs.Parse as spec;
+ghost use Rattle.toml.specs.Tables.{Nodes, no_nodes};
+ghost use Rattle.toml.specs.View.{view};
+ghost use Rattle.cbs_read.specs.Reading.{Shortens, growing};
+ghost use Rattle.cbs_read.specs.declared.stop.Stop.TheVariants.{OutOfMemory};
+ghost use Rattle.cbs_file.specs.Streams.{Spells, ReadsSteps, ReadsStepTables};
+ghost use Rattle.cbs_file.specs.declared.terms.Terms.{Terms};
+
+use crate::entries::step_entry;
+use crate::terms::Terms;
+use cbs_core::Step;
+use cbs_job::FileJob;
+use cbs_read::{Stop, after_element, array_header, pairs, value};
+use cbs_tables::FileKind;
+use std::alloc::Global;
+use toml::Value;
+use toml_parser::text::{first, skip, skip_blank};
+
+/// What was read of the steps: those before the first fault, and its kind.
+#[derive(Drop)]
+pub struct StepsRead {
+    pub steps: Vec<Step<FileJob>>,
+    pub fault: Option<FileKind>,
+}
+
+impl StepsRead {
+    /// Returns what was read before the first entry.
+    fn new(alloc: Global) -> StepsRead
+        ensures { (terms : Terms) → Spells terms result [] }
+    {
+        StepsRead {
+            steps: Vec::new(alloc),
+            fault: None,
+        }
+    }
+
+    /// Takes one more entry.
+    fn take(&mut self, alloc: Global, terms: Terms, entry: &Value) -> Result<(), Stop>
+        ensures took { OnOk result ((entries : List Data) → Spells terms self.old entries → Spells terms self.new (entries ++ view entry.now ∷ [])) }
+        ensures memory { IfErr result (λ e. e ≡ OutOfMemory) }
+    {
+        if self.fault.is_some() {
+            return Ok(());
+        }
+        match step_entry(alloc, terms.format, terms.servers, entry) {
+            Ok(step) => {
+                let Ok(()) = self.steps.push(step) else {
+                    return Err(Stop::OutOfMemory);
+                };
+            }
+            Err(kind) => {
+                if kind == FileKind::OutOfMemory {
+                    return Err(Stop::OutOfMemory);
+                }
+                self.fault = Some(kind);
+            }
+        }
+        Ok(())
+    }
+}
+
+/// Takes one more entry, and lets it go.
+fn take(found: &mut StepsRead, alloc: Global, terms: Terms, entry: Value) -> Result<(), Stop>
+    ensures took { OnOk result ((entries : List Data) → Spells terms found.old entries → Spells terms found.new (entries ++ view entry ∷ [])) }
+    ensures memory { IfErr result (λ e. e ≡ OutOfMemory) }
+{
+    found.take(alloc, terms, &entry)
+}
+
+/// Returns the steps of an array whose bracket was read, and the text after the array.
+pub fn step_array(alloc: Global, terms: Terms, s: &str) -> Result<(StepsRead, &str), Stop>
+    ensures value { (n : ℕ) → length s.now < n → ReadsSteps terms result (spec.items (spec.val 79) n no_items s.now) }
+    ensures shorter { Shortens s.now result }
+{
+    let mut found = StepsRead::new(alloc);
+    let mut rest = s;
+    'items: loop {
+        let start = skip_blank(rest, true);
+        if first(start) == b']' {
+            return Ok((found, skip(start, 1)));
+        }
+        let (entry, after) = value(alloc, start, 79)?;
+        take(&mut found, alloc, terms, entry)?;
+        rest = after_element(after, b']')?;
+    }
+}
+
+/// Returns the steps of an array of tables whose first header was read. They go on to the end of the text.
+pub fn step_tables(alloc: Global, terms: Terms, s: &str) -> Result<StepsRead, Stop>
+    ensures { (n : ℕ) (root : Nodes) → length s.now < n
+        → ReadsStepTables terms root result (spec.lines n (growing (codes "step") root no_items no_nodes) s.now) }
+{
+    let mut found = StepsRead::new(alloc);
+    let mut rest = s;
+    'tables: loop {
+        let (table, after) = pairs(alloc, rest)?;
+        take(&mut found, alloc, terms, Value::Table(table))?;
+        let start = skip_blank(after, true);
+        if start.is_empty() {
+            return Ok(found);
+        }
+        let (next, body) = array_header(alloc, start)?;
+        if next.as_str() != "step" {
+            return Err(Stop::Unusual);
+        }
+        rest = body;
+    }
+}

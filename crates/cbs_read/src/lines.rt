@@ -1,0 +1,63 @@
+//! Lines: pairs, and headers in double brackets.
+
+ghost use Rattle.std.specs.Prelude.{◌≡◌, ℕ, [], ◌<◌, ◌≤◌, length, string_bytes, IfOk};
+ghost use Rattle.toml.specs.Parse as spec;
+ghost use Rattle.toml.specs.Tables.{Nodes, Document, array_table};
+ghost use Rattle.cbs_read.specs.Reading.{IsPlace, Reads, ReadsPairs, Shortens};
+
+use crate::stop::Stop;
+use crate::tokens::{dotted, key_equals, simple};
+use crate::values::{put, value};
+use std::alloc::Global;
+use std::collections::BTreeMap;
+use toml::Table;
+use toml_parser::text::{byte_at, first, skip, skip_blank, skip_ws};
+
+/// Returns whether a line may end here.
+pub fn ends_line(s: &str) -> bool
+    ensures { result ≡ spec.ends_line s.now }
+{
+    s.is_empty() || matches!(first(s), b'#' | b'\n' | b'\r')
+}
+
+/// Returns the table of the pairs at the front of a text, up to its end or the first header, and the text after them.
+pub fn pairs(alloc: Global, s: &str) -> Result<(Table, &str), Stop>
+    ensures value { (n : ℕ) (at : Nodes → Document) → IsPlace at → length s.now < n → ReadsPairs n at s.now result }
+    ensures within { IfOk result (λ p. length p.1.now ≤ length s.now) }
+{
+    let mut found = BTreeMap::new(alloc);
+    let mut rest = s;
+    'lines: loop {
+        let start = skip_blank(rest, true);
+        if start.is_empty() || first(start) == b'[' {
+            return Ok((found, rest));
+        }
+        let (key, at_value) = key_equals(alloc, start)?;
+        let (member, after) = value(alloc, at_value, 80)?;
+        if !ends_line(skip_ws(after)) {
+            return Err(Stop::NotToml);
+        }
+        put(&mut found, key, member)?;
+        rest = after;
+    }
+}
+
+/// Returns the key of the header in double brackets at the front of a text, and the text after it.
+pub fn array_header(alloc: Global, s: &str) -> Result<(String, &str), Stop>
+    ensures value { Reads (λ key. (([], string_bytes key), array_table)) result (spec.line s.now) }
+    ensures shorter { Shortens s.now result }
+{
+    if first(s) != b'[' || byte_at(s, 1) != b'[' {
+        return Err(Stop::Unusual);
+    }
+    let (key, closing) = dotted(alloc, skip_ws(skip(s, 2)))?;
+    if first(closing) != b']' || byte_at(closing, 1) != b']' {
+        return Err(Stop::NotToml);
+    }
+    let after = skip(closing, 2);
+    if !ends_line(skip_ws(after)) {
+        return Err(Stop::NotToml);
+    }
+    let key = simple(key)?;
+    Ok((key, after))
+}
