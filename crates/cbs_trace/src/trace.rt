@@ -65,8 +65,7 @@ fn process_text(alloc: Global, file: &str) -> Result<String, AllocError>
     ensures { IfOk result (λ text. string_bytes text ≡ process_text file.now) }
 {
     let args = named_args(alloc, file)?;
-    let text = about_text(alloc, "process_name", 0, args)?;
-    Ok(text)
+    about_text(alloc, "process_name", 0, args)
 }
 
 /// Appends the opening of the document, with the name of the file.

@@ -2,36 +2,75 @@
 //!
 //! What is said of the two loads was worked out by a program of its own, from another scheduler.
 
+use crate::tests::by_hand::by_hand;
 use crate::tests::loads::{PIPELINE, ROBOT};
 use crate::tests::picture_of;
+use cbs_chart::Picture;
 use cbs_timeline::timeline_text;
 use std::alloc::Global;
 use std::process::Abort;
 
-/// Requires that the timeline of a load, from one tick up to another, says this.
-fn says(rt: &impl Abort, alloc: Global, file: &str, load: &str, from: u64, to: u64, wanted: &str) {
-    let picture = picture_of(rt, alloc, file, load, from, to);
-    let text = timeline_text(alloc, &picture).ok().expect(rt, "memory");
+/// Requires that the timeline of a picture says this.
+fn says(rt: &impl Abort, alloc: Global, picture: &Picture, wanted: &str) {
+    let text = timeline_text(alloc, picture).ok().expect(rt, "memory");
     assert_eq!(rt; text.as_str(), wanted);
 }
 
 #[test]
 fn a_column_is_a_tick_of_up_to_240(rt: HostRuntime) {
-    says(&rt, rt.alloc(), "ROBOT.toml", ROBOT, 0, 200, ROBOT_TIMELINE);
+    let alloc = rt.alloc();
+    let picture = picture_of(&rt, alloc, "ROBOT.toml", ROBOT, 0, 200);
+    says(&rt, alloc, &picture, ROBOT_TIMELINE);
 }
 
 #[test]
 fn a_column_is_several_ticks_of_more(rt: HostRuntime) {
-    says(
-        &rt,
-        rt.alloc(),
-        "PIPELINE.toml",
-        PIPELINE,
-        0,
-        600,
-        PIPELINE_TIMELINE,
-    );
+    let alloc = rt.alloc();
+    let picture = picture_of(&rt, alloc, "PIPELINE.toml", PIPELINE, 0, 600);
+    says(&rt, alloc, &picture, PIPELINE_TIMELINE);
 }
+
+#[test]
+fn charged_ticks_are_no_units(rt: HostRuntime) {
+    let alloc = rt.alloc();
+    let picture = by_hand(&rt, alloc, "hand", 1, 20);
+    says(&rt, alloc, &picture, HAND_TIMELINE);
+}
+
+#[test]
+fn long_names_leave_fewer_columns(rt: HostRuntime) {
+    let alloc = rt.alloc();
+    let picture = by_hand(&rt, alloc, "a_name_of_thirty_two_letters-_-_", 0, 300);
+    says(&rt, alloc, &picture, NARROW_TIMELINE);
+}
+
+const HAND_TIMELINE: &str = "\
+HAND.toml, ticks 1 to 20
+
+      1         11
+      |    '    |    '
+      ^  xx     v
+hand   A////////a$$
+
+a b c   a unit of job 0, 1, 2 ..; a capital where it used the budget up
+.       has a job, waits      /  throttled, with a job      x  refused
+^       a job comes           v  server's deadline          *  both
+$       charged for its last unit
+";
+
+const NARROW_TIMELINE: &str = "\
+HAND.toml, ticks 0 to 300, a column is 8 ticks
+
+                                  0         80        160       240
+                                  |    '    |    '    |    '    |    '
+                                  x!
+a_name_of_thirty_two_letters-_-_  11
+
+1 to 9  ran in so many tenths of the column's ticks; # in all; + in fewer
+.       has a job, waits      /  throttled, with a job
+x       a job refused         !  a job late
+$       charged for its last unit
+";
 
 const ROBOT_TIMELINE: &str = "\
 ROBOT.toml, ticks 0 to 200
