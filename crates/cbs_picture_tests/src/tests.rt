@@ -7,6 +7,7 @@ use std::alloc::Global;
 use std::process::Abort;
 
 mod by_hand;
+mod charts;
 mod loads;
 mod timelines;
 mod traces;

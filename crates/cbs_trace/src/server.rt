@@ -1,6 +1,6 @@
 //! The events of one server, and who it is.
 
-ghost use Rattle.std.specs.Prelude.{◌≡◌, ◌<◌, ◌^◌, ◌++◌, IfOk, OnOk, string_bytes};
+ghost use Rattle.std.specs.Prelude.{◌≡◌, ◌-◌, ◌<◌, ◌^◌, ◌++◌, IfOk, OnOk, string_bytes};
 ghost use Rattle.cbs_trace.specs.Servers.{events_of};
 ghost use Rattle.cbs_trace.specs.Traces.{mode_word, next_text, server_text, title_text};
 
@@ -77,7 +77,7 @@ pub(crate) fn append_server(
     place: u64,
     drawn: &Drawn,
 ) -> Result<(), AllocError>
-    requires { place < 2 ^ 63 }
+    requires { place < 2 ^ 64 - 1 }
     ensures { OnOk result (string_bytes text.new ≡ string_bytes text.old ++ server_text place drawn.now) }
 {
     let title = title_text(alloc, &drawn.name, drawn.reservation, drawn.mode)?;

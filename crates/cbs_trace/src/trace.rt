@@ -1,6 +1,6 @@
 //! The whole trace.
 
-ghost use Rattle.std.specs.Prelude.{◌≡◌, ◌≤◌, ◌++◌, IfOk, OnOk, length, string_bytes};
+ghost use Rattle.std.specs.Prelude.{◌≡◌, ◌++◌, IfOk, OnOk, string_bytes};
 ghost use Rattle.cbs_trace.specs.Traces.{AreInOrder, IsTrace, all_events, lines_text, opening_text, process_text, servers_text, trace_text};
 
 use crate::events::{about_text, named_args};
@@ -16,7 +16,6 @@ pub(crate) const OPENING: &str =
 /// Returns the events of all servers.
 #[tactic(auto, unfolding(crate::specs::Traces::all_events))]
 fn all_events(alloc: Global, window: Window, servers: &[Drawn]) -> Result<Vec<Line>, AllocError>
-    requires { length servers.now ≤ 64 }
     ensures { IfOk result (λ lines. lines.items ≡ all_events window servers.now) }
 {
     let mut lines = Vec::new(alloc);
@@ -28,7 +27,6 @@ fn all_events(alloc: Global, window: Window, servers: &[Drawn]) -> Result<Vec<Li
 
 /// Returns the events of all servers, by their ticks.
 fn ordered_events(alloc: Global, window: Window, servers: &[Drawn]) -> Result<Vec<Line>, AllocError>
-    requires { length servers.now ≤ 64 }
     ensures { IfOk result (λ lines. AreInOrder (all_events window servers.now) lines.items) }
 {
     let mut lines = all_events(alloc, window, servers)?;
@@ -39,7 +37,6 @@ fn ordered_events(alloc: Global, window: Window, servers: &[Drawn]) -> Result<Ve
 /// Appends what is said of all servers.
 #[tactic(auto, unfolding(crate::specs::Traces::servers_text))]
 fn append_servers(alloc: Global, text: &mut String, servers: &[Drawn]) -> Result<(), AllocError>
-    requires { length servers.now ≤ 64 }
     ensures { OnOk result (string_bytes text.new ≡ string_bytes text.old ++ servers_text servers.now) }
 {
     for (place, server) in servers.iter().enumerate() {
@@ -81,7 +78,6 @@ fn append_opening(alloc: Global, text: &mut String, file: &str) -> Result<(), Al
 /// Returns a trace with these events in this order.
 #[tactic(auto, unfolding(crate::specs::Traces::trace_text))]
 fn trace_text(alloc: Global, picture: &Picture, lines: &[Line]) -> Result<String, AllocError>
-    requires { length picture.now.servers.items ≤ 64 }
     ensures { IfOk result (λ text. string_bytes text ≡ trace_text picture.now lines.now) }
 {
     let mut text = String::new(alloc);
@@ -94,7 +90,6 @@ fn trace_text(alloc: Global, picture: &Picture, lines: &[Line]) -> Result<String
 
 /// Returns a picture as a trace, in the Trace Event Format: a tick is a microsecond. The only error is out of memory.
 pub fn trace_json(alloc: Global, picture: &Picture) -> Result<String, AllocError>
-    requires few { length picture.now.servers.items ≤ 64 }
     ensures { IfOk result (λ text. IsTrace picture.now (string_bytes text)) }
 {
     let lines = ordered_events(alloc, picture.window, &picture.servers)?;

@@ -12,7 +12,6 @@ use std::process::Abort;
 
 /// Returns the trace of a picture.
 fn trace_of(rt: &impl Abort, alloc: Global, picture: &Picture) -> String {
-    assert!(rt; picture.servers.len() <= 64);
     trace_json(alloc, picture).ok().expect(rt, "memory")
 }
 
