@@ -67,7 +67,7 @@ pub(crate) fn finished_args(alloc: Global, took: u64, late: u64) -> Result<Value
     json!(in alloc; {"response": took, "late": late})
 }
 
-/// Returns a name.
+/// Returns the arguments of an event that says a name.
 #[tactic(auto, unfolding(crate::specs::Events::named_args))]
 pub(crate) fn named_args(alloc: Global, name: &str) -> Result<Value, AllocError>
     ensures value { IfOk result (λ v. view v ≡ named_args name.now) }
@@ -76,7 +76,7 @@ pub(crate) fn named_args(alloc: Global, name: &str) -> Result<Value, AllocError>
     json!(in alloc; {"name": name})
 }
 
-/// Returns a place.
+/// Returns the arguments of an event that says a place.
 #[tactic(auto, unfolding(crate::specs::Events::placed_args))]
 pub(crate) fn placed_args(alloc: Global, place: u64) -> Result<Value, AllocError>
     ensures value { IfOk result (λ v. view v ≡ placed_args place) }
@@ -85,7 +85,7 @@ pub(crate) fn placed_args(alloc: Global, place: u64) -> Result<Value, AllocError
     json!(in alloc; {"sort_index": place})
 }
 
-/// Returns that nothing more is said.
+/// Returns the arguments of an event that says nothing more.
 pub(crate) fn no_args(alloc: Global) -> Result<Value, AllocError>
     ensures value { IfOk result (λ v. view v ≡ no_args) }
     ensures plain { IfOk result (λ v. has_float (view v) ≡ false) }
@@ -93,7 +93,7 @@ pub(crate) fn no_args(alloc: Global) -> Result<Value, AllocError>
     json!(in alloc; {})
 }
 
-/// Returns something that goes on from one tick up to another, on a thread.
+/// Returns the event of something that goes on from one tick up to another, on a thread.
 #[tactic(auto, unfolding(crate::specs::Events::slice_data))]
 fn slice_value(
     alloc: Global,
@@ -118,7 +118,7 @@ fn slice_value(
     })
 }
 
-/// Returns something that goes on from one tick up to another, on a thread, as text.
+/// Returns the event of something that goes on from one tick up to another, on a thread, as text.
 pub(crate) fn slice_text(
     alloc: Global,
     name: &str,
@@ -134,7 +134,7 @@ pub(crate) fn slice_text(
     slice_value(alloc, name, cat, thread, from, to, args)?.to_string(alloc)
 }
 
-/// Returns something that is at a tick, on a thread.
+/// Returns the event of something at a tick, on a thread.
 #[tactic(auto, unfolding(crate::specs::Events::instant_data))]
 fn instant_value(
     alloc: Global,
@@ -158,7 +158,7 @@ fn instant_value(
     })
 }
 
-/// Returns something that is at a tick, on a thread, as text.
+/// Returns the event of something at a tick, on a thread, as text.
 pub(crate) fn instant_text(
     alloc: Global,
     name: &str,
@@ -173,7 +173,7 @@ pub(crate) fn instant_text(
     instant_value(alloc, name, cat, thread, tick, args)?.to_string(alloc)
 }
 
-/// Returns a budget from a tick on.
+/// Returns the event of a budget from a tick on.
 #[tactic(auto, unfolding(crate::specs::Events::budget_data))]
 fn budget_value(
     alloc: Global,
@@ -196,7 +196,7 @@ fn budget_value(
     })
 }
 
-/// Returns a budget from a tick on, as text.
+/// Returns the event of a budget from a tick on, as text.
 pub(crate) fn budget_text(
     alloc: Global,
     name: &str,
@@ -209,7 +209,7 @@ pub(crate) fn budget_text(
     budget_value(alloc, name, thread, tick, budget)?.to_string(alloc)
 }
 
-/// Returns what is said of a thread.
+/// Returns the event that says something of a thread.
 #[tactic(auto, unfolding(crate::specs::Events::about_data))]
 fn about_value(alloc: Global, what: &str, thread: u64, args: Value) -> Result<Value, AllocError>
     ensures { IfOk result (λ v. view v ≡ about_data what.now thread (view args)) }
@@ -224,7 +224,7 @@ fn about_value(alloc: Global, what: &str, thread: u64, args: Value) -> Result<Va
     })
 }
 
-/// Returns what is said of a thread, as text.
+/// Returns the event that says something of a thread, as text.
 pub(crate) fn about_text(
     alloc: Global,
     what: &str,

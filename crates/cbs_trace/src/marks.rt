@@ -18,7 +18,7 @@ fn late_by(within: Option<u64>, took: u64) -> u64
     }
 }
 
-/// Returns the end of a job that took so many ticks, and was late by so many.
+/// Returns the line of the end of a job that took so many ticks, and was late by so many.
 #[tactic(auto, unfolding(crate::specs::Servers::end_line))]
 fn end_line(
     alloc: Global,
@@ -81,7 +81,7 @@ pub(crate) fn append_ends(
     Ok(())
 }
 
-/// Returns a tick in which a release is refused.
+/// Returns the line of a tick in which a release is refused.
 #[tactic(auto, unfolding(crate::specs::Servers::refused_line))]
 fn refused_line(alloc: Global, thread: u64, tick: u64) -> Result<Line, AllocError>
     ensures { IfOk result (λ line. line ≡ refused_line thread tick) }
@@ -123,7 +123,7 @@ pub(crate) fn append_refusals(
     Ok(())
 }
 
-/// Returns the coming of a job.
+/// Returns the line of the coming of a job.
 #[tactic(auto, unfolding(crate::specs::Servers::arrival_line))]
 fn arrival_line(alloc: Global, thread: u64, job: &ChartJob) -> Result<Line, AllocError>
     ensures { IfOk result (λ line. line ≡ arrival_line thread job.now) }
@@ -168,7 +168,7 @@ pub(crate) fn append_arrivals(
     Ok(())
 }
 
-/// Returns a deadline.
+/// Returns the line of a deadline.
 #[tactic(auto, unfolding(crate::specs::Servers::deadline_line))]
 fn deadline_line(alloc: Global, thread: u64, tick: u64) -> Result<Line, AllocError>
     ensures { IfOk result (λ line. line ≡ deadline_line thread tick) }
@@ -194,7 +194,7 @@ pub(crate) fn append_deadlines(
     Ok(())
 }
 
-/// Returns the budget of a server from a tick on.
+/// Returns the line of the budget of a server from a tick on.
 #[tactic(auto, unfolding(crate::specs::Servers::budget_line))]
 fn budget_line(
     alloc: Global,

@@ -15,7 +15,7 @@ fn job_numbered(number: u64, jobs: &[ChartJob]) -> Option<ChartJob>
     jobs.iter().copied().find(|job| job.number == number)
 }
 
-/// Returns the bar of a job, with what is known of the job.
+/// Returns the line of a bar of a job, with what is known of the job.
 #[tactic(auto, unfolding(crate::specs::Servers::bar_line))]
 fn bar_line(
     alloc: Global,
@@ -32,7 +32,7 @@ fn bar_line(
     Ok(Line::new(span.from, text))
 }
 
-/// Returns other ticks, by what goes on in them.
+/// Returns the line of other ticks, by what goes on in them.
 #[tactic(auto, unfolding(crate::specs::Servers::other_line))]
 fn other_line(alloc: Global, thread: u64, what: &str, span: &Stretch) -> Result<Line, AllocError>
     ensures { IfOk result (λ line. line ≡ other_line thread what.now span.now) }

@@ -1,4 +1,4 @@
-use Rattle.std.proofs.Common.{◌≡◌, ◌∙◌, ap, arith, length, string_bytes}
+use Rattle.std.proofs.Common.{ap, arith, length, string_bytes}
 use Rattle.cbs_chart.specs.declared.picture.Drawn.{Drawn}
 use Rattle.cbs_timeline.proofs.Widths.{width_next}
 use Rattle.cbs_timeline.proofs.grid.width_of.Goals as goal

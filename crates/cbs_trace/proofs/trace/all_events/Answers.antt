@@ -1,7 +1,6 @@
-use Rattle.std.proofs.Common.{◌≡◌, ◌∙◌, ◌+◌, ◌++◌, [], ap, arith, take, sym}
+use Rattle.std.proofs.Common.{◌≡◌, ◌∙◌, ◌+◌, ◌++◌, ap, arith, take, sym}
 use Rattle.cbs_trace.specs.Servers.{events_of}
 use Rattle.cbs_trace.specs.Traces.{numbered}
-use Rattle.cbs_trace.proofs.Growing.{grown}
 use Rattle.cbs_trace.proofs.Numbering.{numbered_next}
 use Rattle.cbs_trace.proofs.trace.all_events.Goals as goal
 

@@ -1,4 +1,4 @@
-use Rattle.std.proofs.Common.{◌≡◌, ◌∙◌, ◌+◌, ◌++◌, ap, arith, append_assoc, string_bytes, sym, take}
+use Rattle.std.proofs.Common.{◌≡◌, ◌∙◌, ◌+◌, ◌++◌, ap, arith, string_bytes, sym, take}
 use Rattle.cbs_trace.specs.Traces.{numbered, server_text}
 use Rattle.cbs_trace.proofs.Growing.{grown}
 use Rattle.cbs_trace.proofs.Numbering.{numbered_next}
