@@ -11,8 +11,6 @@ mod picture;
 mod row;
 mod stretch;
 mod stretches;
-#[cfg(test)]
-mod tests;
 mod view;
 mod waits;
 mod window;

@@ -4,8 +4,8 @@ use Rattle.std.specs.Prelude.{get_or, max}
 use Rattle.std.proofs.lemmas.List.{append-nil, length-take-le, take_more}
 use Rattle.cbs_chart.specs.declared.picture.Drawn.{Drawn}
 use Rattle.cbs_chart.specs.declared.window.Window.{Window}
-use Rattle.cbs_svg.specs.Axes.{AxisSeen}
-use Rattle.cbs_svg.specs.Layouts.{LayoutSeen}
+use Rattle.cbs_shapes.specs.Axes.{AxisSeen}
+use Rattle.cbs_shapes.specs.Layouts.{LayoutSeen}
 use Rattle.cbs_svg.specs.Pictures.{left_of, rows_text, server_row, words_width}
 
 -- room for one server more

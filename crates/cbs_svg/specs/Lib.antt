@@ -1,11 +1,4 @@
-pub mod Axes
-pub mod Columns
-pub mod Escapes
 pub mod Heads
-pub mod Layouts
-pub mod Marks
 pub mod Pictures
 pub mod Rows
 pub mod Scales
-pub mod Shapes
-pub mod Spans

@@ -5,15 +5,15 @@ use Rattle.cbs_chart.specs.declared.picture.Drawn.{Drawn}
 use Rattle.cbs_chart.specs.declared.picture.Picture.{Picture}
 use Rattle.cbs_chart.specs.declared.stretch.Stretch.{Stretch}
 use Rattle.cbs_chart.specs.declared.window.Window.{Window}
-use Rattle.cbs_svg.specs.Axes.{AxisSeen, axis_of, right_of}
-use Rattle.cbs_svg.specs.Columns.{cell_counts}
-use Rattle.cbs_svg.specs.Escapes.{escaped}
+use Rattle.cbs_shapes.specs.Axes.{AxisSeen, axis_of, right_of}
+use Rattle.cbs_shapes.specs.Columns.{cell_counts}
+use Rattle.cbs_shapes.specs.Escapes.{escaped}
 use Rattle.cbs_svg.specs.Heads.{heading_text, sentence_text, summary_text}
-use Rattle.cbs_svg.specs.Layouts.{LayoutSeen, layout_of}
+use Rattle.cbs_shapes.specs.Layouts.{LayoutSeen, layout_of}
 use Rattle.cbs_svg.specs.Rows.{layer_text, row_text, short_terms_text, terms_text}
 use Rattle.cbs_svg.specs.Scales.{numbers_text, scale_text, ticks_numbered, uprights_text}
-use Rattle.cbs_svg.specs.Shapes.{label_text, path_text, stretch_text}
-use Rattle.cbs_svg.specs.declared.columns.Layer.TheVariants.{Idle}
+use Rattle.cbs_shapes.specs.Shapes.{label_text, path_text, stretch_text}
+use Rattle.cbs_shapes.specs.declared.columns.Layer.TheVariants.{Idle}
 use Rattle.cbs_svg.specs.declared.style.TheConstants.{STYLE, LEGEND, BUDGET_LEGEND, COLUMN_LEGEND}
 
 -- how wide a server's words are, at most those of a hundred letters

@@ -9,14 +9,14 @@ use Rattle.cbs_chart.specs.declared.window.Window.{Window}
 use Rattle.cbs_rate.specs.Rate.{Rate}
 use Rattle.cbs_rules.specs.declared.mode.Mode.{Mode}
 use Rattle.cbs_rules.specs.declared.mode.Mode.TheVariants as mode
-use Rattle.cbs_svg.specs.Axes.{AxisSeen, right_of}
-use Rattle.cbs_svg.specs.Columns.{cell_counts, columns_shape, heights_of}
-use Rattle.cbs_svg.specs.Layouts.{LayoutSeen}
-use Rattle.cbs_svg.specs.Marks.{arrivals_path, budget_text, completions_path, deadlines_path, refused_path}
-use Rattle.cbs_svg.specs.Shapes.{label_text, path_text, titled_text}
-use Rattle.cbs_svg.specs.Spans.{bar_class, late_text, pale_path, span_text}
-use Rattle.cbs_svg.specs.declared.columns.Layer.{Layer}
-use Rattle.cbs_svg.specs.declared.columns.Layer.TheVariants as layer
+use Rattle.cbs_shapes.specs.Axes.{AxisSeen, right_of}
+use Rattle.cbs_shapes.specs.Columns.{cell_counts, columns_shape, heights_of}
+use Rattle.cbs_shapes.specs.Layouts.{LayoutSeen}
+use Rattle.cbs_shapes.specs.Marks.{arrivals_path, budget_text, completions_path, deadlines_path, refused_path}
+use Rattle.cbs_shapes.specs.Shapes.{label_text, path_text, titled_text}
+use Rattle.cbs_shapes.specs.Spans.{bar_class, late_text, pale_path, span_text}
+use Rattle.cbs_shapes.specs.declared.columns.Layer.{Layer}
+use Rattle.cbs_shapes.specs.declared.columns.Layer.TheVariants as layer
 
 -- the word for a mode
 abbrev pub mode_text : Mode → List ℕ

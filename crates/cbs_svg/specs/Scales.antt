@@ -4,8 +4,8 @@ use Rattle.std.specs.Int.{div_ceil}
 use Rattle.std.specs.List.{find, range_with_len}
 use Rattle.cbs_chart.specs.Counts.{told}
 use Rattle.cbs_chart.specs.declared.window.Window.{Window}
-use Rattle.cbs_svg.specs.Axes.{AxisSeen, right_of, x_at}
-use Rattle.cbs_svg.specs.Shapes.{label_text, upright_text}
+use Rattle.cbs_shapes.specs.Axes.{AxisSeen, right_of, x_at}
+use Rattle.cbs_shapes.specs.Shapes.{label_text, upright_text}
 
 -- numbers of so many digits have room at steps of so many ticks
 abbrev pub has_room : AxisSeen → ℕ → ℕ → Bool

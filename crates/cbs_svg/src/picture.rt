@@ -3,19 +3,16 @@
 ghost use Rattle.std.specs.Prelude.{◌≡◌, ◌≤◌, ◌++◌, IfOk, OnOk, length, string_bytes};
 ghost use Rattle.cbs_svg.specs.Heads.{heading_text, summary_text};
 ghost use Rattle.cbs_svg.specs.Pictures.{axis_for, body_text, budget_legend, description_text, drawn_text, fine_legend, grid_text, idle_boxes, idle_shape, idle_text, layout_for, left_of, legend_text, opening_text, page_text, rows_text, scale_of, sentences_text, server_row, server_sentence, svg_text, title_text, top_text, words_text, words_width};
-ghost use Rattle.cbs_svg.specs.Escapes.{escaped};
+ghost use Rattle.cbs_shapes.specs.Escapes.{escaped};
 
-use crate::axis::Axis;
-use crate::columns::{Layer, cell_counts};
-use crate::escape::escaped;
 use crate::head::{append_sentence, heading_text, summary_text};
-use crate::layout::Layout;
 use crate::row::{append_layer, append_row, short_terms_text, terms_text};
 use crate::scale::{append_numbers, append_scale, append_uprights, ticks_of};
-use crate::shapes::{append_label, append_path, append_stretch};
-use crate::spans::Place;
 use crate::style::{BUDGET_LEGEND, COLUMN_LEGEND, LEGEND, STYLE};
 use cbs_chart::{Counts, Drawn, Picture, Stretch, Window};
+use cbs_shapes::{
+    Axis, Layer, Layout, Place, append_label, append_path, append_stretch, cell_counts, escaped,
+};
 use std::alloc::{AllocError, Global};
 use std::fmt::Write;
 

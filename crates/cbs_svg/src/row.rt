@@ -3,17 +3,14 @@
 ghost use Rattle.std.specs.Prelude.{◌≡◌, ◌≤◌, ◌++◌, IfOk, OnOk, string_bytes};
 ghost use Rattle.cbs_svg.specs.Rows.{band_text, bars_text, charged_text, dense_text, fine_text, inside_text, lates_text, layer_shape, layer_text, line_text, marks_text, mode_text, names_text, row_text, short_terms_text, spans_text, terms_text, text_line, units_of, units_text, units_title};
 
-use crate::axis::Axis;
-use crate::columns::{Layer, append_columns, cell_counts, heights_of};
-use crate::layout::Layout;
-use crate::marks::{
-    append_arrivals, append_budget, append_completions, append_deadlines, append_refused,
-};
-use crate::shapes::{append_label, append_path, append_titled};
-use crate::spans::{Place, append_late, append_pale, append_span, bar_class};
 use cbs_chart::{Counts, Drawn, ServerChart, Stretch, Window};
 use cbs_rate::Reservation;
 use cbs_rules::Mode;
+use cbs_shapes::{
+    Axis, Layer, Layout, Place, append_arrivals, append_budget, append_columns, append_completions,
+    append_deadlines, append_label, append_late, append_pale, append_path, append_refused,
+    append_span, append_titled, bar_class, cell_counts, heights_of,
+};
 use std::alloc::{AllocError, Global};
 use std::fmt::Write;
 

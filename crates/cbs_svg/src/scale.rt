@@ -4,9 +4,8 @@ ghost use Rattle.std.specs.Prelude.{◌≡◌, ◌≤◌, ◌++◌, IfOk, OnOk, 
 ghost use Rattle.std.specs.List.{find};
 ghost use Rattle.cbs_svg.specs.Scales.{axis_text, digits_of, has_room, multiple, multiples, multiples_from, number_text, numbered_ticks, numbers_text, scale_text, small_mark, small_marks, step_of, ticks_numbered, uprights_text};
 
-use crate::axis::Axis;
-use crate::shapes::{append_label, append_upright};
 use cbs_chart::Window;
+use cbs_shapes::{Axis, append_label, append_upright};
 use std::alloc::{AllocError, Global};
 use std::fmt::Write;
 

@@ -1,7 +1,7 @@
 use Rattle.std.proofs.Common.{◌≡◌, take, string_bytes}
 use Rattle.std.specs.Prelude.{flat_map}
 use Rattle.std.proofs.Common.{◌-◌}
-use Rattle.cbs_svg.specs.Shapes.{stretch_text}
+use Rattle.cbs_shapes.specs.Shapes.{stretch_text}
 use Rattle.cbs_svg.proofs.picture.append_idle_boxes.Given as goal
 
 abbrev pub invariant-loop-stretch : goal.invariant-loop-stretch

@@ -1,6 +1,6 @@
 use Rattle.std.proofs.Common.{◌≡◌, ◌++◌, take, string_bytes}
 use Rattle.std.specs.Prelude.{flat_map}
-use Rattle.cbs_svg.specs.Spans.{late_text}
+use Rattle.cbs_shapes.specs.Spans.{late_text}
 use Rattle.cbs_svg.proofs.row.append_lates.Given as goal
 
 abbrev pub invariant-loop-late : goal.invariant-loop-late

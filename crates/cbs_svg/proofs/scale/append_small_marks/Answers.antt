@@ -1,7 +1,7 @@
 use Rattle.std.proofs.Common.{◌∙◌, ◌++◌, ap, string_bytes, sym}
 use Rattle.std.specs.List.{flat_map, range_with_len}
 use Rattle.cbs_svg.specs.Scales.{small_mark}
-use Rattle.cbs_svg.proofs.Texts.{grown, numbered_more}
+use Rattle.cbs_shapes.proofs.Texts.{grown, numbered_more}
 use Rattle.cbs_svg.proofs.scale.append_small_marks.Goals as goal
 
 pub loop-place-preserved : goal.loop-place-preserved

@@ -1,7 +1,7 @@
 use Rattle.std.proofs.Common.{◌≡◌, ◌++◌, take, string_bytes}
 use Rattle.std.specs.Prelude.{flat_map}
-use Rattle.cbs_svg.specs.Axes.{x_at}
-use Rattle.cbs_svg.specs.Shapes.{upright_text}
+use Rattle.cbs_shapes.specs.Axes.{x_at}
+use Rattle.cbs_shapes.specs.Shapes.{upright_text}
 use Rattle.cbs_svg.proofs.scale.append_uprights.Given as goal
 
 abbrev pub invariant-loop-tick : goal.invariant-loop-tick

@@ -1,7 +1,7 @@
 use Rattle.std.proofs.Common.{◌∙◌, ◌∷◌, [], ◌++◌, ap, map, sym}
 use Rattle.std.specs.List.{range_with_len}
 use Rattle.cbs_svg.specs.Scales.{multiple}
-use Rattle.cbs_svg.proofs.Texts.{mapped_more}
+use Rattle.cbs_shapes.proofs.Texts.{mapped_more}
 use Rattle.cbs_svg.proofs.scale.multiples_from.Goals as goal
 
 pub loop-place-preserved : goal.loop-place-preserved

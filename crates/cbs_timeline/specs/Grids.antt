@@ -1,0 +1,87 @@
+-- Which ticks the columns of a timeline stand for.
+use Rattle.std.specs.Prelude.{ℕ, ◌+◌, ◌-◌, ◌*◌, ◌/◌, ◌<◌, ◌≤◌, Bool, eqb, leb, if◌then◌else◌, max, min, List, [], ◌∷◌, decimal, length, string_bytes}
+use Rattle.std.specs.Int.{div_ceil}
+use Rattle.cbs_chart.specs.Counts.{told}
+use Rattle.cbs_chart.specs.Windows.{ticks_of}
+use Rattle.cbs_chart.specs.declared.picture.Drawn.{Drawn}
+use Rattle.cbs_chart.specs.declared.picture.Picture.{Picture}
+use Rattle.cbs_chart.specs.declared.window.Window.{Window}
+
+-- how wide names are; how many columns a block has, and every how many of them a tick is numbered; the first tick, and the one after the last;
+-- how many ticks a column has
+pub record GridSeen : Type 0 where
+  pub width : ℕ
+  pub plot : ℕ
+  pub step : ℕ
+  pub from : ℕ
+  pub to : ℕ
+  pub cell : ℕ
+
+-- a grid is within these limits
+pub record IsGrid (plot step from to cell : ℕ) : Type 0 where
+  pub wide : 10 ≤ plot
+  pub narrow : plot ≤ 60
+  pub apart : 10 ≤ step
+  pub near : step ≤ 30
+  pub short : to ≤ from + 20000
+  pub some : 0 < cell
+  pub fine : cell ≤ 20000
+
+-- the width of the widest name
+abbrev pub width_of : List Drawn → ℕ
+width_of [] = 0
+width_of (d ∷ ds) = max (length (string_bytes d.name)) (width_of ds)
+
+-- how many digits the numbers of a window have at most
+abbrev pub digits_of : Window → ℕ
+digits_of w = min 20 (length (decimal w.to))
+
+-- how many columns a block has: 60, or less by tens, so that a line with a name, two blanks and a number at its end has at most 80; but at least 10
+abbrev pub plot_of : ℕ → ℕ → ℕ
+plot_of width digits = max 10 (min 60 ((78 - width - digits) / 10 * 10))
+
+-- every how many columns a tick is numbered: ten, or the next multiple of ten that has room for the digits and a blank
+abbrev pub step_of : ℕ → ℕ
+step_of digits = 10 * (1 + digits / 10)
+
+-- how many ticks a column has: one of up to 240, else so many that one block shows all
+abbrev pub cell_of : ℕ → ℕ → ℕ
+cell_of ticks plot = if leb ticks 240 then 1 else div_ceil ticks plot
+
+-- the grid of a picture
+abbrev pub grid_of : Picture → GridSeen
+grid_of p = record {
+  width = width_of p.servers.items;
+  plot = plot_of (width_of p.servers.items) (digits_of p.window);
+  step = step_of (digits_of p.window);
+  from = p.window.from;
+  to = p.window.to;
+  cell = cell_of (ticks_of p.window) (plot_of (width_of p.servers.items) (digits_of p.window));
+}
+
+-- each column is a tick
+abbrev pub is_fine : GridSeen → Bool
+is_fine g = eqb g.cell 1
+
+-- the first tick of column i, as far as a clock goes
+abbrev pub tick_of : GridSeen → ℕ → ℕ
+tick_of g i = told (g.from + i * g.cell)
+
+-- the tick after its last one
+abbrev pub end_of : GridSeen → ℕ → ℕ
+end_of g i = min g.to (tick_of g (i + 1))
+
+-- how many columns there are
+abbrev pub columns_of : GridSeen → ℕ
+columns_of g = div_ceil (g.to - g.from) g.cell
+
+-- .. and blocks
+abbrev pub blocks_of : GridSeen → ℕ
+blocks_of g = div_ceil (columns_of g) g.plot
+
+-- the first column of block b, and how many it has
+abbrev pub first_of : GridSeen → ℕ → ℕ
+first_of g b = b * g.plot
+
+abbrev pub count_of : GridSeen → ℕ → ℕ
+count_of g b = min g.plot (columns_of g - first_of g b)

@@ -1,0 +1,4 @@
+pub mod Grids
+pub mod Lines
+pub mod Signs
+pub mod Timelines

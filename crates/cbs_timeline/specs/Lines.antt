@@ -1,0 +1,56 @@
+-- The lines of a timeline.
+use Rattle.std.specs.Prelude.{ℕ, ◌+◌, ◌-◌, ◌*◌, ◌/◌, ◌%◌, eqb, if◌then◌else◌, List, [], ◌++◌, codes, decimal, flat_map, length, map, replicate, string_bytes}
+use Rattle.std.specs.List.{range_with_len}
+use Rattle.std.specs.Str.{trim_end}
+use Rattle.cbs_chart.specs.declared.chart.ServerChart.{ServerChart}
+use Rattle.cbs_chart.specs.declared.picture.Drawn.{Drawn}
+use Rattle.cbs_timeline.specs.Grids.{GridSeen, tick_of}
+use Rattle.cbs_timeline.specs.Signs.{column_mark, column_sign}
+use Rattle.cbs_timeline.specs.declared.signs.TheConstants.{BLANK, FIVE, TEN}
+
+-- a text with blanks after it, up to a width
+unfoldable pub padded : ℕ → List ℕ → List ℕ
+padded width text = text ++ replicate (width - length text) 32
+
+-- what stands before the columns: a name, and two blanks
+abbrev pub label_text : ℕ → List ℕ → List ℕ
+label_text width name = padded width name ++ codes "  "
+
+-- a line: no white space stands at its end
+abbrev pub line_text : List ℕ → List ℕ
+line_text text = trim_end text ++ codes "\n"
+
+-- every so many columns, the number of the tick at which the column begins
+abbrev pub number_text : GridSeen → ℕ → ℕ → List ℕ
+number_text g first k = padded g.step (decimal (tick_of g (first + k * g.step)))
+
+unfoldable pub numbers_text : GridSeen → ℕ → ℕ → List ℕ
+numbers_text g first count = flat_map (number_text g first) (range_with_len 0 (count / g.step + 1))
+
+-- the mark of a column's beginning: each tenth and each fifth has one
+abbrev pub ruler_sign : ℕ → ℕ
+ruler_sign k = if eqb (k % 10) 0 then TEN else if eqb (k % 5) 0 then FIVE else BLANK
+
+unfoldable pub ruler_marks : ℕ → List ℕ
+ruler_marks count = map ruler_sign (range_with_len 0 (count + 1))
+
+-- the ruler of a block: of the columns from one on, so many, with their end
+unfoldable pub ruler_text : GridSeen → ℕ → ℕ → List ℕ
+ruler_text g first count = line_text (label_text g.width [] ++ numbers_text g first count) ++ line_text (label_text g.width [] ++ ruler_marks count)
+
+-- what a server does in the columns of a block
+unfoldable pub signs_text : GridSeen → ServerChart → ℕ → ℕ → List ℕ
+signs_text g c first count = map (λ k. column_sign g c (first + k)) (range_with_len 0 count)
+
+-- what stands above
+unfoldable pub marks_text : GridSeen → ServerChart → ℕ → ℕ → List ℕ
+marks_text g c first count = map (λ k. column_mark g c (first + k)) (range_with_len 0 count)
+
+-- .. as a line, if something does
+unfoldable pub marks_line : ℕ → List ℕ → List ℕ
+marks_line width marks = if eqb (length (trim_end marks)) 0 then [] else line_text (label_text width [] ++ marks)
+
+-- the lines of a server in a block
+unfoldable pub server_text : GridSeen → ℕ → ℕ → Drawn → List ℕ
+server_text g first count d =
+    marks_line g.width (marks_text g d.chart first count) ++ line_text (label_text g.width (string_bytes d.name) ++ signs_text g d.chart first count)

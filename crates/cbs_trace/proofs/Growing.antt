@@ -1,0 +1,31 @@
+-- Lists that are appended one after another.
+use Rattle.std.proofs.Common.{◌≡◌, ◌∙◌, ℕ, ◌+◌, List, [], ◌∷◌, ◌++◌, map, append_assoc, arith, sym, ap}
+use Rattle.std.specs.List.{flat_map, range_with_len}
+use Rattle.std.proofs.lemmas.Grind.{flat_map-append}
+use Rattle.std.proofs.lemmas.List.{append-nil, map-id}
+use Rattle.std.proofs.lemmas.List.FromFn.{map-range_with_len_more}
+
+-- a list that grew by one piece, after the pieces before it
+pub grown : {X : Type 0} (text old new front piece : List X) → new ≡ text ++ piece → text ≡ old ++ front → new ≡ old ++ (front ++ piece)
+grown text old new front piece wrote so_far = wrote ∙ (ap (λ t. t ++ piece) so_far ∙ append_assoc old front piece)
+
+-- the numbers below one more
+range_more : (n : ℕ) → range_with_len 0 (n + 1) ≡ range_with_len 0 n ++ n ∷ []
+range_more n =
+    sym (map-id (range_with_len 0 (n + 1))) ∙ (map-range_with_len_more (λ (k : ℕ). k) 0 n n (omega arith)
+    ∙ ap (λ ns. ns ++ n ∷ []) (map-id (range_with_len 0 n)))
+
+-- one piece more, of a piece for each number
+pub piece_more : {X : Type 0} (f : ℕ → List X) (text old new : List X) (n : ℕ) → new ≡ text ++ f n → text ≡ old ++ flat_map f (range_with_len 0 n)
+    → new ≡ old ++ flat_map f (range_with_len 0 (n + 1))
+piece_more f text old new n wrote so_far =
+    grown text old new (flat_map f (range_with_len 0 n)) (f n) wrote so_far
+    ∙ ap (λ t. old ++ t) (sym (ap (flat_map f) (range_more n) ∙ (flat_map-append f (range_with_len 0 n) (n ∷ [])
+    ∙ ap (λ t. flat_map f (range_with_len 0 n) ++ t) (append-nil (f n)))))
+
+-- one value more, of a value for each number
+pub value_more : {X : Type 0} (f : ℕ → X) (text old new : List X) (x : X) (n : ℕ) → new ≡ text ++ x ∷ [] → x ≡ f n
+    → text ≡ old ++ map f (range_with_len 0 n) → new ≡ old ++ map f (range_with_len 0 (n + 1))
+value_more f text old new x n wrote is so_far =
+    grown text old new (map f (range_with_len 0 n)) (f n ∷ []) (wrote ∙ ap (λ y. text ++ y ∷ []) is) so_far
+    ∙ ap (λ t. old ++ t) (sym (map-range_with_len_more f 0 n n (omega arith)))

@@ -1,0 +1,7 @@
+use Rattle.std.proofs.Common.{◌∙◌, ap}
+use Rattle.serde_json.specs.Written.{has_float}
+use Rattle.cbs_trace.proofs.Floats.{job_plain}
+use Rattle.cbs_trace.proofs.slices.bar_line.Goals as goal
+
+pub slice_text-requires : goal.slice_text-requires
+slice_text-requires c = ap has_float c.in_ok-args.ensures ∙ job_plain c.args.number c.job_numbered.result

@@ -1,0 +1,111 @@
+-- The events of a trace, as JSON objects.
+use Rattle.std.specs.Prelude.{ℕ, ◌-◌, List, [], ◌∷◌, ◌++◌, codes, Option, Some, None}
+use Rattle.serde_json.specs.Data.{Data, null, number, unsigned, string, object, Members, no_members, put}
+use Rattle.serde_json.specs.Written.{compact_text}
+use Rattle.cbs_chart.specs.Counts.{told}
+use Rattle.cbs_chart.specs.declared.jobs.ChartJob.{ChartJob}
+
+-- members, and these put among them, by the order of the keys
+abbrev pub with_members : List (List ℕ × Data) → Members → Members
+with_members [] ms = ms
+with_members (m ∷ more) ms = with_members more (put m.0 m.1 ms)
+
+-- the object of keys with their values
+abbrev pub object_of : List (List ℕ × Data) → Data
+object_of members = object (with_members members no_members)
+
+-- a number
+abbrev pub whole : ℕ → Data
+whole n = number (unsigned n)
+
+-- a number, if there is one; one that is greater than 2^64 - 1 is told as that
+abbrev pub whole_if : Option ℕ → Data
+whole_if None = null
+whole_if (Some n) = whole (told n)
+
+-- something that goes on from one tick up to another, on a thread
+unfoldable pub slice_data : List ℕ → List ℕ → ℕ → ℕ → ℕ → Data → Data
+slice_data name cat thread from to args = object_of (
+    (codes "ph", string (codes "X"))
+    ∷ (codes "name", string name)
+    ∷ (codes "cat", string cat)
+    ∷ (codes "pid", whole 1)
+    ∷ (codes "tid", whole thread)
+    ∷ (codes "ts", whole from)
+    ∷ (codes "dur", whole (to - from))
+    ∷ (codes "args", args)
+    ∷ [])
+
+-- something that is at a tick, on a thread
+unfoldable pub instant_data : List ℕ → List ℕ → ℕ → ℕ → Data → Data
+instant_data name cat thread tick args = object_of (
+    (codes "ph", string (codes "i"))
+    ∷ (codes "name", string name)
+    ∷ (codes "cat", string cat)
+    ∷ (codes "pid", whole 1)
+    ∷ (codes "tid", whole thread)
+    ∷ (codes "ts", whole tick)
+    ∷ (codes "s", string (codes "t"))
+    ∷ (codes "args", args)
+    ∷ [])
+
+-- a budget from a tick on
+unfoldable pub budget_data : List ℕ → ℕ → ℕ → ℕ → Data
+budget_data name thread tick budget = object_of (
+    (codes "ph", string (codes "C"))
+    ∷ (codes "name", string (codes "budget of " ++ name))
+    ∷ (codes "cat", string (codes "budget"))
+    ∷ (codes "pid", whole 1)
+    ∷ (codes "tid", whole thread)
+    ∷ (codes "ts", whole tick)
+    ∷ (codes "args", object_of ((codes "c", whole budget) ∷ []))
+    ∷ [])
+
+-- what is said of a thread: the name of it, or of the whole process, or its place
+unfoldable pub about_data : List ℕ → ℕ → Data → Data
+about_data what thread args = object_of (
+    (codes "ph", string (codes "M"))
+    ∷ (codes "pid", whole 1)
+    ∷ (codes "tid", whole thread)
+    ∷ (codes "ts", whole 0)
+    ∷ (codes "name", string what)
+    ∷ (codes "args", args)
+    ∷ [])
+
+unfoldable pub named_args : List ℕ → Data
+named_args name = object_of ((codes "name", string name) ∷ [])
+
+unfoldable pub placed_args : ℕ → Data
+placed_args place = object_of ((codes "sort_index", whole place) ∷ [])
+
+-- nothing more is said
+abbrev pub no_args : Data
+no_args = object no_members
+
+-- what is said of a job at each of its bars
+unfoldable pub job_args : ℕ → Option ChartJob → Data
+job_args j None = object_of ((codes "job", whole j) ∷ [])
+job_args j (Some job) = object_of (
+    (codes "job", whole j)
+    ∷ (codes "arrival", whole job.came)
+    ∷ (codes "units", whole job.units)
+    ∷ (codes "within", whole_if job.within)
+    ∷ (codes "promised", whole_if job.promised)
+    ∷ (codes "finish", whole_if job.finish)
+    ∷ [])
+
+-- .. where it comes
+unfoldable pub came_args : ChartJob → Data
+came_args job = object_of ((codes "units", whole job.units) ∷ [])
+
+-- .. and where it is finished: how many ticks it took, and how many of those too many
+unfoldable pub finished_args : ℕ → ℕ → Data
+finished_args took late = object_of ((codes "response", whole took) ∷ (codes "late", whole late) ∷ [])
+
+-- a line of a trace: an event, and its tick
+pub record LineSeen : Type 0 where
+  pub tick : ℕ
+  pub text : List ℕ
+
+abbrev pub line_of : ℕ → Data → LineSeen
+line_of tick d = record { tick = tick; text = compact_text d }

@@ -1,0 +1,78 @@
+-- The whole trace.
+use Rattle.std.specs.Prelude.{◌≡◌, ℕ, ◌+◌, List, [], ◌∷◌, ◌++◌, codes, decimal, flat_map, string_bytes}
+use Rattle.std.specs.Ordering.{nat_cmp}
+use Rattle.std.specs.List.Sorted.{IsPermutation, IsSortedByKey, IsStableByKey}
+use Rattle.serde_json.specs.Written.{compact_text}
+use Rattle.cbs_chart.specs.declared.picture.Drawn.{Drawn}
+use Rattle.cbs_chart.specs.declared.picture.Picture.{Picture}
+use Rattle.cbs_chart.specs.declared.window.Window.{Window}
+use Rattle.cbs_rate.specs.Rate.{Rate}
+use Rattle.cbs_rules.specs.declared.mode.Mode.{Mode}
+use Rattle.cbs_rules.specs.declared.mode.Mode.TheVariants as mode
+use Rattle.cbs_trace.specs.Events.{LineSeen, about_data, named_args, placed_args}
+use Rattle.cbs_trace.specs.Servers.{events_of}
+use Rattle.cbs_trace.specs.declared.trace.TheConstants.{OPENING}
+
+-- what each server has, by its number, from a number on
+abbrev pub numbered : {X : Type 0} → (ℕ → Drawn → List X) → ℕ → List Drawn → List X
+numbered f n [] = []
+numbered f n (d ∷ ds) = f n d ++ numbered f (n + 1) ds
+
+-- the events of all servers: server s is thread s + 1
+unfoldable pub all_events : Window → List Drawn → List LineSeen
+all_events w servers = numbered (events_of w) 1 servers
+
+-- the tick of an event
+abbrev pub tick_of : LineSeen → ℕ
+tick_of line = line.tick
+
+-- the same events by their ticks; those of a tick in the order that they had
+pub record AreInOrder (events ordered : List LineSeen) : Type 0 where
+  pub same : IsPermutation events ordered
+  pub rising : IsSortedByKey tick_of nat_cmp ordered
+  pub stable : IsStableByKey tick_of nat_cmp events ordered
+
+-- the word for a mode
+abbrev pub mode_word : Mode → List ℕ
+mode_word mode.Soft = codes "soft"
+mode_word mode.Throttled = codes "throttled"
+
+-- a line after another
+abbrev pub next_text : List ℕ → List ℕ
+next_text text = codes ",\n" ++ text
+
+-- who a server is
+unfoldable pub title_text : List ℕ → Rate → Mode → List ℕ
+title_text name r mode = name ++ codes ", " ++ decimal r.budget ++ codes " in every " ++ decimal r.period ++ codes ", " ++ mode_word mode
+
+-- what is said of a server: its name, and its place
+unfoldable pub server_text : ℕ → Drawn → List ℕ
+server_text place d =
+    next_text (compact_text (about_data (codes "thread_name") (place + 1) (named_args (title_text (string_bytes d.name) d.reservation d.mode))))
+    ++ next_text (compact_text (about_data (codes "thread_sort_index") (place + 1) (placed_args place)))
+
+-- .. of all servers
+unfoldable pub servers_text : List Drawn → List ℕ
+servers_text servers = numbered server_text 0 servers
+
+-- all events, each on a line of its own
+unfoldable pub lines_text : List LineSeen → List ℕ
+lines_text lines = flat_map (λ line. next_text line.text) lines
+
+-- the name of the file, as an event
+unfoldable pub process_text : List ℕ → List ℕ
+process_text file = compact_text (about_data (codes "process_name") 0 (named_args file))
+
+-- the opening of the document, with the name of the file
+unfoldable pub opening_text : List ℕ → List ℕ
+opening_text file = OPENING.now ++ process_text file
+
+-- a trace with these events in this order
+unfoldable pub trace_text : Picture → List LineSeen → List ℕ
+trace_text p ordered = opening_text (string_bytes p.file) ++ servers_text p.servers.items ++ lines_text ordered ++ codes "\n]}\n"
+
+-- a text is the trace of a picture: exactly the events of its servers, in order
+pub record IsTrace (p : Picture) (text : List ℕ) : Type 0 where
+  pub ordered : List LineSeen
+  pub order : AreInOrder (all_events p.window p.servers.items) ordered
+  pub bytes : text ≡ trace_text p ordered

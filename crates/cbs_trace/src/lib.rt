@@ -1,0 +1,11 @@
+//! A picture of a run as a trace, for programs that show traces.
+#![tactic(auto)]
+
+mod events;
+mod line;
+mod marks;
+mod server;
+mod slices;
+mod trace;
+
+pub use trace::trace_json;

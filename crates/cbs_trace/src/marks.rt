@@ -1,0 +1,291 @@
+//! What comes, ends and is refused, as instants; and the budget.
+
+ghost use Rattle.std.specs.Prelude.{◌≡◌, ◌<◌, ◌++◌, IfOk, OnOk, length};
+ghost use Rattle.cbs_trace.specs.Servers.{arrival_in, arrival_line, arrivals_of, budget_before, budget_line, budgets_of, change_at, change_between, changes_of, deadline_line, deadlines_of, end_at, end_line, ends_of, late_by, refusals_in, refusals_of, refused_line};
+
+use crate::events::{budget_text, came_args, finished_args, instant_text, no_args};
+use crate::line::Line;
+use cbs_chart::{ChartJob, Corner, ServerChart, Stretch, Window};
+use std::alloc::{AllocError, Global};
+
+/// Returns by how many ticks a job that took so many was late.
+fn late_by(within: Option<u64>, took: u64) -> u64
+    ensures { result ≡ late_by within took }
+{
+    match within {
+        Some(within) => took.saturating_sub(within),
+        None => 0,
+    }
+}
+
+/// Returns the line of the end of a job that took so many ticks, and was late by so many.
+#[tactic(auto, unfolding(crate::specs::Servers::end_line))]
+fn end_line(
+    alloc: Global,
+    thread: u64,
+    job: &ChartJob,
+    tick: u64,
+    took: u64,
+    late: u64,
+) -> Result<Line, AllocError>
+    ensures { IfOk result (λ line. line ≡ end_line thread job.now tick took late) }
+{
+    let number = job.number;
+    let args = finished_args(alloc, took, late)?;
+    let text = if late == 0 {
+        let name = format!(in alloc; "job {number} finished")?;
+        instant_text(alloc, &name, "completion", thread, tick, args)?
+    } else {
+        let name = format!(in alloc; "job {number} finished, late")?;
+        instant_text(alloc, &name, "late", thread, tick, args)?
+    };
+    Ok(Line::new(tick, text))
+}
+
+/// Appends the end of a job, if it is finished in a window.
+fn append_end(
+    alloc: Global,
+    lines: &mut Vec<Line>,
+    window: Window,
+    thread: u64,
+    job: &ChartJob,
+    finish: Option<u64>,
+) -> Result<(), AllocError>
+    ensures { OnOk result (lines.new.items ≡ lines.old.items ++ end_at window thread job.now finish) }
+{
+    let Some(finish) = finish else {
+        return Ok(());
+    };
+    if window.from < finish && finish <= window.to {
+        let took = finish.saturating_sub(job.came);
+        let late = late_by(job.within, took);
+        lines.push(end_line(alloc, thread, job, finish, took, late)?)?;
+    }
+    Ok(())
+}
+
+/// Appends the ends of jobs in a window.
+#[tactic(auto, unfolding(crate::specs::Servers::ends_of))]
+pub(crate) fn append_ends(
+    alloc: Global,
+    lines: &mut Vec<Line>,
+    window: Window,
+    thread: u64,
+    jobs: &[ChartJob],
+) -> Result<(), AllocError>
+    ensures { OnOk result (lines.new.items ≡ lines.old.items ++ ends_of window thread jobs.now) }
+{
+    for job in jobs {
+        append_end(alloc, lines, window, thread, job, job.finish)?;
+    }
+    Ok(())
+}
+
+/// Returns the line of a tick in which a release is refused.
+#[tactic(auto, unfolding(crate::specs::Servers::refused_line))]
+fn refused_line(alloc: Global, thread: u64, tick: u64) -> Result<Line, AllocError>
+    ensures { IfOk result (λ line. line ≡ refused_line thread tick) }
+{
+    let args = no_args(alloc)?;
+    let text = instant_text(alloc, "refused", "refused", thread, tick, args)?;
+    Ok(Line::new(tick, text))
+}
+
+/// Appends each tick of a stretch in which releases are refused.
+#[tactic(auto, unfolding(crate::specs::Servers::refusals_in))]
+fn append_refusals_in(
+    alloc: Global,
+    lines: &mut Vec<Line>,
+    thread: u64,
+    refused: &Stretch,
+) -> Result<(), AllocError>
+    ensures { OnOk result (lines.new.items ≡ lines.old.items ++ refusals_in thread refused.now) }
+{
+    for place in 0..refused.to.saturating_sub(refused.from) {
+        lines.push(refused_line(alloc, thread, refused.from + place)?)?;
+    }
+    Ok(())
+}
+
+/// Appends the ticks in which releases are refused.
+#[tactic(auto, unfolding(crate::specs::Servers::refusals_of))]
+pub(crate) fn append_refusals(
+    alloc: Global,
+    lines: &mut Vec<Line>,
+    thread: u64,
+    refused: &[Stretch],
+) -> Result<(), AllocError>
+    ensures { OnOk result (lines.new.items ≡ lines.old.items ++ refusals_of thread refused.now) }
+{
+    for stretch in refused {
+        append_refusals_in(alloc, lines, thread, stretch)?;
+    }
+    Ok(())
+}
+
+/// Returns the line of the coming of a job.
+#[tactic(auto, unfolding(crate::specs::Servers::arrival_line))]
+fn arrival_line(alloc: Global, thread: u64, job: &ChartJob) -> Result<Line, AllocError>
+    ensures { IfOk result (λ line. line ≡ arrival_line thread job.now) }
+{
+    let number = job.number;
+    let name = format!(in alloc; "job {number} comes")?;
+    let args = came_args(alloc, job)?;
+    let text = instant_text(alloc, &name, "arrival", thread, job.came, args)?;
+    Ok(Line::new(job.came, text))
+}
+
+/// Appends the coming of a job, if it is in a window.
+fn append_arrival(
+    alloc: Global,
+    lines: &mut Vec<Line>,
+    window: Window,
+    thread: u64,
+    job: &ChartJob,
+) -> Result<(), AllocError>
+    ensures { OnOk result (lines.new.items ≡ lines.old.items ++ arrival_in window thread job.now) }
+{
+    if window.from <= job.came && job.came < window.to {
+        lines.push(arrival_line(alloc, thread, job)?)?;
+    }
+    Ok(())
+}
+
+/// Appends the coming of jobs in a window.
+#[tactic(auto, unfolding(crate::specs::Servers::arrivals_of))]
+pub(crate) fn append_arrivals(
+    alloc: Global,
+    lines: &mut Vec<Line>,
+    window: Window,
+    thread: u64,
+    jobs: &[ChartJob],
+) -> Result<(), AllocError>
+    ensures { OnOk result (lines.new.items ≡ lines.old.items ++ arrivals_of window thread jobs.now) }
+{
+    for job in jobs {
+        append_arrival(alloc, lines, window, thread, job)?;
+    }
+    Ok(())
+}
+
+/// Returns the line of a deadline.
+#[tactic(auto, unfolding(crate::specs::Servers::deadline_line))]
+fn deadline_line(alloc: Global, thread: u64, tick: u64) -> Result<Line, AllocError>
+    ensures { IfOk result (λ line. line ≡ deadline_line thread tick) }
+{
+    let args = no_args(alloc)?;
+    let text = instant_text(alloc, "deadline", "deadline", thread, tick, args)?;
+    Ok(Line::new(tick, text))
+}
+
+/// Appends deadlines.
+#[tactic(auto, unfolding(crate::specs::Servers::deadlines_of))]
+pub(crate) fn append_deadlines(
+    alloc: Global,
+    lines: &mut Vec<Line>,
+    thread: u64,
+    ticks: &[u64],
+) -> Result<(), AllocError>
+    ensures { OnOk result (lines.new.items ≡ lines.old.items ++ deadlines_of thread ticks.now) }
+{
+    for tick in ticks {
+        lines.push(deadline_line(alloc, thread, *tick)?)?;
+    }
+    Ok(())
+}
+
+/// Returns the line of the budget of a server from a tick on.
+#[tactic(auto, unfolding(crate::specs::Servers::budget_line))]
+fn budget_line(
+    alloc: Global,
+    name: &str,
+    thread: u64,
+    tick: u64,
+    budget: u64,
+) -> Result<Line, AllocError>
+    ensures { IfOk result (λ line. line ≡ budget_line name.now thread tick budget) }
+{
+    let text = budget_text(alloc, name, thread, tick, budget)?;
+    Ok(Line::new(tick, text))
+}
+
+/// Returns the budget before a corner of its course.
+fn budget_before(opening: u64, corners: &[Corner], place: usize) -> u64
+    requires { place < length corners.now }
+    ensures { result ≡ budget_before opening corners.now place }
+{
+    if place == 0 {
+        return opening;
+    }
+    corners[place - 1].budget
+}
+
+/// Appends the budget from a corner on, if it is another than before.
+fn append_change_between(
+    alloc: Global,
+    lines: &mut Vec<Line>,
+    name: &str,
+    thread: u64,
+    before: u64,
+    corner: Corner,
+) -> Result<(), AllocError>
+    ensures { OnOk result (lines.new.items ≡ lines.old.items ++ change_between name.now thread before corner) }
+{
+    if corner.budget == before {
+        return Ok(());
+    }
+    let line = budget_line(alloc, name, thread, corner.tick, corner.budget)?;
+    lines.push(line)?;
+    Ok(())
+}
+
+/// Appends the budget from the corner of a place on, if it is another than before.
+fn append_change(
+    alloc: Global,
+    lines: &mut Vec<Line>,
+    name: &str,
+    thread: u64,
+    opening: u64,
+    corners: &[Corner],
+    place: usize,
+) -> Result<(), AllocError>
+    requires { place < length corners.now }
+    ensures { OnOk result (lines.new.items ≡ lines.old.items ++ change_at name.now thread opening corners.now place) }
+{
+    let before = budget_before(opening, corners, place);
+    append_change_between(alloc, lines, name, thread, before, corners[place])
+}
+
+/// Appends each change of a budget.
+#[tactic(auto, unfolding(crate::specs::Servers::changes_of))]
+fn append_changes(
+    alloc: Global,
+    lines: &mut Vec<Line>,
+    name: &str,
+    thread: u64,
+    opening: u64,
+    corners: &[Corner],
+) -> Result<(), AllocError>
+    ensures { OnOk result (lines.new.items ≡ lines.old.items ++ changes_of name.now thread opening corners.now) }
+{
+    for place in 0..corners.len() {
+        append_change(alloc, lines, name, thread, opening, corners, place)?;
+    }
+    Ok(())
+}
+
+/// Appends the budget at a window's beginning, and each change after that.
+#[tactic(auto, unfolding(crate::specs::Servers::budgets_of))]
+pub(crate) fn append_budgets(
+    alloc: Global,
+    lines: &mut Vec<Line>,
+    window: Window,
+    name: &str,
+    thread: u64,
+    chart: &ServerChart,
+) -> Result<(), AllocError>
+    ensures { OnOk result (lines.new.items ≡ lines.old.items ++ budgets_of window name.now thread chart.now) }
+{
+    lines.push(budget_line(alloc, name, thread, window.from, chart.opening)?)?;
+    append_changes(alloc, lines, name, thread, chart.opening, &chart.corners)
+}
