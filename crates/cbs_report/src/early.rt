@@ -27,6 +27,7 @@ impl Early {
     }
 
     /// Adds a job that was finished at a tick, if something was promised to it.
+    #[inline]
     pub fn add(&mut self, promised: Option<u128>, at: u64)
         ensures { self.new ≡ early_with promised at self.old }
     {

@@ -82,6 +82,7 @@ impl<A: Allocator + Clone> JobTally<A> {
 
 impl<A: Allocator> JobTally<A> {
     /// Adds a job that was accepted.
+    #[inline(always)]
     fn accept(&mut self, job: AcceptedJob) -> Result<(), AllocError>
         ensures { OnOk result (self.new ≡ jobs_with job self.old) }
     {
@@ -91,6 +92,7 @@ impl<A: Allocator> JobTally<A> {
     }
 
     /// Takes the oldest job, which was finished at a tick, from those that wait.
+    #[inline(always)]
     fn finish(&mut self, now: u64) -> Result<(), AllocError>
         ensures { OnOk result (self.new ≡ jobs_without now (slice_get self.old.waiting 0) self.old) }
     {

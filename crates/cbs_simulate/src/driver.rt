@@ -44,6 +44,7 @@ fn show<A: Allocator, C, S: Watcher<C>>(
 }
 
 /// Submits the release that comes next, and shows it.
+#[inline(always)]
 fn submit_first<A: Allocator, R: Releases, C, S: Watcher<C>>(
     core: &mut Core<LoadJob, A>,
     releases: &mut R,

@@ -79,6 +79,7 @@ impl<S: Releases + Drop, A: Allocator> Releases for Merged<S, A> {
 
     ghost ordered = { merged_ordered S.coming S.ordered };
 
+    #[inline(always)]
     fn first(&self) -> Option<Release> {
         match self.turns.peek() {
             Some(&Reverse((_, place))) => self.sources[place].first(),
@@ -86,6 +87,7 @@ impl<S: Releases + Drop, A: Allocator> Releases for Merged<S, A> {
         }
     }
 
+    #[inline(always)]
     fn pass(&mut self) {
         let Some(Reverse((_, place))) = self.turns.pop() else {
             return;

@@ -18,6 +18,7 @@ use cbs_steps::{CoreError, Ran};
 use std::alloc::{AllocError, Allocator};
 
 /// Submits the job of a release.
+#[inline(always)]
 pub(crate) fn submit<A: Allocator>(
     core: &mut Core<LoadJob, A>,
     release: Release,
