@@ -4,3 +4,4 @@ mod WaitingMoves
 mod ThrottledTicks
 mod Servers
 mod TaskSteps
+mod Drawings

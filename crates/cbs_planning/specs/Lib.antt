@@ -3,3 +3,4 @@ pub mod Throttled
 pub mod Loads
 pub mod Tasks
 pub mod Showing
+pub mod Pictures

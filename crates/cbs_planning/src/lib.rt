@@ -1,16 +1,23 @@
-//! Loads, simulated, and task files, replayed: what comes of them, as a report.
+//! Loads, simulated, and task files, replayed: what comes of them, as a report or a picture.
 #![tactic(auto)]
 
+mod drawn;
+mod pictured;
 mod progress;
 mod reported;
 mod showing;
+mod shown;
+mod task_picture;
 mod task_report;
 mod task_steps;
 mod watched;
 mod within;
 
+pub use pictured::picture_of;
 pub use progress::{NoProgress, Progress};
 pub use reported::report_of;
 pub use showing::{Stopped, show_load};
+pub use shown::{NothingShown, shown_of};
+pub use task_picture::{clock_of, task_picture_of};
 pub use task_report::task_report_of;
 pub use task_steps::show_steps;

@@ -3,6 +3,7 @@
 mod figures;
 mod guarantees;
 mod load_files;
+mod pictures;
 mod replays;
 mod simulations;
 mod sizes;

@@ -1,6 +1,7 @@
 pub mod Checked
 pub mod FaultLines
 pub mod JobsByServer
+pub mod Pictured
 pub mod Printing
 pub mod Reads
 pub mod Reported
@@ -8,4 +9,3 @@ pub mod ResultLines
 pub mod ServingStops
 pub mod Statuses
 pub mod Verbs
-pub mod Words

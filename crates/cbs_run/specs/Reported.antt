@@ -7,8 +7,8 @@ use Rattle.cbs_planning.specs.Loads.{IsReportOf}
 use Rattle.cbs_planning.specs.Tasks.{IsTaskReport}
 use Rattle.cbs_print.specs.Texts.{report_text}
 use Rattle.cbs_print.specs.declared.report.RunReport.{RunReport}
-use Rattle.cbs_run.specs.declared.words.Form.{Form}
-use Rattle.cbs_run.specs.declared.words.Form.TheVariants.{Report, Json}
+use Rattle.cbs_words.specs.declared.actions.Form.{Form}
+use Rattle.cbs_words.specs.declared.actions.Form.TheVariants.{Report, Json}
 
 -- a report in a form
 abbrev pub text_in : Form → RunReport → List ℕ

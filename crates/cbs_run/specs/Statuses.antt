@@ -8,7 +8,7 @@ use Rattle.cbs_run.specs.FaultLines.{file_line, run_line}
 use Rattle.cbs_run.specs.Verbs.{output_of, StopsShort}
 use Rattle.cbs_lines.specs.Writers.{Writer, IsUntouched, Writes, TriesToWrite}
 use Rattle.cbs_lines.specs.declared.run_error.RunError.{RunError}
-use Rattle.cbs_run.specs.declared.words.Verb.{Verb}
+use Rattle.cbs_words.specs.declared.actions.Verb.{Verb}
 
 -- a run over the bytes ended with the status, and left out and err so
 pub data Ends (verb : Verb) (bytes : List ℕ) (out out' err err' : Writer) : ℕ → Type 0 where

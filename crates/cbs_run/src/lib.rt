@@ -1,5 +1,5 @@
-//! Files from their bytes to a status: task files run, to a trace of their steps or the results of their jobs; loads simulated; and
-//! what is told of either.
+//! Files from their bytes to a status: task files run, to a trace of their steps or the results of their jobs; loads simulated;
+//! what is told of either; and pictures of what ran.
 #![tactic(auto)]
 
 mod check;
@@ -8,21 +8,22 @@ mod explained;
 mod fault_lines;
 mod input;
 mod jobs_by_server;
+mod pictures;
 mod report;
 mod result_lines;
 mod run;
 mod serve;
 mod simulate;
-mod words;
 
 pub use cbs_lines::{ByteOutput, RunError, ToWrite, replay, write_pieces, write_text};
 pub use cbs_planning::{NoProgress, Progress};
+pub use cbs_words::{Action, Asked, Drawing, Form, Verb, Window, WordsFault, read_words};
 pub use check::check_bytes_within;
 pub use environment::{MEMORY_VARIABLE, memory_bound};
 pub use fault_lines::{write_file_fault, write_read_fault, write_run_fault};
 pub use input::{ByteInput, FromRead, MAX_BYTES, ReadError, read_all};
+pub use pictures::{draw_load_within, draw_tasks_within};
 pub use report::report_bytes_within;
 pub use run::{BAD_FILE, DONE, RUN_FAULT, WRONG_WORDS, run_bytes, run_bytes_within};
 pub use serve::serve_file;
 pub use simulate::{simulate_bytes_within, simulate_lines_within};
-pub use words::{Action, Asked, Form, Verb, WordsFault, read_words};

@@ -11,12 +11,12 @@ ghost use Rattle.cbs_lines.specs.Writers.{IsUntouched};
 use crate::explained::write_explained;
 use crate::fault_lines::write_run_fault;
 use crate::run::{BAD_FILE, DONE, RUN_FAULT};
-use crate::words::Form;
 use cbs_file::{TaskFile, read_file_within};
 use cbs_json::report_json;
 use cbs_lines::{ByteOutput, RunError, write_text};
 use cbs_planning::task_report_of;
 use cbs_print::{RunReport, report_text};
+use cbs_words::Form;
 use std::alloc::{AllocError, Global};
 
 /// Returns the text of a report in this form, of at most 64 servers.

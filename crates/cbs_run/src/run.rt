@@ -8,9 +8,9 @@ ghost use Rattle.cbs_lines.specs.Writers.{Leaves};
 
 use crate::fault_lines::{write_file_fault, write_run_fault};
 use crate::serve::serve_file;
-use crate::words::Verb;
 use cbs_file::{MEMORY, TaskFile, read_file_within};
 use cbs_lines::{ByteOutput, RunError, replay};
+use cbs_words::Verb;
 use std::alloc::Global;
 use std::thread::Threads;
 use std::time::Clock;

@@ -14,10 +14,10 @@ use crate::explained::write_explained;
 use crate::fault_lines::write_run_fault;
 use crate::report::text_of;
 use crate::run::{BAD_FILE, DONE, RUN_FAULT};
-use crate::words::Form;
 use cbs_lines::{ByteOutput, RunError, write_load_lines, write_text};
 use cbs_load::{Load, read_load_within};
 use cbs_planning::{Progress, report_of};
+use cbs_words::Form;
 use std::alloc::Global;
 
 /// Simulates a load, and prints the report of that in this form, with this name for its file.

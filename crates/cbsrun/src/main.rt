@@ -13,9 +13,9 @@ use crate::progress::Teller;
 use cbs_file::MEMORY;
 use cbs_run::{
     Action, Asked, BAD_FILE, ByteOutput, DONE, Form, MEMORY_VARIABLE, Progress, RUN_FAULT,
-    RunError, ToWrite, WRONG_WORDS, WordsFault, check_bytes_within, memory_bound, read_words,
-    report_bytes_within, run_bytes_within, simulate_bytes_within, simulate_lines_within,
-    write_pieces, write_read_fault, write_run_fault,
+    RunError, ToWrite, WRONG_WORDS, WordsFault, check_bytes_within, draw_load_within,
+    draw_tasks_within, memory_bound, read_words, report_bytes_within, run_bytes_within,
+    simulate_bytes_within, simulate_lines_within, write_pieces, write_read_fault, write_run_fault,
 };
 use std::alloc::{AllocError, Global};
 use std::env;
@@ -83,7 +83,13 @@ fn answered<R: Threads + Clock + Sync, P: Progress, O: ByteOutput, E: ByteOutput
             simulate_bytes_within(alloc, memory, form, name, bytes, progress, out, err)
         }
         Action::SimulateLines => simulate_lines_within(alloc, memory, name, bytes, out, err),
+        Action::DrawLoad(drawing, ticks) => draw_load_within(
+            alloc, memory, drawing, ticks, name, bytes, progress, out, err,
+        ),
         Action::Replay(form) => report_bytes_within(alloc, memory, form, name, bytes, out, err),
+        Action::DrawTasks(drawing, ticks) => {
+            draw_tasks_within(alloc, memory, drawing, ticks, name, bytes, out, err)
+        }
         Action::Run(verb) => run_bytes_within(threads, alloc, memory, verb, bytes, out, err),
     }
 }

@@ -1,11 +1,12 @@
-//! Texts that are printed of a file: what `check` says of it, and reports.
+//! Texts that are printed of a file: what `check` says of it, reports, and pictures.
 
 use super::fakes::{Memory, Outcome};
 use cbs_run::{
-    Form, NoProgress, check_bytes_within, report_bytes_within, simulate_bytes_within,
-    simulate_lines_within,
+    Drawing, Form, NoProgress, Window, check_bytes_within, draw_load_within, draw_tasks_within,
+    report_bytes_within, simulate_bytes_within, simulate_lines_within,
 };
 use std::alloc::Global;
+use std::process::Abort;
 
 /// Ample memory for a file.
 const MEMORY: u64 = 1 << 30;
@@ -156,6 +157,8 @@ enum Asked {
     Simulate(Form),
     SimulateLines,
     Replay(Form),
+    DrawLoad(Window),
+    DrawTasks(Window),
 }
 
 /// Prints what is asked of a file, which may want so much memory, to a writer with room for so many bytes.
@@ -184,6 +187,27 @@ fn printed(alloc: Global, asked: Asked, memory: u64, file: &str, room: usize) ->
         Asked::Replay(form) => {
             report_bytes_within(alloc, memory, form, name, bytes, &mut out, &mut err)
         }
+        Asked::DrawLoad(ticks) => draw_load_within(
+            alloc,
+            memory,
+            Drawing::Svg,
+            ticks,
+            name,
+            bytes,
+            &mut NoProgress,
+            &mut out,
+            &mut err,
+        ),
+        Asked::DrawTasks(ticks) => draw_tasks_within(
+            alloc,
+            memory,
+            Drawing::Svg,
+            ticks,
+            name,
+            bytes,
+            &mut out,
+            &mut err,
+        ),
     };
     Outcome { status, out, err }
 }
@@ -204,15 +228,53 @@ fn a_text_is_printed_whole(rt: HostRuntime) {
     }
 }
 
+/// Returns the ticks from one up to another.
+fn ticks(rt: &impl Abort, from: u64, to: u64) -> Window {
+    Window::new(from, to).ok().expect(rt, "ticks")
+}
+
+#[test]
+fn a_run_is_drawn_up_to_its_end(rt: HostRuntime) {
+    let alloc = rt.alloc();
+    let all = ticks(&rt, 0, 20_000);
+    for (asked, file) in &[(Asked::DrawLoad(all), LOAD), (Asked::DrawTasks(all), TASKS)] {
+        let outcome = printed(alloc, *asked, MEMORY, file, usize::MAX);
+        assert_eq!(rt; outcome.status, 0);
+        let text = str::from_utf8(&outcome.out.taken).unwrap_or("");
+        assert!(rt; text.starts_with("<svg "), "{text}");
+        assert!(rt;
+            text.contains("<title id=\"what\">a.toml, ticks 0 to 4</title>"),
+            "{text}"
+        );
+        assert!(rt; text.ends_with("</svg>\n"), "{text}");
+    }
+}
+
+#[test]
+fn a_run_that_ends_before_the_first_tick_is_not_drawn(rt: HostRuntime) {
+    let alloc = rt.alloc();
+    let text = "error: there is no tick to show from 4 on: the run ends at tick 4\n";
+    let later = ticks(&rt, 4, 9);
+    printed(alloc, Asked::DrawLoad(later), MEMORY, LOAD, usize::MAX).leaves(
+        &rt, "load", 2, "", text,
+    );
+    printed(alloc, Asked::DrawTasks(later), MEMORY, TASKS, usize::MAX).leaves(
+        &rt, "tasks", 2, "", text,
+    );
+}
+
 #[test]
 fn a_writer_that_fails_has_a_prefix(rt: HostRuntime) {
     let alloc = rt.alloc();
+    let some = ticks(&rt, 0, 4);
     let fault = "cbsrun: run fault 2 WriteFault\n";
     for (asked, file, prefix) in &[
         (Asked::Check, LOAD, "fits:"),
         (Asked::Simulate(Form::Json), LOAD, "{\"bac"),
         (Asked::SimulateLines, LOAD, "@0 su"),
         (Asked::Replay(Form::Report), TASKS, "in ti"),
+        (Asked::DrawLoad(some), LOAD, "<svg "),
+        (Asked::DrawTasks(some), TASKS, "<svg "),
     ] {
         printed(alloc, *asked, MEMORY, file, 5).leaves(&rt, prefix, 4, prefix, fault);
     }
@@ -221,12 +283,15 @@ fn a_writer_that_fails_has_a_prefix(rt: HostRuntime) {
 #[test]
 fn a_fault_is_explained_if_there_is_memory(rt: HostRuntime) {
     let alloc = rt.alloc();
+    let some = ticks(&rt, 0, 4);
     let no_memory = "cbsrun: file fault 7 OutOfMemory at top\n";
     for (asked, file, explained) in &[
         (Asked::Check, "load = 2\n", LOAD_EXPLAINED),
         (Asked::Simulate(Form::Report), "load = 2\n", LOAD_EXPLAINED),
         (Asked::SimulateLines, "load = 2\n", LOAD_EXPLAINED),
         (Asked::Replay(Form::Report), "format = 3\n", TASKS_EXPLAINED),
+        (Asked::DrawLoad(some), "load = 2\n", LOAD_EXPLAINED),
+        (Asked::DrawTasks(some), "format = 3\n", TASKS_EXPLAINED),
     ] {
         assert!(rt; explained.starts_with(FAULT), "{explained}");
         printed(alloc, *asked, MEMORY, file, 0).leaves(&rt, explained, 3, "", explained);

@@ -1,7 +1,7 @@
 //! Command lines.
 
 use super::same;
-use cbs_run::{Action, Form, Verb, WordsFault, read_words};
+use cbs_run::{Action, Drawing, Form, Verb, Window, WordsFault, read_words};
 use std::alloc::Global;
 use std::process::Abort;
 
@@ -132,11 +132,96 @@ fn a_form_stands_before_or_after_the_file(rt: HostRuntime) {
 fn an_unknown_form_is_named(rt: HostRuntime) {
     let text = fault(&rt, rt.alloc(), "cbsrun replay --as xml a.toml", 1, "Usage");
     let wanted = "error: invalid value 'xml' for '--as <FORMAT>'
-  [possible values: lines, report, json]
+  [possible values: lines, report, json, svg]
 
 For more information, try 'cbsrun replay --help'.
 ";
     same(&rt, "text", text.as_str(), wanted);
+}
+
+/// Ends the test where a command line asks for other ticks of a load, or for something else.
+fn shows(rt: &impl Abort, alloc: Global, line: &str, from: u64, to: u64) {
+    let ticks = Window::new(from, to).ok().expect(rt, line);
+    asks(
+        rt,
+        alloc,
+        line,
+        Action::DrawLoad(Drawing::Svg, ticks),
+        "a.toml",
+    );
+}
+
+#[test]
+fn a_picture_shows_ticks(rt: HostRuntime) {
+    let alloc = rt.alloc();
+    shows(&rt, alloc, "cbsrun simulate --as svg a.toml", 0, 20_000);
+    let some = "cbsrun simulate --as=svg --from 90 a.toml --to=130";
+    shows(&rt, alloc, some, 90, 130);
+    shows(
+        &rt,
+        alloc,
+        "cbsrun simulate --as svg --from 7 a.toml",
+        7,
+        20_007,
+    );
+    shows(
+        &rt,
+        alloc,
+        "cbsrun simulate --as svg --to 20000 a.toml",
+        0,
+        20_000,
+    );
+    let ticks = Window::new(0, 9).ok().expect(&rt, "ticks");
+    let tasks = Action::DrawTasks(Drawing::Svg, ticks);
+    let line = "cbsrun replay --to 9 a.toml --as svg";
+    asks(&rt, alloc, line, tasks, "a.toml");
+    for line in &[
+        "cbsrun simulate --from 5 a.toml",
+        "cbsrun simulate --as json --to 5 a.toml",
+        "cbsrun replay --to 5 a.toml",
+        "cbsrun replay --as lines --from 0 a.toml",
+        "cbsrun simulate --as svg --to -1 a.toml",
+        "cbsrun simulate --as svg --to a.toml",
+        "cbsrun simulate --as svg --to 5 --to 6 a.toml",
+        "cbsrun check --from 1 a.toml",
+    ] {
+        refuses(&rt, alloc, line, 1, "Usage");
+    }
+}
+
+#[test]
+fn ticks_that_are_wrong_are_named(rt: HostRuntime) {
+    let alloc = rt.alloc();
+    for (line, text) in &[
+        (
+            "cbsrun simulate --as svg --from 18446744073709551616 a.toml",
+            "error: invalid value '18446744073709551616' for '--from <TICK>'
+  [a whole number below 2^64 is wanted]",
+        ),
+        (
+            "cbsrun simulate --as svg --to many a.toml",
+            "error: invalid value 'many' for '--to <TICK>'
+  [a whole number below 2^64 is wanted]",
+        ),
+        (
+            "cbsrun simulate --as svg --from 9 --to 9 a.toml",
+            "error: there is no tick from 9 up to 9
+  [--from has to be before --to]",
+        ),
+        (
+            "cbsrun simulate --as svg --from 1 --to 20002 a.toml",
+            "error: too many ticks from 1 up to 20002
+  [at most 20000 are shown at a time]",
+        ),
+        (
+            "cbsrun simulate --as report --from 9 a.toml",
+            "error: --from and --to go with '--as svg' alone",
+        ),
+    ] {
+        let said = fault(&rt, alloc, line, 1, "Usage");
+        let end = "\n\nFor more information, try 'cbsrun simulate --help'.\n";
+        same(&rt, line, said.as_str().strip_suffix(end), Some(*text));
+    }
 }
 
 #[test]

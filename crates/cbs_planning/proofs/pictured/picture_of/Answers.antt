@@ -1,0 +1,15 @@
+use Rattle.std.proofs.Common.{◌≡◌, ◌∙◌, subst, List, ℕ}
+use Rattle.std.proofs.lemmas.Result.{IfOk-weaker}
+use Rattle.cbs_planning.specs.Pictures.{IsChartPicture}
+use Rattle.cbs_planning.proofs.pictured.picture_of.Goals as goal
+
+pub returns-clause-picture : goal.returns-clause-picture
+returns-clause-picture g c =
+    let f = c.args.load.now in
+    IfOk-weaker c.picture_of_chart.result _ _ (λ p h. record {
+      chart = c.in_ok-chart.chart;
+      window = c.in_ok-chart.ensures.window;
+      end = c.in_ok-chart.ensures.end;
+      shows = c.in_ok-chart.ensures.chart;
+      picture = rw (← c.names.ensures.value, ← c.modes.ensures, ← c.plan.ensures) h;
+    }) c.picture_of_chart.ensures.picture

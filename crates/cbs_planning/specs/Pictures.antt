@@ -1,0 +1,52 @@
+-- The pictures of a load and of a task file.
+use Rattle.std.specs.Prelude.{◌≡◌, ℕ, ◌≤◌, min, List, length, map, sum_by, string_bytes, Result, Ok, Err}
+use Rattle.std.specs.List.{range_with_len}
+use Rattle.cbs_chart.specs.Charts.{IsChart}
+use Rattle.cbs_chart.specs.declared.chart.Chart.{Chart}
+use Rattle.cbs_chart.specs.declared.picture.Picture.{Picture}
+use Rattle.cbs_chart.specs.declared.window.Window.{Window}
+use Rattle.cbs_file.specs.TaskFiles.{File}
+use Rattle.cbs_load.specs.Loads.{LoadFile}
+use Rattle.cbs_rate.specs.Plan.{Planned, common_multiple, share}
+use Rattle.cbs_rules.specs.declared.mode.Mode.{Mode}
+use Rattle.cbs_views.specs.declared.seen.Seen.{Seen}
+use Rattle.cbs_planning.specs.Loads.{seen_in}
+use Rattle.cbs_planning.specs.Tasks.{clock_of_tasks, name_of, seen_in_tasks}
+use Rattle.cbs_planning.specs.declared.shown.NothingShown.{NothingShown}
+
+-- the rule of the window: of the ticks that are asked for, a run that ends at a tick shows those before its end; if it has none of
+-- them, the answer names the first one and the end
+abbrev pub AnswersShown : Window → ℕ → Result Window NothingShown → Type 0
+AnswersShown asked end (Ok w) = (w.from ≡ asked.from) × (w.to ≡ min asked.to end)
+AnswersShown asked end (Err e) = (end ≤ asked.from) × (e ≡ record { from = asked.from; end = end })
+
+-- a picture of a chart, with this name for its file, of servers that are called so and have these modes and this plan: it has the chart's
+-- window, end and idle ticks, and shows of each server what the chart does
+pub record IsChartPicture (name : List ℕ) (called : List (List ℕ)) (moded : List Mode) (plan : Planned) (c : Chart) (p : Picture) : Type 0 where
+  pub file : string_bytes p.file ≡ name
+  pub reserved : p.reserved ≡ record { ticks = sum_by (share (common_multiple plan.rates)) plan.rates; of = common_multiple plan.rates }
+  pub window : p.window ≡ c.window
+  pub end : p.end ≡ c.end
+  pub idle : p.idle ≡ c.idle
+  pub names : map (λ d. string_bytes d.name) p.servers.items ≡ called
+  pub modes : map (λ d. d.mode) p.servers.items ≡ moded
+  pub reservations : map (λ d. d.reservation) p.servers.items ≡ plan.rates
+  pub charts : map (λ d. d.chart) p.servers.items ≡ c.servers.items
+
+-- a picture of a window of a run that ends at a tick, in which these steps were seen
+pub record IsRunPicture (name : List ℕ) (called : List (List ℕ)) (moded : List Mode) (plan : Planned) (w : Window) (until : ℕ) (seen : List Seen)
+    (p : Picture) : Type 0 where
+  pub chart : Chart
+  pub window : chart.window ≡ w
+  pub end : chart.end ≡ until
+  pub shows : IsChart plan.rates until seen chart
+  pub picture : IsChartPicture name called moded plan chart p
+
+-- the picture of a window of a load, of a file with this name
+abbrev pub IsPictureOf : List ℕ → LoadFile → Window → Picture → Type 0
+IsPictureOf name f w p = IsRunPicture name f.names f.modes f.plan w f.until (seen_in f) p
+
+-- .. of a task file
+abbrev pub IsTaskPicture : List ℕ → File → Window → Picture → Type 0
+IsTaskPicture name f w p =
+    IsRunPicture name (map name_of (range_with_len 0 (length f.plan.rates))) f.modes f.plan w (clock_of_tasks f) (seen_in_tasks f) p

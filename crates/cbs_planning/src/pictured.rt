@@ -1,0 +1,50 @@
+//! The picture of a load.
+
+ghost use Rattle.std.specs.Prelude.{◌≡◌, ◌≤◌, IfOk, length};
+ghost use Rattle.cbs_chart.specs.Charts.{IsChart};
+ghost use Rattle.cbs_planning.specs.Loads.{seen_in};
+ghost use Rattle.cbs_planning.specs.Pictures.{IsPictureOf};
+
+use crate::drawn::picture_of_chart;
+use crate::progress::{Progress, Telling};
+use crate::showing::show_load;
+use cbs_chart::{Chart, ChartView, Picture, Window};
+use cbs_load::Load;
+use std::alloc::{AllocError, Global};
+
+/// Simulates a load up to its end, and returns what a window shows of that.
+fn chart_of<P: Progress>(
+    alloc: Global,
+    load: &Load,
+    window: Window,
+    progress: &mut P,
+) -> Result<Chart, AllocError>
+    ensures window { IfOk result (λ chart. chart.window ≡ window) }
+    ensures end { IfOk result (λ chart. chart.end ≡ load.now.until) }
+    ensures chart { IfOk result (IsChart load.now.plan.rates load.now.until (seen_in load.now)) }
+{
+    let view = ChartView::new(alloc, window, load.plan())?;
+    let telling = Telling::new(view, load.until());
+    let Ok(told) = show_load(alloc, load, telling, progress) else {
+        return Err(AllocError);
+    };
+    told.view.into_chart(alloc, load.until())
+}
+
+/// Simulates a load up to its end, and returns the picture of a window of that, with this name for its file. Tells now and then
+/// how far it is. The only error is out of memory.
+///
+/// Ticks outside of the window take no memory. [`shown_of`](crate::shown_of) gives a window that ends with the load.
+pub fn picture_of<P: Progress>(
+    alloc: Global,
+    file: &str,
+    load: &Load,
+    window: Window,
+    progress: &mut P,
+) -> Result<Picture, AllocError>
+    ensures picture { IfOk result (IsPictureOf file.now load.now window) }
+    ensures few { IfOk result (λ p. length p.servers.items ≤ 64) }
+{
+    let chart = chart_of(alloc, load, window, progress)?;
+    picture_of_chart(alloc, file, load.names(), load.plan(), load.modes(), chart)
+}

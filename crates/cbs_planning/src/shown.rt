@@ -1,0 +1,35 @@
+//! Which ticks of a run are shown.
+
+ghost use Rattle.cbs_planning.specs.Pictures.{AnswersShown};
+
+use cbs_chart::Window;
+use std::fmt;
+use thiserror::Error;
+
+/// A run has none of the ticks that are to be shown: it ends before the first of them.
+#[derive(Clone, Copy, Debug, PartialEq, Eq, Error)]
+#[error("the first tick to show is {from}, and the run ends at tick {end}")]
+pub struct NothingShown {
+    /// The first tick that is to be shown.
+    pub from: u64,
+    /// The tick at which the run ends.
+    pub end: u64,
+}
+
+/// Returns the ticks of a window that a run has which ends at a tick: those before its end.
+///
+/// Refuses if the run has none of them.
+pub fn shown_of(asked: Window, end: u64) -> Result<Window, NothingShown>
+    ensures { AnswersShown asked end result }
+{
+    if end <= asked.from {
+        return Err(NothingShown {
+            from: asked.from,
+            end,
+        });
+    }
+    Ok(Window {
+        from: asked.from,
+        to: asked.to.min(end),
+    })
+}

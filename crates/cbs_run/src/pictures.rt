@@ -1,0 +1,293 @@
+//! Loads and task files, drawn: from their bytes to a status.
+
+ghost use Rattle.std.specs.Prelude.{◌≡◌, ◌+◌, ◌-◌, ◌<◌, ◌≤◌, ◌^◌, Err, IfOk, OnOk, OnErr, length, string_bytes};
+ghost use Rattle.std.specs.Io.KnownBytes.{Appends};
+ghost use Rattle.cbs_tables.specs.Memory.{memory_wanted};
+ghost use Rattle.cbs_file.specs.Spelling.{file};
+ghost use Rattle.cbs_load.specs.Spelling.{load};
+ghost use Rattle.cbs_lines.specs.Writes.{AppendsFront};
+ghost use Rattle.cbs_planning.specs.Pictures.{IsPictureOf, IsTaskPicture};
+ghost use Rattle.cbs_planning.specs.Tasks.{clock_of_tasks};
+ghost use Rattle.cbs_tables.specs.Documents.{no_memory};
+ghost use Rattle.cbs_run.specs.Pictured.{end_of, nothing_shown_line, Draws, EndsDrawing, IsDrawingOf, IsDrawn, IsLoadDrawing, IsTaskDrawing, TellsUndrawn};
+ghost use Rattle.cbs_run.specs.Printing.{Prints};
+ghost use Rattle.cbs_run.specs.Statuses.{LacksMemory};
+
+use crate::explained::write_explained;
+use crate::fault_lines::write_run_fault;
+use crate::run::{BAD_FILE, DONE, RUN_FAULT, WRONG_WORDS};
+use cbs_chart::{Picture, Window};
+use cbs_file::{FileFault, TaskFile, read_file_within};
+use cbs_lines::{ByteOutput, RunError, write_pieces, write_text};
+use cbs_load::{Load, read_load_within};
+use cbs_planning::{NothingShown, Progress, clock_of, picture_of, shown_of, task_picture_of};
+use cbs_svg::svg_text;
+use cbs_timeline::timeline_text;
+use cbs_trace::trace_json;
+use cbs_words::Drawing;
+use itoa::Buffer;
+use std::alloc::{AllocError, Global};
+use std::io;
+
+/// Why nothing is drawn.
+#[derive(Clone, Copy)]
+enum Undrawn {
+    /// The file has a fault.
+    Unread(FileFault),
+    /// The run ends before the first tick that is to be shown.
+    Ended(NothingShown),
+    /// The run ended early.
+    Stopped(RunError),
+}
+
+/// Returns a picture, of at most 64 servers, as it is drawn.
+fn drawn_text(alloc: Global, drawing: Drawing, picture: &Picture) -> Result<String, AllocError>
+    requires { length picture.now.servers.items ≤ 64 }
+    ensures { IfOk result (λ text. IsDrawn drawing picture.now (string_bytes text)) }
+{
+    match drawing {
+        Drawing::Svg => svg_text(alloc, picture),
+        Drawing::Text => timeline_text(alloc, picture),
+        Drawing::Trace => trace_json(alloc, picture),
+    }
+}
+
+/// Prints a picture, of at most 64 servers.
+fn print_picture<O: ByteOutput>(
+    alloc: Global,
+    drawing: Drawing,
+    picture: &Picture,
+    out: &mut O,
+) -> Result<(), RunError>
+    requires few { length picture.now.servers.items ≤ 64 }
+    requires out { O.failed out.old < 2 ^ 64 - 1 }
+    ensures { Prints (IsDrawn drawing picture.now) result
+        (record { written = O.written out.old; failed = O.failed out.old }) (record { written = O.written out.new; failed = O.failed out.new }) }
+{
+    let text = drawn_text(alloc, drawing, picture)?;
+    write_text(out, text.as_bytes())?;
+    Ok(())
+}
+
+/// Simulates a load, and prints the picture of a window of that, with this name for its file.
+fn print_load<P: Progress, O: ByteOutput>(
+    alloc: Global,
+    drawing: Drawing,
+    window: Window,
+    name: &str,
+    load: &Load,
+    progress: &mut P,
+    out: &mut O,
+) -> Result<(), RunError>
+    requires { O.failed out.old < 2 ^ 64 - 1 }
+    ensures { Prints (IsDrawingOf drawing (IsPictureOf name.now load.now window)) result
+        (record { written = O.written out.old; failed = O.failed out.old }) (record { written = O.written out.new; failed = O.failed out.new }) }
+{
+    let picture = picture_of(alloc, name, load, window, progress)?;
+    print_picture(alloc, drawing, &picture, out)
+}
+
+/// Makes the steps of a task file, and prints the picture of a window of that, with this name for the file.
+fn print_tasks<O: ByteOutput>(
+    alloc: Global,
+    drawing: Drawing,
+    window: Window,
+    name: &str,
+    tasks: TaskFile,
+    out: &mut O,
+) -> Result<(), RunError>
+    requires { O.failed out.old < 2 ^ 64 - 1 }
+    ensures { Prints (IsDrawingOf drawing (IsTaskPicture name.now tasks window)) result
+        (record { written = O.written out.old; failed = O.failed out.old }) (record { written = O.written out.new; failed = O.failed out.new }) }
+{
+    let picture = task_picture_of(alloc, name, tasks, window)?;
+    print_picture(alloc, drawing, &picture, out)
+}
+
+/// Draws the ticks of a window of the load that the bytes spell.
+fn draw_load<P: Progress, O: ByteOutput>(
+    alloc: Global,
+    memory: u64,
+    drawing: Drawing,
+    asked: Window,
+    name: &str,
+    bytes: &[u8],
+    progress: &mut P,
+    out: &mut O,
+) -> Result<(), Undrawn>
+    requires { O.failed out.old < 2 ^ 64 - 1 }
+    ensures draws { Draws load (IsLoadDrawing drawing asked name.now) end_of asked bytes.now result
+        (record { written = O.written out.old; failed = O.failed out.old }) (record { written = O.written out.new; failed = O.failed out.new }) }
+    ensures bounded { memory < memory_wanted bytes.now → result ≡ Err (Undrawn.Unread no_memory) }
+{
+    let load = match read_load_within(alloc, memory, bytes) {
+        Ok(load) => load,
+        Err(fault) => return Err(Undrawn::Unread(fault)),
+    };
+    let window = match shown_of(asked, load.until()) {
+        Ok(window) => window,
+        Err(nothing) => return Err(Undrawn::Ended(nothing)),
+    };
+    match print_load(alloc, drawing, window, name, &load, progress, out) {
+        Ok(()) => Ok(()),
+        Err(error) => Err(Undrawn::Stopped(error)),
+    }
+}
+
+/// Draws the ticks of a window of the task file that the bytes spell. They are read twice, and its steps made twice: first for the
+/// tick at which they end.
+fn draw_tasks<O: ByteOutput>(
+    alloc: Global,
+    memory: u64,
+    drawing: Drawing,
+    asked: Window,
+    name: &str,
+    bytes: &[u8],
+    out: &mut O,
+) -> Result<(), Undrawn>
+    requires { O.failed out.old < 2 ^ 64 - 1 }
+    ensures draws { Draws file (IsTaskDrawing drawing asked name.now) clock_of_tasks asked bytes.now result
+        (record { written = O.written out.old; failed = O.failed out.old }) (record { written = O.written out.new; failed = O.failed out.new }) }
+    ensures bounded { memory < memory_wanted bytes.now → result ≡ Err (Undrawn.Unread no_memory) }
+{
+    let first = match read_file_within(alloc, memory, bytes) {
+        Ok(tasks) => tasks,
+        Err(fault) => return Err(Undrawn::Unread(fault)),
+    };
+    let Ok(end) = clock_of(alloc, first) else {
+        return Err(Undrawn::Stopped(RunError::OutOfMemory));
+    };
+    let window = match shown_of(asked, end) {
+        Ok(window) => window,
+        Err(nothing) => return Err(Undrawn::Ended(nothing)),
+    };
+    let tasks = match read_file_within(alloc, memory, bytes) {
+        Ok(tasks) => tasks,
+        Err(fault) => return Err(Undrawn::Unread(fault)),
+    };
+    match print_tasks(alloc, drawing, window, name, tasks, out) {
+        Ok(()) => Ok(()),
+        Err(error) => Err(Undrawn::Stopped(error)),
+    }
+}
+
+/// Writes the line of a run that has none of the ticks which are to be shown.
+#[tactic(auto, unfolding(crate::specs::Pictured::nothing_shown_line))]
+fn write_nothing_shown<E: ByteOutput>(err: &mut E, nothing: NothingShown) -> io::Result<()>
+    requires { E.failed err.old < 2 ^ 64 - 1 }
+    ensures ok { OnOk result (Appends (E.written err.old) (E.written err.new) (nothing_shown_line nothing.from nothing.end) × (E.failed err.new ≡ E.failed err.old)) }
+    ensures err { OnErr result ((E.failed err.new ≡ E.failed err.old + 1) × AppendsFront (E.written err.old) (E.written err.new) (nothing_shown_line nothing.from nothing.end)) }
+{
+    let mut first = Buffer::new();
+    let from = first.format(nothing.from);
+    let mut last = Buffer::new();
+    let end = last.format(nothing.end);
+    write_pieces(
+        err,
+        &[
+            "error: there is no tick to show from ",
+            from,
+            " on: the run ends at tick ",
+            end,
+            "\n",
+        ],
+    )
+}
+
+/// Writes why nothing is drawn of the file that the bytes spell, and returns the status.
+fn write_undrawn<E: ByteOutput>(
+    alloc: Global,
+    name: &str,
+    bytes: &[u8],
+    undrawn: Undrawn,
+    err: &mut E,
+) -> u8
+    requires { E.failed err.old < 2 ^ 64 - 1 }
+    ensures { TellsUndrawn undrawn
+        (record { written = E.written err.old; failed = E.failed err.old }) (record { written = E.written err.new; failed = E.failed err.new })
+        result }
+{
+    match undrawn {
+        Undrawn::Unread(fault) => {
+            write_explained(alloc, name, bytes, fault, err);
+            BAD_FILE
+        }
+        Undrawn::Ended(nothing) => {
+            let _written = write_nothing_shown(err, nothing);
+            WRONG_WORDS
+        }
+        Undrawn::Stopped(error) => {
+            let _written = write_run_fault(err, error);
+            RUN_FAULT
+        }
+    }
+}
+
+/// Simulates the load that the bytes spell, and draws the ticks of that which are asked for, as far as it has them, with this name
+/// for its file. Tells now and then how far it is. Returns the status.
+///
+/// At status 0 the whole drawing is on `out`, and nothing on `err`. At status 2 the load ends before the first tick that is asked
+/// for: a line on `err` names both, and nothing is on `out`. At status 3 the file has a fault: its line goes to `err`, with what a
+/// person needs to know of it below, and nothing to `out`. At status 4 the run ended early: the line of that goes to `err`, and
+/// `out` has a prefix of the drawing, which is empty unless a write failed. A line that cannot be written changes no status.
+///
+/// If the bytes want more than `memory` bytes of memory, the status is 3, with the line of out of memory on `err`, and nothing is
+/// parsed.
+pub fn draw_load_within<P: Progress, O: ByteOutput, E: ByteOutput>(
+    alloc: Global,
+    memory: u64,
+    drawing: Drawing,
+    asked: Window,
+    name: &str,
+    bytes: &[u8],
+    progress: &mut P,
+    out: &mut O,
+    err: &mut E,
+) -> u8
+    requires out { O.failed out.old < 2 ^ 64 - 1 }
+    requires err { E.failed err.old < 2 ^ 64 - 1 }
+    ensures ends { EndsDrawing load (IsLoadDrawing drawing asked name.now) end_of asked bytes.now
+        (record { written = O.written out.old; failed = O.failed out.old }) (record { written = O.written out.new; failed = O.failed out.new })
+        (record { written = E.written err.old; failed = E.failed err.old }) (record { written = E.written err.new; failed = E.failed err.new })
+        result }
+    ensures bounded { memory < memory_wanted bytes.now → LacksMemory
+        (record { written = O.written out.old; failed = O.failed out.old }) (record { written = O.written out.new; failed = O.failed out.new })
+        (record { written = E.written err.old; failed = E.failed err.old }) (record { written = E.written err.new; failed = E.failed err.new })
+        result }
+{
+    match draw_load(alloc, memory, drawing, asked, name, bytes, progress, out) {
+        Ok(()) => DONE,
+        Err(undrawn) => write_undrawn(alloc, name, bytes, undrawn, err),
+    }
+}
+
+/// Makes the steps of the task file that the bytes spell, and draws the ticks of that which are asked for, as far as it has them,
+/// with this name for its file. Returns the status.
+///
+/// The statuses are those of [`draw_load_within`]: the run of a task file ends at the tick to which its steps bring the clock.
+pub fn draw_tasks_within<O: ByteOutput, E: ByteOutput>(
+    alloc: Global,
+    memory: u64,
+    drawing: Drawing,
+    asked: Window,
+    name: &str,
+    bytes: &[u8],
+    out: &mut O,
+    err: &mut E,
+) -> u8
+    requires out { O.failed out.old < 2 ^ 64 - 1 }
+    requires err { E.failed err.old < 2 ^ 64 - 1 }
+    ensures ends { EndsDrawing file (IsTaskDrawing drawing asked name.now) clock_of_tasks asked bytes.now
+        (record { written = O.written out.old; failed = O.failed out.old }) (record { written = O.written out.new; failed = O.failed out.new })
+        (record { written = E.written err.old; failed = E.failed err.old }) (record { written = E.written err.new; failed = E.failed err.new })
+        result }
+    ensures bounded { memory < memory_wanted bytes.now → LacksMemory
+        (record { written = O.written out.old; failed = O.failed out.old }) (record { written = O.written out.new; failed = O.failed out.new })
+        (record { written = E.written err.old; failed = E.failed err.old }) (record { written = E.written err.new; failed = E.failed err.new })
+        result }
+{
+    match draw_tasks(alloc, memory, drawing, asked, name, bytes, out) {
+        Ok(()) => DONE,
+        Err(undrawn) => write_undrawn(alloc, name, bytes, undrawn, err),
+    }
+}

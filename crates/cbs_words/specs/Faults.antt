@@ -1,0 +1,16 @@
+-- The faults of the words.
+use Rattle.std.specs.Prelude.{ℕ, List, codes}
+use Rattle.cbs_words.specs.declared.fault.WordsFault.{WordsFault}
+use Rattle.cbs_words.specs.declared.fault.WordsFault.TheVariants.{Usage, Help, OutOfMemory}
+
+-- the number of each fault of the words
+abbrev pub words_fault_number : WordsFault → ℕ
+words_fault_number (Usage text) = 1
+words_fault_number (Help text) = 2
+words_fault_number OutOfMemory = 3
+
+-- the name of each fault of the words
+abbrev pub words_fault_name : WordsFault → List ℕ
+words_fault_name (Usage text) = codes "Usage"
+words_fault_name (Help text) = codes "Help"
+words_fault_name OutOfMemory = codes "OutOfMemory"

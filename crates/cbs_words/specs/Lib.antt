@@ -1,0 +1,4 @@
+pub mod Actions
+pub mod Faults
+pub mod Options
+pub mod Words

@@ -1,0 +1,50 @@
+//! Why words ask for nothing.
+
+ghost use Rattle.std.specs.Prelude.{◌≡◌};
+ghost use Rattle.cbs_words.specs.Faults.{words_fault_number, words_fault_name};
+ghost use Rattle.cbs_words.specs.declared.fault.WordsFault.TheVariants.{OutOfMemory};
+
+use std::alloc::AllocError;
+
+/// Why the words ask for nothing, with the text to print.
+#[derive(Debug, Drop)]
+pub enum WordsFault {
+    /// The words are wrong: the text says in what, and how they go.
+    Usage(String),
+    /// The words ask for help: the text is the help.
+    Help(String),
+    /// There was no memory to read the words.
+    OutOfMemory,
+}
+
+impl WordsFault {
+    /// The fault's number, from 1.
+    pub fn number(&self) -> u8
+        ensures { result ≡ words_fault_number self.now }
+    {
+        match self {
+            WordsFault::Usage(_) => 1,
+            WordsFault::Help(_) => 2,
+            WordsFault::OutOfMemory => 3,
+        }
+    }
+
+    /// The fault's name.
+    pub fn name(&self) -> &'static str
+        ensures { result.now ≡ words_fault_name self.now }
+    {
+        match self {
+            WordsFault::Usage(_) => "Usage",
+            WordsFault::Help(_) => "Help",
+            WordsFault::OutOfMemory => "OutOfMemory",
+        }
+    }
+}
+
+impl From<AllocError> for WordsFault {
+    ghost from_gives = { λ _ e. e ≡ OutOfMemory };
+
+    fn from(_error: AllocError) -> WordsFault {
+        WordsFault::OutOfMemory
+    }
+}

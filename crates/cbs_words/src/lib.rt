@@ -1,0 +1,13 @@
+//! The words of a command line: what they ask for.
+#![tactic(auto)]
+
+mod actions;
+mod fault;
+mod options;
+mod texts;
+mod words;
+
+pub use actions::{Action, Asked, Drawing, Form, Verb};
+pub use cbs_chart::Window;
+pub use fault::WordsFault;
+pub use words::read_words;

@@ -1,0 +1,186 @@
+//! What the options of a command ask for.
+
+ghost use Rattle.std.specs.Prelude.{◌≡◌, ℕ, codes, MatchOption, Some};
+ghost use Rattle.cbs_chart.specs.declared.window.Window.{Window as Ticks};
+ghost use Rattle.cbs_words.specs.Actions.{drawing_name, form_name};
+ghost use Rattle.cbs_words.specs.Options.{AsksFor, AsksPlainly, AsksTicks, IsTick, said, text_of};
+ghost use Rattle.cbs_words.specs.declared.actions.Action.{Action as Wanted};
+
+use crate::actions::{Action, Drawing, Form, Verb};
+use crate::fault::WordsFault;
+use cbs_chart::{MOST_TICKS, Window, WindowError};
+use std::alloc::{AllocError, Global};
+use std::fmt::Write;
+
+/// Returns the tick that an option says, or another one if it says nothing. Returns nothing if it says no whole number below 2^64.
+fn tick_of(said: Option<&str>, otherwise: u64) -> Option<u64>
+    ensures { MatchOption result ((n : ℕ) → ¬ IsTick (text_of said.entry) otherwise n) (IsTick (text_of said.entry) otherwise) }
+{
+    match said {
+        None => Some(otherwise),
+        Some(text) => text.parse::<u64>().ok(),
+    }
+}
+
+/// Returns the ticks that the options `--from` and `--to` ask for, if they ask for some that can be shown at a time.
+fn ticks_of(from: Option<&str>, to: Option<&str>) -> Option<Window>
+    ensures { MatchOption result ((w : Ticks) → ¬ AsksTicks (text_of from.entry) (text_of to.entry) w) (AsksTicks (text_of from.entry) (text_of to.entry)) }
+{
+    let first = tick_of(from, 0)?;
+    let end = tick_of(to, first.saturating_add(MOST_TICKS))?;
+    Window::new(first, end).ok()
+}
+
+/// Returns the form of a report of this name, if there is one.
+fn form_of(name: &str) -> Option<Form>
+    ensures { MatchOption result ((form : Form) → ¬ (name.now ≡ form_name form)) (λ form. name.now ≡ form_name form) }
+{
+    match name {
+        "report" => Some(Form::Report),
+        "json" => Some(Form::Json),
+        _ => None,
+    }
+}
+
+/// Returns the drawing of this name, if there is one.
+fn drawing_of(form: Option<&str>) -> Option<Drawing>
+    ensures { MatchOption result ((d : Drawing) → ¬ (text_of form.entry ≡ Some (drawing_name d))) (λ d. text_of form.entry ≡ Some (drawing_name d)) }
+{
+    match form {
+        Some("svg") => Some(Drawing::Svg),
+        Some("text") => Some(Drawing::Text),
+        Some("trace") => Some(Drawing::Trace),
+        _ => None,
+    }
+}
+
+/// Returns what `simulate` is asked for by the name of a form that shows no ticks, if there is one of that name. With no name it
+/// is the text.
+fn simulated_as(form: Option<&str>) -> Option<Action>
+    ensures { MatchOption result ((action : Wanted) → ¬ AsksPlainly (codes "simulate") (text_of form.entry) action)
+        (AsksPlainly (codes "simulate") (text_of form.entry)) }
+{
+    match form {
+        None => Some(Action::Simulate(Form::Report)),
+        Some("lines") => Some(Action::SimulateLines),
+        Some(name) => form_of(name).map(Action::Simulate),
+    }
+}
+
+/// Returns what `replay` is asked for by the name of a form that shows no ticks, if there is one of that name. With no name it is
+/// the trace.
+fn replayed_as(form: Option<&str>) -> Option<Action>
+    ensures { MatchOption result ((action : Wanted) → ¬ AsksPlainly (codes "replay") (text_of form.entry) action)
+        (AsksPlainly (codes "replay") (text_of form.entry)) }
+{
+    match form {
+        None | Some("lines") => Some(Action::Run(Verb::Replay)),
+        Some(name) => form_of(name).map(Action::Replay),
+    }
+}
+
+/// Returns what `simulate` is asked for by its options, if they ask for something.
+fn simulated_with(form: Option<&str>, from: Option<&str>, to: Option<&str>) -> Option<Action>
+    ensures { MatchOption result ((action : Wanted) → ¬ AsksFor (codes "simulate") (said form.entry from.entry to.entry) action)
+        (AsksFor (codes "simulate") (said form.entry from.entry to.entry)) }
+{
+    if let Some(drawing) = drawing_of(form) {
+        let ticks = ticks_of(from, to)?;
+        return Some(Action::DrawLoad(drawing, ticks));
+    }
+    if from.is_some() || to.is_some() {
+        return None;
+    }
+    simulated_as(form)
+}
+
+/// Returns what `replay` is asked for by its options, if they ask for something.
+fn replayed_with(form: Option<&str>, from: Option<&str>, to: Option<&str>) -> Option<Action>
+    ensures { MatchOption result ((action : Wanted) → ¬ AsksFor (codes "replay") (said form.entry from.entry to.entry) action)
+        (AsksFor (codes "replay") (said form.entry from.entry to.entry)) }
+{
+    if let Some(drawing) = drawing_of(form) {
+        let ticks = ticks_of(from, to)?;
+        return Some(Action::DrawTasks(drawing, ticks));
+    }
+    if from.is_some() || to.is_some() {
+        return None;
+    }
+    replayed_as(form)
+}
+
+/// Returns the action of this name, with these options, if there is one.
+pub(crate) fn action_of(
+    name: &str,
+    form: Option<&str>,
+    from: Option<&str>,
+    to: Option<&str>,
+) -> Option<Action>
+    ensures { MatchOption result ((action : Wanted) → ¬ AsksFor name.now (said form.entry from.entry to.entry) action)
+        (AsksFor name.now (said form.entry from.entry to.entry)) }
+{
+    match name {
+        "check" => Some(Action::Check),
+        "simulate" => simulated_with(form, from, to),
+        "replay" => replayed_with(form, from, to),
+        "serve" => Some(Action::Run(Verb::Serve)),
+        _ => None,
+    }
+}
+
+/// Appends that an option says no tick.
+fn append_no_tick(text: &mut String, option: &str, said: Option<&str>) -> Result<(), AllocError> {
+    let said = said.unwrap_or("");
+    writeln!(
+        text,
+        "error: invalid value '{said}' for '--{option} <TICK>'"
+    )?;
+    writeln!(text, "  [a whole number below 2^64 is wanted]")
+}
+
+/// Appends why two options ask for no ticks that can be shown at a time.
+fn append_no_ticks(
+    text: &mut String,
+    from: Option<&str>,
+    to: Option<&str>,
+) -> Result<(), AllocError> {
+    let Some(first) = tick_of(from, 0) else {
+        return append_no_tick(text, "from", from);
+    };
+    let Some(end) = tick_of(to, first.saturating_add(MOST_TICKS)) else {
+        return append_no_tick(text, "to", to);
+    };
+    match Window::new(first, end) {
+        Ok(_) => Ok(()),
+        Err(WindowError::Empty) => {
+            writeln!(text, "error: there is no tick from {first} up to {end}")?;
+            writeln!(text, "  [--from has to be before --to]")
+        }
+        Err(WindowError::TooLong) => {
+            writeln!(text, "error: too many ticks from {first} up to {end}")?;
+            writeln!(text, "  [at most {MOST_TICKS} are shown at a time]")
+        }
+    }
+}
+
+/// Returns the fault of a command line whose options ask for nothing.
+pub(crate) fn wrong_options(
+    alloc: Global,
+    verb: &str,
+    form: Option<&str>,
+    from: Option<&str>,
+    to: Option<&str>,
+) -> Result<WordsFault, AllocError> {
+    let mut text = String::new(alloc);
+    if drawing_of(form).is_some() {
+        append_no_ticks(&mut text, from, to)?;
+    } else if action_of(verb, form, None, None).is_some() {
+        writeln!(text, "error: --from and --to go with '--as text', '--as svg' and '--as trace' alone")?;
+    } else {
+        let form = form.unwrap_or("");
+        writeln!(text, "error: invalid value '{form}' for '--as <FORMAT>'")?;
+        writeln!(text, "  [possible values: lines, report, json, text, svg, trace]")?;
+    }
+    writeln!(text, "\nFor more information, try 'cbsrun {verb} --help'.")?;
+    Ok(WordsFault::Usage(text))
+}

@@ -1,0 +1,108 @@
+//! The texts of the help.
+
+pub(crate) const ABOUT: &str =
+    "Sizes, simulates, runs and draws Constant Bandwidth Servers under EDF: jobs on one thread, \
+each server with a budget of so many ticks in every period.";
+
+// The version, and below it the logic that the proofs were checked by: several kits have it.
+pub(crate) const VERSION: &str = "0.1.0\nproved by rattle logic dac8208d650f15bf";
+
+pub(crate) const FILES: &str = "\
+FILE is a task file or a load, in TOML; - is standard input. --help has an example
+of each, what is guaranteed, and the exit statuses.";
+
+pub(crate) const GUIDE: &str = "\
+FILE is a task file or a load, in TOML; - is standard input, and ./- a file of that
+name. simulate takes a load, replay and serve a task file, and check either. A load
+says which jobs come, and how often:
+
+  load = 1
+  bound = [1, 1]                           # the bandwidths add up to at most 1/1
+  backlog = 4                              # unfinished jobs that a server may have
+  until = 200                              # the simulation ends at this tick
+  server = [
+    { name = \"control\", mode = \"soft\", budget = 2, period = 5 },
+    { name = \"camera\", mode = \"throttled\", budget = 6, period = 20 },
+  ]
+  source = [
+    { server = \"control\", every = 5, units = 1 },
+    { server = \"camera\", every = 20, units = [3, 6] },        # 3 to 6 units a job
+  ]
+
+Saved as LOAD.toml, it is checked, simulated and drawn by
+  cbsrun check LOAD.toml
+  cbsrun simulate LOAD.toml
+  cbsrun simulate --as svg --to 60 LOAD.toml > load.svg
+
+A task file names the servers and the steps:
+
+  format = 2
+  bound = [1, 1]
+  backlog = 4
+  ring = 4                                 # places in a client's ring of messages
+  server = [
+    { budget = 2, period = 5, mode = \"soft\" },          # 2 ticks in every 5
+    { budget = 1, period = 4, mode = \"throttled\" },     # waits when they are used up
+  ]
+  step = [
+    { op = \"submit\", server = 0, job = \"sum\", units = [1, 2, 3] },
+    { op = \"run\" },
+    { op = \"advance\", ticks = 3 },
+    { op = \"close\", server = 0 },
+  ]
+
+Saved as FIRST.toml, it is checked and run by
+  cbsrun check FIRST.toml
+  cbsrun replay FIRST.toml
+  cbsrun serve FIRST.toml
+
+Guaranteed, for soft and throttled servers, whatever the clients ask for:
+  - No server takes more than its share: its deadline pays for what it gets, by a
+    period for each budget.
+  - No server is ever late, and each job is finished by a tick that is known when it
+    is accepted, as long as no advance comes where somebody is ready before its last
+    tick. serve and simulate make no other advances.
+Not guaranteed:
+  - Time. A tick is one unit of one job, however long that takes.
+  - That an advance takes nobody's time. One where somebody is ready does.
+
+A file that may want more than 2048 MiB of memory while it is read is refused, with
+status 3. CBSRUN_MEMORY, in the environment, is another bound, in MiB.
+
+Exit status:
+  0  done, or this help; also if jobs are late or refused: that is an answer
+  2  the command line is wrong, the run ends before the first tick to show, or
+     CBSRUN_MEMORY is no whole number
+  3  the file could not be read, or has a fault
+  4  the run ended early: no memory, the output could not be written, or, in
+     serve, the clock came to its end or the clients stalled";
+
+pub(crate) const CHECK: &str =
+    "Says what the servers of a file have and could have, and which jobs of a load \
+are in time always; or what is wrong with the file";
+
+pub(crate) const SIMULATE: &str =
+    "Releases the jobs of a load's sources, runs them, and reports, draws, or writes a line for each step";
+
+pub(crate) const REPLAY: &str =
+    "Runs the steps of a task file, and writes a line for each, reports, or draws";
+
+pub(crate) const SERVE: &str =
+    "Gives each server's submits to a client of its own, serves them all, \
+and writes the results of each server";
+
+pub(crate) const REPORTS: &str =
+    "What is written: report, figures of each server as text, json, the same \
+for programs, text, a timeline, svg, a picture, trace, for ui.perfetto.dev, \
+or lines, one for each step [default: report]";
+
+pub(crate) const TRACES: &str =
+    "What is written: lines, one for each step, report, figures of each server as \
+text, json, the same for programs, text, a timeline, svg, a picture, or trace, \
+for ui.perfetto.dev [default: lines]";
+
+pub(crate) const FROM: &str = "The first tick that a picture shows [default: 0]";
+
+pub(crate) const TO: &str =
+    "The tick after the last one that it shows: at most 20000 later [default: the end, \
+or as many]";
