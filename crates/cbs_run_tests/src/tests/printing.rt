@@ -157,8 +157,8 @@ enum Asked {
     Simulate(Form),
     SimulateLines,
     Replay(Form),
-    DrawLoad(Window),
-    DrawTasks(Window),
+    DrawLoad(Drawing, Window),
+    DrawTasks(Drawing, Window),
 }
 
 /// Prints what is asked of a file, which may want so much memory, to a writer with room for so many bytes.
@@ -187,10 +187,10 @@ fn printed(alloc: Global, asked: Asked, memory: u64, file: &str, room: usize) ->
         Asked::Replay(form) => {
             report_bytes_within(alloc, memory, form, name, bytes, &mut out, &mut err)
         }
-        Asked::DrawLoad(ticks) => draw_load_within(
+        Asked::DrawLoad(drawing, ticks) => draw_load_within(
             alloc,
             memory,
-            Drawing::Svg,
+            drawing,
             ticks,
             name,
             bytes,
@@ -198,15 +198,8 @@ fn printed(alloc: Global, asked: Asked, memory: u64, file: &str, room: usize) ->
             &mut out,
             &mut err,
         ),
-        Asked::DrawTasks(ticks) => draw_tasks_within(
-            alloc,
-            memory,
-            Drawing::Svg,
-            ticks,
-            name,
-            bytes,
-            &mut out,
-            &mut err,
+        Asked::DrawTasks(drawing, ticks) => draw_tasks_within(
+            alloc, memory, drawing, ticks, name, bytes, &mut out, &mut err,
         ),
     };
     Outcome { status, out, err }
@@ -237,16 +230,28 @@ fn ticks(rt: &impl Abort, from: u64, to: u64) -> Window {
 fn a_run_is_drawn_up_to_its_end(rt: HostRuntime) {
     let alloc = rt.alloc();
     let all = ticks(&rt, 0, 20_000);
-    for (asked, file) in &[(Asked::DrawLoad(all), LOAD), (Asked::DrawTasks(all), TASKS)] {
-        let outcome = printed(alloc, *asked, MEMORY, file, usize::MAX);
-        assert_eq!(rt; outcome.status, 0);
-        let text = str::from_utf8(&outcome.out.taken).unwrap_or("");
-        assert!(rt; text.starts_with("<svg "), "{text}");
-        assert!(rt;
-            text.contains("<title id=\"what\">a.toml, ticks 0 to 4</title>"),
-            "{text}"
-        );
-        assert!(rt; text.ends_with("</svg>\n"), "{text}");
+    let traced = "{\"displayTimeUnit\":\"ns\"";
+    for (drawing, start, part, end) in &[
+        (
+            Drawing::Svg,
+            "<svg ",
+            "<title id=\"what\">a.toml, ticks 0 to 4</title>",
+            "</svg>\n",
+        ),
+        (Drawing::Text, "a.toml, ticks 0 to 4\n", "|", "\n"),
+        (Drawing::Trace, traced, "\"name\":\"a.toml\"", "}\n"),
+    ] {
+        for (asked, file) in &[
+            (Asked::DrawLoad(*drawing, all), LOAD),
+            (Asked::DrawTasks(*drawing, all), TASKS),
+        ] {
+            let outcome = printed(alloc, *asked, MEMORY, file, usize::MAX);
+            assert_eq!(rt; outcome.status, 0);
+            let text = str::from_utf8(&outcome.out.taken).unwrap_or("");
+            assert!(rt; text.starts_with(*start), "{text}");
+            assert!(rt; text.contains(*part), "{text}");
+            assert!(rt; text.ends_with(*end), "{text}");
+        }
     }
 }
 
@@ -255,12 +260,22 @@ fn a_run_that_ends_before_the_first_tick_is_not_drawn(rt: HostRuntime) {
     let alloc = rt.alloc();
     let text = "error: there is no tick to show from 4 on: the run ends at tick 4\n";
     let later = ticks(&rt, 4, 9);
-    printed(alloc, Asked::DrawLoad(later), MEMORY, LOAD, usize::MAX).leaves(
-        &rt, "load", 2, "", text,
-    );
-    printed(alloc, Asked::DrawTasks(later), MEMORY, TASKS, usize::MAX).leaves(
-        &rt, "tasks", 2, "", text,
-    );
+    printed(
+        alloc,
+        Asked::DrawLoad(Drawing::Text, later),
+        MEMORY,
+        LOAD,
+        usize::MAX,
+    )
+    .leaves(&rt, "load", 2, "", text);
+    printed(
+        alloc,
+        Asked::DrawTasks(Drawing::Trace, later),
+        MEMORY,
+        TASKS,
+        usize::MAX,
+    )
+    .leaves(&rt, "tasks", 2, "", text);
 }
 
 #[test]
@@ -273,8 +288,8 @@ fn a_writer_that_fails_has_a_prefix(rt: HostRuntime) {
         (Asked::Simulate(Form::Json), LOAD, "{\"bac"),
         (Asked::SimulateLines, LOAD, "@0 su"),
         (Asked::Replay(Form::Report), TASKS, "in ti"),
-        (Asked::DrawLoad(some), LOAD, "<svg "),
-        (Asked::DrawTasks(some), TASKS, "<svg "),
+        (Asked::DrawLoad(Drawing::Svg, some), LOAD, "<svg "),
+        (Asked::DrawTasks(Drawing::Trace, some), TASKS, "{\"dis"),
     ] {
         printed(alloc, *asked, MEMORY, file, 5).leaves(&rt, prefix, 4, prefix, fault);
     }
@@ -290,8 +305,16 @@ fn a_fault_is_explained_if_there_is_memory(rt: HostRuntime) {
         (Asked::Simulate(Form::Report), "load = 2\n", LOAD_EXPLAINED),
         (Asked::SimulateLines, "load = 2\n", LOAD_EXPLAINED),
         (Asked::Replay(Form::Report), "format = 3\n", TASKS_EXPLAINED),
-        (Asked::DrawLoad(some), "load = 2\n", LOAD_EXPLAINED),
-        (Asked::DrawTasks(some), "format = 3\n", TASKS_EXPLAINED),
+        (
+            Asked::DrawLoad(Drawing::Text, some),
+            "load = 2\n",
+            LOAD_EXPLAINED,
+        ),
+        (
+            Asked::DrawTasks(Drawing::Svg, some),
+            "format = 3\n",
+            TASKS_EXPLAINED,
+        ),
     ] {
         assert!(rt; explained.starts_with(FAULT), "{explained}");
         printed(alloc, *asked, MEMORY, file, 0).leaves(&rt, explained, 3, "", explained);

@@ -132,7 +132,7 @@ fn a_form_stands_before_or_after_the_file(rt: HostRuntime) {
 fn an_unknown_form_is_named(rt: HostRuntime) {
     let text = fault(&rt, rt.alloc(), "cbsrun replay --as xml a.toml", 1, "Usage");
     let wanted = "error: invalid value 'xml' for '--as <FORMAT>'
-  [possible values: lines, report, json, svg]
+  [possible values: lines, report, json, text, svg, trace]
 
 For more information, try 'cbsrun replay --help'.
 ";
@@ -215,7 +215,7 @@ fn ticks_that_are_wrong_are_named(rt: HostRuntime) {
         ),
         (
             "cbsrun simulate --as report --from 9 a.toml",
-            "error: --from and --to go with '--as svg' alone",
+            "error: --from and --to go with '--as text', '--as svg' and '--as trace' alone",
         ),
     ] {
         let said = fault(&rt, alloc, line, 1, "Usage");
