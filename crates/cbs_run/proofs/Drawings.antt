@@ -1,5 +1,5 @@
 -- What a command that draws leaves, by what its parts do.
-use Rattle.std.proofs.Common.{◌≡◌, ◌∙◌, List, ℕ, ap, refl, subst, Result, Ok, Err}
+use Rattle.std.proofs.Common.{◌≡◌, List, ℕ, ap, refl, Result, Ok, Err}
 use Rattle.cbs_chart.specs.declared.picture.Picture.{Picture}
 use Rattle.cbs_chart.specs.declared.window.Window.{Window}
 use Rattle.cbs_file.specs.Spelling.{file}

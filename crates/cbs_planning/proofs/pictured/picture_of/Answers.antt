@@ -1,6 +1,4 @@
-use Rattle.std.proofs.Common.{◌≡◌, ◌∙◌, subst, List, ℕ}
 use Rattle.std.proofs.lemmas.Result.{IfOk-weaker}
-use Rattle.cbs_planning.specs.Pictures.{IsChartPicture}
 use Rattle.cbs_planning.proofs.pictured.picture_of.Goals as goal
 
 pub returns-clause-picture : goal.returns-clause-picture

@@ -1,4 +1,4 @@
-use Rattle.std.proofs.Common.{◌≡◌, ◌⊎◌, ◌∙◌, [], ap, inl, inr, map, refl}
+use Rattle.std.proofs.Common.{◌≡◌, ◌∙◌, [], ap, inl, inr, map, refl}
 use Rattle.cbs_simulate.specs.Drawing.{pending, released_by_all}
 use Rattle.cbs_simulate.specs.Merging.{merged}
 use Rattle.cbs_simulate.specs.declared.terms.SourceTerms.{SourceTerms}

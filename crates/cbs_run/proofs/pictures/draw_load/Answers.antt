@@ -1,4 +1,4 @@
-use Rattle.std.proofs.Common.{◌≡◌, subst, ℕ, Ok, Err, List}
+use Rattle.std.proofs.Common.{subst, ℕ, Ok, Err}
 use Rattle.cbs_lines.proofs.Writers.{untouched}
 use Rattle.cbs_planning.specs.Pictures.{AnswersShown, IsPictureOf}
 use Rattle.cbs_run.specs.Pictured.{IsDrawingOf, IsLoadDrawing}
@@ -9,9 +9,12 @@ pub returns-in-Err-clause-draws : goal.returns-in-Err-clause-draws
 returns-in-Err-clause-draws g c = (c.in-Err.ensures.read, untouched _)
 
 pub returns-in-Err-shown_of-clause-draws : goal.returns-in-Err-shown_of-clause-draws
-returns-in-Err-shown_of-clause-draws g c =
-    (c.in-Ok.load, c.in-Ok.ensures.read,
-    subst (λ (n : ℕ). AnswersShown c.args.asked n (Err c.in-Err-shown_of.nothing)) c.until.ensures.value c.in-Err-shown_of.ensures, untouched _)
+returns-in-Err-shown_of-clause-draws g c = (
+  c.in-Ok.load,
+  c.in-Ok.ensures.read,
+  subst (λ (n : ℕ). AnswersShown c.args.asked n (Err c.in-Err-shown_of.nothing)) c.until.ensures.value c.in-Err-shown_of.ensures,
+  untouched _,
+)
 
 pub returns-in-Ok-print_load-clause-draws : goal.returns-in-Ok-print_load-clause-draws
 returns-in-Ok-print_load-clause-draws g c =
@@ -21,8 +24,10 @@ returns-in-Ok-print_load-clause-draws g c =
 
 pub returns-clause-draws : goal.returns-clause-draws
 returns-clause-draws g c =
-    let shown = subst (λ (n : ℕ). AnswersShown c.args.asked n (Ok c.in-Ok-shown_of.window)) c.until.ensures.value c.in-Ok-shown_of.ensures in
-    (c.in-Ok.load, c.in-Ok.ensures.read,
-    stops_as (IsDrawingOf c.args.drawing (IsPictureOf c.args.name.now c.in-Ok.load c.in-Ok-shown_of.window))
-    (IsLoadDrawing c.args.drawing c.args.asked c.args.name.now c.in-Ok.load) (λ text h. (c.in-Ok-shown_of.window, shown, h))
-    c.in-Err-print_load.error _ _ c.in-Err-print_load.ensures)
+    let shown = subst (λ (n : ℕ). AnswersShown c.args.asked n (Ok c.in-Ok-shown_of.window)) c.until.ensures.value c.in-Ok-shown_of.ensures in (
+      c.in-Ok.load,
+      c.in-Ok.ensures.read,
+      stops_as (IsDrawingOf c.args.drawing (IsPictureOf c.args.name.now c.in-Ok.load c.in-Ok-shown_of.window))
+          (IsLoadDrawing c.args.drawing c.args.asked c.args.name.now c.in-Ok.load) (λ text h. (c.in-Ok-shown_of.window, shown, h))
+          c.in-Err-print_load.error _ _ c.in-Err-print_load.ensures,
+    )

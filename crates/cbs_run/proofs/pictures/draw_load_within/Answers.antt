@@ -2,7 +2,7 @@ use Rattle.cbs_lines.proofs.Writers.{untouched}
 use Rattle.cbs_load.specs.Spelling.{load}
 use Rattle.cbs_run.specs.Pictured.{end_of, printed, IsLoadDrawing}
 use Rattle.cbs_run.specs.Printing.{done}
-use Rattle.cbs_run.proofs.Drawings.{ends_undrawn, lacks_undrawn}
+use Rattle.cbs_run.proofs.Drawings.{ends_undrawn}
 use Rattle.cbs_run.proofs.pictures.draw_load_within.Goals as goal
 
 pub returns-in-Ok-clause-ends : goal.returns-in-Ok-clause-ends

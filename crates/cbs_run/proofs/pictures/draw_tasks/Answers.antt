@@ -1,6 +1,4 @@
-use Rattle.std.proofs.Common.{◌≡◌, ◌∙◌, sym, subst, ℕ, List, Ok}
-use Rattle.cbs_file.specs.Spelling.{file}
-use Rattle.cbs_file.specs.TaskFiles.{File}
+use Rattle.std.proofs.Common.{◌≡◌, ◌∙◌, subst, ℕ, Ok}
 use Rattle.cbs_planning.specs.Pictures.{AnswersShown, IsTaskPicture}
 use Rattle.cbs_planning.specs.Tasks.{clock_of_tasks}
 use Rattle.cbs_run.specs.Pictured.{IsDrawingOf, IsTaskDrawing}
@@ -21,11 +19,10 @@ returns-in-Err-print_tasks-clause-draws g c =
     let f = c.in-Ok-read_file_within.tasks in
     let end : c.in-Ok-clock_of.end ≡ clock_of_tasks f = c.in-Ok-clock_of.ensures
     ∙ same_file c.args.bytes.now c.in-Ok.tasks f c.in-Ok.ensures.read c.in-Ok-read_file_within.ensures.read in
-    let shown = subst (λ (n : ℕ). AnswersShown c.args.asked n (Ok c.in-Ok-shown_of.window)) end c.in-Ok-shown_of.ensures in
-    (
+    let shown = subst (λ (n : ℕ). AnswersShown c.args.asked n (Ok c.in-Ok-shown_of.window)) end c.in-Ok-shown_of.ensures in (
       f,
       c.in-Ok-read_file_within.ensures.read,
       stops_as (IsDrawingOf c.args.drawing (IsTaskPicture c.args.name.now f c.in-Ok-shown_of.window))
-      (IsTaskDrawing c.args.drawing c.args.asked c.args.name.now f) (λ text h. (c.in-Ok-shown_of.window, shown, h))
-      c.in-Err-print_tasks.error _ _ c.in-Err-print_tasks.ensures,
+          (IsTaskDrawing c.args.drawing c.args.asked c.args.name.now f) (λ text h. (c.in-Ok-shown_of.window, shown, h))
+          c.in-Err-print_tasks.error _ _ c.in-Err-print_tasks.ensures,
     )

@@ -3,7 +3,7 @@ use Rattle.cbs_file.specs.Spelling.{file}
 use Rattle.cbs_planning.specs.Tasks.{clock_of_tasks}
 use Rattle.cbs_run.specs.Pictured.{printed, IsTaskDrawing}
 use Rattle.cbs_run.specs.Printing.{done}
-use Rattle.cbs_run.proofs.Drawings.{ends_undrawn, lacks_undrawn}
+use Rattle.cbs_run.proofs.Drawings.{ends_undrawn}
 use Rattle.cbs_run.proofs.pictures.draw_tasks_within.Goals as goal
 
 pub returns-in-Ok-clause-ends : goal.returns-in-Ok-clause-ends

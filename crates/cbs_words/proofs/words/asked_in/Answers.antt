@@ -3,7 +3,7 @@ use Rattle.std.specs.Prelude.{option_map}
 use Rattle.clap.specs.Words.{Row, Text, subcommand_rows_of, rows_of, found_of, first_of}
 use Rattle.clap.proofs.WalkLemmas.{first_value-rows}
 use Rattle.cbs_words.specs.Actions.{action_name}
-use Rattle.cbs_words.specs.Options.{Said, AsksForm, text_of}
+use Rattle.cbs_words.specs.Options.{Said, AsksForm}
 use Rattle.cbs_words.specs.Words.{said_in}
 use Rattle.cbs_words.specs.declared.actions.Action.{Action}
 use Rattle.cbs_words.proofs.words.asked_in.Goals as goal
