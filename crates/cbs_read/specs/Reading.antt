@@ -52,6 +52,6 @@ growing key root done last = (insert key (open_array done last) root, key ∷ []
 abbrev pub ReadsTables : List ℕ → ℕ → Nodes → List ℕ → Result (Vec Value Global × Bor (List ℕ)) Stop → Type 0
 ReadsTables key n root text r = MatchResult r
     (λ p. (m : ℕ) × (length p.1.now < m) × (done : Items) × (last : Nodes)
-        × (lines n (growing key root no_items no_nodes) text ≡ lines m (growing key root done last) p.1.now)
-        × (array_view p.0 ≡ push_item done (table (close last))))
+    × (lines n (growing key root no_items no_nodes) text ≡ lines m (growing key root done last) p.1.now)
+    × (array_view p.0 ≡ push_item done (table (close last))))
     (λ e. e ≡ NotToml → lines n (growing key root no_items no_nodes) text ≡ None)

@@ -175,11 +175,17 @@ pub(crate) fn wrong_options(
     if drawing_of(form).is_some() {
         append_no_ticks(&mut text, from, to)?;
     } else if action_of(verb, form, None, None).is_some() {
-        writeln!(text, "error: --from and --to go with '--as text', '--as svg' and '--as trace' alone")?;
+        writeln!(
+            text,
+            "error: --from and --to go with '--as text', '--as svg' and '--as trace' alone"
+        )?;
     } else {
         let form = form.unwrap_or("");
         writeln!(text, "error: invalid value '{form}' for '--as <FORMAT>'")?;
-        writeln!(text, "  [possible values: lines, report, json, text, svg, trace]")?;
+        writeln!(
+            text,
+            "  [possible values: lines, report, json, text, svg, trace]"
+        )?;
     }
     writeln!(text, "\nFor more information, try 'cbsrun {verb} --help'.")?;
     Ok(WordsFault::Usage(text))

@@ -13,8 +13,8 @@ abbrev pub invariant-tables : goal.invariant-tables
 invariant-tables l =
     shadow (Utf8 l.rest) × (length l.rest ≤ length l.fn.s)
     × ((n : ℕ) (root : Nodes) → length l.fn.s < n → (m : ℕ) × (done : Items) × (length l.rest < m)
-        × (lines n (growing (codes "step") root no_items no_nodes) l.fn.s ≡ lines m (growing (codes "step") root done no_nodes) l.rest)
-        × Spells l.fn.terms l.found (list_of done))
+    × (lines n (growing (codes "step") root no_items no_nodes) l.fn.s ≡ lines m (growing (codes "step") root done no_nodes) l.rest)
+    × Spells l.fn.terms l.found (list_of done))
 
 abbrev pub decreases-tables : goal.decreases-tables
 decreases-tables l = length l.rest

@@ -10,8 +10,8 @@ abbrev pub invariant-arrays : goal.invariant-arrays
 invariant-arrays l =
     shadow (Utf8 l.rest) × (length l.rest ≤ length l.fn.s)
     × ((n : ℕ) (root : Nodes) (path : List (List ℕ)) → close root ≡ table_view l.fn.table → length l.fn.s < n
-        → (m : ℕ) × (now : Nodes) × (last : List (List ℕ)) × (length l.rest < m) × (close now ≡ table_view l.table)
-        × (lines n (root, path) l.fn.s ≡ lines m (now, last) l.rest))
+    → (m : ℕ) × (now : Nodes) × (last : List (List ℕ)) × (length l.rest < m) × (close now ≡ table_view l.table)
+    × (lines n (root, path) l.fn.s ≡ lines m (now, last) l.rest))
 
 abbrev pub decreases-arrays : goal.decreases-arrays
 decreases-arrays l = length l.rest

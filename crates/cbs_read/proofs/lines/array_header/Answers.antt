@@ -25,10 +25,10 @@ returns-then-first-ne93-clause-value c e =
     let from : c.skip_ws.result.now ≡ skip_ws (drop 2 c.args.s.now) = rw (c.skip_ws.ensures.rest, c.skip.ensures.rest) refl in
     let read : key (skip_ws (drop 2 c.args.s.now)) ≡ Some (key_view c.in_ok-key.key, c.in_ok-key.closing.now) = rw from at c.in_ok-key.ensures.value in
     elim c.then-first-ne93.branch [
-      then-first-ne93-via-then-first-ne93 w ↦
+      | then-first-ne93-via-then-first-ne93 w ↦
           let other : (first c.in_ok-key.closing.now == 93) ≡ false = grind (arith, common_steps) in
           header_open c.args.s.now opens again (key_view c.in_ok-key.key) _ read other
-    | then-first-ne93-via-else-first-ne93+then-byte_at-ne93 w ↦
+      | then-first-ne93-via-else-first-ne93+then-byte_at-ne93 w ↦
           let closes : (first c.in_ok-key.closing.now == 93) ≡ true = grind (arith, common_steps) in
           let other : (slice_index c.in_ok-key.closing.now 1 == 93) ≡ false = grind (arith, common_steps) in
           header_half_open c.args.s.now opens again (key_view c.in_ok-key.key) _ read closes other

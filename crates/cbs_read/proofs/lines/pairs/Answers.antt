@@ -92,7 +92,10 @@ lines-preserved c =
       omega (arith, l.invariant.1),
       λ n at place h.
           let (m, room, loop) = l.invariant.2 n at place h in
-          let doc : Document = at (nodes_of (table_view l.found)) in
-          (m - 1, omega arith, loop ∙ lines_more m doc _ l.rest.now _ _ (omega arith) other read
-              (pair_placed at place (nodes_of (table_view l.found)) _ key _ c.in_ok-put.ensures)),
+          let doc : Document = at (nodes_of (table_view l.found)) in (
+            m - 1,
+            omega arith,
+            loop ∙ lines_more m doc _ l.rest.now _ _ (omega arith) other read
+                (pair_placed at place (nodes_of (table_view l.found)) _ key _ c.in_ok-put.ensures),
+          ),
     )

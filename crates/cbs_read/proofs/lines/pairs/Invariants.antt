@@ -11,7 +11,7 @@ abbrev pub invariant-lines : goal.invariant-lines
 invariant-lines l =
     shadow (Utf8 l.rest) × (length l.rest ≤ length l.fn.s)
     × ((n : ℕ) (at : Nodes → Document) → IsPlace at → length l.fn.s < n
-        → (m : ℕ) × (length l.rest < m) × (lines n (at no_nodes) l.fn.s ≡ lines m (at (nodes_of (table_view l.found))) l.rest))
+    → (m : ℕ) × (length l.rest < m) × (lines n (at no_nodes) l.fn.s ≡ lines m (at (nodes_of (table_view l.found))) l.rest))
 
 abbrev pub decreases-lines : goal.decreases-lines
 decreases-lines l = length l.rest

@@ -95,7 +95,10 @@ tables-preserved c =
           let start_is = c.skip_blank-start.ensures.rest in
           let other : (length start == 0) ≡ false = grind (arith, common_steps) in
           let same : string_bytes c.in_ok-next.next ≡ key = search rules in
-          let read : line start ≡ Some ((([], key), array_table), c.in_ok-next.body.now) = rw (← same) (rw start_is at c.in_ok-next.ensures.value) in
-          (k - 1, omega arith, loop ∙ lines_are ∙ lines_more k (at last) _ c.in_ok-table.after.now _ _ (omega arith) other read
-              (next_table key root (array_view l.found) last) ∙ rw pushed refl),
+          let read : line start ≡ Some ((([], key), array_table), c.in_ok-next.body.now) = rw (← same) (rw start_is at c.in_ok-next.ensures.value) in (
+            k - 1,
+            omega arith,
+            loop ∙ lines_are ∙ lines_more k (at last) _ c.in_ok-table.after.now _ _ (omega arith) other read
+                (next_table key root (array_view l.found) last) ∙ rw pushed refl,
+          ),
     )

@@ -12,8 +12,8 @@ abbrev pub invariant-tables : goal.invariant-tables
 invariant-tables l =
     shadow (Utf8 l.rest) × (length l.rest ≤ length l.fn.s)
     × ((n : ℕ) (root : Nodes) → get_node l.fn.key root ≡ None → length l.fn.s < n
-        → (m : ℕ) × (length l.rest < m)
-        × (lines n (growing l.fn.key root no_items no_nodes) l.fn.s ≡ lines m (growing l.fn.key root (array_view l.found) no_nodes) l.rest))
+    → (m : ℕ) × (length l.rest < m)
+    × (lines n (growing l.fn.key root no_items no_nodes) l.fn.s ≡ lines m (growing l.fn.key root (array_view l.found) no_nodes) l.rest))
 
 abbrev pub decreases-tables : goal.decreases-tables
 decreases-tables l = length l.rest
