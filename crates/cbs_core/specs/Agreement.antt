@@ -1,4 +1,5 @@
--- When a core agrees with a history. A core keeps no history: it agrees with every history that leaves what it holds.
+-- When a core agrees with a history. A core keeps no history: it agrees with every history that leaves what the core
+-- holds.
 use Rattle.std.specs.Prelude.{◌≡◌, ℕ, ◌+◌, ◌-◌, true, List, [], ◌∷◌, map}
 use Rattle.std.specs.List.{AllZip}
 use Rattle.cbs_job.specs.Work.{Meaning, whole}
@@ -9,14 +10,14 @@ use Rattle.cbs_steps.specs.OnTime.{IsWorldOnTime}
 use Rattle.cbs_steps.specs.declared.step.Step.{Step}
 use Rattle.cbs_core.specs.Held.{CoreHeld, is_running, charged_at, IsCoreOnTime}
 
--- the list with another first number
+-- the list with its first number replaced
 abbrev pub with_first_number : ℕ → List ℕ → List ℕ
 with_first_number n [] = []
 with_first_number n (x ∷ xs) = n ∷ xs
 
 module _ {W : Type 0} where
-  -- the jobs that are held of a server are its unfinished ones: each comes to its own whole result and has all its units
-  -- left, but the first, which has left what the jobs up to it need beyond the units got
+  -- The jobs held for a server are its unfinished ones, each with its own whole result. Each job has all its units
+  -- left, except the first. The first has left what the jobs up to it need, less the units the server got
   pub record AgreesJobs (work : Meaning W) (jobs : List W) (a : Account W) : Type 0 where
     pub results : map (whole work) jobs ≡ map (whole work) (unfinished work a)
     pub lefts : map work.left jobs ≡ with_first_number (need work a (finished work a + 1) - a.got) (map work.left (unfinished work a))
@@ -34,22 +35,22 @@ module _ {W : Type 0} where
   pub record Agrees (work : Meaning W) (core : CoreHeld W) (M : History W) : Type 0 where
     pub world : AgreesWorld work core M.setup.backlog (world_after work M)
 
-  -- this holds of what the steps left, whatever list of steps the core agrees with
+  -- told holds of the state after every history that the core agrees with
   abbrev pub TellsOf : Meaning W → CoreHeld W → (World W → Type 0) → Type 0
   TellsOf work core told = (M : History W) → Agrees work core M → told (world_after work M)
 
-  -- the core agrees with some history: it is not so that it agrees with none
+  -- the core agrees with some history: not every history disagrees with it
   abbrev pub HasHistory : Meaning W → CoreHeld W → Type 0
   HasHistory work core = ¬ ((M : History W) → ¬ Agrees work core M)
 
-  -- whatever history the core agreed with, it agrees with it and then the steps
+  -- the new core agrees with every history of the old core followed by the steps
   abbrev pub Follows : Meaning W → CoreHeld W → CoreHeld W → List (Step W) → Type 0
   Follows work old new xs = (M : History W) → Agrees work old M → Agrees work new (M ⊕⊕ xs)
 
-  -- the steps, made from this core on, may each stand where they stand
+  -- each of the steps, made from this core on, is allowed at its place
   abbrev pub AllAllowed : Meaning W → (History W → Step W → Type 0) → CoreHeld W → List (Step W) → Type 0
   AllAllowed work allowed old xs = (M : History W) → Agrees work old M → EachAllowed allowed M xs
 
-  -- from this core on, if it is on time, each of the steps leaves all on time
+  -- if this core is on time, each of the steps leaves all on time
   abbrev pub AllOnTime : Meaning W → CoreHeld W → List (Step W) → Type 0
   AllOnTime work old xs = IsCoreOnTime old → AllAllowed work (λ N x. IsWorldOnTime work (world_after work (N ⊕ x))) old xs

@@ -1,4 +1,4 @@
--- What calls make of a core: a step, or a list of steps.
+-- What a call does to a core: one step, or a list of steps.
 use Rattle.std.specs.Prelude.{◌≡◌, List, length}
 use Rattle.std.specs.Bool.{MatchBool}
 use Rattle.cbs_job.specs.Work.{Meaning}
@@ -11,9 +11,10 @@ use Rattle.cbs_core.specs.Agreement.{Agrees}
 use Rattle.cbs_core.specs.Held.{CoreHeld, KeepsBudgets}
 
 module _ {W : Type 0} where
-  -- The step x, answered r, led from one core to the other. Whatever list of steps the old one agrees with: r is what the
-  -- rules answer after it, the new one agrees with one step more, and what is on time stays so, if the step takes nobody's
-  -- time. No server is added or dropped, and each budget is within its reservation's.
+  -- The step x, with reply r, led from the old core to the new. For every history that the old core agrees with, r is
+  -- the rules' reply to x after it, and the new core agrees with that history and x. If all was on time, and x takes
+  -- nobody's time, all stays on time. The number of servers is the same, and each budget is at most the budget of its
+  -- reservation.
   pub record Makes (work : Meaning W) (old new : CoreHeld W) (x : Step W) (r : Reply W) : Type 0 where
     pub reply : (M : History W) → Agrees work old M → r ≡ reply_in work M x
     pub state : (M : History W) → Agrees work old M → Agrees work new (M ⊕ x)
@@ -21,7 +22,7 @@ module _ {W : Type 0} where
     pub count : length new.faces ≡ length old.faces
     pub budgets : KeepsBudgets new
 
-  -- memory refused the step x, which the rules would have accepted: its job comes back, and nothing but room changed
+  -- memory refused the step x, which the rules would have accepted: its job comes back, and only room changed
   pub record Lacks (work : Meaning W) (old new : CoreHeld W) (x : Step W) (r : Reply W) : Type 0 where
     pub back : HandsBack x r
     pub accepted : (M : History W) → Agrees work old M → IsAccepted (reply_in work M x)
@@ -32,7 +33,8 @@ module _ {W : Type 0} where
   abbrev pub Tries : Meaning W → CoreHeld W → CoreHeld W → Step W → Reply W → Type 0
   Tries work old new x r = MatchBool (is_lack r) (Lacks work old new x r) (Makes work old new x r)
 
-  -- All the steps, answered rs, led from one core to the other, but for the submits that memory refused: the same of lists.
+  -- All the steps, with replies rs, led from the old core to the new, except the submits that memory refused. This is
+  -- Makes for lists.
   pub record TriesAll (work : Meaning W) (old new : CoreHeld W) (xs : List (Step W)) (rs : List (Reply W)) : Type 0 where
     pub replies : (M : History W) → Agrees work old M → AnswersAll work M xs rs
     pub state : (M : History W) → Agrees work old M → Agrees work new (grown_by M xs rs)

@@ -13,16 +13,17 @@ use Rattle.cbs_steps.specs.declared.error.CoreError.TheVariants as error
 use Rattle.cbs_steps.specs.declared.reply.Ran.{Ran}
 use Rattle.cbs_steps.specs.declared.reply.Ran.TheVariants as ran
 
--- the server of the last unit, if it runs still: the clock stands elsewhere than an advance left it
+-- the server of the last unit, if it still runs: the clock differs from the clock after the last advance
 abbrev pub runner_at : ℕ → LastUnit → Option ℕ
 runner_at now l = if eqb l.advanced_to now then None else Some l.server
 
--- what was charged for the last unit
+-- how many ticks were charged for the last unit
 abbrev pub charged_at : ℕ → LastUnit → ℕ
 charged_at now l = if eqb l.charged_to now then l.charged else 0
 
--- what a core holds: the greatest backlog, the clock, what is known of the last unit, what each server shows, its unfinished jobs, in
--- order, each as far as it has come, and for each server how many more jobs fit with no allocation
+-- what a core holds: the greatest backlog, the clock, what is known of the last unit, and what each server shows. It
+-- also holds each server's unfinished jobs in order, each with its progress, and the number of further jobs that fit
+-- without an allocation
 pub record CoreHeld (W : Type 0) : Type 0 where
   pub backlog : ℕ
   pub clock : ℕ
@@ -36,17 +37,18 @@ pub record Held (W : Type 0) : Type 0 where
   pub face : Face
   pub jobs : List W
 
--- there is one, and it is this
+-- the option holds a number, and it is this one
 abbrev pub is_some_of : Option ℕ → ℕ → Bool
 is_some_of None s = false
 is_some_of (Some t) s = eqb t s
 
 module _ {W : Type 0} where
-  -- what is held of server s
+  -- what the core holds of server s
   abbrev pub held_at : CoreHeld W → ℕ → Held W
   held_at core s = record { face = face_at core.faces s; jobs = get_or core.queues s [] }
 
-  -- the server that runs, if there is one: it got the last unit, and no tick has passed since but what it was charged for that
+  -- the server that runs, if there is one: it got the last unit, and no tick has passed since, except those charged for
+  -- that unit
   abbrev pub running : CoreHeld W → Option ℕ
   running core = runner_at core.clock core.last
 
@@ -76,17 +78,17 @@ pub record IsClosed {W : Type 0} (core : CoreHeld W) (s : ℕ) : Type 0 where
   pub within : s < length core.faces
   pub closed : (face_at core.faces s).closed ≡ true
 
--- a job of server s would be accepted: the server is open, and its backlog is not full
+-- server s would accept a job: the server is open, and its backlog is not full
 pub record Accepts {W : Type 0} (core : CoreHeld W) (s : ℕ) : Type 0 where
   pub is_open : IsOpen core s
   pub few : backlog_of (face_at core.faces s) < core.backlog
 
--- the next job of s is accepted, with no allocation
+-- server s accepts its next job without an allocation
 pub record HasRoom {W : Type 0} (core : CoreHeld W) (s : ℕ) : Type 0 where
   pub accepts : Accepts core s
   pub room : 0 < room_of core.rooms s
 
--- why the next job of s is refused, in words of what is held. Memory is wanted only where nothing else refuses
+-- why the next job of s is refused, by what the core holds. Memory refuses only a job that nothing else refuses
 abbrev pub IsRefusedBy : {W : Type 0} → CoreHeld W → ℕ → CoreError → Type 0
 IsRefusedBy core s error.NoSuchServer = length core.faces ≤ s
 IsRefusedBy core s error.Closed = IsClosed core s
@@ -94,14 +96,14 @@ IsRefusedBy core s error.BacklogFull = IsOpen core s × (core.backlog ≤ backlo
 IsRefusedBy core s error.OutOfMemory = Accepts core s
 IsRefusedBy core s _ = ⊥
 
--- jobs, counts and close of a server are as before; its budget and deadline may differ
+-- a server's jobs, counts and close are as before; its budget and deadline may differ
 pub record SameJobs {W : Type 0} (old new : Held W) : Type 0 where
   pub jobs : new.jobs ≡ old.jobs
   pub accepted : new.face.accepted ≡ old.face.accepted
   pub finished : new.face.finished ≡ old.face.finished
   pub closed : new.face.closed ≡ old.face.closed
 
--- the server took a job, as number q, behind its other jobs
+-- the server accepted a job, as number q, after its other jobs
 pub record TakesJob {W : Type 0} (job : W) (q : ℕ) (old new : Held W) : Type 0 where
   pub number : q ≡ old.face.accepted
   pub jobs : new.jobs ≡ old.jobs ++ job ∷ []
@@ -109,7 +111,8 @@ pub record TakesJob {W : Type 0} (job : W) (q : ℕ) (old new : Held W) : Type 0
   pub finished : new.face.finished ≡ old.face.finished
   pub closed : new.face.closed ≡ old.face.closed
 
--- a unit of job q, the first that the server holds, which it holds still; what the jobs held come to as a whole is as before
+-- a unit of job q ran, which is the server's first job before and after. The whole results of the jobs held are as
+-- before
 pub record RunsJob {W : Type 0} (work : Meaning W) (q : ℕ) (old new : Held W) : Type 0 where
   pub number : q ≡ old.face.finished
   pub some : 0 < length new.jobs
@@ -118,7 +121,7 @@ pub record RunsJob {W : Type 0} (work : Meaning W) (q : ℕ) (old new : Held W) 
   pub finished : new.face.finished ≡ old.face.finished
   pub closed : new.face.closed ≡ old.face.closed
 
--- the last unit of the first job that the server held: the job is gone, and its whole result is told
+-- the last unit of the server's first job ran: the job is gone, and the completion gives its whole result
 pub record FinishesJob {W : Type 0} (work : Meaning W) (c : Completion) (old new : Held W) : Type 0 where
   pub number : c.seq ≡ old.face.finished
   pub results : map (whole work) old.jobs ≡ c.result ∷ map (whole work) new.jobs
@@ -133,38 +136,39 @@ pub record ClosesServer {W : Type 0} (old new : Held W) : Type 0 where
   pub finished : new.face.finished ≡ old.face.finished
   pub closed : new.face.closed ≡ true
 
--- what a Run is answered after a unit of job seq of server s, by what that unit found
+-- the result of a Run after a unit of job seq of server s, by the output that the unit gave
 abbrev pub ran_of : ℕ → ℕ → Option ℕ → Ran
 ran_of s seq None = ran.Unit s seq
 ran_of s seq (Some r) = ran.Done (record { server = s; seq = seq; result = r })
 
 module _ {W : Type 0} where
-  -- jobs, counts and close of every server but s are as before
+  -- the jobs, counts and close of every server but s are as before
   abbrev pub OthersSame : ℕ → CoreHeld W → CoreHeld W → Type 0
   OthersSame s old new = (t : ℕ) → t ≢ s → SameJobs (held_at old t) (held_at new t)
 
-  -- jobs, counts and close of every server are as before
+  -- the jobs, counts and close of every server are as before
   abbrev pub AllSame : CoreHeld W → CoreHeld W → Type 0
   AllSame old new = (t : ℕ) → SameJobs (held_at old t) (held_at new t)
 
-  -- what a Run did to the jobs, by its answer
+  -- what a Run did to the jobs, by its result
   abbrev pub DoesRun : Meaning W → Ran → CoreHeld W → CoreHeld W → Type 0
   DoesRun work ran.Idle old new = new ≡ old
   DoesRun work ran.ClockEnd old new = new ≡ old
   DoesRun work (ran.Unit s q) old new = RunsJob work q (held_at old s) (held_at new s) × OthersSame s old new
   DoesRun work (ran.Done c) old new = FinishesJob work c (held_at old c.server) (held_at new c.server) × OthersSame c.server old new
 
-  -- the counts of finished jobs go on by the completion, if there is one, and it has the number that they had
+  -- the completion, if there is one, has the number that the count of finished jobs had before, and the counts go on by
+  -- it
   abbrev pub CountsOn : Option Completion → CoreHeld W → CoreHeld W → Type 0
   CountsOn None old new = (s : ℕ) → (held_at new s).face.finished ≡ (held_at old s).face.finished
   CountsOn (Some c) old new =
       (c.seq ≡ (held_at old c.server).face.finished) × ((held_at new c.server).face.finished ≡ (held_at old c.server).face.finished + 1)
       × ((s : ℕ) → s ≢ c.server → (held_at new s).face.finished ≡ (held_at old s).face.finished)
 
--- the budget of each server is within its reservation's
+-- the budget of each server is at most the budget of its reservation
 abbrev pub KeepsBudgets : {W : Type 0} → CoreHeld W → Type 0
 KeepsBudgets core = (s : ℕ) → s < length core.faces → IsWithinBudget (face_at core.faces s)
 
--- a core that is on time
+-- the core is on time
 abbrev pub IsCoreOnTime : {W : Type 0} → CoreHeld W → Type 0
 IsCoreOnTime core = IsOnTime core.clock core.faces

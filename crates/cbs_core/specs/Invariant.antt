@@ -1,4 +1,4 @@
--- What every core keeps. Private words of this crate: public clauses speak of agreement.
+-- The invariant of a core. Definitions for this crate alone: public contracts speak of agreement.
 use Rattle.std.specs.Prelude.{◌≡◌, ◌≢◌, ℕ, ◌≤◌, ◌<◌, List, length}
 use Rattle.std.specs.List.{AllByRecursion, AllZip}
 use Rattle.cbs_rate.specs.Limits.{most_backlog, most_servers}
@@ -12,17 +12,17 @@ use Rattle.cbs_steps.specs.Servers.{IsServer}
 use Rattle.cbs_core.specs.declared.last_unit.LastUnit.{LastUnit}
 use Rattle.cbs_core.specs.Held.{CoreHeld}
 
--- the list is in order, and has each ready server with its deadline, and nobody else
+-- the list is in order, and holds exactly the ready servers, each with its deadline
 pub record ListsReady (es : List Entry) (faces : List Face) : Type 0 where
   pub ordered : IsOrdered es
   pub each : (s : ℕ) → listed es s ≡ ready_by (face_at faces s)
 
--- a server holds as many jobs as its backlog is, and each has a unit left
+-- a server holds as many jobs as its backlog says, and each job has a unit left
 pub record HoldsBacklog {W : Type 0} (work : Meaning W) (jobs : List W) (f : Face) : Type 0 where
   pub counted : length jobs ≡ backlog_of f
   pub unfinished : AllByRecursion (λ w. 0 < work.left w) jobs
 
--- what is known of the last unit is of no later tick, and a server that runs is there and has had its first deadline
+-- what is known of the last unit is from no later tick. A server that runs is there and has had its first deadline
 pub record IsLastUnit (clock : ℕ) (faces : List Face) (l : LastUnit) : Type 0 where
   pub advanced : l.advanced_to ≤ clock
   pub charged : l.charged_to ≤ clock
@@ -30,7 +30,7 @@ pub record IsLastUnit (clock : ℕ) (faces : List Face) (l : LastUnit) : Type 0 
   pub there : l.advanced_to ≢ clock → l.server < length faces
   pub begun : l.advanced_to ≢ clock → 0 < (face_at faces l.server).state.deadline
 
--- what each core keeps; the total bandwidth of its servers is at most one, as in every plan
+-- the invariant of every core; the total bandwidth of its servers is at most one, as in every plan
 pub record IsCore {W : Type 0} (work : Meaning W) (core : CoreHeld W) : Type 0 where
   pub few : length core.faces ≤ most_servers
   pub small : core.backlog ≤ most_backlog

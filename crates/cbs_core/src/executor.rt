@@ -32,19 +32,19 @@ pub const MAX_BACKLOG: u64 = 4096;
 
 /// The core of an executor: servers with their jobs, and the clock.
 ///
-/// It runs one unit of one job a tick, of the ready server with the earliest deadline, and of equal
-/// deadlines the lower number; the jobs of a server first in, first out.
+/// It runs one unit of one job per tick. The job belongs to the ready server with the earliest deadline, of equal
+/// deadlines to the one with the lower number. The jobs of a server run first in, first out.
 pub struct Core<W: Work, A: Allocator = Global> {
     alloc: A,
     backlog: u64,
     clock: u64,
     last: LastUnit,
-    // In front of the servers, whose list of the ready ones is long.
+    // Placed before the servers, whose list of ready servers is long.
     queues: Queues<W, A>,
     servers: Servers<A>,
 }
 
-// What owns a core calls this on each way out, in the place of the drops of all that a core holds.
+// An owner of a core calls this one function at each exit, instead of the drops of all fields.
 impl<W: Work, A: Allocator> Drop for Core<W, A> {
     fn drop(self) {
         let Core {
@@ -70,13 +70,13 @@ impl<W: Work, A: Allocator> Model for Core<W, A> {
 }
 
 impl<W: Work, A: Allocator + Clone> Core<W, A> {
-    /// Returns a core whose servers have the reservations of the plan and, by number, these modes, each with
-    /// at most `backlog` unfinished jobs. The clock stands at 0, and nobody has a job.
+    /// Returns a core whose servers have the reservations of the plan and, by number, these modes. Each server may have
+    /// at most `backlog` unfinished jobs. The clock stands at 0, and no server has a job.
     ///
     /// There must be a mode for each server of the plan.
     ///
-    /// Refuses a backlog outside 1 to [`MAX_BACKLOG`] by [`CoreError::BadBacklog`], and by
-    /// [`CoreError::OutOfMemory`] if an allocation is refused.
+    /// Refuses a backlog outside 1 to [`MAX_BACKLOG`] by [`CoreError::BadBacklog`], and by [`CoreError::OutOfMemory`]
+    /// if an allocation is refused.
     pub fn new(alloc: A, plan: Plan, modes: Modes, backlog: u64) -> Result<Self, CoreError>
         requires { length modes ≡ length plan.rates }
         ensures start { IfOk result (λ core. Agrees W.meaning core (record { setup = record { servers = terms_of modes plan.rates; backlog = backlog }; steps = [] })) }
@@ -87,7 +87,7 @@ impl<W: Work, A: Allocator + Clone> Core<W, A> {
         Core::of(alloc, &plan, &modes, backlog)
     }
 
-    /// Returns a core as [`new`](Core::new), of a plan and modes that stay where they are: each of them is up to half a
+    /// Returns a core as [`new`](Core::new) does, but borrows the plan and the modes. Each of them takes up to half a
     /// kilobyte, which a move would copy.
     pub fn of(alloc: A, plan: &Plan, modes: &Modes, backlog: u64) -> Result<Self, CoreError>
         requires { length modes.now ≡ length plan.now.rates }
@@ -117,11 +117,10 @@ impl<W: Work, A: Allocator + Clone> Core<W, A> {
 }
 
 impl<W: Work, A: Allocator> Core<W, A> {
-    /// Makes room for one more job of a server: the next [`submit`](Core::submit) on this core takes
-    /// no memory if it is on that server. Where there is room, it succeeds. Nothing else changes.
+    /// Makes room for one more job of a server. If the next [`submit`](Core::submit) on this core is on that server, it
+    /// takes no memory. If room is there already, this succeeds. Nothing but the room changes.
     ///
-    /// Refuses as a submit on that server would, and answers [`CoreError::OutOfMemory`] where an
-    /// allocation is refused.
+    /// Refuses as a submit on that server would, and returns [`CoreError::OutOfMemory`] if an allocation is refused.
     pub fn make_room(&mut self, server: u16) -> Result<(), CoreError>
         ensures answer { (M : History W) → Agrees W.meaning self.old M
             → RefusesByOrMemory CoreError.OutOfMemory result (submit_refusal M.setup.backlog (faces W.meaning (world_after W.meaning M)) server) }
@@ -141,12 +140,15 @@ impl<W: Work, A: Allocator> Core<W, A> {
         Ok(())
     }
 
-    /// Gives a job to a server, and answers the job's number among the accepted jobs of the server.
+    /// Gives a job to a server, and returns the job's number among the server's accepted jobs.
     ///
-    /// Refuses, in this order: [`CoreError::NoSuchServer`]; [`CoreError::Closed`] where the server
-    /// was closed; [`CoreError::BacklogFull`] where it has as many unfinished jobs as it may have;
-    /// [`CoreError::OutOfMemory`] where an allocation is refused. The job then comes back, and
-    /// nothing changed, but that room for it may have been made.
+    /// Refuses, in this order:
+    /// - [`CoreError::NoSuchServer`];
+    /// - [`CoreError::Closed`] if the server was closed;
+    /// - [`CoreError::BacklogFull`] if it has as many unfinished jobs as it may have;
+    /// - [`CoreError::OutOfMemory`] if an allocation is refused.
+    ///
+    /// A refusal hands the job back and changes nothing, except that room for the job may have been made.
     #[tactic(auto, using(cbs_lists::proofs::Lists::counted, crate::proofs::Cores::budgets_kept))]
     pub fn submit(&mut self, server: u16, task: Task<W>) -> Result<u64, SubmitRefused<W>>
         ensures tries { Tries W.meaning self.old self.new (Step.Submit server task) (submitted result) }
@@ -170,10 +172,11 @@ impl<W: Work, A: Allocator> Core<W, A> {
         Ok(self.submit_reserved(server, task))
     }
 
-    /// Gives a job to a server that has room for it, as [`make_room`](Core::make_room) leaves it at
-    /// `Ok`, and answers the job's number among the accepted jobs of the server. It takes no memory.
+    /// Gives a job to a server that has room for it, and returns the job's number among the server's accepted jobs. It
+    /// takes no memory.
     ///
-    /// The server must be there and open, its backlog not full, and room made.
+    /// The server must be there and open, its backlog not full, and room made. A [`make_room`](Core::make_room) that
+    /// returns `Ok` leaves such room.
     #[tactic(auto, using(cbs_lists::proofs::Lists::counted, crate::proofs::Cores::budgets_kept))]
     pub fn submit_reserved(&mut self, server: u16, task: Task<W>) -> u64
         requires { HasRoom self.old server }
@@ -187,8 +190,8 @@ impl<W: Work, A: Allocator> Core<W, A> {
 
     /// Runs one unit of the job at the front of the chosen server, which takes one tick.
     ///
-    /// Answers [`Ran::Idle`] where no server is ready, and then [`Ran::ClockEnd`] where the clock
-    /// stands at [`LIMIT`]; both change nothing.
+    /// Returns [`Ran::Idle`] if no server is ready. If one is ready but the clock stands at [`LIMIT`], returns
+    /// [`Ran::ClockEnd`]. Both change nothing.
     #[tactic(auto, using(cbs_lists::proofs::Lists::counted, crate::proofs::Cores::budgets_kept))]
     #[inline(always)]
     pub fn run(&mut self) -> Ran
@@ -205,9 +208,9 @@ impl<W: Work, A: Allocator> Core<W, A> {
         self.clock += 1;
         self.last.server = server;
         let output = self.queues.run_first(server);
-        // Read after the unit, over which it would have to be kept.
+        // Read after the unit: a number read before would have to be kept while the unit runs.
         let seq = self.servers.finished(server);
-        // Each case passes the tick for itself, so that most units test once whether a job is finished.
+        // Each case passes the tick for itself, so that most units test only once whether a job is finished.
         let Some(result) = output else {
             self.servers.pass_tick(server, false, self.clock);
             return Ran::Unit { server, seq };
@@ -220,10 +223,10 @@ impl<W: Work, A: Allocator> Core<W, A> {
         })
     }
 
-    /// Lets `n` ticks pass, by one jump.
+    /// Lets `n` ticks pass in one jump.
     ///
-    /// Refuses by [`CoreError::ClockEnd`] where the clock would pass [`LIMIT`], and then changes
-    /// nothing. An advance by 0 is accepted and changes nothing.
+    /// Refuses by [`CoreError::ClockEnd`] if the clock would pass [`LIMIT`], and then changes nothing. An advance by 0
+    /// is accepted and changes nothing.
     #[tactic(auto, using(cbs_lists::proofs::Lists::counted, crate::proofs::Cores::budgets_kept))]
     pub fn advance(&mut self, n: u64) -> Result<(), CoreError>
         ensures makes { Makes W.meaning self.old self.new (Step.Advance n) (advanced result) }
@@ -242,13 +245,17 @@ impl<W: Work, A: Allocator> Core<W, A> {
         Ok(())
     }
 
-    /// Charges the server that ran the last unit the ticks that the unit took beyond its first: as many pass, and the
-    /// server pays for them from its budget, and from those to come. So a unit that takes long takes nobody's share. A
-    /// charge of 0 is accepted and changes nothing.
+    /// Charges the server that ran the last unit the ticks that the unit took after its first tick. As many ticks pass.
+    /// The server pays for them from its budget and from its budgets to come. So a unit that takes long takes nothing
+    /// from another server's share. A charge of 0 is accepted and changes nothing.
     ///
-    /// Refuses, in this order: [`CoreError::NoSuchServer`]; [`CoreError::NotRunning`], unless the server ran the last
-    /// unit, and no tick has passed since but what it was charged for it; [`CoreError::ClockEnd`] if the clock would
-    /// pass [`LIMIT`]. Then nothing changed.
+    /// Refuses, in this order:
+    /// - [`CoreError::NoSuchServer`];
+    /// - [`CoreError::NotRunning`], unless the server ran the last unit and no tick has passed since, except those
+    ///   charged for the unit;
+    /// - [`CoreError::ClockEnd`] if the clock would pass [`LIMIT`].
+    ///
+    /// A refusal changes nothing.
     #[tactic(auto, using(cbs_lists::proofs::Lists::counted, crate::proofs::Cores::budgets_kept))]
     pub fn charge(&mut self, server: u16, ticks: u64) -> Result<(), CoreError>
         ensures makes { Makes W.meaning self.old self.new (Step.Charge server ticks) (charged result) }
@@ -271,7 +278,7 @@ impl<W: Work, A: Allocator> Core<W, A> {
         Ok(())
     }
 
-    /// Charges the server that runs, which the clock allows.
+    /// Charges the server that runs, with a number of ticks that the clock allows.
     #[tactic(auto, using(cbs_lists::proofs::Lists::counted, crate::proofs::Cores::budgets_kept))]
     fn charge_running(&mut self, server: u16, ticks: u64)
         requires running { is_running self.old server ≡ true }
@@ -288,8 +295,8 @@ impl<W: Work, A: Allocator> Core<W, A> {
 
     /// Closes a server: it accepts no further job. The jobs that it accepted stay, and are run.
     ///
-    /// Refuses by [`CoreError::NoSuchServer`], or by [`CoreError::Closed`] where it was closed
-    /// before, and then changes nothing.
+    /// Refuses by [`CoreError::NoSuchServer`], or by [`CoreError::Closed`] if the server was closed before. A refusal
+    /// changes nothing.
     #[tactic(auto, using(cbs_lists::proofs::Lists::counted, crate::proofs::Cores::budgets_kept))]
     pub fn close(&mut self, server: u16) -> Result<(), CoreError>
         ensures makes { Makes W.meaning self.old self.new (Step.Close server) (closed result) }
@@ -318,7 +325,7 @@ impl<W: Work, A: Allocator> Core<W, A> {
         self.servers.close(server);
     }
 
-    /// The clock, in ticks: 0 to [`LIMIT`].
+    /// Returns the clock, in ticks: 0 to [`LIMIT`].
     pub fn now(&self) -> u64
         ensures now { TellsOf W.meaning self.now (λ w. result ≡ w.now) }
         ensures clock { result ≡ self.now.clock }
@@ -327,8 +334,8 @@ impl<W: Work, A: Allocator> Core<W, A> {
         self.clock
     }
 
-    /// The chosen server: the ready one with the least deadline, of equal deadlines the lower
-    /// number; `None` where nobody is ready.
+    /// Returns the chosen server: the ready one with the least deadline, of equal deadlines the lower number. Returns
+    /// `None` if no server is ready.
     pub fn ready(&self) -> Option<u16>
         ensures chosen { TellsOf W.meaning self.now (λ w. result ≡ chosen W.meaning w) }
         ensures earliest { TellsOf W.meaning self.now (λ w. IsChoice (ranks (faces W.meaning w)) (length (faces W.meaning w)) result) }
@@ -336,7 +343,7 @@ impl<W: Work, A: Allocator> Core<W, A> {
         self.servers.choose()
     }
 
-    /// How many servers there are: at most 64, numbered from 0.
+    /// Returns how many servers there are: at most 64, numbered from 0.
     pub fn servers(&self) -> u16
         ensures value { result ≡ length self.now.faces }
         ensures few { result ≤ most_servers }
@@ -344,20 +351,20 @@ impl<W: Work, A: Allocator> Core<W, A> {
         self.servers.len()
     }
 
-    /// For how many ticks nobody will be ready: `None` if somebody is now, and else the greatest number
-    /// of ticks, up to the clock's end, by which the clock may be advanced with nobody ready before
-    /// the last of them. An advance by it takes no time from anybody.
+    /// Returns for how many ticks no server will be ready, or `None` if one is ready now. It is the greatest number of
+    /// ticks, up to the clock's end, by which the clock may advance with no server ready before the last tick. An
+    /// advance by this number takes no time from any server.
     ///
-    /// Where no job is held it reaches to the clock's end, [`LIMIT`]: nobody is ready until something is
-    /// submitted. Whoever waits for submits must not advance by it then, since nothing can run once the
-    /// clock stands at its end.
+    /// If the core holds no job, the number reaches to the clock's end, [`LIMIT`]: no server is ready until a job is
+    /// submitted. A caller that waits for submits must not advance by it then. Nothing can run after the clock stands
+    /// at its end.
     pub fn idle_span(&self) -> Option<u64>
         ensures { TellsOf W.meaning self.now (λ w. MatchOption result (¬ IsAtRest W.meaning w) (IsIdleSpan W.meaning w)) }
     {
         self.servers.idle_span(self.clock)
     }
 
-    /// What a server shows, or [`CoreError::NoSuchServer`].
+    /// Returns a server's view, or [`CoreError::NoSuchServer`].
     pub fn view(&self, server: u16) -> Result<ServerView, CoreError>
         ensures held { result ≡ view_reply (slice_get self.now.faces server) }
         ensures view { TellsOf W.meaning self.now (λ w. result ≡ view_reply (slice_get (faces W.meaning w) server)) }
@@ -369,8 +376,8 @@ impl<W: Work, A: Allocator> Core<W, A> {
         self.servers.view(server)
     }
 
-    /// Returns the server that runs, which [`charge`](Core::charge) may charge: it ran the last unit, and no tick has
-    /// passed since but what it was charged for that. Returns `None` if there is none.
+    /// Returns the server that runs, which [`charge`](Core::charge) may charge, or `None` if there is none. A server
+    /// runs if it got the last unit and no tick has passed since, except those charged for the unit.
     pub fn running(&self) -> Option<u16>
         ensures held { result ≡ running self.now }
         ensures running { TellsOf W.meaning self.now (λ w. MatchOption result ((s : ℕ) → (account w.accounts s).runs ≡ false) (λ s. (account w.accounts s).runs ≡ true)) }
@@ -378,7 +385,7 @@ impl<W: Work, A: Allocator> Core<W, A> {
         self.last.running(self.clock)
     }
 
-    /// Returns what a server was charged, in all and at most for one unit, or [`CoreError::NoSuchServer`].
+    /// Returns what a server was charged, in total and at most for one unit, or [`CoreError::NoSuchServer`].
     pub fn charges(&self, server: u16) -> Result<Charges, CoreError>
         ensures held { result ≡ charges_reply (slice_get self.now.faces server) }
         ensures charges { TellsOf W.meaning self.now (λ w. result ≡ charges_reply (slice_get (faces W.meaning w) server)) }
@@ -386,16 +393,16 @@ impl<W: Work, A: Allocator> Core<W, A> {
         self.servers.charges(server).ok_or(CoreError::NoSuchServer)
     }
 
-    /// Returns the tick by which every job that a server accepted so far is finished, or `None` if all
-    /// are finished or there is no such server.
+    /// Returns the tick by which every job that a server accepted so far is finished. Returns `None` if all are
+    /// finished or there is no such server.
     ///
-    /// It is kept if all are on time now, and no advance and no charge to come takes anybody's time. Both hold of
-    /// a core with no charges whose advances are all by [`idle_span`](Core::idle_span). After an advance or a
-    /// charge that took somebody's time, a server may be late already, and the tick may have passed.
+    /// The tick is kept if all servers are on time now, and no advance and no charge to come takes time from any
+    /// server. Both hold of a core without charges whose advances are all by [`idle_span`](Core::idle_span). After an
+    /// advance or a charge that took a server's time, a server may be late already, and the tick may have passed.
     ///
-    /// With c, d and o the budget, deadline and overrun of the server, Q ticks in every T, and its jobs `owed`
-    /// units, it is `d + ceil((owed + o - c) / Q) * T`, or d if c suffices. No later step makes it wrong:
-    /// it may be told to whoever waits for the job that was submitted last.
+    /// Let c, d and o be the budget, deadline and overrun of the server, with Q ticks in every T, and let its jobs need
+    /// `owed` more units. Then the tick is `d + ceil((owed + o - c) / Q) * T`, or d if c suffices. No later step makes
+    /// it wrong: it may be given to whoever waits for the job that was submitted last.
     pub fn promised(&self, server: u16) -> Option<u128>
         ensures value { TellsOf W.meaning self.now (λ w. result ≡ promised W.meaning (account w.accounts server)) }
         ensures kept { IsCoreOnTime self.now → IfSome result (λ tick. (M : History W) → Agrees W.meaning self.now M → AllFinishedBy W.meaning M server tick) }
@@ -406,8 +413,8 @@ impl<W: Work, A: Allocator> Core<W, A> {
         self.servers.promised(server, self.queues.owed(server))
     }
 
-    /// The output so far of the job at the front of a server; `None` where it has no unfinished job, and
-    /// where there is no such server. After [`Ran::Unit`] that job is the one which got the unit.
+    /// Returns the output so far of the job at the front of a server. Returns `None` if the server has no unfinished
+    /// job, or if there is no such server. After [`Ran::Unit`] that job is the one that got the unit.
     pub fn front_output(&self, server: u16) -> Option<u64>
         ensures { result ≡ front_output W.meaning (held_at self.now server).jobs }
     {
@@ -417,11 +424,10 @@ impl<W: Work, A: Allocator> Core<W, A> {
         self.queues.front_output(server)
     }
 
-    /// Does all steps, in order, and gives one reply for each.
+    /// Makes all steps, in order, and returns one reply for each.
     ///
-    /// Room for all replies is made first. If that is refused, the steps come back and nothing
-    /// changed. A single submit that memory refuses is marked in its reply, by
-    /// [`CoreError::OutOfMemory`] with its job, and the next step follows.
+    /// Room for all replies is made first. If that is refused, the steps come back and nothing changed. A single submit
+    /// that memory refuses has a reply with [`CoreError::OutOfMemory`] and the job, and the next step follows.
     pub fn run_steps(
         &mut self,
         steps: Vec<Step<W>, A>,
@@ -436,7 +442,7 @@ impl<W: Work, A: Allocator> Core<W, A> {
         ensures closes { IfOk result (λ replies. (M : History W) → Agrees W.meaning self.old M → (s : ℕ)
             → NoneAfterClose s (account_in W.meaning M s).closed steps.items replies.items) }
 
-        // The laws on time, and on what a server takes, of every list with which the core then agrees.
+        // The laws on time and on a server's share, for every list of steps with which the core then agrees.
         ensures punctual { OnOk result ((N : History W) → Agrees W.meaning self.new N → IsPunctual W.meaning N) }
         ensures back { IfErr result (λ refused. refused.steps ≡ steps) }
         ensures unchanged { OnErr result (self.new ≡ self.old) }
@@ -451,13 +457,13 @@ impl<W: Work, A: Allocator> Core<W, A> {
             let reply = self.make(step);
             replies.push_reserved(reply);
         }
-        // A look at a field shows the proof what every core keeps.
+        // Reading a field gives the proof the core's invariant.
         let _ = &self.alloc;
         Ok(replies)
     }
 
-    /// Does one step, and answers it: as [`submit`](Core::submit), [`run`](Core::run),
-    /// [`advance`](Core::advance), [`close`](Core::close) and [`charge`](Core::charge) do.
+    /// Makes one step, and returns the reply of [`submit`](Core::submit), [`run`](Core::run),
+    /// [`advance`](Core::advance), [`close`](Core::close) or [`charge`](Core::charge).
     pub fn step(&mut self, step: Step<W>) -> Reply<W>
         ensures tries { Tries W.meaning self.old self.new step result }
         ensures completes { is_lack result ≡ false → (M : History W) → Agrees W.meaning self.old M → (s : ℕ)
@@ -466,7 +472,7 @@ impl<W: Work, A: Allocator> Core<W, A> {
         self.make(step)
     }
 
-    /// Does one step.
+    /// Makes one step, and returns its reply.
     fn make(&mut self, step: Step<W>) -> Reply<W>
         ensures tries { Tries W.meaning self.old self.new step result }
         ensures counts { CountsOn (completion_in result) self.old self.new }

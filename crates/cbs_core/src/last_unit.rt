@@ -1,25 +1,25 @@
-//! Who ran last, and what was charged for it.
+//! The server of the last unit, and what was charged for the unit.
 
 ghost use Rattle.std.specs.Prelude.{◌≡◌, ◌+◌, ◌<◌, ◌^◌};
 ghost use Rattle.cbs_core.specs.Held.{is_some_of, runner_at, charged_at};
 
-/// The server of the last unit, and what was charged for that.
+/// The server of the last unit, and what was charged for the unit.
 ///
-/// A run writes the server alone: that it runs still is told by the clock, which stands elsewhere than an advance left it.
+/// A run writes only the server. The server runs as long as the clock differs from the clock after the last advance.
 #[derive(Clone, Copy, Debug)]
 pub struct LastUnit {
     /// The server of the last unit, if there was one.
     pub server: u16,
     /// The clock after the last advance, 0 before the first.
     pub advanced_to: u64,
-    /// The ticks that the last charge made, with those before it for the same unit.
+    /// The ticks of the last charge, and of the charges before it for the same unit.
     pub charged: u64,
     /// The clock after the last charge, 0 before the first.
     pub charged_to: u64,
 }
 
 impl LastUnit {
-    /// Nobody ran.
+    /// Returns the value before the first unit.
     pub fn new() -> LastUnit
         ensures { result ≡ record { server = 0; advanced_to = 0; charged = 0; charged_to = 0 } }
     {
@@ -31,7 +31,7 @@ impl LastUnit {
         }
     }
 
-    /// Returns the server that runs at tick `now`, if there is one.
+    /// Returns the server that runs at tick `now`, or `None` if none runs.
     pub fn running(&self, now: u64) -> Option<u16>
         ensures { result ≡ runner_at now self.now }
     {
@@ -42,14 +42,14 @@ impl LastUnit {
         }
     }
 
-    /// Returns whether a server runs at tick `now`.
+    /// Returns whether `server` runs at tick `now`.
     pub fn is_of(&self, server: u16, now: u64) -> bool
         ensures { result ≡ is_some_of (runner_at now self.now) server }
     {
         self.advanced_to != now && self.server == server
     }
 
-    /// Takes in a charge of so many ticks at tick `now`. Returns how many were charged for the unit.
+    /// Records a charge of `ticks` ticks at tick `now`. Returns how many ticks were charged for the unit in total.
     pub fn charge(&mut self, now: u64, ticks: u64) -> u64
         requires clock { now + ticks < 2 ^ 63 }
         requires few { self.old.charged < 2 ^ 63 }

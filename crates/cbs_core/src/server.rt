@@ -1,4 +1,4 @@
-//! One server, but for its jobs.
+//! The state of one server, without its jobs.
 
 ghost use Rattle.std.specs.Prelude.{◌≡◌, ℕ, ◌+◌, ◌*◌, ◌<◌, ◌≤◌, ◌^◌, false, true, Some};
 ghost use Rattle.cbs_steps.specs.Faces.{new_face, is_active, is_ready, ready_by, backlog_of, refuses_close, refuses_submit, view_of, with_job, with_unit, with_charge, with_replenishment, with_close};
@@ -9,7 +9,7 @@ use cbs_rules::{LIMIT, MAX_DEADLINE, Mode, ServerState};
 use cbs_steps::{Charges, CoreError, ServerView};
 use std::marker::Model;
 
-/// One server, but for its jobs.
+/// The state of one server, without its jobs.
 #[derive(Drop)]
 pub struct Server {
     mode: Mode,
@@ -33,7 +33,7 @@ impl Model for Server {
 }
 
 impl Server {
-    /// A server at its start.
+    /// Returns a server at its start: it has accepted no job and was charged nothing.
     pub fn new(mode: Mode, reservation: Reservation) -> Server
         ensures { result ≡ new_face (record { mode = mode; reservation = reservation }) }
     {
@@ -48,63 +48,63 @@ impl Server {
         }
     }
 
-    /// How many of its jobs are finished.
+    /// Returns how many of the server's jobs are finished.
     pub fn finished(&self) -> u64
         ensures { result ≡ self.now.finished }
     {
         self.finished
     }
 
-    /// How many jobs it has accepted.
+    /// Returns how many jobs the server has accepted.
     pub fn accepted(&self) -> u64
         ensures { result ≡ self.now.accepted }
     {
         self.accepted
     }
 
-    /// The tick by which it may use its budget.
+    /// Returns the server's deadline: the tick by which it may use its budget.
     pub fn deadline(&self) -> u128
         ensures { result ≡ self.now.state.deadline }
     {
         self.state.deadline()
     }
 
-    /// Whether an accepted job is not finished.
+    /// Returns whether the server is active: it has accepted a job that is not finished.
     pub fn is_active(&self) -> bool
         ensures { result ≡ is_active self.now }
     {
         self.finished < self.accepted
     }
 
-    /// Whether it is active and not throttled.
+    /// Returns whether the server is ready: active and not throttled.
     pub fn is_ready(&self) -> bool
         ensures { result ≡ is_ready self.now }
     {
         self.is_active() && !self.state.throttled()
     }
 
-    /// Whether it waits to be replenished.
+    /// Returns whether the server is throttled: it waits for its replenishment.
     pub fn is_throttled(&self) -> bool
         ensures { result ≡ self.now.state.throttled }
     {
         self.state.throttled()
     }
 
-    /// The deadline by which it runs, where it is ready.
+    /// Returns the deadline by which the server runs if it is ready, and `None` if it is not ready.
     pub fn ready_by(&self) -> Option<u128>
         ensures { result ≡ ready_by self.now }
     {
         self.is_ready().then_some(self.deadline())
     }
 
-    /// How many accepted jobs are not finished.
+    /// Returns the server's backlog: how many accepted jobs are not finished.
     fn backlog(&self) -> u64
         ensures { result ≡ backlog_of self.now }
     {
         self.accepted - self.finished
     }
 
-    /// By which tick it gets so many units, while no server is late; `None` where they are none.
+    /// Returns the tick by which the server gets `units` units if no server is late, or `None` if `units` is 0.
     pub fn promised(&self, units: u64) -> Option<u128>
         requires { self.now.state.deadline < 2 ^ 127 }
         ensures { result ≡ promised_by self.now.terms.reservation self.now.state units }
@@ -120,7 +120,7 @@ impl Server {
         Some(self.deadline() + budgets * u128::from(reservation.period()))
     }
 
-    /// Why a close is refused, if it is.
+    /// Returns why a close is refused, or `None` if it is not refused.
     pub fn close_refusal(&self) -> Option<CoreError>
         ensures { result ≡ refuses_close (Some self.now) }
     {
@@ -130,7 +130,7 @@ impl Server {
         None
     }
 
-    /// Why a submit is refused where the backlog may be so large, if it is.
+    /// Returns why a submit is refused if the backlog may be at most `backlog` jobs, or `None` if it is not refused.
     pub fn submit_refusal(&self, backlog: u64) -> Option<CoreError>
         ensures { result ≡ refuses_submit backlog (Some self.now) }
     {
@@ -143,7 +143,7 @@ impl Server {
         None
     }
 
-    /// What it shows.
+    /// Returns the server's view: budget, deadline, marks and counts.
     pub fn view(&self) -> ServerView
         ensures { result ≡ view_of self.now }
     {
@@ -157,7 +157,7 @@ impl Server {
         }
     }
 
-    /// A job comes in, where it has others. Answers the job's number.
+    /// Accepts a job while the server has unfinished ones. Returns the job's number.
     pub fn accept_behind(&mut self) -> u64
         requires active { is_active self.old ≡ true }
         requires few { self.old.accepted + 1 < 2 ^ 64 }
@@ -169,7 +169,8 @@ impl Server {
         number
     }
 
-    /// A job comes in at tick `now`, where it has none. Answers the deadline by which it then runs, if it is ready.
+    /// Accepts a job at tick `now` while the server has none. Returns the deadline by which the server then runs, or
+    /// `None` if it is not ready.
     pub fn accept_first(&mut self, now: u64) -> Option<u128>
         requires clock { now ≤ LIMIT }
         requires idle { is_active self.old ≡ false }
@@ -185,8 +186,8 @@ impl Server {
         Some(self.deadline())
     }
 
-    /// Uses one tick of the budget, for a unit that finished a job or did not. Answers true only where
-    /// it stays ready, by the same deadline.
+    /// Uses one tick of the budget for a unit. `done` says whether the unit finished a job. Returns true only if the
+    /// server stays ready with the same deadline.
     pub fn use_tick(&mut self, done: bool) -> bool
         requires ready { is_ready self.old ≡ true }
         requires some { 0 < self.old.state.budget }
@@ -194,10 +195,10 @@ impl Server {
         ensures face { self.new ≡ with_unit done self.old }
         ensures stays { result ≡ true → (is_ready self.new ≡ true) × (self.new.state.deadline ≡ self.old.state.deadline) }
     {
-        // A budget that may be used is no 0, so this is known once it is used.
+        // The budget is not 0 here, so the comparison with 1 tells whether a tick is left.
         let more = self.state.budget() != 1;
         self.state.consume(self.mode);
-        // Most units end here.
+        // Most units do not finish a job.
         if !done {
             return more;
         }
@@ -205,7 +206,7 @@ impl Server {
         more && self.is_active()
     }
 
-    /// Charges it so many ticks for its last unit, for which it was then charged as many as said.
+    /// Charges the server `ticks` ticks for its last unit. With them, `for_unit` ticks were charged for that unit.
     pub fn charge(&mut self, ticks: u64, for_unit: u64)
         requires some { 0 < ticks }
         requires few { ticks ≤ LIMIT }
@@ -221,7 +222,7 @@ impl Server {
         self.most_charged = self.most_charged.max(for_unit);
     }
 
-    /// Returns how many ticks it was charged, in all and at most for one unit.
+    /// Returns how many ticks the server was charged, in total and at most for one unit.
     pub fn charges(&self) -> Charges
         ensures { result ≡ self.now.charges }
     {
@@ -239,7 +240,7 @@ impl Server {
         self.state.replenish(now);
     }
 
-    /// Accepts no further job.
+    /// Closes the server: it accepts no further job.
     pub fn close(&mut self)
         ensures { self.new ≡ with_close self.old }
     {

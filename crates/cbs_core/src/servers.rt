@@ -1,4 +1,4 @@
-//! All servers, but for their jobs: the choice among them, and what the rules do to them.
+//! All servers, without their jobs: the choice among them, and what the rules do to them.
 
 ghost use Rattle.std.specs.Prelude.{◌≡◌, ◌≢◌, ℕ, ◌+◌, ◌-◌, ◌<◌, ◌≤◌, ◌^◌, false, true, Some, option_map, IfOk, OnOk, MatchOption, length, map, slice_get};
 ghost use Rattle.cbs_rate.specs.Plan.{IsPlan};
@@ -23,7 +23,7 @@ use cbs_steps::{Charges, CoreError, ServerView};
 use std::alloc::{AllocError, Allocator, Global};
 use std::marker::Model;
 
-/// All servers, but for their jobs: at most 64; and which of them are ready.
+/// The states of all servers, at most 64, without their jobs, and the list of the ready ones.
 #[derive(Drop)]
 pub struct Servers<A: Allocator = Global> {
     servers: Vec<Server, A>,
@@ -46,7 +46,7 @@ impl<A: Allocator> Model for Servers<A> {
 }
 
 impl<A: Allocator + Clone> Servers<A> {
-    /// The servers of a plan, each with its mode.
+    /// Returns the servers of a plan, each with its mode, or the error if an allocation is refused.
     pub fn new(alloc: &A, plan: &Plan, modes: &Modes) -> Result<Self, AllocError>
         requires { length modes.now ≡ length plan.now.rates }
         ensures servers { IfOk result (λ s. s ≡ map new_face (terms_of modes.now plan.now.rates)) }
@@ -67,7 +67,7 @@ impl<A: Allocator + Clone> Servers<A> {
 }
 
 impl<A: Allocator> Servers<A> {
-    /// How many servers there are.
+    /// Returns how many servers there are, at most 64.
     pub fn len(&self) -> u16
         ensures value { result ≡ length self.now }
         ensures few { result ≤ most_servers }
@@ -75,7 +75,7 @@ impl<A: Allocator> Servers<A> {
         self.servers.len() as u16
     }
 
-    /// The ready server with the least deadline, and of several the first.
+    /// Returns the ready server with the least deadline, of several the first, or `None` if no server is ready.
     pub fn choose(&self) -> Option<u16>
         ensures first { result ≡ chosen_among (ranks self.now) }
         ensures choice { IsChoice (ranks self.now) (length self.now) result }
@@ -83,7 +83,7 @@ impl<A: Allocator> Servers<A> {
         self.ready.first()
     }
 
-    /// How many ticks nobody will be ready, up to the clock's end, or `None` if somebody is now.
+    /// Returns for how many ticks no server will be ready, up to the clock's end, or `None` if one is ready now.
     pub fn idle_span(&self, now: u64) -> Option<u64>
         requires { now ≤ LIMIT }
         ensures { MatchOption result (¬ NoneReady self.now) (λ span. NoneReady self.now × (span ≡ span_of now self.now)) }
@@ -94,7 +94,7 @@ impl<A: Allocator> Servers<A> {
         Some(self.waits.wakes.saturating_sub(now).max(1).min(LIMIT - now))
     }
 
-    /// Why a submit to a server is refused, if it is.
+    /// Returns why a submit to a server is refused, or `None` if it is not refused.
     pub fn submit_refusal(&self, backlog: u64, server: u16) -> Option<CoreError>
         ensures { result ≡ submit_refusal backlog self.now server }
     {
@@ -104,7 +104,7 @@ impl<A: Allocator> Servers<A> {
         }
     }
 
-    /// Why a close of a server is refused, if it is.
+    /// Returns why a close of a server is refused, or `None` if it is not refused.
     pub fn close_refusal(&self, server: u16) -> Option<CoreError>
         ensures { result ≡ close_refusal self.now server }
     {
@@ -114,7 +114,7 @@ impl<A: Allocator> Servers<A> {
         }
     }
 
-    /// What a server shows.
+    /// Returns a server's view, or [`CoreError::NoSuchServer`].
     pub fn view(&self, server: u16) -> Result<ServerView, CoreError>
         ensures { result ≡ view_reply (slice_get self.now server) }
     {
@@ -124,7 +124,7 @@ impl<A: Allocator> Servers<A> {
         }
     }
 
-    /// By which tick a server gets so many units, while no server is late; `None` where they are none.
+    /// Returns the tick by which a server gets `units` units if no server is late, or `None` if `units` is 0.
     pub fn promised(&self, server: u16, units: u64) -> Option<u128>
         requires within { server < length self.now }
         requires early { (face_at self.now server).state.deadline < 2 ^ 127 }
@@ -133,7 +133,7 @@ impl<A: Allocator> Servers<A> {
         self.servers[usize::from(server)].promised(units)
     }
 
-    /// How many jobs of a server are finished.
+    /// Returns how many jobs of a server are finished.
     pub fn finished(&self, server: u16) -> u64
         requires { server < length self.now }
         ensures { result ≡ (face_at self.now server).finished }
@@ -141,7 +141,7 @@ impl<A: Allocator> Servers<A> {
         self.servers[usize::from(server)].finished()
     }
 
-    /// A job comes in for a server, at tick `now`. Answers the job's number.
+    /// Accepts a job for a server at tick `now`. Returns the job's number.
     #[tactic(auto, using(cbs_lists::proofs::Lists::written))]
     pub fn accept(&mut self, server: u16, now: u64) -> u64
         requires within { server < length self.old }
@@ -151,14 +151,14 @@ impl<A: Allocator> Servers<A> {
         ensures number { result ≡ (face_at self.old server).accepted }
     {
         let it = &mut self.servers[usize::from(server)];
-        // A job behind others changes no place in the list.
+        // A job that comes after others changes no place in the list.
         if it.is_active() {
             return it.accept_behind();
         }
         self.accept_first(server, now)
     }
 
-    /// A job comes in for a server that has none, at tick `now`. Answers the job's number.
+    /// Accepts a job at tick `now` for a server that has none. Returns the job's number.
     #[tactic(auto, using(cbs_lists::proofs::Lists::written))]
     fn accept_first(&mut self, server: u16, now: u64) -> u64
         requires within { server < length self.old }
@@ -176,9 +176,9 @@ impl<A: Allocator> Servers<A> {
         number
     }
 
-    /// The chosen server uses the tick that ends at `now`, for a unit that finished a job or did not; then every server
-    /// that is due is replenished.
-    // Always inlined, since each caller says by a constant whether a job is finished.
+    /// Lets the chosen server use the tick that ends at `now` for a unit. `done` says whether the unit finished a job.
+    /// Then replenishes every server that is due.
+    // Always inlined, since each caller passes `done` as a constant.
     #[inline(always)]
     pub fn pass_tick(&mut self, server: u16, done: bool, now: u64)
         requires chosen { chosen_among (ranks self.old) ≡ Some server }
@@ -191,7 +191,7 @@ impl<A: Allocator> Servers<A> {
         self.replenish(now);
     }
 
-    /// The chosen server uses one tick of its budget, for a unit that finished a job or did not.
+    /// Lets the chosen server use one tick of its budget for a unit. `done` says whether the unit finished a job.
     #[inline]
     fn use_tick(&mut self, server: u16, done: bool)
         requires chosen { chosen_among (ranks self.old) ≡ Some server }
@@ -200,7 +200,7 @@ impl<A: Allocator> Servers<A> {
         ensures { self.new ≡ changed_at (with_unit done) self.old server }
     {
         let it = &mut self.servers[usize::from(server)];
-        // Most units change no place in the list, and nobody's due.
+        // Most units change neither a place in the list nor a time of replenishment.
         if it.use_tick(done) {
             return;
         }
@@ -222,8 +222,8 @@ impl<A: Allocator> Servers<A> {
         }
     }
 
-    /// Charges a server so many ticks for its last unit, for which it was then charged as many as said; then replenishes
-    /// every server that is due at tick `now`.
+    /// Charges a server `ticks` ticks for its last unit. With them, `for_unit` ticks were charged for that unit. Then
+    /// replenishes every server that is due at tick `now`.
     #[inline(never)]
     pub fn charge(&mut self, server: u16, ticks: u64, for_unit: u64, now: u64)
         requires within { server < length self.old }
@@ -239,7 +239,8 @@ impl<A: Allocator> Servers<A> {
         }
     }
 
-    /// Charges a server that is throttled. It stays so, for a later deadline: how long the servers wait is told anew.
+    /// Charges a server that is throttled, and replenishes every server that is due at tick `now`. The charge moves the
+    /// server's deadline, so the ticks in `waits` are computed anew.
     #[tactic(auto, using(cbs_lists::proofs::Lists::written))]
     fn charge_throttled(&mut self, server: u16, ticks: u64, for_unit: u64, now: u64)
         requires within { server < length self.old }
@@ -252,7 +253,7 @@ impl<A: Allocator> Servers<A> {
         self.waits = replenish_all(&mut self.servers, &mut self.ready, now);
     }
 
-    /// Charges a server that is not throttled. It may be then, and is ready by another deadline, or no longer.
+    /// Charges a server that is not throttled. The server may then be throttled, or be ready with another deadline.
     #[tactic(auto, using(cbs_lists::proofs::Lists::written))]
     fn charge_free(&mut self, server: u16, ticks: u64, for_unit: u64)
         requires within { server < length self.old }
@@ -274,7 +275,7 @@ impl<A: Allocator> Servers<A> {
         self.servers.get(usize::from(server)).map(|it| it.charges())
     }
 
-    /// Lets a server accept no further job.
+    /// Closes a server: it accepts no further job.
     #[tactic(auto, using(cbs_lists::proofs::Lists::written))]
     pub fn close(&mut self, server: u16)
         requires { server < length self.old }
@@ -284,8 +285,8 @@ impl<A: Allocator> Servers<A> {
     }
 }
 
-/// Replenishes every server that is due at tick `now`, and lists those that are then ready. What is
-/// then kept of those that wait.
+/// Replenishes every server that is due at tick `now`, and lists those that are then ready. Returns the first ticks for
+/// which the remaining throttled servers wait.
 #[inline(never)]
 fn replenish_all<A: Allocator>(servers: &mut [Server], ready: &mut ReadyList<A>, now: u64) -> Waits
     requires clock { now ≤ LIMIT }

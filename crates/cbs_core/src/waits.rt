@@ -1,4 +1,4 @@
-//! What is kept of the servers that wait to be replenished.
+//! The first ticks for which throttled servers wait.
 
 ghost use Rattle.std.specs.Prelude.{◌≡◌};
 ghost use Rattle.cbs_core.specs.Waiting.{IsNoted};
@@ -6,17 +6,17 @@ ghost use Rattle.cbs_steps.specs.Waiting.{most};
 
 use crate::server::Server;
 
-/// The first ticks for which the throttled servers wait, `u64::MAX` if there is none.
+/// The first ticks for which the throttled servers wait, each `u64::MAX` if there is no such server.
 #[derive(Clone, Copy)]
 pub struct Waits {
-    /// Nobody is due for replenishment before.
+    /// The tick before which no server is due for replenishment.
     pub due: u64,
     /// The least deadline of the throttled servers that have a job.
     pub wakes: u64,
 }
 
 impl Waits {
-    /// Nobody waits.
+    /// Returns the ticks if no server waits.
     pub fn new() -> Self
         ensures { result ≡ record { due = most; wakes = most } }
     {
@@ -26,7 +26,7 @@ impl Waits {
         }
     }
 
-    /// Takes a server in, if it is throttled.
+    /// Takes a server into account, if it is throttled.
     pub fn note(&mut self, it: &Server)
         ensures { IsNoted self.old it.now self.new }
     {
