@@ -1,4 +1,4 @@
--- What each call of a house and of a client does, as one relation between before, answer and after.
+-- What each call of a house and of a client does, as one relation of the state before, the result and the state after.
 use Rattle.std.specs.Prelude.{◌≡◌, ◌↔◌, ◌⊎◌, ℕ, ◌+◌, ◌*◌, ◌<◌, ◌≤◌, true, false, List, [], ◌∷◌, ◌++◌, length, slice_get, Option, IfSome, Result, Err}
 use Rattle.std.specs.Prelude.{IfOk, IfErr, OnOk, OnErr, IsOk, MatchOption, MatchResult}
 use Rattle.cbs_rate.specs.Limits.{longest_period}
@@ -40,22 +40,22 @@ use Rattle.cbs_host.specs.declared.poll.Poll.{Poll}
 use Rattle.cbs_clients.specs.declared.turn.Turn.{Turn}
 
 module _ {W A : Type 0} {g : Ghosts W} where
-  -- A house that was opened with these servers: its core agrees with no step, nothing was received, no result is kept or was
-  -- handed out, it is on time, and every list of steps that it may make is punctual.
+  -- A house that was opened with these servers: its core agrees with the history of no steps, nothing was received, and
+  -- no result is kept or was handed out. It is on time, and every list of steps that it may make is punctual.
   pub record IsNewHouse (work : Meaning W) (setup : Setup) (h : House W A g) : Type 0 where
     pub agrees : Agrees work (core_of h) (record { setup = setup; steps = [] })
     pub empty : (s : ℕ) → seat_at h s ≡ new_seat
     pub on_time : IsHouseOnTime h
     pub punctual : (steps : List (Step W)) → IsPunctual work (record { setup = setup; steps = steps })
 
-  -- a poll of server s: it makes one step or none, by its answer, and leaves the results
+  -- a poll of server s: it makes one step or none, by its result, and keeps the results of all servers
   pub record PollOf (work : Meaning W) (s : ℕ) (old : House W A g) (answer : Poll) (new : House W A g) : Type 0 where
     pub polled : Polled work old s answer new
     pub on_time : IsHouseOnTime old → IsHouseOnTime new
     pub rings : rings_of new ≡ rings_of old
     pub results : KeepsResults old new
 
-  -- a run: its answer is what the rules give; it makes that one step, and collects a completion
+  -- a run: its result is that of the rules; it makes this one step, and collects a completion
   pub record RunOf (work : Meaning W) (old : House W A g) (told : Ran) (new : House W A g) : Type 0 where
     pub reply : (M : History W) → Agrees work (core_of old) M → reply.Ran told ≡ reply_in work M step.Run
     pub made : Made work old new (step.Run ∷ [])
@@ -63,8 +63,8 @@ module _ {W A : Type 0} {g : Ghosts W} where
     pub collects : Collects told old new
     pub job : NamesJob work told new
 
-  -- A run with a meter that may tell so: its answer is what the rules give; it makes that one step, pays for a unit, and collects a
-  -- completion.
+  -- A run with a meter that may return what `may` allows. Its result is that of the rules. It makes this one step, pays
+  -- for a unit, and collects a completion.
   pub record RunBy (work : Meaning W) (may : ℕ → ℕ → Type 0) (old : House W A g) (told : Ran) (new : House W A g) : Type 0 where
     pub reply : (M : History W) → Agrees work (core_of old) M → reply.Ran told ≡ reply_in work M step.Run
     pub paid : List (Step W)
@@ -74,8 +74,8 @@ module _ {W A : Type 0} {g : Ghosts W} where
     pub collects : Collects told old new
     pub job : NamesJob work told new
 
-  -- an advance by n: it makes that one step, and keeps a house on time so if it takes nobody's time; or the clock would pass its
-  -- end, and nothing changed
+  -- An advance by n makes this one step, and keeps a house on time if it takes nobody's time. If the clock would pass
+  -- its end, the advance is refused, and nothing changed
   pub record AdvanceOf (work : Meaning W) (n : ℕ) (old : House W A g) (answer : Result (Unit {0}) HouseError) (new : House W A g) : Type 0 where
     pub made : OnOk answer (Made work old new (step.Advance n ∷ []))
     pub on_time : ((M : History W) → Agrees work (core_of old) M → IsQuietAfter work M (step.Advance n)) → IsHouseOnTime old → IsHouseOnTime new
@@ -85,7 +85,8 @@ module _ {W A : Type 0} {g : Ghosts W} where
     pub end : (M : History W) → Agrees work (core_of old) M
         → MatchResult answer (λ _. (world_after work M).now + n ≤ clock_end) (λ _. clock_end < (world_after work M).now + n)
 
-  -- a charge of a server: it makes that one step, which leaves every job; or it is refused as the core refuses it, and nothing changed
+  -- A charge of a server makes this one step, which leaves every job. If the core refuses it, the charge is refused by
+  -- that reason, and nothing changed
   pub record ChargeOf (work : Meaning W) (server ticks : ℕ) (old : House W A g) (answer : Result (Unit {0}) HouseError) (new : House W A g) : Type 0 where
     pub made : OnOk answer (Made work old new (step.Charge server ticks ∷ []))
     pub rings : rings_of new ≡ rings_of old
@@ -95,12 +96,12 @@ module _ {W A : Type 0} {g : Ghosts W} where
     pub refusal : (M : History W) → Agrees work (core_of old) M
         → answer ≡ charge_answer (charge_refusal (world_after work M) server ticks)
 
-  -- a charge of the server that runs; or none runs, and nothing changed
+  -- a charge of the server that runs; if none runs, it is refused, and nothing changed
   abbrev pub ChargesLast : Meaning W → ℕ → House W A g → Result (Unit {0}) HouseError → House W A g → Type 0
   ChargesLast work ticks old answer new =
       MatchOption (running (core_of old)) ((answer ≡ Err house_error.NotRunning) × SameHouse old new) (λ server. ChargeOf work server ticks old answer new)
 
-  -- a turn of a house by itself, which told this
+  -- a turn of a house without a meter, and its result
   pub record TurnOf (work : Meaning W) (old : House W A g) (told : Turn) (new : House W A g) : Type 0 where
     pub turn : TakesOwnTurn work NothingBeyond old new told
     pub steps : ServesOn work old new
@@ -111,7 +112,7 @@ module _ {W A : Type 0} {g : Ghosts W} where
     pub numbered : IsNumbered told.ran old
     pub job : NamesJob work told.ran new
 
-  -- the same with a meter that may tell so
+  -- a turn of a house with a meter that may return what `may` allows, and its result
   pub record TurnBy (work : Meaning W) (may : ℕ → ℕ → Type 0) (old : House W A g) (told : Turn) (new : House W A g) : Type 0 where
     pub turn : TakesOwnTurn work may old new told
     pub steps : ServesBy work may old new
@@ -122,18 +123,19 @@ module _ {W A : Type 0} {g : Ghosts W} where
     pub numbered : IsNumbered told.ran old
     pub job : NamesJob work told.ran new
 
-  -- the clock is told
+  -- the result is the clock
   pub record ClockOf (work : Meaning W) (h : House W A g) (told : ℕ) : Type 0 where
     pub now : (M : History W) → Agrees work (core_of h) M → told ≡ (world_after work M).now
     pub clock : told ≡ (core_of h).clock
     pub most : told ≤ clock_end
 
-  -- the idle span is told, or that somebody is ready
+  -- the result is the idle span, or none if a server is ready
   abbrev pub SpanOf : Meaning W → House W A g → Option ℕ → Type 0
   SpanOf work h span = (M : History W) → Agrees work (core_of h) M
       → MatchOption span (¬ IsAtRest work (world_after work M)) (IsIdleSpan work (world_after work M))
 
-  -- What server s shows is told, or that there is none. If all is on time, a ready server's deadline is still to come.
+  -- The result is what server s shows, or that there is no such server. If all is on time, the deadline of a ready
+  -- server is still to come.
   pub record ViewOf (work : Meaning W) (s : ℕ) (h : House W A g) (answer : Result ServerView HouseError) : Type 0 where
     pub view : (M : History W) → Agrees work (core_of h) M → answer ≡ told_answer (view_reply (slice_get (faces work (world_after work M)) s))
     pub early : (M : History W) → Agrees work (core_of h) M → IfOk answer (λ v. let now = (world_after work M).now in v.deadline ≤ now + (now + 1) * longest_period)
@@ -141,13 +143,13 @@ module _ {W A : Type 0} {g : Ghosts W} where
     pub in_time : (M : History W) → Agrees work (core_of h) M → IsWorldOnTime work (world_after work M)
         → IfOk answer (λ v. v.finished < v.accepted → v.throttled ≡ false → (world_after work M).now < v.deadline)
 
-  -- what server s was charged is told, or that there is none
+  -- the result is what server s was charged, or that there is no such server
   abbrev pub ChargesOf : Meaning W → ℕ → House W A g → Result Charges HouseError → Type 0
   ChargesOf work s h answer = (M : History W) → Agrees work (core_of h) M
       → answer ≡ told_answer (charges_reply (slice_get (faces work (world_after work M)) s))
 
-  -- The tick is told by which all that server s accepted is finished, if something is owed. It is kept, whatever is asked for later, if
-  -- the house is on time and no step to come takes anybody's time.
+  -- The result is the tick by which all that server s accepted is finished, if some units are owed. If the house is on
+  -- time and no step to come takes anybody's time, the tick is kept, whatever is asked for later.
   pub record PromiseOf (work : Meaning W) (s : ℕ) (h : House W A g) (tick : Option ℕ) : Type 0 where
     pub value : (M : History W) → Agrees work (core_of h) M → tick ≡ promised work (account_in work M s)
     pub kept : IsHouseOnTime h → IfSome tick (λ t. (M : History W) → Agrees work (core_of h) M → AllFinishedBy work M s t)
@@ -158,8 +160,9 @@ module _ {W A : Type 0} {g : Ghosts W} where
     pub sent : sent_by new ≡ sent_by old
     pub looked : free old ≤ free new
 
-  -- A job is sent, and its number told; or it comes back: after an end, or at a ring that is not known to have a free slot, or if
-  -- 2^64 - 1 jobs were sent. A slot that is known to be free is one that the next message takes.
+  -- A job is sent, and its number returned, or the job comes back. It comes back if the client has ended, if no slot of
+  -- the ring is known to be free, or if 2^64 - 1 jobs were sent. The next message takes a slot that is known to be
+  -- free.
   pub record SendOf (job : W) (old : Client W A g) (answer : Result ℕ (SendRefused W)) (new : Client W A g) : Type 0 where
     pub same : SameClient old new
     pub ok : IfOk answer (λ number. (number ≡ length (jobs_among (sent_by old))) × (sent_by new ≡ sent_by old ++ Job job ∷ []))
@@ -169,7 +172,7 @@ module _ {W A : Type 0} {g : Ghosts W} where
     pub left : MatchResult answer (λ _. free old ≤ free new + 1) (λ _. free old ≤ free new)
     pub full : IfErr answer (λ refused. refused.error ≡ RingFull → (free new ≡ 0) ⊎ (length (jobs_among (sent_by old)) ≡ most_jobs))
 
-  -- an end is sent; or it is refused: after an end, or at a ring that is not known to have a free slot
+  -- an end is sent, or it is refused: the client has ended, or no slot of the ring is known to be free
   pub record EndOf (old : Client W A g) (answer : Result (Unit {0}) SendError) (new : Client W A g) : Type 0 where
     pub same : SameClient old new
     pub ok : OnOk answer (sent_by new ≡ sent_by old ++ End ∷ [])

@@ -17,7 +17,7 @@ house_error_number house.ClockEnd = 5
 house_error_number house.Stalled = 6
 house_error_number house.NotRunning = 7
 
--- its name, as text
+-- the name of each error of the house, as text
 abbrev pub house_error_name : HouseError → List ℕ
 house_error_name house.BadBacklog = codes "BadBacklog"
 house_error_name house.BadRing = codes "BadRing"
@@ -27,13 +27,13 @@ house_error_name house.ClockEnd = codes "ClockEnd"
 house_error_name house.Stalled = codes "Stalled"
 house_error_name house.NotRunning = codes "NotRunning"
 
--- why a charge is refused, by why the core refuses it, which is by one of three
+-- the house's error for the core's refusal of a charge, which is one of three
 abbrev pub charge_error : CoreError → HouseError
 charge_error core.NoSuchServer = house.NoSuchServer
 charge_error core.NotRunning = house.NotRunning
 charge_error _ = house.ClockEnd
 
--- what a charge is answered, by why the core refuses it
+-- the result of a charge, by why the core refuses it, if it does
 abbrev pub charge_answer : Option CoreError → Result (Unit {0}) HouseError
 charge_answer None = Ok tt
 charge_answer (Some e) = Err (charge_error e)
@@ -43,7 +43,7 @@ abbrev pub send_error_number : SendError → ℕ
 send_error_number send.Ended = 1
 send_error_number send.RingFull = 2
 
--- its name, as text
+-- the name of each error of a client, as text
 abbrev pub send_error_name : SendError → List ℕ
 send_error_name send.Ended = codes "Ended"
 send_error_name send.RingFull = codes "RingFull"

@@ -1,4 +1,4 @@
--- What is true of a house at all times.
+-- The invariant of a house.
 use Rattle.std.specs.Prelude.{ℕ, ◌≡◌, ◌+◌, ◌<◌, ◌≤◌, true, List, ◌++◌, drop, length, map}
 use Rattle.cbs_job.specs.Work.{Meaning, whole}
 use Rattle.cbs_core.specs.Held.{Held, CoreHeld, held_at}
@@ -9,10 +9,10 @@ use Rattle.cbs_clients.specs.Messages.{jobs_among, has_end, end_is_last}
 use Rattle.cbs_clients.specs.Rings.{rings_in, received_in}
 use Rattle.cbs_core.specs.Agreement.{HasHistory}
 
--- What a house keeps of one server, of which so many results were handed out: its results, and then what the jobs held come to,
--- are what the jobs received come to, in order, after the results that were handed out; it accepted each job received, and
--- finished as many as results were handed out or are kept; and it is closed exactly if an end was received, which is then the
--- last message.
+-- What a house keeps of one server, whose first `handed` results were handed out. Its results, followed by the whole
+-- results of the jobs held, are those of the jobs received, in order, without the ones handed out. The server accepted
+-- each job received, and finished as many as results were handed out or are kept. It is closed exactly if an end was
+-- received, and the end is then the last message.
 pub record KeepsServer {W : Type 0} (work : Meaning W) (h : Held W) (received : List (Message W)) (handed : ℕ) (results : List ℕ) : Type 0 where
   pub outputs : results ++ map (whole work) h.jobs ≡ drop handed (map (whole work) (jobs_among received))
   pub within : handed ≤ length (jobs_among received)
@@ -21,8 +21,8 @@ pub record KeepsServer {W : Type 0} (work : Meaning W) (h : Held W) (received : 
   pub closed : h.face.closed ≡ has_end received
   pub last : end_is_last received ≡ true
 
--- what is true of the parts of a house: a ring and a shelf for each server, a place for the result of each accepted job, a
--- history that the core agrees with, and a backlog of at least one job
+-- What is true of the parts of a house: a ring and a shelf for each server, a place for the result of each accepted
+-- job, a history that the core agrees with, and a backlog of at least one job
 pub record Housed {W A : Type 0} (work : Meaning W) (core : CoreHeld W) (rings : Rings W A) (collector : List Shelved) : Type 0 where
   pub ring_count : length (rings_in rings) ≡ length core.faces
   pub shelf_count : length collector ≡ length core.faces

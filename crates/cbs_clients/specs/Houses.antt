@@ -1,4 +1,4 @@
--- What a contract sees of a house.
+-- What a contract says about a house.
 use Rattle.std.specs.Prelude.{ℕ, ◌≡◌, ◌≢◌, ◌⊎◌, ◌+◌, ◌≤◌, ◌<◌, true, Result, Ok, Err, List, [], ◌∷◌, ◌++◌, drop, length, map, slice_get, Some}
 use mathlib.Core.List.{IsPrefix}
 use Rattle.cbs_job.specs.Work.{Meaning, whole}
@@ -26,8 +26,8 @@ use Rattle.cbs_clients.specs.Rings.{rings_in, received_in, known_in, Ring}
 use Rattle.cbs_clients.specs.Steps.{messages_of, pops, MayServe}
 use Rattle.cbs_core.specs.Agreement.{Agrees, Follows, AllAllowed, AllOnTime}
 
--- What a house has of one server: the messages received, oldest first; those that it knows to wait in the ring, oldest first; how many
--- results were handed out; and the results that are kept, in order.
+-- What a house has of one server. First the messages received and the messages that it knows to wait in the ring, each
+-- oldest first. Then how many results were handed out, and the results that are kept, in order.
 pub record Seat (W : Type 0) : Type 0 where
   pub received : List (Message W)
   pub known : List (Message W)
@@ -39,7 +39,7 @@ module _ {W : Type 0} where
   abbrev pub new_seat : Seat W
   new_seat = record { received = []; known = []; handed = 0; results = [] }
 
-  -- these messages were taken, and what is known to wait in the ring got shorter by them alone, from its front
+  -- these messages were taken: they alone left the first part of what is known to wait in the ring
   pub record TakesMessages (ms : List (Message W)) (old new : Seat W) : Type 0 where
     pub received : new.received ≡ old.received ++ ms
     pub known : IsPrefix old.known (ms ++ new.known)
@@ -55,7 +55,7 @@ module _ {W A : Type 0} {g : Ghosts W} where
   abbrev pub core_of : House W A g → CoreHeld W
   core_of h = h.core
 
-  -- a house that is on time: its core is
+  -- the house is on time: its core is on time
   abbrev pub IsHouseOnTime : House W A g → Type 0
   IsHouseOnTime h = IsCoreOnTime (core_of h)
 
@@ -88,7 +88,7 @@ module _ {W A : Type 0} {g : Ghosts W} where
   abbrev pub results_of : House W A g → ℕ → List ℕ
   results_of h s = (seat_at h s).results
 
-  -- how many results of server s there are: those handed out, and those kept
+  -- how many results of server s were found: those handed out, and those kept
   abbrev pub result_count : House W A g → ℕ → ℕ
   result_count h s = handed_of h s + length (results_of h s)
 
@@ -96,16 +96,16 @@ module _ {W A : Type 0} {g : Ghosts W} where
   abbrev pub KeepsResults : House W A g → House W A g → Type 0
   KeepsResults old new = (s : ℕ) → results_of new s ≡ results_of old s
 
-  -- The house made these steps: whatever history its core agreed with, it now agrees with that and then the steps; the rings
-  -- are the same; each server's messages among the steps were taken; and no result was handed out. Each step keeps what is on time
-  -- so, if it takes nobody's time.
+  -- The house made these steps. Each history that its core agreed with, followed by the steps, is one that its core
+  -- agrees with now. The rings are the same, each server's messages among the steps were taken, and no result was
+  -- handed out. If all was on time, each step that takes nobody's time keeps all on time.
   pub record Made (work : Meaning W) (old new : House W A g) (xs : List (Step W)) : Type 0 where
     pub steps : Follows work (core_of old) (core_of new) xs
     pub keeps_time : AllAllowed work (KeepsTime work) (core_of old) xs
     pub rings : rings_of new ≡ rings_of old
     pub seats : (s : ℕ) → TakesMessages (messages_of s xs) (seat_at old s) (seat_at new s)
 
-  -- the house looked at its rings, and nothing else
+  -- the house looked at its rings, and did nothing else
   pub record LooksOnly (old new : House W A g) : Type 0 where
     pub core : core_of new ≡ core_of old
     pub rings : rings_of new ≡ rings_of old
@@ -117,27 +117,27 @@ module _ {W A : Type 0} {g : Ghosts W} where
     pub rings : rings_of new ≡ rings_of old
     pub seats : (s : ℕ) → seat_at new s ≡ seat_at old s
 
-  -- the results of server s were handed out: none of them is kept, and they are counted; nothing else changed
+  -- the results of server s were handed out: none of them is kept, and all are counted; nothing else changed
   pub record HandsOutResults (s : ℕ) (old new : House W A g) : Type 0 where
     pub core : core_of new ≡ core_of old
     pub rings : rings_of new ≡ rings_of old
     pub seat : seat_at new s ≡ record (seat_at old s) { results = []; handed = result_count old s }
     pub others : (t : ℕ) → t ≢ s → seat_at new t ≡ seat_at old t
 
--- what is told of a server, by what the core tells: it refuses only where there is no such server
+-- the result of a read of a server, by the core's result, which refuses only if there is no such server
 abbrev pub told_answer : {T : Type 0} → Result T CoreError → Result T HouseError
 told_answer (Ok told) = Ok told
 told_answer (Err e) = Err house_error.NoSuchServer
 
 module _ {W A : Type 0} {g : Ghosts W} where
-  -- every job received is finished: the results of each server are what those jobs come to, in order, after the results that
-  -- were handed out
+  -- every job received is finished: the results of each server are the whole results of those jobs, in order, except
+  -- the first ones, which were handed out
   abbrev pub AllFinished : Meaning W → House W A g → Type 0
   AllFinished work h = (s : ℕ) → s < length (core_of h).faces → results_of h s ≡ drop (handed_of h s) (map (whole work) (jobs_among (received h s)))
 
 module _ {W A : Type 0} {g : Ghosts W} where
-  -- The house made some steps, each of which is allowed at its place, and they took n messages. No advance among them took
-  -- anybody's time, so from a house that is on time each step leaves all on time.
+  -- The house made some steps, each of which is allowed at its place, and the steps took n messages. No advance among
+  -- them took anybody's time. So from a house that is on time each step leaves all on time.
   pub record Moves (work : Meaning W) (allowed : History W → Step W → Type 0) (old new : House W A g) (n : ℕ) : Type 0 where
     pub steps : List (Step W)
     pub made : Made work old new steps
@@ -146,8 +146,8 @@ module _ {W A : Type 0} {g : Ghosts W} where
     pub on_time : AllOnTime work (core_of old) steps
     pub count : pops steps ≡ n
 
-  -- The same with a meter that may tell so: the house made some steps, each of which is allowed at its place; right after each unit it
-  -- was charged what the meter told of it, and nothing else was charged; and the steps took n messages.
+  -- The house made some steps, each allowed at its place, with a meter that may return what `may` allows. Right after
+  -- each unit it was charged what the meter returned for it, and nothing else was charged. The steps took n messages.
   pub record MovesBy (work : Meaning W) (may : ℕ → ℕ → Type 0) (allowed : History W → Step W → Type 0) (old new : House W A g) (n : ℕ) : Type 0 where
     pub moves : List (List (Step W))
     pub made : Made work old new (all_steps moves)
@@ -158,14 +158,14 @@ module _ {W A : Type 0} {g : Ghosts W} where
   pub record ServesOn (work : Meaning W) (old new : House W A g) : Type 0 where
     pub moves : (n : ℕ) × Moves work (MayServe work) old new n
 
-  -- the same with a meter
+  -- the house made some steps of serving, with a meter
   pub record ServesBy (work : Meaning W) (may : ℕ → ℕ → Type 0) (old new : House W A g) : Type 0 where
     pub moves : (n : ℕ) × MovesBy work may (MayServe work) old new n
 
-  -- What a poll of server s did, by its answer. The first four pop nothing: nothing is seen or the server is closed; a message
-  -- is seen, and the backlog is full; a message is seen, and the backlog is not full, but there is no memory; there is no such
-  -- server. Else the next message is popped: a job is accepted, as the number that it has among the jobs received; an end
-  -- closes the server.
+  -- What a poll of server s did, by its result. The first four pop nothing. Nothing: no message is seen or the server
+  -- is closed. Full: a message is seen, and the backlog is full. OutOfMemory: a message is seen, the backlog is not
+  -- full, and memory is refused. NoSuchServer: there is no such server. Otherwise the next message is popped. A job is
+  -- accepted, with the number that it has among the jobs received, and an end closes the server.
   abbrev pub Polled : Meaning W → House W A g → ℕ → Poll → House W A g → Type 0
   Polled work old s Nothing new = Made work old new [] × (s < length (core_of old).faces)
       × (((face_at (core_of old).faces s).closed ≡ true) ⊎ (known new s ≡ []))
@@ -182,7 +182,7 @@ module _ {W A : Type 0} {g : Ghosts W} where
     pub spare : 0 < (shelf_at h.collector s).spare
     pub next : 0 < length (known h s)
 
-  -- what a run did to the results, by its answer: a completion is put after those of its server
+  -- what a run did to the results, by its result: a completion is put after the results of its server
   abbrev pub Collects : Ran → House W A g → House W A g → Type 0
   Collects ran.Idle old new = KeepsResults old new
   Collects ran.ClockEnd old new = KeepsResults old new
@@ -190,12 +190,12 @@ module _ {W A : Type 0} {g : Ghosts W} where
   Collects (ran.Done c) old new = (results_of new c.server ≡ results_of old c.server ++ c.result ∷ [])
       × ((s : ℕ) → s ≢ c.server → results_of new s ≡ results_of old s)
 
-  -- of the jobs received for server s, that of number q comes to this result
+  -- job number q among those received for server s has this whole result
   pub record ComesTo (work : Meaning W) (h : House W A g) (s q result : ℕ) : Type 0 where
     pub told : slice_get (map (whole work) (jobs_among (received h s))) q ≡ Some result
 
-  -- The job that a run tells of is that of its number among those received. If it got a unit and is not done, it is the first that
-  -- its server holds, and comes to what that one comes to; a completion tells what it comes to.
+  -- The number in a run's result is the number of the job among those received. If the job got a unit and is not done,
+  -- it is the first that its server holds, with the same whole result. A completion gives the job's whole result.
   abbrev pub NamesJob : Meaning W → Ran → House W A g → Type 0
   NamesJob work ran.Idle h = Unit {0}
   NamesJob work ran.ClockEnd h = Unit {0}

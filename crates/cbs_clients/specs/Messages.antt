@@ -1,4 +1,4 @@
--- What is in a list of messages.
+-- What a list of messages contains.
 use Rattle.std.specs.Prelude.{Bool, true, false, List, [], ◌∷◌}
 use Rattle.cbs_clients.specs.declared.message.Message.{Message}
 use Rattle.cbs_clients.specs.declared.message.Message.TheVariants.{Job, End}

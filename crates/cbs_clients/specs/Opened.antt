@@ -23,7 +23,7 @@ open_refusal backlog ring =
     else None
 
 module _ {W A : Type 0} where
-  -- an end of a ring from which nothing was popped, and in which nothing was seen
+  -- an end of a ring from which nothing was popped, and in which no message was seen
   pub record IsNewEnd (c : Consumer (Message W) A AnyItems) : Type 0 where
     pub received : received c ≡ []
     pub known : known_items c ≡ []
@@ -34,8 +34,9 @@ module _ {W A : Type 0} {g : Ghosts W} where
     pub sent : sent_by c ≡ []
     pub free : free c ≡ slots
 
-  -- The house is one of this core, of at most 64 servers, with nothing received and no result; its clients are one for each server, in order of their
-  -- numbers, were opened with the house, and have sent nothing into their rings of so many slots.
+  -- The house has this core, of at most 64 servers, with nothing received and no result. It has one client for each
+  -- server, in order of their numbers. The clients were opened with the house, and have sent nothing into their rings
+  -- of so many slots.
   pub record HousesCore (core : CoreHeld W) (ring : ℕ) (h : House W A g) (cs : List (Client W A g)) : Type 0 where
     pub same : core_of h ≡ core
     pub few : length core.faces ≤ most_servers

@@ -1,4 +1,4 @@
--- The rings: which ring an end is of, and what a contract sees of the house's ends.
+-- The rings: to which ring an end belongs, and what a contract says about the house's ends.
 use Rattle.std.specs.Prelude.{ℕ, ◌≡◌, List, [], map, get_or}
 use mathlib.Core.List.{IsPrefix}
 use denote.RawPtr.{Ptr}
@@ -8,8 +8,8 @@ use Rattle.rtrb.specs.declared.consumer.Consumer.{Consumer}
 use Rattle.cbs_clients.specs.declared.message.Message.{Message}
 use Rattle.cbs_clients.specs.declared.rings.Rings.{Rings}
 
--- A ring: its memory, its allocator and the names by which proofs know it. That a producer and a consumer are the two ends of one
--- ring is an equation of two names.
+-- A ring: its memory, its allocator and the names by which proofs know it. A producer and a consumer are the two ends
+-- of one ring if their rings are equal.
 abbrev pub Ring : Type 0 → Type 0
 Ring A = Ptr × Ptr × (ℕ × (ℕ × ℕ)) × A
 
@@ -31,11 +31,11 @@ module _ {W A : Type 0} where
   abbrev pub received_in : Rings W A → ℕ → List (Message W)
   received_in r s = get_or (map received r.ends.items) s []
 
-  -- the messages that were seen in the ring of server s and not popped, oldest first
+  -- the messages that were seen in the ring of server s and not yet popped, oldest first
   abbrev pub known_in : Rings W A → ℕ → List (Message W)
   known_in r s = get_or (map known_items r.ends.items) s []
 
-  -- nothing was popped, and no message that was seen is lost
+  -- the house looked at its rings: nothing was popped, and no message seen before is lost
   pub record Looked (old new : Rings W A) : Type 0 where
     pub rings : rings_in new ≡ rings_in old
     pub received : (s : ℕ) → received_in new s ≡ received_in old s

@@ -1,4 +1,4 @@
--- What a sink is told.
+-- What a sink is given.
 use Rattle.std.specs.Prelude.{ℕ, ◌≡◌, eqb, List, [], ◌∷◌, ◌++◌, length, map}
 use Rattle.std.specs.List.{filter, range_with_len}
 use Rattle.cbs_job.specs.declared.completion.Completion.{Completion}
@@ -12,12 +12,12 @@ use Rattle.cbs_clients.specs.Houses.{results_of, result_count}
 abbrev pub completions_for : ℕ → List Completion → List Completion
 completions_for s cs = filter (λ c. eqb c.server s) cs
 
--- a sink was told of these completions, one after another; `hears` says what telling does to it
+-- a sink was given these completions, one after another; `hears` says what each does to the sink
 abbrev pub HearsEach : {S : Type 0} → (S → Completion → S → Type 0) → S → List Completion → S → Type 0
 HearsEach hears old [] new = new ≡ old
 HearsEach {S} hears old (c ∷ cs) new = (next : S) × hears old c next × HearsEach hears next cs new
 
--- a sink was told of what ran: of a completion, and of nothing else
+-- a sink was given what ran, if it was a completion, and nothing else
 abbrev pub HearsRun : {S : Type 0} → (S → Completion → S → Type 0) → Ran → S → S → Type 0
 HearsRun hears ran.Idle old new = new ≡ old
 HearsRun hears ran.ClockEnd old new = new ≡ old
@@ -25,8 +25,8 @@ HearsRun hears (ran.Unit s q) old new = new ≡ old
 HearsRun hears (ran.Done c) old new = hears old c new
 
 module _ {W A S : Type 0} {g : Ghosts W} where
-  -- A sink was told of what the house finished: of completions, one after another, such that the results of each server are
-  -- those before and then those of its completions, in order; and each has the number of its place among the results.
+  -- A sink was given the completions of the house, one after another. The results of each server are those before,
+  -- followed by those of its completions, in order. The number of each completion is its place among the results.
   pub record Tells (hears : S → Completion → S → Type 0) (old_house new_house : House W A g) (old new : S) : Type 0 where
     pub completions : List Completion
     pub heard : HearsEach hears old completions new

@@ -35,7 +35,7 @@ module _ {W : Type 0} where
   pops [] = 0
   pops (x ∷ xs) = pops_of x + pops xs
 
-  -- when serving makes a step: an advance as a drain makes it, and no charge
+  -- when serving may make a step: an advance as a drain makes it, and no charge
   abbrev pub MayServe : Meaning W → History W → Step W → Type 0
   MayServe work M (Submit s job) = Unit {0}
   MayServe work M Run = Unit {0}

@@ -29,7 +29,7 @@ popped_by poll.Full = 0
 popped_by poll.OutOfMemory = 0
 popped_by poll.NoSuchServer = 0
 
--- whether a poll saw a message for which there was no memory
+-- whether a poll saw a message but was out of memory for it
 abbrev pub lacks_memory : Poll → Bool
 lacks_memory poll.OutOfMemory = true
 lacks_memory (poll.Took q) = false
@@ -39,8 +39,8 @@ lacks_memory poll.Full = false
 lacks_memory poll.NoSuchServer = false
 
 module _ {W : Type 0} where
-  -- Each step takes a message of a server from `first` on and below `count`: at most one of each server, in the order of their
-  -- numbers. A poll that takes no message is no step.
+  -- Each step takes a message of a server numbered from `first` to below `count`: at most one of each server, in the
+  -- order of their numbers. A poll that takes no message is no step.
   abbrev pub ArePolls : ℕ → ℕ → List (Step W) → Type 0
   ArePolls first count [] = Unit {0}
   ArePolls first count (Submit s job ∷ xs) = (first ≤ s) × (s < count) × ArePolls (s + 1) count xs
@@ -50,13 +50,14 @@ module _ {W : Type 0} where
   ArePolls first count (Charge s n ∷ xs) = ⊥
 
 module _ {W A : Type 0} {g : Ghosts W} where
-  -- the house polled as many servers as there are answers, one after another, from server s on, and was answered so
+  -- the house polled servers one after another, from server s on, one for each of these results, and the polls had
+  -- these results
   abbrev pub Answered : Meaning W → ℕ → House W A g → List Poll → House W A g → Type 0
   Answered work s old [] new = new ≡ old
   Answered work s old (p ∷ ps) new = (next : House W A g) × Polled work old s p next × Answered work (s + 1) next ps new
 
-  -- The house polled its servers below `servers`, each once, in the order of their numbers. The polls took so many messages,
-  -- and it is told whether one of them saw a message for which there was no memory.
+  -- The house polled its servers below `servers`, each once, in the order of their numbers. The polls took so many
+  -- messages, and `out_of_memory` says whether one of them was out of memory for a message.
   pub record PollsEach (work : Meaning W) (servers : ℕ) (old new : House W A g) (took : ℕ) (out_of_memory : Bool) : Type 0 where
     pub answers : List Poll
     pub all : length answers ≡ servers
@@ -68,7 +69,8 @@ module _ {W A : Type 0} {g : Ghosts W} where
     pub count : pops polls ≡ took
 
 module _ {W A : Type 0} {g : Ghosts W} where
-  -- somebody was ready, and the house ran one unit, which was answered so and paid for by a meter that may tell so
+  -- a server was ready, and the house ran one unit with this result, and paid for it by a meter that may return what
+  -- `may` allows
   pub record RunsOne (work : Meaning W) (may : ℕ → ℕ → Type 0) (old new : House W A g) (told : Ran) : Type 0 where
     pub paid : List (Step W)
     pub pays : IsRunPaid may (core_of old).clock told paid
@@ -76,31 +78,32 @@ module _ {W A : Type 0} {g : Ghosts W} where
     pub useful : (M : History W) → Agrees work (core_of old) M → IsUseful work (world_after work M)
     pub answer : (M : History W) → Agrees work (core_of old) M → reply.Ran told ≡ reply_in work M Run
 
-  -- a job was held and nobody was ready, and the house advanced by the idle span, n ticks
+  -- a job was held and no server was ready, and the house advanced by the idle span, n ticks
   pub record Advances (work : Meaning W) (old new : House W A g) (n : ℕ) : Type 0 where
     pub made : Made work old new (Advance n ∷ [])
     pub needed : (M : History W) → Agrees work (core_of old) M → IsNeeded work (world_after work M) n
 
-  -- why the clock stays, by what is told: no job is held, or the clock is at its end with a job unfinished
+  -- why the clock stays, by what the run returned: no job is held, or the clock is at its end with a job unfinished
   abbrev pub StaysBy : Ran → House W A g → Type 0
   StaysBy ran.Idle h = HoldsNoJob (core_of h)
   StaysBy ran.ClockEnd h = IsAtEnd (core_of h)
   StaysBy (ran.Unit s q) h = ⊥
   StaysBy (ran.Done c) h = ⊥
 
-  -- what a turn does after its polls, by what it tells: it runs one unit, and pays for it; or it advances by n ticks; or it does nothing
+  -- what a turn does after its polls, by its result: it runs one unit and pays for it, or it advances by n ticks, or it
+  -- does nothing
   abbrev pub GoesOn : Meaning W → (ℕ → ℕ → Type 0) → House W A g → House W A g → Ran → ℕ → Type 0
   GoesOn work may old new told n =
       (RunsOne work may old new told × (n ≡ 0)) ⊎ (Advances work old new n × (told ≡ ran.Idle)) ⊎ ((new ≡ old) × StaysBy told old × (n ≡ 0))
 
-  -- a completion has the number of its place among the results of its server, of which it is the next
+  -- the number of a completion is its place among the results of its server, of which it is the next
   abbrev pub IsNumbered : Ran → House W A g → Type 0
   IsNumbered ran.Idle h = Unit {0}
   IsNumbered ran.ClockEnd h = Unit {0}
   IsNumbered (ran.Unit s q) h = Unit {0}
   IsNumbered (ran.Done c) h = c.seq ≡ result_count h c.server
 
-  -- the house took a turn and told this of it: it polled each server once, in the order of their numbers, and then went on
+  -- the house took a turn with this result: it polled each server once, in the order of their numbers, and then went on
   pub record TakesOwnTurn (work : Meaning W) (may : ℕ → ℕ → Type 0) (old new : House W A g) (turn : Turn) : Type 0 where
     pub between : House W A g
     pub polled : PollsEach work (length (core_of old).faces) old between turn.took turn.out_of_memory

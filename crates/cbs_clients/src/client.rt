@@ -1,4 +1,4 @@
-//! A client: its end of a ring.
+//! A client: the sending end of a ring.
 
 ghost use Rattle.std.specs.Prelude.{◌≡◌, ◌<◌, true, false, [], ◌∷◌, ◌++◌, length};
 ghost use Rattle.rtrb.specs.Ring.{sent, known_free};
@@ -15,8 +15,8 @@ use std::time::Clock;
 
 /// The client of one server. It sends jobs over a ring of its own, from any thread, and never waits.
 ///
-/// A client that is dropped ends, so its server closes once all that the client sent is taken. A slot of the
-/// ring is kept for that end. A client that has ended before sends nothing more when it is dropped.
+/// A client that is dropped ends, so its server closes once all that the client sent is taken. A slot of the ring is
+/// kept for that end. A client that ended before sends nothing more when it is dropped.
 pub struct Client<W: Work, A: Allocator = Global> {
     pub(crate) server: u16,
     // how many jobs were sent
@@ -41,7 +41,7 @@ impl<W: Work, A: Allocator> Drop for Client<W, A> {
     }
 }
 
-/// Sends the end of a client that goes away, unless the client has ended. The kept slot takes it.
+/// Sends the end for a client that is dropped, unless the client has ended. The kept slot takes the end.
 #[tactic(auto, using(crate::proofs::Messages::pushed))]
 fn end_at_last<W: Work, A: Allocator>(ended: bool, ring: &mut Producer<Message<W>, A>)
     requires marked { ended ≡ has_end (sent ring.old) }
@@ -75,7 +75,7 @@ impl<W: Work, A: Allocator> Client<W, A> {
     ghost use Rattle.cbs_clients.specs.Clients.{server_of, ring_of, sent_by, free, slots_of, HasSlot, HasNoSlot, SameClient};
     ghost use Rattle.cbs_clients.specs.declared.message.Message.TheVariants.{Job, End};
 
-    /// Returns the client of a server, at its end of a new ring.
+    /// Returns the client of a server, with its end of a new ring.
     pub(crate) fn new(server: u16, ring: Producer<Message<W>, A>) -> Client<W, A>
         requires { (sent ring ≡ []) × (0 < known_free ring) }
         ensures server { server_of result ≡ server }
@@ -106,7 +106,8 @@ impl<W: Work, A: Allocator> Client<W, A> {
     }
 
     /// Returns how many messages of the client wait in its ring, not taken yet: the slots that are not known to be
-    /// free. The client looks anew; while the house polls there may be fewer when the call is over.
+    /// free. The client reads the ring anew. If the house polls meanwhile, fewer messages may wait when the call
+    /// returns.
     pub fn waiting(&mut self) -> u64
         ensures looked { LooksAtRing self.old self.new }
         ensures value { result + free self.new ≡ slots_of self.new }
@@ -114,8 +115,8 @@ impl<W: Work, A: Allocator> Client<W, A> {
         (self.ring.capacity() - self.ring.slots()) as u64
     }
 
-    /// Returns whether the client's house was dropped. What the client sent before is then lost with the house,
-    /// but for what the house had taken. No contract speaks of the answer.
+    /// Returns whether the client's house was dropped. What the client sent is then lost with the house, except what
+    /// the house had taken. No contract speaks of the result.
     pub fn house_is_gone(&mut self) -> bool
         ensures looked { LooksAtRing self.old self.new }
     {
@@ -130,8 +131,8 @@ impl<W: Work, A: Allocator> Client<W, A> {
         self.ended
     }
 
-    /// Returns how many slots of the ring are free, as it is looked at now: so many messages will be taken, the
-    /// end among them. The house may free more at any time.
+    /// Returns how many slots of the ring are free, read anew: the ring will take this many messages, with the end
+    /// among them. The house may free more slots at any time.
     pub fn free(&mut self) -> u64
         ensures looked { LooksAtRing self.old self.new }
         ensures value { result ≡ free self.new }
@@ -139,7 +140,7 @@ impl<W: Work, A: Allocator> Client<W, A> {
         (self.ring.slots() - 1) as u64
     }
 
-    /// Returns whether a slot is free for the next message, with the kept slot left over.
+    /// Returns whether a slot is free for the next message, besides the kept slot.
     fn ring_has_slot(&mut self) -> bool
         ensures looked { LooksAtRing self.old self.new }
         ensures slot { IsTrue result ↔ (0 < free self.new) }
@@ -158,9 +159,8 @@ impl<W: Work, A: Allocator> Client<W, A> {
 
     /// Sends a job. Returns the job's number among the sent jobs of the client.
     ///
-    /// Refuses, in this order: [`SendError::Ended`] if the client has ended;
-    /// [`SendError::RingFull`] if the ring has no free slot, or the client has sent `u64::MAX`
-    /// jobs. The job then comes back, and nothing was sent.
+    /// Refuses, in this order: [`SendError::Ended`] if the client has ended; [`SendError::RingFull`] if the ring has no
+    /// free slot, or the client has sent `u64::MAX` jobs. A refusal hands the job back, and nothing was sent.
     #[tactic(auto, using(crate::proofs::Messages::pushed))]
     pub fn send(&mut self, task: Task<W>) -> Result<u64, SendRefused<W>>
         ensures { SendOf task self.old result self.new }
@@ -180,7 +180,7 @@ impl<W: Work, A: Allocator> Client<W, A> {
         Ok(self.send_reserved(task))
     }
 
-    /// Sends a job, for which a slot must be known to be free. Returns its number.
+    /// Sends a job, and returns its number. A slot must be known to be free for the job.
     #[tactic(auto, using(crate::proofs::Messages::pushed))]
     pub fn send_reserved(&mut self, task: Task<W>) -> u64
         requires unended { has_end (sent_by self.old) ≡ false }
@@ -196,11 +196,11 @@ impl<W: Work, A: Allocator> Client<W, A> {
         number
     }
 
-    /// Sends the end, which closes the server once the house takes it, after the jobs: after it the
-    /// client sends nothing.
+    /// Sends the end, which closes the server once the house takes it, after the jobs. After the end the client sends
+    /// nothing.
     ///
-    /// Refuses, in this order: [`SendError::Ended`] if the client has ended;
-    /// [`SendError::RingFull`] if the ring has no free slot. Then nothing was sent.
+    /// Refuses, in this order: [`SendError::Ended`] if the client has ended; [`SendError::RingFull`] if the ring has no
+    /// free slot. After a refusal nothing was sent.
     #[tactic(auto, using(crate::proofs::Messages::pushed))]
     pub fn end(&mut self) -> Result<(), SendError>
         ensures { EndOf self.old result self.new }
@@ -215,7 +215,7 @@ impl<W: Work, A: Allocator> Client<W, A> {
         Ok(())
     }
 
-    /// Sends the end, for which a slot must be known to be free.
+    /// Sends the end. A slot must be known to be free for the end.
     #[tactic(auto, using(crate::proofs::Messages::pushed))]
     pub fn end_reserved(&mut self)
         requires unended { has_end (sent_by self.old) ≡ false }
@@ -228,11 +228,12 @@ impl<W: Work, A: Allocator> Client<W, A> {
         self.ended = true;
     }
 
-    /// Sends a job as [`send`](Client::send), and tries again while the ring is full: so many times in all, at least
-    /// once. After each try that failed it yields, and sleeps for at most 2 milliseconds now and then.
+    /// Sends a job as [`send`](Client::send) does, and tries again while the ring is full. It tries `tries` times in
+    /// all, and at least once. After each try that failed it yields, and sleeps for at most 2 milliseconds now and
+    /// then.
     ///
-    /// Refuses as `send`: by [`SendError::Ended`] at once, and by [`SendError::RingFull`] after the last try. The job
-    /// then comes back, and nothing was sent.
+    /// Refuses as `send` does: by [`SendError::Ended`] at once, and by [`SendError::RingFull`] after the last try. A
+    /// refusal hands the job back, and nothing was sent.
     pub fn send_within<R: Clock>(
         &mut self,
         rt: &R,
@@ -253,11 +254,11 @@ impl<W: Work, A: Allocator> Client<W, A> {
         self.send(task)
     }
 
-    /// Sends the end as [`end`](Client::end), and tries again while the ring is full, as
+    /// Sends the end as [`end`](Client::end) does, and tries again while the ring is full, as
     /// [`send_within`](Client::send_within) does.
     ///
-    /// Refuses as `end`: by [`SendError::Ended`] at once, and by [`SendError::RingFull`] after the last try. Then
-    /// nothing was sent.
+    /// Refuses as `end` does: by [`SendError::Ended`] at once, and by [`SendError::RingFull`] after the last try. After
+    /// a refusal nothing was sent.
     pub fn end_within<R: Clock>(&mut self, rt: &R, tries: u64) -> Result<(), SendError>
         ensures { EndOf self.old result self.new }
     {

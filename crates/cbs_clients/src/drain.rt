@@ -1,4 +1,4 @@
-//! Running until no accepted job is unfinished.
+//! Runs until no accepted job is unfinished.
 
 use crate::error::HouseError;
 use crate::house::House;
@@ -14,12 +14,12 @@ impl<W: Work, A: Allocator> House<W, A> {
     ghost use Rattle.cbs_core.specs.Held.{HoldsJob, HoldsNoJob, IsAtEnd};
     ghost use Rattle.cbs_steps.specs.Continuations.{MayDrain};
 
-    /// Runs until no accepted job is unfinished. If nobody is ready it advances the clock by the idle span, so
-    /// that no time is lost; it takes no message. At `Ok` the results of each server, after those that were
-    /// handed out, are those of all its jobs received.
+    /// Runs until no accepted job is unfinished. If no server is ready it advances the clock by the idle span, so that
+    /// no time is lost. It takes no message. If it returns `Ok`, the results of each server are those of all its jobs
+    /// received, except the first ones, which were handed out.
     ///
-    /// Refuses by [`HouseError::ClockEnd`] if the clock is at [`LIMIT`] with a job unfinished.
-    /// The steps made stay made.
+    /// Refuses by [`HouseError::ClockEnd`] if the clock is at [`LIMIT`] with a job unfinished. The steps made stay
+    /// made.
     pub fn drain(&mut self) -> Result<(), HouseError>
         ensures moves { Moves W.meaning (MayDrain W.meaning) self.old self.new 0 }
         ensures on_time { IsHouseOnTime self.old → IsHouseOnTime self.new }
@@ -32,10 +32,11 @@ impl<W: Work, A: Allocator> House<W, A> {
         self.drain_metered(&mut NoMeter)
     }
 
-    /// Runs until no accepted job is unfinished, as [`drain`](House::drain), with a meter. After each unit its server is
-    /// charged what the meter tells, as by [`run_metered`](House::run_metered).
+    /// Runs until no accepted job is unfinished, as [`drain`](House::drain) does, with a meter. After each unit its
+    /// server is charged what the meter returns, as by [`run_metered`](House::run_metered).
     ///
-    /// Refuses by [`HouseError::ClockEnd`] when [`drain`](House::drain) does: the clock is at [`LIMIT`] with a job unfinished.
+    /// Refuses by [`HouseError::ClockEnd`] in the same case as [`drain`](House::drain): the clock is at [`LIMIT`] with
+    /// a job unfinished.
     pub fn drain_metered<M: Meter>(&mut self, meter: &mut M) -> Result<(), HouseError>
         ensures moves { MovesBy W.meaning M.may_tell (MayDrain W.meaning) self.old self.new 0 }
         ensures on_time { NeverCharges M.may_tell → IsHouseOnTime self.old → IsHouseOnTime self.new }

@@ -1,11 +1,11 @@
-//! Why a house or a client refuses.
+//! The reasons why a house or a client refuses.
 
 ghost use Rattle.std.specs.Prelude.{◌≡◌};
 
 use cbs_core::CoreError;
 use thiserror::Error;
 
-/// Why the house refuses a call.
+/// The reason why a house refuses a call.
 #[derive(Clone, Copy, Debug, PartialEq, Eq, Error)]
 pub enum HouseError {
     /// The backlog is not within 1 to 4096 jobs.
@@ -20,13 +20,13 @@ pub enum HouseError {
     /// No server has that number.
     #[error("there is no such server")]
     NoSuchServer = 4,
-    /// The clock would pass its end, or is there with a job unfinished.
+    /// The clock would pass its end, or stands there with a job unfinished.
     #[error("the clock would pass its end, 1000000000000 ticks, or stands there with a job unfinished")]
     ClockEnd = 5,
-    /// The clients did not send all, in as many rounds as they are given.
+    /// The clients did not send all their messages in the rounds that they are given.
     #[error("the clients did not send all in the rounds that they are given")]
     Stalled = 6,
-    /// The server did not run the last unit, or a tick has passed since that it was not charged.
+    /// The server did not run the last unit, or a tick has passed since that was not charged for the unit.
     #[error("the server did not run the last unit, or other ticks have passed since")]
     NotRunning = 7,
 }
@@ -56,7 +56,7 @@ impl HouseError {
         }
     }
 
-    /// Returns why the house refuses a charge, by why its core does.
+    /// Returns the house's error for an error of its core on a charge.
     pub(crate) fn of_charge(error: CoreError) -> HouseError
         ensures { result ≡ charge_error error }
     {
@@ -68,7 +68,7 @@ impl HouseError {
     }
 }
 
-/// Why a client sends no message.
+/// The reason why a client sends no message.
 #[derive(Clone, Copy, Debug, PartialEq, Eq, Error)]
 pub enum SendError {
     /// The client has ended.

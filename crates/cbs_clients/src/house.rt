@@ -1,4 +1,4 @@
-//! The house: the core with its ends of the rings, and the results.
+//! The house: the core with the house's ends of the rings, and the results.
 
 ghost use Rattle.cbs_clients.specs.HouseInvariant.{Housed};
 ghost use Rattle.cbs_rate.specs.Limits.{most_servers};
@@ -15,7 +15,7 @@ use std::alloc::{Allocator, Global};
 
 /// A house: it owns the core, takes the messages of the clients, and keeps the results.
 ///
-/// All its calls are made from one thread. It meets the clients at their rings alone.
+/// All its calls are made from one thread. The clients share only their rings with it.
 pub struct House<W: Work, A: Allocator = Global> {
     pub(crate) core: Core<W, A>,
     pub(crate) rings: Rings<W, A>,
@@ -23,7 +23,7 @@ pub struct House<W: Work, A: Allocator = Global> {
     ghost housed: { Housed W.meaning core rings collector },
 }
 
-// What owns a house calls this on each way out, in the place of the drops of all that a house holds.
+// An owner of a house calls this one function at each exit, instead of the drops of all fields.
 impl<W: Work, A: Allocator> Drop for House<W, A> {
     fn drop(self) {
         let House {
@@ -42,7 +42,7 @@ impl<W: Work, A: Allocator> House<W, A> {
     ghost use Rattle.cbs_clients.specs.Houses.{core_of, rings_of, received, known, KeepsResults, Made, LooksOnly, Polled, CanTake};
     ghost use Rattle.cbs_clients.specs.Meters.{charge_steps};
 
-    /// Returns how many servers there are, at most 64. Their numbers are those below it.
+    /// Returns how many servers there are, at most 64. They are numbered from 0.
     pub fn servers(&self) -> u16
         ensures value { result ≡ length (core_of self.now).faces }
         ensures few { result ≤ most_servers }
@@ -62,8 +62,8 @@ impl<W: Work, A: Allocator> House<W, A> {
 
     /// Returns how many messages wait in a client's ring. The client must have been opened with this house.
     ///
-    /// The caller holds both ends of the ring, so the number is exact: what was received and what
-    /// waits in the ring are, in order, all that the client sent.
+    /// The caller holds both ends of the ring, so the number is exact. What was received, followed by what waits in the
+    /// ring, is all that the client sent, in order.
     pub fn settle(&mut self, client: &mut Client<W, A>) -> u64
         requires { IsOpened (rings_of self.old) client.old }
         ensures looked { LooksOnly self.old self.new }
@@ -74,14 +74,17 @@ impl<W: Work, A: Allocator> House<W, A> {
         self.rings.settle(client) as u64
     }
 
-    /// Looks for the next message of a server, and takes it: a job is given to the core, an end closes
-    /// the server. There is room for a message before it is popped, so none is lost.
+    /// Looks for the next message of a server, and takes it: a job is given to the core, an end closes the server.
+    /// There is room for a message before it is popped, so no message is lost.
     ///
-    /// Returns, in this order: [`Poll::NoSuchServer`]; [`Poll::Nothing`] if the server is closed or
-    /// no message is seen; [`Poll::Full`] if the backlog of the server is full, whatever the next
-    /// message is; [`Poll::OutOfMemory`] if an allocation is refused. These pop nothing. Else
-    /// [`Poll::Took`] with the job's number, which is the one that the client was told; or
-    /// [`Poll::Closed`].
+    /// Returns, in this order:
+    /// - [`Poll::NoSuchServer`];
+    /// - [`Poll::Nothing`] if the server is closed or no message is seen;
+    /// - [`Poll::Full`] if the backlog of the server is full, whatever the next message is;
+    /// - [`Poll::OutOfMemory`] if an allocation is refused.
+    ///
+    /// These pop nothing. Else returns [`Poll::Took`] with the job's number, which is the one that the client's send
+    /// returned, or [`Poll::Closed`].
     pub fn poll(&mut self, server: u16) -> Poll
         ensures { PollOf W.meaning server self.old result self.new }
     {
@@ -95,26 +98,26 @@ impl<W: Work, A: Allocator> House<W, A> {
         self.take_seen(server)
     }
 
-    /// Polls the server of a client, as [`poll`](House::poll), while nothing can be sent, since the client is
-    /// at hand. It must have been opened with this house.
+    /// Polls the server of a client, as [`poll`](House::poll) does. The caller holds the client, so nothing can be sent
+    /// meanwhile. The client must have been opened with this house.
     ///
-    /// The answer is [`Poll::Nothing`] exactly if the server is closed or all that the client sent was
-    /// taken, as after a [`settle`](House::settle) that returned 0: then, however little memory there is.
+    /// Returns [`Poll::Nothing`] exactly if the server is closed or all that the client sent was taken. The second is
+    /// so after a [`settle`](House::settle) that returned 0, however little memory there is.
     pub fn poll_beside(&mut self, client: &mut Client<W, A>) -> Poll
         requires { IsOpened (rings_of self.old) client.old }
         ensures nothing { (result ≡ Poll.Nothing) ↔ (IsClosed (core_of self.old) (server_of client.old) ⊎ (sent_by client.old ≡ received self.old (server_of client.old))) }
         ensures poll { PollOf W.meaning (server_of client.old) self.old result self.new }
         ensures client { LooksAtRing client.old client.new }
     {
-        // A look at both ends shows all that was sent. Without it a poll may miss the newest messages.
+        // Reading both ends finds all that was sent. Without this a poll may miss the newest messages.
         if self.settle(client) == 0 {
             return Poll::Nothing;
         }
         self.poll(client.server())
     }
 
-    /// Takes the next message of a server, which was seen, if there is room for it. It is not inlined, since a poll of an
-    /// empty ring then saves no registers.
+    /// Takes the next message of a server, which was seen, if there is room for it. Returns the result of the poll. It
+    /// is not inlined, so that a poll of an empty ring saves no registers.
     #[inline(never)]
     fn take_seen(&mut self, server: u16) -> Poll
         requires { 0 < length (known self.old server) }
@@ -126,8 +129,8 @@ impl<W: Work, A: Allocator> House<W, A> {
         self.take_next(server)
     }
 
-    /// Makes room for the next message of a server, which was seen. Pops nothing. Returns what a poll answers, if there
-    /// is no room.
+    /// Makes room for the next message of a server, which was seen. Pops nothing. If there is no room, returns the
+    /// result of the poll, else `None`.
     fn prepare(&mut self, server: u16) -> Option<Poll>
         requires { 0 < length (known self.old server) }
         ensures made { Made W.meaning self.old self.new [] }
@@ -140,7 +143,7 @@ impl<W: Work, A: Allocator> House<W, A> {
             Ok(()) => {}
             Err(CoreError::Closed) => return Some(Poll::Nothing),
             Err(CoreError::BacklogFull) => return Some(Poll::Full),
-            // The server is there, so that memory alone is left.
+            // The server is there, so the only other error is that memory is refused.
             Err(_) => return Some(Poll::OutOfMemory),
         }
         match self.collector.reserve(server) {
@@ -149,7 +152,8 @@ impl<W: Work, A: Allocator> House<W, A> {
         }
     }
 
-    /// Pops the next message, which was seen, and gives it to the core, which has room for it.
+    /// Pops the next message, which was seen, and gives it to the core, which has room for it. Returns the result of
+    /// the poll.
     fn take_next(&mut self, server: u16) -> Poll
         requires { CanTake self.old server }
         ensures polled { Polled W.meaning self.old server result self.new }
@@ -169,8 +173,8 @@ impl<W: Work, A: Allocator> House<W, A> {
         }
     }
 
-    /// Runs one unit of the job at the front of the chosen server, as [`Core::run`]; a completion is
-    /// put in the results.
+    /// Runs one unit of the job at the front of the chosen server, as [`Core::run`] does, and returns what ran. A
+    /// completion is put in the results.
     #[inline(always)]
     pub fn run(&mut self) -> Ran
         ensures { RunOf W.meaning self.old result self.new }
@@ -182,8 +186,9 @@ impl<W: Work, A: Allocator> House<W, A> {
         ran
     }
 
-    /// Runs one unit, as [`run`](House::run), with a meter. If a unit ran, its server is charged the ticks that the meter
-    /// tells, as by [`charge`](House::charge). What the clock cannot hold is not charged, so the clock stops at [`LIMIT`].
+    /// Runs one unit, as [`run`](House::run) does, with a meter, and returns what ran. If a unit ran, its server is
+    /// charged the ticks that the meter returns, as by [`charge`](House::charge). Ticks past [`LIMIT`] are not charged,
+    /// so the clock stops there.
     pub fn run_metered<M: Meter>(&mut self, meter: &mut M) -> Ran
         ensures { RunBy W.meaning M.may_tell self.old result self.new }
     {
@@ -197,7 +202,7 @@ impl<W: Work, A: Allocator> House<W, A> {
         ran
     }
 
-    /// Charges the server that runs so many ticks, or as many as the clock can hold. For 0 ticks nothing is done.
+    /// Charges the server that runs `beyond` ticks, or as many as the clock can hold. For 0 ticks it does nothing.
     fn pay(&mut self, server: u16, beyond: u64)
         requires { is_running (core_of self.old) server ≡ true }
         ensures made { Made W.meaning self.old self.new (charge_steps server (min beyond (LIMIT - (core_of self.old).clock))) }
@@ -210,10 +215,9 @@ impl<W: Work, A: Allocator> House<W, A> {
         }
     }
 
-    /// Lets `n` ticks pass, by one jump, as [`Core::advance`].
+    /// Lets `n` ticks pass in one jump, as [`Core::advance`] does.
     ///
-    /// Refuses by [`HouseError::ClockEnd`] if the clock would pass [`LIMIT`], and then changes
-    /// nothing.
+    /// Refuses by [`HouseError::ClockEnd`] if the clock would pass [`LIMIT`], and then changes nothing.
     pub fn advance(&mut self, n: u64) -> Result<(), HouseError>
         ensures { AdvanceOf W.meaning n self.old result self.new }
     {
@@ -223,14 +227,16 @@ impl<W: Work, A: Allocator> House<W, A> {
         }
     }
 
-    /// Charges the server that ran the last unit the ticks that the unit took beyond its first, as [`Core::charge`]: as
-    /// many pass, and the server pays for them from its budgets. So a unit that takes long takes nobody's share.
+    /// Charges the server that ran the last unit the ticks that the unit took after its first tick, as [`Core::charge`]
+    /// does. As many ticks pass, and the server pays for them from its budgets. So a unit that takes long takes nothing
+    /// from another server's share.
     ///
-    /// Round up: a unit that took some of a tick took all of it. Charge after the unit and before the next poll: a job
-    /// that comes between may renew its server, which then pays for the unit from its new budget.
+    /// Round up: a unit that took part of a tick took all of it. Charge after the unit and before the next poll. A job
+    /// that comes between the two may renew its server, which then pays for the unit from its new budget.
     ///
-    /// Refuses by [`HouseError::NotRunning`] if there is no such server: nobody ran yet, or a tick has passed since that
-    /// was not charged. Refuses by [`HouseError::ClockEnd`] if the clock would pass [`LIMIT`]. Then nothing changed.
+    /// Refuses by [`HouseError::NotRunning`] if no server runs: none got a unit yet, or a tick has passed since that
+    /// was not charged for the unit. Refuses by [`HouseError::ClockEnd`] if the clock would pass [`LIMIT`]. A refusal
+    /// changes nothing.
     pub fn charge(&mut self, ticks: u64) -> Result<(), HouseError>
         ensures { ChargesLast W.meaning ticks self.old result self.new }
     {
@@ -240,11 +246,15 @@ impl<W: Work, A: Allocator> House<W, A> {
         }
     }
 
-    /// Charges a server, as [`charge`](House::charge), if it is the one that ran the last unit.
+    /// Charges a server, as [`charge`](House::charge) does, if it is the one that ran the last unit.
     ///
-    /// Refuses, in this order: [`HouseError::NoSuchServer`]; [`HouseError::NotRunning`], unless the server ran the last
-    /// unit, and no tick has passed since but what it was charged for it; [`HouseError::ClockEnd`] if the clock would
-    /// pass [`LIMIT`]. Then nothing changed.
+    /// Refuses, in this order:
+    /// - [`HouseError::NoSuchServer`];
+    /// - [`HouseError::NotRunning`], unless the server ran the last unit and no tick has passed since, except those
+    ///   charged for the unit;
+    /// - [`HouseError::ClockEnd`] if the clock would pass [`LIMIT`].
+    ///
+    /// A refusal changes nothing.
     pub fn charge_server(&mut self, server: u16, ticks: u64) -> Result<(), HouseError>
         ensures { ChargeOf W.meaning server ticks self.old result self.new }
     {
@@ -254,7 +264,7 @@ impl<W: Work, A: Allocator> House<W, A> {
         }
     }
 
-    /// Returns what a server was charged, in all and at most for one unit, or [`HouseError::NoSuchServer`].
+    /// Returns what a server was charged, in total and at most for one unit, or [`HouseError::NoSuchServer`].
     pub fn charges(&self, server: u16) -> Result<Charges, HouseError>
         ensures { ChargesOf W.meaning server self.now result }
     {
@@ -271,38 +281,38 @@ impl<W: Work, A: Allocator> House<W, A> {
         self.core.now()
     }
 
-    /// Returns for how many ticks nobody will be ready, as [`Core::idle_span`].
+    /// Returns for how many ticks no server will be ready, or `None` if one is ready now, as [`Core::idle_span`] does.
     ///
-    /// If no job is held it reaches to the clock's end, [`LIMIT`]: nobody is ready until a message is
-    /// taken. Whoever polls must not advance by it then, since nothing can run once the clock is at its
-    /// end. [`turn`](House::turn) advances by it only while a job is held.
+    /// If no job is held, the number reaches to the clock's end, [`LIMIT`]: no server is ready until a message is
+    /// taken. A caller that polls must not advance by it then. Nothing can run after the clock stands at its end.
+    /// [`turn`](House::turn) advances by the idle span only while a job is held.
     pub fn idle_span(&self) -> Option<u64>
         ensures { SpanOf W.meaning self.now result }
     {
         self.core.idle_span()
     }
 
-    /// Returns the tick by which every job that a server accepted so far is finished, as
-    /// [`Core::promised`], or `None` if all are finished or there is no such server.
+    /// Returns the tick by which every job that a server accepted so far is finished, as [`Core::promised`] does.
+    /// Returns `None` if all are finished or there is no such server.
     ///
-    /// It is kept if all are on time now, and no advance and no charge to come takes anybody's time. A house is on
-    /// time when it is opened. Each call keeps it so, but an [`advance`](House::advance) while somebody is ready, and
-    /// a [`charge`](House::charge). Calls with a meter make charges.
+    /// The tick is kept if all servers are on time now, and no advance and no charge to come takes anybody's time. A
+    /// house is on time when it is opened. Each call keeps it on time, except an [`advance`](House::advance) while a
+    /// server is ready, and a [`charge`](House::charge). Calls with a meter make charges.
     pub fn promised(&self, server: u16) -> Option<u128>
         ensures { PromiseOf W.meaning server self.now result }
     {
         self.core.promised(server)
     }
 
-    /// Returns the output so far of the job at the front of a server, as [`Core::front_output`]; `None` if it
-    /// has no unfinished job, and if there is no such server.
+    /// Returns the output so far of the job at the front of a server, as [`Core::front_output`] does. Returns `None` if
+    /// the server has no unfinished job, or if there is no such server.
     pub fn front_output(&self, server: u16) -> Option<u64>
         ensures { result ≡ front_output W.meaning (held_at (core_of self.now) server).jobs }
     {
         self.core.front_output(server)
     }
 
-    /// Returns what a server shows. Refuses by [`HouseError::NoSuchServer`].
+    /// Returns a server's view. Refuses by [`HouseError::NoSuchServer`] if there is no such server.
     pub fn view(&self, server: u16) -> Result<ServerView, HouseError>
         ensures { ViewOf W.meaning server self.now result }
     {

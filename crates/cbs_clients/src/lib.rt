@@ -1,4 +1,4 @@
-//! A house and its clients: what one thread does with the rings of all.
+//! A house and its clients: what one thread does with the rings of all clients.
 #![tactic(auto)]
 
 mod client;

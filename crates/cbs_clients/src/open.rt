@@ -1,4 +1,4 @@
-//! Opening a house with its clients.
+//! Opens a house with its clients.
 
 ghost use Rattle.std.specs.Prelude.{◌≡◌, ◌<◌, ◌≤◌, [], length, map, IfOk, IfErr};
 ghost use Rattle.std.specs.List.{All, range_with_len};
@@ -25,18 +25,19 @@ use cbs_rules::Modes;
 use rtrb::RingBuffer;
 use std::alloc::{AllocError, Allocator};
 
-/// Opens a house whose servers have the reservations of the plan and, by number, these modes, each
-/// with at most `backlog` unfinished jobs; and one client for each server, in order of their numbers,
-/// each with a ring of `ring` slots.
+/// Opens a house whose servers have the reservations of the plan and, by number, these modes, each with at most
+/// `backlog` unfinished jobs. Returns the house and one client for each server, in order of their numbers, each with a
+/// ring of `ring` slots.
 ///
-/// A client that is dropped ends, so its server closes once all that it sent is taken. Its ring has one slot
-/// more than `ring` for that end, so it is sent at a full ring too.
+/// A client that is dropped ends, so its server closes once all that the client sent is taken. The ring has one slot
+/// more than `ring` for that end, so the end is sent even if the ring is full.
 ///
 /// There must be a mode for each server of the plan.
 ///
-/// Refuses, in this order: [`HouseError::BadBacklog`] if the backlog is not within 1 to
-/// [`MAX_BACKLOG`]; [`HouseError::BadRing`] if the ring is not within 1 to [`MAX_RING`];
-/// [`HouseError::OutOfMemory`] if an allocation is refused.
+/// Refuses, in this order:
+/// - [`HouseError::BadBacklog`] if the backlog is not within 1 to [`MAX_BACKLOG`];
+/// - [`HouseError::BadRing`] if the ring is not within 1 to [`MAX_RING`];
+/// - [`HouseError::OutOfMemory`] if an allocation is refused.
 pub fn open_house<W: Work, A: Allocator + Copy>(
     alloc: A,
     plan: Plan,
@@ -58,9 +59,9 @@ pub fn open_house<W: Work, A: Allocator + Copy>(
     open_house_of(alloc, &plan, &modes, backlog, ring)
 }
 
-/// Opens a house with its clients as [`open_house`], of a plan and modes that stay where they are: each of them is up to
+/// Opens a house with its clients as [`open_house`] does, but borrows the plan and the modes. Each of them takes up to
 /// half a kilobyte, which a move would copy.
-// Neither this nor the next is inlined, so that no frame has all copies of a house on its way.
+// Neither this function nor the next is inlined, so that no stack frame holds all copies of a house at once.
 #[inline(never)]
 pub fn open_house_of<W: Work, A: Allocator + Copy>(
     alloc: A,
@@ -93,7 +94,7 @@ pub fn open_house_of<W: Work, A: Allocator + Copy>(
 }
 
 /// Returns a house of this core, which has made no step, and one client for each server. Refuses by
-/// [`HouseError::OutOfMemory`].
+/// [`HouseError::OutOfMemory`] if an allocation is refused.
 #[inline(never)]
 fn house_of<W: Work, A: Allocator + Copy>(
     alloc: A,
@@ -120,8 +121,8 @@ fn house_of<W: Work, A: Allocator + Copy>(
     Ok((house, clients))
 }
 
-/// Opens a ring for each of so many servers. Returns the house's ends, and the clients with theirs. Each ring
-/// has so many slots for what its client sends, and one that is kept for the end of a dropped client.
+/// Opens a ring for each of `servers` servers. Returns the house's ends, and the clients with theirs. Each ring has
+/// `slots` slots for what its client sends, and one more that is kept for the end of a dropped client.
 fn open_rings<W: Work, A: Allocator + Copy>(
     alloc: A,
     servers: u16,

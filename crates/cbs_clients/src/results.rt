@@ -16,12 +16,12 @@ impl<W: Work, A: Allocator> House<W, A> {
     ghost use Rattle.cbs_core.specs.Held.{held_at};
 
     /// Returns the results of a server that were not handed out, in the order of its jobs. Refuses by
-    /// [`HouseError::NoSuchServer`].
+    /// [`HouseError::NoSuchServer`] if there is no such server.
     pub fn results(&self, server: u16) -> Result<&[u64], HouseError>
         ensures ok { IfOk result (λ results. (server < length (core_of self.now).faces) × (results.now ≡ results_of self.now server)) }
         ensures error { IfErr result (λ error. (error ≡ HouseError.NoSuchServer) × (length (core_of self.now).faces ≤ server)) }
-        // At all times: with what the jobs held come to, they are what the jobs received come to, after the
-        // results that were handed out.
+        // At all times these results, then the whole results of the jobs held, are the whole results of the jobs
+        // received, except the first ones, which were handed out.
         ensures keeps { IfOk result (λ results. KeepsServer W.meaning (held_at (core_of self.now) server) (received self.now server) (handed_of self.now server) results.now) }
     {
         match self.collector.results(server) {
@@ -30,22 +30,22 @@ impl<W: Work, A: Allocator> House<W, A> {
         }
     }
 
-    /// Hands out the results of a server found so far, in the order of its jobs, and keeps none of them, so
-    /// that a house can serve for ever in bounded memory. All calls go on as before: the numbers of jobs do,
-    /// and [`results`](House::results) shows what comes from here on. So what the calls handed out, one
-    /// after another, is at all times a prefix of what the jobs of the server come to, in order.
+    /// Hands out the results of a server found so far, in the order of its jobs, and keeps none of them. So a house can
+    /// serve for ever in bounded memory. All calls go on as before: the numbers of jobs go on, and
+    /// [`results`](House::results) returns the results found from then on. So what the calls handed out, one after
+    /// another, is always a prefix of the whole results of the server's jobs, in order.
     ///
-    /// Memory is taken for the places of the results of jobs that are accepted and not finished, so that
-    /// [`run`](House::run) and [`drain`](House::drain) need none; if no job is held, none is asked for.
+    /// Memory is taken for the places of the results of jobs that are accepted and not finished. So [`run`](House::run)
+    /// and [`drain`](House::drain) need no memory. If no job is held, no memory is asked for.
     ///
-    /// Refuses, in this order: [`HouseError::NoSuchServer`]; [`HouseError::OutOfMemory`] if an allocation,
-    /// or a clone of the allocator, is refused. Then nothing changed.
+    /// Refuses, in this order: [`HouseError::NoSuchServer`]; [`HouseError::OutOfMemory`] if an allocation, or a clone
+    /// of the allocator, is refused. A refusal changes nothing.
     pub fn take_results(&mut self, server: u16) -> Result<Vec<u64, A>, HouseError>
     where
         A: Clone,
         ensures ok { IfOk result (λ results. results.items ≡ results_of self.old server) }
         ensures handed { OnOk result (HandsOutResults server self.old self.new) }
-        // What is handed out follows the results that were handed out before it.
+        // What is handed out follows the results that were handed out before.
         ensures front { IfOk result (λ results. IsPrefix results.items (drop (handed_of self.old server) (map (whole W.meaning) (jobs_among (received self.old server))))) }
         ensures rings { rings_of self.new ≡ rings_of self.old }
         ensures unchanged { OnErr result (SameHouse self.old self.new) }
@@ -60,9 +60,9 @@ impl<W: Work, A: Allocator> House<W, A> {
         }
     }
 
-    /// Drops the results of a server found so far, as if they were handed out; nothing if there is no such
-    /// server. No memory is taken: a house whose results are dropped after each completion serves for ever in
-    /// the places that it has.
+    /// Drops the results of a server found so far, as if they were handed out. Does nothing if there is no such server.
+    /// No memory is taken: a house whose results are dropped after each completion serves for ever in the places that
+    /// it has.
     pub fn discard_results(&mut self, server: u16)
         ensures discarded { HandsOutResults server self.old self.new }
     {

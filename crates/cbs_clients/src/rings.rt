@@ -25,8 +25,8 @@ impl<W: Work, A: Allocator> Rings<W, A> {
         self.ends.len()
     }
 
-    /// Returns whether no message is seen in a server's ring. It looks anew only if those that were seen before are taken,
-    /// since each look takes a line of the cache from the sender.
+    /// Returns whether no message is seen in a server's ring. It reads the ring anew only if all messages seen before
+    /// are taken, since each such read takes a cache line from the sender.
     #[tactic(auto, using(crate::proofs::RingLooks::ringed))]
     pub fn is_empty(&mut self, server: usize) -> bool
         requires { server < length (rings_in self.old) }
@@ -37,7 +37,7 @@ impl<W: Work, A: Allocator> Rings<W, A> {
         end.is_empty()
     }
 
-    /// Pops the next message of a server. One must have been seen.
+    /// Pops the next message of a server and returns it. The message must have been seen.
     pub fn take(&mut self, server: u16) -> Message<W>
         requires { 0 < length (known_in self.old server) }
         ensures rings { rings_in self.new ≡ rings_in self.old }
@@ -60,7 +60,7 @@ impl<W: Work, A: Allocator> Rings<W, A> {
         end.pop_known()
     }
 
-    /// Returns how many messages wait in the ring of a server, whose other end is at hand.
+    /// Returns how many messages wait in the ring of a server. The caller passes the other end of the ring.
     #[tactic(auto, using(crate::proofs::RingLooks::ringed))]
     fn beside(&mut self, server: usize, ring: &mut Producer<Message<W>, A>) -> usize
         requires within { server < length (rings_in self.old) }

@@ -11,16 +11,17 @@ use cbs_host::{Gate, Meter, NoMeter, OpenGate, Poll};
 use cbs_job::Work;
 use std::alloc::Allocator;
 
-/// What the polls of a turn came to.
+/// The results of the polls of a turn.
 #[derive(Clone, Copy)]
 pub struct Polls {
-    /// How many messages they took, of all servers.
+    /// The number of messages that the polls took, of all servers.
     pub took: u64,
-    /// Whether one saw a message for which there was no memory.
+    /// Whether a poll saw a message but was out of memory for it.
     pub out_of_memory: bool,
 }
 
-/// Polls each server once, in the order of their numbers, and tells the gate each answer.
+/// Polls each server once, in the order of their numbers, and passes each result to the gate. Returns what the polls
+/// did.
 pub fn poll_each<G: Gate, W: Work, A: Allocator>(gate: &G, house: &mut House<W, A>) -> Polls
     ensures polled { PollsEach W.meaning (length (core_of house.old).faces) house.old house.new result.took result.out_of_memory }
     ensures results { KeepsResults house.old house.new }
@@ -52,7 +53,7 @@ fn count(poll: Poll) -> u64
     }
 }
 
-/// Returns whether a poll saw a message for which there was no memory.
+/// Returns whether a poll saw a message but was out of memory for it.
 fn is_out_of_memory(poll: Poll) -> bool
     ensures { result ≡ lacks_memory poll }
 {
@@ -62,17 +63,17 @@ fn is_out_of_memory(poll: Poll) -> bool
     }
 }
 
-/// What a turn did.
+/// The result of a turn.
 #[derive(Clone, Copy, Debug, PartialEq, Eq)]
 pub struct Turn {
-    /// How many messages it took, ends included: at most one of each server.
+    /// The number of messages that the turn took, ends included: at most one of each server.
     pub took: u64,
-    /// Whether a poll saw a message for which there was no memory. The message stays in its ring.
+    /// Whether a poll saw a message but was out of memory for it. The message stays in its ring.
     pub out_of_memory: bool,
-    /// What ran: [`Ran::Idle`] if nobody was ready, and [`Ran::ClockEnd`] if the clock is at
-    /// its end with a job unfinished.
+    /// What ran: [`Ran::Idle`] if no server was ready, and [`Ran::ClockEnd`] if the clock is at its end with a job
+    /// unfinished.
     pub ran: Ran,
-    /// By how many ticks the clock was advanced, with nobody ready. The tick of a unit is not counted.
+    /// The ticks by which the clock was advanced, with no server ready. The tick of a unit is not counted.
     pub advanced: u64,
 }
 
@@ -84,19 +85,21 @@ impl<W: Work, A: Allocator> House<W, A> {
     ghost use Rattle.cbs_core.specs.Held.{HoldsJob};
 
     /// Takes one turn: polls each server once, in the order of their numbers, and then runs one unit, as
-    /// [`run`](House::run). If nobody is ready it advances the clock by the idle span, but only while
-    /// an accepted job is unfinished; if none is, or the clock is at [`LIMIT`], the clock stays.
+    /// [`run`](House::run) does. If no server is ready the turn advances the clock by the idle span, but only while an
+    /// accepted job is unfinished. If no job is unfinished, or the clock is at [`LIMIT`], the clock stays. Returns what
+    /// the turn did.
     ///
-    /// No advance takes anybody's time. Nothing is lost if a poll finds no memory: the message stays
-    /// in its ring, and the next turn polls again.
+    /// No advance takes anybody's time. Nothing is lost if a poll is out of memory: the message stays in its ring, and
+    /// the next turn polls again.
     pub fn turn(&mut self) -> Turn
         ensures { TurnOf W.meaning self.old result self.new }
     {
         self.turn_metered(&mut NoMeter)
     }
 
-    /// Takes one turn, as [`turn`](House::turn), with a meter. If a unit ran, its server is charged what the meter tells, as
-    /// by [`run_metered`](House::run_metered). These ticks are not counted in [`Turn::advanced`].
+    /// Takes one turn, as [`turn`](House::turn) does, with a meter, and returns what the turn did. If a unit ran, its
+    /// server is charged what the meter returns, as by [`run_metered`](House::run_metered). These ticks are not counted
+    /// in [`Turn::advanced`].
     pub fn turn_metered<M: Meter>(&mut self, meter: &mut M) -> Turn
         ensures { TurnBy W.meaning M.may_tell self.old result self.new }
     {
@@ -128,8 +131,8 @@ impl<W: Work, A: Allocator> House<W, A> {
         self.go_on(meter)
     }
 
-    /// Runs one unit if somebody is ready, and pays for it; else advances by the idle span. So the clock is later. Returns
-    /// what ran, and by how many ticks the clock was advanced.
+    /// Runs one unit if a server is ready, and pays for the unit. If none is ready, advances by the idle span. Both
+    /// move the clock. Returns what ran, and by how many ticks the clock was advanced.
     pub(crate) fn go_on<M: Meter>(&mut self, meter: &mut M) -> (Ran, u64)
         requires busy { HoldsJob (core_of self.old) }
         requires early { (core_of self.old).clock < LIMIT }

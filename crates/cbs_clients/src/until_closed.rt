@@ -1,4 +1,4 @@
-//! Running until every server is closed and every job is finished.
+//! Runs until every server is closed and every job is finished.
 
 ghost use Rattle.std.specs.Prelude.{◌≡◌, MatchResult, Some, None};
 ghost use Rattle.cbs_clients.specs.UntilClosed.{turn_stop};
@@ -22,15 +22,17 @@ impl<W: Work, A: Allocator> House<W, A> {
     ghost use Rattle.cbs_clients.specs.UntilClosed.{open_servers, AllClosed, IsOver, RunEnds, RunsTelling, IsWaiting, RunStops, TakesTurnOfRun};
     ghost use Rattle.cbs_clients.specs.Sinks.{Tells};
 
-    /// Takes turns ([`turn`](House::turn)) until every server is closed and every job is finished, and
-    /// tells the sink of each completion as it comes. After turns that did nothing it yields, and sleeps
-    /// for at most 2 milliseconds now and then; the runtime's clock serves for that alone.
+    /// Takes turns ([`turn`](House::turn)) until every server is closed and every job is finished. It passes each
+    /// completion to the sink as it comes. After turns that did nothing it yields, and sleeps for at most 2
+    /// milliseconds now and then. The runtime's clock serves for this alone.
     ///
-    /// Refuses by [`HouseError::OutOfMemory`] after the first turn in which a poll found no memory for a
-    /// message; by [`HouseError::ClockEnd`] after a turn that met the clock's end, [`LIMIT`], with a job
-    /// unfinished; and by [`HouseError::Stalled`] once `idle_turns` turns in a row (at least one) were
-    /// idle: the clock stood and no server was closed. The steps made stay made and nothing is lost: it
-    /// may be called again.
+    /// Refuses by:
+    /// - [`HouseError::OutOfMemory`] after the first turn in which a poll was out of memory for a message;
+    /// - [`HouseError::ClockEnd`] after a turn that met the clock's end, [`LIMIT`], with a job unfinished;
+    /// - [`HouseError::Stalled`] after `idle_turns` idle turns in a row (at least one). In an idle turn the clock
+    ///   stands and no server is closed.
+    ///
+    /// The steps made stay made, and nothing is lost: it may be called again.
     pub fn run_until_closed<R: Clock, S: Sink>(
         &mut self,
         rt: &R,
@@ -49,10 +51,10 @@ impl<W: Work, A: Allocator> House<W, A> {
     }
 
     /// Takes turns until every server is closed and every job is finished, as
-    /// [`run_until_closed`](House::run_until_closed), with a meter. After each unit its server is charged what the meter
-    /// tells, as by [`run_metered`](House::run_metered).
+    /// [`run_until_closed`](House::run_until_closed) does, with a meter. After each unit its server is charged what the
+    /// meter returns, as by [`run_metered`](House::run_metered).
     ///
-    /// Refuses by the errors of [`run_until_closed`](House::run_until_closed), and when it does.
+    /// The errors are those of [`run_until_closed`](House::run_until_closed), in the same cases.
     pub fn run_until_closed_metered<R: Clock, S: Sink, M: Meter>(
         &mut self,
         rt: &R,
@@ -87,14 +89,15 @@ impl<W: Work, A: Allocator> House<W, A> {
         Ok(())
     }
 
-    /// Returns whether every server is closed and every job is finished: nothing more will be taken, and nothing is to be done.
+    /// Returns whether every server is closed and every job is finished. Then no message will be taken and no job is
+    /// left to run.
     pub fn is_over(&self) -> bool
         ensures { IsTrue result ↔ IsOver (core_of self.now) }
     {
         self.are_all_closed() && !self.is_busy()
     }
 
-    /// Returns whether every server is closed. It looks no further than the first that is open.
+    /// Returns whether every server is closed. It reads no server after the first open one.
     fn are_all_closed(&self) -> bool
         ensures { IsTrue result ↔ AllClosed (core_of self.now) }
     {
@@ -106,7 +109,7 @@ impl<W: Work, A: Allocator> House<W, A> {
         true
     }
 
-    /// Returns whether every server is closed and every job is finished, if so many servers are open.
+    /// Returns whether every server is closed and every job is finished. `unclosed` is how many servers are open.
     fn is_over_with(&self, unclosed: u16) -> bool
         requires { unclosed ≡ open_servers (core_of self.now) }
         ensures over { IsTrue result ↔ IsOver (core_of self.now) }
@@ -129,8 +132,8 @@ impl<W: Work, A: Allocator> House<W, A> {
         open
     }
 
-    /// Takes a turn, and tells the sink of a completion. Returns whether the clock moved or a server was
-    /// closed. `unclosed` is how many servers are open, before and after.
+    /// Takes a turn, and passes a completion to the sink. Returns whether the clock moved or a server was closed, or
+    /// the error that stops the run. `unclosed` is how many servers are open, before and after.
     fn move_on<S: Sink, M: Meter>(
         &mut self,
         sink: &mut S,
@@ -156,8 +159,8 @@ impl<W: Work, A: Allocator> House<W, A> {
         Ok(later | (*unclosed < before))
     }
 
-    /// Returns how many servers are open after a turn that took so many messages, if `unclosed` were before it. A turn
-    /// that took none closed none, so nobody is looked at then.
+    /// Returns how many servers are open after a turn that took `took` messages, if `unclosed` were open before it. A
+    /// turn that took no message closed no server, so no server is read then.
     fn open_after(&self, took: u64, unclosed: u16) -> u16
         requires still { took ≡ 0 → unclosed ≡ open_servers (core_of self.now) }
         requires few { unclosed ≤ most_servers }
@@ -171,7 +174,7 @@ impl<W: Work, A: Allocator> House<W, A> {
     }
 }
 
-/// Tells the sink of what ran, if that is a completion.
+/// Passes what ran to the sink, if it is a completion.
 fn tell<S: Sink>(sink: &mut S, ran: Ran)
     ensures { HearsRun S.hears ran sink.old sink.new }
 {
@@ -180,7 +183,7 @@ fn tell<S: Sink>(sink: &mut S, ran: Ran)
     }
 }
 
-/// Returns why a run stops after a turn, if it does.
+/// Returns the error that stops a run after this turn, if there is one.
 fn stopped_by(turn: Turn) -> Result<(), HouseError>
     ensures { MatchResult result (λ _. turn_stop turn ≡ None) (λ error. turn_stop turn ≡ Some error) }
 {

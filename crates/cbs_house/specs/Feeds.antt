@@ -1,4 +1,4 @@
--- What a contract sees of a feed.
+-- What a contract says about a feed.
 use Rattle.std.specs.Prelude.{ℕ, ◌≡◌, ◌+◌, ◌≤◌, Bool, true, cond, List, [], ◌++◌, length, map}
 use Rattle.std.specs.List.{sum_by, AllZip}
 use mathlib.Core.List.{IsPrefix}
@@ -13,11 +13,11 @@ module _ {W A : Type 0} {g : Ghosts W} where
   abbrev pub client_of : Feed W A g → Client W A g
   client_of f = f.client
 
-  -- the jobs that the feed has not sent, in order
+  -- the jobs that the feed has not sent yet, in order
   abbrev pub unsent_jobs : Feed W A g → List W
   unsent_jobs f = f.jobs.items
 
-  -- the jobs that the feed's client sent, and then those that are left
+  -- the jobs that the feed's client sent, followed by those that are left
   abbrev pub all_jobs : Feed W A g → List W
   all_jobs f = jobs_among (sent_by f.client) ++ unsent_jobs f
 
@@ -25,7 +25,7 @@ module _ {W A : Type 0} {g : Ghosts W} where
   abbrev pub has_ended : Feed W A g → Bool
   has_ended f = has_end (sent_by f.client)
 
-  -- the client has not ended unless no job is left
+  -- the client has ended only if no job is left
   abbrev pub IsOrderly : Feed W A g → Type 0
   IsOrderly f = has_ended f ≡ true → unsent_jobs f ≡ []
 
@@ -34,19 +34,19 @@ module _ {W A : Type 0} {g : Ghosts W} where
     pub ended : has_ended f ≡ true
     pub none_left : unsent_jobs f ≡ []
 
-  -- how many messages the feed has still to send: its jobs, and then the end
+  -- how many messages the feed still has to send: its jobs, and then the end
   abbrev pub unsent : Feed W A g → ℕ
   unsent f = length (unsent_jobs f) + cond (has_ended f) 0 1
 
-  -- what every call keeps of a feed: its server and ring; all its jobs, sent or left, in order; what was sent, to which more
-  -- may be added behind; and that the client does not end before its jobs
+  -- What every call keeps of a feed: its server and ring, and all its jobs, sent or left, in order. The messages sent
+  -- before stay a prefix of those sent. The client does not end before its jobs are sent
   pub record KeepsFeed (old new : Feed W A g) : Type 0 where
     pub client : SameClient old.client new.client
     pub jobs : all_jobs new ≡ all_jobs old
     pub sent : IsPrefix (sent_by old.client) (sent_by new.client)
     pub orderly : IsOrderly old → IsOrderly new
 
-  -- the same of each of several feeds
+  -- KeepsFeed for each of several feeds
   unfoldable pub KeepsFeeds : List (Feed W A g) → List (Feed W A g) → Type 0
   KeepsFeeds old new = AllZip KeepsFeed old new
 
@@ -54,7 +54,7 @@ module _ {W A : Type 0} {g : Ghosts W} where
   abbrev pub SendsAtMost : ℕ → Feed W A g → Feed W A g → Type 0
   SendsAtMost n old new = length (sent_by new.client) ≤ length (sent_by old.client) + n
 
-  -- the same of each of several feeds
+  -- SendsAtMost for each of several feeds
   unfoldable pub EachSendsAtMost : ℕ → List (Feed W A g) → List (Feed W A g) → Type 0
   EachSendsAtMost n old new = AllZip (SendsAtMost n) old new
 
@@ -71,6 +71,6 @@ module _ {W A : Type 0} {g : Ghosts W} where
   abbrev pub all_sent : List (Feed W A g) → ℕ
   all_sent fs = sum_by (λ f. length (sent_by f.client)) fs
 
-  -- how many messages the feeds have still to send
+  -- how many messages the feeds still have to send
   abbrev pub all_unsent : List (Feed W A g) → ℕ
   all_unsent fs = sum_by unsent fs

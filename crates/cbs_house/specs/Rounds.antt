@@ -1,4 +1,4 @@
--- What a contract says of rounds, and of serving.
+-- What a contract says about rounds, and about serving.
 use Rattle.std.specs.Prelude.{ℕ, ◌≡◌, ◌≤◌, List, ◌++◌, drop, length, map, ◌<◌, [], ◌∷◌}
 use Rattle.std.specs.List.{All, AllByRecursion}
 use mathlib.Core.List.{IsPrefix}
@@ -28,7 +28,8 @@ use Rattle.cbs_steps.specs.declared.step.Step.{Step}
 use Rattle.cbs_steps.specs.declared.step.Step.TheVariants.{Run}
 use Rattle.cbs_clients.specs.Turns.{ArePolls}
 
--- one turn of a round: the messages that its polls took, when its run began, what that told, and the steps that paid for it
+-- one turn of a round: the messages that its polls took, the tick when its run began, the result of the run, and the
+-- steps that paid for the run
 pub record RoundTurn (W : Type 0) : Type 0 where
   pub polls : List (Step W)
   pub start : ℕ
@@ -36,33 +37,33 @@ pub record RoundTurn (W : Type 0) : Type 0 where
   pub paid : List (Step W)
 
 module _ {W : Type 0} where
-  -- the steps of a turn: those of its polls, and then one run, which is paid for
+  -- the steps of a turn: those of its polls, then one run, then the steps that pay for the run
   abbrev pub turn_steps : RoundTurn W → List (Step W)
   turn_steps t = t.polls ++ Run ∷ t.paid
 
-  -- the steps of turns, one after another
+  -- the steps of several turns, one after another
   abbrev pub steps_in : List (RoundTurn W) → List (Step W)
   steps_in [] = []
   steps_in (t ∷ ts) = turn_steps t ++ steps_in ts
 
-  -- a turn of so many servers with a meter that may tell so: each server was polled once, in the order of their numbers, and the
-  -- unit that ran then was paid for, if one ran
+  -- A turn of so many servers, with a meter that may return what `may` allows. Each server was polled once, in the
+  -- order of their numbers. If a unit ran then, it was paid for
   pub record IsTurn (may : ℕ → ℕ → Type 0) (servers : ℕ) (t : RoundTurn W) : Type 0 where
     pub polls : ArePolls 0 servers t.polls
     pub pays : IsRunPaid may t.start t.told t.paid
 
-  -- the run of a turn that was taken after M began at that tick, and told what the rules give
+  -- the run of a turn that was taken after M began at that tick, and its result is the one of the rules
   pub record RunsAfter (work : Meaning W) (M : History W) (t : RoundTurn W) : Type 0 where
     pub start : t.start ≡ (world_after work (M ⊕⊕ t.polls)).now
     pub answer : reply.Ran t.told ≡ reply_in work (M ⊕⊕ t.polls) Run
 
-  -- so did the runs of turns that were taken one after another
+  -- the runs of turns that were taken one after another began so and have such results
   abbrev pub EachRuns : Meaning W → History W → List (RoundTurn W) → Type 0
   EachRuns work M [] = Unit {0}
   EachRuns work M (t ∷ ts) = RunsAfter work M t × EachRuns work (M ⊕⊕ turn_steps t) ts
 
 module _ {W A : Type 0} {g : Ghosts W} where
-  -- the house took one turn with a meter that may tell so; the turn took n messages
+  -- the house took one turn, with a meter that may return what `may` allows; the turn took n messages
   pub record TakesTurn (work : Meaning W) (may : ℕ → ℕ → Type 0) (old new : House W A g) (n : ℕ) : Type 0 where
     pub turn : RoundTurn W
     pub is : IsTurn may (length (core_of old).faces) turn
@@ -70,7 +71,7 @@ module _ {W A : Type 0} {g : Ghosts W} where
     pub made : Made work old new (turn_steps turn)
     pub count : pops turn.polls ≡ n
 
-  -- the house took this many turns, one after another, which took n messages
+  -- the house took exactly this many turns, one after another, which took n messages
   pub record TakesExactly (work : Meaning W) (may : ℕ → ℕ → Type 0) (exactly : ℕ) (old new : House W A g) (n : ℕ) : Type 0 where
     pub turns : List (RoundTurn W)
     pub each : AllByRecursion (IsTurn may (length (core_of old).faces)) turns
@@ -79,9 +80,9 @@ module _ {W A : Type 0} {g : Ghosts W} where
     pub number : length turns ≡ exactly
     pub count : pops (steps_in turns) ≡ n
 
-  -- The house took turns, which took n messages: at most so many turns, and fewer only where all these servers are closed. They
-  -- make no advance, so if the meter never charges, no step of theirs takes anybody's time, and from a house that is on time each
-  -- leaves all on time.
+  -- The house took at most so many turns, which took n messages. The turns are fewer only if all these servers are
+  -- closed. The steps of the turns make no advance. So if the meter never charges, no step takes anybody's time, and
+  -- from a house that is on time each step leaves all on time.
   pub record TakesTurns (work : Meaning W) (may : ℕ → ℕ → Type 0) (most : ℕ) (servers : List ℕ) (old new : House W A g) (n : ℕ) : Type 0 where
     pub turns : ℕ
     pub within : turns ≤ most
@@ -91,48 +92,48 @@ module _ {W A : Type 0} {g : Ghosts W} where
     pub on_time : NeverCharges may → AllOnTime work (core_of old) (steps_in taken.turns)
 
 module _ {W A : Type 0} {g : Ghosts W} where
-  -- feeds that may be served by the house: at most 64, each with a client that was opened with the house
+  -- the house may serve these feeds: they are at most 64, each with a client that was opened with the house
   pub record Ready (h : House W A g) (fs : List (Feed W A g)) : Type 0 where
     pub few : length fs ≤ most_servers
     pub opened : AreOpened (rings_of h) (map client_of fs)
 
-  -- n messages of the client stand in its ring, behind those that were received, and the house has seen them
+  -- n messages of the client stand in its ring, after those that were received, and the house has seen them
   pub record Standing (h : House W A g) (c : Client W A g) (n : ℕ) : Type 0 where
     pub rest : List (Message W)
     pub sent : sent_by c ≡ received h (server_of c) ++ rest
     pub seen : IsPrefix rest (known h (server_of c))
     pub count : length rest ≡ n
 
-  -- at least what the feed's client sent was received for its server
+  -- all that the feed's client sent was received for its server, and perhaps more
   abbrev pub IsTaken : House W A g → Feed W A g → Type 0
   IsTaken h f = IsPrefix (sent_by f.client) (received h (server_of f.client))
 
-  -- all that the feed's client sent was received
+  -- what was received for the server is exactly what the feed's client sent
   abbrev pub IsSettled : House W A g → Feed W A g → Type 0
   IsSettled h f = received h (server_of f.client) ≡ sent_by f.client
 
-  -- the feed is done, and the results of its server are what all its jobs come to, in order, behind the results that were handed
-  -- out
+  -- The feed is done. The results of its server are the whole results of all its jobs, in order, except the first ones,
+  -- which were handed out
   pub record IsServed (work : Meaning W) (h : House W A g) (f : Feed W A g) : Type 0 where
     pub done : IsDone f
     pub results : results_of h (server_of f.client) ≡ drop (handed_of h (server_of f.client)) (map (whole work) (all_jobs f))
 
-  -- how the house stands where a round is not finished: by ClockEnd the clock is at its end with a job unfinished; of want of
-  -- memory nothing is said
+  -- What an error of an unfinished round says of the house. ClockEnd says that the clock is at its end with a job
+  -- unfinished. OutOfMemory says nothing of the house
   abbrev pub Halts : HouseError → House W A g → Type 0
   Halts OutOfMemory h = Unit {0}
   Halts ClockEnd h = IsAtEnd (core_of h)
   Halts Stalled h = ⊥
   Halts _ h = ⊥
 
-  -- rounds are finished, and yet not all is served: every job received is finished, and all that was sent was received, but not
-  -- every feed is done
+  -- All rounds are over, but not every feed is done, although every job received is finished and all that was sent was
+  -- received
   pub record IsStalled (h : House W A g) (fs : List (Feed W A g)) : Type 0 where
     pub drained : HoldsNoJob (core_of h)
     pub settled : All (IsSettled h) fs
     pub undone : ¬ All IsDone fs
 
-  -- how serving leaves house and feeds where it stops early
+  -- what the error of a refused serve says of the house and the feeds
   abbrev pub Stops : HouseError → House W A g → List (Feed W A g) → Type 0
   Stops OutOfMemory h fs = Unit {0}
   Stops ClockEnd h fs = IsAtEnd (core_of h)

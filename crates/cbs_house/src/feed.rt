@@ -1,4 +1,4 @@
-//! A client with the jobs that it has still to send.
+//! A client with the jobs that it still has to send.
 
 ghost use Rattle.std.specs.Prelude.{◌≡◌, MatchResult, length, map};
 ghost use Rattle.cbs_house.specs.Feeds.{client_of, unsent_jobs};
@@ -8,16 +8,16 @@ use cbs_job::{Task, Work};
 use std::alloc::{Allocator, Global};
 use std::collections::VecDeque;
 
-/// A client, and the jobs that it has still to send, in order. After them it ends.
+/// A client, and the jobs that it still has to send, in order. After the jobs the client ends.
 ///
-/// A feed that is dropped drops its client, which then ends: the jobs that were not sent are lost, and the server
+/// A feed that is dropped drops its client, which then ends. The jobs that were not sent are lost, and the server
 /// closes once all that was sent is taken.
 pub struct Feed<W: Work, A: Allocator = Global> {
     pub(crate) client: Client<W, A>,
     pub(crate) jobs: VecDeque<Task<W>, A>,
 }
 
-// One call on each way out of what owns a feed.
+// An owner of a feed calls this one function at each exit, instead of the drops of all fields.
 impl<W: Work, A: Allocator> Drop for Feed<W, A> {
     fn drop(self) {
         let Feed { client: _, jobs: _ } = self;
@@ -32,7 +32,7 @@ impl<W: Work, A: Allocator> Feed<W, A> {
     ghost use Rattle.cbs_clients.specs.Clients.{sent_by, HasNoSlot};
     ghost use Rattle.cbs_house.specs.Feeds.{client_of, unsent_jobs, has_ended, IsDone, KeepsFeed};
 
-    /// A feed of these jobs, in order. It takes no memory.
+    /// Returns a feed of these jobs, in order. It takes no memory.
     pub fn new(client: Client<W, A>, jobs: Vec<Task<W>, A>) -> Feed<W, A>
         ensures client { client_of result ≡ client }
         ensures left { unsent_jobs result ≡ jobs.items }
@@ -43,7 +43,7 @@ impl<W: Work, A: Allocator> Feed<W, A> {
         }
     }
 
-    /// The client, to look at it or to settle it.
+    /// Returns the client, to be read or settled.
     pub fn client(&mut self) -> &mut Client<W, A>
         ensures* writes_back { sem 𝓛 (Lends (the_row W.row A.row W.Work A.Allocator) (client_row W.row A.row W.Work A.Allocator) self.entry result (λ c. record self.old { client = c })) }
         ensures value { result.now ≡ client_of self.old }
@@ -51,21 +51,22 @@ impl<W: Work, A: Allocator> Feed<W, A> {
         &mut self.client
     }
 
-    /// How many jobs are not sent yet.
+    /// Returns how many jobs are not sent yet.
     pub fn left(&self) -> u64
         ensures { result ≡ length (unsent_jobs self.now) }
     {
         self.jobs.len() as u64
     }
 
-    /// Whether all is sent: no job is left, and the client has ended.
+    /// Returns whether all is sent: no job is left, and the client has ended.
     pub fn done(&self) -> bool
         ensures { IsTrue result ↔ IsDone self.now }
     {
         self.jobs.is_empty() && self.client.ended()
     }
 
-    /// One turn: asks the gate, and where it says true tries the next message. Whether one was sent.
+    /// Takes one turn: asks the gate, and if it returns true, tries the next message. Returns whether a message was
+    /// sent.
     pub(crate) fn turn<G: Gate>(&mut self, gate: &G) -> bool
         ensures kept { KeepsFeed self.old self.new }
         ensures count { length (sent_by self.new.client) ≡ length (sent_by self.old.client) + (if result then 1 else 0) }
@@ -88,7 +89,7 @@ impl<W: Work, A: Allocator> Feed<W, A> {
     }
 }
 
-/// Clients and lists of jobs of which no feeds were made, handed back.
+/// Clients and lists of jobs, handed back because no feeds were made of them.
 #[derive(Drop)]
 pub struct FeedsRefused<W: Work, A: Allocator = Global> {
     /// The clients, as they were given.
@@ -97,9 +98,9 @@ pub struct FeedsRefused<W: Work, A: Allocator = Global> {
     pub lists: Vec<Vec<Task<W>, A>, A>,
 }
 
-/// A feed for each client, with the list of jobs at its place. There are as many lists as clients.
+/// Returns a feed for each client, with the list of jobs at the client's place. There must be as many lists as clients.
 ///
-/// Where no memory is found for the list of feeds, the clients and the lists come back.
+/// If no memory is found for the list of feeds, the clients and the lists come back.
 pub fn feeds_of<W: Work, A: Allocator + Copy>(
     alloc: A,
     clients: Vec<Client<W, A>, A>,

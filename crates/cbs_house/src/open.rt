@@ -1,4 +1,4 @@
-//! Opening a house with its feeds.
+//! Opens a house with its feeds.
 
 ghost use Rattle.std.specs.Prelude.{◌≡◌, ◌⊎◌, Some, None, length, map, IfOk, MatchResult};
 ghost use Rattle.std.specs.List.{All, range_with_len};
@@ -24,15 +24,14 @@ pub struct OpenRefused<W: Work, A: Allocator = Global> {
     pub lists: Vec<Vec<Task<W>, A>, A>,
 }
 
-/// Opens a house as [`open_house`] does, and for each server, in order of their numbers, a feed of the
-/// list of jobs at its place. They are ready to be served.
+/// Opens a house as [`open_house`] does. Returns the house, and for each server, in order of their numbers, a feed of
+/// the list of jobs at its place. The feeds are ready to be served.
 ///
-/// There must be a mode and a list for each server of the plan. Both are conditions: a caller that reads
-/// its lists from elsewhere compares their number with `plan.len()` first, and has all of them still if
-/// one lacks.
+/// There must be a mode and a list for each server of the plan. Both are conditions. A caller that reads its lists from
+/// elsewhere compares their number with `plan.len()` first. If a list is missing, that caller still has all of them.
 ///
-/// Refuses by the errors of [`open_house`], in the same order; by [`HouseError::OutOfMemory`] also if no
-/// memory is found for the list of feeds. The lists come back then.
+/// Refuses by the errors of [`open_house`], in the same order, and by [`HouseError::OutOfMemory`] also if no memory is
+/// found for the list of feeds. The lists then come back.
 pub fn open_feeds<W: Work, A: Allocator + Copy>(
     alloc: A,
     plan: Plan,

@@ -1,4 +1,4 @@
-//! A round: the senders and the house at once.
+//! A round: the senders and the house take turns at once.
 
 ghost use Rattle.std.specs.Prelude.{◌≡◌, ◌+◌, ◌*◌, ◌≤◌, ◌↔◌, length, IsTrue};
 ghost use Rattle.std.specs.List.{All};
@@ -18,29 +18,30 @@ use cbs_job::Work;
 use std::thread::{Threads, join_mut};
 use std::time::Clock;
 
-/// How many messages a round moved, ends included.
+/// The messages that a round moved, ends included.
 #[derive(Clone, Copy, Debug, PartialEq, Eq)]
 pub struct Round {
-    /// How many the feeds sent.
+    /// The number of messages that the feeds sent.
     pub sent: u64,
-    /// How many the house took, of all servers.
+    /// The number of messages that the house took, from all servers' rings.
     pub took: u64,
 }
 
-/// Lets the senders of all feeds and the house take turns, all at once.
+/// Lets the senders of all feeds and the house take turns, all at once. Returns how many messages were sent and taken.
 ///
-/// A sender's turn asks the gate, and where it says true tries the next message once; it stops when
-/// its feed is done, or after `turns` turns. A turn of the house polls each server once, in order,
-/// and tells the gate each answer, and then runs once; it stops when the end of every feed was
-/// taken, or after `turns` turns. Nothing is refused: where a poll finds no memory it popped
-/// nothing, and the next turn polls again. Where the system makes no thread, the sides, or some
-/// senders, take their turns one after the other.
+/// A sender's turn asks the gate. If the gate returns true, the sender tries the next message once. A sender stops when
+/// its feed is done, or after `turns` turns.
 ///
-/// Behind turns that did nothing a side yields, and sleeps now and then, for at most 2 milliseconds.
-/// The runtime's clock serves for that alone: no time is read.
+/// A turn of the house polls each server once, in order, and passes each result to the gate. Then the turn runs once.
+/// The house stops when the end of every feed was taken, or after `turns` turns.
 ///
-/// There are at most 64 feeds, each with a client that was opened with this house; `turns` is at most
-/// 1000000000.
+/// Nothing is refused: a poll that is out of memory pops nothing, and the next turn polls again. If the system makes no
+/// thread, the two sides, or some senders, take their turns one after the other.
+///
+/// After turns that did nothing a side yields, and sleeps now and then, for at most 2 milliseconds. The runtime's clock
+/// serves for this alone: no time is read.
+///
+/// There are at most 64 feeds, each with a client that was opened with this house; `turns` is at most 1000000000.
 pub fn serve_round<R: Threads + Clock + Sync, G: Gate + Sync, W: Work + Send>(
     rt: &R,
     house: &mut House<W>,
@@ -62,10 +63,11 @@ pub fn serve_round<R: Threads + Clock + Sync, G: Gate + Sync, W: Work + Send>(
     serve_round_metered(rt, house, feeds, turns, gate, &mut NoMeter)
 }
 
-/// Lets the senders of all feeds and the house take turns, all at once, as [`serve_round`], with a meter. After each unit
-/// its server is charged what the meter tells, as by [`House::run_metered`].
+/// Lets the senders of all feeds and the house take turns, all at once, as [`serve_round`] does, with a meter. After
+/// each unit its server is charged what the meter returns, as by [`House::run_metered`]. Returns how many messages were
+/// sent and taken.
 ///
-/// The meter is asked on the thread that calls. There are at most 64 feeds, each with a client that was opened with this
+/// The meter is asked on the calling thread. There are at most 64 feeds, each with a client that was opened with this
 /// house; `turns` is at most 1000000000.
 pub fn serve_round_metered<R: Threads + Clock + Sync, G: Gate + Sync, W: Work + Send, M: Meter>(
     rt: &R,
@@ -93,7 +95,7 @@ pub fn serve_round_metered<R: Threads + Clock + Sync, G: Gate + Sync, W: Work + 
     Round { sent, took }
 }
 
-/// The servers of the feeds.
+/// Returns the servers of the feeds, in order, in the buffer `servers`.
 fn servers_of<'a, W: Work>(feeds: &[Feed<W>], servers: &'a mut [u16; 64]) -> &'a [u16]
     requires { length feeds.now ≤ most_servers }
     ensures { result.now ≡ servers_of feeds.now }
@@ -104,8 +106,8 @@ fn servers_of<'a, W: Work>(feeds: &[Feed<W>], servers: &'a mut [u16; 64]) -> &'a
     &servers[..feeds.len()]
 }
 
-// The two sides at once: the senders, and the house. A function of its own, so that what its
-// closures require is what it is given.
+// The two sides at once: the senders, and the house. A separate function: its closures require no more than its own
+// contract gives.
 fn both_sides<R: Threads + Clock + Sync, G: Gate + Sync, W: Work + Send, M: Meter>(
     rt: &R,
     gate: &G,
@@ -141,8 +143,8 @@ fn both_sides<R: Threads + Clock + Sync, G: Gate + Sync, W: Work + Send, M: Mete
     )
 }
 
-/// The turns of the house, until the wanted servers are closed. After those that take no message it rests, while a
-/// sender is at work. Returns how many messages it took.
+/// Takes the turns of the house, until the wanted servers are closed, or `turns` times. After turns that take no
+/// message the house rests, while a sender is at work. Returns how many messages the house took.
 fn house_turns<R: Clock, G: Gate, W: Work, M: Meter>(
     rt: &R,
     gate: &G,
@@ -176,14 +178,15 @@ fn house_turns<R: Clock, G: Gate, W: Work, M: Meter>(
     took
 }
 
-/// Whether all these servers are closed.
+/// Returns whether all these servers are closed.
 fn all_closed<W: Work>(house: &House<W>, servers: &[u16]) -> bool
     ensures { IsTrue result ↔ All (IsClosed (core_of house.now)) servers.now }
 {
     servers.iter().all(|server| house.is_closed(*server))
 }
 
-/// One turn of the house: it polls each server once, and runs once, and pays for the unit. How many messages it took.
+/// Takes one turn of the house: polls each server once, runs once, and pays for the unit. Returns how many messages the
+/// house took.
 fn house_turn<G: Gate, W: Work, M: Meter>(gate: &G, house: &mut House<W>, meter: &mut M) -> u64
     ensures turn { TakesTurn W.meaning M.may_tell house.old house.new result }
     ensures few { result ≤ length (core_of house.old).faces }

@@ -13,8 +13,8 @@ use cbs_job::Work;
 use std::thread::{Threads, join_mut};
 use std::time::Clock;
 
-/// One sender: takes turns until its feed is done. After those that send nothing it rests, while the house is at
-/// work. Returns how many messages it sent.
+/// Lets one sender take turns until its feed is done, or `turns` times. After turns that send nothing the sender rests,
+/// while the house is at work. Returns how many messages it sent.
 fn send_turns<R: Clock, W: Work, G: Gate>(
     rt: &R,
     feed: &mut Feed<W>,
@@ -42,7 +42,8 @@ fn send_turns<R: Clock, W: Work, G: Gate>(
     sent
 }
 
-/// The senders of all feeds, each in a part of its own of the joins. Returns how many messages they sent.
+/// Lets the senders of all feeds take turns at once, each in its own branch of a tree of joins. Returns how many
+/// messages they sent.
 #[cycle(senders)]
 pub fn send_all<R: Threads + Clock + Sync, G: Gate + Sync, W: Work + Send>(
     rt: &R,
@@ -72,8 +73,7 @@ pub fn send_all<R: Threads + Clock + Sync, G: Gate + Sync, W: Work + Send>(
     a + b
 }
 
-// The senders of two parts, at once. A function of its own, so that what its closures require is
-// what it is given.
+// The senders of two parts, at once. A separate function: its closures require no more than its own contract gives.
 #[cycle(senders)]
 fn send_both<R: Threads + Clock + Sync, G: Gate + Sync, W: Work + Send>(
     rt: &R,

@@ -1,4 +1,4 @@
-//! Serving feeds to their end.
+//! Serves feeds to their end.
 
 ghost use Rattle.std.specs.Prelude.{ℕ, suc, ◌≡◌, ◌≢◌, ◌+◌, ◌≤◌, ◌↔◌, true, length, IsTrue, IfOk, OnOk, IfErr, MatchResult};
 ghost use Rattle.std.specs.List.{All};
@@ -17,24 +17,26 @@ use cbs_job::Work;
 use std::thread::Threads;
 use std::time::Clock;
 
-/// How many turns each round of serving has.
+/// The number of turns in each round of serving.
 const TURNS: u64 = 10_000;
 
-/// Serves the feeds until each is done and all its jobs are finished: the results of its server, behind
-/// those that were handed out, are then those of all its jobs, in order, each once, whatever the threads did.
+/// Serves the feeds until each is done and all its jobs are finished. The results of its server are then those of all
+/// its jobs, in order and each once, except the first ones, which were handed out. This holds whatever the threads did.
 ///
-/// It makes rounds of 10000 turns ([`serve_round`]). After each it takes what stands in the rings,
-/// and drains; the gate is not told of the polls that it makes then. With no feed it makes one round,
-/// and drains what the house holds.
+/// Serving makes rounds of 10000 turns ([`serve_round`]). After each round it takes what stands in the rings, and
+/// drains. The gate does not see the polls of that part. With no feed, serving makes one round, and drains what the
+/// house holds.
 ///
-/// Refuses by [`HouseError::OutOfMemory`] where there is no memory to take what stands in a ring; by
-/// [`HouseError::ClockEnd`] where the clock stands at its end with a job unfinished; and by
-/// [`HouseError::Stalled`] where that is not enough after one round more than the feeds had messages
-/// to send. No job is lost then: each is in its feed, its ring, the core or the results, and the
-/// feeds may be served again.
+/// Refuses by:
+/// - [`HouseError::OutOfMemory`] if there is no memory to take what stands in a ring;
+/// - [`HouseError::ClockEnd`] if the clock stands at its end with a job unfinished;
+/// - [`HouseError::Stalled`] if a feed is not done after one round more than the feeds had messages to send.
 ///
-/// There are at most 64 feeds, each with a client that was opened with this house. A feed whose client
-/// ended with jobs left is never done.
+/// A refusal loses no job. Each job is in its feed, its ring, the core or the results, and the feeds may be served
+/// again.
+///
+/// There are at most 64 feeds, each with a client that was opened with this house. A feed whose client ended with jobs
+/// left is never done.
 pub fn serve<R: Threads + Clock + Sync, G: Gate + Sync, W: Work + Send>(
     rt: &R,
     house: &mut House<W>,
@@ -53,10 +55,10 @@ pub fn serve<R: Threads + Clock + Sync, G: Gate + Sync, W: Work + Send>(
     serve_metered(rt, house, feeds, gate, &mut NoMeter)
 }
 
-/// Serves the feeds until each is done and all its jobs are finished, as [`serve`], with a meter. After each unit its
-/// server is charged what the meter tells, as by [`House::run_metered`].
+/// Serves the feeds until each is done and all its jobs are finished, as [`serve`] does, with a meter. After each unit
+/// its server is charged what the meter returns, as by [`House::run_metered`].
 ///
-/// The meter is asked on the thread that calls. Refuses by the errors of [`serve`], and when it does.
+/// The meter is asked on the calling thread. The errors are those of [`serve`], in the same cases.
 ///
 /// There are at most 64 feeds, each with a client that was opened with this house.
 pub fn serve_metered<R: Threads + Clock + Sync, G: Gate + Sync, W: Work + Send, M: Meter>(
@@ -84,7 +86,7 @@ pub fn serve_metered<R: Threads + Clock + Sync, G: Gate + Sync, W: Work + Send, 
     Err(HouseError::Stalled)
 }
 
-/// How many rounds feeds are given: one, and one for each message that they have still to send.
+/// Returns how many rounds the feeds are given: one, and one for each message that they still have to send.
 fn rounds_for<W: Work>(feeds: &[Feed<W>]) -> u128
     requires { length feeds.now ≤ most_servers }
     ensures { result ≡ all_unsent feeds.now + 1 }
@@ -99,7 +101,7 @@ fn rounds_for<W: Work>(feeds: &[Feed<W>]) -> u128
     rounds
 }
 
-/// Takes and finishes what a round left. Whether all is served.
+/// Takes and finishes what a round left. Returns whether all feeds are done, or the error that stopped it.
 fn finish_round<W: Work, M: Meter>(
     house: &mut House<W>,
     feeds: &mut [Feed<W>],
@@ -120,7 +122,7 @@ fn finish_round<W: Work, M: Meter>(
     Ok(all_done(feeds))
 }
 
-/// Takes what stands in the rings of the feeds.
+/// Takes what stands in the rings of the feeds. Returns the error that stopped it, if there is one.
 fn take_rest<W: Work, M: Meter>(
     house: &mut House<W>,
     feeds: &mut [Feed<W>],
@@ -139,7 +141,7 @@ fn take_rest<W: Work, M: Meter>(
     Ok(())
 }
 
-/// Takes what stands in the ring of one feed.
+/// Takes what stands in the ring of one feed. Returns the error that stopped it, if there is one.
 fn take_ring<W: Work, M: Meter>(
     house: &mut House<W>,
     feed: &mut Feed<W>,
@@ -157,7 +159,8 @@ fn take_ring<W: Work, M: Meter>(
     Ok(())
 }
 
-/// Takes the next message of a client, and drains first where the backlog of its server is full.
+/// Takes the next message of a client, and drains first if the backlog of its server is full. Returns the error that
+/// stopped it, if there is one.
 fn take_message<W: Work, M: Meter>(
     house: &mut House<W>,
     client: &Client<W>,
@@ -178,7 +181,7 @@ fn take_message<W: Work, M: Meter>(
     }
 }
 
-/// Whether a poll found memory.
+/// Returns [`HouseError::OutOfMemory`] if the poll found no memory, else `Ok`.
 fn memory_for(poll: Poll) -> Result<(), HouseError>
     ensures { MatchResult result (λ _. poll ≢ Poll.OutOfMemory) (λ error. error ≡ HouseError.OutOfMemory) }
 {
@@ -188,8 +191,7 @@ fn memory_for(poll: Poll) -> Result<(), HouseError>
     }
 }
 
-/// Settles all feeds, whose rings were emptied. Nothing is popped, so that what is seen of one ring
-/// stays.
+/// Settles all feeds, whose rings were emptied. Nothing is popped, so what the house has seen of each ring stays.
 fn settle_all<W: Work>(house: &mut House<W>, feeds: &mut [Feed<W>])
     requires ready { Ready house.old feeds.old }
     requires taken { All (IsTaken house.old) feeds.old }
@@ -203,7 +205,7 @@ fn settle_all<W: Work>(house: &mut House<W>, feeds: &mut [Feed<W>])
     }
 }
 
-/// How many messages stand in the ring of a feed.
+/// Settles one feed. Returns how many messages stand in its ring.
 fn settle_feed<W: Work>(house: &mut House<W>, feed: &mut Feed<W>) -> u64
     requires opened { IsOpened (rings_of house.old) feed.old.client }
     ensures feed { KeepsFeed feed.old feed.new }
@@ -214,7 +216,7 @@ fn settle_feed<W: Work>(house: &mut House<W>, feed: &mut Feed<W>) -> u64
     house.settle(&mut feed.client)
 }
 
-/// Whether all feeds are done.
+/// Returns whether all feeds are done.
 fn all_done<W: Work>(feeds: &[Feed<W>]) -> bool
     ensures { IsTrue result ↔ All IsDone feeds.now }
 {

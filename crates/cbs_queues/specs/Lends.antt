@@ -1,4 +1,4 @@
--- What lists end as, where a `&mut` to the first value of one is lent.
+-- What the lists hold after a mutable borrow of the first value of one list ends.
 use Rattle.std.specs.Prelude.{ℕ, ◌∷◌, drop}
 use Rattle.std.specs.Borrow.{Lends, Fml, RattleType, MutBor}
 use Rattle.std.specs.declared.alloc.Allocator.{Ghosts}
@@ -6,7 +6,7 @@ use Rattle.cbs_lists.specs.Lists.{changed_at}
 use Rattle.cbs_queues.specs.Queues.{Queued}
 use Rattle.cbs_queues.specs.contracts.chains.Chains.{the_row}
 
--- with another first value in the list of s
+-- the queues with another first value in the list of s
 abbrev pub with_first : {T : Type 0} → Queued T → ℕ → T → Queued T
 with_first q s w = record q { lists = changed_at (λ values. w ∷ drop 1 values) q.lists s }
 

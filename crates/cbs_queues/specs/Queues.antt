@@ -1,11 +1,11 @@
--- What is seen of the queues of jobs: the list of each server, and for how many jobs more there is room.
+-- What a contract says about the queues of jobs: the list of each server, and for how many more jobs there is room.
 use Rattle.std.specs.Prelude.{◌≡◌, ◌≤◌, ◌<◌, ℕ, ◌+◌, ◌%◌, ◌^◌, eqb, if◌then◌else◌, List, [], ◌∷◌, map, length, drop, get_or, Option, Some, None}
 use Rattle.std.specs.List.{sum_by, AllByRecursion}
 use Rattle.cbs_rate.specs.Limits.{most_backlog, most_units}
 use Rattle.cbs_job.specs.Work.{Meaning}
 use Rattle.cbs_queues.specs.declared.queues.QueuedJob.{QueuedJob}
 
--- the queue of each server, and for each server how many more jobs fit with no allocation
+-- the queue of each server, and for each server how many more jobs fit without an allocation
 pub record Queued (W : Type 0) : Type 0 where
   pub lists : List (List W)
   pub rooms : List ℕ
@@ -19,37 +19,38 @@ module _ {W : Type 0} where
   abbrev pub jobs_of : List (QueuedJob W) → List W
   jobs_of queue = map (λ queued. queued.job) queue
 
-  -- what was taken in with each job, and what is left of those behind it, is what its server has taken in
+  -- For each job, the units taken in up to it, and the units left of the jobs after it, are what its server has taken
+  -- in, modulo 2^64
   abbrev pub AreCounted : Meaning W → List (QueuedJob W) → ℕ → Type 0
   AreCounted work [] total = Unit
   AreCounted work (first ∷ behind) total = ((first.taken_in + sum_by work.left (jobs_of behind)) % 2 ^ 64 ≡ total) × AreCounted work behind total
 
-  -- a queue whose server has taken in so many units: each job behind the first has no more units than a task may have,
-  -- and there are no more jobs than a backlog holds
+  -- A queue whose server has taken in so many units. Each job after the first has at most the units that a task may
+  -- have, and there are at most as many jobs as a backlog holds
   pub record IsCounted (work : Meaning W) (queue : List (QueuedJob W)) (total : ℕ) : Type 0 where
     pub counted : AreCounted work queue total
     pub short : AllByRecursion (λ job. work.left job ≤ most_units) (jobs_of (drop 1 queue))
     pub few : length queue ≤ most_backlog
 
-  -- the jobs after a unit of the first, which goes where the unit was its last
+  -- the jobs after a unit of the first job, which leaves if the unit was its last
   abbrev pub jobs_run : Meaning W → List W → List W
   jobs_run work [] = []
   jobs_run work (job ∷ jobs) = if eqb (work.left (work.after job)) 0 then jobs else work.after job ∷ jobs
 
-  -- the output of the first job after a unit, where the unit was its last
+  -- the output of the first job after a unit, if the unit was its last
   abbrev pub result_run : Meaning W → List W → Option ℕ
   result_run work [] = None
   result_run work (job ∷ jobs) = if eqb (work.left (work.after job)) 0 then Some (work.output (work.after job)) else None
 
--- how many more jobs of server s fit with no allocation
+-- how many more jobs of server s fit without an allocation
 abbrev pub room_of : List ℕ → ℕ → ℕ
 room_of rooms s = get_or rooms s 0
 
--- a server that had room for a job has room for one still
+-- a server that had room for a job still has room for one
 abbrev pub KeepsRoom : List ℕ → List ℕ → Type 0
 KeepsRoom old new = (t : ℕ) → 0 < room_of old t → 0 < room_of new t
 
--- the output so far of the first of some jobs, if there is one
+-- the output so far of the first of these jobs, if there is one
 abbrev pub front_output : {W : Type 0} → Meaning W → List W → Option ℕ
 front_output work [] = None
 front_output work (job ∷ jobs) = Some (work.output job)

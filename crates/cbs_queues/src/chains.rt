@@ -11,14 +11,14 @@ use slab::Slab;
 use std::alloc::{AllocError, Allocator, Global};
 use std::marker::Model;
 
-/// A value with the key of the value behind it, which the last of a list does not use.
+/// A value with the key of the value after it. The last node of a list does not use its key.
 #[derive(Drop)]
 struct Node<T> {
     value: T,
     next: usize,
 }
 
-/// The keys of the first and the last value of a list, which an empty one does not use.
+/// The keys of the first and the last value of a list, and its length. An empty list does not use the keys.
 #[derive(Clone, Copy)]
 struct Ends {
     head: usize,
@@ -26,7 +26,7 @@ struct Ends {
     len: usize,
 }
 
-/// Lists of values, one for each server. Each is a chain of keys in the one slab that holds all values.
+/// Lists of values, one for each server. Each list is a chain of keys in the one slab that holds all values.
 #[derive(Drop)]
 pub struct Chains<T, A: Allocator = Global> {
     nodes: Slab<Node<T>, A>,
@@ -48,7 +48,7 @@ impl<T, A: Allocator> Model for Chains<T, A> {
 impl<T> Node<T> {
     ghost use Rattle.cbs_queues.specs.contracts.chains.Node.{the_row};
 
-    /// The value, to be changed in place.
+    /// Returns the value, to be changed in place.
     fn value_mut(&mut self) -> &mut T
         ensures* lends { sem 𝓛 (Lends (the_row T.row) T.row self.entry result (λ w. record { value = w; next = self.old.next })) }
         ensures value { result.now ≡ self.old.value }
@@ -60,7 +60,7 @@ impl<T> Node<T> {
 impl<T: Drop, A: Allocator> Chains<T, A> {
     ghost use Rattle.cbs_queues.specs.Lends.{lends_first};
 
-    /// An empty list for each of so many servers.
+    /// Returns an empty list for each of so many servers, or the error if an allocation is refused.
     pub fn new(alloc: &A, servers: u16) -> Result<Self, AllocError>
     where
         A: Clone,
@@ -78,7 +78,8 @@ impl<T: Drop, A: Allocator> Chains<T, A> {
         })
     }
 
-    /// Makes room for one more value. It is the next one's, of whatever server.
+    /// Makes room for one more value. The next value pushed takes the room, for whichever server. Returns the error if
+    /// an allocation is refused.
     pub fn reserve(&mut self, server: u16) -> Result<(), AllocError>
         requires { server < length self.old.lists }
         ensures lists { self.new.lists ≡ self.old.lists }
@@ -86,25 +87,25 @@ impl<T: Drop, A: Allocator> Chains<T, A> {
         ensures kept { KeepsRoom self.old.rooms self.new.rooms }
         ensures succeeds { 0 < room_of self.old.rooms server → IsOk result }
     {
-        // All servers have the room of the slab.
+        // All servers share the room of the slab.
         let _server = server;
         self.nodes.reserve(1)
     }
 
-    /// Puts a value at the end of a server's list. There must be room for it.
+    /// Puts a value at the end of a server's list. There must be room for the value.
     pub fn push(&mut self, server: u16, value: T)
         requires within { server < length self.old.lists }
         requires room { 0 < room_of self.old.rooms server }
         ensures lists { self.new.lists ≡ changed_at (λ values. values ++ value ∷ []) self.old.lists server }
     {
-        // No list has more values, and a usize counts as many.
+        // No list has more values than the slab's capacity, which fits a usize.
         let _capacity = self.nodes.capacity();
         let ends = self.ends[usize::from(server)];
         let key = self.nodes.insert_reserved(Node { value, next: 0 });
         self.ends[usize::from(server)] = link(&mut self.nodes, ends, key);
     }
 
-    /// Takes the first value of a server's list.
+    /// Takes the first value out of a server's list, which must not be empty, and returns it.
     pub fn pop(&mut self, server: u16) -> T
         requires some { 0 < length (list_at self.old.lists server) }
         ensures value { list_at self.old.lists server ≡ result ∷ drop 1 (list_at self.old.lists server) }
@@ -118,7 +119,7 @@ impl<T: Drop, A: Allocator> Chains<T, A> {
         node.value
     }
 
-    /// The first value of a server's list, if there is one.
+    /// Returns the first value of a server's list, or `None` if the list is empty.
     pub fn first(&self, server: u16) -> Option<&T>
         requires { server < length self.now.lists }
         ensures { option_copied result ≡ slice_get (list_at self.now.lists server) 0 }
@@ -130,7 +131,7 @@ impl<T: Drop, A: Allocator> Chains<T, A> {
         Some(&self.nodes[ends.head].value)
     }
 
-    /// The first value of a server's list, to be changed in place.
+    /// Returns the first value of a server's list, which must not be empty, to be changed in place.
     pub fn first_mut(&mut self, server: u16) -> &mut T
         requires some { 0 < length (list_at self.old.lists server) }
         ensures* writes_back { sem 𝓛 (lends_first T.row A.row A.Allocator self.entry server result) }
@@ -141,7 +142,7 @@ impl<T: Drop, A: Allocator> Chains<T, A> {
     }
 }
 
-/// Lets the last value of a list be followed by the one at a key, and answers the ends that the list then has.
+/// Links the value at a key to the end of a list, and returns the ends that the list then has.
 fn link<T, A: Allocator>(nodes: &mut Slab<Node<T>, A>, ends: Ends, key: usize) -> Ends
     requires held { 0 < ends.len → ContainsKey nodes.old ends.tail }
     requires few { ends.len + 1 < 2 ^ 64 }

@@ -1,4 +1,4 @@
-//! The unfinished jobs of each server, in a queue for each, all in one slab.
+//! The unfinished jobs of all servers, with one queue for each server, all in one slab.
 #![tactic(auto)]
 
 mod chains;

@@ -1,4 +1,4 @@
-//! The jobs of all servers, in one queue for each.
+//! The jobs of all servers, in one queue for each server.
 
 ghost use Rattle.std.specs.Prelude.{◌≡◌, ◌+◌, ◌%◌, ◌^◌, ◌<◌, [], ◌∷◌, ◌++◌, length, replicate, drop, IfOk, OnOk, IsOk};
 ghost use Rattle.std.specs.List.{sum_by, AllByRecursion};
@@ -15,15 +15,16 @@ use std::marker::Model;
 #[derive(Drop)]
 struct QueuedJob<W: Work> {
     job: Running<W>,
-    // How many units its server had taken in once it had come in, modulo 2^64.
+    // The units that the server had taken in just after this job came, modulo 2^64.
     taken_in: u64,
 }
 
-/// The jobs of all servers, in one queue for each.
+/// The jobs of all servers, in one queue for each server.
 #[derive(Drop)]
 pub struct Queues<W: Work, A: Allocator = Global> {
     jobs: Chains<QueuedJob<W>, A>,
-    // How many units each server has taken in, modulo 2^64. What came in behind a job is the difference.
+    // The units that each server has taken in, modulo 2^64. Less a job's `taken_in`, they are the units that came after
+    // it.
     taken_in: Vec<u64, A>,
 }
 
@@ -40,7 +41,7 @@ impl<W: Work, A: Allocator> Model for Queues<W, A> {
 }
 
 impl<W: Work> QueuedJob<W> {
-    /// How many units came in behind it, where its server has taken in so many.
+    /// Returns how many units came after this job, if its server has taken in `taken_in` units.
     fn behind(&self, taken_in: u64) -> u64
         ensures { (self.now.taken_in + result) % 2 ^ 64 ≡ taken_in }
     {
@@ -49,7 +50,7 @@ impl<W: Work> QueuedJob<W> {
 }
 
 impl<W: Work, A: Allocator> Queues<W, A> {
-    /// An empty queue for each of so many servers.
+    /// Returns an empty queue for each of so many servers, or the error if an allocation is refused.
     pub fn new(alloc: &A, servers: u16) -> Result<Self, AllocError>
     where
         A: Clone,
@@ -62,7 +63,7 @@ impl<W: Work, A: Allocator> Queues<W, A> {
         })
     }
 
-    /// How many units the jobs of a server have left.
+    /// Returns how many units the jobs of a server have left.
     pub fn owed(&self, server: u16) -> u64
         requires { server < length self.now.lists }
         ensures { result ≡ sum_by W.meaning.left (list_at self.now.lists server) }
@@ -75,7 +76,7 @@ impl<W: Work, A: Allocator> Queues<W, A> {
         }
     }
 
-    /// The output so far of the first job of a server, if it has one.
+    /// Returns the output so far of the first job of a server, or `None` if the server has no job.
     pub fn front_output(&self, server: u16) -> Option<u64>
         requires { server < length self.now.lists }
         ensures { result ≡ front_output W.meaning (list_at self.now.lists server) }
@@ -84,7 +85,7 @@ impl<W: Work, A: Allocator> Queues<W, A> {
         Some(first.job.output())
     }
 
-    /// Makes room for one more job of a server.
+    /// Makes room for one more job of a server. Returns the error if an allocation is refused.
     pub fn reserve(&mut self, server: u16) -> Result<(), AllocError>
         requires { server < length self.old.lists }
         ensures lists { self.new.lists ≡ self.old.lists }
@@ -95,7 +96,7 @@ impl<W: Work, A: Allocator> Queues<W, A> {
         self.jobs.reserve(server)
     }
 
-    /// Puts a job at the end of a server's queue. There must be room for it.
+    /// Puts a job at the end of a server's queue. There must be room for the job.
     pub fn push(&mut self, server: u16, task: Task<W>)
         requires within { server < length self.old.lists }
         requires room { 0 < room_of self.old.rooms server }
@@ -110,8 +111,8 @@ impl<W: Work, A: Allocator> Queues<W, A> {
         self.jobs.push(server, QueuedJob { job, taken_in });
     }
 
-    /// Runs one unit of the first job of a server. If that was its last, the job leaves the queue,
-    /// and its output is answered.
+    /// Runs one unit of the first job of a server. If the unit was the job's last, the job leaves the queue, and its
+    /// output is returned. Else returns `None`.
     #[tactic(auto, using(crate::proofs::QueueRuns::job_there))]
     #[inline(always)]
     pub fn run_first(&mut self, server: u16) -> Option<u64>

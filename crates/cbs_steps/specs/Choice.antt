@@ -1,13 +1,13 @@
--- Which server runs: earliest deadline first (Liu and Layland, JACM 1973), and of equal deadlines the lower number.
+-- Which server runs: earliest deadline first, and of equal deadlines the lower number.
 use Rattle.std.specs.Prelude.{◌≡◌, ℕ, ◌<◌, Bool, true, false, not, ◌&&◌, ◌||◌, eqb, leb, ltb, List, length, get_or, Option, Some, None}
 use Rattle.cbs_steps.specs.Searches.{all_below, first_below}
 
--- what the choice looks at in each server
+-- what the choice reads of each server
 pub record Rank : Type 0 where
   pub ready : Bool
   pub deadline : ℕ
 
--- the rank of server s; beyond the last nobody is ready
+-- the rank of server s; a number without a server counts as not ready
 abbrev pub rank_at : List Rank → ℕ → Rank
 rank_at ranks s = get_or ranks s (record { ready = false; deadline = 0 })
 
@@ -22,17 +22,17 @@ is_before ranks s r =
 abbrev pub is_first : List Rank → ℕ → Bool
 is_first ranks s = (rank_at ranks s).ready && all_below (λ r. not (rank_at ranks r).ready || is_before ranks s r) (length ranks)
 
--- the chosen server: the ready one that is before every ready server, and none where nobody is ready
+-- the chosen server: the ready one that is before every ready server, and none if no server is ready
 abbrev pub chosen_among : List Rank → Option ℕ
 chosen_among ranks = first_below (is_first ranks) (length ranks)
 
--- of the first n servers, s is ready, and its pair of deadline and number is at most that of each that is ready
+-- s is one of the first n servers, it is ready, and its pair of deadline and number is at most that of each ready one
 pub record IsEarliest (ranks : List Rank) (n s : ℕ) : Type 0 where
   pub within : s < n
   pub ready : (rank_at ranks s).ready ≡ true
   pub first : (r : ℕ) → r < n → (rank_at ranks r).ready ≡ true → is_before ranks s r ≡ true
 
--- the choice among the first n servers: nobody where nobody is ready, and else the earliest
+-- the choice among the first n servers: none if no server is ready, else the earliest
 abbrev pub IsChoice : List Rank → ℕ → Option ℕ → Type 0
 IsChoice ranks n None = (r : ℕ) → r < n → (rank_at ranks r).ready ≡ false
 IsChoice ranks n (Some s) = IsEarliest ranks n s

@@ -1,4 +1,4 @@
--- What a server shows beside its jobs, what is read off it, and what each step does to it.
+-- What a server shows, without its jobs; what is read off it, and what each step does to it.
 use Rattle.std.specs.Prelude.{ℕ, ◌+◌, ◌-◌, Bool, true, false, not, ◌&&◌, ◌||◌, leb, ltb, max, if◌then◌else◌, List, map, get_or, slice_get, Option, Some}
 use Rattle.std.specs.Prelude.{None, Result, Ok, Err}
 use Rattle.cbs_rate.specs.Rate.{Rate}
@@ -10,16 +10,16 @@ use Rattle.cbs_steps.specs.declared.error.CoreError.{CoreError}
 use Rattle.cbs_steps.specs.declared.error.CoreError.TheVariants as error
 use Rattle.cbs_steps.specs.declared.view.ServerView.{ServerView}
 
--- nothing was charged
+-- no tick was charged
 abbrev pub no_charges : Charges
 no_charges = record { total = 0; most = 0 }
 
--- n ticks more, so that for one unit they are as many as said
+-- n ticks more are charged, with which `for_unit` ticks were charged for one unit
 abbrev pub add_charge : ℕ → ℕ → Charges → Charges
 add_charge n for_unit c = record { total = c.total + n; most = max c.most for_unit }
 
--- the mode and the reservation that the server was given, its budget, deadline, mark and overrun, what it was charged, whether it
--- was closed, and how many jobs it accepted and finished
+-- the mode and the reservation that the server was given, its budget, deadline, mark and overrun, and what it was
+-- charged. Also whether it was closed, and how many jobs it accepted and finished
 pub record Face : Type 0 where
   pub terms : Terms
   pub state : State
@@ -32,7 +32,7 @@ pub record Face : Type 0 where
 abbrev pub new_face : Terms → Face
 new_face terms = record { terms = terms; state = fresh_state; charges = no_charges; closed = false; accepted = 0; finished = 0 }
 
--- what stands where there is no such server
+-- the face if there is no such server
 abbrev pub no_face : Face
 no_face = record {
   terms = record { mode = Soft; reservation = record { budget = 0; period = 0 } };
@@ -47,7 +47,7 @@ no_face = record {
 abbrev pub face_at : List Face → ℕ → Face
 face_at faces s = get_or faces s no_face
 
--- active: an accepted job is not finished. Else the server is idle
+-- active: an accepted job is not finished. A server that is not active is idle
 abbrev pub is_active : Face → Bool
 is_active f = ltb f.finished f.accepted
 
@@ -55,7 +55,7 @@ is_active f = ltb f.finished f.accepted
 abbrev pub is_ready : Face → Bool
 is_ready f = is_active f && not f.state.throttled
 
--- the deadline by which the server runs, where it is ready
+-- the deadline by which the server runs, if it is ready
 abbrev pub ready_by : Face → Option ℕ
 ready_by f = if is_ready f then Some f.state.deadline else None
 
@@ -63,7 +63,7 @@ ready_by f = if is_ready f then Some f.state.deadline else None
 abbrev pub backlog_of : Face → ℕ
 backlog_of f = f.accepted - f.finished
 
--- what the choice sees of the servers
+-- what the choice reads of the servers
 abbrev pub ranks : List Face → List Rank
 ranks faces = map (λ f. record { ready = is_ready f; deadline = f.state.deadline }) faces
 
@@ -77,7 +77,7 @@ abbrev pub refuses_submit : ℕ → Option Face → Option CoreError
 refuses_submit backlog None = Some error.NoSuchServer
 refuses_submit backlog (Some f) = if f.closed then Some error.Closed else if leb backlog (backlog_of f) then Some error.BacklogFull else None
 
--- the same of server s
+-- why a close of server s, or a submit to server s, is refused, if it is
 abbrev pub close_refusal : List Face → ℕ → Option CoreError
 close_refusal faces s = refuses_close (slice_get faces s)
 
@@ -99,36 +99,36 @@ view_of f = record {
   finished = f.finished;
 }
 
--- what a view is answered: the server's, or that there is no such server
+-- the result of a view: what the server shows, or that there is no such server
 abbrev pub view_reply : Option Face → Result ServerView CoreError
 view_reply None = Err error.NoSuchServer
 view_reply (Some f) = Ok (view_of f)
 
--- what is answered of what a server was charged
+-- the result of a look at the charges: what the server was charged, or that there is no such server
 abbrev pub charges_reply : Option Face → Result Charges CoreError
 charges_reply None = Err error.NoSuchServer
 charges_reply (Some f) = Ok f.charges
 
--- the budget, deadline and mark after a job came in: the arrival rule applies where the server was idle and not throttled
+-- the state after a job came in: the arrival rule applies if the server was idle and not throttled
 abbrev pub arrived : ℕ → Face → State
 arrived now f = if is_active f || f.state.throttled then f.state else after_arrival f.terms.mode f.terms.reservation now f.state
 
--- after a job came in
+-- the face after a job came in
 abbrev pub with_job : ℕ → Face → Face
 with_job now f = record f { state = arrived now f; accepted = f.accepted + 1 }
 
--- after a unit, which finished a job or did not
+-- the face after a unit, which finished a job or did not
 abbrev pub with_unit : Bool → Face → Face
 with_unit done f = record f { state = after_unit f.terms.mode f.terms.reservation f.state; finished = if done then f.finished + 1 else f.finished }
 
--- after a charge of n ticks for its last unit, for which it was then charged as many as said
+-- the face after a charge of n ticks for its last unit, with which `for_unit` ticks were charged for that unit
 abbrev pub with_charge : ℕ → ℕ → Face → Face
 with_charge n for_unit f = record f { state = after_charge f.terms.mode f.terms.reservation n f.state; charges = add_charge n for_unit f.charges }
 
--- after a replenishment, if one is due
+-- the face after a replenishment, if one is due
 abbrev pub with_replenishment : ℕ → Face → Face
 with_replenishment now f = record f { state = after_replenishment f.terms.reservation now f.state }
 
--- after a close: no job is accepted from here on
+-- the face after a close: no job is accepted from then on
 abbrev pub with_close : Face → Face
 with_close f = record f { closed = true }

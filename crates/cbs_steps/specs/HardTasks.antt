@@ -1,4 +1,4 @@
--- Hard tasks: jobs of at most a budget each, a period or more apart.
+-- Hard tasks: jobs of at most one budget each, at least a period apart.
 use Rattle.std.specs.Prelude.{◌≡◌, ℕ, ◌+◌, ◌≤◌, eqb, if◌then◌else◌, List, [], ◌∷◌, Option, Some, None}
 use Rattle.cbs_job.specs.Work.{Meaning}
 use Rattle.cbs_steps.specs.Faces.{submit_refusal}
@@ -10,24 +10,25 @@ use Rattle.cbs_steps.specs.declared.error.CoreError.{CoreError}
 use Rattle.cbs_steps.specs.declared.step.Step.{Step}
 use Rattle.cbs_steps.specs.declared.step.Step.TheVariants.{Submit}
 
--- the later tick where a submit is accepted, and else the one before
+-- the later tick if a submit is accepted, else the tick before
 abbrev pub slot_submitted : ℕ → ℕ → Option CoreError → ℕ
 slot_submitted before later None = later
 slot_submitted before later (Some e) = before
 
 module _ {W : Type 0} where
-  -- by one more step: only an accepted submit to s makes s's last job another
+  -- the slot after one more step: only an accepted submit to s changes which job of s is the last
   abbrev pub slot_next : Meaning W → ℕ → World W → ℕ → ℕ → Step W → ℕ
   slot_next work backlog w s before (Submit t job) =
       if eqb t s then slot_submitted before (w.now + (account w.accounts t).terms.reservation.period) (submit_refusal backlog (faces work w) t) else before
   slot_next work backlog w s before _ = before
 
-  -- the tick a period after the last job that server s accepted came; 0 before the first
+  -- the tick one period after the last job that server s accepted came; 0 before the first job
   abbrev pub slot : Meaning W → Setup → ℕ → List (Step W) → ℕ
   slot work setup s [] = 0
   slot work setup s (x ∷ M) = slot_next work setup.backlog (after work setup M) s (slot work setup s M) x
 
-  -- if the step x after M gives server s a job, it has at most a budget of units, and comes a period or more after the one before
+  -- if the step x after M gives server s a job, the job has at most one budget of units, and comes at least a period
+  -- after the job before it
   abbrev pub IsHardStep : Meaning W → Setup → ℕ → List (Step W) → Step W → Type 0
   IsHardStep work setup s M (Submit t job) = t ≡ s → submit_refusal setup.backlog (faces work (after work setup M)) t ≡ None
       → (work.left job ≤ (account (after work setup M).accounts t).terms.reservation.budget) × (slot work setup s M ≤ (after work setup M).now)
@@ -38,7 +39,7 @@ module _ {W : Type 0} where
   IsHard work setup s [] = Unit {0}
   IsHard work setup s (x ∷ M) = IsHard work setup s M × IsHardStep work setup s M x
 
-  -- each job of a hard task is finished a period after it came, whatever is asked of the others
+  -- each job of a hard task is finished one period after it came, whatever the others are asked for
   abbrev pub KeepsHard : Meaning W → History W → Type 0
   KeepsHard work N = AreQuiet work N.setup N.steps → (K M : List (Step W)) (s : ℕ) (job : W) → IsJobOf work N K M s job
       → IsHard work N.setup s (Submit s job ∷ M)

@@ -11,22 +11,22 @@ use Rattle.cbs_steps.specs.declared.step.Step.{Step}
 use Rattle.cbs_steps.specs.declared.step.Step.TheVariants.{Advance, Charge}
 
 module _ {W : Type 0} where
-  -- nobody is ready
+  -- no server is ready
   abbrev pub IsAtRest : Meaning W → World W → Type 0
   IsAtRest work w = AllByRecursion (λ f. is_ready f ≡ false) (faces work w)
 
-  -- an advance by n is quiet: nobody is ready before its last tick
+  -- an advance by n is quiet: no server is ready before its last tick
   abbrev pub IsQuiet : Meaning W → World W → ℕ → Type 0
   IsQuiet work w n = (m : ℕ) → m < n → IsAtRest work (ticks m w)
 
-  -- nobody is ready, and n is the greatest number of ticks up to the clock's end by which an advance is quiet
+  -- no server is ready, and n is the greatest number of ticks up to the clock's end by which an advance is quiet
   pub record IsIdleSpan (work : Meaning W) (w : World W) (n : ℕ) : Type 0 where
     pub at_rest : IsAtRest work w
     pub within : n ≤ clock_end - w.now
     pub quiet : IsQuiet work w n
     pub greatest : (k : ℕ) → k ≤ clock_end - w.now → IsQuiet work w k → k ≤ n
 
-  -- a step that advances quietly: it is no advance, or one that is refused, or a quiet one
+  -- a step that advances quietly: no advance, a refused advance, or a quiet one
   abbrev pub IsQuietAdvance : Meaning W → World W → Step W → Type 0
   IsQuietAdvance work w (Advance n) = w.now + n ≤ clock_end → IsQuiet work w n
   IsQuietAdvance work w _ = Unit {0}
@@ -36,21 +36,21 @@ module _ {W : Type 0} where
   IsQuietStep work w (Charge s n) = charge_refusal w s n ≡ None → n ≡ 0
   IsQuietStep work w x = IsQuietAdvance work w x
 
-  -- a step that takes nobody's time where it comes next after M
+  -- a step that takes nobody's time if it comes next after M
   abbrev pub IsQuietAfter : Meaning W → History W → Step W → Type 0
   IsQuietAfter work M x = IsQuietStep work (world_after work M) x
 
-  -- each step of a list, the newest first, took nobody's time where it stands
+  -- each step of a list, the newest first, takes nobody's time at its place
   abbrev pub AreQuiet : Meaning W → Setup → List (Step W) → Type 0
   AreQuiet work setup [] = Unit {0}
   AreQuiet work setup (x ∷ M) = AreQuiet work setup M × IsQuietStep work (after work setup M) x
 
-  -- each step of a list, the newest first, advanced quietly where it stands
+  -- each step of a list, the newest first, advances quietly at its place
   abbrev pub AdvanceQuietly : Meaning W → Setup → List (Step W) → Type 0
   AdvanceQuietly work setup [] = Unit {0}
   AdvanceQuietly work setup (x ∷ M) = AdvanceQuietly work setup M × IsQuietAdvance work (after work setup M) x
 
-  -- each of the steps, made after M and those before it and answered so, takes nobody's time where it stands
+  -- each of the steps takes nobody's time at its place, after M and the steps before it, whose replies are given
   abbrev pub EachQuiet : Meaning W → History W → List (Step W) → List (Reply W) → Type 0
   EachQuiet work M [] rs = Unit {0}
   EachQuiet work M (x ∷ xs) [] = Unit {0}

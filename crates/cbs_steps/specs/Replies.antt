@@ -1,4 +1,4 @@
--- What the calls answer, as replies to steps.
+-- What the calls return, as replies to steps.
 use Rattle.std.specs.Prelude.{◌≡◌, ℕ, List, [], ◌∷◌, Bool, false, Result, Ok, Err, if◌then◌else◌}
 use Rattle.std.specs.Bool.{MatchBool}
 use Rattle.cbs_job.specs.Work.{Meaning}
@@ -13,22 +13,22 @@ use Rattle.cbs_steps.specs.Errors.{is_out_of_memory}
 use Rattle.cbs_steps.specs.History.{History, ◌⊕◌, reply_in}
 
 module _ {W : Type 0} where
-  -- the reply that a submit's result is
+  -- the reply that stands for the result of a submit
   abbrev pub submitted : Result ℕ (SubmitRefused W) → Reply W
   submitted (Ok q) = reply.Accepted q
   submitted (Err e) = reply.NotAccepted e
 
-  -- the reply that an advance's result is
+  -- the reply that stands for the result of an advance
   abbrev pub advanced : Result (Unit {0}) CoreError → Reply W
   advanced (Ok _) = reply.Advanced
   advanced (Err e) = reply.Refused e
 
-  -- the reply that a close's result is
+  -- the reply that stands for the result of a close
   abbrev pub closed : Result (Unit {0}) CoreError → Reply W
   closed (Ok _) = reply.Closed
   closed (Err e) = reply.Refused e
 
-  -- the reply that a charge's result is
+  -- the reply that stands for the result of a charge
   abbrev pub charged : Result (Unit {0}) CoreError → Reply W
   charged (Ok _) = reply.Charged
   charged (Err e) = reply.Refused e
@@ -42,20 +42,21 @@ module _ {W : Type 0} where
   is_lack (reply.NotAccepted e) = is_out_of_memory e.error
   is_lack _ = false
 
-  -- the reply r hands the job of the submit x back, for want of memory
+  -- the reply r hands the job of the submit x back, because the executor is out of memory
   abbrev pub HandsBack : Step W → Reply W → Type 0
   HandsBack (step.Submit s job) r = r ≡ reply.NotAccepted (record { error = error.OutOfMemory; task = job })
   HandsBack _ r = ⊥
 
-  -- the history M and the step x with reply r; a submit that memory refused is taken out
+  -- the history M and the step x with reply r; a submit that memory refused is left out
   abbrev pub grown : History W → Step W → Reply W → History W
   grown M x r = if is_lack r then M else M ⊕ x
 
-  -- r is the reply to x after M; want of memory may stand in the place of an acceptance, and there alone
+  -- r is the reply to x after M. Instead of an acceptance, and of nothing else, r may say that memory refused the
+  -- submit
   abbrev pub Answers : Meaning W → History W → Step W → Reply W → Type 0
   Answers work M x r = MatchBool (is_lack r) (HandsBack x r × IsAccepted (reply_in work M x)) (r ≡ reply_in work M x)
 
-  -- M and all the steps, but for the submits that memory refused
+  -- the history M and all the steps, except the submits that memory refused
   abbrev pub grown_by : History W → List (Step W) → List (Reply W) → History W
   grown_by M [] rs = M
   grown_by M (x ∷ xs) [] = M

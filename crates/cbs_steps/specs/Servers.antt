@@ -1,4 +1,4 @@
--- What each server keeps, through every step. An executor rests on it.
+-- What each server keeps through every step. An executor depends on it.
 use Rattle.std.specs.Prelude.{◌≡◌, ℕ, ◌+◌, ◌*◌, ◌≤◌, ◌<◌, true, false}
 use Rattle.cbs_rate.specs.Limits.{longest_period}
 use Rattle.cbs_rate.specs.Rate.{IsRate}
@@ -6,7 +6,7 @@ use Rattle.cbs_rules.specs.Rules.{clock_end, latest_deadline, IsState}
 use Rattle.cbs_rules.specs.declared.mode.Mode.TheVariants.{Soft}
 use Rattle.cbs_steps.specs.Faces.{Face, is_active, backlog_of}
 
--- what each server keeps, against the backlog that it may have and the clock
+-- what each server keeps, with the backlog that it may have and the clock
 pub record IsServer (backlog now : ℕ) (f : Face) : Type 0 where
   pub lawful : IsRate f.terms.reservation.budget f.terms.reservation.period
   pub state : IsState f.terms.reservation f.state
@@ -18,7 +18,7 @@ pub record IsServer (backlog now : ℕ) (f : Face) : Type 0 where
   pub few_charged : f.charges.total ≤ now
   pub few_jobs : backlog_of f ≤ backlog
 
--- what a charge of so many ticks of a server may rest on
+-- what must hold of a server before it is charged so many ticks
 pub record MayCharge (ticks : ℕ) (f : Face) : Type 0 where
   pub some : 0 < ticks
   pub few : ticks ≤ clock_end

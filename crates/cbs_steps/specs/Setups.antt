@@ -7,12 +7,12 @@ use Rattle.cbs_rules.specs.declared.mode.Mode.{Mode}
 use Rattle.cbs_steps.specs.declared.error.CoreError.{CoreError}
 use Rattle.cbs_steps.specs.declared.error.CoreError.TheVariants as error
 
--- the terms of servers: each has its mode and its reservation
+-- the terms of the servers: each has its mode and its reservation
 abbrev pub terms_of : List Mode → List Rate → List Terms
 terms_of [] rates = []
 terms_of (m ∷ modes) [] = []
 terms_of (m ∷ modes) (r ∷ rates) = record { mode = m; reservation = r } ∷ terms_of modes rates
 
--- why a backlog is refused, if it is: it is 1 to 4096 jobs
+-- why a backlog is refused, if it is: it must be 1 to 4096 jobs
 abbrev pub new_refusal : ℕ → Option CoreError
 new_refusal backlog = if eqb backlog 0 || ltb most_backlog backlog then Some error.BadBacklog else None

@@ -10,12 +10,13 @@ use Rattle.cbs_steps.specs.Quiet.{AreQuiet}
 use Rattle.cbs_steps.specs.declared.step.Step.{Step}
 
 module _ {W : Type 0} where
-  -- server s is active after M, and after each of the steps K behind it
+  -- server s is active after M, and after each of the steps K that follow M
   abbrev pub StaysActive : Meaning W → Setup → ℕ → List (Step W) → List (Step W) → Type 0
   StaysActive work setup s M [] = is_active (face_of work (account (after work setup M).accounts s)) ≡ true
   StaysActive work setup s M (x ∷ K) = StaysActive work setup s M K × (is_active (face_of work (account (after work setup (x ∷ K ++ M)).accounts s)) ≡ true)
 
-  -- while it stays active, throttled or not, a server gets its budget by its deadline, and one budget more by each period after
+  -- while it stays active, throttled or not, a server gets its budget by its deadline, and one more budget by each
+  -- period after
   abbrev pub KeepsSupply : Meaning W → History W → Type 0
   KeepsSupply work N = AreQuiet work N.setup N.steps → (K M : List (Step W)) (s j : ℕ) → N.steps ≡ K ++ M → StaysActive work N.setup s M K
       → (let a = account_in work (when N M) s in

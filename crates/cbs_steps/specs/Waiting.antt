@@ -1,5 +1,5 @@
--- How long servers wait to be replenished, and how long nobody will be ready. An executor rests on it; public clauses speak of
--- quiet advances.
+-- How long servers wait for replenishment, and how long no server will be ready. An executor uses these definitions;
+-- public contracts speak of quiet advances.
 use Rattle.std.specs.Prelude.{◌≡◌, ◌≤◌, ◌-◌, ℕ, true, false, ◌&&◌, min, max, if◌then◌else◌, List, [], ◌∷◌}
 use Rattle.std.specs.List.{AllByRecursion}
 use Rattle.cbs_rules.specs.Rules.{clock_end}
@@ -17,20 +17,20 @@ IsNotDueBefore tick f = f.state.throttled ≡ true → tick ≤ f.state.deadline
 abbrev pub NoneDueBefore : ℕ → List Face → Type 0
 NoneDueBefore tick faces = AllByRecursion (IsNotDueBefore tick) faces
 
--- the tick at which a throttled server with a job is ready again; the greatest if it is not such a server
+-- the tick at which a throttled server with a job is ready again; the greatest tick if the server is no such server
 abbrev pub wake : Face → ℕ
 wake f = if f.state.throttled && is_active f then min most f.state.deadline else most
 
--- the least such tick
+-- the least such tick of all servers
 abbrev pub wake_of : List Face → ℕ
 wake_of [] = most
 wake_of (f ∷ fs) = min (wake f) (wake_of fs)
 
--- nobody is ready
+-- no server is ready
 abbrev pub NoneReady : List Face → Type 0
 NoneReady faces = AllByRecursion (λ f. is_ready f ≡ false) faces
 
--- for how many ticks nobody will be ready, if nobody is now: until the first of those that wait is due, but for one tick at least,
--- and up to the clock's end
+-- for how many ticks no server will be ready, if none is now: until the first waiting server is due, but at least one
+-- tick, and at most up to the clock's end
 abbrev pub span_of : ℕ → List Face → ℕ
 span_of now faces = min (clock_end - now) (max 1 (wake_of faces - now))

@@ -25,7 +25,7 @@ pub enum CoreError {
     /// The clock would pass [`LIMIT`](cbs_rules::LIMIT).
     #[error("the clock would pass 1000000000000 ticks")]
     ClockEnd = 6,
-    /// The server did not run the last unit, or a tick has passed since that it was not charged.
+    /// The server did not run the last unit, or a tick has passed since that was not charged for the unit.
     #[error("the server did not run the last unit, or other ticks have passed since")]
     NotRunning = 7,
 }
@@ -33,14 +33,14 @@ pub enum CoreError {
 impl CoreError {
     ghost use Rattle.cbs_steps.specs.Errors.{core_error_number, core_error_name};
 
-    /// The error's number, from 1.
+    /// Returns the error's number, from 1.
     pub fn number(self) -> u8
         ensures { result ≡ core_error_number self }
     {
         self as u8
     }
 
-    /// The error's name: that of its variant.
+    /// Returns the error's name: that of its variant.
     pub fn name(self) -> &'static str
         ensures { result.now ≡ core_error_name self }
     {

@@ -1,5 +1,6 @@
-//! What each step of an executor of Constant Bandwidth Servers does, and what whole lists of steps keep: who runs,
-//! what is answered, and that nobody is late or takes more than a share. No executor is in it.
+//! The rules for the steps of an executor of Constant Bandwidth Servers, and the laws for whole lists of steps. They
+//! say who runs, what reply each step has, and that no server is late or takes more than its share. The crate contains
+//! no executor.
 #![tactic(auto)]
 
 mod charges;

@@ -1,4 +1,4 @@
-//! What steps are answered.
+//! The replies to steps.
 
 use crate::error::CoreError;
 use cbs_job::{Completion, Task, Work};
@@ -30,7 +30,7 @@ pub enum Ran {
     Done(Completion),
 }
 
-/// What a step is answered.
+/// The reply to a step.
 #[derive(Drop)]
 pub enum Reply<W: Work> {
     /// The submit was accepted, as the job of this number.
@@ -41,7 +41,7 @@ pub enum Reply<W: Work> {
     Ran(Ran),
     /// The ticks passed.
     Advanced,
-    /// The server is closed from here on.
+    /// The server is closed from then on.
     Closed,
     /// The server was charged, and the ticks passed.
     Charged,

@@ -3,22 +3,22 @@
 use cbs_job::{Task, Work};
 use std::alloc::{Allocator, Global};
 
-/// One step: what a caller may ask of the core.
+/// One step: a request to the core.
 #[derive(Drop)]
 pub enum Step<W: Work> {
     /// Gives a job to a server.
     Submit(u16, Task<W>),
     /// Runs one unit of one job, which takes one tick.
     Run,
-    /// Lets so many ticks pass.
+    /// Lets this many ticks pass.
     Advance(u64),
     /// Closes a server: it accepts no further job.
     Close(u16),
-    /// Charges a server the ticks that its last unit took beyond the first: as many pass.
+    /// Charges a server the ticks that its last unit took after its first tick. As many ticks pass.
     Charge(u16, u64),
 }
 
-/// Steps that were refused for want of memory, handed back.
+/// Steps that were refused because the executor was out of memory, handed back.
 #[derive(Drop)]
 pub struct StepsRefused<W: Work, A: Allocator = Global> {
     /// The steps, as they were given.

@@ -1,18 +1,18 @@
-//! What a server shows.
+//! The view of a server.
 
 /// Budget, deadline, marks and counts of one server.
 #[derive(Clone, Copy, Debug, PartialEq, Eq)]
 pub struct ServerView {
-    /// The ticks that it may still use, at most the budget of its reservation.
+    /// The ticks that the server may still use, at most the budget of its reservation.
     pub budget: u64,
-    /// The tick by which it may use them.
+    /// The tick by which the server may use its budget.
     pub deadline: u128,
-    /// Whether it waits to be replenished.
+    /// Whether the server waits for its replenishment.
     pub throttled: bool,
-    /// Whether it accepts no further job.
+    /// Whether the server accepts no further job.
     pub closed: bool,
-    /// How many jobs it accepted.
+    /// The number of jobs that the server accepted.
     pub accepted: u64,
-    /// How many of them are finished.
+    /// The number of accepted jobs that are finished.
     pub finished: u64,
 }
