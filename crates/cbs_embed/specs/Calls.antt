@@ -1,4 +1,5 @@
--- What a call on a handle does to what the handle holds: what the call of the house or of the client does, or a refusal.
+-- What a call on a handle does to what the handle holds: the effect of the call on the house or the client, or a
+-- refusal.
 use Rattle.std.specs.Prelude.{ℕ, slice_get, ◌≡◌, ◌↔◌, IsTrue, ◌+◌, ◌<◌, ◌≤◌, Option, Some, None, Result, Ok, Err, length, map}
 use Rattle.std.specs.Global.{Global}
 use Rattle.cbs_steps.specs.declared.charges.Charges as charges
@@ -38,46 +39,47 @@ RefusesHouse None e = e ≡ refused.Handle NotOpen
 RefusesHouse (Some (House h)) e = ⊥
 RefusesHouse (Some (Client c)) e = e ≡ refused.Handle OtherKind
 
--- the same of a call on a client
+-- why a call on a client is refused by a handle that holds this: it is not open, or holds a house
 abbrev pub RefusesClient : Option Held → Refusal → Type 0
 RefusesClient None e = e ≡ refused.Handle NotOpen
 RefusesClient (Some (House h)) e = e ≡ refused.Handle OtherKind
 RefusesClient (Some (Client c)) e = ⊥
 
--- a call on a house did this to the house that was inside, and that is inside. A client is refused by name, and unchanged
+-- a call on a house did this to the house inside, which stays inside. A client is refused by OtherKind, and unchanged
 abbrev pub InHouse : {T : Type 0} → (TheHouse → Result T Refusal → TheHouse → Type 0) → Held → Result T Refusal → Held → Type 0
 InHouse Does (House h) answer new = (after : TheHouse) × (new ≡ House after) × Does h answer after
 InHouse Does (Client c) answer new = (answer ≡ Err (refused.Handle OtherKind)) × (new ≡ Client c)
 
--- the same the other way round
+-- a call on a client did this to the client inside, which stays inside. A house is refused by OtherKind, and unchanged
 abbrev pub InClient : {T : Type 0} → (TheClient → Result T Refusal → TheClient → Type 0) → Held → Result T Refusal → Held → Type 0
 InClient Does (House h) answer new = (answer ≡ Err (refused.Handle OtherKind)) × (new ≡ House h)
 InClient Does (Client c) answer new = (after : TheClient) × (new ≡ Client after) × Does c answer after
 
--- a call did this to what the handle held, and that it holds. A handle that is not open is refused by name, and stays so
+-- a call did this to what the handle held, and the handle holds the outcome. A handle that is not open is refused by
+-- NotOpen, and stays so
 abbrev pub OnHeld : {T : Type 0} → (Held → Result T Refusal → Held → Type 0) → Option Held → Result T Refusal → Option Held → Type 0
 OnHeld Does None answer new = (answer ≡ Err (refused.Handle NotOpen)) × (new ≡ None)
 OnHeld Does (Some held) answer new = (after : Held) × (new ≡ Some after) × Does held answer after
 
--- of the jobs received for server s, that of number q has this token
+-- job number q among those received for server s has this token
 abbrev pub HasToken : TheHouse → ℕ → ℕ → ℕ → Type 0
 HasToken h s q token = slice_get (map (λ job. job.token) (jobs_among (received h s))) q ≡ Some token
 
--- the token that is told is that of the job which is told by its number, and 0 if none is told
+-- the token is that of the job in the result of the run, and 0 if no job got a unit
 abbrev pub NamesToken : Ran → ℕ → TheHouse → Type 0
 NamesToken ran.Idle token h = token ≡ 0
 NamesToken ran.ClockEnd token h = token ≡ 0
 NamesToken (ran.Unit s q) token h = HasToken h s q token
 NamesToken (ran.Done c) token h = HasToken h c.server c.seq token
 
--- the result of a job that is finished is dropped, as if it were handed out; else nothing happens
+-- the result of a finished job is dropped, as if it were handed out; if no job was finished, nothing happens
 abbrev pub Drops : Ran → TheHouse → TheHouse → Type 0
 Drops ran.Idle old new = new ≡ old
 Drops ran.ClockEnd old new = new ≡ old
 Drops (ran.Unit s q) old new = new ≡ old
 Drops (ran.Done c) old new = HandsOutResults c.server old new
 
--- the house ran, which told this, with this token, and the result of a finished job was dropped once it was told
+-- the house ran with this result and this token, and then the result of a finished job was dropped
 pub record RunsAndDrops (old : TheHouse) (told : Ran) (token : ℕ) (new : TheHouse) : Type 0 where
   pub between : TheHouse
   pub run : RunOf counting old told between
@@ -89,8 +91,8 @@ abbrev pub Runs : TheHouse → Result Ticked Refusal → TheHouse → Type 0
 Runs old (Ok ticked) new = RunsAndDrops old ticked.ran ticked.token new
 Runs old (Err e) new = ⊥
 
--- The house took a turn, which told this: what ran, with this token, and whether all is over afterwards. The result of a finished
--- job was dropped once it was told.
+-- The house took a turn, with this result: what ran, its token, and whether all is over after the turn. Then the result
+-- of a finished job was dropped.
 pub record TurnsAndDrops (old : TheHouse) (told : Turned) (new : TheHouse) : Type 0 where
   pub between : TheHouse
   pub turn : TurnOf counting old told.turn between
@@ -107,7 +109,7 @@ Turns old (Err e) new = ⊥
 abbrev pub HasServer : ℕ → TheHouse → Type 0
 HasServer s h = s < length (core_of h).faces
 
--- a call is refused, since the house has no server s, and nothing changed
+-- a call is refused because the house has no server s, and nothing changed
 abbrev pub RefusesServer : ℕ → TheHouse → Refusal → TheHouse → Type 0
 RefusesServer s old e new = (e ≡ refused.House NoSuchServer) × (length (core_of old).faces ≤ s) × (new ≡ old)
 
@@ -126,39 +128,39 @@ ChargesServer s n old (Ok x) new = ChargeOf counting s n old (Ok x) new
 ChargesServer s n old (Err (refused.House e)) new = ChargeOf counting s n old (Err e) new
 ChargesServer s n old (Err _) new = ⊥
 
--- what server s was charged is told, or that the house has none; the house is the same
+-- the result is what server s was charged, or that the house has no such server; the house is the same
 abbrev pub ShowsCharges : ℕ → TheHouse → Result charges.Charges Refusal → TheHouse → Type 0
 ShowsCharges s old (Ok told) new = (new ≡ old) × ChargesOf counting s old (Ok told)
 ShowsCharges s old (Err (refused.House e)) new = (new ≡ old) × ChargesOf counting s old (Err e)
 ShowsCharges s old (Err _) new = ⊥
 
--- the clock is told, and the house is the same
+-- the result is the clock, and the house is the same
 abbrev pub TellsClock : TheHouse → Result ℕ Refusal → TheHouse → Type 0
 TellsClock old (Ok now) new = (new ≡ old) × ClockOf counting old now
 TellsClock old (Err e) new = ⊥
 
--- the idle span is told, and the house is the same
+-- the result is the idle span, and the house is the same
 abbrev pub Spans : TheHouse → Result (Option ℕ) Refusal → TheHouse → Type 0
 Spans old (Ok span) new = (new ≡ old) × SpanOf counting old span
 Spans old (Err e) new = ⊥
 
--- what server s shows is told, or that the house has none; the house is the same
+-- the result is what server s shows, or that the house has no such server; the house is the same
 abbrev pub Shows : ℕ → TheHouse → Result ServerView Refusal → TheHouse → Type 0
 Shows s old (Ok view) new = (new ≡ old) × ViewOf counting s old (Ok view)
 Shows s old (Err (refused.House e)) new = (new ≡ old) × ViewOf counting s old (Err e)
 Shows s old (Err _) new = ⊥
 
--- the promise of a server that is there is told, and the house is the same
+-- the result is the promise of a server that is there, and the house is the same
 abbrev pub Promises : ℕ → TheHouse → Result (Option ℕ) Refusal → TheHouse → Type 0
 Promises s old (Ok tick) new = HasServer s old × (new ≡ old) × PromiseOf counting s old tick
 Promises s old (Err e) new = RefusesServer s old e new
 
--- how many slots of its ring the client does not know to be free is told
+-- the result is how many slots of its ring the client does not know to be free
 abbrev pub Waits : TheClient → Result ℕ Refusal → TheClient → Type 0
 Waits old (Ok n) new = LooksAtRing old new × (n + free new ≡ slots_of new)
 Waits old (Err e) new = ⊥
 
--- an end is sent or refused as by the client; or, at any time, it is refused since the house is gone
+-- an end is sent or refused as the client does; or, at any time, it is refused because the house is gone
 abbrev pub Ends : TheClient → Result (Unit {0}) Refusal → TheClient → Type 0
 Ends old (Ok x) new = EndOf old (Ok x) new
 Ends old (Err (refused.Send e)) new = EndOf old (Err e) new
@@ -169,8 +171,8 @@ Ends old (Err _) new = ⊥
 abbrev pub job_of : ℕ → ℕ → UnitJob
 job_of token units = record { token = token; units = units }
 
--- A job is refused by its units, and the client is as before; it is sent or refused as by the client; or, at any time, it is
--- refused since the house is gone.
+-- A job is refused by its units, and the client is as before; or it is sent or refused as the client does. At any time
+-- it may be refused because the house is gone.
 abbrev pub Sends : ℕ → ℕ → TheClient → Result ℕ Refusal → TheClient → Type 0
 Sends token units old (Ok number) new = (task_refusal units ≡ None) × SendOf (job_of token units) old (Ok number) new
 Sends token units old (Err (refused.Task e)) new = (task_refusal units ≡ Some e) × (new ≡ old)

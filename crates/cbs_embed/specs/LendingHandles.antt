@@ -11,14 +11,14 @@ use Rattle.cbs_embed.specs.declared.held.Held.{Held}
 use Rattle.cbs_embed.specs.declared.held.Held.TheVariants.{House, Client}
 use Rattle.cbs_embed.specs.declared.refusal.Refusal.{Refusal}
 
--- the handle holds the last value of r; or holds what it held
+-- after the loan the handle holds the last value of r, or it holds what it held
 abbrev pub LendsOpen : MutBor Handle → Result (MutBor Held) Refusal → Fml
 LendsOpen h r = LendsSoOk handle.the_row held.the_row h r (λ n w. held_by n ≡ Some w) (λ n. held_by n ≡ held_by h.now)
 
--- it holds the house that is left; or holds what it held
+-- after the loan the handle holds the house that is left, or it holds what it held
 abbrev pub LendsOpenHouse : MutBor Handle → Result (MutBor TheHouse) Refusal → Fml
 LendsOpenHouse h r = LendsSoOk handle.the_row house_row h r (λ n w. held_by n ≡ Some (House w)) (λ n. held_by n ≡ held_by h.now)
 
--- it holds the client that is left; or holds what it held
+-- after the loan the handle holds the client that is left, or it holds what it held
 abbrev pub LendsOpenClient : MutBor Handle → Result (MutBor TheClient) Refusal → Fml
 LendsOpenClient h r = LendsSoOk handle.the_row client_row h r (λ n w. held_by n ≡ Some (Client w)) (λ n. held_by n ≡ held_by h.now)

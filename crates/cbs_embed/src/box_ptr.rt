@@ -11,7 +11,7 @@ use std::alloc::Global;
 use std::marker::Model;
 use std::ptr;
 
-/// The pointer of a `Box<Held>`, or null. It owns what the box owns, and frees nothing when it is dropped.
+/// The pointer of a `Box<Held>`, or null. It owns what the box owns, but frees nothing when it is dropped.
 #[repr(C)]
 #[derive(Drop)]
 pub struct BoxPtr {
@@ -27,7 +27,7 @@ impl Model for BoxPtr {
 impl BoxPtr {
     ghost use Rattle.cbs_embed.specs.Lending.{LendsHeld};
 
-    /// Returns null.
+    /// Returns the null pointer.
     pub fn null(alloc: Global) -> BoxPtr
         ensures { result.held ≡ None }
     {
@@ -37,14 +37,14 @@ impl BoxPtr {
         }
     }
 
-    /// Returns the pointer of this box.
+    /// Returns the pointer of a box.
     pub fn of(held: Box<Held>) -> BoxPtr
         ensures { result.held ≡ Some held.value }
     {
         BoxPtr::of_parts(Parts::of(held))
     }
 
-    /// Returns the box again. The pointer must not be null.
+    /// Returns the box of the pointer, which must not be null.
     pub fn into_box(self) -> Box<Held>
         requires { IsSome self.held }
         ensures { Some result.value ≡ self.held }

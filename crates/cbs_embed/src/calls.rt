@@ -1,4 +1,4 @@
-//! The calls on a house or a client that a handle holds.
+//! The calls on a house or a client in a handle.
 
 ghost use Rattle.std.specs.Prelude.{◌≡◌, ◌≤◌, length, IfErr, MatchResult};
 ghost use Rattle.cbs_embed.specs.declared.refusal.HandleError.TheVariants as HandleError;
@@ -18,16 +18,16 @@ use cbs_core::{Charges, Ran, ServerView};
 use cbs_house::{Client, House, HouseError, Poll, Turn};
 use cbs_job::Task;
 
-/// What a run did, and the token of the job that got the unit.
+/// The result of a run, and the token of the job that got the unit.
 #[derive(Clone, Copy, Debug, PartialEq, Eq)]
 pub struct Ticked {
-    /// What the run did.
+    /// The result of the run.
     pub ran: Ran,
     /// The token of the job that got the unit, or 0.
     pub token: u64,
 }
 
-/// Returns the token of the job that a run told of, or 0.
+/// Returns the token of the job in the result of a run, or 0 if no job got a unit.
 fn token_of(house: &House<UnitJob>, ran: Ran) -> u64
     requires { NamesJob counting ran house.now }
     ensures { NamesToken ran result house.now }
@@ -39,7 +39,7 @@ fn token_of(house: &House<UnitJob>, ran: Ran) -> u64
     }
 }
 
-/// Drops the result of a finished job: the host is told its token, and no result is kept.
+/// Drops the result of a finished job. The host gets the job's token, so no result is kept.
 fn forget(house: &mut House<UnitJob>, ran: Ran)
     ensures { Drops ran house.old house.new }
 {
@@ -57,17 +57,17 @@ fn run_house(house: &mut House<UnitJob>) -> Result<Ticked, Refusal>
     Ok(Ticked { ran, token })
 }
 
-/// Runs one unit, as [`House::run`]. Returns what ran, and its token.
+/// Runs one unit, as [`House::run`] does. Returns what ran, and its token.
 pub fn run(handle: &mut Handle) -> Result<Ticked, Refusal>
     ensures { OnHeld (InHouse Runs) (held_by handle.old) result (held_by handle.new) }
 {
     run_house(handle.house_mut()?)
 }
 
-/// What a turn did, the token of the job that got a unit, and whether all is over.
+/// The result of a turn, the token of the job that got a unit, and whether all is over.
 #[derive(Clone, Copy, Debug, PartialEq, Eq)]
 pub struct Turned {
-    /// What the turn did.
+    /// The result of the turn.
     pub turn: Turn,
     /// The token of the job that got a unit, or 0.
     pub token: u64,
@@ -85,14 +85,15 @@ fn turn_house(house: &mut House<UnitJob>) -> Result<Turned, Refusal>
     Ok(Turned { turn, token, over })
 }
 
-/// Takes a turn, as [`House::turn`]. Returns what it did, the token of the unit's job, and whether all is over.
+/// Takes a turn, as [`House::turn`] does. Returns what the turn did, the token of the unit's job, and whether all is
+/// over.
 pub fn turn(handle: &mut Handle) -> Result<Turned, Refusal>
     ensures { OnHeld (InHouse Turns) (held_by handle.old) result (held_by handle.new) }
 {
     turn_house(handle.house_mut()?)
 }
 
-/// Refuses the number of a server that the house has not.
+/// Refuses the number of a server that the house does not have, by [`HouseError::NoSuchServer`].
 fn require_server(house: &House<UnitJob>, server: u16) -> Result<(), Refusal>
     ensures { MatchResult result
         (λ _. HasServer server house.now)
@@ -111,7 +112,8 @@ fn poll_house(house: &mut House<UnitJob>, server: u16) -> Result<Poll, Refusal>
     Ok(house.poll(server))
 }
 
-/// Looks for the next message of a server, as [`House::poll`]. Refuses by [`HouseError::NoSuchServer`].
+/// Looks for the next message of a server, as [`House::poll`] does, and returns what the poll did. Refuses by
+/// [`HouseError::NoSuchServer`] if there is no such server.
 pub fn poll(handle: &mut Handle, server: u16) -> Result<Poll, Refusal>
     ensures { OnHeld (InHouse (Polls server)) (held_by handle.old) result (held_by handle.new) }
 {
@@ -124,7 +126,7 @@ fn advance_house(house: &mut House<UnitJob>, ticks: u64) -> Result<(), Refusal>
     house.advance(ticks).map_err(|error| Refusal::House(error))
 }
 
-/// Lets ticks pass, as [`House::advance`].
+/// Lets ticks pass, as [`House::advance`] does, and refuses by the same error.
 pub fn advance(handle: &mut Handle, ticks: u64) -> Result<(), Refusal>
     ensures { OnHeld (InHouse (Advances ticks)) (held_by handle.old) result (held_by handle.new) }
 {
@@ -139,7 +141,8 @@ fn charge_house(house: &mut House<UnitJob>, server: u16, ticks: u64) -> Result<(
         .map_err(|error| Refusal::House(error))
 }
 
-/// Charges a server the ticks that its last unit took beyond the first, as [`House::charge_server`].
+/// Charges a server the ticks that its last unit took after its first tick, as [`House::charge_server`] does, and
+/// refuses by the same errors.
 pub fn charge(handle: &mut Handle, server: u16, ticks: u64) -> Result<(), Refusal>
     ensures { OnHeld (InHouse (ChargesServer server ticks)) (held_by handle.old) result (held_by handle.new) }
 {
@@ -152,7 +155,7 @@ fn charges_house(house: &mut House<UnitJob>, server: u16) -> Result<Charges, Ref
     house.charges(server).map_err(|error| Refusal::House(error))
 }
 
-/// Returns what a server was charged, as [`House::charges`].
+/// Returns what a server was charged, as [`House::charges`] does.
 pub fn charges(handle: &mut Handle, server: u16) -> Result<Charges, Refusal>
     ensures { OnHeld (InHouse (ShowsCharges server)) (held_by handle.old) result (held_by handle.new) }
 {
@@ -165,7 +168,7 @@ fn now_house(house: &mut House<UnitJob>) -> Result<u64, Refusal>
     Ok(house.now())
 }
 
-/// Returns the clock, as [`House::now`].
+/// Returns the clock, as [`House::now`] does.
 pub fn now(handle: &mut Handle) -> Result<u64, Refusal>
     ensures { OnHeld (InHouse TellsClock) (held_by handle.old) result (held_by handle.new) }
 {
@@ -178,7 +181,7 @@ fn idle_span_house(house: &mut House<UnitJob>) -> Result<Option<u64>, Refusal>
     Ok(house.idle_span())
 }
 
-/// Returns for how many ticks nobody will be ready, as [`House::idle_span`].
+/// Returns for how many ticks no server will be ready, as [`House::idle_span`] does.
 pub fn idle_span(handle: &mut Handle) -> Result<Option<u64>, Refusal>
     ensures { OnHeld (InHouse Spans) (held_by handle.old) result (held_by handle.new) }
 {
@@ -191,7 +194,7 @@ fn view_house(house: &mut House<UnitJob>, server: u16) -> Result<ServerView, Ref
     house.view(server).map_err(|error| Refusal::House(error))
 }
 
-/// Returns what a server shows, as [`House::view`].
+/// Returns a server's view, as [`House::view`] does.
 pub fn view(handle: &mut Handle, server: u16) -> Result<ServerView, Refusal>
     ensures { OnHeld (InHouse (Shows server)) (held_by handle.old) result (held_by handle.new) }
 {
@@ -205,15 +208,15 @@ fn promised_house(house: &mut House<UnitJob>, server: u16) -> Result<Option<u128
     Ok(house.promised(server))
 }
 
-/// Returns the tick by which all that a server took is finished, as [`House::promised`]. Refuses by
-/// [`HouseError::NoSuchServer`].
+/// Returns the tick by which all that a server accepted is finished, as [`House::promised`] does. Refuses by
+/// [`HouseError::NoSuchServer`] if there is no such server.
 pub fn promised(handle: &mut Handle, server: u16) -> Result<Option<u128>, Refusal>
     ensures { OnHeld (InHouse (Promises server)) (held_by handle.old) result (held_by handle.new) }
 {
     promised_house(handle.house_mut()?, server)
 }
 
-/// Refuses a client whose house was freed.
+/// Refuses a client whose house was freed, by [`HandleError::HouseGone`].
 fn require_house(client: &mut Client<UnitJob>) -> Result<(), Refusal>
     ensures looked { LooksAtRing client.old client.new }
     ensures gone { IfErr result (λ e. e ≡ refused.Handle HandleError.HouseGone) }
@@ -234,8 +237,9 @@ fn send_to(client: &mut Client<UnitJob>, token: u64, units: u32) -> Result<u64, 
         .map_err(|refused| Refusal::Send(refused.error))
 }
 
-/// Sends a job, as [`Client::send`]. Refuses, in this order: by its units; by [`HandleError::HouseGone`], if the
-/// client's house was freed; and as [`Client::send`]. Nothing was sent then.
+/// Sends a job, as [`Client::send`] does, and returns its number. Refuses, in this order: by the job's units; by
+/// [`HandleError::HouseGone`] if the client's house was freed; and as [`Client::send`] does. After a refusal nothing
+/// was sent.
 ///
 /// What a client sent before its house was freed is lost with the house.
 pub fn send(handle: &mut Handle, token: u64, units: u32) -> Result<u64, Refusal>
@@ -251,8 +255,8 @@ fn end_of(client: &mut Client<UnitJob>) -> Result<(), Refusal>
     client.end().map_err(|error| Refusal::Send(error))
 }
 
-/// Sends the end, as [`Client::end`]. Refuses by [`HandleError::HouseGone`], if the client's house was freed, and then
-/// as [`Client::end`]. Nothing was sent then.
+/// Sends the end, as [`Client::end`] does. Refuses by [`HandleError::HouseGone`] if the client's house was freed, and
+/// then as [`Client::end`] does. After a refusal nothing was sent.
 pub fn end(handle: &mut Handle) -> Result<(), Refusal>
     ensures { OnHeld (InClient Ends) (held_by handle.old) result (held_by handle.new) }
 {
@@ -265,7 +269,7 @@ fn waiting_of(client: &mut Client<UnitJob>) -> Result<u64, Refusal>
     Ok(client.waiting())
 }
 
-/// Returns how many messages wait in the client's ring, as [`Client::waiting`].
+/// Returns how many messages wait in the client's ring, as [`Client::waiting`] does.
 pub fn waiting(handle: &mut Handle) -> Result<u64, Refusal>
     ensures { OnHeld (InClient Waits) (held_by handle.old) result (held_by handle.new) }
 {

@@ -15,12 +15,12 @@ use cbs_house::{Client, House};
 pub enum Held {
     /// A house.
     House(House<UnitJob>),
-    /// The client of one of its servers.
+    /// The client of one server of a house.
     Client(Client<UnitJob>),
 }
 
 impl Held {
-    /// Returns the house, in place. Refuses by [`HandleError::OtherKind`].
+    /// Returns the house, in place. Refuses by [`HandleError::OtherKind`] if this is a client.
     pub(crate) fn house_mut(&mut self) -> Result<&mut House<UnitJob>, Refusal>
         ensures* writes_back { sem 𝓛 (LendsHouse self.entry result) }
         ensures value { MatchResult result
@@ -33,7 +33,7 @@ impl Held {
         }
     }
 
-    /// Returns the client, in place. Refuses by [`HandleError::OtherKind`].
+    /// Returns the client, in place. Refuses by [`HandleError::OtherKind`] if this is a house.
     pub(crate) fn client_mut(&mut self) -> Result<&mut Client<UnitJob>, Refusal>
         ensures* writes_back { sem 𝓛 (LendsClient self.entry result) }
         ensures value { MatchResult result

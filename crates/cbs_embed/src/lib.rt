@@ -1,5 +1,5 @@
-//! What a host program that is not Rattle is given: handles of houses and clients, and a job whose
-//! units the host does itself.
+//! The calls for a host program that is not written in Rattle: handles of houses and clients, and a job whose units the
+//! host does itself.
 #![tactic(auto)]
 
 mod box_ptr;

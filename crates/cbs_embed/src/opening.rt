@@ -1,4 +1,4 @@
-//! Opening a house with its clients, each in a handle.
+//! Opens a house with its clients, each in a handle.
 
 ghost use Rattle.std.specs.Prelude.{◌≡◌, IfOk, Some, length, map};
 ghost use Rattle.cbs_rate.specs.Refusals.{RefusesByOrMemory};
@@ -18,12 +18,12 @@ use cbs_rules::Setup;
 use std::alloc::{AllocError, Global};
 use std::collections::VecDeque;
 
-/// Opens a house of these servers with its clients, each in a handle: there have to be as many handles as
-/// servers.
+/// Opens a house of these servers with its clients, each in a handle. There must be as many client handles as servers.
 ///
-/// What the handles held is dropped, at success alone. Refuses by the first server that does not fit, as
-/// [`take_all`]; by [`HandleError::WrongCount`]; and as [`open_house_of`]. All handles are then as they were.
-// Here and below: a plan takes half a kilobyte of stack, which the caller's frame is not to have.
+/// What the handles held before is dropped, but only on success. Refuses by the first server that does not fit, as
+/// [`take_all`] does; then by [`HandleError::WrongCount`]; then as [`open_house_of`] does. After a refusal all handles
+/// are as they were.
+// Not inlined, here and below: a plan takes half a kilobyte of stack, which the caller's frame should not include.
 #[inline(never)]
 pub fn open(
     alloc: Global,
@@ -50,7 +50,7 @@ pub fn open(
     }
 }
 
-/// Opens a house with its clients, each in a box.
+/// Opens a house with its clients, and returns each in a box. Refuses as the opening of a house does.
 #[inline(never)]
 fn open_boxes(
     alloc: Global,
@@ -68,7 +68,7 @@ fn open_boxes(
     }
 }
 
-/// Returns the house and each client in a box.
+/// Returns the house and each client in a box, or the error if an allocation is refused.
 #[inline(never)]
 fn box_both(
     alloc: Global,
@@ -85,7 +85,7 @@ fn box_both(
     Ok((held, ends))
 }
 
-/// Returns each client in a box.
+/// Returns each client in a box, or the error if an allocation is refused.
 #[inline(never)]
 fn box_all(alloc: Global, clients: Vec<Client<UnitJob>>) -> Result<Vec<Box<Held>>, AllocError>
     ensures { IfOk result (λ boxes. map (λ b. Some b.value) boxes.items ≡ map (λ c. Some (held.Client c)) clients.items) }

@@ -12,7 +12,7 @@ use crate::server::Server;
 use cbs_rate::{Bound, Reservation};
 use cbs_rules::{Mode, Setup};
 
-/// Returns a setup of no server, within the whole processor.
+/// Returns a setup with no server yet, for the whole processor.
 pub fn whole_processor() -> Setup
     ensures { result ≡ whole_processor }
 {
@@ -22,10 +22,10 @@ pub fn whole_processor() -> Setup
     Setup::new(bound)
 }
 
-/// Takes these servers in, one after another.
+/// Adds these servers to the setup, one after another.
 ///
-/// Refuses by the first server that does not fit: by its reservation, then its admission, then its mode. The setup is
-/// of no use then.
+/// Refuses by the first server that does not fit: by its reservation, then its admission, then its mode. After a
+/// refusal the setup is of no use.
 pub fn take_all(setup: &mut Setup, servers: &[Server]) -> Result<(), Refusal>
     ensures answer { MatchResult result (λ _. setup_refusal setup.old servers.now ≡ None) (λ error. setup_refusal setup.old servers.now ≡ Some error) }
     ensures setup { OnOk result (setup.new ≡ setup_with setup.old servers.now) }
@@ -36,8 +36,8 @@ pub fn take_all(setup: &mut Setup, servers: &[Server]) -> Result<(), Refusal>
     Ok(())
 }
 
-/// Returns whether these servers make a plan within the whole processor: refuses as [`take_all`].
-// Here and below: a plan takes half a kilobyte of stack, which the caller's frame is not to have.
+/// Returns `Ok` if these servers make a plan within the whole processor. Refuses as [`take_all`] does.
+// Not inlined, here and below: a plan takes half a kilobyte of stack, which the caller's frame should not include.
 #[inline(never)]
 pub fn admit(servers: &[Server]) -> Result<(), Refusal>
     ensures { MatchResult result (λ _. setup_refusal whole_processor servers.now ≡ None) (λ error. setup_refusal whole_processor servers.now ≡ Some error) }
@@ -45,7 +45,7 @@ pub fn admit(servers: &[Server]) -> Result<(), Refusal>
     take_all(&mut whole_processor(), servers)
 }
 
-/// Takes one more server in. If it refuses, the setup is of no use any more.
+/// Adds one more server to the setup. After a refusal the setup is of no use.
 fn take_in(setup: &mut Setup, server: Server) -> Result<(), Refusal>
     ensures answer { MatchResult result (λ _. server_refusal setup.old.plan server None ≡ None)
         (λ error. (rest : Option Refusal) → server_refusal setup.old.plan server rest ≡ Some error) }
@@ -65,7 +65,7 @@ fn take_in(setup: &mut Setup, server: Server) -> Result<(), Refusal>
     Ok(())
 }
 
-/// Returns the mode of this number, or [`HandleError::BadMode`].
+/// Returns the mode of this number: 0 soft, 1 throttled. Refuses any other number by [`HandleError::BadMode`].
 pub fn mode_of(mode: u32) -> Result<Mode, Refusal>
     ensures { MatchResult result (λ found. mode_from mode ≡ Some found) (λ error. (mode_from mode ≡ None) × (error ≡ refused.Handle HandleError.BadMode)) }
 {
@@ -76,10 +76,10 @@ pub fn mode_of(mode: u32) -> Result<Mode, Refusal>
     }
 }
 
-/// Returns the greatest budget with which a server of this period would be admitted after these servers, or 0 if
-/// none would.
+/// Returns the greatest budget with which a server of this period would be admitted after these servers, or 0 if none
+/// would be.
 ///
-/// Refuses exactly if these servers are refused themselves, as [`take_all`].
+/// Refuses exactly if these servers themselves are refused, as [`take_all`] refuses them.
 #[inline(never)]
 pub fn greatest_budget(servers: &[Server], period: u64) -> Result<u64, Refusal>
     ensures { MatchResult result

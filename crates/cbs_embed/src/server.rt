@@ -1,6 +1,6 @@
-//! Servers as a host names them.
+//! A server as a host describes it.
 
-/// A server: its reservation, and which rules it follows.
+/// A server: its reservation and its mode.
 #[repr(C)]
 #[derive(Clone, Copy, Debug, PartialEq, Eq)]
 pub struct Server {

@@ -5,7 +5,7 @@ use cbs_house::{HouseError, SendError};
 use cbs_job::TaskError;
 use cbs_rate::{AdmitError, RateError};
 
-/// Each refusal with its text: that of its error, as its `Display` writes it.
+/// Each refusal with its text, which is the text that the error's `Display` writes.
 static TEXTS: [(Refusal, &str); 23] = [
     (
         Refusal::Rate(RateError::ZeroBudget),
@@ -92,7 +92,7 @@ static TEXTS: [(Refusal, &str); 23] = [
     ),
 ];
 
-/// Returns the text of a status that C is told.
+/// Returns the text of a status that a C call returns.
 pub fn text_of(status: u32) -> &'static str {
     if status == 0 {
         return "no error";

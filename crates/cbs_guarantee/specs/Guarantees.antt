@@ -1,4 +1,4 @@
--- All that is guaranteed of the jobs of a server.
+-- All that is guaranteed for the jobs of a server.
 use Rattle.std.specs.Prelude.{ℕ, List}
 use Rattle.cbs_job.specs.Work.{Meaning}
 use Rattle.cbs_rate.specs.Rate.{Rate}
@@ -9,7 +9,7 @@ use Rattle.cbs_steps.specs.declared.step.Step.{Step}
 use Rattle.cbs_guarantee.specs.Streams.{KeepsStreams, KeepsAccepting}
 use Rattle.cbs_guarantee.specs.Overruns.{KeepsOverruns, KeepsAcceptingOverruns, KeepsUnits}
 
--- of several streams, and of one whose units are charged: each job is finished in time, and accepted
+-- for several streams, and for one stream whose units are charged: each job is finished in time, and accepted
 pub record IsGuaranteed {W : Type 0} (work : Meaning W) (N : History W) : Type 0 where
   pub streams : KeepsStreams work N
   pub accepting : KeepsAccepting work N
@@ -17,6 +17,6 @@ pub record IsGuaranteed {W : Type 0} (work : Meaning W) (N : History W) : Type 0
   pub accepting_overruns : KeepsAcceptingOverruns work N
   pub units : KeepsUnits work N
 
--- the history of these steps, of servers with these modes and reservations, and a backlog for each
+-- the history of these steps, for servers with these modes and reservations, each with this backlog
 abbrev pub history_of : {W : Type 0} → List Mode → List Rate → ℕ → List (Step W) → History W
 history_of modes rates backlog steps = record { setup = record { servers = terms_of modes rates; backlog = backlog }; steps = steps }

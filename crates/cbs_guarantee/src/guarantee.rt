@@ -1,4 +1,4 @@
-//! What is guaranteed of the jobs of a server, by its sources alone.
+//! The guarantee for the jobs of a server, by its sources alone.
 
 ghost use Rattle.std.specs.Prelude.{◌≡◌, ◌⊎◌, ℕ, ◌≤◌, ◌<◌, ◌^◌, ◌*◌, length, sum_by, MatchResult, IfOk};
 ghost use Rattle.std.specs.Int.{div_ceil};
@@ -10,18 +10,18 @@ ghost use Rattle.cbs_guarantee.specs.Streams.{all_spans};
 use crate::source::{NotPromised, Source};
 use cbs_rate::{Bound, Plan, Reservation};
 
-/// The most ticks by which the others may delay a server: as long as a clock runs.
+/// The most ticks by which the other servers may delay a server: as long as a clock runs.
 pub const MAX_DELAY: u64 = 1_000_000_000_000;
 
-/// Returns within how many ticks after it came each job of a server's sources is finished, whatever is asked of the
-/// others. All of them are accepted, too, while the server is open.
+/// Returns within how many ticks after it came each job of a server's sources is finished, whatever the others are
+/// asked for. While the server is open, all these jobs are also accepted.
 ///
-/// `delay` is by how many ticks the others may delay it, at most [`MAX_DELAY`]: the most that each of them is charged for one
-/// unit, all together. `backlog` is how many unfinished jobs it may have.
+/// `delay` is the number of ticks by which the other servers may delay this one, at most [`MAX_DELAY`]. It is the most
+/// that each of them is charged for one unit, added up. `backlog` is how many unfinished jobs the server may have.
 ///
-/// Else nothing is promised, and the error says why:
+/// If nothing is promised, returns the reason:
 /// - [`NotPromised::BeyondLimits`]: `delay` or a number of a source is beyond the limits.
-/// - [`NotPromised::AsksTooMuch`]: the sources may ask for more than all its time. Nothing is rounded.
+/// - [`NotPromised::AsksTooMuch`]: the sources may ask for more than all the server's time. Nothing is rounded.
 /// - [`NotPromised::SharedOverrun`]: a unit may overrun, and there are several sources.
 /// - [`NotPromised::LateOverrun`]: a unit may overrun, and a job may not be finished when the next comes.
 /// - [`NotPromised::BacklogTooSmall`]: more jobs than the backlog may be unfinished.
@@ -45,7 +45,7 @@ pub fn guaranteed(
     Ok(within)
 }
 
-/// Returns the sum of the spans of the sources, if they ask for no more than all the time of the server.
+/// Returns the sum of the spans of the sources, or the reason if they ask for more than all the server's time.
 fn spans_of(server: Reservation, sources: &[Source]) -> Result<u64, NotPromised>
     ensures answer { MatchResult result (λ spans. (spans ≡ all_spans (streams_of server sources.now)) × AreBorne server sources.now)
         (λ why. (delay backlog : ℕ) → IsReason server sources.now delay backlog why) }
@@ -65,7 +65,7 @@ fn spans_of(server: Reservation, sources: &[Source]) -> Result<u64, NotPromised>
     Ok(spans)
 }
 
-/// Checks that each source has a stream on the server.
+/// Checks that each source has a stream on the server. Returns the reason if one has none.
 fn check_each(server: Reservation, sources: &[Source]) -> Result<(), NotPromised>
     ensures { MatchResult result (λ _. HaveStreams server sources.now) (λ why. (delay backlog : ℕ) → IsReason server sources.now delay backlog why) }
 {
@@ -75,7 +75,8 @@ fn check_each(server: Reservation, sources: &[Source]) -> Result<(), NotPromised
     Ok(())
 }
 
-/// Checks that no unit overruns, or that there is one source whose jobs are finished one at a time.
+/// Checks that no unit overruns, or that there is one source whose jobs are finished one at a time. Returns the reason
+/// if neither holds.
 fn check_overruns(sources: &[Source], within: u64) -> Result<(), NotPromised>
     ensures { MatchResult result (λ _. NoneOverruns sources.now ⊎ IsOneAtATime sources.now within) (IsOverrunReason sources.now within) }
 {
@@ -89,7 +90,7 @@ fn check_overruns(sources: &[Source], within: u64) -> Result<(), NotPromised>
     }
 }
 
-/// Returns the backlog that the sources need, if each job is finished within so many ticks.
+/// Returns the backlog that the sources need if each job is finished within `within` ticks.
 fn backlog_needed(sources: &[Source], within: u64) -> u64
     requires few { length sources.now ≤ most_servers }
     requires each { AllByRecursion IsSource sources.now }

@@ -1,4 +1,4 @@
-//! The theorem on all lists of steps.
+//! The theorem about all lists of steps.
 
 ghost use Rattle.std.specs.Prelude.{◌≡◌, List, length};
 ghost use Rattle.cbs_guarantee.specs.Guarantees.{IsGuaranteed, history_of};
@@ -8,12 +8,12 @@ use cbs_rate::Plan;
 use cbs_rules::Modes;
 use cbs_steps::{Step, all_punctual};
 
-/// Says what is guaranteed of every list of steps, if the servers were admitted to a plan and each has a mode. It does
-/// nothing: its contract is the theorem, whatever executor makes the steps.
+/// States what is guaranteed for every list of steps, if the servers were admitted to a plan and each has a mode. The
+/// function does nothing. Its contract is the theorem, for every executor that makes the steps.
 ///
-/// Guaranteed is: of a server whose jobs are those of streams that ask for no more than all its time, each is accepted, and
-/// finished all spans and the delay by the others after it came. The one premise on the others is that no advance takes
-/// anybody's time.
+/// The guarantee is for a server whose jobs are those of streams that ask for no more than all its time. Each such job
+/// is accepted. It is finished after all spans and the delay by the other servers, counted from when it came. The one
+/// premise on the others is that no advance takes anybody's time.
 pub fn all_guaranteed<W: Work>(plan: &Plan, modes: &Modes, backlog: u64)
     requires { length modes.now ≡ length plan.now.rates }
     ensures { (steps : List (Step W)) → IsGuaranteed W.meaning (history_of modes.now plan.now.rates backlog steps) }

@@ -1,4 +1,4 @@
-//! What a host hands to a house: a gate, a sink and a meter; what a poll answers; and how a thread rests.
+//! What a host gives to a house: a gate, a sink and a meter; also the result of a poll, and how a thread rests.
 #![tactic(auto)]
 
 mod gate;

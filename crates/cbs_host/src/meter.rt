@@ -1,4 +1,4 @@
-//! Meters: by how many ticks a unit took more than its first.
+//! Meters: how many ticks a unit took after its first tick.
 
 ghost use Rattle.std.specs.Prelude.{ℕ, ◌≡◌, ◌<◌, ◌↔◌, IsSome};
 ghost use Rattle.std.specs.Duration.{as_nanos};
@@ -6,24 +6,25 @@ ghost use Rattle.cbs_host.specs.Meters.{NothingBeyond, ticks_beyond};
 
 use std::time::{Clock, Duration};
 
-/// Is asked after each unit for how long it ran, on the house's thread. The server that got the unit is charged so many
-/// ticks, as by `House::charge`.
+/// A meter. It is asked after each unit for how long the unit ran, on the house's thread. The server that got the unit
+/// is charged the ticks that the meter returns, as by `House::charge`.
 pub trait Meter {
-    /// That it may tell of `n` ticks beyond the first of a unit of server `s`. If a meter does not say otherwise, it may tell
-    /// of any number.
+    /// The rule that it may return `n` ticks after the first for a unit of server `s`. If a meter does not say
+    /// otherwise, it may return any number.
     ghost may_tell: { ℕ → ℕ → Type 0 } = { λ s n. Unit {0} };
 
-    /// Told that a unit is about to run, or nothing, if nobody is ready.
+    /// Begins a measurement: a unit is about to run, or no unit if no server is ready.
     fn begin(&mut self);
 
-    /// Returns how many ticks the unit that `server` just got took beyond its first. It is asked once after each unit.
+    /// Returns how many ticks the unit that `server` just got took after its first tick. It is called once after each
+    /// unit.
     ///
-    /// Round up: a unit that took some of a tick took all of it.
+    /// Round up: a unit that took part of a tick took all of it.
     fn beyond(&mut self, server: u16) -> u64
         ensures { may_tell server result };
 }
 
-/// The meter that never charges: each unit takes one tick, however long that is.
+/// The meter that never charges: each unit counts as one tick, however long it takes.
 #[derive(Clone, Copy, Debug)]
 pub struct NoMeter;
 
@@ -43,17 +44,17 @@ impl Meter for NoMeter {
 
 /// The meter that measures each unit by a runtime's clock, [`Clock::monotonic`], in ticks of one length.
 ///
-/// A unit of at most one tick is charged nothing; a longer one is charged each further tick that it began. If the clock
-/// cannot be read, or goes back, nothing is charged.
+/// A unit of at most one tick is charged nothing. A longer unit is charged each further tick that it began. If the
+/// clock cannot be read, or goes back, nothing is charged.
 pub struct ClockMeter<'a, R: Clock> {
     rt: &'a R,
     tick: Duration,
-    // when the unit began, if the clock could be read
+    // The time when the unit began, if the clock could be read.
     begun: Option<Duration>,
     ghost long: { 0 < as_nanos tick },
 }
 
-// By hand, so that it asks nothing of the runtime.
+// Dropped by hand, so that the drop has no requirement on the runtime.
 impl<'a, R: Clock> Drop for ClockMeter<'a, R> {
     fn drop(self) {
         let ClockMeter {
@@ -65,7 +66,7 @@ impl<'a, R: Clock> Drop for ClockMeter<'a, R> {
 }
 
 impl<'a, R: Clock> ClockMeter<'a, R> {
-    /// Returns a meter with ticks of this length, or `None` if that is zero.
+    /// Returns a meter with ticks of this length, or `None` if the length is zero.
     pub fn new(rt: &'a R, tick: Duration) -> Option<ClockMeter<'a, R>>
         ensures { IsSome result ↔ (0 < as_nanos tick) }
     {
@@ -93,7 +94,7 @@ impl<'a, R: Clock> Meter for ClockMeter<'a, R> {
     }
 }
 
-/// Returns how many ticks a unit took beyond its first, rounded up; at most `u64::MAX`.
+/// Returns how many ticks a unit took after its first tick, rounded up, and at most `u64::MAX`.
 fn beyond_first(took: Duration, tick: Duration) -> u64
     requires { 0 < as_nanos tick }
     ensures { result ≡ ticks_beyond (as_nanos took) (as_nanos tick) }

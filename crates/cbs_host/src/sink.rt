@@ -1,17 +1,17 @@
-//! What is told of completions.
+//! The sink of completions.
 
 ghost use Rattle.std.specs.Prelude.{◌≡◌};
 ghost use Rattle.cbs_job.specs.declared.completion.Completion.{Completion};
 
 use cbs_job::Completion;
 
-/// Is told of each completion, as it comes. It is told on the house's thread, between two turns, so
-/// the house does nothing meanwhile.
+/// A sink is given each completion, as it comes. It is called on the house's thread, between two turns, so the house
+/// does nothing meanwhile.
 pub trait Sink {
-    /// What telling does to it. Of every sink that does not say otherwise nothing is known.
+    /// What a completion does to the sink. If a sink does not say otherwise, nothing is known about it.
     ghost hears: { Self → Completion → Self → Type 0 } = { λ _ _ _. Unit {0} };
 
-    /// Told of a completion.
+    /// Takes a completion.
     fn tell(&mut self, done: Completion)
         ensures { hears self.old done self.new };
 }

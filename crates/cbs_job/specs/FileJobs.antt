@@ -1,4 +1,4 @@
--- The jobs that a task file may ask for: each means what the job in it means.
+-- The jobs that a task file may ask for: each has the meaning of the job inside.
 use Rattle.std.specs.Prelude.{ℕ}
 use Rattle.cbs_job.specs.Work.{Meaning, Lowers}
 use Rattle.cbs_job.specs.Numbers.{summing, peaking, taking_in_lowers}
@@ -20,11 +20,11 @@ abbrev pub after_inside : FileJob → FileJob
 after_inside (Sum p) = Sum (summing.after p)
 after_inside (Peak p) = Peak (peaking.after p)
 
--- what the calls of such a job mean
+-- the meaning of the calls of such a job
 abbrev pub of_files : Meaning FileJob
 of_files = record { left = left_inside; output = output_inside; after = after_inside }
 
--- they keep the law of work
+-- the jobs of task files keep the law of work
 pub of_files_lowers : Lowers of_files
 of_files_lowers (Sum p) some = taking_in_lowers _ p some
 of_files_lowers (Peak p) some = taking_in_lowers _ p some

@@ -1,10 +1,10 @@
--- Jobs over a list of numbers, of which each unit takes one.
+-- Jobs over a list of numbers. Each unit takes one number.
 use Rattle.std.specs.Prelude.{◌≡◌, ℕ, ◌+◌, ◌-◌, ◌≤◌, ◌<◌, max, List, [], ◌∷◌, length, All, Contains}
 use Rattle.std.proofs.Common.{refl, sym}
 use Rattle.std.proofs.Math.Numerals.{sub-one}
 use Rattle.cbs_job.specs.Work.{Meaning, Lowers}
 
--- how far such a job has come: the numbers not yet stepped over, and the output so far
+-- how far such a job has come: the numbers not yet taken, and the output so far
 pub record Progress : Type 0 where
   pub numbers : List ℕ
   pub output : ℕ
@@ -18,7 +18,7 @@ stepped take_in (n ∷ ns) output = record { numbers = ns; output = take_in outp
 abbrev pub taking_in : (ℕ → ℕ → ℕ) → Meaning Progress
 taking_in take_in = record { left = λ p. length p.numbers; output = λ p. p.output; after = λ p. stepped take_in p.numbers p.output }
 
--- one unit leaves one number less
+-- one unit leaves one number fewer
 lowers_by : (f : ℕ → ℕ → ℕ) (ns : List ℕ) (output : ℕ) → 0 < length ns → length (stepped f ns output).numbers ≡ length ns - 1
 lowers_by f [] output some = refl
 lowers_by f (n ∷ ns) output some = sym (sub-one (length (n ∷ ns)))
@@ -35,7 +35,7 @@ summing = taking_in (λ total n. total + n)
 abbrev pub peaking : Meaning Progress
 peaking = taking_in (λ greatest n. max greatest n)
 
--- the number is the greatest of the list, or 0 where the list has none
+-- the number is the greatest of the list, or 0 if the list has no number
 pub record IsPeak (numbers : List ℕ) (peak : ℕ) : Type 0 where
   pub bound : All (λ n. n ≤ peak) numbers
   pub member : 0 < length numbers → Contains numbers peak

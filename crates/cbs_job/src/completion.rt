@@ -1,6 +1,6 @@
 //! The completion of a job.
 
-/// Job `seq` of `server` is finished, with this result.
+/// The completion of job `seq` of `server`, with its result.
 #[derive(Clone, Copy, Debug, PartialEq, Eq)]
 pub struct Completion {
     /// The server whose job it was.

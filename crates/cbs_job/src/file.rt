@@ -8,13 +8,13 @@ use crate::work::Work;
 
 /// A job of a task file. It does what the job inside does.
 pub enum FileJob {
-    /// Adds numbers up.
+    /// A job that adds numbers up.
     Sum(SumJob),
-    /// Seeks the greatest number.
+    /// A job that seeks the greatest number.
     Peak(PeakJob),
 }
 
-// One call on each way out of what owns a job.
+// An owner of a job calls this one function at each exit, instead of the drops of all fields.
 impl Drop for FileJob {
     fn drop(self) {
         match self {

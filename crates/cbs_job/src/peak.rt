@@ -8,14 +8,14 @@ ghost use Rattle.cbs_rate.specs.Limits.{greatest_number};
 use crate::work::Work;
 use std::marker::Model;
 
-/// Seeks the greatest number, one number in each unit. Its output is the greatest so far, 0 at first.
+/// A job that seeks the greatest number, one number in each unit. Its output is the greatest so far, 0 at first.
 pub struct PeakJob {
     numbers: Vec<u32>,
     next: usize,
     greatest: u32,
 }
 
-// One call on each way out of what owns a job.
+// An owner of a job calls this one function at each exit, instead of the drops of all fields.
 impl Drop for PeakJob {
     fn drop(self) {
         let PeakJob {
@@ -35,8 +35,8 @@ impl Model for PeakJob {
 }
 
 impl PeakJob {
-    /// The greatest of at most 4,294,967,295 numbers: as many units, and the greatest as the result,
-    /// or 0 where there is none. After k units the output is the greatest of the first k numbers.
+    /// Returns a job over at most 4,294,967,295 numbers, with as many units. Its result is the greatest number, or 0 if
+    /// there is no number. After k units its output is the greatest of the first k numbers.
     pub fn new(numbers: Vec<u32>) -> PeakJob
         requires { length numbers.items ≤ greatest_number }
         ensures value { result ≡ record { numbers = numbers.items; output = 0 } }

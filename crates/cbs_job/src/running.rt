@@ -1,4 +1,4 @@
-//! Work that was begun.
+//! Work that was started.
 
 ghost use Rattle.std.specs.Prelude.{◌≡◌, ◌<◌, ◌-◌};
 ghost use Rattle.cbs_job.specs.Work.{whole};
@@ -19,21 +19,21 @@ impl<W: Work> Model for Running<W> {
 }
 
 impl<W: Work> Running<W> {
-    /// The work of a task.
+    /// Returns the work of a task, started.
     pub(crate) fn of(work: W) -> Running<W>
         ensures { result ≡ work }
     {
         Running { work }
     }
 
-    /// How many units are left.
+    /// Returns how many units are left.
     pub fn left(&self) -> u32
         ensures { result ≡ W.meaning.left self.now }
     {
         self.work.left()
     }
 
-    /// Does one unit. A unit must be left. What the work comes to as a whole stays the same.
+    /// Does one unit. A unit must be left. The whole result of the work stays the same.
     pub fn step(&mut self)
         requires { 0 < W.meaning.left self.old }
         ensures after { self.new ≡ W.meaning.after self.old }
@@ -43,7 +43,7 @@ impl<W: Work> Running<W> {
         self.work.step();
     }
 
-    /// The output so far; once no unit is left, the whole result.
+    /// Returns the output so far. If no unit is left, this is the whole result.
     pub fn output(&self) -> u64
         ensures value { result ≡ W.meaning.output self.now }
         ensures last { W.meaning.left self.now ≡ 0 → result ≡ whole W.meaning self.now }

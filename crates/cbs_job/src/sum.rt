@@ -8,14 +8,14 @@ ghost use Rattle.cbs_rate.specs.Limits.{greatest_number};
 use crate::work::Work;
 use std::marker::Model;
 
-/// Adds numbers up, one in each unit. Its output is the total so far, 0 at first.
+/// A job that adds numbers up, one in each unit. Its output is the total so far, 0 at first.
 pub struct SumJob {
     numbers: Vec<u32>,
     next: usize,
     total: u64,
 }
 
-// One call on each way out of what owns a job.
+// An owner of a job calls this one function at each exit, instead of the drops of all fields.
 impl Drop for SumJob {
     fn drop(self) {
         let SumJob {
@@ -35,8 +35,8 @@ impl Model for SumJob {
 }
 
 impl SumJob {
-    /// The sum of at most 4,294,967,295 numbers: as many units, and their total as the result.
-    /// After k units the output is the total of the first k numbers.
+    /// Returns a job over at most 4,294,967,295 numbers, with as many units. Its result is their total. After k units
+    /// its output is the total of the first k numbers.
     pub fn new(numbers: Vec<u32>) -> SumJob
         requires { length numbers.items ≤ greatest_number }
         ensures value { result ≡ record { numbers = numbers.items; output = 0 } }

@@ -12,7 +12,7 @@ use thiserror::Error;
 /// The most units that a job may have.
 pub const MAX_UNITS: u32 = 1_000_000;
 
-/// Work with 1 to [`MAX_UNITS`] units left, which nobody has begun on: it has no `step`.
+/// Work with 1 to [`MAX_UNITS`] units left, of which no unit was run: it has no `step`.
 #[derive(Drop)]
 pub struct Task<W: Work> {
     work: W,
@@ -26,7 +26,7 @@ impl<W: Work> Model for Task<W> {
     ghost invariant = { λ t. (0 < W.meaning.left t.work) × (W.meaning.left t.work ≤ most_units) };
 }
 
-/// Why work makes no task.
+/// The reason why work makes no task.
 #[derive(Clone, Copy, Debug, PartialEq, Eq, Error)]
 pub enum TaskError {
     /// No unit is left: there is nothing to run.
@@ -40,14 +40,14 @@ pub enum TaskError {
 impl TaskError {
     ghost use Rattle.cbs_job.specs.Tasks.{task_error_number, task_error_name};
 
-    /// The error's number, from 1.
+    /// Returns the error's number, from 1.
     pub fn number(self) -> u8
         ensures { result ≡ task_error_number self }
     {
         self as u8
     }
 
-    /// The error's name: that of its variant.
+    /// Returns the error's name: that of its variant.
     pub fn name(self) -> &'static str
         ensures { result.now ≡ task_error_name self }
     {
@@ -70,10 +70,10 @@ pub struct TaskRefused<W: Work> {
 impl<W: Work> Task<W> {
     ghost use Rattle.cbs_job.specs.Tasks.{task_refusal};
 
-    /// The task of some work.
+    /// Returns the task of some work.
     ///
-    /// Refuses work with no unit left by [`TaskError::EmptyJob`], and with more than [`MAX_UNITS`]
-    /// by [`TaskError::TooLong`]; the work then comes back as it was.
+    /// Refuses work with no unit left by [`TaskError::EmptyJob`], and work with more than [`MAX_UNITS`] units left by
+    /// [`TaskError::TooLong`]. A refusal hands the work back as it was.
     pub fn new(work: W) -> Result<Task<W>, TaskRefused<W>>
         ensures ok { IfOk result (λ task. task ≡ work) }
         ensures back { IfErr result (λ refused. refused.work ≡ work) }
@@ -95,7 +95,7 @@ impl<W: Work> Task<W> {
         Ok(Task { work })
     }
 
-    /// How many units are left: 1 to [`MAX_UNITS`].
+    /// Returns how many units are left: 1 to [`MAX_UNITS`].
     pub fn left(&self) -> u32
         ensures value { result ≡ W.meaning.left self.now }
         ensures some { 0 < result }
@@ -104,7 +104,7 @@ impl<W: Work> Task<W> {
         self.work.left()
     }
 
-    /// Begins on the task: the same work, which may now be stepped.
+    /// Starts the task: returns the same work, which may now be stepped.
     pub fn start(self) -> Running<W>
         ensures work { result ≡ self }
         ensures some { 0 < W.meaning.left self }

@@ -5,13 +5,13 @@ ghost use Rattle.cbs_job.specs.Work.{Meaning, Lowers};
 
 /// A piece of work that is done in units, and may rest between two of them.
 ///
-/// Law: `step` lowers `left` by one. So a work of n units is finished after n steps, whoever makes
-/// them and whatever happens in between.
+/// Law: `step` lowers `left` by one. So work of n units is finished after n steps, whoever makes them and whatever
+/// happens in between.
 pub trait Work: Drop {
-    /// What the calls mean.
+    /// The meaning of the calls.
     ghost meaning: { Meaning Self };
 
-    /// How many units are left.
+    /// Returns how many units are left.
     fn left(&self) -> u32
         ensures { result ≡ meaning.left self.now };
 
@@ -20,10 +20,10 @@ pub trait Work: Drop {
         requires { 0 < meaning.left self.old }
         ensures { self.new ≡ meaning.after self.old };
 
-    /// The output so far; once no unit is left, the whole result.
+    /// Returns the output so far. If no unit is left, this is the whole result.
     fn output(&self) -> u64
         ensures { result ≡ meaning.output self.now };
 
-    /// A unit lowers what is left by one.
+    /// The law: a unit lowers the number of units left by one.
     ghost lowers: { Lowers meaning };
 }

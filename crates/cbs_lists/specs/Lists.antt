@@ -1,7 +1,7 @@
--- A list of which one element is changed.
+-- A list with one element changed.
 use Rattle.std.specs.Prelude.{ℕ, zero, suc, List, [], ◌∷◌}
 
--- the list with f of the element at i in its place
+-- the list in which the element at i is replaced by f of that element
 abbrev pub changed_at : {X : Type 0} → (X → X) → List X → ℕ → List X
 changed_at f [] i = []
 changed_at f (x ∷ xs) zero = f x ∷ xs

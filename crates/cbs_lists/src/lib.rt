@@ -1,3 +1,3 @@
-//! Words and lemmas on lists that the other crates share: a list of which one element is changed, two lists place by
-//! place, and sums. There is no code in it.
+//! Definitions and lemmas about lists that the other crates share: a list with one element changed, two lists place by
+//! place, and sums. The crate contains no code.
 #![tactic(auto)]

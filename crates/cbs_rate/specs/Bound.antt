@@ -1,4 +1,4 @@
--- What bounds the total bandwidth of a plan.
+-- The bound on the total bandwidth of a plan.
 use Rattle.std.specs.Prelude.{ℕ, ◌≤◌, ◌<◌, ◌||◌, eqb, ltb, if◌then◌else◌, Option, Some, None}
 use Rattle.cbs_rate.specs.declared.error.RateError.{RateError}
 use Rattle.cbs_rate.specs.declared.error.RateError.TheVariants.{BadBound}
@@ -8,7 +8,7 @@ pub record Fraction : Type 0 where
   pub num : ℕ
   pub den : ℕ
 
--- a part of a processor that may bound a plan: some of it, and at most the whole
+-- a part of a processor that may bound a plan: more than none of it, and at most the whole
 pub record IsBound (num den : ℕ) : Type 0 where
   pub some : 0 < num
   pub at_most_one : num ≤ den

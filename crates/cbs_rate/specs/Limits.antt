@@ -1,7 +1,7 @@
--- The limits that the crates share, each named once. The code has each as a constant of its own.
+-- The limits that the crates share, each defined once. The code of each crate has its own constant for them.
 use Rattle.std.specs.Prelude.{ℕ}
 
--- how many servers there are at most
+-- the greatest number of servers
 abbrev pub most_servers : ℕ
 most_servers = 64
 
@@ -13,22 +13,22 @@ longest_period = 1_000_000_000
 abbrev pub greatest_denominator : ℕ
 greatest_denominator = 1_000_000
 
--- the greatest common multiple of a plan's periods
+-- the greatest least common multiple of a plan's periods
 abbrev pub greatest_common_multiple : ℕ
 greatest_common_multiple = 1_000_000_000_000_000_000
 
--- how many units a job has at most
+-- the greatest number of units of a job
 abbrev pub most_units : ℕ
 most_units = 1_000_000
 
--- the greatest number that a job adds up or looks at
+-- the greatest number that a job adds or compares
 abbrev pub greatest_number : ℕ
 greatest_number = 4_294_967_295
 
--- how many unfinished jobs a server holds at most
+-- the greatest number of unfinished jobs of a server
 abbrev pub most_backlog : ℕ
 most_backlog = 4096
 
--- how many messages a ring is opened for at most
+-- the greatest number of messages for which a ring may be opened
 abbrev pub most_ring : ℕ
 most_ring = 1024

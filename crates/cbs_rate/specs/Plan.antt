@@ -1,4 +1,4 @@
--- What a plan is: rates whose sum stays within a bound, and when it takes one more.
+-- What a plan is: rates whose sum stays within a bound; and when it admits one more.
 use Rattle.std.specs.Prelude.{◌≡◌, ℕ, zero, suc, ◌+◌, ◌*◌, ◌/◌, ◌%◌, ◌≤◌, ◌<◌, Bool, true, false, eqb, leb, ltb, if◌then◌else◌, List, [], ◌∷◌, ◌++◌}
 use Rattle.std.specs.Prelude.{◌&&◌, length, sum_by, IsTrue, Option, Some, None}
 use Rattle.std.specs.Option.{is_none}
@@ -14,7 +14,7 @@ pub record Planned : Type 0 where
   pub bound : Fraction
   pub rates : List Rate
 
--- the ticks that a server of this rate may run in so many ticks, where its period divides them
+-- the ticks that a server of this rate may run in so many ticks, if its period divides them
 abbrev pub share : ℕ → Rate → ℕ
 share ticks r = r.budget * (ticks / r.period)
 
@@ -27,9 +27,9 @@ all_periods (r ∷ rs) = r.period * all_periods rs
 abbrev pub total_share : List Rate → ℕ
 total_share rates = sum_by (share (all_periods rates)) rates
 
--- Whether the rates fit the bound: the sum of budget / period over all of them is at most num / den, both sides
--- taken times den and times the product of all periods. With the bound 1/1 it is the processor utilisation up to
--- which earliest deadline first meets every deadline (Liu and Layland 1973).
+-- Whether the rates fit the bound: the sum of budget / period over all of them is at most num / den. Both sides are
+-- taken times den and times the product of all periods. With the bound 1/1 it is the processor utilisation up to which
+-- earliest deadline first meets every deadline.
 abbrev pub fits : Fraction → List Rate → Bool
 fits bound rates = leb (bound.den * total_share rates) (bound.num * all_periods rates)
 
@@ -43,19 +43,19 @@ pub record IsLeastCommonMultiple (m : ℕ) (rates : List Rate) : Type 0 where
   pub common : IsCommonMultiple m rates
   pub least : (k : ℕ) → 0 < k → IsCommonMultiple k rates → m ≤ k
 
--- the first of `from`, `from + 1`, .., up to `from + room`, that every period divides, or else `from + room`
+-- the first number from `from` to `from + room` that every period divides, or else `from + room`
 abbrev pub common_multiple_from : List Rate → ℕ → ℕ → ℕ
 common_multiple_from rates from zero = from
 common_multiple_from rates from (suc room) =
     elim (list_all (λ r. eqb (from % r.period) 0) rates) [ true ↦ from | false ↦ common_multiple_from rates (from + 1) room ]
 
--- the least common multiple of all periods: the least positive number that every period divides
--- (`IsLeastCommonMultiple`), which is found at the product of all periods at the latest
+-- The least common multiple of all periods: the least positive number that every period divides
+-- (`IsLeastCommonMultiple`). The search finds it at the product of all periods at the latest
 unfoldable pub common_multiple : List Rate → ℕ
 common_multiple rates = common_multiple_from rates 1 (all_periods rates)
 
--- What every plan keeps: at most 64 rates within the limits of a reservation, periods whose least common multiple
--- is at most 10^18, and a total bandwidth of at most the bound, and so of at most one.
+-- What every plan keeps: at most 64 rates within the limits of a reservation, periods whose least common multiple is at
+-- most 10^18, and a total bandwidth of at most the bound, and so of at most one.
 pub record IsPlan (plan : Planned) : Type 0 where
   pub few : length plan.rates ≤ most_servers
   pub lawful : AllByRecursion (λ r. IsRate r.budget r.period) plan.rates
@@ -63,7 +63,7 @@ pub record IsPlan (plan : Planned) : Type 0 where
   pub fits : IsTrue (fits plan.bound plan.rates)
   pub at_most_one : total_share plan.rates ≤ all_periods plan.rates
 
--- why a plan does not take one more rate, if it does not: the first of the three tests that applies
+-- why a plan does not admit one more rate, if it does not: the first of the three tests that fails
 abbrev pub admit_refusal : Planned → Rate → Option AdmitError
 admit_refusal plan r =
     if leb most_servers (length plan.rates) then Some TooManyServers
@@ -75,11 +75,11 @@ admit_refusal plan r =
 abbrev pub with_rate : Planned → Rate → Planned
 with_rate plan r = record plan { rates = plan.rates ++ r ∷ [] }
 
--- whether the plan takes one more server of this budget and period
+-- whether the plan admits one more server of this budget and period
 abbrev pub takes : Planned → ℕ → ℕ → Bool
 takes plan budget period = is_none (rate_refusal budget period) && is_none (admit_refusal plan (record { budget = budget; period = period }))
 
--- the plan takes a server of this budget, or the budget is 0; and it takes none with a greater budget
+-- the plan admits a server of this budget, or the budget is 0; and it admits no server with a greater budget
 pub record IsGreatestBudget (plan : Planned) (period budget : ℕ) : Type 0 where
   pub fits : 0 < budget → takes plan budget period ≡ true
   pub greatest : (more : ℕ) → budget < more → takes plan more period ≡ false

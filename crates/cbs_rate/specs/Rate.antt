@@ -15,7 +15,7 @@ pub record IsRate (budget period : ℕ) : Type 0 where
   pub within : budget ≤ period
   pub short : period ≤ longest_period
 
--- why a budget and a period make no reservation, if they make none: the first of the three tests that applies
+-- why a budget and a period make no reservation, if they make none: the first of the three tests that fails
 abbrev pub rate_refusal : ℕ → ℕ → Option RateError
 rate_refusal budget period =
     if eqb budget 0 then Some ZeroBudget

@@ -1,10 +1,10 @@
-//! Parts of the time.
+//! Parts of the processor's time.
 
-/// A part of the time: so many ticks in every so many. It may be shortened.
+/// A part of the processor's time: `ticks` in every `of` ticks. The fraction may be reducible.
 #[derive(Clone, Copy, Debug, PartialEq, Eq)]
 pub struct Bandwidth {
-    /// The ticks.
+    /// The ticks that may be taken.
     pub ticks: u64,
-    /// In every so many ticks, 1 or more.
+    /// The ticks in which they may be taken, 1 or more.
     pub of: u64,
 }

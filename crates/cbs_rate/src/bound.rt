@@ -31,7 +31,7 @@ impl Model for Bound {
 }
 
 impl Bound {
-    /// The bound of `num` of every `den` ticks.
+    /// Returns the bound of `num` of every `den` ticks.
     ///
     /// Refuses with [`RateError::BadBound`] unless `1 <= num <= den <= MAX_DENOMINATOR`.
     pub fn new(num: u64, den: u64) -> Result<Bound, RateError>
@@ -62,8 +62,8 @@ impl Bound {
         u64::from(self.den)
     }
 
-    /// Whether `taken` of `ticks` is at most this bound, exactly: the products are compared, and
-    /// nothing is divided.
+    /// Returns whether `taken` of `ticks` is at most this bound, exactly: the products are compared, and nothing is
+    /// divided.
     pub(crate) fn allows(self, taken: u64, ticks: u64) -> bool
         ensures value { IsTrue result ↔ (self.den * taken ≤ self.num * ticks) }
         ensures lawful { IsBound self.num self.den }

@@ -1,5 +1,5 @@
-//! Reservations, a budget of so many ticks in every period of so many ticks, and plans: lists of
-//! reservations whose total bandwidth stays within a bound.
+//! Reservations and plans. A reservation is a budget of so many ticks in every period of so many ticks. A plan is a
+//! list of reservations whose total bandwidth stays within a bound.
 #![tactic(auto)]
 
 mod bandwidth;

@@ -1,4 +1,4 @@
-//! A limit that the crates share, and that no other crate below them is the home of.
+//! A limit that several crates share. This is the lowest crate that can define it.
 
-/// The most messages that a ring is opened for.
+/// The greatest number of messages for which a ring may be opened.
 pub const MAX_RING: u64 = 1024;

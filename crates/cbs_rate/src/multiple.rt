@@ -3,7 +3,7 @@
 ghost use Rattle.std.specs.Prelude.{◌≡◌, ℕ, ◌*◌, ◌/◌, ◌<◌};
 ghost use Rattle.std.specs.Int.{IsGcd};
 
-/// The greatest number that divides both, by Euclid's steps.
+/// Returns the greatest number that divides both, by Euclid's algorithm.
 fn greatest_common_divisor(a: u64, b: u64) -> u64
     ensures { IsGcd a b result }
 {
@@ -17,7 +17,7 @@ fn greatest_common_divisor(a: u64, b: u64) -> u64
     divisor
 }
 
-/// The least common multiple of both: one over their greatest common divisor, times the other.
+/// Returns the least common multiple of both: one divided by their greatest common divisor, times the other.
 pub(crate) fn least_common_multiple(a: u64, b: u64) -> u128
     requires { 0 < a }
     ensures { (g : ℕ) × IsGcd a b g × (result ≡ a / g * b) }

@@ -19,26 +19,25 @@ pub const MAX_SERVERS: usize = 64;
 /// The greatest least common multiple of all periods of a plan, in ticks.
 pub const MAX_COMMON_MULTIPLE: u64 = 1_000_000_000_000_000_000;
 
-/// The reservations of at most [`MAX_SERVERS`] servers, numbered from 0 in the order in which they
-/// were admitted. Their total bandwidth, the sum of budget over period, is at most the plan's bound,
-/// and the least common multiple of their periods at most [`MAX_COMMON_MULTIPLE`]. They lie in the
-/// plan itself: no call takes memory.
+/// The reservations of at most [`MAX_SERVERS`] servers, numbered from 0 in the order in which they were admitted. Their
+/// total bandwidth, the sum of budget over period, is at most the plan's bound. The least common multiple of their
+/// periods is at most [`MAX_COMMON_MULTIPLE`]. The reservations lie in the plan itself: no call takes memory.
 #[derive(Debug, Drop)]
 pub struct Plan {
     bound: Bound,
     rates: ArrayVec<Reservation, MAX_SERVERS>,
-    // the least common multiple of all periods
+    // The least common multiple of all periods.
     common: u64,
-    // what all servers together may run in as many ticks
+    // The ticks that all servers together may run in `common` ticks.
     taken: u64,
 }
 
-/// What is kept of all servers of a plan.
+/// The sums that are kept over all servers of a plan.
 #[derive(Clone, Copy)]
 struct Sums {
-    // the least common multiple of all periods
+    // The least common multiple of all periods.
     common: u64,
-    // what all servers together may run in as many ticks
+    // The ticks that all servers together may run in `common` ticks.
     taken: u64,
 }
 
@@ -55,7 +54,7 @@ impl Model for Plan {
 }
 
 impl Plan {
-    /// A plan with no server, whose servers may take `bound` of the processor together.
+    /// Returns a plan with no server, whose servers may together take `bound` of the processor.
     pub fn new(bound: Bound) -> Plan
         ensures { result ≡ record { bound = bound; rates = [] } }
     {
@@ -74,7 +73,7 @@ impl Plan {
         self.bound
     }
 
-    /// The number of servers.
+    /// Returns the number of servers.
     pub fn len(&self) -> usize
         ensures value { result ≡ length self.now.rates }
         ensures lawful { IsPlan self.now }
@@ -82,14 +81,14 @@ impl Plan {
         self.rates.len()
     }
 
-    /// Whether there is no server.
+    /// Returns whether there is no server.
     pub fn is_empty(&self) -> bool
         ensures { IsTrue result ↔ (self.now.rates ≡ []) }
     {
         self.rates.is_empty()
     }
 
-    /// The reservation of the server with this number, or `None` where the plan has no such server.
+    /// Returns the reservation of the server with this number, or `None` if the plan has no such server.
     pub fn get(&self, server: u16) -> Option<Reservation>
         ensures value { result ≡ slice_get self.now.rates server }
         ensures lawful { IsPlan self.now }
@@ -97,20 +96,22 @@ impl Plan {
         self.rates.get(usize::from(server)).copied()
     }
 
-    /// Takes one more server with this reservation, and answers its number.
+    /// Adds one more server with this reservation, and returns its number.
     ///
-    /// Refuses, in this order: [`AdmitError::TooManyServers`] where the plan has [`MAX_SERVERS`]
-    /// servers already, [`AdmitError::PeriodsTooFine`] where the least common multiple of all
-    /// periods, the new one included, would pass [`MAX_COMMON_MULTIPLE`], and
-    /// [`AdmitError::OverBound`] where the sum of budget over period, the new one included, would
-    /// pass the bound. The sum is exact: nothing is rounded. A plan that refuses is unchanged.
+    /// Refuses, in this order:
+    /// - [`AdmitError::TooManyServers`] if the plan has [`MAX_SERVERS`] servers already;
+    /// - [`AdmitError::PeriodsTooFine`] if the least common multiple of all periods, with the new one, would pass
+    ///   [`MAX_COMMON_MULTIPLE`];
+    /// - [`AdmitError::OverBound`] if the sum of budget over period, with the new server, would pass the bound.
+    ///
+    /// The sum is exact: nothing is rounded. A refusal leaves the plan unchanged.
     pub fn admit(&mut self, reservation: Reservation) -> Result<u16, AdmitError>
         ensures answer { AnswersBy result (admit_refusal self.old reservation) (length self.old.rates) }
         ensures ok { OnOk result (self.new ≡ record self.old { rates = self.old.rates ++ reservation ∷ [] }) }
         ensures err { OnErr result (self.new ≡ self.old) }
         ensures lawful { IsPlan self.new }
 
-        // What the common multiple of the second test is, in the words of its definition.
+        // The common multiple of the second test, by its definition.
         ensures least { let rates = self.old.rates ++ reservation ∷ [] in
             IsLeastCommonMultiple (common_multiple rates) rates }
     {
@@ -122,8 +123,8 @@ impl Plan {
         Ok(server)
     }
 
-    /// Returns the total bandwidth, the sum of budget over period, exactly: the ticks that all servers together may run in as
-    /// many as the least common multiple of their periods.
+    /// Returns the total bandwidth, the sum of budget over period, exactly. It is the ticks that all servers together
+    /// may run in as many ticks as the least common multiple of their periods.
     pub fn bandwidth(&self) -> Bandwidth
         ensures value { result ≡ record {
           ticks = sum_by (share (common_multiple self.now.rates)) self.now.rates;
@@ -137,7 +138,7 @@ impl Plan {
         }
     }
 
-    /// Returns the greatest budget with which a server of this period would be admitted, or 0 if none would.
+    /// Returns the greatest budget with which a server of this period would be admitted, or 0 if none would be.
     pub fn greatest_budget(&self, period: u64) -> u64
         ensures { IsGreatestBudget self.now period result }
     {
@@ -164,7 +165,7 @@ impl Plan {
         }
     }
 
-    /// Returns the sums with one more server, or why the plan does not take it.
+    /// Returns the sums with one more server, or why the plan does not admit it.
     fn sums_with(&self, reservation: Reservation) -> Result<Sums, AdmitError>
         ensures answer { MatchResult result
             (λ sums. (admit_refusal self.now reservation ≡ None) × AreSums (with_rate self.now reservation) sums.common sums.taken)

@@ -12,11 +12,10 @@ pub const MAX_PERIOD: u64 = 1_000_000_000;
 
 /// A budget of Q ticks in every period of T ticks, with `1 <= Q <= T <= MAX_PERIOD`.
 ///
-/// It is the pair (Q, T) that a Constant Bandwidth Server is given (Abeni and Buttazzo, RTSS 1998):
-/// whoever holds it may run for Q ticks in every T.
+/// It is the pair (Q, T) that a Constant Bandwidth Server is given: its holder may run for Q ticks in every T.
 #[derive(Clone, Copy, Debug, PartialEq, Eq)]
 pub struct Reservation {
-    // 32 bits hold a period, so a plan of 64 servers takes half a kilobyte
+    // 32 bits hold a period, so a plan of 64 servers takes half a kilobyte.
     budget: u32,
     period: u32,
 }
@@ -34,11 +33,10 @@ impl Model for Reservation {
 }
 
 impl Reservation {
-    /// A reservation of `budget` ticks in every `period` ticks.
+    /// Returns a reservation of `budget` ticks in every `period` ticks.
     ///
-    /// Refuses, in this order: [`RateError::ZeroBudget`] where the budget is 0,
-    /// [`RateError::PeriodTooLong`] where the period is over [`MAX_PERIOD`], and
-    /// [`RateError::BudgetOverPeriod`] where the budget is over the period.
+    /// Refuses, in this order: [`RateError::ZeroBudget`] if the budget is 0; [`RateError::PeriodTooLong`] if the period
+    /// is over [`MAX_PERIOD`]; [`RateError::BudgetOverPeriod`] if the budget is over the period.
     pub fn new(budget: u64, period: u64) -> Result<Reservation, RateError>
         ensures { AnswersBy result (rate_refusal budget period) (record { budget = budget; period = period }) }
     {
@@ -57,7 +55,7 @@ impl Reservation {
         })
     }
 
-    /// The budget, in ticks.
+    /// Returns the budget, in ticks.
     pub fn budget(&self) -> u64
         ensures value { result ≡ self.now.budget }
         ensures lawful { IsRate self.now.budget self.now.period }
@@ -65,7 +63,7 @@ impl Reservation {
         u64::from(self.budget)
     }
 
-    /// The period, in ticks.
+    /// Returns the period, in ticks.
     pub fn period(&self) -> u64
         ensures value { result ≡ self.now.period }
         ensures lawful { IsRate self.now.budget self.now.period }
@@ -73,8 +71,8 @@ impl Reservation {
         u64::from(self.period)
     }
 
-    /// Whether this bandwidth, the budget over the period, is at most that of `other`, exactly: this budget
-    /// times the other's period is at most the other's budget times this period.
+    /// Returns whether this bandwidth, the budget over the period, is at most that of `other`, exactly. This budget
+    /// times the other's period is compared with the other's budget times this period.
     pub fn at_most(&self, other: &Reservation) -> bool
         ensures { IsTrue result ↔ (self.now.budget * other.now.period ≤ other.now.budget * self.now.period) }
     {
@@ -86,9 +84,9 @@ impl Reservation {
 impl Default for Reservation {
     ghost is_default = { λ r. r ≡ record { budget = 1; period = 1 } };
 
-    /// 1 tick in every tick, the whole processor.
+    /// Returns 1 tick in every tick, the whole processor.
     ///
-    /// It fills the unused places of a list of fixed capacity, which needs some reservation there.
+    /// It fills the unused places of a list of fixed capacity, which needs some reservation in each place.
     fn default() -> Reservation {
         Reservation {
             budget: 1,

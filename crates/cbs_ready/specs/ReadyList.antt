@@ -17,7 +17,7 @@ abbrev pub first_of : List Entry → Option ℕ
 first_of [] = None
 first_of (e ∷ es) = Some e.server
 
--- the list with one entry more, before the first that it is ahead of
+-- the list with one more entry, which stands before the first entry that it comes before
 abbrev pub entered : Entry → List Entry → List Entry
 entered x [] = x ∷ []
 entered x (e ∷ es) = if is_ahead x e then x ∷ e ∷ es else e ∷ entered x es
@@ -27,23 +27,23 @@ abbrev pub without : ℕ → List Entry → List Entry
 without s [] = []
 without s (e ∷ es) = if eqb e.server s then es else e ∷ without s es
 
--- the entry of server s stands at this place, or none does, and the place is after the last
+-- the entry of server s stands at this place, or no entry is of server s, and the place is after the last
 pub record IsPlaceOf (s : ℕ) (es : List Entry) (place : ℕ) : Type 0 where
   pub within : place ≤ length es
   pub rest : without s es ≡ take place es ++ drop (suc place) es
 
--- entry a stands before entry b, and is another server's
+-- entry a comes before entry b, and is another server's
 pub record IsApart (a b : Entry) : Type 0 where
   pub ahead : is_ahead a b ≡ true
   pub other : a.server ≢ b.server
 
--- each entry stands before each later one, and no server is listed twice
+-- each entry comes before each later one, and no server is listed twice
 abbrev pub IsOrdered : List Entry → Type 0
 IsOrdered [] = Unit {0}
 IsOrdered (e ∷ es) = AllByRecursion (IsApart e) es × IsOrdered es
 
--- Entry x is on its way from the back of a list to its place: the slot at this place is free, and those from there on are behind
--- x and stand one slot further up.
+-- Entry x is on its way from the back of a list to its place. The slot at this place is free, and the entries from
+-- there on come after x and stand one slot further back.
 pub record IsMoved (x : Entry) (es slots : List Entry) (place : ℕ) : Type 0 where
   pub within : place ≤ length es
   pub moved : (free : Entry) × (slots ≡ insert es place free)

@@ -1,4 +1,4 @@
-//! Entries of ready servers, of which the first leaves with no move of the others.
+//! A list of ready servers whose first entry can leave without moving the others.
 
 ghost use Rattle.std.specs.Prelude.{ℕ, ◌≡◌, ◌-◌, ◌<◌, ◌≤◌, [], ◌∷◌, length, drop, take, vec_len, vec_capacity, IfOk, Some};
 ghost use Rattle.cbs_ready.specs.ReadyList.{is_ahead, first_of, entered, without, IsMoved, IsOrdered, IsPlaceOf};
@@ -7,7 +7,7 @@ ghost use Rattle.cbs_rate.specs.Limits.{most_servers};
 use std::alloc::{AllocError, Allocator, Global};
 use std::marker::Model;
 
-/// How many slots there are.
+/// The number of slots.
 const SLOTS: usize = 128;
 
 /// A ready server, with its deadline.
@@ -18,7 +18,7 @@ pub struct Entry {
 }
 
 impl Entry {
-    /// Whether it comes before another: by deadline, and of equal deadlines by number.
+    /// Returns whether this entry comes before another: by deadline, and of equal deadlines by number.
     fn is_ahead(&self, other: Entry) -> bool
         ensures { result ≡ is_ahead self.now other }
     {
@@ -29,13 +29,13 @@ impl Entry {
 
 /// A list of at most 64 entries.
 ///
-/// Its slots are twice as many, so that the first leaves with no move: its slot lies idle until the last
-/// is taken, and then all move to the front.
+/// It has twice as many slots, so that the first entry can leave without moving the others. The slot of a first entry
+/// that left stays unused until the last slot is taken. Then all entries move to the start.
 #[derive(Drop)]
 pub struct Entries<A: Allocator = Global> {
-    // All its memory is there from the start, since no entry may be refused.
+    // All memory is there from the start, since no entry may be refused.
     slots: Vec<Entry, A>,
-    // Those before it have left.
+    // The entries before this slot have left.
     first: usize,
 }
 
@@ -51,7 +51,7 @@ impl<A: Allocator> Model for Entries<A> {
 }
 
 impl<A: Allocator> Entries<A> {
-    /// Returns a list with no entry, and memory for all that will come.
+    /// Returns a list with no entry, and memory for all entries to come, or the error if an allocation is refused.
     pub fn new(alloc: A) -> Result<Self, AllocError>
         ensures { IfOk result (λ entries. entries ≡ []) }
     {
@@ -61,21 +61,21 @@ impl<A: Allocator> Entries<A> {
         })
     }
 
-    /// All entries, in order.
+    /// Returns all entries, in order.
     pub fn as_slice(&self) -> &[Entry]
         ensures { result.now ≡ self.now }
     {
         &self.slots[self.first..]
     }
 
-    /// How many there are.
+    /// Returns how many entries there are.
     pub fn len(&self) -> usize
         ensures { result ≡ length self.now }
     {
         self.slots.len() - self.first
     }
 
-    /// Writes another entry over the first.
+    /// Writes another entry over the first one.
     pub fn set_first(&mut self, entry: Entry)
         requires { 0 < length self.old }
         ensures { self.new ≡ entry ∷ drop 1 self.old }
@@ -91,7 +91,7 @@ impl<A: Allocator> Entries<A> {
         self.slots[self.first].deadline = deadline;
     }
 
-    /// Takes the first entry away.
+    /// Takes out the first entry.
     pub fn remove_first(&mut self)
         requires { 0 < length self.old }
         ensures { self.new ≡ drop 1 self.old }
@@ -99,7 +99,7 @@ impl<A: Allocator> Entries<A> {
         self.first += 1;
     }
 
-    /// Takes the entry of a server away, if there is one.
+    /// Takes out the entry of a server, if there is one.
     pub fn remove(&mut self, server: u16)
         ensures { self.new ≡ without server self.old }
     {
@@ -116,7 +116,7 @@ impl<A: Allocator> Entries<A> {
         ensures { self.new ≡ entered entry self.old }
     {
         if self.first > 0 && self.first == self.slots.len() {
-            // The slot of the last that left is free.
+            // The slot of the entry that left last is free.
             self.first -= 1;
             self.set_first(entry);
             return;
@@ -130,7 +130,7 @@ impl<A: Allocator> Entries<A> {
     }
 }
 
-/// Returns the place of the entry of a server, or how many entries there are if it has none.
+/// Returns the place of a server's entry, or the number of entries if the server has none.
 fn place_of(entries: &[Entry], server: u16) -> usize
     ensures { IsPlaceOf server entries.now result }
 {
@@ -141,7 +141,7 @@ fn place_of(entries: &[Entry], server: u16) -> usize
     place
 }
 
-/// Moves those from `first` on to the front.
+/// Moves the entries from slot `first` on to the start.
 #[inline(never)]
 fn move_to_the_front<A: Allocator>(slots: &mut Vec<Entry, A>, first: usize)
     requires { first ≤ vec_len slots.old }
@@ -153,9 +153,9 @@ fn move_to_the_front<A: Allocator>(slots: &mut Vec<Entry, A>, first: usize)
     slots.truncate(len);
 }
 
-/// Takes the last entry away, and puts another at its place among the rest.
+/// Takes out the last entry, and puts `entry` at its place among the rest.
 ///
-/// It goes there from the back, since most deadlines that come are late ones.
+/// The place is sought from the back, since most new deadlines are late ones.
 fn put(entries: &mut [Entry], entry: Entry)
     requires some { 0 < length entries.old }
     requires order { IsOrdered (take (length entries.old - 1) entries.old) }
@@ -169,8 +169,8 @@ fn put(entries: &mut [Entry], entry: Entry)
     write(&mut entries[place], entry);
 }
 
-/// Takes the last entry away, and moves another from there past four of the rest at a time, as long as it
-/// is ahead of all four. To which place it came.
+/// Takes out the last entry, and moves `entry` from the back past four of the rest at a time, as long as it comes
+/// before all four. Returns the place that it reached.
 fn pass_fours(entries: &mut [Entry], entry: Entry) -> usize
     requires some { 0 < length entries.old }
     requires order { IsOrdered (take (length entries.old - 1) entries.old) }
@@ -184,7 +184,7 @@ fn pass_fours(entries: &mut [Entry], entry: Entry) -> usize
     place
 }
 
-/// Writes an entry field by field: a copy of the whole takes its padding along, by way of the stack.
+/// Writes an entry field by field. A copy of the whole would copy its padding too, over the stack.
 #[inline(always)]
 fn write(slot: &mut Entry, entry: Entry)
     ensures { slot.new ≡ entry }

@@ -1,4 +1,4 @@
-//! The ready servers, in the order of the choice.
+//! The list of ready servers, in the order of the choice.
 #![tactic(auto)]
 
 mod entries;

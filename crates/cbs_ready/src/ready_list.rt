@@ -1,4 +1,4 @@
-//! The ready servers, in the order of the choice.
+//! The list of ready servers, in the order of the choice.
 
 ghost use Rattle.std.specs.Prelude.{◌≡◌, ◌≢◌, ◌-◌, ◌<◌, ◌≤◌, ℕ, true, false, [], length, drop, take, Some, None, IfOk};
 ghost use Rattle.cbs_ready.specs.ReadyList.{listed, first_of, IsOrdered};
@@ -8,8 +8,8 @@ use crate::entries::{Entries, Entry};
 use std::alloc::{AllocError, Allocator, Global};
 use std::marker::Model;
 
-/// The ready servers with their deadlines, each once, in the order of the choice: by deadline, and of
-/// equal deadlines by number. Servers are numbered below 64.
+/// The ready servers with their deadlines, each once, in the order of the choice: by deadline, and of equal deadlines
+/// by number. All numbers are below 64.
 #[derive(Drop)]
 pub struct ReadyList<A: Allocator = Global> {
     entries: Entries<A>,
@@ -30,7 +30,8 @@ impl<A: Allocator> Model for ReadyList<A> {
 }
 
 impl<A: Allocator> ReadyList<A> {
-    /// Returns a list with nobody ready. It has all its memory from the start: no other call takes any.
+    /// Returns a list with no ready server, or the error if an allocation is refused. The list has all its memory from
+    /// the start: no other call takes any.
     pub fn new(alloc: A) -> Result<Self, AllocError>
         ensures { IfOk result (λ list. list ≡ []) }
     {
@@ -39,14 +40,14 @@ impl<A: Allocator> ReadyList<A> {
         })
     }
 
-    /// The server that comes first.
+    /// Returns the first server in the order, or `None` if no server is ready.
     pub fn first(&self) -> Option<u16>
         ensures { result ≡ first_of self.now }
     {
         first_server(self.entries.as_slice())
     }
 
-    /// A server that was not ready is now by a deadline, or still is not.
+    /// Lists a server that was not ready, with deadline `by`. Does nothing if `by` is `None`.
     #[inline(always)]
     pub fn enter(&mut self, server: u16, by: Option<u128>)
         requires known { server < most_servers }
@@ -61,7 +62,7 @@ impl<A: Allocator> ReadyList<A> {
         }
     }
 
-    /// A server that was ready, or was not, is ready no longer.
+    /// Takes a server off the list, if it was on it.
     #[inline]
     pub fn leave(&mut self, server: u16)
         ensures ordered { IsOrdered self.new }
@@ -71,7 +72,7 @@ impl<A: Allocator> ReadyList<A> {
         self.entries.remove(server);
     }
 
-    /// A server that was ready by `before`, if it was, is now by another deadline, or is not, or nothing changed.
+    /// Changes the deadline of a server from `before` to `by`. `None` stands for a server that is not ready.
     pub fn follow(&mut self, server: u16, before: Option<u128>, by: Option<u128>)
         requires known { server < most_servers }
         requires ordered { IsOrdered self.old }
@@ -86,7 +87,7 @@ impl<A: Allocator> ReadyList<A> {
         }
     }
 
-    /// The first server is now ready by another deadline, or is no longer.
+    /// Gives the first server another deadline, or takes it off the list if `by` is `None`.
     #[inline(always)]
     pub fn follow_first(&mut self, server: u16, by: Option<u128>)
         requires { first_of self.old ≡ Some server }
@@ -100,7 +101,7 @@ impl<A: Allocator> ReadyList<A> {
         }
     }
 
-    /// A server becomes ready.
+    /// Lists a server that becomes ready.
     #[inline]
     fn insert(&mut self, server: u16, deadline: u128)
         requires known { server < most_servers }
@@ -112,7 +113,7 @@ impl<A: Allocator> ReadyList<A> {
         self.entries.insert(Entry { deadline, server });
     }
 
-    /// The first server is no longer ready.
+    /// Takes the first server off the list.
     #[inline]
     fn remove_first(&mut self)
         requires { 0 < length self.old }
@@ -123,7 +124,7 @@ impl<A: Allocator> ReadyList<A> {
         self.entries.remove_first();
     }
 
-    /// The first server gets another deadline.
+    /// Gives the first server another deadline.
     #[inline]
     fn postpone_first(&mut self, server: u16, deadline: u128)
         requires { first_of self.old ≡ Some server }
@@ -138,8 +139,8 @@ impl<A: Allocator> ReadyList<A> {
         }
     }
 
-    /// The first server gets another deadline, and with it another place.
-    // Out of line, for most units change nothing.
+    /// Gives the first server another deadline, and with it another place.
+    // Not inlined, since most units change nothing in the list.
     #[inline(never)]
     fn move_first(&mut self, server: u16, deadline: u128)
         requires known { server < most_servers }
@@ -153,7 +154,7 @@ impl<A: Allocator> ReadyList<A> {
     }
 }
 
-/// The server of the first entry.
+/// Returns the server of the first entry, or `None` if there is no entry.
 fn first_server(entries: &[Entry]) -> Option<u16>
     ensures { result ≡ first_of entries.now }
 {

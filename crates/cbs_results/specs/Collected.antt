@@ -4,8 +4,8 @@ use Rattle.cbs_job.specs.declared.completion.Completion.{Completion}
 use Rattle.cbs_results.specs.declared.error.CollectError.{CollectError}
 use Rattle.cbs_results.specs.declared.error.CollectError.TheVariants.{Stranger, Double, Early}
 
--- what a collector holds of one server: how many results were handed out; the results kept, which were taken after those, in
--- order; how many completions were announced, and how many more can be announced with no allocation
+-- What a collector holds of one server: how many results were handed out, and the results kept, which were taken after
+-- those, in order. Then how many completions were announced, and how many more can be announced without an allocation
 pub record Shelved : Type 0 where
   pub handed : ℕ
   pub results : List ℕ
@@ -24,7 +24,8 @@ shelf_at c s = get_or c s no_shelf
 abbrev pub taken : Shelved → ℕ
 taken h = h.handed + length h.results
 
--- results and announcements of a server are as before, and if one more could be announced with no allocation, it still can
+-- results and announcements of a server are as before, and if one more could be announced without an allocation, it
+-- still can
 pub record SameShelf (old new : Shelved) : Type 0 where
   pub handed : new.handed ≡ old.handed
   pub results : new.results ≡ old.results
@@ -39,20 +40,20 @@ OtherShelvesSame s old new = (t : ℕ) → t ≢ s → SameShelf (shelf_at old t
 abbrev pub AllShelvesSame : List Shelved → List Shelved → Type 0
 AllShelvesSame old new = (t : ℕ) → SameShelf (shelf_at old t) (shelf_at new t)
 
--- one more completion is announced
+-- one more completion was announced
 pub record Announces (old new : Shelved) : Type 0 where
   pub handed : new.handed ≡ old.handed
   pub results : new.results ≡ old.results
   pub announced : new.announced ≡ old.announced + 1
 
--- a result was taken, after the others, and if one more could be announced with no allocation, it still can
+-- a result was put after the others, and if one more could be announced without an allocation, it still can
 pub record TakesResult (result : ℕ) (old new : Shelved) : Type 0 where
   pub handed : new.handed ≡ old.handed
   pub results : new.results ≡ old.results ++ result ∷ []
   pub announced : new.announced ≡ old.announced
   pub spare : 0 < old.spare → 0 < new.spare
 
--- the results were handed out: none of them is kept, and they are counted
+-- the results were handed out: none of them is kept, and all are counted
 pub record HandsOut (old new : Shelved) : Type 0 where
   pub handed : new.handed ≡ taken old
   pub results : new.results ≡ []
@@ -66,13 +67,14 @@ IsWaiting h = taken h < h.announced
 abbrev pub IsComplete : Shelved → Type 0
 IsComplete h = h.announced ≡ taken h
 
--- the completion is the next one: of a known server, with the number of results taken so far, and announced
+-- the completion is the next one: its server is known, its number is the number of results taken so far, and it was
+-- announced
 pub record IsNext (c : List Shelved) (done : Completion) : Type 0 where
   pub known : done.server < length c
   pub number : done.seq ≡ taken (shelf_at c done.server)
   pub announced : done.seq < (shelf_at c done.server).announced
 
--- why a completion of job seq is refused if this is held of its server; none if it is not
+-- why a completion of job seq is refused, if it is, by what is held of its server
 abbrev pub shelf_refusal : Shelved → ℕ → Option CollectError
 shelf_refusal h seq =
     if ltb seq (taken h) then Some Double

@@ -10,7 +10,7 @@ collect_error_number collect.Double = 2
 collect_error_number collect.Early = 3
 collect_error_number collect.OutOfMemory = 4
 
--- its name, as text
+-- the name of each error of a collector, as text
 abbrev pub collect_error_name : CollectError → List ℕ
 collect_error_name collect.Stranger = codes "Stranger"
 collect_error_name collect.Double = codes "Double"

@@ -10,9 +10,8 @@ use cbs_job::Completion;
 use std::alloc::{AllocError, Allocator, Global};
 use std::marker::Model;
 
-/// The results of all servers: of each server those of its jobs 0, 1, 2, .., in order, each once; but
-/// for the first ones, if they were handed out. A completion is announced before it is taken, and has
-/// its place from then on.
+/// The results of all servers. Each server has the results of its jobs 0, 1, 2, .., in order, each once, except the
+/// first ones if they were handed out. A completion is announced before it is taken, and has its place from then on.
 #[derive(Drop)]
 pub struct Collector<A: Allocator = Global> {
     shelves: Vec<Shelf<A>, A>,
@@ -28,7 +27,7 @@ impl<A: Allocator> Model for Collector<A> {
 }
 
 impl<A: Allocator> Collector<A> {
-    /// Returns a collector for so many servers, with no result and none announced.
+    /// Returns a collector for `servers` servers, with no result and none announced.
     ///
     /// Refuses by [`CollectError::OutOfMemory`] if an allocation is refused.
     pub fn new(alloc: A, servers: u16) -> Result<Self, CollectError>
@@ -44,11 +43,11 @@ impl<A: Allocator> Collector<A> {
         }
     }
 
-    /// Makes a place for one more result: the next [`expect`](Collector::expect) of that server takes
-    /// no memory. No result and no announcement changes.
+    /// Makes a place for one more result: the next [`expect`](Collector::expect) of that server takes no memory. No
+    /// result and no announcement changes.
     ///
-    /// Refuses, in this order: [`CollectError::Stranger`] if there is no such server;
-    /// [`CollectError::OutOfMemory`] if an allocation is refused, or 2^64 - 1 completions are announced.
+    /// Refuses, in this order: [`CollectError::Stranger`] if there is no such server; [`CollectError::OutOfMemory`] if
+    /// an allocation is refused, or 2^64 - 1 completions are announced.
     pub fn make_room(&mut self, server: u16) -> Result<(), CollectError>
         ensures same { AllShelvesSame self.old self.new × (length self.new ≡ length self.old) }
         ensures room { OnOk result (0 < (shelf_at self.new server).spare) }
@@ -66,7 +65,7 @@ impl<A: Allocator> Collector<A> {
         }
     }
 
-    /// Makes a place for one more result of a server that is there.
+    /// Makes a place for one more result of a server that is there. Returns the error if an allocation is refused.
     pub fn reserve(&mut self, server: u16) -> Result<(), AllocError>
         requires { server < length self.old }
         ensures same { AllShelvesSame self.old self.new × (length self.new ≡ length self.old) }
@@ -77,12 +76,11 @@ impl<A: Allocator> Collector<A> {
         shelf.make_room()
     }
 
-    /// Announces one more completion of a server. It takes no memory after a
-    /// [`make_room`](Collector::make_room) of that server since the last announcement of one.
+    /// Announces one more completion of a server. It takes no memory if [`make_room`](Collector::make_room) was called
+    /// for that server since its last announcement.
     ///
-    /// Refuses, in this order: [`CollectError::Stranger`] if there is no such server;
-    /// [`CollectError::OutOfMemory`] if an allocation is refused, or 2^64 - 1 completions are announced.
-    /// Then nothing is announced.
+    /// Refuses, in this order: [`CollectError::Stranger`] if there is no such server; [`CollectError::OutOfMemory`] if
+    /// an allocation is refused, or 2^64 - 1 completions are announced. After a refusal nothing is announced.
     pub fn expect(&mut self, server: u16) -> Result<(), CollectError>
         ensures ok { OnOk result (Announces (shelf_at self.old server) (shelf_at self.new server)) }
         ensures others { OtherShelvesSame server self.old self.new × (length self.new ≡ length self.old) }
@@ -115,11 +113,11 @@ impl<A: Allocator> Collector<A> {
         shelf.expect_reserved();
     }
 
-    /// Takes a completion: its result comes after those of its server from here on.
+    /// Takes a completion: its result is put after the results of its server.
     ///
-    /// Refuses, in this order: [`CollectError::Stranger`] if there is no such server;
-    /// [`CollectError::Double`] if the job's result was taken before; [`CollectError::Early`] if
-    /// an earlier job's was not, or the completion was not announced. Then nothing changed.
+    /// Refuses, in this order: [`CollectError::Stranger`] if there is no such server; [`CollectError::Double`] if the
+    /// job's result was taken before; [`CollectError::Early`] if an earlier job's result was not taken, or the
+    /// completion was not announced. A refusal changes nothing.
     pub fn take(&mut self, done: Completion) -> Result<(), CollectError>
         ensures exact { IsOk result ↔ IsNext self.old done }
         ensures ok { OnOk result (TakesResult done.result (shelf_at self.old done.server) (shelf_at self.new done.server)) }
@@ -138,7 +136,7 @@ impl<A: Allocator> Collector<A> {
         Ok(())
     }
 
-    /// Takes the next completion of a server.
+    /// Takes the next completion of a server, which must have been announced.
     pub fn take_expected(&mut self, done: Completion)
         requires { IsNext self.old done }
         ensures taken { TakesResult done.result (shelf_at self.old done.server) (shelf_at self.new done.server) }
@@ -161,12 +159,12 @@ impl<A: Allocator> Collector<A> {
         false
     }
 
-    /// Hands out the results of a server, in order, and keeps none of them. The numbers of its completions
-    /// go on, and each completion that is announced and not taken has its place still: that alone takes
-    /// memory, so that none is asked for if none is awaited.
+    /// Hands out the results of a server, in order, and keeps none of them. The numbers of its completions go on. Each
+    /// completion that is announced and not taken still has its place. Only these places take memory, so none is asked
+    /// for if no completion is awaited.
     ///
-    /// Refuses, in this order: [`CollectError::Stranger`] if there is no such server;
-    /// [`CollectError::OutOfMemory`] if an allocation is refused. Then nothing changed.
+    /// Refuses, in this order: [`CollectError::Stranger`] if there is no such server; [`CollectError::OutOfMemory`] if
+    /// an allocation is refused. A refusal changes nothing.
     pub fn take_results(&mut self, server: u16) -> Result<Vec<u64, A>, CollectError>
     where
         A: Clone,
@@ -188,8 +186,8 @@ impl<A: Allocator> Collector<A> {
         }
     }
 
-    /// Drops the results of a server, as if they were handed out; nothing if there is no such server. No
-    /// memory is taken.
+    /// Drops the results of a server, as if they were handed out. Does nothing if there is no such server. No memory is
+    /// taken.
     pub fn discard(&mut self, server: u16)
         ensures discarded { HandsOut (shelf_at self.old server) (shelf_at self.new server) }
         ensures others { OtherShelvesSame server self.old self.new × (length self.new ≡ length self.old) }
@@ -210,7 +208,7 @@ impl<A: Allocator> Collector<A> {
     }
 }
 
-/// Returns so many shelves with nothing on them.
+/// Returns `servers` shelves with no result, or the error if an allocation is refused.
 fn shelves_of<A: Allocator + Clone>(alloc: A, servers: u16) -> Result<Vec<Shelf<A>, A>, AllocError>
     ensures count { IfOk result (λ v. length v.items ≡ servers) }
     ensures empty { IfOk result (λ v. All (SameShelf no_shelf) v.items) }

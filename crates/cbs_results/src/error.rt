@@ -1,10 +1,10 @@
-//! Why a collector refuses.
+//! The reasons why a collector refuses.
 
 ghost use Rattle.std.specs.Prelude.{◌≡◌};
 
 use thiserror::Error;
 
-/// Why a collector refuses a call.
+/// The reason why a collector refuses a call.
 #[derive(Clone, Copy, Debug, PartialEq, Eq, Error)]
 pub enum CollectError {
     /// No server has that number.
@@ -24,14 +24,14 @@ pub enum CollectError {
 impl CollectError {
     ghost use Rattle.cbs_results.specs.Errors.{collect_error_number, collect_error_name};
 
-    /// The error's number, from 1.
+    /// Returns the error's number, from 1.
     pub fn number(self) -> u8
         ensures { result ≡ collect_error_number self }
     {
         self as u8
     }
 
-    /// The error's name: that of its variant.
+    /// Returns the error's name: that of its variant.
     pub fn name(self) -> &'static str
         ensures { result.now ≡ collect_error_name self }
     {

@@ -1,4 +1,4 @@
-//! The results of the servers: of each server in the order of its jobs, each once.
+//! The results of the servers, each server's in the order of its jobs and each once.
 #![tactic(auto)]
 
 mod collector;

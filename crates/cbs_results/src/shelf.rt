@@ -8,11 +8,11 @@ use std::alloc::{AllocError, Allocator, Global};
 use std::marker::Model;
 use std::mem::replace;
 
-/// The results of one server, each with a place from the time that it is announced.
+/// The results of one server. A result has a place from the time when it is announced.
 #[derive(Drop)]
 pub struct Shelf<A: Allocator = Global> {
     results: Vec<u64, A>,
-    // how many were taken in all, of which the last are kept
+    // The number of results taken, of which the last are kept.
     taken: u64,
     announced: u64,
 }
@@ -46,7 +46,8 @@ impl<A: Allocator> Shelf<A> {
         }
     }
 
-    /// Makes a place for one more result than are announced, unless 2^64 - 1 are.
+    /// Makes a place for one more result than are announced. Returns the error if an allocation is refused, or 2^64 - 1
+    /// completions are announced.
     pub fn make_room(&mut self) -> Result<(), AllocError>
         ensures same { SameShelf self.old self.new }
         ensures room { OnOk result (0 < self.new.spare) }
@@ -67,7 +68,7 @@ impl<A: Allocator> Shelf<A> {
         self.announced += 1;
     }
 
-    /// Returns why the result of job `seq` is not the next one, if it is not.
+    /// Returns why the result of job `seq` is not the next one, or `None` if it is the next one.
     pub fn refusal(&self, seq: u64) -> Option<CollectError>
         ensures { result ≡ shelf_refusal self.now seq }
     {
@@ -97,8 +98,8 @@ impl<A: Allocator> Shelf<A> {
         self.taken != self.announced
     }
 
-    /// Hands out the results, in order, and keeps none of them. Each completion that is announced and not
-    /// taken has a new place: that alone takes memory.
+    /// Hands out the results, in order, and keeps none of them. Each completion that is announced and not taken gets a
+    /// new place, and only these places take memory. Returns the error if an allocation is refused.
     pub fn hand_out(&mut self) -> Result<Vec<u64, A>, AllocError>
     where
         A: Clone,
@@ -119,7 +120,7 @@ impl<A: Allocator> Shelf<A> {
         self.results.clear();
     }
 
-    /// Returns the results, in order.
+    /// Returns the results that are kept, in order.
     pub fn results(&self) -> &[u64]
         ensures { result.now ≡ self.now.results }
     {

@@ -10,10 +10,10 @@ pub record ModedPlan : Type 0 where
   pub plan : Planned
   pub modes : List Mode
 
--- no server, within this bound
+-- the setup with no server, within this bound
 abbrev pub no_servers : Fraction → ModedPlan
 no_servers bound = record { plan = record { bound = bound; rates = [] }; modes = [] }
 
--- one more server, with this rate and this mode
+-- the setup with one more server, of this rate and this mode
 abbrev pub with_server : ModedPlan → Rate → Mode → ModedPlan
 with_server s rate mode = record { plan = record s.plan { rates = s.plan.rates ++ rate ∷ [] }; modes = s.modes ++ mode ∷ [] }

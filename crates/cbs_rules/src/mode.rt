@@ -1,13 +1,13 @@
-//! Which rules a server follows.
+//! The rules that a server follows.
 
-/// What happens to a server that has used its budget up.
+/// What happens to a server that has used its whole budget.
 #[derive(Clone, Copy, Debug, Default, PartialEq, Eq)]
 pub enum Mode {
-    /// It gets a whole budget at once, and its deadline is postponed by a period: it may use time that
-    /// nobody else needs. The Constant Bandwidth Server of Abeni and Buttazzo, RTSS 1998.
+    /// The server gets a whole budget at once, and its deadline is postponed by one period: it may use time that no
+    /// other server needs. This is the Constant Bandwidth Server.
     #[default]
     Soft,
-    /// It waits until its deadline, and is then replenished: it gets one budget for each deadline, and
-    /// no more before that deadline has come. Modelled on Linux's SCHED_DEADLINE.
+    /// The server waits until its deadline, and is then replenished. It gets one budget for each deadline, and no more
+    /// before that deadline has come.
     Throttled,
 }

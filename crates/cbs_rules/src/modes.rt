@@ -8,8 +8,8 @@ use arrayvec::ArrayVec;
 use cbs_rate::MAX_SERVERS;
 use std::marker::Model;
 
-/// The modes of at most [`MAX_SERVERS`] servers, which are numbered from 0. They lie in the value itself:
-/// no call takes memory.
+/// The modes of at most [`MAX_SERVERS`] servers, which are numbered from 0. The modes lie in the value itself: no call
+/// takes memory.
 #[derive(Debug, Drop)]
 pub struct Modes {
     modes: ArrayVec<Mode, MAX_SERVERS>,
@@ -25,7 +25,7 @@ impl Model for Modes {
 }
 
 impl Modes {
-    /// No server.
+    /// Returns the modes of no server.
     pub fn new() -> Modes
         ensures { result ≡ [] }
     {
@@ -34,7 +34,7 @@ impl Modes {
         }
     }
 
-    /// `servers` servers, at most [`MAX_SERVERS`], all with the same mode.
+    /// Returns the modes of `servers` servers, at most [`MAX_SERVERS`], all with the same mode.
     pub fn uniform(mode: Mode, servers: u16) -> Modes
         requires { servers ≤ most_servers }
         ensures { result ≡ replicate servers mode }
@@ -46,7 +46,7 @@ impl Modes {
         modes
     }
 
-    /// One more server, with this mode. There must be fewer than [`MAX_SERVERS`].
+    /// Adds one more server, with this mode. There must be fewer than [`MAX_SERVERS`].
     pub fn push(&mut self, mode: Mode)
         requires { length self.old < most_servers }
         ensures { self.new ≡ self.old ++ mode ∷ [] }
@@ -54,7 +54,7 @@ impl Modes {
         self.modes.push(mode);
     }
 
-    /// The number of servers.
+    /// Returns the number of servers.
     pub fn len(&self) -> usize
         ensures value { result ≡ length self.now }
         ensures few { length self.now ≤ most_servers }
@@ -62,14 +62,14 @@ impl Modes {
         self.modes.len()
     }
 
-    /// Whether there is no server.
+    /// Returns whether there is no server.
     pub fn is_empty(&self) -> bool
         ensures { IsTrue result ↔ (self.now ≡ []) }
     {
         self.modes.is_empty()
     }
 
-    /// The mode of the server with this number, or `None` where there is no such server.
+    /// Returns the mode of the server with this number, or `None` if there is no such server.
     pub fn get(&self, server: u16) -> Option<Mode>
         ensures { result ≡ slice_get self.now server }
     {

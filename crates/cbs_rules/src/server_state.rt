@@ -11,11 +11,11 @@ use std::marker::Model;
 /// The clock's end, in ticks.
 pub const LIMIT: u64 = 1_000_000_000_000;
 
-/// The latest deadline to which a period may still be added, in ticks. No unit and no replenishment
-/// of an executor starts from a later one.
+/// The latest deadline to which a period may still be added, in ticks. No unit and no replenishment of an executor
+/// starts from a later deadline.
 pub const MAX_DEADLINE: u128 = 1_000_000_001_000_000_000_000;
 
-/// Budget, deadline, the mark 'throttled' and the overrun of one server, with its reservation.
+/// The budget, the deadline, the flag 'throttled' and the overrun of one server, with its reservation.
 #[derive(Clone, Copy, Debug, PartialEq, Eq)]
 pub struct ServerState {
     reservation: Reservation,
@@ -39,7 +39,7 @@ impl Model for ServerState {
 }
 
 impl ServerState {
-    /// A server at its start: no budget, deadline 0, not throttled, no overrun.
+    /// Returns a server at its start: no budget, deadline 0, not throttled, no overrun.
     pub fn fresh(reservation: Reservation) -> ServerState
         ensures { result ≡ record { reservation = reservation; state = fresh_state } }
     {
@@ -52,12 +52,12 @@ impl ServerState {
         }
     }
 
-    /// A job arrives at the idle server, at tick `now`, at most [`LIMIT`]. The server must not be
+    /// Applies the arrival of a job at the idle server, at tick `now`, at most [`LIMIT`]. The server must not be
     /// throttled.
     ///
-    /// With c the budget and d the deadline, the server is renewed if `d <= now`, or if
-    /// `c * T >= (d - now) * Q` (soft; Abeni and Buttazzo, RTSS 1998) or `c * T > (d - now) * Q`
-    /// (throttled): its budget is then Q and its deadline `now + T`. Otherwise both stay.
+    /// Let c be the budget and d the deadline. The server is renewed if `d <= now`, or if `c * T >= (d - now) * Q`
+    /// (soft) or `c * T > (d - now) * Q` (throttled). A renewed server has the budget Q and the deadline `now + T`.
+    /// Otherwise both stay.
     pub fn arrive_idle(&mut self, mode: Mode, now: u64)
         requires free { self.old.state.throttled ≡ false }
         requires clock { now ≤ clock_end }
@@ -69,8 +69,8 @@ impl ServerState {
         }
     }
 
-    /// Whether an arrival renews the server. Products are compared in place of quotients, so that
-    /// nothing is rounded.
+    /// Returns whether an arrival renews the server. Products are compared instead of quotients, so that nothing is
+    /// rounded.
     fn is_renewed(&self, mode: Mode, now: u64) -> bool
         ensures { result ≡ is_renewed mode self.now.reservation now self.now.state }
     {
@@ -86,11 +86,11 @@ impl ServerState {
         }
     }
 
-    /// Uses one tick of the budget. With the last one a soft server gets a whole budget at once and
-    /// its deadline is postponed by a period; a throttled one is throttled.
+    /// Uses one tick of the budget. After its last tick a soft server gets a whole budget at once and its deadline is
+    /// postponed by one period; a throttled-mode server becomes throttled.
     ///
-    /// A tick must be left, and the server must not be throttled. Where a period is added, with the
-    /// last tick of a soft server, its deadline must be at most [`MAX_DEADLINE`].
+    /// A tick must be left, and the server must not be throttled. If it is the last tick of a soft server, the deadline
+    /// must be at most [`MAX_DEADLINE`], since a period is added.
     pub fn consume(&mut self, mode: Mode)
         requires some { 0 < self.old.state.budget }
         requires free { self.old.state.throttled ≡ false }
@@ -110,12 +110,13 @@ impl ServerState {
         }
     }
 
-    /// Charges the server the ticks that a unit of it took beyond its first. They are taken from the budget, and what is
-    /// wanting from the budgets to come: a soft server gets these at once, each for a deadline one period later; a
-    /// throttled one waits, and what is wanting is its overrun, which the next replenishment takes from the new budget.
+    /// Charges the server the ticks that one of its units took after the first tick. They are taken from the budget,
+    /// and if it does not suffice, from the budgets to come. A soft server gets these budgets at once, and its deadline
+    /// moves one period later for each. A server of throttled mode waits. The missing ticks are its overrun, which the
+    /// next replenishment takes from the new budget.
     ///
     /// `ticks` is 1 to [`LIMIT`]. The server must have had its first job, and in soft mode it must not be throttled.
-    /// Its deadline and `ticks` periods must not be beyond [`MAX_DEADLINE`] and the longest period.
+    /// Its deadline plus `ticks` periods must be at most [`MAX_DEADLINE`] plus the longest period.
     pub fn charge(&mut self, mode: Mode, ticks: u64)
         requires some { 0 < ticks }
         requires few { ticks ≤ clock_end }
@@ -131,7 +132,7 @@ impl ServerState {
         self.pay(mode, ticks);
     }
 
-    /// Takes so many ticks from the budget and from those to come.
+    /// Takes `ticks` ticks from the budget and from the budgets to come.
     fn pay(&mut self, mode: Mode, ticks: u64)
         requires some { 0 < ticks }
         requires few { ticks ≤ clock_end }
@@ -164,9 +165,10 @@ impl ServerState {
         }
     }
 
-    /// Replenishes the server at tick `now`: if it is throttled and its deadline has come, it gets Q
-    /// ticks more, less its overrun, its deadline is postponed by a period, and it may run again. It is once, even
-    /// where the deadline stays in the past; so a jump of the clock by n ticks is the same as n ticks.
+    /// Replenishes the server at tick `now`, if it is throttled and its deadline has come. The server gets Q ticks
+    /// more, less its overrun, its deadline is postponed by one period, and it may run again. It is replenished once,
+    /// even if the new deadline is still in the past. So a jump of the clock by n ticks has the same effect as n single
+    /// ticks.
     ///
     /// The deadline that is postponed must be at most [`MAX_DEADLINE`].
     pub fn replenish(&mut self, now: u64)
@@ -177,7 +179,7 @@ impl ServerState {
         self.refill(now);
     }
 
-    /// One budget and one period more, if the deadline of a throttled server has come.
+    /// Adds one budget and one period, if the deadline of a throttled server has come.
     fn refill(&mut self, now: u64)
         requires { self.old.state.throttled ≡ true → self.old.state.deadline ≤ now → self.old.state.deadline ≤ latest_deadline }
         ensures { self.new ≡ record { reservation = self.old.reservation; state = after_replenishment self.old.reservation now self.old.state } }
@@ -190,14 +192,14 @@ impl ServerState {
         }
     }
 
-    /// The reservation that it was given.
+    /// Returns the reservation that the server was given.
     pub fn reservation(&self) -> Reservation
         ensures { result ≡ self.now.reservation }
     {
         self.reservation
     }
 
-    /// The ticks that it may still use: at most Q, none while it is throttled.
+    /// Returns the ticks that the server may still use: at most Q, and 0 while it is throttled.
     pub fn budget(&self) -> u64
         ensures value { result ≡ self.now.state.budget }
         ensures kept { IsState self.now.reservation self.now.state }
@@ -205,22 +207,22 @@ impl ServerState {
         self.budget
     }
 
-    /// The tick by which it may use them, 0 before its first job.
+    /// Returns the tick by which the server may use its budget, 0 before its first job.
     pub fn deadline(&self) -> u128
         ensures { result ≡ self.now.state.deadline }
     {
         self.deadline
     }
 
-    /// Whether it waits to be replenished.
+    /// Returns whether the server waits for its replenishment.
     pub fn throttled(&self) -> bool
         ensures { result ≡ self.now.state.throttled }
     {
         self.throttled
     }
 
-    /// Returns the ticks that were charged to it beyond its budget, which its next replenishment takes: less than Q, and
-    /// none unless it is throttled.
+    /// Returns the ticks that were charged to the server beyond its budget, which its next replenishment takes. They
+    /// are fewer than Q, and 0 unless the server is throttled.
     pub fn overrun(&self) -> u64
         ensures { result ≡ self.now.state.overrun }
     {

@@ -29,7 +29,7 @@ impl Model for Setup {
 }
 
 impl Setup {
-    /// No server. Those to come may take `bound` of the processor together.
+    /// Returns a setup with no server. The servers to come may together take `bound` of the processor.
     pub fn new(bound: Bound) -> Setup
         ensures { result ≡ no_servers bound }
     {
@@ -39,10 +39,10 @@ impl Setup {
         }
     }
 
-    /// Takes one more server in, with this reservation, in ticks, and this mode, and answers its number.
+    /// Adds one more server, with this reservation, in ticks, and this mode, and returns its number.
     ///
-    /// Refuses as [`Plan::admit`] does, by the same errors in the same order: the mode refuses nothing.
-    /// A setup that refuses is unchanged.
+    /// Refuses as [`Plan::admit`] does, by the same errors in the same order: the mode refuses nothing. A refusal
+    /// leaves the setup unchanged.
     pub fn admit(&mut self, reservation: Reservation, mode: Mode) -> Result<u16, AdmitError>
         ensures answer { AnswersBy result (admit_refusal self.old.plan reservation) (length self.old.plan.rates) }
         ensures ok { OnOk result (self.new ≡ with_server self.old reservation mode) }
@@ -70,7 +70,7 @@ impl Setup {
         &self.modes
     }
 
-    /// Returns the plan and the modes: one mode for each server of the plan, as those who open a house ask.
+    /// Returns the plan and the modes, with one mode for each server of the plan, as the opening of a house requires.
     pub fn into_parts(self) -> (Plan, Modes)
         ensures plan { result.0 ≡ self.plan }
         ensures modes { result.1 ≡ self.modes }
