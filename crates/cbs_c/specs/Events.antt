@@ -1,4 +1,4 @@
--- What C sees of the answers of a house.
+-- The results of a house in their form for C.
 use Rattle.std.specs.Prelude.{ℕ, ◌-◌, ◌%◌, ◌/◌, ◌^◌, Option}
 use Rattle.std.specs.Option.{unwrap_or}
 use Rattle.cbs_steps.specs.declared.reply.Ran.{Ran}
@@ -12,14 +12,14 @@ use Rattle.cbs_c.specs.declared.events.Event.{Event}
 use Rattle.cbs_c.specs.declared.events.TurnEvent.{TurnEvent}
 use Rattle.cbs_c.specs.declared.events.View.{View}
 
--- the event of a run
+-- the event of a run, with this token
 abbrev pub ran_event : Ran → ℕ → Event
 ran_event Idle token = record { kind = 0; server = 0; seq = 0; token = token }
 ran_event ClockEnd token = record { kind = 1; server = 0; seq = 0; token = token }
 ran_event (Unit s q) token = record { kind = 2; server = s; seq = q; token = token }
 ran_event (Done c) token = record { kind = 3; server = c.server; seq = c.seq; token = token }
 
--- the event of a run, with its token
+-- the event of a run, with the run's token
 abbrev pub tick_event : Ticked → Event
 tick_event t = ran_event t.ran t.token
 
@@ -33,7 +33,7 @@ turn_event t = record {
   over = t.over;
 }
 
--- what C sees of a server
+-- the view of a server for C
 abbrev pub view_shown : ServerView → View
 view_shown v = record {
   budget = v.budget;
@@ -45,7 +45,7 @@ view_shown v = record {
   closed = v.closed;
 }
 
--- the number of a poll's answer; if there is no such server, the call is refused instead
+-- the number of a poll's result; if there is no such server, the call is refused instead
 abbrev pub poll_kind : Poll → ℕ
 poll_kind poll.Nothing = 0
 poll_kind (poll.Took q) = 1
@@ -62,7 +62,7 @@ span_shown span = unwrap_or span (2 ^ 64 - 1)
 abbrev pub promise_shown : Option ℕ → ℕ
 promise_shown tick = unwrap_or tick (2 ^ 128 - 1)
 
--- its halves
+-- the halves of the number of a promise
 abbrev pub promise_low : Option ℕ → ℕ
 promise_low tick = promise_shown tick % 2 ^ 64
 

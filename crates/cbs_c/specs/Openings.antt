@@ -1,4 +1,4 @@
--- What C is told of opening a house, and of planning one.
+-- What C gets from the opening of a house, and from planning one.
 use Rattle.std.specs.Prelude.{ℕ, ◌≡◌, MatchResult, Some, None, Result, List}
 use Rattle.cbs_embed.specs.Openings.{OpenOf}
 use Rattle.cbs_embed.specs.Plans.{setup_refusal, setup_with, whole_processor}
@@ -8,19 +8,20 @@ use Rattle.cbs_embed.specs.declared.refusal.Refusal.{Refusal}
 use Rattle.cbs_embed.specs.declared.server.Server.{Server}
 use Rattle.cbs_c.specs.Statuses.{status_after, shown_or}
 
--- a house of these servers is opened, or not, and C is told which, and why
+-- a house of these servers is opened, or not, and the status says which, and why
 pub record OpensForC (servers : List Server) (backlog ring : ℕ) (house house' : Handle) (clients clients' : List Handle) (status : ℕ) : Type 0 where
   pub answer : Result (Unit {0}) Refusal
   pub opens : OpenOf servers backlog ring house house' clients clients' answer
   pub told : status ≡ status_after answer
 
--- it is told that these servers make a plan, or why they are refused
+-- the status says that these servers make a plan, or why they are refused
 pub record TellsAdmission (servers : List Server) (status : ℕ) : Type 0 where
   pub answer : Result (Unit {0}) Refusal
   pub admitted : MatchResult answer (λ _. setup_refusal whole_processor servers ≡ None) (λ error. setup_refusal whole_processor servers ≡ Some error)
   pub told : status ≡ status_after answer
 
--- the greatest budget that is still admitted after these servers is told, or why they are refused themselves
+-- the value is the greatest budget that is still admitted after these servers, or the status says why the servers
+-- themselves are refused
 pub record TellsBudget (servers : List Server) (period before status after : ℕ) : Type 0 where
   pub answer : Result ℕ Refusal
   pub greatest : MatchResult answer

@@ -7,7 +7,8 @@ ghost use Rattle.cbs_c.specs.Statuses.{Answers, Tells};
 use crate::status::{status_of, tell};
 use cbs_embed::{Handle, calls};
 
-/// Sends a job. Refuses by its units, by a house that was freed, after an end, and at a full ring, in this order.
+/// Sends a job, writes its number, and returns the status. Refuses, in this order: by its units, by a house that was
+/// freed, after an end, and for a full ring.
 #[unsafe(no_mangle)]
 pub extern "C" fn cbs_send(client: &mut Handle, token: u64, units: u32, seq: &mut u64) -> u32
     ensures { Tells (OnHeld (InClient (Sends token units))) (λ n. n) (held_by client.old) seq.old result (held_by client.new) seq.new }
@@ -15,7 +16,8 @@ pub extern "C" fn cbs_send(client: &mut Handle, token: u64, units: u32, seq: &mu
     tell(seq, calls::send(client, token, units))
 }
 
-/// Sends the end. Refuses by a house that was freed, after an end, and at a full ring, in this order.
+/// Sends the end, and returns the status. Refuses, in this order: by a house that was freed, after an end, and for a
+/// full ring.
 #[unsafe(no_mangle)]
 pub extern "C" fn cbs_end(client: &mut Handle) -> u32
     ensures { Answers (OnHeld (InClient Ends)) (held_by client.old) result (held_by client.new) }
@@ -23,7 +25,7 @@ pub extern "C" fn cbs_end(client: &mut Handle) -> u32
     status_of(calls::end(client))
 }
 
-/// Tells how many messages of the client wait in its ring.
+/// Writes how many messages of the client wait in its ring. Returns the status.
 #[unsafe(no_mangle)]
 pub extern "C" fn cbs_waiting(client: &mut Handle, out: &mut u64) -> u32
     ensures { Tells (OnHeld (InClient Waits)) (λ n. n) (held_by client.old) out.old result (held_by client.new) out.new }

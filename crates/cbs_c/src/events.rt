@@ -1,4 +1,4 @@
-//! What the calls on a house tell.
+//! The values that the calls on a house write.
 
 ghost use Rattle.std.specs.Prelude.{◌≡◌, ◌%◌, ◌/◌, ◌^◌};
 ghost use Rattle.cbs_c.specs.Events.{ran_event, turn_event, view_shown, poll_kind};
@@ -7,7 +7,7 @@ use cbs_core::{Ran, ServerView};
 use cbs_embed::calls::{Ticked, Turned};
 use cbs_house::Poll;
 
-/// What a run did: `struct cbs_unit`.
+/// The result of a run: `struct cbs_unit`.
 #[repr(C)]
 #[derive(Clone, Copy, Debug, PartialEq, Eq)]
 pub struct Event {
@@ -21,39 +21,39 @@ pub struct Event {
     pub token: u64,
 }
 
-/// What a turn did: `struct cbs_turned`.
+/// The result of a turn: `struct cbs_turned`.
 #[repr(C)]
 #[derive(Clone, Copy, Debug, PartialEq, Eq)]
 pub struct TurnEvent {
-    /// How many messages it took.
+    /// The number of messages that the turn took.
     pub took: u64,
-    /// By how many ticks it advanced.
+    /// The ticks by which the turn advanced the clock.
     pub advanced: u64,
     /// What ran.
     pub ran: Event,
-    /// Whether there was no memory for some message.
+    /// Whether a message was seen for which memory was refused.
     pub out_of_memory: bool,
     /// Whether every server is closed and every job is finished.
     pub over: bool,
 }
 
-/// What a server shows: `struct cbs_shown`.
+/// The view of a server: `struct cbs_shown`.
 #[repr(C)]
 #[derive(Clone, Copy, Debug, PartialEq, Eq)]
 pub struct View {
-    /// The budget that is left.
+    /// The ticks that are left of the budget.
     pub budget: u64,
     /// The lower 64 bits of the deadline.
     pub deadline_low: u64,
-    /// And the upper.
+    /// The upper 64 bits of the deadline.
     pub deadline_high: u64,
-    /// How many jobs were accepted.
+    /// The number of accepted jobs.
     pub accepted: u64,
-    /// How many of them are finished.
+    /// The number of accepted jobs that are finished.
     pub finished: u64,
-    /// Whether it waits to be replenished.
+    /// Whether the server waits for its replenishment.
     pub throttled: bool,
-    /// Whether it is closed.
+    /// Whether the server is closed.
     pub closed: bool,
 }
 
@@ -99,14 +99,14 @@ pub(crate) fn low(number: u128) -> u64
     (number % (1 << 64)) as u64
 }
 
-/// Returns the upper 64 bits.
+/// Returns the upper 64 bits of a number.
 pub(crate) fn high(number: u128) -> u64
     ensures { result ≡ number / 2 ^ 64 }
 {
     (number >> 64) as u64
 }
 
-/// Returns what C sees of a server.
+/// Returns the view of a server for C.
 pub(crate) fn view_of(view: ServerView) -> View
     ensures { result ≡ view_shown view }
 {
@@ -121,7 +121,8 @@ pub(crate) fn view_of(view: ServerView) -> View
     }
 }
 
-/// Returns the number of a poll's answer. A server that the house has not is refused by its status instead.
+/// Returns the number of a poll's result. A call for a server that the house does not have is refused by its status
+/// instead.
 pub(crate) fn kind_of(answer: Poll) -> u32
     ensures { result ≡ poll_kind answer }
 {

@@ -1,4 +1,4 @@
-//! Opening and freeing, and what may be asked before.
+//! Opening and freeing, and the calls that need no house.
 
 ghost use Rattle.std.specs.Prelude.{◌≡◌, None};
 ghost use Rattle.cbs_embed.specs.Handles.{held_by};
@@ -8,7 +8,7 @@ use crate::status::{status_of, tell};
 use cbs_embed::{Handle, Server, admit, greatest_budget, open};
 use std::alloc::Global;
 
-/// Opens a house with a client for each server.
+/// Opens a house with a client for each server, and returns the status.
 #[unsafe(no_mangle)]
 pub extern "C" fn cbs_open(
     alloc: Global,
@@ -31,7 +31,7 @@ pub extern "C" fn cbs_free(alloc: Global, handle: &mut Handle)
     drop(handle.take(alloc));
 }
 
-/// Returns 0 if these servers make a plan, or why they do not. It opens nothing.
+/// Returns 0 if these servers make a plan, or the status of the reason why they do not. It opens nothing.
 #[unsafe(no_mangle)]
 pub extern "C" fn cbs_admit(servers: &[Server]) -> u32
     ensures { TellsAdmission servers.now result }
@@ -39,7 +39,8 @@ pub extern "C" fn cbs_admit(servers: &[Server]) -> u32
     status_of(admit(servers))
 }
 
-/// Tells the greatest budget with which a server of this period would be admitted after these.
+/// Writes the greatest budget with which a server of this period would be admitted after these servers. Returns the
+/// status.
 #[unsafe(no_mangle)]
 pub extern "C" fn cbs_greatest_budget(servers: &[Server], period: u64, out: &mut u64) -> u32
     ensures { TellsBudget servers.now period out.old result out.new }

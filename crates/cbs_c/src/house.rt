@@ -9,7 +9,7 @@ use crate::events::{Event, TurnEvent, View, event_of, high, kind_of, low, turn_e
 use crate::status::{status_of, tell};
 use cbs_embed::{Handle, calls};
 
-/// Runs one unit.
+/// Runs one unit, and writes what ran. Returns the status.
 #[unsafe(no_mangle)]
 pub extern "C" fn cbs_run(house: &mut Handle, out: &mut Event) -> u32
     ensures { Tells (OnHeld (InHouse Runs)) tick_event (held_by house.old) out.old result (held_by house.new) out.new }
@@ -23,7 +23,7 @@ pub extern "C" fn cbs_run(house: &mut Handle, out: &mut Event) -> u32
     }
 }
 
-/// Takes a turn.
+/// Takes a turn, and writes what it did. Returns the status.
 #[unsafe(no_mangle)]
 pub extern "C" fn cbs_turn(house: &mut Handle, out: &mut TurnEvent) -> u32
     ensures { Tells (OnHeld (InHouse Turns)) turn_event (held_by house.old) out.old result (held_by house.new) out.new }
@@ -37,7 +37,8 @@ pub extern "C" fn cbs_turn(house: &mut Handle, out: &mut TurnEvent) -> u32
     }
 }
 
-/// Looks for the next message of a server, and takes it. Refuses the number of no server.
+/// Looks for the next message of a server, takes it, and writes what the poll did. Returns the status. Refuses a number
+/// that no server has.
 #[unsafe(no_mangle)]
 pub extern "C" fn cbs_poll(house: &mut Handle, server: u16, kind: &mut u32) -> u32
     ensures { Tells (OnHeld (InHouse (Polls server))) poll_kind (held_by house.old) kind.old result (held_by house.new) kind.new }
@@ -51,7 +52,7 @@ pub extern "C" fn cbs_poll(house: &mut Handle, server: u16, kind: &mut u32) -> u
     }
 }
 
-/// Lets ticks pass.
+/// Lets ticks pass. Returns the status.
 #[unsafe(no_mangle)]
 pub extern "C" fn cbs_advance(house: &mut Handle, ticks: u64) -> u32
     ensures { Answers (OnHeld (InHouse (Advances ticks))) (held_by house.old) result (held_by house.new) }
@@ -59,7 +60,7 @@ pub extern "C" fn cbs_advance(house: &mut Handle, ticks: u64) -> u32
     status_of(calls::advance(house, ticks))
 }
 
-/// Charges a server the ticks that its last unit took beyond the first.
+/// Charges a server the ticks that its last unit took after its first tick. Returns the status.
 #[unsafe(no_mangle)]
 pub extern "C" fn cbs_charge(house: &mut Handle, server: u16, ticks: u64) -> u32
     ensures { Answers (OnHeld (InHouse (ChargesServer server ticks))) (held_by house.old) result (held_by house.new) }
@@ -67,7 +68,8 @@ pub extern "C" fn cbs_charge(house: &mut Handle, server: u16, ticks: u64) -> u32
     status_of(calls::charge(house, server, ticks))
 }
 
-/// Tells how many ticks a server was charged, in all and at most for one unit. Refuses the number of no server.
+/// Writes how many ticks a server was charged, in total and at most for one unit. Returns the status. Refuses a number
+/// that no server has.
 #[unsafe(no_mangle)]
 pub extern "C" fn cbs_charges(
     house: &mut Handle,
@@ -88,7 +90,7 @@ pub extern "C" fn cbs_charges(
     }
 }
 
-/// Tells the clock.
+/// Writes the clock. Returns the status.
 #[unsafe(no_mangle)]
 pub extern "C" fn cbs_now(house: &mut Handle, out: &mut u64) -> u32
     ensures { Tells (OnHeld (InHouse TellsClock)) (λ n. n) (held_by house.old) out.old result (held_by house.new) out.new }
@@ -96,7 +98,7 @@ pub extern "C" fn cbs_now(house: &mut Handle, out: &mut u64) -> u32
     tell(out, calls::now(house))
 }
 
-/// Tells for how many ticks nobody will be ready; `u64::MAX` if somebody is now.
+/// Writes for how many ticks no server will be ready, or `u64::MAX` if one is ready now. Returns the status.
 #[unsafe(no_mangle)]
 pub extern "C" fn cbs_idle_span(house: &mut Handle, out: &mut u64) -> u32
     ensures { Tells (OnHeld (InHouse Spans)) span_shown (held_by house.old) out.old result (held_by house.new) out.new }
@@ -110,7 +112,7 @@ pub extern "C" fn cbs_idle_span(house: &mut Handle, out: &mut u64) -> u32
     }
 }
 
-/// Tells what a server shows. Refuses the number of no server.
+/// Writes the view of a server. Returns the status. Refuses a number that no server has.
 #[unsafe(no_mangle)]
 pub extern "C" fn cbs_view(house: &mut Handle, server: u16, out: &mut View) -> u32
     ensures { Tells (OnHeld (InHouse (Shows server))) view_shown (held_by house.old) out.old result (held_by house.new) out.new }
@@ -124,8 +126,8 @@ pub extern "C" fn cbs_view(house: &mut Handle, server: u16, out: &mut View) -> u
     }
 }
 
-/// Tells the tick by which all that a server took is finished, in two halves; both are `u64::MAX` if all is finished.
-/// Refuses the number of no server.
+/// Writes the tick by which all that a server accepted is finished, in two halves. Both are `u64::MAX` if all is
+/// finished. Returns the status. Refuses a number that no server has.
 #[unsafe(no_mangle)]
 pub extern "C" fn cbs_promised(
     house: &mut Handle,

@@ -1,6 +1,6 @@
-//! The library for C: the calls of `cbs_embed` under names and in types that C knows, as `cbs.h` declares
-//! them. Each returns a status: 0, or [`Refusal::status`](cbs_embed::Refusal::status). A call that refuses
-//! changes nothing, and writes nothing to its out parameters.
+//! The library for C: the calls of `cbs_embed` with names and types of C, as `cbs.h` declares them. Each call returns a
+//! status: 0, or [`Refusal::status`](cbs_embed::Refusal::status). A call that refuses changes nothing, and writes
+//! nothing to its out parameters.
 #![tactic(auto)]
 
 mod client;

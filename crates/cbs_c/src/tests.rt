@@ -1,4 +1,4 @@
-//! Each export once, with rows by hand; and each refusal of a handle.
+//! Tests of each export, with results written out by hand; and of each refusal of a handle.
 
 mod layouts;
 mod leaving;
@@ -21,7 +21,7 @@ const NOT_OPEN: u32 = 0x601;
 
 const OTHER_KIND: u32 = 0x602;
 
-/// Server 0 is soft with 2 in 5, server 1 throttled with 1 in 10.
+/// Server 0 is soft with 2 ticks in 5, server 1 throttled with 1 tick in 10.
 const SERVERS: [Server; 2] = [
     Server {
         budget: 2,
@@ -70,14 +70,14 @@ fn event(kind: u32, server: u16, seq: u64, token: u64) -> Event {
     }
 }
 
-/// Runs, and is told this.
+/// Runs one unit, and checks what ran.
 fn runs(rt: &impl Abort, house: &mut Handle, wanted: Event) {
     let mut out = NO_EVENT;
     is(rt, cbs_run(house, &mut out), 0);
     same(rt, "ran", out, wanted);
 }
 
-/// Takes a turn, and is told this.
+/// Takes a turn, and checks what it did.
 fn turns(rt: &impl Abort, house: &mut Handle, took: u64, advanced: u64, wanted: Event) {
     let mut out = TurnEvent {
         took: 9,
@@ -97,28 +97,28 @@ fn turns(rt: &impl Abort, house: &mut Handle, took: u64, advanced: u64, wanted: 
     same(rt, "turn", out, turn);
 }
 
-/// Sends a job, whose number is then this.
+/// Sends a job, and checks its number.
 fn sends(rt: &impl Abort, client: &mut Handle, token: u64, units: u32, number: u64) {
     let mut seq = 9;
     is(rt, cbs_send(client, token, units, &mut seq), 0);
     same(rt, "number", seq, number);
 }
 
-/// For so many ticks nobody will be ready.
+/// Checks for how many ticks no server will be ready.
 fn rests_for(rt: &impl Abort, house: &mut Handle, ticks: u64) {
     let mut span = 9;
     is(rt, cbs_idle_span(house, &mut span), 0);
     same(rt, "idle span", span, ticks);
 }
 
-/// The clock is at this tick.
+/// Checks the clock.
 fn stands_at(rt: &impl Abort, house: &mut Handle, tick: u64) {
     let mut now = 9;
     is(rt, cbs_now(house, &mut now), 0);
     same(rt, "now", now, tick);
 }
 
-/// Server 0 promises to be done by this tick.
+/// Checks the tick by which server 0 promises to be done.
 fn promises(rt: &impl Abort, house: &mut Handle, low: u64, high: u64) {
     let mut lower = 9;
     let mut upper = 9;
@@ -126,21 +126,21 @@ fn promises(rt: &impl Abort, house: &mut Handle, low: u64, high: u64) {
     same(rt, "promised", (lower, upper), (low, high));
 }
 
-/// A poll of a server does this.
+/// Polls a server, and checks the result.
 fn polls(rt: &impl Abort, house: &mut Handle, server: u16, wanted: u32) {
     let mut kind = 9;
     is(rt, cbs_poll(house, server, &mut kind), 0);
     same(rt, "poll", kind, wanted);
 }
 
-/// So many messages of a client wait in its ring.
+/// Checks how many messages of a client wait in its ring.
 fn waits(rt: &impl Abort, client: &mut Handle, wanted: u64) {
     let mut waiting = 9;
     is(rt, cbs_waiting(client, &mut waiting), 0);
     same(rt, "waiting", waiting, wanted);
 }
 
-/// A house of both servers, with a backlog of 4 and rings of so many places, and its clients.
+/// Returns a house of both servers, with a backlog of 4 and rings of `ring` slots, and its clients.
 fn opened(rt: &impl Abort, alloc: Global, ring: u64) -> (Handle, Handle, Handle) {
     let mut house = Handle::shut(alloc);
     let mut clients = [Handle::shut(alloc), Handle::shut(alloc)];
@@ -160,7 +160,7 @@ fn serves_two_clients(rt: HostRuntime) {
     is(&rt, cbs_end(&mut throttled), 0);
     waits(&rt, &mut throttled, 2);
     polls(&rt, &mut house, 0, 1);
-    // Three units by 2 in 5: the third waits for the second budget.
+    // Three units with 2 ticks in 5: the third unit waits for the second budget.
     promises(&rt, &mut house, 10, 0);
     rests_for(&rt, &mut house, u64::MAX);
     turns(&rt, &mut house, 1, 0, event(2, 0, 0, 7));
@@ -179,7 +179,7 @@ fn serves_two_clients(rt: HostRuntime) {
     same(&rt, "view", view, postponed);
     runs(&rt, &mut house, event(3, 0, 0, 7));
     turns(&rt, &mut house, 1, 0, event(2, 1, 0, 9));
-    // Server 1 has used its budget up at 4, and waits until 10.
+    // Server 1 has used its budget up at tick 4, and waits until tick 10.
     rests_for(&rt, &mut house, 6);
     turns(&rt, &mut house, 0, 6, event(0, 0, 0, 0));
     runs(&rt, &mut house, event(3, 1, 0, 9));
@@ -191,7 +191,7 @@ fn serves_two_clients(rt: HostRuntime) {
     cbs_free(alloc, &mut throttled);
 }
 
-/// A server was charged so much.
+/// Checks how many ticks a server was charged, in total and at most for one unit.
 fn is_charged(rt: &impl Abort, house: &mut Handle, server: u16, total: u64, most: u64) {
     let (mut all, mut one) = (0, 0);
     is(rt, cbs_charges(house, server, &mut all, &mut one), 0);
@@ -211,7 +211,7 @@ fn charges_a_long_unit(rt: HostRuntime) {
     is(&rt, cbs_charge(&mut house, 1, 2), 0);
     is(&rt, cbs_charge(&mut house, 1, 1), 0);
     stands_at(&rt, &mut house, 4);
-    // It was throttled at tick 1 until 10, and a period of 10 pays for each of the three ticks.
+    // It was throttled at tick 1 until 10. Each of the three ticks charged is paid by a period of 10.
     rests_for(&rt, &mut house, 36);
     is_charged(&rt, &mut house, 1, 3, 3);
     is_charged(&rt, &mut house, 0, 0, 0);
@@ -257,7 +257,7 @@ fn refuses_handles_by_name(rt: HostRuntime) {
     is(&rt, cbs_end(&mut client), NOT_OPEN);
 }
 
-/// Opening is refused by this status.
+/// Checks that opening is refused by this status.
 fn refuses(
     rt: &impl Abort,
     alloc: Global,

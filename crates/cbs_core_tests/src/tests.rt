@@ -1,4 +1,4 @@
-//! The core and the crates below it, run on worked examples.
+//! Tests of the core and the crates below it on worked examples.
 
 mod calls;
 mod charges;
@@ -27,7 +27,7 @@ fn same<T: Debug + Drop + PartialEq>(rt: &impl Abort, label: &str, answer: T, wa
     assert!(rt; answer == wanted, "{label}: {answer:?}, not {wanted:?}");
 }
 
-/// The same at this place of the rows of this name.
+/// Does the same for this place of the rows of this name.
 fn same_at<T: Debug + Drop + PartialEq>(
     rt: &impl Abort,
     at: (&str, usize),
@@ -41,13 +41,13 @@ fn same_at<T: Debug + Drop + PartialEq>(
     );
 }
 
-/// Ends the test where a value is not written so.
+/// Ends the test unless a value is displayed as this text.
 fn says(rt: &impl Abort, alloc: Global, value: &impl Display, text: &str) {
     let said = format!(in alloc; "{value}").expect(rt, "memory");
     same(rt, text, said.as_str(), text);
 }
 
-/// A plan of reservations, each a budget and a period.
+/// Returns a plan of reservations, each a budget and a period.
 fn plan_of(rt: &impl Abort, rates: &[(u64, u64)]) -> Plan {
     let mut plan = Plan::new(Bound::new(1, 1).expect(rt, "a bound"));
     for &(budget, period) in rates {
@@ -57,14 +57,14 @@ fn plan_of(rt: &impl Abort, rates: &[(u64, u64)]) -> Plan {
     plan
 }
 
-/// The task that adds these numbers up.
+/// Returns the task that adds these numbers up.
 fn sum_of(rt: &impl Abort, alloc: Global, numbers: &[u32]) -> Task<SumJob> {
     assert!(rt; numbers.len() < 2000);
     let numbers = Vec::from_slice(alloc, numbers).expect(rt, "memory");
     Task::new(SumJob::new(numbers)).ok().expect(rt, "a task")
 }
 
-/// Takes all memory of a heap, and gives what holds it.
+/// Takes all memory of a heap, and returns what holds it.
 fn filled<'a>(rt: &impl Abort, alloc: Global, heap: &'a LocalHeap) -> Vec<Vec<u8, &'a LocalHeap>> {
     let mut ballast = Vec::new(alloc);
     for _block in 0..heap.size() {
@@ -77,7 +77,7 @@ fn filled<'a>(rt: &impl Abort, alloc: Global, heap: &'a LocalHeap) -> Vec<Vec<u8
     ballast
 }
 
-/// A core of servers with these reservations.
+/// Returns a core of servers with these reservations.
 fn core_of<W: Work, A: Allocator + Clone>(
     rt: &impl Abort,
     alloc: A,
@@ -90,7 +90,7 @@ fn core_of<W: Work, A: Allocator + Clone>(
     Core::new(alloc, plan, modes, backlog).expect(rt, "a core")
 }
 
-/// What a task comes to.
+/// Returns the whole result of a task.
 fn whole<W: Work>(task: Task<W>) -> u64 {
     let mut running = task.start();
     for _unit in 0..MAX_UNITS {
@@ -102,7 +102,7 @@ fn whole<W: Work>(task: Task<W>) -> u64 {
     running.output()
 }
 
-/// What a run answers after the last unit of a job.
+/// Returns the result of a run after the last unit of a job.
 fn done(server: u16, seq: u64, output: u64) -> Ran {
     Ran::Done(Completion {
         server,

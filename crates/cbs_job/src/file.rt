@@ -14,7 +14,7 @@ pub enum FileJob {
     Peak(PeakJob),
 }
 
-// An owner of a job calls this one function at each exit, instead of the drops of all fields.
+// An owner of a job calls this one function at each exit, instead of the drops of each kind of job.
 impl Drop for FileJob {
     fn drop(self) {
         match self {

@@ -1,4 +1,4 @@
-//! The shortest program with a house: one client sends two jobs, is told by when they will be done, and
+//! The shortest program with a house. One client sends two jobs, the program prints by when they will be done, and
 //! reads their results.
 #![tactic(auto)]
 
@@ -9,7 +9,7 @@ use cbs_rate::{Bound, Reservation};
 use cbs_rules::{Mode, Setup};
 use std::alloc::Global;
 
-/// Sends a job that adds these two numbers up, one a tick.
+/// Sends a job that adds these two numbers up, one number per tick. Returns its number.
 fn send(alloc: Global, client: &mut Client<SumJob>, numbers: [u32; 2]) -> Result<u64> {
     let work = SumJob::new(Vec::from_array(alloc, numbers)?);
     let task = Task::new(work).map_err(|refused| refused.error)?;
@@ -24,7 +24,7 @@ fn send_all(alloc: Global, client: &mut Client<SumJob>) -> Result<()> {
     Ok(client.end()?)
 }
 
-/// A house with one soft server, of two ticks in every five, and its client.
+/// Returns a house with one soft server, of two ticks in every five, and its client.
 fn open(alloc: Global) -> Result<(House<SumJob>, Client<SumJob>)> {
     let mut setup = Setup::new(Bound::new(1, 1)?);
     setup.admit(Reservation::new(2, 5)?, Mode::Soft)?;
@@ -34,7 +34,7 @@ fn open(alloc: Global) -> Result<(House<SumJob>, Client<SumJob>)> {
     Ok((house, client))
 }
 
-/// Takes the client's next message, and prints by when a job is promised.
+/// Takes the client's next message. If it is a job, prints by when the job is promised.
 fn poll(rt: &impl Print, house: &mut House<SumJob>) -> Result<()> {
     if let Poll::Took(number) = house.poll(0) {
         let tick = house.promised(0).context("a job is held")?;
@@ -43,7 +43,7 @@ fn poll(rt: &impl Print, house: &mut House<SumJob>) -> Result<()> {
     Ok(())
 }
 
-/// Runs one unit, and prints the job that it finished, if it did.
+/// Runs one unit, and prints the job that it finished, if it finished one.
 fn run(rt: &impl Print, house: &mut House<SumJob>) -> Result<()> {
     let done = house.results(0)?.len();
     house.run();

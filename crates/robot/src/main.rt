@@ -1,5 +1,6 @@
-//! A robot that follows distances by three sensors, each with a server of its own. Its loop takes one turn of the house at a
-//! time, and reads the results as they come. One sensor is broken, and reads at every turn: the others do not notice.
+//! A robot that follows distances by three sensors, each with its own server. Its loop takes one turn of the house at a
+//! time, and reads the results as they come. One sensor is broken, and reads in every turn. The others are not
+//! affected.
 #![tactic(auto)]
 
 mod sensor;
@@ -13,8 +14,8 @@ use sensor::{Fitting, Sensor};
 use std::alloc::Global;
 use track::TrackJob;
 
-/// The sensors, whose jobs have four units. That on the right is broken: it reads at every turn, where its server has
-/// one tick in four.
+/// The sensors, whose jobs have four units. The sensor on the right is broken: it reads in every turn, although its
+/// server has only one tick in four.
 const FITTINGS: [Fitting; 3] = [
     Fitting {
         name: "front",
@@ -36,10 +37,10 @@ const FITTINGS: [Fitting; 3] = [
     },
 ];
 
-/// How many turns the robot drives. Each is a tick; where time is real, it would be a millisecond, say.
+/// How many turns the robot drives. Each turn is one tick; in real time it might be a millisecond.
 const TURNS: u64 = 48;
 
-/// A soft server for each sensor.
+/// Returns a setup with a soft server for each sensor.
 fn setup() -> Result<Setup> {
     let mut setup = Setup::new(Bound::new(1, 1)?);
     for fitting in FITTINGS {
@@ -49,14 +50,14 @@ fn setup() -> Result<Setup> {
     Ok(setup)
 }
 
-/// The house, with a server for each sensor, and the sensors.
+/// Returns the house, with a server for each sensor, and the sensors.
 fn open(alloc: Global) -> Result<(House<TrackJob>, Vec<Sensor>)> {
     let (plan, modes) = setup()?.into_parts();
     let (house, clients) = open_house(alloc, plan, modes, 4, 4)?;
     Ok((house, fitted(alloc, clients)?))
 }
 
-/// The sensors, each with a client.
+/// Returns the sensors, each with a client.
 fn fitted(alloc: Global, clients: Vec<Client<TrackJob>>) -> Result<Vec<Sensor>> {
     let mut sensors = Vec::new(alloc);
     for (client, fitting) in clients.into_iter().zip(FITTINGS) {
@@ -65,7 +66,7 @@ fn fitted(alloc: Global, clients: Vec<Client<TrackJob>>) -> Result<Vec<Sensor>> 
     Ok(sensors)
 }
 
-/// Takes what came of a sensor's readings, and prints it.
+/// Takes the results of a sensor's readings, and prints them.
 fn follow(rt: &impl Print, house: &mut House<TrackJob>, sensor: &mut Sensor) -> Result<()> {
     let name = sensor.fitting.name;
     for result in house.take_results(sensor.server())? {
@@ -75,7 +76,7 @@ fn follow(rt: &impl Print, house: &mut House<TrackJob>, sensor: &mut Sensor) -> 
     Ok(())
 }
 
-/// One turn of the robot: the sensors read, the house takes its turn, and the robot follows what came of it.
+/// Drives one turn: the sensors read, the house takes its turn, and the robot follows the results.
 fn drive(
     rt: &impl Print,
     alloc: Global,

@@ -1,4 +1,4 @@
-//! The robot's sensors: each a client of the house, which sends what it reads as a job.
+//! The robot's sensors. Each is a client of the house, and sends its readings as jobs.
 
 ghost use Rattle.std.specs.Prelude.{◌≤◌};
 
@@ -8,13 +8,14 @@ use cbs_house::Client;
 use cbs_job::Task;
 use std::alloc::Global;
 
-/// How far the wall is at the start, in millimetres.
+/// The distance of the wall at the start, in millimetres.
 const START: u32 = 1200;
 
-/// How much further an echo seems to be: one reading in four is an echo.
+/// By how much an echo is too far, in millimetres. One reading in four is an echo.
 const ECHO: u32 = 3000;
 
-/// How a sensor is built in: its name, the reservation of its server, and at each how many turns it reads.
+/// The installation of a sensor: its name, the reservation of its server, and the number of turns from one reading to
+/// the next.
 #[derive(Clone, Copy)]
 pub struct Fitting {
     pub name: &'static str,
@@ -27,9 +28,9 @@ pub struct Fitting {
 #[derive(Drop)]
 pub struct Sensor {
     pub fitting: Fitting,
-    /// The distance as far as it is known, in millimetres.
+    /// The latest known distance, in millimetres.
     pub distance: u32,
-    /// How often a full ring refused what it read.
+    /// How many jobs a full ring refused.
     pub refused: u64,
     client: Client<TrackJob>,
 }
@@ -44,18 +45,18 @@ impl Sensor {
         }
     }
 
-    /// The server that follows its distance.
+    /// Returns the server that follows the sensor's distance.
     pub fn server(&self) -> u16 {
         self.client.server()
     }
 
-    /// Prints how many jobs it has sent, and how many a full ring refused.
+    /// Prints how many jobs the sensor has sent, and how many a full ring refused.
     pub fn print(&self, rt: &impl Print) -> Result<()> {
         let (name, sent, refused) = (self.fitting.name, self.client.sent(), self.refused);
         Ok(println!(rt; "{name}: {sent} jobs sent, {refused} refused")?)
     }
 
-    /// Sends four readings as one job, where it reads at this turn.
+    /// Sends four readings as one job, if the sensor reads in this turn.
     pub fn read(&mut self, alloc: Global, turn: u64) -> Result<()> {
         if turn % self.fitting.every.max(1) != 0 {
             return Ok(());
@@ -64,7 +65,7 @@ impl Sensor {
         let readings = Vec::from_array(alloc, [wall, wall + ECHO, wall, wall])?;
         let work = TrackJob::new(self.distance, readings);
         let task = Task::new(work).map_err(|refused| refused.error)?;
-        // What a full ring refuses is old by the time that there is a place.
+        // A job that a full ring refuses is not kept: it would be old when there is a free slot.
         if self.client.send(task).is_err() {
             self.refused = self.refused.saturating_add(1);
         }
@@ -72,7 +73,7 @@ impl Sensor {
     }
 }
 
-/// How far the wall is at a turn, in millimetres: it comes nearer by 5 a turn.
+/// Returns the distance of the wall at a turn, in millimetres: it comes nearer by 5 per turn.
 fn wall_at(turn: u64) -> u32
     ensures { result ≤ START }
 {

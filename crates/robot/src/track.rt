@@ -1,4 +1,4 @@
-//! A job of the robot's own: it follows a distance by the readings of a sensor.
+//! A job of the robot: it follows a distance by the readings of a sensor.
 
 ghost use Rattle.std.specs.Prelude.{◌≡◌, ◌≤◌, length, drop};
 ghost use Rattle.robot.specs.Tracks.{Track, smoothed, is_outlier, tracking};
@@ -6,13 +6,13 @@ ghost use Rattle.robot.specs.Tracks.{Track, smoothed, is_outlier, tracking};
 use cbs_job::Work;
 use std::marker::Model;
 
-/// How far from the estimate a reading is an outlier, in millimetres.
+/// A reading further than this from the estimate is an outlier, in millimetres.
 const FAR: u32 = 500;
 
-/// How many outliers in a row are put aside. The next is believed: the robot has turned.
+/// How many outliers in a row are put aside. The next one is used: the robot has turned.
 const PATIENCE: u32 = 2;
 
-/// Follows a distance by readings in millimetres, one in each unit. Its output is the estimate.
+/// A job that follows a distance by readings in millimetres, one in each unit. Its output is the estimate.
 #[derive(Drop)]
 pub struct TrackJob {
     readings: Vec<u32>,
@@ -30,7 +30,7 @@ impl Model for TrackJob {
 }
 
 impl TrackJob {
-    /// Takes in at most 4,294,967,295 readings, from an estimate on.
+    /// Returns a job for at most 4,294,967,295 readings, from an estimate on.
     pub fn new(distance: u32, readings: Vec<u32>) -> TrackJob
         requires { length readings.items ≤ 4294967295 }
         ensures { result ≡ record { readings = readings.items; distance = distance; outliers = 0 } }
@@ -71,14 +71,14 @@ impl Work for TrackJob {
     }
 }
 
-/// Whether a reading is put aside.
+/// Returns whether a reading is put aside.
 fn is_outlier(distance: u32, outliers: u32, reading: u32) -> bool
     ensures { result ≡ is_outlier distance outliers reading }
 {
     distance.abs_diff(reading) > FAR && outliers < PATIENCE
 }
 
-/// The estimate with a reading taken in by a quarter.
+/// Returns the estimate after a reading was taken in by a quarter.
 fn smoothed(distance: u32, reading: u32) -> u32
     ensures { result ≡ smoothed distance reading }
 {

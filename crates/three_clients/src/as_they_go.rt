@@ -1,4 +1,5 @@
-//! The clients make their jobs as they go, many more than the rings hold, while the house polls and runs until all have ended.
+//! The clients make their jobs as they go, many more than the rings hold. The house polls and runs until all clients
+//! have ended.
 
 ghost use Rattle.std.specs.Thread.{IsSync};
 
@@ -16,7 +17,7 @@ use std::time::Clock;
 /// How many turns in a row without anything to do the house waits for the clients: about 15 seconds.
 const IDLE_TURNS: u64 = 1_000_000;
 
-/// The clients and the house at once, until all clients have sent all and ended.
+/// Runs the clients and the house at once, until all clients have sent all their jobs and ended.
 fn run_together<R: Threads + Clock + Sync>(
     rt: &R,
     alloc: Global,
@@ -36,15 +37,15 @@ fn run_together<R: Threads + Clock + Sync>(
     Ok(())
 }
 
-/// The house and the clients, with a server for each. Telemetry gets its budget and no more; the other two may have
-/// what is left.
+/// Returns the house and the clients, with a server for each. Telemetry gets its budget and no more; the other two may
+/// have the time that is left.
 fn open(alloc: Global) -> Result<(House<SumJob>, Vec<Client<SumJob>>)> {
     let modes = [Mode::Soft, Mode::Soft, Mode::Throttled];
     let (plan, modes) = setup(modes)?.into_parts();
     Ok(open_house(alloc, plan, modes, 4, 4)?)
 }
 
-/// Prints how many jobs of a client are finished, the first results, and the last.
+/// Prints how many jobs of a client are finished, the first results, and the last one.
 fn print_results(rt: &impl Print, name: &str, finished: u64, results: &[u64]) -> Result<()> {
     print!(rt; "{name}: {finished} jobs finished:")?;
     for result in results.iter().take(5) {
@@ -54,7 +55,7 @@ fn print_results(rt: &impl Print, name: &str, finished: u64, results: &[u64]) ->
     Ok(println!(rt; " .. {last}")?)
 }
 
-/// Runs until all clients have ended. The house, which has their results.
+/// Runs until all clients have ended. Returns the house, which has their results.
 fn run_all<R: Threads + Clock + Sync>(
     rt: &R,
     alloc: Global,
@@ -65,7 +66,7 @@ fn run_all<R: Threads + Clock + Sync>(
     Ok(house)
 }
 
-/// Prints what came of the jobs of all clients.
+/// Prints the results of the jobs of all clients.
 fn print_all(rt: &impl Print, finished: &Finished, house: &House<SumJob>) -> Result<()> {
     for (server, (name, _budget)) in CLIENTS.iter().enumerate() {
         let server = server as u16;
@@ -74,7 +75,7 @@ fn print_all(rt: &impl Print, finished: &Finished, house: &House<SumJob>) -> Res
     Ok(())
 }
 
-/// Runs until all clients have ended, and prints what came of their jobs.
+/// Runs until all clients have ended, and prints the results of their jobs.
 pub fn run<R: Print + Threads + Clock + Sync>(rt: &R, alloc: Global) -> Result<()> {
     let mut finished = Finished::none();
     let house = run_all(rt, alloc, &mut finished)?;

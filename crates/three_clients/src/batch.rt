@@ -1,4 +1,5 @@
-//! A batch: the jobs of each client are known beforehand, and a call serves them all. Each list has a thread that sends it.
+//! A batch: the jobs of each client are known beforehand, and one call serves them all. Each list has a thread that
+//! sends it.
 
 use super::{CLIENTS, setup};
 use anyhow::{Result, ensure};
@@ -9,7 +10,7 @@ use std::alloc::Global;
 use std::thread::Threads;
 use std::time::Clock;
 
-/// The jobs that add these numbers up, one a tick.
+/// Returns jobs that add these numbers up, one number per tick.
 fn list_of(alloc: Global, sums: &[[u32; 3]]) -> Result<Vec<Task<SumJob>>> {
     let mut list = Vec::new(alloc);
     for numbers in sums {
@@ -19,7 +20,7 @@ fn list_of(alloc: Global, sums: &[[u32; 3]]) -> Result<Vec<Task<SumJob>>> {
     Ok(list)
 }
 
-/// The jobs of each client.
+/// Returns the jobs of each client.
 fn lists(alloc: Global) -> Result<Vec<Vec<Task<SumJob>>>> {
     let mut lists = Vec::new(alloc);
     lists.push(list_of(alloc, &[[1, 2, 3], [4, 5, 6]])?)?;
@@ -28,7 +29,7 @@ fn lists(alloc: Global) -> Result<Vec<Vec<Task<SumJob>>>> {
     Ok(lists)
 }
 
-/// Serves all jobs. The house, which has their results.
+/// Serves all jobs. Returns the house, which has their results.
 fn serve_all<R: Threads + Clock + Sync>(rt: &R, alloc: Global) -> Result<House<SumJob>> {
     let (plan, modes) = setup([Mode::Soft; 3])?.into_parts();
     let lists = lists(alloc)?;

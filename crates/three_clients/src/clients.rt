@@ -1,4 +1,4 @@
-//! The clients' side: each client on a thread of its own.
+//! The clients' side: each client on its own thread.
 
 ghost use Rattle.std.specs.Prelude.{◌≡◌, IfOk, length};
 
@@ -11,10 +11,10 @@ use std::time::Clock;
 /// How many jobs each client sends: many more than its ring and the backlog of its server hold.
 pub const JOBS: u16 = 400;
 
-/// How often a message is tried at a full ring before a client gives up.
+/// How often a client tries to send a message to a full ring before it gives up.
 const TRIES: u64 = 1_000_000;
 
-/// Returns how many units the jobs of a server have: a camera's 3, an encoder's 5, one of telemetry 1.
+/// Returns how many units the jobs of a server have: 3 for a camera, 5 for an encoder, 1 for telemetry.
 fn units_of(server: u16) -> u16 {
     match server {
         0 => 3,
@@ -34,8 +34,8 @@ fn numbers(alloc: Global, job: u16, units: u16) -> Result<Vec<u32>, AllocError>
     Ok(numbers)
 }
 
-/// Makes the jobs of a client one by one and sends each, and then the end. Returns whether all were sent: false if
-/// memory ran out or a message could not be sent.
+/// Makes the jobs of a client one by one and sends each, and then the end. Returns whether all were sent. Returns false
+/// if memory ran out or a message could not be sent.
 fn send_jobs<R: Clock>(rt: &R, alloc: Global, client: &mut Client<SumJob>) -> bool {
     let units = units_of(client.server());
     for job in 0..JOBS {
@@ -52,7 +52,7 @@ fn send_jobs<R: Clock>(rt: &R, alloc: Global, client: &mut Client<SumJob>) -> bo
     client.end_within(rt, TRIES).is_ok()
 }
 
-/// All clients at once, each on a thread of its own. Returns whether each has sent all its jobs and its end.
+/// Runs all clients at once, each on its own thread. Returns whether each has sent all its jobs and its end.
 pub fn send_all<R: Threads + Clock + Sync>(
     rt: &R,
     alloc: Global,

@@ -1,9 +1,9 @@
-//! A sink of the program's own: it counts.
+//! A sink of this program, which counts.
 
 use cbs_house::Sink;
 use cbs_job::Completion;
 
-/// How many jobs of each client are finished, told while the house runs.
+/// The number of finished jobs of each client, counted while the house runs.
 #[derive(Drop)]
 pub struct Finished {
     counts: [u64; 3],
@@ -14,7 +14,7 @@ impl Finished {
         Finished { counts: [0; 3] }
     }
 
-    /// How many jobs of this server's client are finished.
+    /// Returns how many jobs of this server's client are finished.
     pub fn count(&self, server: u16) -> u64 {
         self.counts.get(usize::from(server)).copied().unwrap_or(0)
     }

@@ -1,6 +1,6 @@
-//! Three clients on threads of their own: a camera, an encoder and telemetry. First their jobs are known beforehand, and a
-//! call serves them all (`batch`); then each client makes its jobs as it goes (`as_they_go`). The output is the same on every
-//! schedule.
+//! Three clients on their own threads: a camera, an encoder and telemetry. In the first part their jobs are known
+//! beforehand, and one call serves them all (`batch`). In the second part each client makes its jobs as it goes
+//! (`as_they_go`). The output is the same for every schedule of the threads.
 #![tactic(auto)]
 
 mod as_they_go;
@@ -15,7 +15,7 @@ use cbs_rules::{Mode, Setup};
 /// The clients, each with the budget of its server in every ten ticks.
 const CLIENTS: [(&str, u64); 3] = [("camera", 3), ("encoder", 5), ("telemetry", 1)];
 
-/// A server for each client, each with its mode.
+/// Returns a setup with a server for each client, each with its mode.
 fn setup(modes: [Mode; 3]) -> Result<Setup> {
     let mut setup = Setup::new(Bound::new(1, 1)?);
     for ((_name, budget), mode) in CLIENTS.into_iter().zip(modes) {

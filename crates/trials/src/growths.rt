@@ -1,6 +1,6 @@
-//! Makes one call, of which the word says which, and tells what it is answered. Just before the call it prints
-//! the line `call`, and just behind it another: between the two, `scripts/growths` refuses memory. Most calls
-//! are made once more then, with memory.
+//! Makes the call that a word names, and prints the result. It prints the line `call` just before the call, and another
+//! line just after it. Between the two, `scripts/growths` refuses memory. Most calls are then made once more, with
+//! memory.
 
 mod core_cases;
 mod house_cases;
@@ -32,7 +32,7 @@ const CASES: [&str; 15] = [
     "serve",
 ];
 
-/// Makes the call of this word.
+/// Makes the call that this word names.
 pub fn make<R: Print + Threads + Clock + Sync>(rt: &R, alloc: Global, case: &str) -> Result<()> {
     match case {
         "core" => core_cases::new_core(rt, alloc),
@@ -54,7 +54,7 @@ pub fn make<R: Print + Threads + Clock + Sync>(rt: &R, alloc: Global, case: &str
     }
 }
 
-/// Makes all calls in turn.
+/// Makes all calls, one after another.
 pub fn make_all<R: Print + Threads + Clock + Sync>(rt: &R, alloc: Global) -> Result<()> {
     for case in CASES {
         println!(rt; "== {case}")?;

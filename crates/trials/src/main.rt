@@ -1,9 +1,9 @@
-//! What is tried from outside: calls that scripts refuse memory to, loads that are served with random delays, how
-//! long calls take, and what a client gets whose units overrun.
+//! The parts that are tried from outside: calls to which scripts refuse memory, and loads that are served with random
+//! delays. Also how long calls take, and what a client gets whose units overrun.
 //!
-//! `growth CALL` makes the call of that word, `soak` serves the load on standard input, `bench` prints the
-//! table of times, and `overruns MILLISECONDS` runs each trial of overruns for so long. With no word, all calls are
-//! made in turn, the load is served, and the cases of the table and the trials of overruns are made shortly.
+//! `growth CALL` makes the call that the word names. `soak` serves the load on standard input. `bench` prints the table
+//! of times. `overruns MILLISECONDS` runs each trial of overruns for so long. With no word, all calls are made in turn
+//! and the load is served; the cases of the table and the trials of overruns are made shortly.
 #![tactic(auto)]
 
 mod growths;
@@ -18,7 +18,7 @@ use std::thread::Threads;
 use std::time::Clock;
 use std::{env, io};
 
-/// All that there is to try, shortly.
+/// Tries all parts, shortly.
 fn try_all<R: Print + Threads + Clock + Sync>(rt: &R, alloc: Global, load: &str) -> Result<()> {
     growths::make_all(rt, alloc)?;
     println!(rt; "== soak")?;
@@ -29,7 +29,7 @@ fn try_all<R: Print + Threads + Clock + Sync>(rt: &R, alloc: Global, load: &str)
     overruns::print_lateness(rt, alloc)
 }
 
-/// The load on standard input.
+/// Returns the load on standard input.
 fn load_given(rt: &HostRuntime) -> Result<String> {
     Ok(io::read_to_string(rt.alloc(), rt.reader())?)
 }

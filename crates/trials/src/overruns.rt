@@ -1,7 +1,7 @@
-//! Runs a client whose units overrun beside one that needs its share, in real time, and prints what each got.
+//! Runs a client whose units overrun together with one that needs its share, in real time, and prints what each got.
 //!
-//! A tick is a millisecond. Control has 2 ticks in 10, and sends a job of one unit of 0.3 ms each 10 ms. Greedy has 1
-//! tick in 10, and always has a job, whose unit takes twenty ticks. With no meter a unit counts as one tick. With a
+//! A tick is a millisecond. Control has 2 ticks in 10, and sends a job of one unit of 0.3 ms every 10 ms. Greedy has 1
+//! tick in 10, and always has a job, whose unit takes twenty ticks. Without a meter a unit counts as one tick. With a
 //! meter greedy pays for all that its units take.
 
 mod clients;
@@ -22,7 +22,7 @@ use wall::time_of;
 /// How long a trial takes if no times are wanted, in milliseconds.
 const BRIEFLY: u64 = 40;
 
-/// The modes that greedy has.
+/// The modes that greedy has in the trials.
 const MODES: [Mode; 2] = [Mode::Soft, Mode::Throttled];
 
 /// Returns the word for a mode.
@@ -44,7 +44,7 @@ fn metered(rt: &impl Clock, alloc: Global, mode: Mode, millis: u64) -> Result<Se
     run(rt, alloc, mode, &mut meter, Duration::from_millis(millis))
 }
 
-/// Runs each trial for so many milliseconds, and prints a line for it.
+/// Runs each trial for `millis` milliseconds, and prints a line for it.
 pub fn print_all<R: Print + Clock>(rt: &R, alloc: Global, millis: u64) -> Result<()> {
     for mode in MODES {
         let word = word_of(mode);
@@ -56,7 +56,7 @@ pub fn print_all<R: Print + Clock>(rt: &R, alloc: Global, millis: u64) -> Result
     Ok(())
 }
 
-/// Runs each trial shortly, and prints how often a server was later than the rules allow, and no times.
+/// Runs each trial shortly, and prints how often a server was later than the rules allow. It prints no times.
 pub fn print_lateness<R: Print + Clock>(rt: &R, alloc: Global) -> Result<()> {
     for mode in MODES {
         let word = word_of(mode);

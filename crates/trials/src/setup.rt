@@ -1,4 +1,4 @@
-//! What the calls are made on.
+//! Setups and jobs on which the calls are made.
 
 ghost use Rattle.std.specs.Prelude.{IfOk};
 ghost use Rattle.cbs_house.specs.Rounds.{Ready};
@@ -10,7 +10,7 @@ use cbs_rate::{Bound, Reservation};
 use cbs_rules::{Mode, Setup};
 use std::alloc::Global;
 
-/// Soft servers, each of a budget and a period.
+/// Returns a setup of soft servers, each of a budget and a period.
 pub fn soft_servers(rates: &[(u64, u64)]) -> Result<Setup> {
     let mut setup = Setup::new(Bound::new(1, 1)?);
     for &(budget, period) in rates {
@@ -19,14 +19,14 @@ pub fn soft_servers(rates: &[(u64, u64)]) -> Result<Setup> {
     Ok(setup)
 }
 
-/// The task that adds these numbers up.
+/// Returns a task that adds these numbers up.
 pub fn sum_of(alloc: Global, numbers: &[u32]) -> Result<Task<SumJob>> {
     ensure!(numbers.len() <= MAX_UNITS as usize, "too many numbers");
     let work = SumJob::new(Vec::from_slice(alloc, numbers)?);
     Ok(Task::new(work).map_err(|refused| refused.error)?)
 }
 
-/// The tasks that add these numbers up.
+/// Returns tasks that add these numbers up.
 fn list_of(alloc: Global, sums: &[&[u32]]) -> Result<Vec<Task<SumJob>>> {
     let mut list = Vec::with_capacity(alloc, sums.len())?;
     for numbers in sums {
@@ -35,7 +35,7 @@ fn list_of(alloc: Global, sums: &[&[u32]]) -> Result<Vec<Task<SumJob>>> {
     Ok(list)
 }
 
-/// The list of each server.
+/// Returns the list of each server.
 pub fn lists_of(alloc: Global, lists: &[&[&[u32]]]) -> Result<Vec<Vec<Task<SumJob>>>> {
     let mut all = Vec::with_capacity(alloc, lists.len())?;
     for sums in lists {
@@ -44,7 +44,8 @@ pub fn lists_of(alloc: Global, lists: &[&[&[u32]]]) -> Result<Vec<Vec<Task<SumJo
     Ok(all)
 }
 
-/// A house of these servers, with this backlog and these rings, and for each a feed of the list at its place.
+/// Returns a house of these servers, with this backlog and these rings, and for each server a feed of the list at its
+/// place.
 pub fn fed<W: Work>(
     alloc: Global,
     setup: Setup,

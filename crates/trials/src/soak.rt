@@ -1,5 +1,5 @@
-//! Serves a load to clients that are delayed at random, and prints the results of
-//! each server. Whatever the delays, they are those of its jobs, in order.
+//! Serves a load to clients that are delayed at random, and prints the results of each server. Whatever the delays, the
+//! results are those of the server's jobs, in order.
 
 ghost use Rattle.cbs_house.specs.Rounds.{Ready};
 

@@ -13,10 +13,10 @@ use std::alloc::Global;
 use std::thread::Threads;
 use std::time::Clock;
 
-/// How many servers a column has.
+/// The number of servers of each column.
 const COLUMNS: [u16; 3] = [1, 8, 64];
 
-/// How many of each are made where no time is wanted.
+/// How many of each are made if no time is wanted.
 const BRIEFLY: u64 = 4_096;
 
 /// How often a case is timed; the least time counts.
@@ -46,7 +46,7 @@ fn print_tenths(rt: &impl Print, tenths: u128) -> Result<()> {
     Ok(print!(rt; " {:>7}.{}", tenths / 10, tenths % 10)?)
 }
 
-/// The best of some times: nanoseconds for each, in tenths.
+/// Returns the best of several times: nanoseconds for each, in tenths.
 fn best<R: Threads + Clock + Sync>(
     rt: &R,
     alloc: Global,
@@ -63,8 +63,8 @@ fn best<R: Threads + Clock + Sync>(
     Ok(least.nanoseconds())
 }
 
-/// Prints the table. Where it is to be brief each case is made once and shortly, and how much it made is printed
-/// in the place of its time.
+/// Prints the table. If it is to be brief, each case is made once and shortly. Then the number made is printed in place
+/// of the time.
 pub fn print_table<R: Print + Threads + Clock + Sync>(
     rt: &R,
     alloc: Global,

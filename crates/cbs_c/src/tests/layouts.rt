@@ -1,7 +1,7 @@
-//! That C and Rattle see each field of a struct at the same place.
+//! Tests that C and Rattle place each field of a struct at the same offset.
 //!
-//! Both lay the fields out in the order in which they are declared, each at the next place that its alignment
-//! allows. So the order, which `Debug` tells, and each field's size and alignment are the places.
+//! Both place the fields in the order of their declaration, each at the next offset that its alignment allows. So the
+//! order, which `Debug` prints, and each field's size and alignment give the offsets.
 
 use super::same;
 use crate::{Event, TurnEvent, View};
@@ -18,7 +18,7 @@ const EVENT: Event = Event {
     token: 4,
 };
 
-/// The fields of a value are declared in the order of this text.
+/// Checks that the fields of a value are declared in the order of this text.
 fn shows(rt: &impl Abort, alloc: Global, value: &impl Debug, text: &str) {
     let shown = format!(in alloc; "{value:?}").expect(rt, "memory");
     same(rt, "order", shown.as_str(), text);
@@ -29,7 +29,7 @@ fn a_unit_lies_as_in_c(rt: HostRuntime) {
     let alloc = rt.alloc();
     let text = "Event { kind: 1, server: 2, seq: 3, token: 4 }";
     shows(&rt, alloc, &EVENT, text);
-    // At 0, 4, 8 and 16.
+    // The offsets are 0, 4, 8 and 16.
     same(
         &rt,
         "kind",
@@ -75,7 +75,7 @@ fn a_turn_lies_as_in_c(rt: HostRuntime) {
     let text =
         "TurnEvent { took: 5, advanced: 6, ran: Event { kind: 1, server: 2, seq: 3, token: 4 }, out_of_memory: false, over: true }";
     shows(&rt, alloc, &turn, text);
-    // At 0, 8, 16, 40 and 41.
+    // The offsets are 0, 8, 16, 40 and 41.
     same(&rt, "took", size_of_val(&turn.took), 8);
     same(&rt, "advanced", size_of_val(&turn.advanced), 8);
     same(&rt, "ran", size_of_val(&turn.ran), 24);
@@ -104,7 +104,7 @@ fn a_view_lies_as_in_c(rt: HostRuntime) {
     let text =
         "View { budget: 1, deadline_low: 2, deadline_high: 3, accepted: 4, finished: 5, throttled: true, closed: false }";
     shows(&rt, alloc, &view, text);
-    // At 0, 8, 16, 24, 32, 40 and 41.
+    // The offsets are 0, 8, 16, 24, 32, 40 and 41.
     same(&rt, "budget", size_of_val(&view.budget), 8);
     same(&rt, "deadline_low", size_of_val(&view.deadline_low), 8);
     same(&rt, "deadline_high", size_of_val(&view.deadline_high), 8);
@@ -134,7 +134,7 @@ fn a_server_and_a_handle_lie_as_in_c(rt: HostRuntime) {
         &server,
         "Server { budget: 1, period: 2, mode: 3 }",
     );
-    // At 0, 8 and 16.
+    // The offsets are 0, 8 and 16.
     same(&rt, "budget", size_of_val(&server.budget), 8);
     same(&rt, "period", size_of_val(&server.period), 8);
     same(&rt, "mode", size_of_val(&server.mode), 4);
@@ -144,7 +144,7 @@ fn a_server_and_a_handle_lie_as_in_c(rt: HostRuntime) {
         (size_of::<Server>(), align_of::<Server>()),
         (24, 8),
     );
-    // The fields of a handle are the library's: all bytes 0 are one that is not open.
+    // The fields of a handle belong to the library. A handle with all bytes 0 is not open.
     same(
         &rt,
         "handle",

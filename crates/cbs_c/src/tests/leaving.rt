@@ -1,4 +1,4 @@
-//! Clients and houses that are freed, and servers that are not there.
+//! Tests of freed clients and houses, and of servers that are not there.
 
 use super::{NO_EVENT, NO_VIEW, is, opened, polls, same, sends, waits};
 use crate::client::{cbs_end, cbs_send};
@@ -12,7 +12,7 @@ const HOUSE_GONE: u32 = 0x605;
 
 const NO_SUCH_SERVER: u32 = 0x304;
 
-/// A send is refused by this status, and writes no number.
+/// Checks that a send is refused by this status, and writes no number.
 fn refuses_send(rt: &impl Abort, client: &mut Handle, units: u32, status: u32) {
     let mut seq = 9;
     is(rt, cbs_send(client, 1, units, &mut seq), status);
@@ -32,7 +32,7 @@ fn a_freed_client_closes_its_server(rt: HostRuntime) {
     let mut view = NO_VIEW;
     is(&rt, cbs_view(&mut house, 0, &mut view), 0);
     same(&rt, "view", (view.accepted, view.closed), (1, true));
-    // The other one has ended before.
+    // The other client has ended before.
     is(&rt, cbs_end(&mut throttled), 0);
     cbs_free(alloc, &mut throttled);
     polls(&rt, &mut house, 1, 2);
@@ -40,7 +40,7 @@ fn a_freed_client_closes_its_server(rt: HostRuntime) {
     cbs_free(alloc, &mut house);
 }
 
-/// Takes a turn, and is told whether all is over.
+/// Takes a turn, and checks whether all is over.
 fn is_over(rt: &impl Abort, house: &mut Handle, wanted: bool) {
     let mut out = TurnEvent {
         took: 9,
@@ -60,7 +60,7 @@ fn a_turn_tells_that_all_is_over(rt: HostRuntime) {
     is_over(&rt, &mut house, false);
     sends(&rt, &mut soft, 7, 3, 0);
     cbs_free(alloc, &mut throttled);
-    // Server 1 is closed, then server 0, whose last unit comes with the third turn.
+    // Server 1 is closed first, then server 0. The last unit of server 0 comes with the third turn.
     is_over(&rt, &mut house, false);
     cbs_free(alloc, &mut soft);
     is_over(&rt, &mut house, false);
@@ -91,7 +91,7 @@ fn a_client_of_a_freed_house_is_refused(rt: HostRuntime) {
     is(&rt, cbs_end(&mut throttled), 0);
     cbs_free(alloc, &mut house);
     refuses_send(&rt, &mut soft, 0, 0x401);
-    // At a full ring, and after an end.
+    // The same holds for a full ring, and after an end.
     refuses_send(&rt, &mut soft, 1, HOUSE_GONE);
     is(&rt, cbs_end(&mut soft), HOUSE_GONE);
     waits(&rt, &mut soft, 1);
@@ -115,7 +115,7 @@ fn a_client_sees_what_was_taken(rt: HostRuntime) {
     waits(&rt, &mut throttled, 0);
 }
 
-/// The house has no server of this number, and each call says so and writes nothing.
+/// Checks that each call refuses this number, which no server has, and writes nothing.
 fn knows_no_server(rt: &impl Abort, house: &mut Handle, server: u16) {
     let mut kind = 9;
     is(rt, cbs_poll(house, server, &mut kind), NO_SUCH_SERVER);

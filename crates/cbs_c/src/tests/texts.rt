@@ -1,4 +1,4 @@
-//! The text of each status, by hand.
+//! Tests of the text of each status, written out by hand.
 
 use super::same;
 use crate::status::cbs_status_text;
@@ -57,7 +57,7 @@ const TEXTS: [(u32, &str); 25] = [
     (0x606, NO_STATUS),
 ];
 
-/// Numbers that are no status, beside the kinds of statuses and past their last.
+/// Numbers that are no status, between the kinds of statuses and after their last.
 const NO_STATUSES: [u32; 14] = [
     1,
     0x100,
@@ -75,7 +75,7 @@ const NO_STATUSES: [u32; 14] = [
     u32::MAX,
 ];
 
-/// A status has this text: all of it if there is room, and a prefix of it if there is not.
+/// Checks that a status has this text: all of it if there is room, else a prefix of it.
 fn tells(rt: &impl Abort, status: u32, text: &str) {
     let mut all = [b'#'; 128];
     let length = cbs_status_text(status, &mut all);

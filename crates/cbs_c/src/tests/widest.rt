@@ -1,4 +1,4 @@
-//! A house of as many servers as there may be.
+//! Tests of a house with the greatest number of servers.
 
 use super::{event, is, sends, turns};
 use crate::handles::{cbs_greatest_budget, cbs_open};
@@ -6,14 +6,14 @@ use cbs_embed::{Handle, Server};
 use std::alloc::Global;
 use std::process::Abort;
 
-/// One tick in every 64: 64 of these take the whole processor.
+/// A server with one tick in every 64: 64 such servers take the whole processor.
 const NARROW: Server = Server {
     budget: 1,
     period: 64,
     mode: 0,
 };
 
-/// So many handles that are not open.
+/// Returns `count` handles that are not open.
 fn handles(rt: &impl Abort, alloc: Global, count: usize) -> Vec<Handle> {
     let mut all = Vec::new(alloc);
     for _handle in 0..count {
@@ -22,7 +22,7 @@ fn handles(rt: &impl Abort, alloc: Global, count: usize) -> Vec<Handle> {
     all
 }
 
-/// Each client sends a job of one unit, whose token is the place of the client.
+/// Sends a job of one unit from each client. Its token is the place of the client.
 fn sends_each(rt: &impl Abort, clients: &mut [Handle]) {
     for (place, client) in clients.iter_mut().enumerate() {
         sends(rt, client, place as u64, 1, 0);
@@ -37,7 +37,7 @@ fn a_house_of_64_servers_serves_each(rt: HostRuntime) {
     let status = cbs_open(alloc, &[NARROW; 64], 1, 1, &mut house, &mut clients);
     is(&rt, status, 0);
     sends_each(&rt, &mut clients);
-    // The first turn takes all jobs. All deadlines are 64, so the lowest number is first.
+    // The first turn takes all jobs. All deadlines are 64, so the server with the lowest number is first.
     turns(&rt, &mut house, 64, 0, event(3, 0, 0, 0));
     for server in 1..64 {
         turns(

@@ -5,7 +5,7 @@ ghost use Rattle.cbs_job.specs.Work.{whole};
 
 use cbs_job::{Task, Work};
 
-/// The whole result of a task, all of whose units are done here.
+/// Returns the whole result of a task, after doing all its units.
 pub fn result_of<W: Work>(task: Task<W>) -> u64
     ensures { result ≡ whole W.meaning task }
 {

@@ -4,8 +4,8 @@ ghost use Rattle.std.specs.Prelude.{◌≡◌, [], ◌∷◌, IfSome};
 
 use cbs_rate::{Bound, Plan, Reservation};
 
-/// A plan whose only server may run for `budget` ticks in every `period`, on a processor of its own.
-/// `None` where one of the calls refuses.
+/// Returns a plan whose only server may run for `budget` ticks in every `period`, on its own processor. Returns `None`
+/// if one of the calls refuses.
 pub fn plan_of_one(budget: u64, period: u64) -> Option<Plan>
     ensures { IfSome result (λ plan. plan.rates ≡ record { budget = budget; period = period } ∷ []) }
 {

@@ -9,7 +9,7 @@ ghost use Rattle.cbs_rules.specs.Setups.{no_servers, with_server};
 use cbs_rate::{AdmitError, Bound, Reservation};
 use cbs_rules::{Mode, ServerState, Setup};
 
-/// A new server to which a job comes at tick `now`, and which then uses a tick.
+/// Returns a new server after a job came to it at tick `now` and it used one tick.
 pub fn after_a_unit(mode: Mode, reservation: Reservation, now: u64) -> ServerState
     requires { now ≤ clock_end }
     ensures { result ≡ record { reservation = reservation; state = after_unit mode reservation (after_arrival mode reservation now fresh_state) } }
@@ -20,7 +20,7 @@ pub fn after_a_unit(mode: Mode, reservation: Reservation, now: u64) -> ServerSta
     server
 }
 
-/// A setup of one server, or why it is not admitted.
+/// Returns a setup of one server, or why the server is not admitted.
 pub fn setup_of_one(bound: Bound, reservation: Reservation, mode: Mode) -> Result<Setup, AdmitError>
     ensures { AnswersBy result (admit_refusal (record { bound = bound; rates = [] }) reservation) (with_server (no_servers bound) reservation mode) }
 {

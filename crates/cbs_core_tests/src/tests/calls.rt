@@ -1,4 +1,4 @@
-//! Each call, where memory is there.
+//! Tests of each call while memory is available.
 
 use super::rows::{Case, Row, plays, plays_all};
 use super::{core_of, filled, plan_of, same};
@@ -61,7 +61,7 @@ fn each_call_answers_as_by_hand(rt: HostRuntime) {
     plays_all(&rt, rt.alloc(), &CASES);
 }
 
-/// What the server shows that was closed with a job.
+/// The view of a server that was closed with a job.
 const CLOSED: ServerView = ServerView {
     budget: 2,
     deadline: 5,
@@ -92,7 +92,7 @@ fn each_call_on_a_core_with_one_server(rt: HostRuntime) {
     let heap = LocalHeap::new(alloc, 1 << 13).expect(&rt, "a heap");
     let mut core = core_of(&rt, &heap, Mode::Soft, &[(2, 5)], 1);
     same(&rt, "make_room", core.make_room(0), Ok(()));
-    // From here on no memory is found, and none is wanted.
+    // From here on no memory can be had, and none is needed.
     let ballast = filled(&rt, alloc, &heap);
     plays(&rt, alloc, "with room", &mut core, &WITH_ROOM);
     drop(ballast);
@@ -106,7 +106,7 @@ const BACKLOGS: [(u64, Option<CoreError>); 4] = [
     (4097, Some(CoreError::BadBacklog)),
 ];
 
-/// Why a core with this backlog is refused, if it is.
+/// Returns why a core with this backlog is refused, or `None` if it is made.
 fn refusal(rt: &impl Abort, alloc: Global, backlog: u64) -> Option<CoreError> {
     let plan = plan_of(rt, &[(2, 5)]);
     let modes = Modes::uniform(Mode::Soft, plan.len() as u16);

@@ -1,4 +1,4 @@
-//! Charges, and what they leave.
+//! Tests of charges, and of the state that they leave.
 
 use super::core_of;
 use super::rows::{Case, Row, plays, plays_all};
@@ -36,21 +36,21 @@ const PAID: [Case; 6] = [
             Row::Unit(0),
             Row::State(0, 1, 5, false),
             Row::Running(Some(0)),
-            // 2 ticks beyond the budget: a whole one, and then a new one.
+            // 2 ticks beyond the budget: one whole budget is used up, and then a new one comes.
             Row::Charge(0, 3, Ok(())),
             Row::State(0, 2, 15, false),
             Row::Now(4),
             Row::Charges(0, Ok((3, 3))),
             Row::Unit(0),
             Row::State(0, 1, 15, false),
-            // Just as much as the budget: exhausted.
+            // As much as the budget: the server is exhausted.
             Row::Charge(0, 1, Ok(())),
             Row::State(0, 2, 20, false),
             Row::Now(6),
             Row::Charges(0, Ok((4, 3))),
             Row::Done(0, 0, 3),
             Row::State(0, 1, 20, false),
-            // 4 ticks beyond: two whole budgets. The server is idle, and pays all the same.
+            // 4 ticks beyond: two whole budgets. The server is idle, and pays nevertheless.
             Row::Charge(0, 5, Ok(())),
             Row::State(0, 2, 35, false),
             Row::Now(12),
@@ -69,7 +69,7 @@ const PAID: [Case; 6] = [
             Row::Submit(0, &[1, 1, 1], 0),
             Row::Unit(0),
             Row::State(0, 1, 5, false),
-            // A tick beyond the budget.
+            // One tick beyond the budget.
             Row::Charge(0, 2, Ok(())),
             Row::State(0, 0, 5, true),
             Row::Now(3),
@@ -81,7 +81,7 @@ const PAID: [Case; 6] = [
             Row::State(0, 1, 10, false),
             Row::Unit(0),
             Row::State(0, 0, 10, true),
-            // Exhausted by the unit: 4 ticks beyond are two whole budgets, and no overrun.
+            // The unit exhausted the server. 4 ticks beyond are two whole budgets, and no overrun.
             Row::Charge(0, 4, Ok(())),
             Row::State(0, 0, 20, true),
             Row::Now(10),
@@ -101,7 +101,7 @@ const PAID: [Case; 6] = [
         rows: &[
             Row::Submit(0, &[1, 1], 0),
             Row::Unit(0),
-            // 3 ticks beyond: a whole budget, and an overrun of 1.
+            // 3 ticks beyond: one whole budget, and an overrun of 1.
             Row::Charge(0, 4, Ok(())),
             Row::State(0, 0, 10, true),
             Row::Now(5),
@@ -122,7 +122,7 @@ const PAID: [Case; 6] = [
             Row::Submit(0, &[1, 1, 1], 0),
             Row::Unit(0),
             Row::Charge(0, 2, Ok(())),
-            // It had an overrun of 1 at deadline 2.
+            // The server had an overrun of 1 at deadline 2.
             Row::State(0, 1, 4, false),
             Row::Now(3),
             Row::Ready(Some(0)),
@@ -166,7 +166,7 @@ const PARTS: [Case; 4] = [
             Row::State(0, 2, 15, false),
             Row::Charges(0, Ok((3, 3))),
             Row::Now(4),
-            // The next unit is charged for by itself.
+            // The next unit is charged separately.
             Row::Unit(0),
             Row::Charge(0, 2, Ok(())),
             Row::State(0, 1, 20, false),
@@ -183,7 +183,7 @@ const PARTS: [Case; 4] = [
             Row::Unit(0),
             Row::Charge(0, 2, Ok(())),
             Row::State(0, 0, 5, true),
-            // 2 ticks and the overrun of 1.
+            // The 2 ticks and the overrun of 1.
             Row::Charge(0, 2, Ok(())),
             Row::State(0, 0, 10, true),
             Row::Charges(0, Ok((4, 4))),
@@ -320,7 +320,7 @@ const CHOSEN: [Case; 4] = [
         ],
     },
     Case {
-        // Without the overrun 10 would be promised still, and the job is done at 11.
+        // Without the overrun the promise would still be 10, but the job is done at 11.
         name: "a promise counts the overrun",
         servers: &[(Mode::Throttled, 2, 5)],
         backlog: 4,
@@ -345,7 +345,7 @@ const CHOSEN: [Case; 4] = [
     },
 ];
 
-/// A job of one unit is done at tick 3 beside a busy server.
+/// A job of one unit that is done at tick 3 beside a busy server.
 const DONE_AT_3: [Row; 6] = [
     Row::Submit(0, &[1, 1, 1, 1], 0),
     Row::Submit(1, &[1], 0),
@@ -355,7 +355,7 @@ const DONE_AT_3: [Row; 6] = [
     Row::State(1, 1, 4, false),
 ];
 
-/// Its unit is charged before the server's next job comes: 2 * 4 is as much as (8 - 4) * 2.
+/// The unit is charged before the server's next job comes: 2 * 4 is as much as (8 - 4) * 2.
 const CHARGED_BEFORE: [Row; 4] = [
     Row::Charge(1, 1, Ok(())),
     Row::State(1, 2, 8, false),
@@ -363,7 +363,7 @@ const CHARGED_BEFORE: [Row; 4] = [
     Row::State(1, 2, 8, false),
 ];
 
-/// Its unit is charged after the next job has come, which renews the server: 1 * 4 is more than (4 - 3) * 2.
+/// The unit is charged after the next job has come, which renews the server: 1 * 4 is more than (4 - 3) * 2.
 const CHARGED_AFTER: [Row; 4] = [
     Row::Submit(1, &[1, 1], 1),
     Row::State(1, 2, 7, false),
@@ -371,7 +371,7 @@ const CHARGED_AFTER: [Row; 4] = [
     Row::State(1, 1, 7, false),
 ];
 
-/// The most charged for one unit is told either way.
+/// The most charged for one unit is the same both ways.
 const CHARGED_ONCE: [Row; 2] = [Row::Charges(1, Ok((1, 1))), Row::Now(4)];
 
 #[test]

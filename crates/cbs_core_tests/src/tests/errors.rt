@@ -5,7 +5,7 @@ use cbs_core::CoreError;
 use std::alloc::Global;
 use std::process::Abort;
 
-/// Looks for the number, the name and the text of an error.
+/// Checks the number, the name and the text of an error.
 fn is_told(rt: &impl Abort, alloc: Global, error: CoreError, number: u8, name: &str, text: &str) {
     same(rt, name, (error.number(), error.name()), (number, name));
     says(rt, alloc, &error, text);

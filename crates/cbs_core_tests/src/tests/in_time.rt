@@ -1,4 +1,4 @@
-//! No server is late: seen by every view after every step.
+//! Tests that no server is late, by every view after every step.
 
 use super::rows::{Case, Row, new_core, play, plays};
 use super::{core_of, same, same_at};
@@ -8,7 +8,7 @@ use cbs_rules::Mode;
 use std::alloc::Global;
 use std::process::Abort;
 
-/// How many servers are late: ready, with a deadline that has come.
+/// Returns how many servers are late: ready, with a deadline that has come.
 fn late(core: &Core<SumJob>) -> u16 {
     let now = u128::from(core.now());
     let mut late = 0u16;
@@ -21,7 +21,7 @@ fn late(core: &Core<SumJob>) -> u16 {
     late
 }
 
-/// Makes the calls of a case, and looks after each that nobody is late.
+/// Makes the calls of a case, and checks after each that no server is late.
 fn plays_in_time(rt: &impl Abort, alloc: Global, case: &Case) {
     let mut core = new_core(rt, alloc, case);
     for (place, &row) in case.rows.iter().enumerate() {
@@ -111,7 +111,7 @@ fn nobody_is_late(rt: HostRuntime) {
     }
 }
 
-/// The deadline of a server with a job passes with no unit run.
+/// The deadline of a server with a job passes without a unit.
 const NOT_QUIET: [Row; 3] = [
     Row::Submit(0, &[1, 1], 0),
     Row::Advance(20, Ok(())),

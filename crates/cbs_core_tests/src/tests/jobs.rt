@@ -1,11 +1,11 @@
-//! Tasks, and the jobs of files, run on worked examples.
+//! Tests of tasks, and of the jobs of task files, on worked examples.
 
 use super::{same, says};
 use cbs_job::{FileJob, PeakJob, SumJob, Task, TaskError, Work};
 use std::alloc::Global;
 use std::process::Abort;
 
-/// Makes a task of `work`, and looks whether and why it is refused, and at the units left.
+/// Makes a task of `work`, and checks its refusal, if there is one, and the units left.
 fn answers<W: Work>(rt: &impl Abort, work: W, units: u32, refusal: Option<TaskError>) {
     match Task::new(work) {
         Ok(task) => {
@@ -20,13 +20,13 @@ fn answers<W: Work>(rt: &impl Abort, work: W, units: u32, refusal: Option<TaskEr
     }
 }
 
-/// A sum of these numbers.
+/// Returns a sum of these numbers.
 fn sum(rt: &impl Abort, alloc: Global, numbers: &[u32]) -> SumJob {
     assert!(rt; numbers.len() <= 1_000_001);
     SumJob::new(Vec::from_slice(alloc, numbers).expect(rt, "memory"))
 }
 
-/// A peak of these numbers.
+/// Returns a peak of these numbers.
 fn peak(rt: &impl Abort, alloc: Global, numbers: &[u32]) -> PeakJob {
     assert!(rt; numbers.len() <= 1_000_001);
     PeakJob::new(Vec::from_slice(alloc, numbers).expect(rt, "memory"))
@@ -61,7 +61,8 @@ fn all_answer(
     answers(rt, FileJob::from(peak(rt, alloc, numbers)), units, refusal);
 }
 
-/// Starts a task of `work` and does all its units: `outputs` are those before each unit and at the end.
+/// Starts a task of `work` and does all its units. Checks the outputs before each unit and at the end, given by
+/// `outputs`.
 fn comes_to<W: Work>(rt: &impl Abort, work: W, outputs: &[u64]) {
     let Ok(task) = Task::new(work) else {
         panic!(rt; "a task");
@@ -105,7 +106,7 @@ fn each_unit_takes_a_number_in(rt: HostRuntime) {
     }
 }
 
-/// Looks for the number and the name of an error.
+/// Checks the number and the name of an error.
 fn is_named(rt: &impl Abort, error: TaskError, number: u8, name: &str) {
     same(rt, name, (error.number(), error.name()), (number, name));
 }

@@ -19,7 +19,7 @@ enum Asked {
     Charge(u16, u64),
 }
 
-/// A reply, with no job in it.
+/// A reply without its job.
 #[derive(Clone, Copy, Debug, PartialEq, Eq)]
 enum Told {
     Accepted(u64),
@@ -31,7 +31,7 @@ enum Told {
     Refused(CoreError),
 }
 
-/// The step that is asked for.
+/// Returns the step that is asked for.
 fn step_of(rt: &impl Abort, alloc: Global, asked: Asked) -> Step<SumJob> {
     match asked {
         Asked::Submit(server, number) => Step::Submit(server, sum_of(rt, alloc, &[number])),
@@ -42,7 +42,7 @@ fn step_of(rt: &impl Abort, alloc: Global, asked: Asked) -> Step<SumJob> {
     }
 }
 
-/// The list of these steps.
+/// Returns the list of these steps.
 fn steps_of<A: Allocator>(
     rt: &impl Abort,
     global: Global,
@@ -57,7 +57,7 @@ fn steps_of<A: Allocator>(
     steps
 }
 
-/// A reply without its job.
+/// Returns a reply without its job.
 fn without_job(reply: &Reply<SumJob>) -> Told {
     match reply {
         Reply::Accepted(number) => Told::Accepted(*number),
@@ -70,7 +70,7 @@ fn without_job(reply: &Reply<SumJob>) -> Told {
     }
 }
 
-/// Does steps, and looks for these replies.
+/// Makes steps, and checks their replies.
 fn answers<A: Allocator + Clone>(
     rt: &impl Abort,
     core: &mut Core<SumJob, A>,
@@ -168,7 +168,7 @@ fn charges_are_steps(rt: HostRuntime) {
     answers(&rt, &mut core, steps, &wanted);
     let behind = [
         Row::Now(5),
-        // 4 ticks were two budgets.
+        // The 4 ticks were two budgets.
         Row::State(0, 2, 15, false),
         Row::Charges(0, Ok((3, 3))),
         Row::State(1, 1, 5, false),
@@ -178,7 +178,7 @@ fn charges_are_steps(rt: HostRuntime) {
     plays(&rt, alloc, "behind the steps", &mut core, &behind);
 }
 
-/// Submits sums of 1 to the first server until memory is refused.
+/// Submits sums of 1 to the first server until memory is refused. Returns how many were accepted.
 fn takes_all_room(rt: &impl Abort, alloc: Global, core: &mut Core<SumJob, &LocalHeap>) -> u64 {
     for taken in 0..64 {
         if let Err(refused) = core.submit(0, sum_of(rt, alloc, &[1])) {
@@ -206,8 +206,8 @@ fn a_step_that_finds_no_memory_is_marked(rt: HostRuntime) {
     let steps = steps_of(&rt, alloc, &heap, &asked);
     same(&rt, "make_room", core.make_room(1), Ok(()));
 
-    // What is left of the heap is as long as the replies: no job finds memory. Room is found again where a job is done, and it
-    // is the next job's, of whatever server.
+    // The rest of the heap is as long as the replies, so no job finds memory. When a job is done there is room again,
+    // for the next job of any server.
     let replies: Vec<Reply<SumJob>, &LocalHeap> = Vec::with_capacity(&heap, asked.len()).expect(
         &rt, "memory",
     );

@@ -1,4 +1,4 @@
-//! Jobs of each kind in each memory, and what is done where no memory is found.
+//! Tests of jobs of each kind in each memory, and of calls that are out of memory.
 
 use super::rows::{Row, does, plays};
 use super::{core_of, filled, same, sum_of};
@@ -9,14 +9,14 @@ use linked_list_allocator::LocalHeap;
 use std::alloc::{Allocator, Global};
 use std::process::Abort;
 
-/// The task that seeks the greatest of these numbers.
+/// Returns the task that seeks the greatest of these numbers.
 fn peak_of(rt: &impl Abort, alloc: Global, numbers: &[u32]) -> Task<PeakJob> {
     assert!(rt; numbers.len() < 100);
     let numbers = Vec::from_slice(alloc, numbers).expect(rt, "memory");
     Task::new(PeakJob::new(numbers)).ok().expect(rt, "a task")
 }
 
-/// Runs a task of three units, and looks at its result.
+/// Runs a task of three units, and checks its result.
 fn comes_to<W: Work, A: Allocator + Clone>(rt: &impl Abort, alloc: A, task: Task<W>, output: u64) {
     let mut core = core_of(rt, alloc, Mode::Soft, &[(2, 5)], 4);
     same(rt, "submit", core.submit(0, task).ok(), Some(0));
@@ -51,7 +51,7 @@ fn jobs_of_any_kind_run_in_any_memory(rt: HostRuntime) {
     all_come_to(&rt, alloc, &heap);
 }
 
-/// What a core of two servers does while no memory is found: there is room for one job.
+/// What a core of two servers does without memory, with room for one job.
 const WITHOUT_MEMORY: [Row; 15] = [
     Row::Close(0, Ok(())),
     Row::Run(Ran::Idle),
@@ -65,13 +65,13 @@ const WITHOUT_MEMORY: [Row; 15] = [
     Row::State(1, 2, 10, false),
     Row::Done(1, 0, 6),
     Row::Now(10),
-    // Just as much as the budget, and past the deadline.
+    // As much as the budget, and later than the deadline.
     Row::Charge(1, 1, Ok(())),
     Row::State(1, 2, 15, false),
     Row::Now(11),
 ];
 
-/// No room is made while no memory is found.
+/// A refusal of room for lack of memory.
 const REFUSED: [Row; 1] = [Row::MakeRoom(1, Err(CoreError::OutOfMemory))];
 
 #[test]
@@ -84,7 +84,7 @@ fn room_is_enough_for_the_next_job(rt: HostRuntime) {
     plays_full(&rt, alloc, &heap, &mut core, &WITHOUT_MEMORY);
 }
 
-/// Makes calls of a core while no memory of its heap is found.
+/// Makes calls of a core while its heap is full.
 fn plays_full(
     rt: &impl Abort,
     alloc: Global,

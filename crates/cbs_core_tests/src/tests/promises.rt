@@ -1,4 +1,4 @@
-//! By which tick the jobs of a server are finished, told after each step.
+//! Tests of the tick by which the jobs of a server are finished, as promised after each step.
 
 use super::rows::{Case, Row, plays_all};
 use cbs_rules::Mode;
@@ -91,8 +91,8 @@ const CASES: [Case; 5] = [
         ],
     },
     Case {
-        // The advance takes the server's time from tick 0 on: it is ready, and late from tick 10 on. Replenished once
-        // for each deadline that has come, it runs at 20 and at 21.
+        // The advance takes the server's time from tick 0 on: the server is ready, and late from tick 10 on. It is
+        // replenished once for each deadline that has come, and runs at ticks 20 and 21.
         name: "a promise is not kept after an advance that took the server's time",
         servers: &[(Mode::Throttled, 1, 10)],
         backlog: 4,

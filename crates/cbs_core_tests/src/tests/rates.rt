@@ -1,15 +1,15 @@
-//! Reservations and plans, run on worked examples.
+//! Tests of reservations and plans on worked examples.
 
 use super::{same, says};
 use cbs_rate::{AdmitError, Bound, Plan, RateError, Reservation};
 use std::process::Abort;
 
-/// The reservation of `budget` in every `period`, which there has to be.
+/// Returns the reservation of `budget` in every `period`, which must exist.
 fn reserved(rt: &impl Abort, budget: u64, period: u64) -> Reservation {
     Reservation::new(budget, period).expect(rt, "a reservation")
 }
 
-/// Admits each of `asked`, a budget and a period, in turn to a new plan, and looks at what it answers.
+/// Admits each of `asked`, a budget and a period, in turn to a new plan, and checks the result.
 fn admits(
     rt: &impl Abort,
     bound: (u64, u64),
@@ -68,7 +68,7 @@ fn refuses_the_sixty_fifth_server(rt: HostRuntime) {
     same(&rt, "len", plan.len(), 64);
 }
 
-/// Looks at the greatest budget that a plan of these servers, a budget and a period each, has left for each period.
+/// Checks for each period the greatest budget that a plan of these servers, each a budget and a period, still admits.
 fn leaves(rt: &impl Abort, servers: &[(u64, u64)], rows: &[(u64, u64)]) {
     let mut plan = Plan::new(Bound::new(9, 10).expect(rt, "a bound"));
     for &(budget, period) in servers {
@@ -98,13 +98,13 @@ fn tells_the_greatest_budget(rt: HostRuntime) {
     leaves(&rt, &[(1, 1000); 64], &[(1000, 0)]);
 }
 
-/// Looks that there is no reservation of `budget` in every `period`, for this error.
+/// Checks that a reservation of `budget` in every `period` is refused by this error.
 fn refuses(rt: &impl Abort, budget: u64, period: u64, error: RateError) {
     let made = (budget, period, Reservation::new(budget, period));
     same(rt, "reservation", made, (budget, period, Err(error)));
 }
 
-/// Looks that there is no bound of these two numbers.
+/// Checks that a bound of these two numbers is refused.
 fn refuses_bound(rt: &impl Abort, num: u64, den: u64) {
     let made = (num, den, Bound::new(num, den));
     same(rt, "bound", made, (num, den, Err(RateError::BadBound)));
@@ -134,12 +134,12 @@ fn compares_bandwidths_exactly(rt: HostRuntime) {
     assert!(rt; third.at_most(&third));
 }
 
-/// Looks for the number and the name of an error.
+/// Checks the number and the name of an error.
 fn is_named(rt: &impl Abort, error: RateError, number: u8, name: &str) {
     same(rt, name, (error.number(), error.name()), (number, name));
 }
 
-/// The same of a refused admission.
+/// Checks the number and the name of an error of an admission.
 fn refusal_is_named(rt: &impl Abort, error: AdmitError, number: u8, name: &str) {
     same(rt, name, (error.number(), error.name()), (number, name));
 }

@@ -1,4 +1,4 @@
-//! Calls of a core in rows, each with what it answers.
+//! Calls of a core in rows, each with its result.
 
 use super::{done, same_at, sum_of, whole};
 use cbs_core::{Core, CoreError, Ran, ServerView};
@@ -8,12 +8,12 @@ use cbs_rules::{Mode, Setup};
 use std::alloc::{Allocator, Global};
 use std::process::Abort;
 
-/// A call of a core, with the answer that a test looks for.
+/// A call of a core, with the result that a test checks.
 #[derive(Clone, Copy)]
 pub enum Row {
-    /// A sum of these numbers is submitted to a server, and gets this number.
+    /// A submit of a sum of these numbers to a server, and the number that the job gets.
     Submit(u16, &'static [u32], u64),
-    /// A sum of this number alone is refused, and comes back.
+    /// A submit of a sum of this number alone, which is refused and comes back.
     Refused(u16, u32, CoreError),
     MakeRoom(u16, Result<(), CoreError>),
     Close(u16, Result<(), CoreError>),
@@ -31,16 +31,16 @@ pub enum Row {
     Ready(Option<u16>),
     /// The server that runs.
     Running(Option<u16>),
-    /// What a server was charged, in all and at most for one unit.
+    /// The ticks that a server was charged, in total and at most for one unit.
     Charges(u16, Result<(u64, u64), CoreError>),
     IdleSpan(Option<u64>),
     Promised(u16, Option<u128>),
-    /// A server's budget, deadline and mark.
+    /// A server's budget, deadline and flag 'throttled'.
     State(u16, u64, u128, bool),
     View(u16, Result<ServerView, CoreError>),
 }
 
-/// Calls of a new core, in rows.
+/// The calls of a new core, in rows.
 #[derive(Clone, Copy)]
 pub struct Case {
     pub name: &'static str,
@@ -50,7 +50,7 @@ pub struct Case {
     pub rows: &'static [Row],
 }
 
-/// The core of a case, as it is at first.
+/// Returns the core of a case, as it is at first.
 pub fn new_core(rt: &impl Abort, alloc: Global, case: &Case) -> Core<SumJob> {
     let mut setup = Setup::new(Bound::new(1, 1).expect(rt, "a bound"));
     for &(mode, budget, period) in case.servers {
@@ -61,7 +61,7 @@ pub fn new_core(rt: &impl Abort, alloc: Global, case: &Case) -> Core<SumJob> {
     Core::new(alloc, plan, modes, case.backlog).expect(rt, "a core")
 }
 
-/// Makes the calls of each case, and looks at each answer.
+/// Makes the calls of each case, and checks each result.
 pub fn plays_all(rt: &impl Abort, alloc: Global, cases: &[Case]) {
     for case in cases {
         let mut core = new_core(rt, alloc, case);
@@ -69,7 +69,7 @@ pub fn plays_all(rt: &impl Abort, alloc: Global, cases: &[Case]) {
     }
 }
 
-/// Makes the calls of these rows in turn, and looks at each answer.
+/// Makes the calls of these rows in turn, and checks each result.
 pub fn plays<A: Allocator>(
     rt: &impl Abort,
     alloc: Global,
@@ -82,7 +82,7 @@ pub fn plays<A: Allocator>(
     }
 }
 
-/// Makes the call of a row, which stands at this place of the rows of this name.
+/// Makes the call of a row, which stands at this place of the rows of this name, and checks the result.
 pub fn play<A: Allocator>(
     rt: &impl Abort,
     alloc: Global,
@@ -105,7 +105,7 @@ pub fn play<A: Allocator>(
     }
 }
 
-/// Makes the call of a row that submits nothing.
+/// Makes the call of a row that is not a submit, and checks the result.
 pub fn does<W: Work, A: Allocator>(
     rt: &impl Abort,
     at: (&str, usize),
@@ -137,7 +137,7 @@ pub fn does<W: Work, A: Allocator>(
     }
 }
 
-/// Looks at what a row tells of.
+/// Checks the value of a row that only reads.
 fn looks<W: Work, A: Allocator>(rt: &impl Abort, at: (&str, usize), core: &Core<W, A>, row: Row) {
     match row {
         Row::Now(wanted) => same_at(rt, at, "now", core.now(), wanted),

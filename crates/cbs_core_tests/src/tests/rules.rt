@@ -1,11 +1,11 @@
-//! The rules of one server, run on worked examples.
+//! Tests of the rules of one server on worked examples.
 
 use super::{same, same_at};
 use cbs_rate::{AdmitError, Bound, MAX_PERIOD, Reservation};
 use cbs_rules::{LIMIT, MAX_DEADLINE, Mode, ServerState, Setup};
 use std::process::Abort;
 
-/// What happens to a server, with the tick at which it does.
+/// An event for a server, with the tick at which it happens.
 #[derive(Clone, Copy)]
 enum Event {
     Arrive(u64),
@@ -13,7 +13,7 @@ enum Event {
     Replenish(u64),
 }
 
-/// Has an event happen to a server.
+/// Makes an event happen to a server.
 fn happens(rt: &impl Abort, mode: Mode, server: &mut ServerState, event: Event) {
     assert!(rt; server.deadline() <= MAX_DEADLINE);
     match event {
@@ -29,14 +29,14 @@ fn happens(rt: &impl Abort, mode: Mode, server: &mut ServerState, event: Event) 
     }
 }
 
-/// Looks at the budget, the deadline and the mark of a server.
+/// Checks the budget, the deadline and the flag 'throttled' of a server.
 fn shows(rt: &impl Abort, at: (&str, usize), server: &ServerState, wanted: (u64, u128, bool)) {
     let state = (server.budget(), server.deadline(), server.throttled());
     same_at(rt, at, "state", state, wanted);
 }
 
-/// Takes a new server with `budget` ticks in every `period` through `life`: each event with the
-/// budget, the deadline and the mark that it leaves.
+/// Takes a new server with `budget` ticks in every `period` through the events of `life`. Checks after each the budget,
+/// the deadline and the flag 'throttled'.
 fn lives(
     rt: &impl Abort,
     mode: Mode,
@@ -104,7 +104,7 @@ fn a_throttled_server_follows_its_rules(rt: HostRuntime) {
         (Event::Arrive(11), 2, 15, false),
         (Event::Consume, 1, 15, false),
         (Event::Consume, 0, 15, true),
-        // one period only, however late it is
+        // only one period, however late the replenishment is
         (Event::Replenish(40), 2, 19, false),
         (Event::Replenish(41), 2, 19, false),
         (Event::Consume, 1, 19, false),
@@ -130,7 +130,7 @@ fn the_limits_are_those_of_a_clock_of_a_million_million_ticks(rt: HostRuntime) {
     same(&rt, "MAX_DEADLINE", MAX_DEADLINE, latest);
 }
 
-/// Looks what a setup answers to a server.
+/// Checks what a setup returns for a server.
 fn admits(
     rt: &impl Abort,
     setup: &mut Setup,

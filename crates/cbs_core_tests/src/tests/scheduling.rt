@@ -1,4 +1,4 @@
-//! Who runs, and for how long nobody does.
+//! Tests of who runs, and of how long no server does.
 
 use super::core_of;
 use super::rows::{Case, Row, plays, plays_all};
@@ -98,7 +98,7 @@ const CASES: [Case; 4] = [
             Row::Done(0, 0, 1),
             Row::State(0, 1, 5, false),
             Row::Now(1),
-            // The place of the finished job is free for the next one.
+            // The slot of the finished job is free for the next one.
             Row::Submit(0, &[4], 2),
             Row::State(0, 1, 5, false),
             Row::Now(1),
@@ -126,7 +126,7 @@ fn who_runs_is_as_by_hand(rt: HostRuntime) {
     plays_all(&rt, rt.alloc(), &CASES);
 }
 
-/// A throttled server with 2 ticks in every 5 has one unit of its job left, and no budget.
+/// A throttled server with 2 ticks in every 5, with one unit of its job left and no budget.
 const EXHAUSTED: [Row; 11] = [
     Row::Submit(0, &[1, 2, 3], 0),
     Row::Unit(0),
@@ -145,7 +145,7 @@ const JUMP: [Row; 1] = [Row::Advance(7, Ok(()))];
 
 const TICKS: [Row; 7] = [Row::Advance(1, Ok(())); 7];
 
-/// What the server shows at tick 9.
+/// The server's view at tick 9.
 const AT_9: ServerView = ServerView {
     budget: 2,
     deadline: 10,
@@ -155,7 +155,7 @@ const AT_9: ServerView = ServerView {
     finished: 0,
 };
 
-/// It goes on by its next deadline.
+/// The server goes on with its next deadline.
 const REPLENISHED: [Row; 5] = [
     Row::View(0, Ok(AT_9)),
     Row::Now(9),

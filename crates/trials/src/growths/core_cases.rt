@@ -9,13 +9,13 @@ use cbs_job::{SumJob, Task, Work};
 use cbs_rules::Setup;
 use std::alloc::Global;
 
-/// Why a core of these servers is refused.
+/// Returns why a core of these servers is refused, or `None` if it is made.
 fn refusal(alloc: Global, setup: Setup) -> Option<CoreError> {
     let (plan, modes) = setup.into_parts();
     Core::<SumJob>::new(alloc, plan, modes, 4).err()
 }
 
-/// A core of two servers.
+/// Makes a core of two servers.
 pub fn new_core(rt: &impl Print, alloc: Global) -> Result<()> {
     let setup = soft_servers(&[(2, 5), (2, 5)])?;
     let same = soft_servers(&[(2, 5), (2, 5)])?;
@@ -25,23 +25,22 @@ pub fn new_core(rt: &impl Print, alloc: Global) -> Result<()> {
     Ok(())
 }
 
-/// A soft core of one server with 2 ticks in every 5.
+/// Returns a core of one soft server with 2 ticks in every 5.
 fn core_of_one<W: Work>(alloc: Global) -> Result<Core<W>> {
     let (plan, modes) = soft_servers(&[(2, 5)])?.into_parts();
     Ok(Core::new(alloc, plan, modes, 4)?)
 }
 
-// Each call stands in a function of its own, which promises nothing: so a case that makes many is proved
-// fast.
+// Each call stands in its own function, which has no contract. So a case that makes many calls is proved fast.
 
-/// Prints what is seen of a core.
+/// Prints the state of a core.
 fn shows<W: Work>(rt: &impl Print, core: &Core<W>) {
     tell(rt, "now", core.now());
     tell(rt, "ready", core.ready());
     tell(rt, "view", core.view(0));
 }
 
-/// Room for a job.
+/// Makes room for a job.
 pub fn make_room(rt: &impl Print, alloc: Global) -> Result<()> {
     let mut core = core_of_one::<SumJob>(alloc)?;
     begin(rt);
@@ -51,12 +50,12 @@ pub fn make_room(rt: &impl Print, alloc: Global) -> Result<()> {
     Ok(())
 }
 
-/// Makes room, and tells the answer.
+/// Makes room, and prints the result.
 fn makes_room(rt: &impl Print, what: &str, core: &mut Core<SumJob>) {
     tell(rt, what, core.make_room(0));
 }
 
-/// A job.
+/// Submits a job.
 pub fn submit(rt: &impl Print, alloc: Global) -> Result<()> {
     let task = sum_of(alloc, &[1, 2, 3])?;
     let mut core = core_of_one(alloc)?;
@@ -69,7 +68,7 @@ pub fn submit(rt: &impl Print, alloc: Global) -> Result<()> {
     Ok(())
 }
 
-/// Submits a job, and tells the answer. The job, if it comes back.
+/// Submits a job, and prints the result. Returns the job if it comes back.
 fn submitted(rt: &impl Print, core: &mut Core<SumJob>, task: Task<SumJob>) -> Option<Task<SumJob>> {
     match core.submit(0, task) {
         Ok(number) => {
@@ -83,7 +82,7 @@ fn submitted(rt: &impl Print, core: &mut Core<SumJob>, task: Task<SumJob>) -> Op
     }
 }
 
-/// Three submits and three runs.
+/// Returns three submits and three runs.
 fn six_steps(alloc: Global) -> Result<Vec<Step<WideJob>>> {
     let mut steps = Vec::with_capacity(alloc, 6)?;
     for number in [1, 2, 3] {
@@ -95,7 +94,7 @@ fn six_steps(alloc: Global) -> Result<Vec<Step<WideJob>>> {
     Ok(steps)
 }
 
-/// A list of steps.
+/// Makes a list of steps.
 pub fn run_steps(rt: &impl Print, alloc: Global) -> Result<()> {
     let steps = six_steps(alloc)?;
     let mut core = core_of_one(alloc)?;
@@ -108,7 +107,7 @@ pub fn run_steps(rt: &impl Print, alloc: Global) -> Result<()> {
     Ok(())
 }
 
-/// Makes steps, and tells the replies. The steps, if they come back.
+/// Makes steps, and prints the replies. Returns the steps if they come back.
 fn made(
     rt: &impl Print,
     core: &mut Core<WideJob>,

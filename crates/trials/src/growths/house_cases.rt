@@ -15,13 +15,13 @@ use cbs_rules::Setup;
 use std::alloc::Global;
 use std::time::Clock;
 
-/// Why a house of these servers is refused.
+/// Returns why a house of these servers is refused, or `None` if it is opened.
 fn refusal(alloc: Global, setup: Setup) -> Option<HouseError> {
     let (plan, modes) = setup.into_parts();
     open_house::<SumJob, Global>(alloc, plan, modes, 4, 4).err()
 }
 
-/// A house of two servers.
+/// Opens a house of two servers.
 pub fn new_house(rt: &impl Print, alloc: Global) -> Result<()> {
     let setup = soft_servers(&[(2, 5), (2, 5)])?;
     let same = soft_servers(&[(2, 5), (2, 5)])?;
@@ -31,14 +31,14 @@ pub fn new_house(rt: &impl Print, alloc: Global) -> Result<()> {
     Ok(())
 }
 
-/// The clients of a house of two servers.
+/// Returns the clients of a house of two servers.
 fn two_clients(alloc: Global) -> Result<Vec<Client<SumJob>>> {
     let (plan, modes) = soft_servers(&[(2, 5), (2, 5)])?.into_parts();
     let (_house, clients) = open_house(alloc, plan, modes, 4, 4)?;
     Ok(clients)
 }
 
-/// Feeds of two clients, with a list of one job, and one of none.
+/// Makes feeds of two clients, with a list of one job, and an empty list.
 pub fn feeds(rt: &impl Print, alloc: Global) -> Result<()> {
     let lists = lists_of(alloc, &[&[&[5]], &[]])?;
     let clients = two_clients(alloc)?;
@@ -54,7 +54,7 @@ pub fn feeds(rt: &impl Print, alloc: Global) -> Result<()> {
     Ok(())
 }
 
-/// Asks for feeds, and tells the answer. What was given, if it comes back.
+/// Makes feeds, and prints the result. Returns the clients and the lists if they come back.
 fn fed(
     rt: &impl Print,
     alloc: Global,
@@ -76,12 +76,12 @@ fn fed(
     }
 }
 
-/// Why a collector is refused.
+/// Returns why a collector is refused, or `None` if it is made.
 fn collector_refusal(alloc: Global) -> Option<CollectError> {
     Collector::new(alloc, 2).err()
 }
 
-/// A collector of the results of two servers.
+/// Makes a collector of the results of two servers.
 pub fn new_collector(rt: &impl Print, alloc: Global) -> Result<()> {
     begin(rt);
     tell(rt, "first", collector_refusal(alloc));
@@ -94,7 +94,7 @@ fn announces(rt: &impl Print, what: &str, collector: &mut Collector) {
     tell(rt, what, collector.expect(0));
 }
 
-/// Gives the completion of a job.
+/// Takes the completion of a job.
 fn takes(rt: &impl Print, what: &str, collector: &mut Collector, seq: u64, output: u64) {
     let done = Completion {
         server: 0,
@@ -104,7 +104,7 @@ fn takes(rt: &impl Print, what: &str, collector: &mut Collector, seq: u64, outpu
     tell(rt, what, collector.take(done));
 }
 
-/// A place for a result, and no announcement.
+/// Makes a place for a result, without an announcement.
 pub fn collector_room(rt: &impl Print, alloc: Global) -> Result<()> {
     let mut collector = Collector::new(alloc, 1)?;
     begin(rt);
@@ -116,7 +116,7 @@ pub fn collector_room(rt: &impl Print, alloc: Global) -> Result<()> {
     Ok(())
 }
 
-/// A completion that is announced.
+/// Announces a completion.
 pub fn announce(rt: &impl Print, alloc: Global) -> Result<()> {
     let mut collector = Collector::new(alloc, 1)?;
     begin(rt);
@@ -129,7 +129,7 @@ pub fn announce(rt: &impl Print, alloc: Global) -> Result<()> {
     Ok(())
 }
 
-/// A soft house of one server with 2 ticks in every 5, and its client.
+/// Returns a house of one soft server with 2 ticks in every 5, and its client.
 fn house_of_one(alloc: Global) -> Result<(House<SumJob>, Client<SumJob>)>
     ensures { IfOk result (λ r. IsOpened (rings_of r.0) r.1) }
 {
@@ -141,7 +141,7 @@ fn house_of_one(alloc: Global) -> Result<(House<SumJob>, Client<SumJob>)>
     Ok((house, client))
 }
 
-/// Sends a job, and tells its number.
+/// Sends a job, and prints its number.
 fn sends(rt: &impl Print, client: &mut Client<SumJob>, task: Task<SumJob>)
     ensures { SameClient client.old client.new }
 {
@@ -158,7 +158,7 @@ fn polls(rt: &impl Print, what: &str, house: &mut House<SumJob>)
     tell(rt, what, house.poll(0));
 }
 
-/// Tells how many messages stand in the ring.
+/// Prints how many messages stand in the ring.
 fn settles(rt: &impl Print, house: &mut House<SumJob>, client: &mut Client<SumJob>)
     requires { IsOpened (rings_of house.old) client.old }
     ensures rings { rings_of house.new ≡ rings_of house.old }
@@ -167,13 +167,13 @@ fn settles(rt: &impl Print, house: &mut House<SumJob>, client: &mut Client<SumJo
     tell(rt, "settle", house.settle(client));
 }
 
-/// Runs all jobs, and prints what is seen.
+/// Runs all jobs, and prints the results.
 fn drains(rt: &impl Print, house: &mut House<SumJob>) {
     tell(rt, "drain", house.drain());
     tell(rt, "results", house.results(0));
 }
 
-/// A house of one server, and its client, which has sent two jobs.
+/// Returns a house of one server, and its client, which has sent two jobs.
 fn two_sent(rt: &impl Print, alloc: Global) -> Result<(House<SumJob>, Client<SumJob>)>
     ensures { IfOk result (λ r. IsOpened (rings_of r.0) r.1) }
 {
@@ -184,7 +184,7 @@ fn two_sent(rt: &impl Print, alloc: Global) -> Result<(House<SumJob>, Client<Sum
     Ok((house, client))
 }
 
-/// A poll of a ring with two messages.
+/// Polls a ring with two messages.
 pub fn poll(rt: &impl Print, alloc: Global) -> Result<()> {
     let (mut house, mut client) = two_sent(rt, alloc)?;
     begin(rt);
@@ -197,7 +197,7 @@ pub fn poll(rt: &impl Print, alloc: Global) -> Result<()> {
     Ok(())
 }
 
-/// Asks for the results, to have them.
+/// Takes the results, and prints them.
 fn hands_out(rt: &impl Print, what: &str, house: &mut House<SumJob>) {
     match house.take_results(0) {
         Ok(results) => tell(rt, what, results.as_slice()),
@@ -205,7 +205,7 @@ fn hands_out(rt: &impl Print, what: &str, house: &mut House<SumJob>) {
     }
 }
 
-/// Results that are handed out while a job is held.
+/// Hands out results while a job is held.
 pub fn take_results(rt: &impl Print, alloc: Global) -> Result<()> {
     let (mut house, _client) = two_sent(rt, alloc)?;
     polls(rt, "poll", &mut house);
@@ -219,7 +219,7 @@ pub fn take_results(rt: &impl Print, alloc: Global) -> Result<()> {
     Ok(())
 }
 
-/// A turn of a house with two messages in its ring, and two turns more.
+/// Takes a turn of a house with two messages in its ring, and two more turns.
 pub fn turn(rt: &impl Print, alloc: Global) -> Result<()> {
     let (mut house, _client) = two_sent(rt, alloc)?;
     begin(rt);
@@ -237,7 +237,7 @@ fn runs_until_closed<R: Print + Clock>(rt: &R, what: &str, house: &mut House<Sum
     tell(rt, "results", house.results(0));
 }
 
-/// A run of a house whose client has sent two jobs and its end.
+/// Runs a house whose client has sent two jobs and its end.
 pub fn run_until_closed<R: Print + Clock>(rt: &R, alloc: Global) -> Result<()> {
     let (mut house, mut client) = two_sent(rt, alloc)?;
     tell(rt, "end", client.end());

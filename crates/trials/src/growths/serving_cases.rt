@@ -1,4 +1,4 @@
-//! Serving, by a round and to the end.
+//! Serves feeds, by a round and to the end.
 
 ghost use Rattle.std.specs.Prelude.{◌<◌, ◌≡◌, length, IfOk};
 ghost use Rattle.cbs_house.specs.Rounds.{Ready};
@@ -12,13 +12,13 @@ use std::alloc::Global;
 use std::thread::Threads;
 use std::time::Clock;
 
-/// So many turns that a round ends because all is taken.
+/// A number of turns so large that a round ends because all is taken.
 const TURNS: u64 = 100_000;
 
-/// The jobs of three servers, of which the second has none: the numbers that each adds up.
+/// The jobs of three servers: the numbers that each job adds up. The second server has no job.
 const JOBS: [&[&[u32]]; 3] = [&[&[1, 2, 3], &[9]], &[], &[&[10], &[20, 30, 0]]];
 
-/// A house of three servers, and a feed of the jobs of each.
+/// Returns a house of three servers, and a feed of the jobs of each.
 fn three_fed(alloc: Global) -> Result<(House<SumJob>, Vec<Feed<SumJob>>)>
     ensures { IfOk result (λ r. Ready r.0 r.1.items) }
 {
@@ -26,7 +26,7 @@ fn three_fed(alloc: Global) -> Result<(House<SumJob>, Vec<Feed<SumJob>>)>
     fed(alloc, setup, 4, 4, lists_of(alloc, &JOBS)?)
 }
 
-/// How many messages stand in the ring of the feed at this index.
+/// Returns how many messages stand in the ring of the feed at this index.
 fn standing(house: &mut House<SumJob>, feeds: &mut [Feed<SumJob>], index: usize) -> u64
     requires ready { Ready house.old feeds.old }
     requires within { index < length feeds.old }
@@ -37,8 +37,8 @@ fn standing(house: &mut House<SumJob>, feeds: &mut [Feed<SumJob>], index: usize)
     house.settle(feed.client())
 }
 
-/// Prints where the jobs of a server's feed are, of which so many messages stand in the ring: not sent, in
-/// the ring, held by the core, or among the results.
+/// Prints where the jobs of a server's feed are: not sent, in the ring, held by the core, or among the results.
+/// `standing` is how many messages stand in the ring.
 fn tell_feed(
     rt: &impl Print,
     house: &House<SumJob>,
@@ -68,7 +68,7 @@ fn tell_all(rt: &impl Print, house: &mut House<SumJob>, feeds: &mut [Feed<SumJob
     }
 }
 
-/// Serves the feeds, and tells the answer.
+/// Serves the feeds, and prints the result.
 fn serves<R: Print + Threads + Clock + Sync>(
     rt: &R,
     what: &str,
@@ -82,7 +82,7 @@ fn serves<R: Print + Threads + Clock + Sync>(
     tell(rt, what, answer);
 }
 
-/// Takes a round in which all is sent and taken, and then serves.
+/// Takes a round in which all is sent and taken, and then serves the feeds.
 fn take_round<R: Print + Threads + Clock + Sync>(
     rt: &R,
     house: &mut House<SumJob>,
@@ -110,7 +110,7 @@ fn serve_twice<R: Print + Threads + Clock + Sync>(
     tell_all(rt, house, feeds);
 }
 
-/// A round.
+/// Takes a round.
 pub fn round<R: Print + Threads + Clock + Sync>(rt: &R, alloc: Global) -> Result<()> {
     let (mut house, mut feeds) = three_fed(alloc)?;
     begin(rt);
@@ -118,7 +118,7 @@ pub fn round<R: Print + Threads + Clock + Sync>(rt: &R, alloc: Global) -> Result
     Ok(())
 }
 
-/// Feeds that are served to their end.
+/// Serves feeds to their end.
 pub fn whole<R: Print + Threads + Clock + Sync>(rt: &R, alloc: Global) -> Result<()> {
     let (mut house, mut feeds) = three_fed(alloc)?;
     begin(rt);

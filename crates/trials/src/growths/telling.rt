@@ -1,14 +1,14 @@
-//! What is printed. A line that cannot be written is missed by whoever reads the output.
+//! The lines that are printed. Nothing is done about a line that cannot be written: a reader of the output misses it.
 
 use std::fmt::Debug;
 
-/// Says that the call under test comes next. From this line to the next one, whoever runs the program may
+/// Prints that the call under test comes next. From this line to the next one, the script that runs the program may
 /// refuse memory.
 pub fn begin(rt: &impl Print) {
     let _written = print!(rt; "call\n");
 }
 
-/// Prints an answer.
+/// Prints a result.
 pub fn tell<T: Debug + Drop>(rt: &impl Print, what: &str, answer: T) {
     let _written = println!(rt; "{what}: {answer:?}");
 }

@@ -1,4 +1,4 @@
-//! Jobs of which a list has room for one more at each growth.
+//! Jobs so wide that a list has room for one more job at each growth.
 
 ghost use Rattle.std.specs.Prelude.{◌-◌};
 ghost use Rattle.std.proofs.Common.{refl};
@@ -6,8 +6,8 @@ ghost use Rattle.std.proofs.Common.{refl};
 use anyhow::Result;
 use cbs_job::{Task, Work};
 
-/// Some units that come to a number. It is so wide that a list takes room for no more jobs than it has to
-/// hold, or for twice as many as before: the first three jobs of a core are three growths.
+/// Some units whose output is a number. The job is so wide that a list takes room for no more jobs than it must hold,
+/// or for twice as many as before. So the first three jobs of a core are three growths.
 #[derive(Drop)]
 pub struct WideJob {
     left: u32,
@@ -33,7 +33,7 @@ impl Work for WideJob {
     }
 }
 
-/// A job of one unit that comes to this number.
+/// Returns a job of one unit with this output.
 pub fn wide(output: u64) -> Result<Task<WideJob>> {
     let job = WideJob {
         left: 1,

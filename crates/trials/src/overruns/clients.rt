@@ -14,20 +14,20 @@ pub const CONTROL: u16 = 0;
 /// The server of greedy.
 pub const GREEDY: u16 = 1;
 
-/// The period of both, in ticks.
+/// The period of both servers, in ticks.
 const PERIOD: u64 = 10;
 
-/// How many jobs a ring has room for, and the house for each server.
+/// How many jobs a ring has room for, and also the backlog of each server.
 pub const ROOM: u64 = 256;
 
 /// How long a unit of control takes, in microseconds.
 const SHORT: u64 = 300;
 
-/// How long a unit of greedy takes, in microseconds. It is a little less than 20 ticks, so that a meter, which measures
-/// some more, tells of 19 beyond the first.
+/// How long a unit of greedy takes, in microseconds. It is a little less than 20 ticks, since a meter measures somewhat
+/// more, and then returns 19 ticks after the first.
 const LONG: u64 = 19_900;
 
-/// Returns the servers, where greedy has this mode.
+/// Returns the servers, with this mode for greedy.
 pub fn servers(mode: Mode) -> Result<Setup> {
     let mut setup = Setup::new(Bound::new(1, 1)?);
     setup.admit(Reservation::new(2, PERIOD)?, Mode::Soft)?;
@@ -40,12 +40,12 @@ pub fn length_of(server: u16) -> Duration {
     Duration::from_micros(if server == CONTROL { SHORT } else { LONG })
 }
 
-/// Returns when the job of control that has this number is due to be sent.
+/// Returns when the job of control with this number is due to be sent.
 pub fn release_of(seq: u64) -> Duration {
     time_of(seq.saturating_mul(PERIOD))
 }
 
-/// Sends the jobs of control that are due. What a full ring refuses is sent later.
+/// Sends the jobs of control that are due. A job that a full ring refuses is sent later.
 pub fn send_due<'a, R: Clock>(
     wall: &Wall<'a, R>,
     control: &mut Client<LongJob<'a, R>>,

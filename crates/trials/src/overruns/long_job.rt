@@ -1,4 +1,4 @@
-//! A job whose units take so long.
+//! A job whose units take a given time.
 
 ghost use Rattle.std.specs.Prelude.{◌-◌, refl};
 
@@ -6,14 +6,14 @@ use anyhow::{Context, Result};
 use cbs_job::{Task, Work};
 use std::time::{Clock, Duration};
 
-/// A job whose units keep the processor busy for so long by a clock.
+/// A job whose units each keep the processor busy for a given time by a clock.
 pub struct LongJob<'a, R: Clock> {
     rt: &'a R,
     units: u32,
     length: Duration,
 }
 
-// By hand, so that it asks nothing of the runtime.
+// Dropped by hand, so that the drop has no requirement on the runtime.
 impl<'a, R: Clock> Drop for LongJob<'a, R> {
     fn drop(self) {
         let LongJob {
@@ -43,7 +43,7 @@ impl<'a, R: Clock> Work for LongJob<'a, R> {
     }
 }
 
-/// Returns a job of one unit that takes so long.
+/// Returns a job of one unit that takes this long.
 pub fn one_unit<'a, R: Clock>(rt: &'a R, length: Duration) -> Result<Task<LongJob<'a, R>>> {
     let job = LongJob {
         rt,
@@ -53,7 +53,7 @@ pub fn one_unit<'a, R: Clock>(rt: &'a R, length: Duration) -> Result<Task<LongJo
     Task::new(job).ok().context("no such job")
 }
 
-/// Keeps the processor busy for so long, or until the clock cannot be read.
+/// Keeps the processor busy for this long, or until the clock cannot be read.
 fn spend(rt: &impl Clock, length: Duration) {
     let Ok(begun) = rt.monotonic() else {
         return;

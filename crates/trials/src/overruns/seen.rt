@@ -1,28 +1,28 @@
-//! What is seen of a trial.
+//! What is measured in a trial.
 
 use std::alloc::Global;
 use std::fmt::{self, Display, Formatter, Write};
 use std::time::Duration;
 
-/// What was seen of a trial.
+/// The measurements of a trial.
 #[derive(Drop)]
 pub struct Seen {
-    /// How long the trial took.
+    /// The length of the trial.
     pub length: Duration,
-    /// How many jobs control sent.
+    /// The number of jobs that control sent.
     pub sent: u64,
-    /// How long each of them took that is finished, from when it was due to be sent.
+    /// How long each finished job of control took, from when it was due to be sent.
     pub responses: Vec<Duration>,
-    /// How long the units of greedy took, in all.
+    /// The time that the units of greedy took in total.
     pub taken: Duration,
-    /// The most that a unit or a sleep took beyond what it should: the host gave the processor away.
+    /// The most that a unit or a sleep took beyond what it should: the host gave the processor to others.
     pub jitter: Duration,
-    /// How often a server was later than the rules allow.
+    /// The number of times that a server was later than the rules allow.
     pub too_late: u64,
 }
 
 impl Seen {
-    /// Returns what is seen before the start.
+    /// Returns the measurements before the start.
     pub fn new(alloc: Global) -> Seen {
         Seen {
             length: Duration::ZERO,
@@ -34,12 +34,12 @@ impl Seen {
         }
     }
 
-    /// Takes in that a unit or a sleep took so much beyond what it should.
+    /// Records that a unit or a sleep took `beyond` longer than it should.
     pub fn took_beyond(&mut self, beyond: Duration) {
         self.jitter = self.jitter.max(beyond);
     }
 
-    /// Returns the response that stands after so many hundredths of the others. They must be sorted.
+    /// Returns the response time that stands after this many hundredths of the others. The times must be sorted.
     fn response(&self, hundredths: usize) -> Tenths {
         let last = self.responses.len().saturating_sub(1);
         let place = last.saturating_mul(hundredths) / 100;

@@ -1,4 +1,4 @@
-//! A trial: a house of both servers, each tick of which waits for its time.
+//! A trial: a house of both servers, in which each tick waits for its real time.
 
 use super::clients::{CONTROL, GREEDY, ROOM, length_of, release_of, send_due, send_one, servers};
 use super::long_job::LongJob;
@@ -20,7 +20,7 @@ struct Trial<W: Work> {
     greedy: Client<W>,
 }
 
-/// Opens a house, in which greedy has this mode.
+/// Opens a house in which greedy has this mode. Returns the house and its clients.
 fn open<W: Work>(alloc: Global, mode: Mode) -> Result<Trial<W>> {
     let (plan, modes) = servers(mode)?.into_parts();
     let (house, mut clients) = open_house(alloc, plan, modes, ROOM, ROOM)?;
@@ -33,7 +33,7 @@ fn open<W: Work>(alloc: Global, mode: Mode) -> Result<Trial<W>> {
     })
 }
 
-/// Runs a trial of this length, in which greedy has this mode. Returns what was seen.
+/// Runs a trial of this length, in which greedy has this mode. Returns the measurements.
 pub fn run<R: Clock, M: Meter>(
     rt: &R,
     alloc: Global,
@@ -51,7 +51,7 @@ pub fn run<R: Clock, M: Meter>(
     Ok(seen)
 }
 
-/// Makes ticks until so much time has passed.
+/// Makes ticks until this time has passed.
 fn run_for<'a, R: Clock, M: Meter>(
     wall: &Wall<'a, R>,
     trial: &mut Trial<LongJob<'a, R>>,
@@ -69,7 +69,7 @@ fn run_for<'a, R: Clock, M: Meter>(
     Ok(())
 }
 
-/// Takes a turn of one tick, once its time has come. If the house's clock is behind, turns follow each other at once.
+/// Takes a turn of one tick, once its time has come. If the house's clock is late, turns follow each other at once.
 fn take_turn<'a, R: Clock, M: Meter>(
     wall: &Wall<'a, R>,
     trial: &mut Trial<LongJob<'a, R>>,
@@ -90,8 +90,8 @@ fn poll_each<W: Work>(house: &mut House<W>) {
     }
 }
 
-/// Runs a unit, or lets a tick pass. `House::turn_metered` is not called, since it does not wait for the time of a
-/// throttled server: its clock jumps there.
+/// Runs a unit, or lets a tick pass. `House::turn_metered` is not used, since it does not wait for the time of a
+/// throttled server: its clock jumps to that time.
 fn run_unit<'a, R: Clock, M: Meter>(
     wall: &Wall<'a, R>,
     house: &mut House<LongJob<'a, R>>,
@@ -100,7 +100,7 @@ fn run_unit<'a, R: Clock, M: Meter>(
 ) -> Result<()> {
     let begun = wall.now()?;
     match house.run_metered(meter) {
-        // Nobody is ready, so this takes nobody's time.
+        // No server is ready, so this takes nobody's time.
         Ran::Idle => house.advance(1)?,
         Ran::Done(done) => took(done.server, done.seq, begun, wall.now()?, seen)?,
         Ran::Unit { .. } | Ran::ClockEnd => bail!(
@@ -110,7 +110,7 @@ fn run_unit<'a, R: Clock, M: Meter>(
     Ok(())
 }
 
-/// Takes in that a job ran from one time to another.
+/// Records that a job ran from one time to another.
 fn took(server: u16, seq: u64, begun: Duration, ended: Duration, seen: &mut Seen) -> Result<()> {
     let time = ended.saturating_sub(begun);
     seen.took_beyond(time.saturating_sub(length_of(server)));
@@ -122,7 +122,7 @@ fn took(server: u16, seq: u64, begun: Duration, ended: Duration, seen: &mut Seen
     Ok(())
 }
 
-/// Takes in whether a server is later than the rules allow.
+/// Records whether a server is later than the rules allow.
 fn look<R: Clock>(house: &House<LongJob<'_, R>>, seen: &mut Seen) -> Result<()> {
     if is_too_late(house, CONTROL, GREEDY)? || is_too_late(house, GREEDY, CONTROL)? {
         seen.too_late = seen.too_late.saturating_add(1);
@@ -130,7 +130,8 @@ fn look<R: Clock>(house: &House<LongJob<'_, R>>, seen: &mut Seen) -> Result<()> 
     Ok(())
 }
 
-/// Returns whether a server has a job, may run, and is as late as the most that the other was charged for a unit.
+/// Returns whether a server has a job, may run, and is at least as late as the most that the other was charged for a
+/// unit.
 fn is_too_late<R: Clock>(house: &House<LongJob<'_, R>>, server: u16, other: u16) -> Result<bool> {
     let view = house.view(server)?;
     let most = u128::from(house.charges(other)?.most);

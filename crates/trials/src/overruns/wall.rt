@@ -4,7 +4,7 @@ use anyhow::Result;
 use std::thread::sleep;
 use std::time::{Clock, Duration, Instant};
 
-/// Returns how long so many ticks are: a millisecond each.
+/// Returns how long `tick` ticks are: a millisecond each.
 pub fn time_of(tick: u64) -> Duration {
     Duration::from_millis(tick)
 }
@@ -15,7 +15,7 @@ pub struct Wall<'a, R: Clock> {
     start: Instant,
 }
 
-// By hand, so that it asks nothing of the runtime.
+// Dropped by hand, so that the drop has no requirement on the runtime.
 impl<'a, R: Clock> Drop for Wall<'a, R> {
     fn drop(self) {
         let Wall { rt: _, start: _ } = self;
@@ -29,7 +29,7 @@ impl<'a, R: Clock> Wall<'a, R> {
         Ok(Wall { rt, start })
     }
 
-    /// Returns how long it is since the start.
+    /// Returns the time since the start.
     pub fn now(&self) -> Result<Duration> {
         Ok(self.start.elapsed(self.rt)?)
     }

@@ -3,21 +3,21 @@
 use cbs_house::{Gate, Poll};
 use std::sync::atomic::{AtomicU64, Ordering};
 
-/// The longest delays that a load may have, in looks at a counter.
+/// The longest delays that a load may have, in reads of a counter.
 const LONGEST: [u64; 4] = [1, 16, 128, 1024];
 
-/// Delays each send, and the house after its polls, and puts about every fourth send off, at random.
-/// Nothing is put off for ever: each question is drawn anew.
+/// A gate that delays each send, and the house after its polls, at random. It also puts about every fourth send off. No
+/// send is put off for ever: each question gets a new random number.
 #[derive(Drop)]
 pub struct RandomDelays {
     seed: u64,
-    // how often the gate was asked or told something
+    // How often the gate was called.
     calls: AtomicU64,
 }
 
 impl RandomDelays {
-    /// The seed also says how long the delays of either side are, so that in some loads the senders
-    /// are faster, and in others the house.
+    /// Returns the gate of this seed. The seed also determines how long the delays of either side are. So in some loads
+    /// the senders are faster, and in others the house.
     pub fn new(seed: u64) -> RandomDelays {
         RandomDelays {
             seed: mixed(seed),
@@ -25,13 +25,13 @@ impl RandomDelays {
         }
     }
 
-    /// A random number for one call.
+    /// Returns a random number for one call.
     fn draw(&self, server: u16, number: u64) -> u64 {
         let call = self.calls.fetch_add(1, Ordering::SeqCst);
         mixed(self.seed ^ mixed(call ^ mixed(number ^ mixed(u64::from(server)))))
     }
 
-    /// Looks at the counter so many times, which no compiler leaves out.
+    /// Reads the counter `looks` times, which the compiler cannot leave out.
     fn delay(&self, looks: u64) {
         for _look in 0..looks {
             self.calls.load(Ordering::SeqCst);
@@ -46,7 +46,7 @@ impl Gate for RandomDelays {
         drawn % 4 > 0
     }
 
-    /// A full backlog is passed over: where servers wait for their deadlines, most polls find one.
+    /// A full backlog is skipped: if servers wait for their deadlines, most polls find one.
     fn answered(&self, server: u16, poll: Poll) {
         if poll != Poll::Full {
             let drawn = self.draw(server, 0);
@@ -55,7 +55,7 @@ impl Gate for RandomDelays {
     }
 }
 
-/// A number each of whose bits hangs on all bits of this one.
+/// Returns a number of which each bit depends on all bits of this one.
 fn mixed(number: u64) -> u64 {
     let once = (number ^ (number >> 30)).wrapping_mul(0xbf58_476d_1ce4_e5b9);
     let twice = (once ^ (once >> 27)).wrapping_mul(0x94d0_49bb_1331_11eb);

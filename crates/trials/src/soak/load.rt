@@ -7,7 +7,7 @@ use cbs_rules::{Mode, Setup};
 use std::alloc::Global;
 use std::str::SplitWhitespace;
 
-/// What is served, and the seed of the delays.
+/// The servers, their jobs, and the seed of the delays.
 #[derive(Drop)]
 pub struct Load {
     pub seed: u64,
@@ -18,8 +18,8 @@ pub struct Load {
     pub jobs: Vec<Vec<Task<FileJob>>>,
 }
 
-/// Reads a load. Its first line is `SEED BACKLOG RING`, and each further one is
-/// `server BUDGET PERIOD MODE`, or `job SERVER KIND NUMBERS..`, of a server above it.
+/// Reads a load. Its first line is `SEED BACKLOG RING`. Each further line is `server BUDGET PERIOD MODE`, or `job
+/// SERVER KIND NUMBERS..` for a server of a line above.
 pub fn read_load(alloc: Global, text: &str) -> Result<Load> {
     let mut lines = text.lines();
     let first = lines.next().context("line 1: there is none")?;
@@ -35,7 +35,7 @@ pub fn read_load(alloc: Global, text: &str) -> Result<Load> {
     Ok(load)
 }
 
-/// A load with no server yet.
+/// Returns a load with no server yet.
 fn read_first(alloc: Global, words: &mut SplitWhitespace<'_>) -> Result<Load> {
     let seed = number(words)?;
     Ok(Load {
@@ -47,7 +47,7 @@ fn read_first(alloc: Global, words: &mut SplitWhitespace<'_>) -> Result<Load> {
     })
 }
 
-/// Takes one more server or one more job.
+/// Reads one more server or one more job into the load.
 fn read_line(alloc: Global, load: &mut Load, line: &str) -> Result<()> {
     let mut words = line.split_whitespace();
     match words.next() {
@@ -65,14 +65,14 @@ fn read_line(alloc: Global, load: &mut Load, line: &str) -> Result<()> {
     Ok(())
 }
 
-/// Takes the reservation and the mode of one more server.
+/// Reads the reservation and the mode of one more server into the load.
 fn read_server(load: &mut Load, words: &mut SplitWhitespace<'_>) -> Result<()> {
     let reservation = Reservation::new(number(words)?, number(words)?)?;
     load.setup.admit(reservation, read_mode(words)?)?;
     Ok(())
 }
 
-/// The mode that the next word names.
+/// Returns the mode that the next word names.
 fn read_mode(words: &mut SplitWhitespace<'_>) -> Result<Mode> {
     match words.next() {
         Some("soft") => Ok(Mode::Soft),
@@ -81,7 +81,7 @@ fn read_mode(words: &mut SplitWhitespace<'_>) -> Result<Mode> {
     }
 }
 
-/// The job of a kind and its numbers.
+/// Returns the job of a kind and its numbers.
 fn read_job(alloc: Global, words: &mut SplitWhitespace<'_>) -> Result<Task<FileJob>> {
     let kind = words.next();
     let mut numbers = Vec::new(alloc);
@@ -99,7 +99,7 @@ fn read_job(alloc: Global, words: &mut SplitWhitespace<'_>) -> Result<Task<FileJ
     Ok(Task::new(job).map_err(|refused| refused.error)?)
 }
 
-/// The next word, a number.
+/// Returns the next word as a number.
 fn number(words: &mut SplitWhitespace<'_>) -> Result<u64> {
     let word = words.next().context("a number is missing")?;
     Ok(word.parse::<u64>()?)

@@ -9,10 +9,10 @@ use std::alloc::Global;
 use std::thread::Threads;
 use std::time::Clock;
 
-/// What is timed.
+/// A case that is timed.
 #[derive(Clone, Copy)]
 pub enum Case {
-    /// A run step, where the least budget is so many ticks.
+    /// A run step, with this least budget in ticks.
     Run(Mode, u64),
     /// A submit and its one unit.
     Submit,
@@ -37,7 +37,7 @@ pub const CASES: [Case; 8] = [
 ];
 
 impl Case {
-    /// What the row says.
+    /// Returns the label of the row.
     pub fn label(self) -> &'static str {
         match self {
             Case::Run(Mode::Soft, 1) => "ns a run step, soft, budgets 1 to 4",
@@ -51,7 +51,7 @@ impl Case {
         }
     }
 
-    /// How many are made for one time.
+    /// Returns how many are made for one time.
     pub fn count(self) -> u64 {
         match self {
             Case::Message => 65_536,
@@ -59,7 +59,7 @@ impl Case {
         }
     }
 
-    /// Makes so many, and times that.
+    /// Makes as many, and returns the time.
     pub fn time<R: Threads + Clock + Sync>(
         self,
         rt: &R,

@@ -1,4 +1,4 @@
-//! A job that only counts its units, so that what is timed is the executor.
+//! A job that only counts its units, so that only the executor is timed.
 
 ghost use Rattle.std.specs.Prelude.{◌≤◌, ◌+◌};
 ghost use Rattle.trials.specs.Counts.{Counts, counting};
@@ -6,7 +6,7 @@ ghost use Rattle.trials.specs.Counts.{Counts, counting};
 use cbs_job::{Task, Work};
 use std::marker::Model;
 
-/// A job of so many units that counts them.
+/// A job that counts its units.
 #[derive(Drop)]
 pub struct CountJob {
     left: u32,
@@ -42,7 +42,7 @@ impl Work for CountJob {
     }
 }
 
-/// A job of so many units, of which there must be 1 to 1000000.
+/// Returns a job of `units` units, of which there must be 1 to 1000000, or `None` otherwise.
 pub fn counting(units: u32) -> Option<Task<CountJob>> {
     Task::new(CountJob {
         left: units,

@@ -1,4 +1,4 @@
-//! What is timed of the house.
+//! The cases of the house that are timed.
 
 ghost use Rattle.std.specs.Prelude.{IfOk};
 ghost use Rattle.cbs_house.specs.Rounds.{Ready};
@@ -15,13 +15,13 @@ use std::alloc::Global;
 use std::thread::Threads;
 use std::time::{Clock, Instant};
 
-/// Polls of empty rings, of all servers in turn.
+/// Times polls of empty rings, of all servers in turn.
 pub fn polls(rt: &impl Clock, alloc: Global, servers: u16, polls: u64) -> Result<Timing> {
     let (mut house, _clients) = idle_house(alloc, servers)?;
     time_polls(rt, &mut house, polls / u64::from(servers.max(1)))
 }
 
-/// So many turns of them.
+/// Times `turns` turns of such polls.
 fn time_polls(rt: &impl Clock, house: &mut House<CountJob>, turns: u64) -> Result<Timing> {
     let start = Instant::now(rt)?;
     poll_turns(house, turns)?;
@@ -29,13 +29,13 @@ fn time_polls(rt: &impl Clock, house: &mut House<CountJob>, turns: u64) -> Resul
     Timing::since(rt, start, made)
 }
 
-/// A house, and its clients, which send nothing.
+/// Returns a house, and its clients, which send nothing.
 fn idle_house(alloc: Global, servers: u16) -> Result<(House<CountJob>, Vec<Client<CountJob>>)> {
     let (plan, modes) = equal_shares(servers, 1, Mode::Soft)?.into_parts();
     Ok(open_house(alloc, plan, modes, BACKLOG, 64)?)
 }
 
-/// So many turns of polls.
+/// Makes `turns` turns of polls.
 fn poll_turns(house: &mut House<CountJob>, turns: u64) -> Result<()> {
     for _turn in 0..turns {
         ensure!(poll_all(house), "a ring is not empty");
@@ -43,7 +43,7 @@ fn poll_turns(house: &mut House<CountJob>, turns: u64) -> Result<()> {
     Ok(())
 }
 
-/// Polls each server once. Whether all rings were empty.
+/// Polls each server once. Returns whether all rings were empty.
 fn poll_all(house: &mut House<CountJob>) -> bool {
     for server in 0..house.servers() {
         if house.poll(server) != Poll::Nothing {
@@ -53,7 +53,7 @@ fn poll_all(house: &mut House<CountJob>) -> bool {
     true
 }
 
-/// Serves clients on threads of their own, which send jobs of one unit over rings of 64.
+/// Serves clients on their own threads, which send jobs of one unit over rings of 64 slots. Returns the time.
 pub fn messages<R: Threads + Clock + Sync>(
     rt: &R,
     alloc: Global,
@@ -66,7 +66,7 @@ pub fn messages<R: Threads + Clock + Sync>(
     time_serving(rt, &mut house, &mut feeds, sent)
 }
 
-/// Serves feeds that have so many jobs in all.
+/// Serves feeds that have `jobs` jobs in total. Returns the time.
 fn time_serving<R: Threads + Clock + Sync>(
     rt: &R,
     house: &mut House<CountJob>,
@@ -82,7 +82,7 @@ fn time_serving<R: Threads + Clock + Sync>(
     Ok(timing)
 }
 
-/// How many results all servers have.
+/// Returns how many results all servers have.
 fn count_results(house: &House<CountJob>) -> Result<u64> {
     let mut count = 0u64;
     for server in 0..house.servers() {
@@ -91,7 +91,7 @@ fn count_results(house: &House<CountJob>) -> Result<u64> {
     Ok(count)
 }
 
-/// A house, and a feed of so many jobs of one unit for each server.
+/// Returns a house, and for each server a feed of `jobs` jobs of one unit.
 fn opened(alloc: Global, servers: u16, jobs: u64) -> Result<(House<CountJob>, Vec<Feed<CountJob>>)>
     ensures { IfOk result (λ r. Ready r.0 r.1.items) }
 {
@@ -100,7 +100,7 @@ fn opened(alloc: Global, servers: u16, jobs: u64) -> Result<(House<CountJob>, Ve
     fed(alloc, setup, BACKLOG, 64, lists)
 }
 
-/// So many jobs of one unit for each server.
+/// Returns for each server a list of `jobs` jobs of one unit.
 fn job_lists(alloc: Global, servers: u16, jobs: u64) -> Result<Vec<Vec<Task<CountJob>>>> {
     let mut lists = Vec::new(alloc);
     for _server in 0..servers {
@@ -109,7 +109,7 @@ fn job_lists(alloc: Global, servers: u16, jobs: u64) -> Result<Vec<Vec<Task<Coun
     Ok(lists)
 }
 
-/// So many jobs of one unit.
+/// Returns a list of `jobs` jobs of one unit.
 fn job_list(alloc: Global, jobs: u64) -> Result<Vec<Task<CountJob>>> {
     let mut list = Vec::new(alloc);
     for _job in 0..jobs {

@@ -10,10 +10,11 @@ use std::alloc::Global;
 /// The greatest backlog.
 pub const BACKLOG: u64 = 4096;
 
-/// A unit count that no case comes to the end of.
+/// A number of units that no case runs to the end.
 pub const LONG: u32 = 1_000_000;
 
-/// Equal shares of the whole: budgets of `least` to four times that, and periods of `servers` budgets.
+/// Returns a setup with equal shares of the processor: budgets of `least` to four times `least`, and periods of
+/// `servers` budgets.
 pub fn equal_shares(servers: u16, least: u64, mode: Mode) -> Result<Setup> {
     let mut setup = Setup::new(Bound::new(1, 1)?);
     for server in 0..servers {
@@ -24,13 +25,13 @@ pub fn equal_shares(servers: u16, least: u64, mode: Mode) -> Result<Setup> {
     Ok(setup)
 }
 
-/// A core of such servers, with nothing to do.
+/// Returns a core of such servers, with no job.
 pub fn core_of(alloc: Global, servers: u16, least: u64, mode: Mode) -> Result<Core<CountJob>> {
     let (plan, modes) = equal_shares(servers, least, mode)?.into_parts();
     Ok(Core::new(alloc, plan, modes, BACKLOG)?)
 }
 
-/// Gives each server so many jobs of so many units.
+/// Gives each server `jobs` jobs of `units` units.
 pub fn fill(core: &mut Core<CountJob>, jobs: u64, units: u32) -> Result<()> {
     for _job in 0..jobs {
         for server in 0..core.servers() {

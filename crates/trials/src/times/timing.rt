@@ -1,9 +1,9 @@
-//! How long something took.
+//! A measured time.
 
 use anyhow::Result;
 use std::time::{Clock, Duration, Instant};
 
-/// How long it took to make so many of something.
+/// The time that it took to make a number of something.
 #[derive(Clone, Copy)]
 pub struct Timing {
     pub spent: Duration,
@@ -11,13 +11,13 @@ pub struct Timing {
 }
 
 impl Timing {
-    /// That so many were made since then.
+    /// Returns the timing of `made` things that were made since `start`.
     pub fn since(rt: &impl Clock, start: Instant, made: u64) -> Result<Timing> {
         let spent = start.elapsed(rt)?;
         Ok(Timing { spent, made })
     }
 
-    /// Nanoseconds for each, in tenths.
+    /// Returns the nanoseconds for each, in tenths.
     pub fn nanoseconds(&self) -> u128 {
         self.spent.as_nanos().saturating_mul(10) / u128::from(self.made.max(1))
     }
