@@ -1,4 +1,4 @@
-//! The house and its clients, run on worked examples.
+//! Tests of the house and its clients on worked examples.
 
 mod calls;
 mod charges;
@@ -31,7 +31,7 @@ fn same<T: Debug + Drop + PartialEq>(rt: &impl Abort, label: &str, answer: T, wa
     assert!(rt; answer == wanted, "{label}: {answer:?}, not {wanted:?}");
 }
 
-/// The same at this place of the rows of this name.
+/// Does the same for this place of the rows of this name.
 fn same_at<T: Debug + Drop + PartialEq>(
     rt: &impl Abort,
     at: (&str, usize),
@@ -45,13 +45,13 @@ fn same_at<T: Debug + Drop + PartialEq>(
     );
 }
 
-/// Ends the test where a value is not written so.
+/// Ends the test unless a value is displayed as this text.
 fn says(rt: &impl Abort, alloc: Global, value: &impl Display, text: &str) {
     let said = format!(in alloc; "{value}").expect(rt, "memory");
     same(rt, text, said.as_str(), text);
 }
 
-/// A plan of reservations, each a budget and a period.
+/// Returns a plan of reservations, each a budget and a period.
 fn plan_of(rt: &impl Abort, rates: &[(u64, u64)]) -> Plan {
     let mut plan = Plan::new(Bound::new(1, 1).expect(rt, "a bound"));
     for &(budget, period) in rates {
@@ -61,14 +61,14 @@ fn plan_of(rt: &impl Abort, rates: &[(u64, u64)]) -> Plan {
     plan
 }
 
-/// The task that adds these numbers up.
+/// Returns the task that adds these numbers up.
 fn sum_of(rt: &impl Abort, alloc: Global, numbers: &[u32]) -> Task<SumJob> {
     assert!(rt; numbers.len() < 2000);
     let numbers = Vec::from_slice(alloc, numbers).expect(rt, "memory");
     Task::new(SumJob::new(numbers)).ok().expect(rt, "a task")
 }
 
-/// Takes all memory of a heap, and gives what holds it.
+/// Takes all memory of a heap, and returns what holds it.
 fn filled<'a>(rt: &impl Abort, alloc: Global, heap: &'a LocalHeap) -> Vec<Vec<u8, &'a LocalHeap>> {
     let mut ballast = Vec::new(alloc);
     for _block in 0..heap.size() {
@@ -81,7 +81,7 @@ fn filled<'a>(rt: &impl Abort, alloc: Global, heap: &'a LocalHeap) -> Vec<Vec<u8
     ballast
 }
 
-/// Lists of tasks, each of which adds up the numbers at its place.
+/// Returns lists of tasks, each of which adds up the numbers at its place.
 fn lists_of(rt: &impl Abort, alloc: Global, lists: &[&[&[u32]]]) -> Vec<Vec<Task<SumJob>>> {
     let mut all = Vec::new(alloc);
     for &list in lists {
@@ -90,7 +90,7 @@ fn lists_of(rt: &impl Abort, alloc: Global, lists: &[&[&[u32]]]) -> Vec<Vec<Task
     all
 }
 
-/// Tasks, each of which adds up the numbers at its place.
+/// Returns tasks, each of which adds up the numbers at its place.
 fn sums_of(rt: &impl Abort, alloc: Global, list: &[&[u32]]) -> Vec<Task<SumJob>> {
     let mut tasks = Vec::new(alloc);
     for &numbers in list {

@@ -48,7 +48,7 @@ module _ {W : Type 0} where
   ticks zero w = w
   ticks (suc n) w = ticks n (tick w)
 
-  -- the start: the clock is 0, and nobody has a job
+  -- the start: the clock is 0, and no server has a job
   abbrev pub start : Setup → World W
   start setup = record { now = 0; accounts = map new_account setup.servers }
 

@@ -11,8 +11,8 @@ use cbs_rate::Plan;
 use cbs_rules::Modes;
 use std::alloc::Global;
 
-/// Opens a house that is in time, with a backlog and rings of four: whatever steps it will make, the laws
-/// on time hold of them.
+/// Returns a house that is on time, with a backlog and rings of four. The laws on time hold of all steps that it will
+/// make.
 pub fn opened_in_time<W: Work>(
     alloc: Global,
     plan: Plan,

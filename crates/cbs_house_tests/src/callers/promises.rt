@@ -1,4 +1,4 @@
-//! Callers that use a promise of a house that took turns. What the contracts say is enough.
+//! Callers that use a promise of a house that took turns. They need only the contracts.
 
 ghost use Rattle.std.specs.Prelude.{◌≡◌, Some, IfOk, IfSome, length};
 ghost use Rattle.cbs_core.specs.Agreement.{Agrees};
@@ -18,8 +18,8 @@ use cbs_rate::Plan;
 use cbs_rules::Modes;
 use std::alloc::Global;
 
-/// Opens a house, which takes so many turns. Returns it with the tick by which all that server 0 then has is
-/// finished, if it has a job.
+/// Opens a house, which takes `turns` turns. Returns the house with the tick by which all jobs that server 0 then has
+/// are finished. The tick is `None` if the server has no job.
 pub fn promised_after_turns<W: Work>(
     alloc: Global,
     plan: Plan,
@@ -37,8 +37,8 @@ pub fn promised_after_turns<W: Work>(
     Ok((house, tick))
 }
 
-/// Opens a house behind a handle, which takes so many turns. Returns the tick by which all that server 0 then
-/// has is finished, if it has a job.
+/// Opens a house in a handle, which takes `turns` turns. Returns the tick by which all jobs that server 0 then has are
+/// finished, or `None` if it has no job.
 pub fn told_after_turns(
     alloc: Global,
     servers: &[Server],

@@ -1,4 +1,4 @@
-//! Callers of cbs_house that have no proof of their own: what its contracts say is enough.
+//! Callers of cbs_house without a proof of their own: they need only its contracts.
 
 ghost use Rattle.std.specs.Prelude.{◌≡◌, ◌++◌, IfOk, IfSome, length};
 ghost use Rattle.cbs_core.specs.Held.{HoldsNoJob};
@@ -15,7 +15,7 @@ use std::alloc::Global;
 use std::thread::Threads;
 use std::time::Clock;
 
-/// Opens a house, makes feeds of its clients and these lists, and serves them.
+/// Opens a house, makes feeds of its clients and these lists, and serves them. Returns the house and the feeds.
 pub fn feeds_served<R: Threads + Clock + Sync, W: Work + Send>(
     rt: &R,
     alloc: Global,
@@ -35,7 +35,7 @@ pub fn feeds_served<R: Threads + Clock + Sync, W: Work + Send>(
     Ok((house, feeds))
 }
 
-/// Opens a house with feeds of these lists, and serves them.
+/// Opens a house with feeds of these lists, and serves them. Returns the house and the feeds.
 pub fn opened_feeds_served<R: Threads + Clock + Sync, W: Work + Send>(
     rt: &R,
     alloc: Global,
@@ -55,7 +55,8 @@ pub fn opened_feeds_served<R: Threads + Clock + Sync, W: Work + Send>(
     Ok((house, feeds))
 }
 
-/// Opens a house, and settles the last of its clients. How many messages stand in its ring, if there is a client.
+/// Opens a house, and settles the last of its clients. Returns the house, the client and how many messages stand in its
+/// ring, or `None` if there is no client.
 pub fn last_settled<W: Work>(
     alloc: Global,
     plan: Plan,

@@ -1,8 +1,7 @@
-//! Calls of houses and clients, each with the answer that a test looks for.
+//! Calls of houses and clients, each with the result that a test checks.
 //!
-//! Each stands in a function of its own, which promises only what later calls ask for: so a test that
-//! makes many of them is proved fast. A sequence of calls of one house and its client stands in rows
-//! instead (`rows`).
+//! Each call stands in its own function, which promises only what later calls need. So a test that makes many calls is
+//! proved fast. A sequence of calls of one house and its client stands in rows instead (`rows`).
 
 ghost use Rattle.cbs_clients.specs.Clients.{SameClient};
 
@@ -13,7 +12,7 @@ use cbs_job::{SumJob, Task};
 use std::alloc::Allocator;
 use std::process::Abort;
 
-/// Sends a job, as the job of this number.
+/// Sends a job, and checks its number.
 pub fn sends<A: Allocator>(
     rt: &impl Abort,
     client: &mut Client<SumJob, A>,
@@ -26,7 +25,7 @@ pub fn sends<A: Allocator>(
     assert!(rt; matches!(answer, Ok(n) if n == number));
 }
 
-/// Ends a client.
+/// Ends a client, and checks the result.
 pub fn ends<A: Allocator>(
     rt: &impl Abort,
     client: &mut Client<SumJob, A>,
@@ -35,7 +34,7 @@ pub fn ends<A: Allocator>(
     same(rt, "end", client.end(), wanted);
 }
 
-/// Polls a server.
+/// Polls a server, and checks the result.
 pub fn polls<A: Allocator>(
     rt: &impl Abort,
     house: &mut House<SumJob, A>,
@@ -45,12 +44,12 @@ pub fn polls<A: Allocator>(
     same(rt, "poll", house.poll(server), wanted);
 }
 
-/// Runs a unit.
+/// Runs a unit, and checks the result.
 pub fn runs<A: Allocator>(rt: &impl Abort, house: &mut House<SumJob, A>, wanted: Ran) {
     same(rt, "run", house.run(), wanted);
 }
 
-/// Runs until every job is finished.
+/// Runs until every job is finished, and checks the result.
 pub fn drains<A: Allocator>(
     rt: &impl Abort,
     house: &mut House<SumJob, A>,
@@ -59,12 +58,12 @@ pub fn drains<A: Allocator>(
     same(rt, "drain", house.drain(), wanted);
 }
 
-/// Looks at the clock.
+/// Checks the clock.
 pub fn stands_at<A: Allocator>(rt: &impl Abort, house: &House<SumJob, A>, wanted: u64) {
     same(rt, "now", house.now(), wanted);
 }
 
-/// Looks at the results of a server.
+/// Checks the results of a server.
 pub fn gave<A: Allocator>(rt: &impl Abort, house: &House<SumJob, A>, server: u16, wanted: &[u64]) {
     same(rt, "results", house.results(server), Ok(wanted));
 }

@@ -1,4 +1,4 @@
-//! Charges of a house, and what they leave.
+//! Tests of charges of a house, and of the state that they leave.
 
 use super::calls::sends;
 use super::rows::{Case, Row, does_all, plays_all};
@@ -25,7 +25,7 @@ const CASES: [Case; 3] = [
             Row::Poll(0, Poll::Took(0)),
             UNIT,
             Row::State(0, 1, 5, false),
-            // 4 ticks were two budgets.
+            // The 4 ticks were two budgets.
             Row::Charge(3, Ok(())),
             Row::State(0, 2, 15, false),
             Row::Now(4),
@@ -36,7 +36,7 @@ const CASES: [Case; 3] = [
             Row::Now(6),
             Row::Charges(0, Ok((4, 3))),
             Row::Done(0, 3),
-            // In two parts: 1, and then 2.
+            // The charge comes in two parts: 1, and then 2.
             Row::Charge(1, Ok(())),
             Row::State(0, 2, 25, false),
             Row::ChargeServer(0, 2, Ok(())),
@@ -57,7 +57,7 @@ const CASES: [Case; 3] = [
             Row::Send(&[1, 1, 1], 0),
             Row::Poll(0, Poll::Took(0)),
             UNIT,
-            // 3 ticks beyond the budget: a whole one, and an overrun of 1.
+            // 3 ticks beyond the budget: one whole budget, and an overrun of 1.
             Row::Charge(4, Ok(())),
             Row::State(0, 0, 10, true),
             Row::Now(5),
@@ -117,8 +117,8 @@ fn a_house_charges_the_server_that_runs(rt: HostRuntime) {
     plays_all(&rt, rt.alloc(), &CASES);
 }
 
-/// A house of a soft and a throttled server with 2 ticks in every 5 each. The client of each sent a sum of three ones,
-/// and is gone.
+/// Returns a house of a soft and a throttled server with 2 ticks in every 5 each. The client of each sent a sum of
+/// three ones, and is gone.
 fn two_servers(rt: &impl Abort, alloc: Global) -> House<SumJob> {
     let mut setup = Setup::new(Bound::new(1, 1).expect(rt, "a bound"));
     for mode in [Mode::Soft, Mode::Throttled] {
@@ -146,7 +146,7 @@ const OF_TWO: [Row; 29] = [
     Row::Charge(1, Ok(())),
     Row::State(0, 2, 10, false),
     Row::State(1, 2, 5, false),
-    // The deadline of server 0 is the later one now.
+    // The deadline of server 0 is now the later one.
     UNIT_OF_1,
     Row::ChargeServer(0, 1, Err(HouseError::NotRunning)),
     Row::Charge(1, Ok(())),

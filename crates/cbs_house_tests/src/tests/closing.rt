@@ -1,4 +1,4 @@
-//! Houses that run until every client has ended.
+//! Tests of houses that run until every client has ended.
 
 ghost use Rattle.std.specs.Prelude.{◌≡◌};
 ghost use Rattle.std.specs.Thread.{IsSync};
@@ -15,10 +15,10 @@ use std::process::Abort;
 use std::thread::{Threads, join_mut, sleep, yield_now};
 use std::time::{Clock, Duration};
 
-/// How many turns in a row with nothing to do a house waits for clients on threads.
+/// How many idle turns in a row a house waits for clients on threads.
 const PATIENCE: u64 = 1_000_000;
 
-/// A sink that keeps what it is told.
+/// A sink that keeps the completions that it is given.
 #[derive(Drop)]
 struct Seen {
     told: Vec<Completion>,
@@ -42,7 +42,7 @@ impl Sink for Seen {
     }
 }
 
-/// Runs a house until its clients have ended, or it did nothing for so many turns.
+/// Runs a house until its clients have ended, or it was idle for so many turns, and checks the result.
 fn closes<R: Clock + Abort>(
     rt: &R,
     at: (&str, usize),
@@ -57,7 +57,7 @@ fn closes<R: Clock + Abort>(
     same_at(rt, at, "run_until_closed", answer, wanted);
 }
 
-/// Looks at what a sink was told: server, number and result of each job, in order.
+/// Checks the completions that a sink was given: server, number and result of each job, in order.
 fn was_told(rt: &impl Abort, at: (&str, usize), seen: &Seen, wanted: &[(u16, u64, u64)]) {
     assert!(rt; !seen.lost);
     same_at(rt, at, "told", seen.told.len(), wanted.len());
@@ -71,30 +71,30 @@ fn was_told(rt: &impl Abort, at: (&str, usize), seen: &Seen, wanted: &[(u16, u64
     }
 }
 
-/// What is done with a house of one server, its client and a sink.
+/// A step of a test with a house of one server, its client and a sink.
 #[derive(Clone, Copy)]
 enum Step {
     /// Calls of the house or of its client.
     Rows(&'static [Row]),
-    /// The house runs until its client has ended, or it did nothing for so many turns.
+    /// A run of the house until its client has ended, or it was idle for this many turns.
     Close(u64, Result<(), HouseError>),
-    /// What the sink was told so far: server, number and result of each job, in order.
+    /// The completions that the sink was given so far: server, number and result of each job, in order.
     Told(&'static [(u16, u64, u64)]),
 }
 
-/// What is done with a new house, in steps.
+/// The steps of a test with a new house.
 #[derive(Clone, Copy)]
 struct Closing {
     name: &'static str,
     mode: Mode,
-    /// The budget and the period of its server.
+    /// The budget and the period of the server.
     rate: (u64, u64),
-    /// The backlog, and how many places the ring has.
+    /// The backlog, and the number of slots of the ring.
     limits: (u64, u64),
     steps: &'static [Step],
 }
 
-/// Runs the house of a case, as `closes`.
+/// Runs the house of a case, as `closes` does.
 fn closes_opened<R: Clock + Abort>(
     rt: &R,
     at: (&str, usize),
@@ -105,7 +105,7 @@ fn closes_opened<R: Clock + Abort>(
     closes(rt, at, &mut opened.house, seen, run);
 }
 
-/// Makes the steps of a case, and looks at each answer.
+/// Makes the steps of a case, and checks each result.
 fn goes<R: Clock + Abort>(rt: &R, alloc: Global, case: &Closing) {
     let mut opened = Opened::new(rt, alloc, case.mode, case.rate, case.limits);
     let mut seen = Seen::nothing(alloc);
@@ -121,7 +121,7 @@ fn goes<R: Clock + Abort>(rt: &R, alloc: Global, case: &Closing) {
     }
 }
 
-/// A client ends at once.
+/// A client that ends at once.
 const ENDED: [Step; 5] = [
     Step::Rows(&[Row::End(Ok(()))]),
     Step::Close(1, Ok(())),
@@ -130,7 +130,7 @@ const ENDED: [Step; 5] = [
     Step::Rows(&[Row::Now(0)]),
 ];
 
-/// A client sends nothing, and ends at last.
+/// A client that sends nothing, and ends at last.
 const SILENT: [Step; 6] = [
     Step::Close(0, Err(HouseError::Stalled)),
     Step::Close(1, Err(HouseError::Stalled)),
@@ -140,20 +140,20 @@ const SILENT: [Step; 6] = [
     Step::Told(&[]),
 ];
 
-/// What a client sends that does not end.
+/// The sends of a client that does not end.
 const SENT: [Row; 3] = [Row::Send(&[5], 0), Row::Send(&[7], 1), Row::Send(&[9], 2)];
 
-/// What the sink is told of that.
+/// The completions that the sink is given for them.
 const TOLD: [(u16, u64, u64); 3] = [(0, 0, 5), (0, 1, 7), (0, 2, 9)];
 
-/// The results are handed out, and the client sends a last job and ends.
+/// The results are handed out, then the client sends a last job and ends.
 const LAST: [Row; 3] = [
     Row::TakeResults(0, Ok(&[5, 7, 9])),
     Row::Send(&[11], 3),
     Row::End(Ok(())),
 ];
 
-/// What the sink is told in all.
+/// All completions that the sink is given.
 const ALL_TOLD: [(u16, u64, u64); 4] = [(0, 0, 5), (0, 1, 7), (0, 2, 9), (0, 3, 11)];
 
 const CASES: [Closing; 6] = [
@@ -206,7 +206,7 @@ const CASES: [Closing; 6] = [
         mode: Mode::Throttled,
         rate: (1, 4),
         limits: (1, 4),
-        // A unit at 0, at 4 and at 8; the last one comes when the budget has been used up, and waits until 12.
+        // Units run at 0, at 4 and at 8. The last job comes when the budget is used up, and waits until 12.
         steps: &[
             Step::Rows(&SENT),
             Step::Close(100, Err(HouseError::Stalled)),
@@ -228,7 +228,7 @@ fn each_house_stalls_or_closes(rt: HostRuntime) {
     }
 }
 
-/// A house of two servers with 2 ticks in every 5 each, with a backlog and rings of two places, and its clients.
+/// Returns a house of two servers with 2 ticks in every 5 each, with a backlog and rings of two slots, and its clients.
 pub fn two_clients(
     rt: &impl Abort,
     alloc: Global,
@@ -240,13 +240,13 @@ pub fn two_clients(
     opened.ok().expect(rt, "a house")
 }
 
-/// The task of one unit of this number.
+/// Returns the task of one unit of this number, or `None` if an allocation is refused.
 pub fn unit_of(alloc: Global, number: u32) -> Option<Task<SumJob>> {
     let numbers = Vec::from_slice(alloc, &[number]).ok()?;
     Task::new(SumJob::new(numbers)).ok()
 }
 
-/// Sends a job, again and again while the ring is full. Whether it was sent.
+/// Sends a job, and tries again while the ring is full. Returns whether it was sent.
 fn sends_at_last(client: &mut Client<SumJob>, task: Task<SumJob>) -> bool {
     let mut task = task;
     for _try in 0..PATIENCE {
@@ -259,7 +259,7 @@ fn sends_at_last(client: &mut Client<SumJob>, task: Task<SumJob>) -> bool {
     false
 }
 
-/// Ends a client, again and again while the ring is full. Whether it has ended.
+/// Ends a client, and tries again while the ring is full. Returns whether it has ended.
 fn ends_at_last(client: &mut Client<SumJob>) -> bool {
     for _try in 0..PATIENCE {
         if client.end() != Err(SendError::RingFull) {
@@ -270,7 +270,8 @@ fn ends_at_last(client: &mut Client<SumJob>) -> bool {
     false
 }
 
-/// Sends the jobs 0 to 9 of the client of server 0, and none of the others', and ends each. Whether all were sent.
+/// Sends the jobs 0 to 9 of the client of server 0, and no job of the others, and ends each. Returns whether all were
+/// sent.
 fn sends_ten(alloc: Global, clients: &mut [Client<SumJob>]) -> bool {
     for client in clients {
         if client.server() == 0 {
@@ -290,7 +291,7 @@ fn sends_ten(alloc: Global, clients: &mut [Client<SumJob>]) -> bool {
     true
 }
 
-/// The house and its clients at once, which start when the house has long been running.
+/// Runs the house and its clients at once. The clients start when the house has long been running.
 fn runs_with_late_clients<R: Threads + Clock + Sync + Abort>(
     rt: &R,
     alloc: Global,
@@ -326,14 +327,14 @@ fn late_clients_that_send_more_than_fits_are_finished(rt: HostRuntime) {
     }
 }
 
-/// Sends two jobs, each a unit: of 10 times the client's server, and of one more.
+/// Sends two jobs of one unit each: of 10 times the number of the client's server, and of one more.
 fn sends_two(rt: &impl Abort, alloc: Global, client: &mut Client<SumJob>) {
     let first = 10 * u32::from(client.server());
     sends(rt, client, sum_of(rt, alloc, &[first]), 0);
     sends(rt, client, sum_of(rt, alloc, &[first + 1]), 1);
 }
 
-/// What a sink is told of two clients' jobs.
+/// The completions that a sink is given of two clients' jobs.
 const OF_TWO: [(u16, u64, u64); 4] = [(0, 0, 0), (0, 1, 1), (1, 0, 10), (1, 1, 11)];
 
 #[test]
@@ -344,7 +345,7 @@ fn a_sink_is_told_in_the_order_of_the_completions(rt: HostRuntime) {
     for client in &mut clients {
         sends_two(&rt, alloc, client);
     }
-    // Both have the deadline 5, and the first server's two units are a whole budget.
+    // Both servers have the deadline 5, and the two units of server 0 are a whole budget.
     let sent = ("both have sent", 0);
     closes(
         &rt,

@@ -1,4 +1,4 @@
-//! Completions, as a collector takes them.
+//! Tests of completions in a collector.
 
 use super::{filled, same_at};
 use cbs_house::{CollectError, Collector};
@@ -7,22 +7,22 @@ use linked_list_allocator::LocalHeap;
 use std::alloc::{Allocator, Global};
 use std::process::Abort;
 
-/// A call of a collector, with the answer that a test looks for.
+/// A call of a collector, with the result that a test checks.
 #[derive(Clone, Copy)]
 enum Row {
     /// A place for one more result.
     MakeRoom(u16, Result<(), CollectError>),
-    /// A completion is announced.
+    /// The announcement of a completion.
     Expect(u16, Result<(), CollectError>),
-    /// A completion is given: its server, number and result.
+    /// The completion of a job: its server, number and result.
     Take(u16, u64, u64, Result<(), CollectError>),
     /// The results of a server.
     Results(u16, Option<&'static [u64]>),
-    /// The results of a server, to have them.
+    /// The results of a server, handed out.
     TakeResults(u16, Result<&'static [u64], CollectError>),
 }
 
-/// Makes the calls of these rows in turn, and looks at each answer.
+/// Makes the calls of these rows in turn, and checks each result.
 fn plays<A: Allocator + Clone>(
     rt: &impl Abort,
     name: &str,
@@ -34,7 +34,7 @@ fn plays<A: Allocator + Clone>(
     }
 }
 
-/// The same while no memory of this heap is found.
+/// Does the same while this heap is full.
 fn plays_full(
     rt: &impl Abort,
     alloc: Global,
@@ -48,7 +48,7 @@ fn plays_full(
     drop(ballast);
 }
 
-/// Makes the call of a row, which stands at this place of the rows of this name.
+/// Makes the call of a row, which stands at this place of the rows of this name, and checks the result.
 fn play<A: Allocator + Clone>(
     rt: &impl Abort,
     at: (&str, usize),
@@ -87,7 +87,7 @@ const ROOM: [Row; 3] = [
     Row::MakeRoom(0, Ok(())),
 ];
 
-/// What is answered from there on.
+/// The calls after that.
 const NEXT: [Row; 11] = [
     Row::Expect(0, Ok(())),
     Row::Take(0, 0, 6, Ok(())),
@@ -107,19 +107,19 @@ fn only_the_next_completion_is_taken(rt: HostRuntime) {
     let heap = LocalHeap::new(rt.alloc(), 1 << 12).expect(&rt, "a heap");
     let mut collector = Collector::new(&heap, 1).expect(&rt, "a collector");
     plays(&rt, "there is room", &mut collector, &ROOM);
-    // From here on no memory is found, and none is wanted.
+    // From here on no memory can be had, and none is needed.
     let name = "only the next is taken";
     plays_full(&rt, rt.alloc(), &heap, name, &mut collector, &NEXT);
 }
 
-/// A collector for so many servers.
+/// Returns a collector for so many servers.
 fn collector_of(rt: &impl Abort, alloc: Global, servers: u16) -> Collector {
     Collector::new(alloc, servers)
         .ok()
         .expect(rt, "a collector")
 }
 
-/// Of two servers, a completion of the second is announced.
+/// A completion of the second of two servers is announced.
 const SECOND: [Row; 10] = [
     Row::MakeRoom(1, Ok(())),
     Row::Expect(1, Ok(())),
@@ -144,7 +144,7 @@ fn each_server_has_its_own_results(rt: HostRuntime) {
     plays(&rt, "no server", &mut none, &NONE);
 }
 
-/// Four completions are announced, and one is given.
+/// Four completions are announced, and one is taken.
 const FOUR: [Row; 5] = [
     Row::Expect(0, Ok(())),
     Row::Expect(0, Ok(())),
@@ -153,14 +153,14 @@ const FOUR: [Row; 5] = [
     Row::Take(0, 0, 6, Ok(())),
 ];
 
-/// What is handed out while no memory is found.
+/// The results handed out while no memory can be had.
 const REFUSED: [Row; 3] = [
     Row::TakeResults(1, Err(CollectError::Stranger)),
     Row::TakeResults(0, Err(CollectError::OutOfMemory)),
     Row::Results(0, Some(&[6])),
 ];
 
-/// What is handed out when memory is found again.
+/// The results handed out when memory can be had again.
 const HANDED: [Row; 2] = [Row::TakeResults(0, Ok(&[6])), Row::Results(0, Some(&[]))];
 
 /// Four completions are announced and one result was handed out.
@@ -173,7 +173,7 @@ const BEHIND: [Row; 11] = [
     Row::Take(0, 4, 9, Err(CollectError::Early)),
     Row::Results(0, Some(&[7, 8])),
     Row::Take(0, 3, 9, Ok(())),
-    // None is awaited any more.
+    // No completion is awaited any more.
     Row::TakeResults(0, Ok(&[7, 8, 9])),
     Row::TakeResults(0, Ok(&[])),
     Row::Take(0, 4, 1, Err(CollectError::Early)),
@@ -188,7 +188,7 @@ fn completions_are_numbered_on_behind_results_handed_out(rt: HostRuntime) {
     let name = "no memory is found";
     plays_full(&rt, alloc, &heap, name, &mut collector, &REFUSED);
     plays(&rt, "memory is found", &mut collector, &HANDED);
-    // The three that are announced have their places.
+    // The three announced completions have their places.
     let name = "one was handed out";
     plays_full(&rt, alloc, &heap, name, &mut collector, &BEHIND);
 }

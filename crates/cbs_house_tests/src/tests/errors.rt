@@ -1,11 +1,11 @@
-//! What the errors say.
+//! Tests of the texts of the errors.
 
 use super::{same, says};
 use cbs_house::{CollectError, HouseError, SendError};
 use std::alloc::Global;
 use std::process::Abort;
 
-/// Looks for the number, the name and the text of an error of a house.
+/// Checks the number, the name and the text of an error of a house.
 fn is_told(rt: &impl Abort, alloc: Global, error: HouseError, number: u8, name: &str, text: &str) {
     same(rt, name, (error.number(), error.name()), (number, name));
     says(rt, alloc, &error, text);

@@ -1,4 +1,4 @@
-//! Results that are handed out.
+//! Tests of results that are handed out.
 
 use super::calls::{drains, polls, runs, sends};
 use super::polling::one_client;
@@ -12,7 +12,7 @@ use linked_list_allocator::LocalHeap;
 use std::alloc::{Allocator, Global};
 use std::process::Abort;
 
-/// What the server shows that was closed with three jobs, when all are finished.
+/// The view of a server that was closed with three jobs, when all are finished.
 const CLOSED: ServerView = ServerView {
     budget: 1,
     deadline: 10,
@@ -70,21 +70,21 @@ const HELD: [Row; 9] = [
     Row::Done(0, 3),
 ];
 
-/// What is handed out while no memory is found.
+/// The results handed out while no memory can be had.
 const REFUSED: [Row; 3] = [
     Row::TakeResults(0, Err(HouseError::OutOfMemory)),
     Row::TakeResults(1, Err(HouseError::NoSuchServer)),
     Row::Results(0, Ok(&[3])),
 ];
 
-/// What is handed out when memory is found again.
+/// The results handed out when memory can be had again.
 const HANDED: [Row; 1] = [Row::TakeResults(0, Ok(&[3]))];
 
-/// The other three jobs are finished, while no memory is found.
+/// The other three jobs are finished, while no memory can be had.
 const FINISHED: [Row; 3] = [
     Row::Done(1, 3),
     Row::Drain(Ok(())),
-    // No job is held, so that no memory is wanted.
+    // No job is held, so no memory is needed.
     Row::TakeResults(0, Ok(&[3, 3, 3])),
 ];
 
@@ -101,7 +101,7 @@ fn jobs_held_keep_the_places_of_their_results(rt: HostRuntime) {
     plays_full(&rt, alloc, &heap, &mut opened, name, &FINISHED);
 }
 
-/// Sends a job of a single unit, as the job of this number, and takes it.
+/// Sends a job of one unit, with this number, and takes it.
 fn gets<A: Allocator>(
     rt: &impl Abort,
     alloc: Global,
@@ -114,7 +114,7 @@ fn gets<A: Allocator>(
     polls(rt, house, 0, Poll::Took(number));
 }
 
-/// A run that finishes this job of server 0.
+/// Runs the unit that finishes this job of server 0, and checks the result.
 fn finishes<A: Allocator>(rt: &impl Abort, house: &mut House<SumJob, A>, seq: u64, output: u64) {
     let done = Completion {
         server: 0,
@@ -124,7 +124,7 @@ fn finishes<A: Allocator>(rt: &impl Abort, house: &mut House<SumJob, A>, seq: u6
     runs(rt, house, Ran::Done(done));
 }
 
-/// A round of a service: two jobs come, and the results of both are handed out, one after the other.
+/// Makes a round of a service: two jobs come, and the results of both are handed out, one after the other.
 fn serves_two<A: Allocator + Clone>(
     rt: &impl Abort,
     alloc: Global,
@@ -146,7 +146,7 @@ fn a_service_goes_on_in_bounded_memory(rt: HostRuntime) {
     let alloc = rt.alloc();
     let heap = LocalHeap::new(alloc, 1 << 14).expect(&rt, "a heap");
     let (mut house, mut client) = one_client(&rt, &heap, Mode::Soft, (2, 5), (4, 4));
-    // The results of all rounds are 16000 bytes, twice as many as the heap has.
+    // The results of all rounds take 16000 bytes, twice the size of the heap.
     for round in 0..1000 {
         serves_two(&rt, alloc, &mut house, &mut client, round);
     }

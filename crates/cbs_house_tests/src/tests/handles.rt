@@ -1,4 +1,4 @@
-//! That what a handle holds may go to another thread, and the text of each status.
+//! Tests that the contents of a handle may go to another thread, and tests of the text of each status.
 
 use super::{same, says};
 use cbs_embed::{Handle, HandleError, Held, Refusal, text_of};
@@ -9,7 +9,7 @@ use std::alloc::Global;
 use std::fmt::Display;
 use std::process::Abort;
 
-/// Demands that what it is given may go to another thread.
+/// Requires that the value may go to another thread, and returns it.
 fn crossing<T: Send>(value: T) -> T {
     value
 }
@@ -22,18 +22,18 @@ fn may_cross(rt: HostRuntime) {
     assert!(rt; held.is_none());
 }
 
-/// A refusal is told by this status, and the status by the text of its error.
+/// Checks the status of a refusal, and that the text of the status is the text of its error.
 fn tells(rt: &impl Abort, alloc: Global, error: &impl Display, refusal: Refusal, status: u32) {
     same(rt, "status", refusal.status(), status);
     says(rt, alloc, error, text_of(status));
 }
 
-/// A refused reservation is told so.
+/// Checks the status of a refused reservation.
 fn rate_tells(rt: &impl Abort, alloc: Global, error: RateError, status: u32) {
     tells(rt, alloc, &error, Refusal::Rate(error), status);
 }
 
-/// A refused admission is told so.
+/// Checks the status of a refused admission.
 fn admission_tells(rt: &impl Abort, alloc: Global, error: AdmitError, status: u32) {
     tells(rt, alloc, &error, Refusal::Admit(error), status);
 }
@@ -50,17 +50,17 @@ fn reservations_are_refused_by_their_texts(rt: HostRuntime) {
     admission_tells(&rt, alloc, AdmitError::OverBound, 0x203);
 }
 
-/// What a house refuses is told so.
+/// Checks the status of an error of a house.
 fn house_tells(rt: &impl Abort, alloc: Global, error: HouseError, status: u32) {
     tells(rt, alloc, &error, Refusal::House(error), status);
 }
 
-/// A refused task is told so.
+/// Checks the status of a refused task.
 fn task_tells(rt: &impl Abort, alloc: Global, error: TaskError, status: u32) {
     tells(rt, alloc, &error, Refusal::Task(error), status);
 }
 
-/// What a client refuses is told so.
+/// Checks the status of an error of a client.
 fn client_tells(rt: &impl Abort, alloc: Global, error: SendError, status: u32) {
     tells(rt, alloc, &error, Refusal::Send(error), status);
 }
@@ -80,7 +80,7 @@ fn houses_and_clients_refuse_by_their_texts(rt: HostRuntime) {
     client_tells(&rt, alloc, SendError::RingFull, 0x502);
 }
 
-/// A handle is refused by this status, and the status has this text.
+/// Checks the status of an error of a handle, and the text of the status.
 fn refused(rt: &impl Abort, error: HandleError, status: u32, text: &str) {
     same(rt, "status", Refusal::Handle(error).status(), status);
     same(rt, "text", text_of(status), text);

@@ -1,4 +1,4 @@
-//! Nobody is late in a house, and each job is done when it was promised: seen after every step.
+//! Tests that no server is late in a house, and that each job is done when it was promised, after every step.
 
 use super::{plan_of, same_at, sum_of};
 use cbs_core::Ran;
@@ -8,23 +8,22 @@ use cbs_rules::{Mode, Modes};
 use std::alloc::Global;
 use std::process::Abort;
 
-/// A call of a house or of one of its clients, with what it answers.
+/// A call of a house or of one of its clients, with its result.
 #[derive(Clone, Copy)]
 enum Row {
-    /// A job of these numbers is sent to a server, as the one of this number, and taken: it is promised by this
-    /// tick.
+    /// A job of these numbers that is sent to a server, with this number, and taken. Its promise is this tick.
     Take(u16, &'static [u32], u64, u128),
     /// A unit of this job of a server, not its last.
     Unit(u16, u64),
-    /// The last unit of this job of a server, which comes to this, at this tick.
+    /// The last unit of this job of a server, with this result, at this tick.
     Done(u16, u64, u64, u64),
-    /// A tick, for which nobody is ready.
+    /// A tick for which no server is ready.
     Wait,
     Results(u16, &'static [u64]),
     Promised(u16, Option<u128>),
 }
 
-/// Calls of a new house of throttled servers with rings of one place, in rows.
+/// Calls of a new house of throttled servers with rings of one slot, in rows.
 #[derive(Clone, Copy)]
 struct Case {
     name: &'static str,
@@ -34,7 +33,7 @@ struct Case {
     rows: &'static [Row],
 }
 
-/// The house of a case as it is at first, and its clients, in the order of the servers.
+/// Returns the house of a case as it is at first, and its clients, in the order of the servers.
 fn house_of(rt: &impl Abort, alloc: Global, case: &Case) -> (House<SumJob>, Vec<Client<SumJob>>) {
     let plan = plan_of(rt, case.rates);
     let modes = Modes::uniform(Mode::Throttled, plan.len() as u16);
@@ -43,7 +42,7 @@ fn house_of(rt: &impl Abort, alloc: Global, case: &Case) -> (House<SumJob>, Vec<
         .expect(rt, "a house")
 }
 
-/// Looks that no server is late: ready, with a deadline that has come.
+/// Checks that no server is late: ready, with a deadline that has come.
 fn nobody_late(rt: &impl Abort, at: (&str, usize), house: &House<SumJob>) {
     let now = u128::from(house.now());
     for server in 0..house.servers() {
@@ -57,7 +56,7 @@ fn nobody_late(rt: &impl Abort, at: (&str, usize), house: &House<SumJob>) {
     }
 }
 
-/// Sends a job of these numbers, as the one of this number, and takes it: it is promised by this tick.
+/// Sends a job of these numbers, and takes it. Checks its number and the tick that is promised.
 fn takes(
     rt: &impl Abort,
     alloc: Global,
@@ -74,7 +73,7 @@ fn takes(
     same_at(rt, at, "promised", promised, Some(tick));
 }
 
-/// Makes the call of a row that sends nothing.
+/// Makes the call of a row that sends nothing, and checks the result.
 fn does(rt: &impl Abort, at: (&str, usize), house: &mut House<SumJob>, row: Row) {
     match row {
         Row::Unit(server, seq) => {
@@ -103,7 +102,7 @@ fn does(rt: &impl Abort, at: (&str, usize), house: &mut House<SumJob>, row: Row)
     }
 }
 
-/// Makes the calls of a case, and looks at each answer, and that nobody is late then.
+/// Makes the calls of a case, and checks after each the result, and that no server is late.
 fn plays(rt: &impl Abort, alloc: Global, case: &Case) {
     let (mut house, mut clients) = house_of(rt, alloc, case);
     for (place, &row) in case.rows.iter().enumerate() {

@@ -1,4 +1,4 @@
-//! Clients and houses that go away.
+//! Tests of clients and houses that are dropped.
 
 ghost use Rattle.std.specs.Thread.{IsSync};
 
@@ -16,18 +16,18 @@ use std::process::Abort;
 use std::thread::{Threads, join_mut, sleep};
 use std::time::{Clock, Duration};
 
-/// A client that is dropped: what it and its house did before, and what the house does after.
+/// A client that is dropped: the calls of the client and its house before, and the calls of the house after.
 #[derive(Clone, Copy)]
 struct Leaving {
     name: &'static str,
     mode: Mode,
-    /// How many places the ring has.
+    /// The number of slots of the ring.
     ring: u64,
     before: &'static [Row],
     after: &'static [Row],
 }
 
-/// What a server shows that was closed with no job.
+/// The view of a server that was closed with no job.
 const UNUSED: ServerView = ServerView {
     budget: 0,
     deadline: 0,
@@ -159,13 +159,13 @@ fn a_dropped_feed_ends_with_jobs_unsent(rt: HostRuntime) {
     does_all(&rt, "a dropped feed", &mut house, &rows);
 }
 
-/// Sends a job of one unit, as the client's first.
+/// Sends a job of one unit, which is the client's first.
 fn sends_5(rt: &impl Abort, alloc: Global, client: &mut Client<SumJob>) {
     let number = client.send(sum_of(rt, alloc, &[5])).ok();
     same(rt, "send", number, Some(0));
 }
 
-/// Looks whether the client's house is gone, how many jobs the client sent, and how many slots are free.
+/// Checks whether the client's house is gone, how many jobs the client sent, and how many slots are free.
 fn sees(rt: &impl Abort, client: &mut Client<SumJob>, gone: bool, sent: u64, free: u64) {
     let seen = (client.house_is_gone(), client.sent(), client.free());
     same(rt, "gone, sent, free", seen, (gone, sent, free));
@@ -185,7 +185,8 @@ fn a_client_sees_that_its_house_is_gone(rt: HostRuntime) {
     same(&rt, "end", client.end(), Err(SendError::Ended));
 }
 
-/// The house and its clients at once: the clients go away, one after the other, when the house has long been running.
+/// Runs the house and its clients at once. The clients are dropped, one after the other, when the house has long been
+/// running.
 fn runs_until_all_left<R: Threads + Clock + Sync + Abort>(
     rt: &R,
     alloc: Global,
@@ -206,7 +207,7 @@ fn runs_until_all_left<R: Threads + Clock + Sync + Abort>(
     same(rt, "run_until_closed", run, Ok(()));
 }
 
-/// Each client fills its ring and is dropped. Whether all jobs were sent.
+/// Lets each client fill its ring, and drops it. Returns whether all jobs were sent.
 fn sends_and_leaves(alloc: Global, clients: &mut Vec<Client<SumJob>>) -> bool {
     let mut all_sent = true;
     while let Some(mut client) = clients.pop() {
@@ -215,7 +216,7 @@ fn sends_and_leaves(alloc: Global, clients: &mut Vec<Client<SumJob>>) -> bool {
     all_sent
 }
 
-/// Sends a job of one unit. Whether it was sent.
+/// Sends a job of one unit. Returns whether it was sent.
 fn sends_unit(alloc: Global, client: &mut Client<SumJob>, number: u32) -> bool {
     match unit_of(alloc, number) {
         Some(task) => client.send(task).is_ok(),

@@ -1,4 +1,4 @@
-//! A gate that sees whether the parts of a round run at once.
+//! A gate that finds out whether the parts of a round run at once.
 
 use cbs_house::{Gate, Poll};
 use std::sync::atomic::{AtomicU64, Ordering};
@@ -6,7 +6,7 @@ use std::sync::atomic::{AtomicU64, Ordering};
 /// How often a call looks for the others.
 const LOOKS: u64 = 1_000_000_000;
 
-/// Calls that raise a flag each, and look until all flags are up.
+/// A meeting of calls: each raises a flag, and looks until all flags are up.
 #[derive(Drop)]
 pub struct Meeting {
     up: AtomicU64,
@@ -21,7 +21,7 @@ impl Meeting {
         }
     }
 
-    /// Raises a flag, and looks until so many are up.
+    /// Raises a flag, and looks until `all` flags are up.
     fn meet(&self, all: u64) {
         self.up.fetch_add(1, Ordering::SeqCst);
         for _look in 0..LOOKS {
@@ -32,14 +32,14 @@ impl Meeting {
         }
     }
 
-    /// How many calls saw all the others.
+    /// Returns how many calls saw all the others.
     pub fn met(&self) -> u64 {
         self.met.load(Ordering::SeqCst)
     }
 }
 
-/// The first calls of two senders and of the house look for each other; then the first sender before
-/// its second message, and the house after it took the first.
+/// A gate in which the first calls of two senders and of the house look for each other. Then the first sender, before
+/// its second message, and the house, after it took the first, look for each other.
 #[derive(Drop)]
 pub struct Meet {
     pub first: Meeting,
@@ -49,7 +49,7 @@ pub struct Meet {
 }
 
 impl Meet {
-    /// A gate whose later two calls look for each other too, or not.
+    /// Returns a gate. `later` says whether the two later calls look for each other too.
     pub fn new(later: bool) -> Meet {
         Meet {
             first: Meeting::new(),

@@ -1,4 +1,4 @@
-//! What is done where no memory is found.
+//! Tests of calls that are out of memory.
 
 use super::rows::{Opened, Row, plays_full};
 use cbs_core::Ran;
@@ -6,13 +6,13 @@ use cbs_house::Poll;
 use cbs_rules::Mode;
 use linked_list_allocator::LocalHeap;
 
-/// A job of three units stays in the ring, since no memory is found for it.
+/// A job of three units stays in the ring, since memory for it is refused.
 const REFUSED: [Row; 2] = [Row::Send(&[1, 2, 3], 0), Row::Poll(0, Poll::OutOfMemory)];
 
 /// The job is taken.
 const TAKEN: [Row; 1] = [Row::Poll(0, Poll::Took(0))];
 
-/// What a house does while no memory is found: its server has a job of three units, taken before.
+/// The calls of a house while no memory can be had. Its server has a job of three units, taken before.
 const WITHOUT_MEMORY: [Row; 11] = [
     Row::Poll(0, Poll::Nothing),
     Row::PollBeside(Poll::Nothing),
@@ -22,13 +22,13 @@ const WITHOUT_MEMORY: [Row; 11] = [
     Row::Settle(2),
     Row::Run(Ran::Unit { server: 0, seq: 0 }),
     Row::Advance(1, Ok(())),
-    // The second unit ends at 3 and uses up the budget; the third runs from the deadline on, at 5.
+    // The second unit ends at 3 and uses up the budget. The third runs from the deadline on, at 5.
     Row::Drain(Ok(())),
     Row::Now(6),
     Row::Results(0, Ok(&[6])),
 ];
 
-/// What is left in the ring is done when memory is found again.
+/// The rest of the ring is done when memory can be had again.
 const WITH_MEMORY: [Row; 4] = [
     Row::Poll(0, Poll::Took(1)),
     Row::Poll(0, Poll::Closed),

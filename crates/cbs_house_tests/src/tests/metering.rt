@@ -1,4 +1,4 @@
-//! Meters: what a server is charged whose units take longer than a tick.
+//! Tests of meters: what a server is charged whose units take longer than a tick.
 
 ghost use Rattle.std.specs.Prelude.{◌-◌, refl};
 ghost use Rattle.cbs_clients.specs.Clients.{IsOpened};
@@ -25,7 +25,7 @@ use std::sync::atomic::{AtomicU64, Ordering};
 use std::thread::Threads;
 use std::time::{Clock, Duration};
 
-/// A meter that tells of two ticks beyond the first of each unit. It counts what it is told of, and what it is asked.
+/// A meter that returns two ticks after the first for each unit. It counts its calls of `begin` and of `beyond`.
 #[derive(Clone, Copy, Debug, PartialEq, Eq)]
 struct TwoBeyond {
     begun: u64,
@@ -47,7 +47,7 @@ impl Meter for TwoBeyond {
     }
 }
 
-/// A house of a soft server with 2 ticks in every 5, whose client sent a job of three units.
+/// Returns a house of a soft server with 2 ticks in every 5, whose client sent a job of three units.
 fn one_job(rt: &impl Abort, alloc: Global) -> (House<SumJob>, Client<SumJob>)
     ensures { IsOpened (rings_of result.0) result.1 }
 {
@@ -56,7 +56,7 @@ fn one_job(rt: &impl Abort, alloc: Global) -> (House<SumJob>, Client<SumJob>)
     (house, client)
 }
 
-/// After three units of three ticks each: of 9 ticks the last budget has 1 left.
+/// The state after three units of three ticks each: after these 9 ticks the last budget has 1 left.
 const LONG: [Row; 4] = [
     Row::Now(9),
     Row::State(0, 1, 25, false),
@@ -64,7 +64,7 @@ const LONG: [Row; 4] = [
     Row::Results(0, Ok(&[3])),
 ];
 
-/// After three units of one tick each.
+/// The state after three units of one tick each.
 const SHORT: [Row; 4] = [
     Row::Now(3),
     Row::State(0, 1, 10, false),
@@ -193,7 +193,7 @@ fn a_unit_is_charged_what_the_clock_can_hold(rt: HostRuntime) {
     drop(client);
 }
 
-/// A clock that is later by so many nanoseconds each time that it is read.
+/// A clock that is later by `step` nanoseconds each time that it is read.
 #[derive(Drop)]
 struct Steady {
     now: AtomicU64,
@@ -211,7 +211,7 @@ impl Clock for Steady {
     }
 }
 
-/// How many nanoseconds each unit takes, and how many ticks of 10 microseconds lie beyond its first.
+/// How many nanoseconds each unit takes, and how many ticks of 10 microseconds come after its first.
 const TOOK: [(u64, u64); 7] = [
     (0, 0),
     (1, 0),
@@ -222,7 +222,7 @@ const TOOK: [(u64, u64); 7] = [
     (30_001, 3),
 ];
 
-/// Runs a unit that takes `step` nanoseconds, and looks how many ticks it is charged.
+/// Runs a unit that takes `step` nanoseconds, and checks how many ticks it is charged.
 fn is_charged(rt: &impl Abort, alloc: Global, at: (&str, usize), step: u64, wanted: u64) {
     let clock = Steady {
         now: AtomicU64::new(7),
@@ -276,7 +276,7 @@ impl Clock for Wall {
     }
 }
 
-/// A job whose units take 25 microseconds of a clock each.
+/// A job whose units each take 25 microseconds of a clock.
 #[derive(Drop)]
 struct SlowJob<'a> {
     units: u32,
@@ -302,7 +302,7 @@ impl<'a> Work for SlowJob<'a> {
     }
 }
 
-/// A house of a soft server with 2 ticks in every 5. Its client sent a job of two such units, and is gone.
+/// Returns a house of a soft server with 2 ticks in every 5. Its client sent a job of two such units, and is gone.
 fn slow_house<'a>(rt: &impl Abort, alloc: Global, wall: &'a Wall) -> House<SlowJob<'a>> {
     let plan = plan_of(rt, &[(2, 5)]);
     let modes = Modes::uniform(Mode::Soft, plan.len() as u16);
@@ -320,7 +320,7 @@ fn sends_slow<'a>(rt: &impl Abort, client: &mut Client<SlowJob<'a>>, wall: &'a W
     same(rt, "send", sent.is_ok(), true);
 }
 
-/// Takes a turn, and looks at the clock.
+/// Takes a turn, and checks the clock.
 fn turns_until<W: Work, M: Meter>(rt: &impl Abort, house: &mut House<W>, meter: &mut M, now: u64) {
     house.turn_metered(meter);
     same(rt, "now", house.now(), now);
@@ -333,7 +333,7 @@ fn a_clock_meter_takes_the_time_of_the_unit(rt: HostRuntime) {
     };
     let mut house = slow_house(&rt, rt.alloc(), &wall);
     let mut meter = ClockMeter::new(&wall, Duration::from_micros(10)).expect(&rt, "a meter");
-    // A turn each: a unit of 25 microseconds is one of three ticks.
+    // One turn each: a unit of 25 microseconds takes three ticks.
     turns_until(&rt, &mut house, &mut meter, 3);
     turns_until(&rt, &mut house, &mut meter, 6);
     let charges = house.charges(0).map(|it| (it.total, it.most));

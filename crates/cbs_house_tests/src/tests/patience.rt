@@ -1,4 +1,4 @@
-//! How long a side waits that has nothing to do: its turns, and its sleeps.
+//! Tests of how long an idle side waits: its turns, and its sleeps.
 
 use super::calls::{ends, polls, sends, stands_at};
 use super::polling::one_client;
@@ -15,8 +15,7 @@ use std::process::Abort;
 use std::sync::atomic::{AtomicU64, Ordering};
 use std::time::{Clock, Duration};
 
-/// A clock that only counts: how often it was asked to sleep, the longest sleep, and all of them, in
-/// microseconds.
+/// A clock that only counts: how often it was asked to sleep, the longest sleep, and the sum of all, in microseconds.
 #[derive(Drop)]
 struct Naps {
     count: AtomicU64,
@@ -60,7 +59,7 @@ impl Clock for Naps {
     }
 }
 
-/// A gate that holds every message back, and counts how often it was asked, and told of a poll.
+/// A gate that holds every message back. It counts how often it was asked, and how many results of polls it got.
 #[derive(Drop)]
 struct Counted {
     asked: AtomicU64,
@@ -75,7 +74,7 @@ impl Counted {
         }
     }
 
-    /// Returns how often the gate was asked, and how often it was told of a poll.
+    /// Returns how often the gate was asked, and how many results of polls it got.
     fn seen(&self) -> (u64, u64) {
         (
             self.asked.load(Ordering::SeqCst),
@@ -95,9 +94,9 @@ impl Gate for Counted {
     }
 }
 
-/// For how many idle turns a house waits, and then how often it slept, its longest sleep, and all its sleep,
-/// in microseconds. It yields in the first 64, and sleeps in each 128th after those: for 20 microseconds
-/// more each time, and for 2000 at most.
+/// For how many idle turns a house waits, and then how often it slept, its longest sleep, and the sum of all, in
+/// microseconds. It yields in the first 64 turns, and sleeps in each 128th turn after those. Each sleep is 20
+/// microseconds longer than the one before, up to 2000.
 const WAITS: [(u64, (u64, u64, u64)); 8] = [
     (0, (0, 0, 0)),
     (1, (0, 0, 0)),
@@ -126,8 +125,7 @@ fn a_house_waits_for_as_many_turns_as_it_is_told(rt: HostRuntime) {
     drop(client);
 }
 
-/// Runs a house until its clients have ended, or it did nothing for so many turns; and looks at the answer and at its
-/// sleeps.
+/// Runs a house until its clients have ended, or it was idle for so many turns. Checks the result and the sleeps.
 fn closes<A: Allocator>(
     rt: &impl Abort,
     at: (&str, usize),
@@ -159,7 +157,7 @@ fn each_side_of_a_round_takes_all_its_turns(rt: HostRuntime) {
     let gate = Counted::new();
     rounds(&rt, &mut house, &mut feeds, 10, &gate, (0, 0));
     same(&rt, "a round of 10 turns", gate.seen(), (10, 10));
-    // One round, and one for each message that is left: two jobs and the end. Each has 10,000 turns.
+    // One round, and one for each message that is left: two jobs and the end. Each round has 10,000 turns.
     let gate = Counted::new();
     serves(&rt, &mut house, &mut feeds, &gate, Err(HouseError::Stalled));
     same(&rt, "four rounds", gate.seen(), (40_000, 40_000));
@@ -182,7 +180,7 @@ fn a_run_stops_at_the_first_poll_without_memory(rt: HostRuntime) {
     stands_at(&rt, &house, 3);
 }
 
-/// Takes a turn in which a poll is refused memory.
+/// Takes a turn in which memory for a message is refused.
 fn is_refused_memory<A: Allocator>(rt: &impl Abort, house: &mut House<SumJob, A>) {
     let refused = Turn {
         took: 0,
@@ -193,8 +191,8 @@ fn is_refused_memory<A: Allocator>(rt: &impl Abort, house: &mut House<SumJob, A>
     same(rt, "turn", house.turn(), refused);
 }
 
-/// In how many tries a client gives up at a full ring, and how it slept meanwhile: after each try but the last it rests
-/// as a house does after an idle turn.
+/// After how many tries a client gives up at a full ring, and how it slept meanwhile. After each try but the last it
+/// rests as a house does after an idle turn.
 const TRIES: [(u64, (u64, u64, u64)); 4] = [
     (0, (0, 0, 0)),
     (1, (0, 0, 0)),
@@ -221,7 +219,7 @@ fn a_client_tries_as_often_as_it_is_told(rt: HostRuntime) {
     end_answers(&rt, ("after the end", 1), &mut client, (1000, ended), none);
 }
 
-/// Sends a job at a full ring, in so many tries, and looks at the sleeps.
+/// Sends a job at a full ring, with so many tries, and checks the sleeps.
 fn send_gives_up(
     rt: &impl Abort,
     alloc: Global,
@@ -237,7 +235,7 @@ fn send_gives_up(
     same_at(rt, at, "sleeps of a send", naps.seen(), sleeps);
 }
 
-/// Ends a client in so many tries, and looks at the answer and at the sleeps.
+/// Ends a client with so many tries, and checks the result and the sleeps.
 fn end_answers(
     rt: &impl Abort,
     at: (&str, usize),

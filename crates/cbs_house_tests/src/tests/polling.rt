@@ -1,4 +1,4 @@
-//! Messages on their way from a client to the results.
+//! Tests of messages on their way from a client to the results.
 
 ghost use Rattle.cbs_clients.specs.Houses.{rings_of};
 ghost use Rattle.cbs_clients.specs.Clients.{IsOpened};
@@ -14,7 +14,7 @@ use linked_list_allocator::LocalHeap;
 use std::alloc::{Allocator, Global};
 use std::process::Abort;
 
-/// A house of one server with this reservation, and its client.
+/// Returns a house of one server with this reservation, and its client.
 pub fn one_client<R: Abort, A: Allocator + Copy>(
     rt: &R,
     alloc: A,
@@ -37,7 +37,7 @@ pub fn one_client<R: Abort, A: Allocator + Copy>(
     (house, client)
 }
 
-/// What is sent before the first poll.
+/// The calls before the first poll.
 const SENT: [Row; 7] = [
     Row::Send(&[5], 0),
     Row::Send(&[7], 1),
@@ -55,7 +55,7 @@ const TAKEN: [Row; 3] = [
     Row::Poll(0, Poll::Closed),
 ];
 
-/// What the server shows that was closed with two jobs, when both are finished.
+/// The view of a server that was closed with two jobs, when both are finished.
 const CLOSED: ServerView = ServerView {
     budget: 2,
     deadline: 10,
@@ -65,7 +65,7 @@ const CLOSED: ServerView = ServerView {
     finished: 2,
 };
 
-/// What is done with what was taken.
+/// The calls after everything was taken.
 const DRAINED: [Row; 10] = [
     Row::Poll(0, Poll::Nothing),
     Row::Settle(0),
@@ -84,7 +84,7 @@ fn messages_are_taken_in_order(rt: HostRuntime) {
     let alloc = rt.alloc();
     let heap = LocalHeap::new(alloc, 1 << 14).expect(&rt, "a heap");
     let mut opened = Opened::new(&rt, &heap, Mode::Soft, (2, 5), (4, 4));
-    // The polls that take a message alone want memory.
+    // Only the polls that take a message need memory.
     let name = "messages are sent";
     plays_full(&rt, alloc, &heap, &mut opened, name, &SENT);
     opened.plays(&rt, alloc, "messages are taken in order", &TAKEN);
@@ -173,7 +173,7 @@ fn each_message_is_taken_or_waits(rt: HostRuntime) {
     plays_all(&rt, rt.alloc(), &CASES);
 }
 
-/// Looks that a house with these limits is refused by this error.
+/// Checks that a house with these limits is refused by this error.
 fn is_refused(rt: &impl Abort, alloc: Global, backlog: u64, ring: u64, error: HouseError) {
     let plan = plan_of(rt, &[(2, 5)]);
     let modes = Modes::uniform(Mode::Soft, plan.len() as u16);
@@ -190,8 +190,8 @@ fn limits_are_tested_in_their_order(rt: HostRuntime) {
     is_refused(&rt, alloc, 4, 1025, HouseError::BadRing);
 }
 
-/// A house of one throttled server with a tick in every 1000000000, to which a job of so many ones was
-/// sent, and taken by a poll.
+/// Returns a house of one throttled server with a tick in every 1000000000. A job of these ones was sent to it, and
+/// taken by a poll.
 fn with_ones(rt: &impl Abort, alloc: Global, ones: &[u32]) -> House<SumJob> {
     let (mut house, mut client) = one_client(
         rt,
@@ -205,7 +205,7 @@ fn with_ones(rt: &impl Abort, alloc: Global, ones: &[u32]) -> House<SumJob> {
     house
 }
 
-/// What the server shows when its job of three units is finished.
+/// The view of the server when its job of three units is finished.
 const WAITED: ServerView = ServerView {
     budget: 0,
     deadline: 3_000_000_000,
@@ -231,7 +231,7 @@ fn a_drain_waits_for_replenishments(rt: HostRuntime) {
     does_all(&rt, name, &mut house, &REPLENISHED);
 }
 
-/// What the server shows when the clock has ended.
+/// The view of the server when the clock has ended.
 const UNFINISHED: ServerView = ServerView {
     budget: 1,
     deadline: 1_001_000_000_000,

@@ -1,4 +1,4 @@
-//! Calls of a house and of its only client in rows, each with what it answers.
+//! Calls of a house and of its only client in rows, each with its result.
 
 ghost use Rattle.std.specs.Prelude.{◌≡◌};
 ghost use Rattle.cbs_clients.specs.Houses.{rings_of};
@@ -14,26 +14,26 @@ use linked_list_allocator::LocalHeap;
 use std::alloc::{Allocator, Global};
 use std::process::Abort;
 
-/// A call of a house of one server or of its client, with the answer that a test looks for.
+/// A call of a house of one server or of its client, with the result that a test checks.
 #[derive(Clone, Copy)]
 pub enum Row {
-    /// A sum of these numbers is sent, and gets this number.
+    /// A send of a sum of these numbers, and the number that the job gets.
     Send(&'static [u32], u64),
-    /// A sum of this number alone is refused, and comes back.
+    /// A send of a sum of this number alone, which is refused and comes back.
     Refused(u32, SendError),
     End(Result<(), SendError>),
-    /// How many slots of the ring are free.
+    /// The number of free slots of the ring.
     Free(u64),
-    /// How many messages of the client stand in its ring.
+    /// The number of messages of the client that stand in its ring.
     Waiting(u64),
     /// Whether the client's house is gone.
     HouseIsGone(bool),
-    /// The client's server, how many jobs it sent, and whether it has ended.
+    /// The client's server, the number of jobs it sent, and whether it has ended.
     Client(u16, u64, bool),
-    /// How many messages stand in the ring.
+    /// The number of messages that stand in the ring.
     Settle(u64),
     Poll(u16, Poll),
-    /// A poll with the client at hand.
+    /// A poll together with the client.
     PollBeside(Poll),
     Run(Ran),
     /// A run that finishes a job of server 0: its number and output.
@@ -44,9 +44,9 @@ pub enum Row {
     /// A charge of a server: its number, and the ticks.
     ChargeServer(u16, u64, Result<(), HouseError>),
     Drain(Result<(), HouseError>),
-    /// A turn that takes so many messages, runs nothing, and advances by so many ticks.
+    /// A turn that takes this many messages, runs no unit, and advances by this many ticks.
     Turn(u64, u64),
-    /// A turn that takes so many messages and finishes a job of server 0: its number and output.
+    /// A turn that takes this many messages and finishes a job of server 0: its number and output.
     DoneTurn(u64, u64, u64),
     /// A hundred turns with nothing to take or to run: the clock stays.
     IdleTurns,
@@ -54,13 +54,13 @@ pub enum Row {
     Now(u64),
     IdleSpan(Option<u64>),
     View(u16, Result<ServerView, HouseError>),
-    /// A server's budget, deadline and mark.
+    /// A server's budget, deadline and flag 'throttled'.
     State(u16, u64, u128, bool),
-    /// What a server was charged, in all and at most for one unit.
+    /// The ticks that a server was charged, in total and at most for one unit.
     Charges(u16, Result<(u64, u64), HouseError>),
     /// The results of a server.
     Results(u16, Result<&'static [u64], HouseError>),
-    /// The results of a server, to have them.
+    /// The results of a server, handed out.
     TakeResults(u16, Result<&'static [u64], HouseError>),
 }
 
@@ -69,9 +69,9 @@ pub enum Row {
 pub struct Case {
     pub name: &'static str,
     pub mode: Mode,
-    /// The budget and the period of its server.
+    /// The budget and the period of the server.
     pub rate: (u64, u64),
-    /// The backlog, and how many places the ring has.
+    /// The backlog, and the number of slots of the ring.
     pub limits: (u64, u64),
     pub rows: &'static [Row],
 }
@@ -84,7 +84,7 @@ pub struct Opened<A: Allocator = Global> {
     ghost opened: { IsOpened (rings_of house) client },
 }
 
-/// Makes the calls of each case, and looks at each answer.
+/// Makes the calls of each case, and checks each result.
 pub fn plays_all(rt: &impl Abort, alloc: Global, cases: &[Case]) {
     for case in cases {
         let mut opened = Opened::new(rt, alloc, case.mode, case.rate, case.limits);
@@ -93,7 +93,7 @@ pub fn plays_all(rt: &impl Abort, alloc: Global, cases: &[Case]) {
 }
 
 impl<A: Allocator + Copy> Opened<A> {
-    /// A house of one server with this reservation, and its client.
+    /// Returns a house of one server with this reservation, and its client.
     pub fn new(
         rt: &impl Abort,
         alloc: A,
@@ -105,7 +105,7 @@ impl<A: Allocator + Copy> Opened<A> {
         Opened { house, client }
     }
 
-    /// The house, with its client dropped.
+    /// Returns the house, after its client was dropped.
     pub fn without_client(self) -> House<SumJob, A> {
         let Opened { house, client } = self;
         drop(client);
@@ -114,14 +114,14 @@ impl<A: Allocator + Copy> Opened<A> {
 }
 
 impl<A: Allocator + Clone> Opened<A> {
-    /// Makes the calls of these rows in turn, and looks at each answer.
+    /// Makes the calls of these rows in turn, and checks each result.
     pub fn plays(&mut self, rt: &impl Abort, alloc: Global, name: &str, rows: &[Row]) {
         for (place, &row) in rows.iter().enumerate() {
             self.play(rt, alloc, (name, place), row);
         }
     }
 
-    /// Makes the call of a row, which stands at this place of the rows of this name.
+    /// Makes the call of a row, which stands at this place of the rows of this name, and checks the result.
     fn play(&mut self, rt: &impl Abort, alloc: Global, at: (&str, usize), row: Row) {
         match row {
             Row::Send(numbers, number) => {
@@ -166,7 +166,7 @@ impl<A: Allocator + Clone> Opened<A> {
     }
 }
 
-/// Makes the calls of these rows in turn while no memory of this heap is found, and looks at each answer.
+/// Makes the calls of these rows in turn while this heap is full, and checks each result.
 pub fn plays_full(
     rt: &impl Abort,
     alloc: Global,
@@ -180,7 +180,7 @@ pub fn plays_full(
     drop(ballast);
 }
 
-/// Makes the calls of these rows in turn, each of the house alone, and looks at each answer.
+/// Makes the calls of these rows in turn, each of the house alone, and checks each result.
 pub fn does_all<A: Allocator + Clone>(
     rt: &impl Abort,
     name: &str,
@@ -192,7 +192,7 @@ pub fn does_all<A: Allocator + Clone>(
     }
 }
 
-/// Makes the call of a row that is of the house alone.
+/// Makes the call of a row that is of the house alone, and checks the result.
 fn does<A: Allocator + Clone>(
     rt: &impl Abort,
     at: (&str, usize),
@@ -223,7 +223,7 @@ fn does<A: Allocator + Clone>(
     }
 }
 
-/// A run of the last unit of this job of server 0.
+/// Returns the result of a run of the last unit of this job of server 0.
 fn done(seq: u64, output: u64) -> Ran {
     Ran::Done(Completion {
         server: 0,
@@ -232,7 +232,7 @@ fn done(seq: u64, output: u64) -> Ran {
     })
 }
 
-/// Takes a turn that takes so many messages, runs this, and advances by so many ticks.
+/// Takes a turn, and checks how many messages it took, what ran, and by how many ticks it advanced.
 fn turns<A: Allocator>(
     rt: &impl Abort,
     at: (&str, usize),
@@ -251,7 +251,7 @@ fn turns<A: Allocator>(
     same_at(rt, at, "turn", house.turn(), wanted);
 }
 
-/// Asks for the results of a server, to have them.
+/// Hands out the results of a server, and checks them.
 pub fn hands_out<A: Allocator + Clone>(
     rt: &impl Abort,
     at: (&str, usize),
@@ -267,7 +267,7 @@ pub fn hands_out<A: Allocator + Clone>(
     }
 }
 
-/// Looks at what a row tells of.
+/// Checks the value of a row that only reads.
 fn looks<A: Allocator>(rt: &impl Abort, at: (&str, usize), house: &House<SumJob, A>, row: Row) {
     match row {
         Row::Now(wanted) => same_at(rt, at, "now", house.now(), wanted),

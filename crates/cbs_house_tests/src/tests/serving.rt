@@ -1,4 +1,4 @@
-//! Feeds that are served.
+//! Tests of feeds that are served.
 
 ghost use Rattle.std.specs.Prelude.{◌<◌, ◌≤◌, length};
 ghost use Rattle.cbs_house.specs.Rounds.{Ready};
@@ -16,7 +16,7 @@ use std::slice::from_mut;
 use std::thread::Threads;
 use std::time::Clock;
 
-/// A house of servers with these reservations, and for each a feed of the sums at its place.
+/// Returns a house of servers with these reservations, and for each a feed of the sums at its place.
 pub fn opened<R: Abort>(
     rt: &R,
     alloc: Global,
@@ -29,7 +29,7 @@ pub fn opened<R: Abort>(
     with_lists(rt, alloc, rates, ring, lists_of(rt, alloc, lists))
 }
 
-/// A house of servers with these reservations, and for each a feed of the list at its place.
+/// Returns a house of servers with these reservations, and for each a feed of the list at its place.
 pub fn with_lists<R: Abort>(
     rt: &R,
     alloc: Global,
@@ -48,7 +48,7 @@ pub fn with_lists<R: Abort>(
     opened
 }
 
-/// Two servers at rings of one place, and feeds of three jobs and of one.
+/// Returns a house of two servers with rings of one slot, and feeds of three jobs and of one job.
 fn two_feeds<R: Abort>(rt: &R, alloc: Global) -> (House<SumJob>, Vec<Feed<SumJob>>)
     ensures { Ready result.0 result.1.items }
 {
@@ -61,7 +61,7 @@ fn two_feeds<R: Abort>(rt: &R, alloc: Global) -> (House<SumJob>, Vec<Feed<SumJob
     )
 }
 
-/// Serves a round of so many turns, and looks how many messages were sent and taken.
+/// Serves a round of `turns` turns, and checks how many messages were sent and taken.
 pub fn rounds<R: Threads + Clock + Sync + Abort, G: Gate + Sync>(
     rt: &R,
     house: &mut House<SumJob>,
@@ -78,7 +78,7 @@ pub fn rounds<R: Threads + Clock + Sync + Abort, G: Gate + Sync>(
     same(rt, "round", (round.sent, round.took), wanted);
 }
 
-/// Serves feeds.
+/// Serves feeds, and checks the result.
 pub fn serves<R: Threads + Clock + Sync + Abort, G: Gate + Sync>(
     rt: &R,
     house: &mut House<SumJob>,
@@ -92,7 +92,7 @@ pub fn serves<R: Threads + Clock + Sync + Abort, G: Gate + Sync>(
     same(rt, "serve", serve(rt, house, feeds, gate), wanted);
 }
 
-/// How many messages stand in the ring of the feed at this index.
+/// Returns how many messages stand in the ring of the feed at this index.
 fn standing(house: &mut House<SumJob>, feeds: &mut [Feed<SumJob>], index: usize) -> u64
     requires ready { Ready house.old feeds.old }
     requires within { index < length feeds.old }
@@ -102,7 +102,7 @@ fn standing(house: &mut House<SumJob>, feeds: &mut [Feed<SumJob>], index: usize)
     house.settle(feed.client())
 }
 
-/// Looks at the only feed: how many jobs are left, and whether it is done.
+/// Checks the only feed: how many jobs are left, and whether it is done.
 fn one_feed(rt: &impl Abort, feeds: &[Feed<SumJob>], wanted: (u64, bool)) {
     same(rt, "feeds", feeds.len(), 1);
     for feed in feeds {
@@ -193,7 +193,7 @@ fn a_turn_polls_and_then_runs(rt: HostRuntime) {
     gave(&rt, &house, 0, &[1, 2]);
 }
 
-/// Looks that a feed of two jobs is refused by this error, and comes back.
+/// Checks that a feed of two jobs is refused by this error, and comes back.
 fn is_refused(rt: &impl Abort, alloc: Global, backlog: u64, ring: u64, wanted: HouseError) {
     let plan = plan_of(rt, &[(2, 5)]);
     let modes = Modes::uniform(Mode::Soft, plan.len() as u16);

@@ -1,4 +1,4 @@
-//! Turns that a house takes by itself.
+//! Tests of turns that a house takes by itself.
 
 use super::calls::gave;
 use super::polling::one_client;
@@ -10,7 +10,7 @@ use cbs_rules::Mode;
 use std::alloc::Global;
 use std::process::Abort;
 
-/// A client starts late.
+/// A client that starts late.
 const LATE: [Row; 7] = [
     Row::IdleTurns,
     Row::Now(0),
@@ -21,7 +21,7 @@ const LATE: [Row; 7] = [
     Row::Now(1),
 ];
 
-/// A client ends at once.
+/// A client that ends at once.
 const ENDED: [Row; 5] = [
     Row::End(Ok(())),
     Row::Turn(1, 0),
@@ -115,7 +115,7 @@ fn each_turn_answers_as_by_hand(rt: HostRuntime) {
     plays_all(&rt, rt.alloc(), &CASES);
 }
 
-/// Sends what fits of the jobs from this number on, each a unit of that number. The next number.
+/// Sends as many as fit of the jobs from this number on, each a unit of its number. Returns the next number.
 fn fills(rt: &impl Abort, alloc: Global, client: &mut Client<SumJob>, from: u32) -> u32 {
     for number in from..10 {
         if let Err(refused) = client.send(sum_of(rt, alloc, &[number])) {
@@ -132,7 +132,7 @@ fn more_than_ring_and_backlog_hold_comes_through_in_order(rt: HostRuntime) {
     for mode in [Mode::Soft, Mode::Throttled] {
         let (mut house, mut client) = one_client(&rt, alloc, mode, (1, 4), (1, 2));
         let mut next = 0;
-        // A throttled server has one unit in each four ticks: a turn that runs it, and one that advances.
+        // A throttled server has one unit in each four ticks: one turn runs it, and one advances.
         for _turn in 0..20 {
             next = fills(&rt, alloc, &mut client, next);
             house.turn();

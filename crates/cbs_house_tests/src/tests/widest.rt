@@ -1,4 +1,4 @@
-//! A house of as many servers as there may be.
+//! Tests of a house with the greatest number of servers.
 
 ghost use Rattle.cbs_house.specs.Rounds.{Ready};
 
@@ -11,11 +11,11 @@ use cbs_rules::{Mode, Modes};
 use std::alloc::Global;
 use std::process::Abort;
 
-/// Each of 64 servers has a tick in every 64.
+/// The reservations of 64 servers, each with one tick in every 64.
 const RATES: [(u64, u64); 64] = [(1, 64); 64];
 
-/// Returns a house, and for each server a feed of two jobs. The first adds up the server's number and 1000; the
-/// second has that number alone.
+/// Returns a house, and for each server a feed of two jobs. The first job adds up the server's number and 1000. The
+/// second has the server's number alone.
 fn fed<R: Abort>(rt: &R, alloc: Global) -> (House<SumJob>, Vec<Feed<SumJob>>)
     ensures { Ready result.0 result.1.items }
 {
@@ -36,7 +36,7 @@ fn opened(rt: &impl Abort, alloc: Global) -> (House<SumJob>, Vec<Client<SumJob>>
         .expect(rt, "a house")
 }
 
-/// Looks at the results of each server.
+/// Checks the results of each server.
 fn all_gave(rt: &impl Abort, house: &House<SumJob>) {
     for server in 0..64u16 {
         let number = u64::from(server);
