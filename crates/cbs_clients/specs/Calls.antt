@@ -40,7 +40,7 @@ use Rattle.cbs_host.specs.declared.poll.Poll.{Poll}
 use Rattle.cbs_clients.specs.declared.turn.Turn.{Turn}
 
 module _ {W A : Type 0} {g : Ghosts W} where
-  -- A house that was opened with these servers: its core agrees with the history of no steps, nothing was received, and
+  -- A house that was opened with these servers. Its core agrees with the history of no steps, nothing was received, and
   -- no result is kept or was handed out. It is on time, and every list of steps that it may make is punctual.
   pub record IsNewHouse (work : Meaning W) (setup : Setup) (h : House W A g) : Type 0 where
     pub agrees : Agrees work (core_of h) (record { setup = setup; steps = [] })
@@ -160,9 +160,9 @@ module _ {W A : Type 0} {g : Ghosts W} where
     pub sent : sent_by new ≡ sent_by old
     pub looked : free old ≤ free new
 
-  -- A job is sent, and its number returned, or the job comes back. It comes back if the client has ended, if no slot of
-  -- the ring is known to be free, or if 2^64 - 1 jobs were sent. The next message takes a slot that is known to be
-  -- free.
+  -- A job is sent, and its number returned, or the job comes back. It comes back if the client has ended, or if no slot
+  -- of the ring is known to be free. It also comes back if 2^64 - 1 jobs were sent. The next message takes a slot that
+  -- is known to be free.
   pub record SendOf (job : W) (old : Client W A g) (answer : Result ℕ (SendRefused W)) (new : Client W A g) : Type 0 where
     pub same : SameClient old new
     pub ok : IfOk answer (λ number. (number ≡ length (jobs_among (sent_by old))) × (sent_by new ≡ sent_by old ++ Job job ∷ []))

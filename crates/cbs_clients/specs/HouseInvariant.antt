@@ -21,8 +21,8 @@ pub record KeepsServer {W : Type 0} (work : Meaning W) (h : Held W) (received : 
   pub closed : h.face.closed ≡ has_end received
   pub last : end_is_last received ≡ true
 
--- What is true of the parts of a house: a ring and a shelf for each server, a place for the result of each accepted
--- job, a history that the core agrees with, and a backlog of at least one job
+-- What is true of the parts of a house. There are a ring and a shelf for each server, and a place for the result of
+-- each accepted job. There is a history that the core agrees with, and the backlog is at least one job
 pub record Housed {W A : Type 0} (work : Meaning W) (core : CoreHeld W) (rings : Rings W A) (collector : List Shelved) : Type 0 where
   pub ring_count : length (rings_in rings) ≡ length core.faces
   pub shelf_count : length collector ≡ length core.faces

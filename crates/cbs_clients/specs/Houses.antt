@@ -130,7 +130,7 @@ told_answer (Ok told) = Ok told
 told_answer (Err e) = Err house_error.NoSuchServer
 
 module _ {W A : Type 0} {g : Ghosts W} where
-  -- every job received is finished: the results of each server are the whole results of those jobs, in order, except
+  -- Every job received is finished. The results of each server are the whole results of those jobs, in order, except
   -- the first ones, which were handed out
   abbrev pub AllFinished : Meaning W → House W A g → Type 0
   AllFinished work h = (s : ℕ) → s < length (core_of h).faces → results_of h s ≡ drop (handed_of h s) (map (whole work) (jobs_among (received h s)))

@@ -10,8 +10,8 @@ use Rattle.cbs_steps.specs.declared.reply.Reply.TheVariants as reply
 use Rattle.cbs_steps.specs.declared.step.Step.{Step}
 use Rattle.cbs_steps.specs.declared.step.Step.TheVariants.{Submit, Run, Advance, Close, Charge}
 
--- how many ticks a unit is charged that began at tick `start` and took `beyond` ticks after its first: as many as the
--- clock can hold
+-- How many ticks a unit is charged. It began at tick `start` and took `beyond` ticks after its first. It is charged as
+-- many of these as the clock can hold
 abbrev pub ticks_charged : ℕ → ℕ → ℕ
 ticks_charged start beyond = min beyond (clock_end - (start + 1))
 
@@ -41,7 +41,6 @@ module _ {W : Type 0} where
     pub pays : IsRunPaid may (world_after work M).now told paid
 
   -- a move after M of a house with such a meter: one step that a rule allows there, and after a run the steps that pay
-  -- for it
   abbrev pub IsMove : Meaning W → (ℕ → ℕ → Type 0) → (History W → Step W → Type 0) → History W → List (Step W) → Type 0
   IsMove work may allowed M [] = ⊥
   IsMove work may allowed M (Submit s job ∷ xs) = allowed M (Submit s job) × (xs ≡ [])

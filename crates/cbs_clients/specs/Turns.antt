@@ -39,8 +39,8 @@ lacks_memory poll.Full = false
 lacks_memory poll.NoSuchServer = false
 
 module _ {W : Type 0} where
-  -- Each step takes a message of a server numbered from `first` to below `count`: at most one of each server, in the
-  -- order of their numbers. A poll that takes no message is no step.
+  -- Each step takes a message of a server numbered from `first` to below `count`. The steps take at most one message of
+  -- each server, in the order of their numbers. A poll that takes no message is no step.
   abbrev pub ArePolls : ℕ → ℕ → List (Step W) → Type 0
   ArePolls first count [] = Unit {0}
   ArePolls first count (Submit s job ∷ xs) = (first ≤ s) × (s < count) × ArePolls (s + 1) count xs
@@ -69,8 +69,8 @@ module _ {W A : Type 0} {g : Ghosts W} where
     pub count : pops polls ≡ took
 
 module _ {W A : Type 0} {g : Ghosts W} where
-  -- a server was ready, and the house ran one unit with this result, and paid for it by a meter that may return what
-  -- `may` allows
+  -- a server was ready, and the house ran one unit with this result. It paid for the unit by a meter that may return
+  -- what `may` allows
   pub record RunsOne (work : Meaning W) (may : ℕ → ℕ → Type 0) (old new : House W A g) (told : Ran) : Type 0 where
     pub paid : List (Step W)
     pub pays : IsRunPaid may (core_of old).clock told paid
@@ -90,7 +90,7 @@ module _ {W A : Type 0} {g : Ghosts W} where
   StaysBy (ran.Unit s q) h = ⊥
   StaysBy (ran.Done c) h = ⊥
 
-  -- what a turn does after its polls, by its result: it runs one unit and pays for it, or it advances by n ticks, or it
+  -- What a turn does after its polls, by its result. It runs one unit and pays for it, or it advances by n ticks, or it
   -- does nothing
   abbrev pub GoesOn : Meaning W → (ℕ → ℕ → Type 0) → House W A g → House W A g → Ran → ℕ → Type 0
   GoesOn work may old new told n =

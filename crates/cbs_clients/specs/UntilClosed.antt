@@ -45,7 +45,7 @@ meets_end ran.ClockEnd = true
 meets_end (ran.Unit s q) = false
 meets_end (ran.Done c) = false
 
--- why a turn stops a run, if it does: a poll was out of memory, or the clock is at its end with a job unfinished
+-- why a turn stops a run, if it does: a poll was out of memory, or the clock is at its end with unfinished jobs
 abbrev pub turn_stop : Turn → Option HouseError
 turn_stop t = if t.out_of_memory then Some OutOfMemory else if meets_end t.ran then Some ClockEnd else None
 
@@ -78,8 +78,8 @@ module _ {W A : Type 0} {g : Ghosts W} where
     pub taken : TakesOwnTurn work may before new turn
     pub why : turn_stop turn ≡ Some error
 
-  -- When a run ends, by its result: when all is over, when `most` turns in a row were idle and not all is over, or when
-  -- a turn stopped it.
+  -- When a run ends, by its result. It ends when all is over, or when a turn stopped it. It also ends when `most` turns
+  -- in a row were idle and not all is over.
   abbrev pub RunEnds : Meaning W → (ℕ → ℕ → Type 0) → ℕ → House W A g → Result (Unit {0}) HouseError → House W A g → Type 0
   RunEnds work may most old (Ok x) new = ((idle : ℕ) × RunsOn work may most old new idle) × IsOver (core_of new)
   RunEnds work may most old (Err Stalled) new = RunsOn work may most old new most × (¬ IsOver (core_of new))

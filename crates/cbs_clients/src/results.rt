@@ -20,8 +20,8 @@ impl<W: Work, A: Allocator> House<W, A> {
     pub fn results(&self, server: u16) -> Result<&[u64], HouseError>
         ensures ok { IfOk result (λ results. (server < length (core_of self.now).faces) × (results.now ≡ results_of self.now server)) }
         ensures error { IfErr result (λ error. (error ≡ HouseError.NoSuchServer) × (length (core_of self.now).faces ≤ server)) }
-        // At all times these results, then the whole results of the jobs held, are the whole results of the jobs
-        // received, except the first ones, which were handed out.
+        // These results, followed by the whole results of the jobs held, are always those of the jobs received. Only
+        // the first ones are missing, which were handed out.
         ensures keeps { IfOk result (λ results. KeepsServer W.meaning (held_at (core_of self.now) server) (received self.now server) (handed_of self.now server) results.now) }
     {
         match self.collector.results(server) {

@@ -351,9 +351,9 @@ impl<W: Work, A: Allocator> Core<W, A> {
         self.servers.len()
     }
 
-    /// Returns for how many ticks no server will be ready, or `None` if one is ready now. It is the greatest number of
-    /// ticks, up to the clock's end, by which the clock may advance with no server ready before the last tick. An
-    /// advance by this number takes no time from any server.
+    /// Returns for how many ticks no server will be ready, or `None` if one is ready now. By this number of ticks the
+    /// clock may advance with no server ready before the last tick. It is the greatest such number, up to the clock's
+    /// end. An advance by it takes no time from any server.
     ///
     /// If the core holds no job, the number reaches to the clock's end, [`LIMIT`]: no server is ready until a job is
     /// submitted. A caller that waits for submits must not advance by it then. Nothing can run after the clock stands
@@ -400,9 +400,9 @@ impl<W: Work, A: Allocator> Core<W, A> {
     /// server. Both hold of a core without charges whose advances are all by [`idle_span`](Core::idle_span). After an
     /// advance or a charge that took a server's time, a server may be late already, and the tick may have passed.
     ///
-    /// Let c, d and o be the budget, deadline and overrun of the server, with Q ticks in every T, and let its jobs need
+    /// Let c, d and o be the budget, deadline and overrun of the server, with Q ticks in every T. Let its jobs need
     /// `owed` more units. Then the tick is `d + ceil((owed + o - c) / Q) * T`, or d if c suffices. No later step makes
-    /// it wrong: it may be given to whoever waits for the job that was submitted last.
+    /// the tick wrong: it may be given to whoever waits for the job that was submitted last.
     pub fn promised(&self, server: u16) -> Option<u128>
         ensures value { TellsOf W.meaning self.now (λ w. result ≡ promised W.meaning (account w.accounts server)) }
         ensures kept { IsCoreOnTime self.now → IfSome result (λ tick. (M : History W) → Agrees W.meaning self.now M → AllFinishedBy W.meaning M server tick) }

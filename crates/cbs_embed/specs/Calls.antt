@@ -1,5 +1,4 @@
--- What a call on a handle does to what the handle holds: the effect of the call on the house or the client, or a
--- refusal.
+-- What a call on a handle does to what the handle holds: the effect of the call on the house or client, or a refusal.
 use Rattle.std.specs.Prelude.{ℕ, slice_get, ◌≡◌, ◌↔◌, IsTrue, ◌+◌, ◌<◌, ◌≤◌, Option, Some, None, Result, Ok, Err, length, map}
 use Rattle.std.specs.Global.{Global}
 use Rattle.cbs_steps.specs.declared.charges.Charges as charges

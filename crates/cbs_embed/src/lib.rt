@@ -1,5 +1,5 @@
-//! The calls for a host program that is not written in Rattle: handles of houses and clients, and a job whose units the
-//! host does itself.
+//! The calls for a host program that is not written in Rattle. It gets handles of houses and clients, and a job whose
+//! units the host does itself.
 #![tactic(auto)]
 
 mod box_ptr;

@@ -27,8 +27,8 @@ module _ {W : Type 0} (work : Meaning W) (setup : Setup) (s : ℕ) where
   units_before (x ∷ M) = units_next M (units_before M) x
 
 module _ {W : Type 0} (work : Meaning W) (setup : Setup) (s every : ℕ) where
-  -- the tick when the next job may come after one more step after M: only an accepted submit to s is another job of the
-  -- stream
+  -- The tick when the next job may come, after one more step after M. Only an accepted submit to s is another job of
+  -- the stream
   abbrev pub opens_next : List (Step W) → ℕ → Step W → ℕ
   opens_next M before (Submit t job) =
       if eqb t s then slot_submitted before ((after work setup M).now + every) (submit_refusal setup.backlog (faces work (after work setup M)) t) else before
@@ -51,8 +51,8 @@ module _ {W : Type 0} (work : Meaning W) (setup : Setup) (s every : ℕ) where
   IsOneStream ticks (x ∷ M) = IsOneStream ticks M × (IsApartStep M x × ((charged_due work setup s (x ∷ M)).units ≤ ticks))
 
   -- If the step gives server s a job, it has at most so many units and does not come early. If the step charges server
-  -- s a tick or more, the server has got a unit since its last job came, and is charged at most `overrun` ticks for
-  -- that unit in total
+  -- s a tick or more, the server has got a unit since its last job came. It is charged at most `overrun` ticks for that
+  -- unit in total
   abbrev pub IsOverrunStep : ℕ → ℕ → List (Step W) → Step W → Type 0
   IsOverrunStep units overrun M (Submit t job) = t ≡ s → submit_refusal setup.backlog (faces work (after work setup M)) t ≡ None
       → (work.left job ≤ units) × (opens_after M ≤ (after work setup M).now)
@@ -79,7 +79,7 @@ module _ {W : Type 0} (work : Meaning W) (N : History W) (s : ℕ) where
     pub apart : span_on ticks + delay ≤ every
 
 module _ {W : Type 0} where
-  -- For a server with one stream, each job is finished its span after it came, and later by no more than what the
+  -- Let a server have one stream. Then each job is finished its span after it came, and later by no more than what the
   -- others were charged. This holds if each job is then finished before the next comes.
   abbrev pub KeepsOverruns : Meaning W → History W → Type 0
   KeepsOverruns work N = AdvanceQuietly work N.setup N.steps → (s ticks every delay : ℕ) → IsAlone work N s ticks every delay

@@ -111,15 +111,15 @@ module _ {W : Type 0} where
   Accepts work N s = (account_in work N s).closed ≡ false → submit_refusal N.setup.backlog (faces work (world_after work N)) s ≡ None
 
   -- Let a server be charged nothing, and let its jobs be those of streams that ask for no more than all its time. Then
-  -- each job is finished `all_spans` ticks after it came, and later by no more than what the others were charged,
+  -- each job is finished `all_spans` ticks after it came. It is later by no more than what the others were charged,
   -- whatever they are asked for.
   abbrev pub KeepsStreams : Meaning W → History W → Type 0
   KeepsStreams work N = AdvanceQuietly work N.setup N.steps → (s : ℕ) (rates : List Rate) (of : ℕ → ℕ) → IsBearable rates → IsUncharged work N s
       → (K M : List (Step W)) (job : W) → IsJobOf work N K M s job → AreStreams work N.setup s rates of (Submit s job ∷ M)
       → (world_after work (when N M)).now + all_spans rates + others_charges (world_after work N).accounts s ≤ (world_after work N).now → IsFinished work N M s
 
-  -- The server accepts each such job, if the others are charged at most `delay` ticks, and the backlog suffices for as
-  -- long as a job takes.
+  -- The server accepts each such job. This holds if the others are charged at most `delay` ticks, and the backlog
+  -- suffices for as long as a job takes.
   abbrev pub KeepsAccepting : Meaning W → History W → Type 0
   KeepsAccepting work N = AdvanceQuietly work N.setup N.steps → (s : ℕ) (rates : List Rate) (of : ℕ → ℕ) (delay : ℕ) → IsBearable rates → IsUncharged work N s
       → others_charges (world_after work N).accounts s ≤ delay → backlog_for (all_spans rates + delay) rates ≤ N.setup.backlog

@@ -4,7 +4,7 @@ ghost use Rattle.std.specs.Prelude.{◌≡◌, true, false};
 
 use crate::poll::Poll;
 
-/// A gate: it watches a round, and may hold sends back. Several threads call it. One call must not wait for another: if
+/// A gate: it watches a round, and may hold sends back. Several threads call it. One call must not wait for another. If
 /// the system makes no thread, the parts of a round run one after the other, and the wait would never end.
 pub trait Gate {
     /// The rule that the gate may return false. It holds of every gate that does not say otherwise.

@@ -28,8 +28,8 @@ use Rattle.cbs_steps.specs.declared.step.Step.{Step}
 use Rattle.cbs_steps.specs.declared.step.Step.TheVariants.{Run}
 use Rattle.cbs_clients.specs.Turns.{ArePolls}
 
--- one turn of a round: the messages that its polls took, the tick when its run began, the result of the run, and the
--- steps that paid for the run
+-- One turn of a round: the messages that its polls took, the tick when its run began, and the result of the run. Last,
+-- the steps that paid for the run
 pub record RoundTurn (W : Type 0) : Type 0 where
   pub polls : List (Step W)
   pub start : ℕ

@@ -19,14 +19,14 @@ module _ {W : Type 0} where
   abbrev pub jobs_of : List (QueuedJob W) → List W
   jobs_of queue = map (λ queued. queued.job) queue
 
-  -- For each job, the units taken in up to it, and the units left of the jobs after it, are what its server has taken
-  -- in, modulo 2^64
+  -- The count of each job agrees with the server's: the units taken in up to the job, and the units left of the jobs
+  -- after it, are all units taken in, modulo 2^64
   abbrev pub AreCounted : Meaning W → List (QueuedJob W) → ℕ → Type 0
   AreCounted work [] total = Unit
   AreCounted work (first ∷ behind) total = ((first.taken_in + sum_by work.left (jobs_of behind)) % 2 ^ 64 ≡ total) × AreCounted work behind total
 
   -- A queue whose server has taken in so many units. Each job after the first has at most the units that a task may
-  -- have, and there are at most as many jobs as a backlog holds
+  -- have. There are at most as many jobs as a backlog holds
   pub record IsCounted (work : Meaning W) (queue : List (QueuedJob W)) (total : ℕ) : Type 0 where
     pub counted : AreCounted work queue total
     pub short : AllByRecursion (λ job. work.left job ≤ most_units) (jobs_of (drop 1 queue))

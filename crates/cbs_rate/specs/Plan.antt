@@ -54,8 +54,8 @@ common_multiple_from rates from (suc room) =
 unfoldable pub common_multiple : List Rate → ℕ
 common_multiple rates = common_multiple_from rates 1 (all_periods rates)
 
--- What every plan keeps: at most 64 rates within the limits of a reservation, periods whose least common multiple is at
--- most 10^18, and a total bandwidth of at most the bound, and so of at most one.
+-- What every plan keeps. It has at most 64 rates within the limits of a reservation. The least common multiple of their
+-- periods is at most 10^18. Their total bandwidth is at most the bound, and so at most one.
 pub record IsPlan (plan : Planned) : Type 0 where
   pub few : length plan.rates ≤ most_servers
   pub lawful : AllByRecursion (λ r. IsRate r.budget r.period) plan.rates

@@ -9,7 +9,7 @@ use Rattle.cbs_rules.specs.declared.mode.Mode.TheVariants.{Soft, Throttled}
 abbrev pub clock_end : ℕ
 clock_end = 1000000000000
 
--- the latest deadline to which a period may still be added, in ticks: no unit before the clock's end and no
+-- The latest deadline to which a period may still be added, in ticks. No unit before the clock's end and no
 -- replenishment starts from a later deadline
 abbrev pub latest_deadline : ℕ
 latest_deadline = 1000000001000000000000
@@ -31,7 +31,7 @@ pub record State : Type 0 where
 abbrev pub fresh_state : State
 fresh_state = record { budget = 0; deadline = 0; throttled = false; overrun = 0 }
 
--- Whether an arrival at an idle, unthrottled server renews it: its deadline has come, or its budget is too much for the
+-- Whether an arrival at an idle, unthrottled server renews it. Its deadline has come, or its budget is too much for the
 -- time that is left. With c the budget and d the deadline, the soft rule is c ≥ (d - now) * Q / T, multiplied out. The
 -- throttled rule has > instead of ≥
 abbrev pub is_renewed : Mode → Rate → ℕ → State → Bool
@@ -56,13 +56,13 @@ after_unit mode r s =
     if eqb spent.budget 0 then after_exhaustion mode r spent else spent
 
 -- A charge of more ticks than the budget has, e of them beyond it. A soft server gets at once as many whole budgets as
--- it needs to have some left, and its deadline is postponed by one period for each. A server of throttled mode waits.
--- Its deadline is postponed by one period for each whole budget in e, and the rest of e is its overrun
+-- it needs to have some left. Its deadline is postponed by one period for each. A server of throttled mode waits. Its
+-- deadline is postponed by one period for each whole budget in e, and the rest of e is its overrun
 abbrev pub after_excess : Mode → Rate → ℕ → State → State
 after_excess Soft r e s = record s { budget = r.budget - e % r.budget; deadline = s.deadline + (e / r.budget + 1) * r.period }
 after_excess Throttled r e s = record { budget = 0; deadline = s.deadline + e / r.budget * r.period; throttled = true; overrun = e % r.budget }
 
--- a charge of n ticks, at least one, that a unit took after its first tick: they are taken from the budget, and if it
+-- A charge of n ticks, at least one, that a unit took after its first tick. They are taken from the budget, and if it
 -- does not suffice, from the budgets to come
 abbrev pub after_charge : Mode → Rate → ℕ → State → State
 after_charge mode r n s = if ltb n s.budget then record s { budget = s.budget - n } else after_excess mode r (s.overrun + n - s.budget) s
@@ -103,7 +103,7 @@ funds r s = if s.throttled then r.budget - s.overrun else s.budget
 abbrev pub until : Rate → State → ℕ
 until r s = if s.throttled then s.deadline + r.period else s.deadline
 
--- from s to t the server paid n ticks: some budgets were added to what it may still take, each with one period, and n
+-- From s to t the server paid n ticks. Some budgets were added to what it may still take, each with one period, and n
 -- ticks were taken
 pub record IsPaid (r : Rate) (n : ℕ) (s t : State) : Type 0 where
   pub budgets : ℕ

@@ -26,7 +26,7 @@ is_first ranks s = (rank_at ranks s).ready && all_below (λ r. not (rank_at rank
 abbrev pub chosen_among : List Rank → Option ℕ
 chosen_among ranks = first_below (is_first ranks) (length ranks)
 
--- s is one of the first n servers, it is ready, and its pair of deadline and number is at most that of each ready one
+-- s is one of the first n servers, it is ready, and its pair of deadline and number is at most each ready one's
 pub record IsEarliest (ranks : List Rank) (n s : ℕ) : Type 0 where
   pub within : s < n
   pub ready : (rank_at ranks s).ready ≡ true

@@ -27,7 +27,7 @@ module _ {W : Type 0} where
   slot work setup s [] = 0
   slot work setup s (x ∷ M) = slot_next work setup.backlog (after work setup M) s (slot work setup s M) x
 
-  -- if the step x after M gives server s a job, the job has at most one budget of units, and comes at least a period
+  -- If the step x after M gives server s a job, the job has at most one budget of units. It comes at least a period
   -- after the job before it
   abbrev pub IsHardStep : Meaning W → Setup → ℕ → List (Step W) → Step W → Type 0
   IsHardStep work setup s M (Submit t job) = t ≡ s → submit_refusal setup.backlog (faces work (after work setup M)) t ≡ None

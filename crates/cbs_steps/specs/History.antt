@@ -75,8 +75,8 @@ module _ {W : Type 0} where
   after_advance w zero = w
   after_advance w (suc n) = ticks (suc n) (let_go w)
 
-  -- why a charge of n ticks to server s is refused, if it is: s must be there and run, and the clock may not pass its
-  -- end
+  -- Why a charge of n ticks to server s is refused, if it is. Server s must be there and run, and the clock may not
+  -- pass its end
   abbrev pub charge_refusal : World W → ℕ → ℕ → Option CoreError
   charge_refusal w s n =
       if leb (length w.accounts) s then Some error.NoSuchServer
@@ -104,7 +104,7 @@ module _ {W : Type 0} where
   next work backlog w (Close s) = after_closing w s (close_refusal (faces work w) s)
   next work backlog w (Charge s n) = after_charging w s n (charge_refusal w s n)
 
-  -- what a Run returns after a unit of server s: the job at the front got the unit, and is done if it needed no more
+  -- what a Run returns after a unit of server s: the job at the front got the unit, and is done if none is left
   abbrev pub unit_reply : Meaning W → Account W → ℕ → Ran
   unit_reply work a s =
       let k = finished work a in

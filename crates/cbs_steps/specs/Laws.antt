@@ -75,10 +75,10 @@ module _ {W : Type 0} where
       (taken after + after.state.budget + before.state.overrun) * r.period + before.state.deadline * r.budget
       ≤ (taken before + before.state.budget + after.state.overrun) * r.period + after.state.deadline * r.budget
 
-  -- In any window from M to N, a server of throttled mode takes no more than the sum of four numbers, if M leaves its
-  -- deadline not past. They are the budget that it starts with, its share of the ticks of the window, one budget, and
-  -- the most that it was charged for one unit. With Q ticks in every T: (ticks taken since) <= (budget before) + Q / T
-  -- * (ticks from M to N) + Q + (most charged for one unit), written as above.
+  -- In any window from M to N, a server of throttled mode takes no more than the sum of four numbers. This holds if M
+  -- leaves its deadline not past. The numbers are the budget that it starts with, its share of the ticks of the window,
+  -- one budget, and its greatest charge for one unit. With Q ticks in every T: (ticks taken since) <= (budget before) +
+  -- Q / T * (ticks from M to N) + Q + (most charged for one unit), written as above.
   abbrev pub IsWithinCap : Meaning W → History W → History W → ℕ → Type 0
   IsWithinCap work M N s =
       let before = account_in work M s in

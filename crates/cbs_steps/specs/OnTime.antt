@@ -16,9 +16,9 @@ use Rattle.cbs_steps.specs.declared.step.Step.{Step}
 -- Demands are counted in parts of a tick, so that nothing is rounded. A tick has `parts` parts, a number that every
 -- period divides, and a server takes `share parts r` parts in each tick.
 
--- What a server of this reservation may ask for up to tick x: nothing before its deadline, and from then on its budget
--- and its share of each tick after the deadline. For a throttled server, budget and deadline are those that it will
--- have.
+-- What a server of this reservation may ask for up to tick x. Before its deadline it is nothing. From then on it is its
+-- budget and its share of each tick after the deadline. For a throttled server, budget and deadline are those that it
+-- will have.
 abbrev pub full_demand : ℕ → Rate → State → ℕ → ℕ
 full_demand parts r s x = if ltb x (until r s) then 0 else funds r s * parts + (x - until r s) * share parts r
 

@@ -1,6 +1,6 @@
--- By which tick a job is finished, whatever the others ask for: the tick that can be given when the job is accepted,
--- and the tick that its own server's submits set. Also, by which tick all that a server has accepted is finished, as it
--- can be given at any time.
+-- By which tick a job is finished, whatever the others ask for. One tick can be given when the job is accepted, and one
+-- follows from its own server's submits. Also, by which tick all that a server has accepted is finished, as it can be
+-- given at any time.
 use Rattle.std.specs.Prelude.{◌≡◌, ℕ, ◌+◌, ◌*◌, ◌≤◌, ◌<◌, max, true, false, eqb, if◌then◌else◌, List, [], ◌∷◌, ◌++◌, length, Option, Some, None, ◌-◌}
 use Rattle.std.specs.Int.{div_ceil}
 use Rattle.std.specs.List.{sum_by}
@@ -28,7 +28,7 @@ due_submitted r before now units None = due_from r before now units
 due_submitted r before now units (Some e) = before
 
 module _ {W : Type 0} where
-  -- when the last job of s is due after one more step: only an accepted submit to s changes which job of s is the last
+  -- When the last job of s is due after one more step. Only an accepted submit to s changes which job of s is the last
   abbrev pub due_next : Meaning W → ℕ → World W → ℕ → ℕ → Step W → ℕ
   due_next work backlog w s before (Submit t job) =
       if eqb t s then due_submitted (account w.accounts t).terms.reservation before w.now (work.left job) (submit_refusal backlog (faces work w) t) else before
@@ -78,8 +78,8 @@ module _ {W : Type 0} where
   KeepsDue work N = AreQuiet work N.setup N.steps → (K M : List (Step W)) (s : ℕ) (job : W) → IsJobOf work N K M s job
       → due work N.setup s (Submit s job ∷ M) ≤ (world_after work N).now → IsFinished work N M s
 
--- the tick by which a server gets so many units: its deadline, and one period later for each budget that the units and
--- the server's overrun need beyond its present budget
+-- The tick by which a server gets so many units. It is its deadline, and one period later for each budget that the
+-- units and its overrun need beyond its present budget
 abbrev pub promised_tick : Rate → State → ℕ → ℕ
 promised_tick r s units = s.deadline + div_ceil (units + s.overrun - s.budget) r.budget * r.period
 

@@ -30,7 +30,7 @@ wake_of (f ∷ fs) = min (wake f) (wake_of fs)
 abbrev pub NoneReady : List Face → Type 0
 NoneReady faces = AllByRecursion (λ f. is_ready f ≡ false) faces
 
--- for how many ticks no server will be ready, if none is now: until the first waiting server is due, but at least one
--- tick, and at most up to the clock's end
+-- For how many ticks no server will be ready, if none is now. They last until the first waiting server is due, but at
+-- least one tick, and at most up to the clock's end
 abbrev pub span_of : ℕ → List Face → ℕ
 span_of now faces = min (clock_end - now) (max 1 (wake_of faces - now))

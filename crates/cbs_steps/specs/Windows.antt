@@ -12,8 +12,8 @@ module _ {W : Type 0} where
   KeepsShare work N = (L K M : List (Step W)) (s : ℕ) → N.steps ≡ L ++ K ++ M → s < length N.setup.servers
       → IsWithinShare (account_in work (when N M) s) (account_in work (when N (K ++ M)) s)
 
-  -- in no such window does a server of throttled mode take more than IsWithinCap allows: its budget, its share of the
-  -- ticks, one budget, and its most charge
+  -- In no such window does a server of throttled mode take more than IsWithinCap allows. The cap is its budget, its
+  -- share of the ticks, one budget, and its greatest charge for one unit
   abbrev pub KeepsCap : Meaning W → History W → Type 0
   KeepsCap work N = (L K M : List (Step W)) (s : ℕ) → N.steps ≡ L ++ K ++ M → s < length N.setup.servers
       → IsWithinCap work (when N M) (when N (K ++ M)) s

@@ -4,8 +4,8 @@ use Rattle.std.proofs.Common.{refl, sym}
 use Rattle.std.proofs.Math.Numerals.{sub-one}
 use Rattle.cbs_job.specs.Work.{Meaning, Lowers}
 
--- how far the job has come: the readings not yet taken in, the distance as estimated so far, and how many readings in a
--- row were put aside as outliers
+-- How far the job has come: the readings not yet taken in, and the distance as estimated so far. Also, how many
+-- readings in a row were put aside as outliers
 pub record Track : Type 0 where
   pub readings : List ℕ
   pub distance : ℕ

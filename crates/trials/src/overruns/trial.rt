@@ -130,8 +130,7 @@ fn look<R: Clock>(house: &House<LongJob<'_, R>>, seen: &mut Seen) -> Result<()> 
     Ok(())
 }
 
-/// Returns whether a server has a job, may run, and is at least as late as the most that the other was charged for a
-/// unit.
+/// Returns whether a server has a job, may run, and is at least as late as the other's greatest charge for one unit.
 fn is_too_late<R: Clock>(house: &House<LongJob<'_, R>>, server: u16, other: u16) -> Result<bool> {
     let view = house.view(server)?;
     let most = u128::from(house.charges(other)?.most);
