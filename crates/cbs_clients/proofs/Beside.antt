@@ -1,4 +1,4 @@
--- A poll behind a look at both ends of the ring, which shows all that was sent.
+-- A poll after a look at both ends of the ring, which finds all that was sent.
 use Rattle.std.proofs.Common.{◌≡◌, ℕ, ◌<◌, ◌≤◌, ◌⊎◌, true, List, [], ◌∷◌, ◌++◌, length, refl, ap, sym, subst, ◌∙◌, arith, length-append, inl, inr}
 use Rattle.std.proofs.lemmas.Bool.{false≢true}
 use Rattle.std.proofs.lemmas.List.{append-nil}
@@ -40,12 +40,12 @@ module _ {W A : Type 0} {g : Ghosts W} where
       → Shown a b (server_of old) (sent_by old) n
   shown a b old new n l same sent count all = record { looked = l; all = sym sent ∙ rw same.0 at all; count = rw same.0 at count }
 
-  -- where it shows nothing, all that was sent was taken
+  -- if the look finds no message, all that was sent was taken
   pub all_taken : (a b : House W A g) (s : ℕ) (sent : List (Message W)) → Shown a b s sent 0 → sent ≡ received a s
   all_taken a b s sent k =
       k.all ∙ (ap (λ ms. received b s ++ ms) (empty_of (known b s) (sym k.count)) ∙ (append-nil (received b s) ∙ looks_received a b k.looked s))
 
-  -- where all that was sent was taken, it shows nothing
+  -- if all that was sent was taken, the look finds no message
   pub none_shown : (a b : House W A g) (s : ℕ) (sent : List (Message W)) (n : ℕ) → Shown a b s sent n → sent ≡ received a s → n ≡ 0
   none_shown a b s sent n k before =
       let e = ap length (sym k.all ∙ before) in
@@ -54,11 +54,11 @@ module _ {W A : Type 0} {g : Ghosts W} where
       omega (arith, e, f, count, length-append (received b s) (known b s))
 
 module _ {W A : Type 0} {g : Ghosts W} (work : Meaning W) where
-  -- where a look shows nothing, it is a poll that answers so
+  -- if the look finds no message, it is a poll with the result Nothing
   pub nothing_polled : (a b : House W A g) (s : ℕ) (sent : List (Message W)) → s < length (core_of a).faces → Shown a b s sent 0 → Polled work a s Nothing b
   nothing_polled a b s sent within k = (made_look work a b k.looked, within, inr (empty_of (known b s) (sym k.count)))
 
-  -- what a poll does behind a look, it does
+  -- what a poll does after a look, it also does from before the look
   pub polled_behind : (a b c : House W A g) (s : ℕ) (p : Poll) → LooksOnly a b → Polled work b s p c → Polled work a s p c
   polled_behind a b c s Nothing l k = (
     made_both work a b c [] [] (made_look work a b l) k.0,
@@ -84,7 +84,7 @@ module _ {W A : Type 0} {g : Ghosts W} (work : Meaning W) where
   polled_behind a b c s Closed l k =
       (made_both work a b c [] (Close s ∷ []) (made_look work a b l) k.0, subst (λ (core : CoreHeld W). Accepts core s) l.core k.1)
 
-  -- where a look showed a message, a poll that sees nothing finds the server closed
+  -- if the look found a message, a poll that sees none finds the server closed
   pub nothing_seen : (a b : House W A g) (s : ℕ) (p : Poll) → Polled work a s p b → 0 < length (known a s) → p ≡ Nothing → IsClosed (core_of a) s
   nothing_seen a b s p k some e =
       let none : Polled work a s Nothing b = rw e at k in

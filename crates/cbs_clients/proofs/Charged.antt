@@ -1,4 +1,4 @@
--- What a charge is answered by the house, from what the core answers.
+-- The house's result of a charge, from the core's.
 use Rattle.std.proofs.Common.{◌≡◌, Option, Some, None, Ok, Err, refl, ap}
 use Rattle.cbs_steps.specs.Replies.{charged}
 use Rattle.cbs_steps.specs.History.{charge_reply}

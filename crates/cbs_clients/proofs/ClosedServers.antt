@@ -13,7 +13,7 @@ abbrev pub shows_closed : Result ServerView CoreError → Bool
 shows_closed (Ok view) = view.closed
 shows_closed (Err e) = false
 
--- a view shows a closed server where the server is there and closed, and there alone
+-- a view shows a closed server exactly if the server is there and closed
 pub closed_shown : {W : Type 0} (core : CoreHeld W) (s : ℕ) (r : Result ServerView CoreError) → r ≡ view_reply (slice_get core.faces s)
     → (shows_closed r ≡ true) ↔ IsClosed core s
 closed_shown core s r e = elim (cases_lt s (length core.faces)) [

@@ -29,7 +29,7 @@ use Rattle.cbs_clients.specs.declared.house.House.{House}
 pub same_shelf : (h : Shelved) → SameShelf h h
 same_shelf h = record { handed = refl; results = refl; announced = refl; spare = λ l. l }
 
--- where nothing was handed out of one shelf, and the others are as before, nothing was handed out of any
+-- if nothing was handed out of one shelf, and the others are as before, nothing was handed out of any
 pub none_handed : (old new : List Shelved) (t : ℕ) → (shelf_at new t).handed ≡ (shelf_at old t).handed → OtherShelvesSame t old new → (s : ℕ)
     → (shelf_at new s).handed ≡ (shelf_at old s).handed
 none_handed old new t here others s = elim (cases_eq s t) [
@@ -38,7 +38,7 @@ none_handed old new t here others s = elim (cases_eq s t) [
 ]
 
 module _ {W : Type 0} (work : Meaning W) (h h' : Held W) (ms ms' : List (Message W)) (n n' : ℕ) (rs rs' : List ℕ) (k : KeepsServer work h ms n rs) where
-  -- where jobs, messages and results are the same
+  -- the house keeps a server if jobs, messages and results are the same
   pub keeps_same : SameJobs h h' → ms' ≡ ms → n' ≡ n → rs' ≡ rs → KeepsServer work h' ms' n' rs'
   keeps_same s e i f = rw (e, i, f) (record {
     outputs = rw s.jobs k.outputs;
@@ -189,7 +189,7 @@ module _ {W A : Type 0} (work : Meaning W) (core core' : CoreHeld W) (rings ring
       (λ l. rw c (here.announced ∙ h.announced t l))
       (λ s ne. rw c (record { jobs = refl; accepted = refl; finished = refl; closed = refl })) (λ s ne. rw r refl) others
 
-  -- they are, or nothing changed, by the answer
+  -- they are handed out, or nothing changed, by the result
   pub housed_answered : {X E : Type 0} (r : Result X E) (t : ℕ) → core' ≡ core → rings' ≡ rings → length shelves' ≡ length shelves
       → OnOk r (HandsOut (shelf_at shelves t) (shelf_at shelves' t))
       → OnErr r (shelves' ≡ shelves) → ((s : ℕ) → s ≢ t → SameShelf (shelf_at shelves s) (shelf_at shelves' s)) → Housed work core' rings' shelves'
@@ -234,7 +234,7 @@ no_jobs : {W : Type 0} (n m : ℕ) (ws : List W) → n + length ws ≡ m → m �
 no_jobs n m [] e k = refl
 no_jobs n m (w ∷ ws) e k = absurd (omega (arith, e, k))
 
--- where every completion that was announced was taken, no job is held
+-- if every completion that was announced was taken, no job is held
 pub held_none : {W A : Type 0} (work : Meaning W) (core : CoreHeld W) (rings : Rings W A) (shelves : List Shelved) → Housed work core rings shelves
     → All IsComplete shelves → (s : ℕ) → (held_at core s).jobs ≡ []
 held_none work core rings shelves h complete s = elim (cases_lt s (length core.faces)) [
@@ -249,6 +249,6 @@ held_none work core rings shelves h complete s = elim (cases_lt s (length core.f
 ]
 
 module _ {W A : Type 0} {g : Ghosts W} (work : Meaning W) (h : House W A g) (housed : Housed work h.core h.rings h.collector) where
-  -- where no job is held, every job received is finished
+  -- if no job is held, every job received is finished
   pub none_held : HoldsNoJob (core_of h) → AllFinished work h
   none_held none s l = sym (append-nil (results_of h s)) ∙ (ap (λ ws. results_of h s ++ map (whole work) ws) (sym (none s)) ∙ (housed.servers s l).outputs)

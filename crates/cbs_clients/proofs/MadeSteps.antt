@@ -46,7 +46,7 @@ eqb_other t s n = grind (arith, nat_tests)
 accepts_same : {W : Type 0} (a b : CoreHeld W) (s : ℕ) → b ≡ record a { rooms = b.rooms } → Accepts b s → Accepts a s
 accepts_same a b s e k = record { is_open = record { within = rw e at k.is_open.within; unclosed = rw e at k.is_open.unclosed }; few = rw e at k.few }
 
--- what is answered Ok
+-- the value of a result Ok
 module _ {T E : Type 0} where
   pub on_ok : (r : Result T E) (P : Type 0) → IsOk r → OnOk r P → P
   on_ok (Ok x) P i p = p
@@ -184,7 +184,7 @@ module _ {W A : Type 0} {g : Ghosts W} (work : Meaning W) where
   collects_none (ran.Unit t q) a b n e = e
   collects_none (ran.Done c) a b n e = absurd (n c refl)
 
-  -- the same answer where nothing was popped before, and the core held the same but for room
+  -- a poll has the same effect and result if nothing was popped before, and the core held the same except for room
   pub polled_after :
       (a b c : House W A g) (s : ℕ) (p : Poll) → Made work a b [] → core_of b ≡ record (core_of a) { rooms = (core_of b).rooms }
       → Polled work b s p c → Polled work a s p c

@@ -1,4 +1,4 @@
--- Lists of messages: one more, and one list behind another.
+-- Lists of messages: with one more, and one list after another.
 use Rattle.std.proofs.Common.{◌≡◌, ◌+◌, true, false, ◌||◌, List, [], ◌∷◌, ◌++◌, length, refl, ap, length-append, arith, ◌∙◌}
 use Rattle.cbs_clients.specs.declared.message.Message.{Message}
 use Rattle.cbs_clients.specs.declared.message.Message.TheVariants.{Job, End}
@@ -48,7 +48,7 @@ module _ {W : Type 0} where
   has_end-end (Job v ∷ ms) = has_end-end ms
   has_end-end (End ∷ ms) = refl
 
-  -- where there is no end yet, one more message leaves an end last
+  -- if there is no end yet, after one more message an end is still the last
   pub end_is_last-more : (ms : List (Message W)) (m : Message W) → has_end ms ≡ false → end_is_last (ms ++ m ∷ []) ≡ true
   end_is_last-more [] (Job w) e = refl
   end_is_last-more [] End e = refl

@@ -54,7 +54,7 @@ module _ {W : Type 0} where
   pub paid_pops : (may : ℕ → ℕ → Type 0) (start : ℕ) (told : Ran) (paid : List (Step W)) → IsRunPaid may start told paid → pops paid ≡ 0
   paid_pops may start told paid p = let is = paid_is may start told paid p in charge_pops paid is.0 is.1 is.2
 
-  -- where a meter never charges, nothing is paid
+  -- if a meter never charges, nothing is paid
   never_unit : (may : ℕ → ℕ → Type 0) (start s : ℕ) (paid : List (Step W)) → NeverCharges may → IsUnitPaid may start s paid → paid ≡ []
   never_unit may start s paid never p =
       let none = never s p.beyond p.told in
@@ -83,7 +83,7 @@ module _ {W : Type 0} where
       moves-append (M ⊕⊕ m) ms ns p.1 (subst (λ (N : History W). AreMoves work may P N ns) (after-append M m (all_steps ms)) q),
     )
 
-    -- where a meter never charges, a move is one step that is allowed
+    -- if a meter never charges, a move is one step that is allowed
     never_move : NeverCharges may → (M : History W) (m : List (Step W)) → IsMove work may P M m → EachAllowed P M m
     never_move never M [] p = absurd p
     never_move never M (Submit s job ∷ xs) p = (p.0, subst (EachAllowed P (M ⊕ Submit s job)) (sym p.1) tt)
@@ -110,7 +110,7 @@ module _ {W : Type 0} where
     weaker_moves M [] p = tt
     weaker_moves M (m ∷ ms) p = (weaker_move M m p.0, weaker_moves (M ⊕⊕ m) ms p.1)
 
--- a run gave a unit to server s, by what it told
+-- a run gave a unit to server s, by the run's result
 abbrev pub GaveUnit : Ran → ℕ → Type 0
 GaveUnit ran.Idle s = ⊥
 GaveUnit ran.ClockEnd s = ⊥

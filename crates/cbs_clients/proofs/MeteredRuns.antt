@@ -28,14 +28,14 @@ module _ {W : Type 0} where
   pays_unit may start s (ran.Done c) paid unit p = subst (λ v. IsUnitPaid may start v paid) (sym unit) p
 
 module _ {W A : Type 0} {g : Ghosts W} where
-  -- what is collected stays so where the results stay
+  -- what is collected stays so if the results stay
   collects_before : (told : Ran) (a b c : House W A g) → Collects told a b → KeepsResults b c → Collects told a c
   collects_before ran.Idle a b c k same = λ s. same s ∙ k s
   collects_before ran.ClockEnd a b c k same = λ s. same s ∙ k s
   collects_before (ran.Unit t q) a b c k same = λ s. same s ∙ k s
   collects_before (ran.Done x) a b c k same = (same x.server ∙ k.0, λ s ne. same s ∙ k.1 s ne)
 
-  -- a job that is named stays so where the jobs stay
+  -- a job that is named stays so if the jobs stay
   comes_on : (work : Meaning W) (a b : House W A g) (s q result : ℕ) → received b s ≡ received a s → ComesTo work a s q result → ComesTo work b s q result
   comes_on work a b s q result same c = record { told = rw same c.told }
 

@@ -34,7 +34,7 @@ none_taken s (Advance n ∷ xs) e = none_taken s xs (omega (arith, e))
 none_taken s (Charge t n ∷ xs) e = none_taken s xs (omega (arith, e))
 none_taken s (Close t ∷ xs) e = absurd (omega (arith, e))
 
--- where each step of a kind stands, it takes nobody's time
+-- each step of a kind takes nobody's time at its place
 abbrev pub TakesNoTime : {W : Type 0} → Meaning W → (History W → Step W → Type 0) → Type 0
 TakesNoTime {W} work P = (N : History W) (x : Step W) → P N x → IsQuietAfter work N x
 
@@ -93,7 +93,7 @@ module _ {W A : Type 0} {g : Ghosts W} (work : Meaning W) (may : ℕ → ℕ →
   by_made : (a b : House W A g) → Made work a b [] → MovesBy work may P a b 0
   by_made a b m = record { moves = []; made = m; each = λ M agrees. tt; count = refl }
 
-  -- where a meter never charges, moves with it are moves without it
+  -- if a meter never charges, moves with it are moves without it
   pub by_never : (a b : House W A g) (n : ℕ) → NeverCharges may → TakesNoTime work P → MovesBy work may P a b n → Moves work P a b n
   by_never a b n never quiet m =
       let xs = all_steps m.moves in
@@ -175,7 +175,7 @@ module _ {W A : Type 0} {g : Ghosts W} (work : Meaning W) (may : ℕ → ℕ →
   pub serves_look : (a b : House W A g) → LooksOnly a b → ServesBy work may a b
   serves_look a b l = record { moves = (0, by_made work may (MayServe work) a b (made_look work a b l)) }
 
-  -- a drain behind what was taken, and a look behind that
+  -- a drain after what was taken, and a look after that
   pub serves_drained : (a b c : House W A g) → ServesBy work may a b → MovesBy work may (MayDrain work) b c 0 → ServesBy work may a c
   serves_drained a b c taken drained = serves_then a b c taken (serves_drain b c 0 drained)
 
@@ -190,7 +190,7 @@ module _ {W A : Type 0} {g : Ghosts W} (work : Meaning W) (may : ℕ → ℕ →
   pub by_rings : (a b : House W A g) → ServesBy work may a b → rings_of b ≡ rings_of a
   by_rings a b m = m.moves.1.made.rings
 
-  -- where the meter never charges, it is serving without it
+  -- if the meter never charges, serving with it is serving without it
   pub serves_never : (a b : House W A g) → NeverCharges may → ServesBy work may a b → ServesOn work a b
   serves_never a b never s = record { moves = (s.moves.0, by_never work may (MayServe work) a b s.moves.0 never (serve_quiet work) s.moves.1) }
 
@@ -199,7 +199,7 @@ module _ {W A : Type 0} {g : Ghosts W} (work : Meaning W) (may : ℕ → ℕ →
   serves_on_time a b never history s =
       moves_on_time work (MayServe work) a b s.moves.0 history (by_never work may (MayServe work) a b s.moves.0 never (serve_quiet work) s.moves.1)
 
--- of a meter that tells of nothing beyond a unit's first tick
+-- a meter that returns no tick after a unit's first never charges
 pub never_beyond : NeverCharges NothingBeyond
 never_beyond s n e = e
 

@@ -1,4 +1,4 @@
--- The job that a run tells of.
+-- The job in the result of a run.
 use Rattle.std.proofs.Common.{◌≡◌, ℕ, ◌+◌, ◌<◌, List, [], ◌∷◌, ◌++◌, Some, drop, length, map, get_or, refl, ap, sym, ◌∙◌, arith, inl, inr, length-append}
 use Rattle.std.specs.List.{slice_get}
 use Rattle.std.proofs.lemmas.Bool.{cases_lt}
@@ -17,7 +17,7 @@ use Rattle.cbs_clients.specs.declared.house.House.{House}
 use Rattle.cbs_clients.specs.Houses.{core_of, received, handed_of, results_of, Collects, ComesTo, NamesJob}
 use Rattle.cbs_clients.specs.Messages.{jobs_among}
 
--- what stands behind some results, of those behind a number of others
+-- the element after some results, in a list of which the first n are missing
 at_place : (rs : List ℕ) (x : ℕ) (xs : List ℕ) (n : ℕ) (all : List ℕ) → rs ++ x ∷ xs ≡ drop n all → slice_get all (n + length rs) ≡ Some x
 at_place rs x xs n all e =
     let counts = ap length e in
@@ -27,7 +27,7 @@ at_place rs x xs n all e =
     slice_get-get_or all (n + length rs) x within ∙ ap Some here
 
 module _ {W A : Type 0} {g : Ghosts W} (old h : House W A g) where
-  -- the first job held is, of those received, that behind the results
+  -- the first job held is the job after the results, among those received
   comes_first : (s q : ℕ) (job : W) (rest : List W) → s < length (core_of h).faces → (held_at (core_of h) s).jobs ≡ job ∷ rest
       → q ≡ (held_at (core_of h) s).face.finished → ComesTo g.meaning h s q (whole g.meaning job)
   comes_first s q job rest lt first number =
@@ -36,7 +36,7 @@ module _ {W A : Type 0} {g : Ghosts W} (old h : House W A g) where
       (map (whole g.meaning) (jobs_among (received h s))) (rw first at k.outputs) in
       record { told = rw (number, k.finished) place }
 
-  -- the result that was put behind the others is that of the job received of its number
+  -- the result that was put after the others is that of the received job of its number
   comes_last : (c : Completion) → c.server < length (core_of h).faces → results_of h c.server ≡ results_of old c.server ++ c.result ∷ []
       → (held_at (core_of h) c.server).face.finished ≡ c.seq + 1 → ComesTo g.meaning h c.server c.seq c.result
   comes_last c lt put count =

@@ -20,11 +20,11 @@ one_or_none : (b : Bool) → cond b 1 0 ≤ 0 → b ≡ false
 one_or_none true l = absurd (omega (arith, l))
 one_or_none false l = refl
 
--- where nothing of a list passes a test, no element does
+-- if no element of a list is counted by a test, no element passes it
 none_pass : (p : Face → Bool) (fs : List Face) (s : ℕ) → s < length fs → count_by p fs ≡ 0 → p (get_or fs s no_face) ≡ false
 none_pass p fs s lt e = one_or_none (p (get_or fs s no_face)) (let l = get_or-le-sum_by (λ (f : Face). cond (p f) 1 0) fs s no_face lt in omega (arith, l, e))
 
--- where something does, some element does: the first, or one of the rest
+-- if one is counted, some element passes: the first, or one of the rest
 first_passes : (p : Face → Bool) (f : Face) (fs : List Face) (b : Bool) → p f ≡ b
     → (0 < count_by p fs → (s : ℕ) × (s < length fs) × (p (get_or fs s no_face) ≡ true))
     → 0 < cond b 1 0 + count_by p fs → (s : ℕ) × (s < length (f ∷ fs)) × (p (get_or (f ∷ fs) s no_face) ≡ true)
@@ -46,11 +46,11 @@ open_by true r P f h e = absurd (false≢true (sym e ∙ h (f refl)))
 open_by false r P f h e = refl
 
 module _ {W : Type 0} (core : CoreHeld W) where
-  -- where the count is more than 0, some server is open
+  -- if the count is above 0, some server is open
   pub some_open : 0 < open_servers core → (s : ℕ) × IsOpen core s
   some_open lt = let k = some_pass (λ f. not f.closed) core.faces lt in (k.0, record { within = k.1; unclosed = not-true (face_at core.faces k.0).closed k.2 })
 
-  -- where every server is closed, none is open
+  -- if every server is closed, none is open
   pub none_counted : AllClosed core → open_servers core ≡ 0
   none_counted all = elim (cases_eq (open_servers core) 0) [
     | inl e ↦ e
@@ -79,7 +79,7 @@ fewer_open (f ∷ fs) (g ∷ gs) e stay =
     let first : cond (not g.closed) 1 0 ≤ cond (not f.closed) 1 0 = no_more f.closed g.closed (stay 0 (omega arith)) in
     omega (arith, rest, first, sum_by-cons (λ (f : Face). cond (not f.closed) 1 0) f fs, sum_by-cons (λ (f : Face). cond (not f.closed) 1 0) g gs)
 
--- where each server is closed that was, and no other, as many are open
+-- if the same servers are closed, as many are open
 pub same_open : (fs gs : List Face) → length gs ≡ length fs → ((s : ℕ) → s < length fs → (get_or gs s no_face).closed ≡ (get_or fs s no_face).closed)
     → count_by (λ (f : Face). not f.closed) gs ≡ count_by (λ (f : Face). not f.closed) fs
 same_open fs gs e same =

@@ -24,7 +24,7 @@ or_false : (a : Bool) → (a || false) ≡ a
 or_false true = refl
 or_false false = refl
 
--- whether one of several polls lacks memory, and one more behind them
+-- whether one of several polls lacks memory, with one more after them
 any_more : (ps : List Poll) (p : Poll) → list_any lacks_memory (ps ++ p ∷ []) ≡ (list_any lacks_memory ps || lacks_memory p)
 any_more [] p = or_false (lacks_memory p)
 any_more (q ∷ ps) p = ap (λ x. lacks_memory q || x) (any_more ps p) ∙ or_assoc (lacks_memory q) (list_any lacks_memory ps) (lacks_memory p)
@@ -38,7 +38,7 @@ module _ {W : Type 0} where
   polls_wider first n (Advance m ∷ xs) p = absurd p
   polls_wider first n (Charge t m ∷ xs) p = absurd p
 
-  -- a message of the next server behind those of the servers before it
+  -- a message of the next server after those of the servers before it
   polls_more : (first n : ℕ) (xs : List (Step W)) (x : Step W) → first ≤ n → ((m : ℕ) → m ≤ n → ArePolls m (n + 1) (x ∷ [])) → ArePolls first n xs
       → ArePolls first (n + 1) (xs ++ x ∷ [])
   polls_more first n [] x l one p = one first l
@@ -61,13 +61,13 @@ module _ {W A : Type 0} {g : Ghosts W} (work : Meaning W) where
   pub polled_none : (a : House W A g) → PollsEach work 0 a a 0 false
   polled_none a = record { answers = []; all = refl; answered = refl; memory = refl; polls = []; each = tt; made = made_nothing work a; count = refl }
 
-  -- one more poll, behind others
+  -- one more poll after others
   answered_more : (s n : ℕ) (a b c : House W A g) (ps : List Poll) (p : Poll) → s + length ps ≡ n → Answered work s a ps b → Polled work b n p c
       → Answered work s a (ps ++ p ∷ []) c
   answered_more s n a b c [] p e h k = (c, let m : s ≡ n = omega (arith, e) in rw (m, ← h) k, refl)
   answered_more s n a b c (q ∷ ps) p e h k = (h.0, h.1, answered_more (s + 1) n h.0 b c ps p (omega (arith, e)) h.2 k)
 
-  -- one more poll, whose answer is so, took j messages by these steps
+  -- one more poll, with this result, took j messages by these steps
   polled_by : (a b c : House W A g) (n k j : ℕ) (m : Bool) (p : Poll) (xs : List (Step W)) → pops xs ≡ j
       → ((ys : List (Step W)) → ArePolls 0 n ys → ArePolls 0 (n + 1) (ys ++ xs)) → PollsEach work n a b k m → Made work b c xs → Polled work b n p c
       → PollsEach work (n + 1) a c (k + j) (m || lacks_memory p)

@@ -41,7 +41,7 @@ module _ {W A S : Type 0} {g : Ghosts W} (work : Meaning W) (may : ℕ → ℕ �
   }
 
 module _ {W A : Type 0} {g : Ghosts W} (work : Meaning W) (may : ℕ → ℕ → Type 0) where
-  -- a run that stops behind another run stops the two
+  -- a run that stops after another run stops the two
   stops_behind : (a b c : House W A g) (e : HouseError) → ServesBy work may a b → RunStops work may e b c → RunStops work may e a c
   stops_behind a b c OutOfMemory h k = lacked_behind work may a b c h k
   stops_behind a b c ClockEnd h k = k
@@ -56,7 +56,7 @@ module _ {W A : Type 0} {g : Ghosts W} (work : Meaning W) (may : ℕ → ℕ →
   result_behind a b c (Ok x) h k = tt
   result_behind a b c (Err e) h k = stops_behind a b c e h k
 
--- one more turn, where one is due, after others
+-- one more turn, if one is due, after others
 module _ {W A : Type 0} {g : Ghosts W} (work : Meaning W) (may : ℕ → ℕ → Type 0) (most : ℕ) where
   due_more : (k m : ℕ) (a b c : House W A g) (ts : List Turn) (t : Turn) → TakesDueTurns work may most k a ts b m → IsDue most m (core_of b)
       → TakesOwnTurn work may b c t → turn_stop t ≡ None

@@ -1,4 +1,4 @@
--- The messages that lists of steps take, one list behind another.
+-- The messages that lists of steps take, one list after another.
 use Rattle.std.proofs.Common.{◌≡◌, ℕ, ◌+◌, List, [], ◌∷◌, ◌++◌, refl, ap, sym, ◌∙◌, arith}
 use Rattle.std.proofs.lemmas.List.{append_assoc}
 use Rattle.cbs_steps.specs.declared.step.Step.{Step}

@@ -1,4 +1,4 @@
--- What a sink is told, one turn after another.
+-- The completions that a sink is given, one turn after another.
 use Rattle.std.proofs.Common.{◌≡◌, ℕ, zero, suc, ◌+◌, eqb, List, [], ◌∷◌, ◌++◌, length, map, refl, ap, sym, ◌∙◌, arith, inl, inr, length-append}
 use Rattle.std.specs.List.{range_with_len}
 use Rattle.std.proofs.lemmas.Bool.{cases_eq}
@@ -14,7 +14,7 @@ use Rattle.cbs_clients.specs.Turns.{IsNumbered}
 use Rattle.cbs_clients.specs.Sinks.{completions_for, HearsEach, HearsRun, Tells}
 use Rattle.cbs_clients.proofs.MadeSteps.{eqb_same, eqb_other}
 
--- numbers in a row, and those behind them
+-- numbers in a row, and those after them
 range_both : (k m n : ℕ) → range_with_len k (m + n) ≡ range_with_len k m ++ range_with_len (k + m) n
 range_both k zero n = let e : zero + n ≡ n = omega arith in let f : k + 0 ≡ k = omega arith in rw (e, f) refl
 range_both k (suc m) n =
@@ -23,17 +23,17 @@ range_both k (suc m) n =
     rw e (ap (λ ns. k ∷ ns) (range_both (k + 1) m n ∙ ap (λ j. range_with_len (k + 1) m ++ range_with_len j n) f))
 
 module _ {S : Type 0} (hears : S → Completion → S → Type 0) where
-  -- a sink was told of some, and then of more
+  -- a sink was given some completions, and then more
   hears_both : (a b c : S) (xs ys : List Completion) → HearsEach hears a xs b → HearsEach hears b ys c → HearsEach hears a (xs ++ ys) c
   hears_both a b c [] ys h k = rw h at k
   hears_both a b c (x ∷ xs) ys h k = (h.0, h.1, hears_both h.0 b c xs ys h.2 k)
 
 module _ {W A S : Type 0} {g : Ghosts W} (hears : S → Completion → S → Type 0) where
-  -- nothing is finished, and nothing is told
+  -- no job is finished, and no completion is given
   pub tells_none : (a b : House W A g) (u : S) → ((s : ℕ) → results_of b s ≡ results_of a s) → Tells hears a b u u
   tells_none a b u same = record { completions = []; heard = refl; results = λ s. same s ∙ sym (append-nil (results_of a s)); numbers = λ s. refl }
 
-  -- one job is finished, and the sink is told of it
+  -- one job is finished, and the sink is given its completion
   tells_one : (a b : House W A g) (u v : S) (c : Completion) → Collects (ran.Done c) a b → IsNumbered (ran.Done c) a → hears u c v → Tells hears a b u v
   tells_one a b u v c collects number heard = record {
     completions = c ∷ [];
@@ -48,14 +48,14 @@ module _ {W A S : Type 0} {g : Ghosts W} (hears : S → Completion → S → Typ
     ];
   }
 
-  -- what ran is told
+  -- the sink is given what ran
   pub tells_run : (r : Ran) (a b : House W A g) (u v : S) → Collects r a b → IsNumbered r a → HearsRun hears r u v → Tells hears a b u v
   tells_run ran.Idle a b u v k number heard = rw heard (tells_none a b u k)
   tells_run ran.ClockEnd a b u v k number heard = rw heard (tells_none a b u k)
   tells_run (ran.Unit s q) a b u v k number heard = rw heard (tells_none a b u k)
   tells_run (ran.Done c) a b u v k number heard = tells_one a b u v c k number heard
 
-  -- what is told from one house to another, and on
+  -- what a sink is given from one house to another, and then on to a third
   pub tells_both : (a b c : House W A g) (u v w : S) → ((s : ℕ) → handed_of b s ≡ handed_of a s) → Tells hears a b u v → Tells hears b c v w
       → Tells hears a c u w
   tells_both a b c u v w handed h k = record {

@@ -40,14 +40,14 @@ use Rattle.cbs_clients.proofs.Metered.{paid_is, unit_later}
 use Rattle.cbs_clients.proofs.Moves.{by_step, by_run, serves_none, serves_then, serves_poll}
 
 module _ {W A : Type 0} {g : Ghosts W} where
-  -- what a run did to the results, behind what left them
+  -- what a run did to the results, after calls that left them
   pub collects_behind : (r : Ran) (a b c : House W A g) → ((s : ℕ) → results_of b s ≡ results_of a s) → Collects r b c → Collects r a c
   collects_behind ran.Idle a b c same k = λ s. k s ∙ same s
   collects_behind ran.ClockEnd a b c same k = λ s. k s ∙ same s
   collects_behind (ran.Unit t q) a b c same k = λ s. k s ∙ same s
   collects_behind (ran.Done x) a b c same k = (k.0 ∙ ap (λ rs. rs ++ x.result ∷ []) (same x.server), λ s ne. k.1 s ne ∙ same s)
 
-  -- the number of a completion, behind what left the results
+  -- the number of a completion, after calls that left the results
   pub numbered_behind : (r : Ran) (a b : House W A g) → ((s : ℕ) → results_of b s ≡ results_of a s) → ((s : ℕ) → handed_of b s ≡ handed_of a s)
       → IsNumbered r b → IsNumbered r a
   numbered_behind ran.Idle a b same handed k = tt
@@ -56,7 +56,7 @@ module _ {W A : Type 0} {g : Ghosts W} where
   numbered_behind (ran.Done x) a b same handed k =
       k ∙ (ap (λ n. n + length (results_of b x.server)) (handed x.server) ∙ ap (λ rs. handed_of a x.server + length rs) (same x.server))
 
--- which completion a run that is done tells
+-- which completion is in the result of a run that is done
 picked : (c d : Completion) (stopped last : Bool) (t q : ℕ) → ran.Done c ≡ (if stopped then ran.ClockEnd else (if last then ran.Done d else ran.Unit t q))
     → c ≡ d
 picked c d true last t q e = absurd (cc e)
@@ -97,7 +97,7 @@ module _ {W A : Type 0} {g : Ghosts W} (work : Meaning W) where
         ne (done_number work w (chosen work w) c told ∙ (sym (ap (λ f. f.finished) shown) ∙ finished_results h housed c.server))))
   ]
 
--- a run that is answered so stood at the clock's end
+-- a run with this result stood at the clock's end
 not_at_end : (stopped last : Bool) (d : Completion) (t q : ℕ)
     → ran.ClockEnd ≡ (if stopped then ran.ClockEnd else (if last then ran.Done d else ran.Unit t q)) → stopped ≡ true
 not_at_end true last d t q e = refl
@@ -143,7 +143,7 @@ module _ {W A : Type 0} {g : Ghosts W} (work : Meaning W) (may : ℕ → ℕ →
   serves_answered s a b [] h = rw h (serves_none work may a)
   serves_answered s a b (p ∷ ps) h = serves_then work may a h.0 b (serves_poll work may a h.0 s p h.1) (serves_answered (s + 1) h.0 b ps h.2)
 
-  -- what a turn does behind its polls are steps of serving
+  -- what a turn does after its polls are steps of serving
   serves_on : (a b : House W A g) (r : Ran) (n : ℕ) → GoesOn work may a b r n → ServesBy work may a b
   serves_on a b r n (inl k) = record { moves = (0, by_run work may (MayServe work) a b r k.0.paid k.0.pays k.0.made k.0.answer (λ M agrees. tt)) }
   serves_on a b r n (inr (inl k)) = record { moves = (0, by_step work may (MayServe work) a b (Advance n) k.0.made (λ M agrees. (k.0.needed M agrees, refl))) }
@@ -203,7 +203,7 @@ module _ {W A : Type 0} {g : Ghosts W} (work : Meaning W) (may : ℕ → ℕ →
   lacked s a b (Full ∷ ps) h e = lacked_behind a h.0 b (serves_poll work may a h.0 s Full h.1) (lacked (s + 1) h.0 b ps h.2 e)
   lacked s a b (NoSuchServer ∷ ps) h e = lacked_behind a h.0 b (serves_poll work may a h.0 s NoSuchServer h.1) (lacked (s + 1) h.0 b ps h.2 e)
 
-  -- where a turn tells of want of memory, one of its polls found none
+  -- if the result of a turn says that a poll was out of memory, one of its polls was
   turn_lacked : (a b : House W A g) (t : Turn) → TakesOwnTurn work may a b t → t.out_of_memory ≡ true → LackedMemory work may a b
   turn_lacked a b t h e =
       lacked_before a h.between b (lacked 0 a h.between h.polled.answers h.polled.answered (sym h.polled.memory ∙ e))
@@ -228,7 +228,7 @@ module _ {W A : Type 0} {g : Ghosts W} (work : Meaning W) (may : ℕ → ℕ →
   stays_idle (ran.Unit s q) h n k = absurd k
   stays_idle (ran.Done c) h n k = absurd k
 
-  -- a turn that tells of the clock's end stands there, with a job unfinished
+  -- a turn whose result is the clock's end stands there, with a job unfinished
   at_end : (a b : House W A g) (n : ℕ) → Housed work a.core a.rings a.collector → GoesOn work may a b ran.ClockEnd n → IsAtEnd (core_of b)
   at_end a b n housed (inl k) =
       absurd (housed.history (λ M agrees.
@@ -239,7 +239,7 @@ module _ {W A : Type 0} {g : Ghosts W} (work : Meaning W) (may : ℕ → ℕ →
   at_end a b n housed (inr (inl k)) = absurd (cc (k.1))
   at_end a b n housed (inr (inr k)) = rw k.0 k.1
 
--- where what ran met the clock's end, it is that
+-- if what ran met the clock's end, the result is ClockEnd
 met_end : (r : Ran) → meets_end r ≡ true → r ≡ ran.ClockEnd
 met_end ran.Idle e = absurd (false≢true e)
 met_end ran.ClockEnd e = refl

@@ -97,7 +97,7 @@ module _ {W : Type 0} {work : Meaning W} {core held : CoreHeld W} {M : History W
       let none : account w.accounts s ≡ no_account = get_or_past w.accounts s no_account (omega (arith, length-map w.accounts (face_of work))) in
       rw none refl
 
-  -- a run is answered by the choice among the faces held
+  -- the result of a run is that of the choice among the faces held
   pub reply_by : (o : Option ℕ) → o ≡ chosen_among (ranks core.faces)
       → reply.Ran (run_reply work w o) ≡ reply_in work M Run
   reply_by o e = ap (λ p. reply.Ran (run_reply work w p)) (e ∙ choice_agrees)
@@ -106,11 +106,11 @@ module _ {W : Type 0} {work : Meaning W} {core held : CoreHeld W} {M : History W
   pub next_late : clock_end ≤ core.clock → world_after work (M ⊕ Run) ≡ w
   next_late late = let n : ltb w.now clock_end ≡ false = let c = agrees.clock in grind (arith, nat_tests) in rw n
 
-  -- where nobody is chosen a run leaves the world as it is
+  -- if no server is chosen, a run leaves the world as it is
   pub idle_next : None ≡ chosen_among (ranks core.faces) → world_after work (M ⊕ Run) ≡ w
   idle_next e = let n : chosen work w ≡ None = sym (e ∙ choice_agrees) in rw (n, cond_same (ltb w.now clock_end))
 
-  -- at the clock's end a run is answered so
+  -- at the clock's end the result of a run is ClockEnd
   pub end_reply : (s : ℕ) → Some s ≡ chosen_among (ranks core.faces) → clock_end ≤ core.clock
       → reply.Ran ran.ClockEnd ≡ reply_in work M Run
   end_reply s e late =
@@ -121,7 +121,7 @@ module _ {W : Type 0} {work : Meaning W} {core held : CoreHeld W} {M : History W
     abbrev done : Bool
     done = is_some (result_run work (list_at core.queues s))
 
-    -- what the unit is answered
+    -- the result of the unit
     pub unit_answered : (r : Ran) → r ≡ ran_of s (face_at core.faces s).finished (result_run work (list_at core.queues s))
         → reply.Ran r ≡ reply_in work M Run
     unit_answered r is =
@@ -201,7 +201,7 @@ module _ {W : Type 0} {work : Meaning W} {core held : CoreHeld W} {M : History W
 
   -- a submit of a job to s, by why it is refused
   module _ (s : ℕ) (job : W) (o : Option CoreError) (e : o ≡ submit_refusal core.backlog core.faces s) where
-    -- the submit is answered by that
+    -- this is the reply to the submit
     pub submit_replied : submit_reply w s job o ≡ reply_in work M (Submit s job)
     submit_replied = ap (submit_reply w s job) (sym (same_refusal s o e))
 
@@ -214,12 +214,12 @@ module _ {W : Type 0} {work : Meaning W} {core held : CoreHeld W} {M : History W
     pub submit_accepted : IsAccepted (reply_in work M (Submit s job))
     submit_accepted = (length (account w.accounts s).accepted, sym (submit_replied s job None e))
 
-    -- and answered by the number of jobs accepted before
+    -- and the reply has the number of jobs accepted before
     pub submit_answered : (q : ℕ) → q ≡ (face_at core.faces s).accepted → reply.Accepted q ≡ reply_in work M (Submit s job)
     submit_answered q number =
         ap reply.Accepted (number ∙ ap (λ (f : Face). f.accepted) (sym (face_is s))) ∙ submit_replied s job None e
 
-    -- with the job behind the others, the core agrees with one submit more
+    -- with the job after the others, the core agrees with one submit more
     pub submit_agrees : {shown : List Face} {queues : List (List W)} {rooms : List ℕ} → s < length core.faces
         → shown ≡ changed_at (with_job core.clock) core.faces s → queues ≡ changed_at (λ jobs. jobs ++ job ∷ []) core.queues s → 0 < work.left job
         → Agrees work (record { backlog = core.backlog; clock = core.clock; last = core.last; faces = shown; queues = queues; rooms = rooms }) (M ⊕ Submit s job)
@@ -246,7 +246,7 @@ module _ {W : Type 0} {work : Meaning W} {core held : CoreHeld W} {M : History W
     same_closing : close_refusal (faces work w) s ≡ o
     same_closing = sym (e ∙ rw agrees.shown refl)
 
-    -- the close is answered by that
+    -- this is the reply to the close
     pub close_replied : close_reply o ≡ reply_in work M (Close s)
     close_replied = ap close_reply (sym same_closing)
 

@@ -37,7 +37,7 @@ module _ {W : Type 0} (work : Meaning W) where
     case : Case
     case = elim (cases_Bool (is_lack r)) [ inl t ↦ lacked t (rw t at tried) | inr f ↦ made f (rw f at tried) ]
 
-    -- so the reply answers the step
+    -- so the reply is one to the step
     pub tries_answers : (M : History W) → Agrees work old M → Answers work M x r
     tries_answers M agrees = elim case [ lacked t k ↦ rw t (k.back, k.accepted M agrees) | made f k ↦ rw f (k.reply M agrees) ]
 

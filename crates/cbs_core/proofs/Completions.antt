@@ -1,4 +1,4 @@
--- What a core counts as finished goes on by the completions that it tells.
+-- What a core counts as finished goes on by the completions that it returns.
 use Rattle.std.proofs.Common.{◌≡◌, ◌≢◌, ℕ, ◌+◌, true, false, eqb, refl, sym, ◌∙◌, ap, arith}
 use Rattle.std.proofs.Common.{Option, Some, None, inl, inr}
 use Rattle.std.proofs.lemmas.Bool.{cases_Bool}

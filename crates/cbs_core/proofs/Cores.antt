@@ -44,7 +44,7 @@ reservation f = f.terms.reservation
 
 -- a new core
 module _ {W : Type 0} (work : Meaning W) (backlog : ℕ) where
-  -- where each rate is within the limits of a reservation, each new server keeps what a server keeps
+  -- if each rate is within the limits of a reservation, each new server keeps what a server keeps
   all_new : (modes : List Mode) (rates : List Rate) → AllByRecursion (λ r. IsRate r.budget r.period) rates
       → AllByRecursion (IsServer backlog 0) (map new_face (terms_of modes rates))
   all_new [] rates ok = tt
@@ -82,7 +82,7 @@ pub record MayRun {W : Type 0} (work : Meaning W) (core : CoreHeld W) (s : ℕ) 
   pub begun : 0 < (face_at core.faces s).state.deadline
   pub last : IsLastUnit core.clock core.faces core.last
 
--- a change of one server that leaves each begun where it was keeps what is known of the last unit
+-- a change of one server keeps what is known of the last unit, if each server that had begun has still begun
 last_changed : (clock : ℕ) (f : Face → Face) (faces : List Face) (s : ℕ) (l : LastUnit) → (0 < (face_at faces s).state.deadline → 0 < (f (face_at faces s)).state.deadline)
     → IsLastUnit clock faces l → IsLastUnit clock (changed_at f faces s) l
 last_changed clock f faces s l keeps is = record {
@@ -187,7 +187,7 @@ module _ {W : Type 0} {work : Meaning W} {core : CoreHeld W} (ok : IsCore work c
       let moved : core.last.advanced_to ≢ core.clock = λ q. let y : eqb core.last.advanced_to core.clock ≡ true = grind (arith, nat_tests) in let z = runner.0 in cc in
       rw runner.1 at (ok.last.there moved)
 
-  -- a server that runs may be charged so many ticks, where the clock allows them
+  -- a server that runs may be charged so many ticks, if the clock allows them
   pub may_charge : (s n : ℕ) → s < length core.faces → is_running core s ≡ true → 0 < n → core.clock + n ≤ clock_end → MayCharge n (face_at core.faces s)
   may_charge s n lt runs some early =
       let is = server_at s lt in
@@ -229,7 +229,7 @@ module _ {W : Type 0} {work : Meaning W} {core : CoreHeld W} (ok : IsCore work c
     last = known;
   }
 
-  -- the same where all are then replenished
+  -- the same if all are then replenished
   core_replenished : (now : ℕ) (last : LastUnit) (faces : List Face) (queues : List (List W)) (rooms : List ℕ) → now ≤ clock_end → reservations faces ≡ reservations core.faces
       → AllByRecursion (IsServer core.backlog now) faces → AllZip (HoldsBacklog work) queues faces → IsLastUnit now faces last
       → IsCore work (record { backlog = core.backlog; clock = now; last = last; faces = map (with_replenishment now) faces; queues = queues; rooms = rooms })

@@ -15,7 +15,7 @@ use Rattle.cbs_core.proofs.Cores.{MayRun}
 use Rattle.cbs_lists.proofs.Lists.{changed_here, changed_elsewhere}
 
 module _ {W : Type 0} where
-  -- nothing is changed where nothing is done
+  -- nothing is changed if nothing is done
   pub all_same : (core : CoreHeld W) → AllSame core core
   all_same core t = record { jobs = refl; accepted = refl; finished = refl; closed = refl }
 
@@ -71,7 +71,7 @@ module _ {W : Type 0} where
       pub held_here : s < length old.faces → s < length old.queues → held_at new s ≡ record { face = f (face_at old.faces s); jobs = g (list_at old.queues s) }
       held_here lt within = rw (shown, jobs, changed_here f old.faces s no_face lt, changed_here g old.queues s [] within) refl
 
-    -- a job put behind those of server s, and nothing else
+    -- a job put after those of server s, and nothing else
     pub took_job : (s q : ℕ) (job : W) → s < length old.faces → s < length old.queues → q ≡ (face_at old.faces s).accepted
         → faces ≡ changed_at (with_job clock) old.faces s → queues ≡ changed_at (λ jobs. jobs ++ job ∷ []) old.queues s
         → TakesJob job q (held_at held s) (held_at new s) × OthersSame s held new

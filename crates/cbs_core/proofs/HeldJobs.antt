@@ -68,7 +68,7 @@ module _ {W : Type 0} (work : Meaning W) (jobs : List W) (a : Account W) (agrees
 
   -- a unit of the first job
   module _ (law : Lowers work) (some : 0 < length jobs) (left : AllByRecursion (λ w. 0 < work.left w) jobs) where
-    -- after the unit the jobs held are those left by one unit more, and the answer is as the accepted jobs say
+    -- after the unit the jobs held are those left by one unit more, and the result is that of the accepted jobs
     served_is : Served work jobs a
     served_is = served work law jobs a parts_of some left
 
@@ -76,11 +76,11 @@ module _ {W : Type 0} (work : Meaning W) (jobs : List W) (a : Account W) (agrees
     pub unit_jobs : AgreesJobs work (jobs_run work jobs) (account_with_unit a)
     unit_jobs = agrees_by work (jobs_run work jobs) (account_with_unit a) _ served_is.parts
 
-    -- the face counts a finished job where the unit was its last
+    -- the face counts a finished job if the unit was its last
     pub unit_face : face_of work (account_with_unit a) ≡ with_unit (is_some (result_run work jobs)) (face_of work a)
     unit_face = rw served_is.parts.count refl
 
-    -- and the answer tells its whole result
+    -- and the result gives its whole result
     pub unit_ran : (s : ℕ) → ran_of s (finished work a) (result_run work jobs) ≡ unit_reply work a s
     unit_ran = served_is.ran
 
@@ -92,7 +92,7 @@ module _ {W : Type 0} (work : Meaning W) (jobs : List W) (a : Account W) (agrees
         let p : a.got ≤ sum_by work.left a.accepted = omega (arith, paid, sum_by-take-le work.left a.accepted (length a.accepted)) in
         joined_parts work a.accepted a.got (finished work a) job refl p some jobs parts_of
 
-    -- the jobs with one more behind are the unfinished ones, with one more accepted
+    -- the jobs with one more after them are the unfinished ones, with one more accepted
     pub job_jobs : AgreesJobs work (jobs ++ job ∷ []) (account_with_job work now job a)
     job_jobs = agrees_by work (jobs ++ job ∷ []) (account_with_job work now job a) _ joined_is
 

@@ -42,7 +42,7 @@ module _ {W : Type 0} (work : Meaning W) where
     keeps_time x = on_time_next work M x (admitted_by view ok agrees)
 
   module _ {core held : CoreHeld W} (view : core ≡ held) (ok : IsCore work core) (x : Step W) (r : Reply W) where
-    -- a step that is answered so, and leaves the world as it is, was made with no change
+    -- a step with this reply, which leaves the world as it is, was made with no change
     pub makes_still : ((M : History W) → Agrees work held M → (r ≡ reply_in work M x) × (world_after work (M ⊕ x) ≡ world_after work M)) → Makes work held held x r
     makes_still told = record {
       reply = λ M agrees. (told M agrees).0;
@@ -52,7 +52,7 @@ module _ {W : Type 0} (work : Meaning W) where
       budgets = rw (← view) (budgets_kept ok);
     }
 
-    -- a step that is answered so, and leads to what agrees with it, was made
+    -- a step with this reply, which leads to a core that agrees with it, was made
     pub makes_new : {new : CoreHeld W} → IsCore work new → length new.faces ≡ length core.faces
         → ((M : History W) → Agrees work held M → (r ≡ reply_in work M x) × Agrees work new (M ⊕ x)) → Makes work held new x r
     makes_new later count told = record {

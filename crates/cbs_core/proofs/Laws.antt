@@ -38,7 +38,7 @@ module _ {W : Type 0} (work : Meaning W) where
     | inr none ↦ nil_from_length (held_at core s).jobs (omega arith)
   ]
 
-  -- where the core holds a job, a job is unfinished
+  -- if the core holds a job, a job is unfinished
   pub busy_by : (core : CoreHeld W) (M : History W) → Agrees work core M → HoldsJob core → IsBusy work (world_after work M)
   busy_by core M agrees b =
       let w = world_after work M in
@@ -61,7 +61,7 @@ module _ {W : Type 0} (work : Meaning W) where
   pub follows_both : (a b c : CoreHeld W) (xs ys : List (Step W)) → Follows work a b xs → Follows work b c ys → Follows work a c (xs ++ ys)
   follows_both a b c xs ys p q = λ M agrees. subst (λ (N : History W). Agrees work c N) (sym (after-append M xs ys)) (q (M ⊕⊕ xs) (p M agrees))
 
-  -- steps that are allowed, and behind them more that are
+  -- steps that are allowed, and more allowed steps after them
   pub allowed_both : (P : History W → Step W → Type 0) (a b : CoreHeld W) (xs ys : List (Step W)) → Follows work a b xs → AllAllowed work P a xs
       → AllAllowed work P b ys → AllAllowed work P a (xs ++ ys)
   allowed_both P a b xs ys f p q = λ M agrees. allowed-append P M xs ys (p M agrees) (q (M ⊕⊕ xs) (f M agrees))

@@ -74,7 +74,7 @@ module _ {W : Type 0} {core held : CoreHeld W} (view : core ≡ held) (s : ℕ) 
     | free is p ↦ let none = accepts_free (rw view at is) in cc
   ])
 
-  -- want of memory is no such refusal
+  -- an error out of memory is no such refusal
   pub refusal_named : (e : CoreError) → Some e ≡ submitting → is_out_of_memory e ≡ false
   refusal_named error.OutOfMemory k = let none = accepts_free (refused_by error.OutOfMemory k) in cc
   refusal_named _ k = refl

@@ -1,4 +1,4 @@
--- What is known of the last unit tells which server runs.
+-- What is known of the last unit determines which server runs.
 use Rattle.std.proofs.Common.{◌≡◌, ◌∙◌, ℕ, Bool, true, false, eqb, arith, Option, Some, None, MatchOption, inl, inr}
 use Rattle.std.proofs.lemmas.Bool.{cases_Bool}
 use Rattle.std.proofs.lemmas.Bool.Decides.{nat_tests}
@@ -11,7 +11,7 @@ running_server core s runs = elim (cases_Bool (eqb core.last.advanced_to core.cl
   | inr f ↦ (f, let y : eqb core.last.server s ≡ true = rw f at runs in grind (arith, nat_tests))
 ]
 
--- who runs, told of each server
+-- which server runs, given for each server
 pub told_runner : (runs : ℕ → Bool) (one : Option ℕ) → ((s : ℕ) → runs s ≡ is_some_of one s) → MatchOption one ((s : ℕ) → runs s ≡ false) (λ s. runs s ≡ true)
 told_runner runs None same = same
 told_runner runs (Some t) same = same t ∙ let e : eqb t t ≡ true = grind (arith, nat_tests) in e

@@ -114,7 +114,7 @@ waiting : rows (one Throttled 2 5) [] (submit 0 (1 ∷ 2 ∷ 3 ∷ []) ∷ run 0
 unfolding ticks
 waiting = refl
 
--- after seven single ticks it is where one advance by seven leaves it
+-- after seven single ticks the state is that of one advance by seven
 ticked_singly : (account (after of_files (one Throttled 2 5) (Advance 1 ∷ Advance 1 ∷ Advance 1 ∷ Advance 1 ∷ Advance 1 ∷ Advance 1 ∷ Advance 1 ∷ Run ∷ Run ∷ Run ∷ Submit 0 (sum_of (1 ∷ 2 ∷ 3 ∷ [])) ∷ [])).accounts 0).state ≡ at 2 10
 unfolding ticks
 ticked_singly = refl

@@ -11,7 +11,7 @@ use Rattle.cbs_embed.specs.declared.refusal.Refusal.{Refusal}
 use Rattle.cbs_rules.specs.Setups.{ModedPlan}
 use Rattle.cbs_rules.specs.declared.mode.Mode.{Mode}
 
--- where no test refuses, the rest decides
+-- if no test refuses, the rest decides
 passes : (a : Option RateError) (b : Option AdmitError) (m : Option Mode) (rest : Option Refusal) → first_refusal a b m None ≡ None
     → first_refusal a b m rest ≡ rest
 passes None None (Some m) rest e = refl
@@ -41,7 +41,7 @@ unfolding setup_with
 with_none s = refl
 
 module _ (s : ModedPlan) (rs : List Server) (i : ℕ) (d : Server) (within : i < length rs) where
-  -- where a server fits, the refusal is that of the others
+  -- if a server fits, the refusal is that of the others
   pub refusal_goes_on : {new : ModedPlan} → server_refusal s.plan (get_or rs i d) None ≡ None → new ≡ with_server s (get_or rs i d)
       → setup_refusal s (drop i rs) ≡ setup_refusal new (drop (i + 1) rs)
   refusal_goes_on none is = at_drop_more (setup_refusal s) rs i d within ∙ refusal_cons s (get_or rs i d) (drop (i + 1) rs)
@@ -52,7 +52,7 @@ module _ (s : ModedPlan) (rs : List Server) (i : ℕ) (d : Server) (within : i <
   with_goes_on is = at_drop_more (setup_with s) rs i d within ∙ with_cons s (get_or rs i d) (drop (i + 1) rs)
       ∙ ap (λ (t : ModedPlan). setup_with t (drop (i + 1) rs)) (sym is)
 
-  -- where it does not, its refusal is that of all
+  -- if it does not, its refusal is that of all
   pub refusal_stops : {e : Refusal} → ((rest : Option Refusal) → server_refusal s.plan (get_or rs i d) rest ≡ Some e) → setup_refusal s (drop i rs) ≡ Some e
   refusal_stops stops = at_drop_more (setup_refusal s) rs i d within ∙ refusal_cons s (get_or rs i d) (drop (i + 1) rs) ∙ stops _
 

@@ -30,6 +30,6 @@ pub names_first : (h : TheHouse) (s q token : ℕ) → NamesJob counting (ran.Un
     → token ≡ unwrap_or (front_output counting (held_at (core_of h) s).jobs) 0 → NamesToken (ran.Unit s q) token h
 names_first h s q token (job, rest, first, comes) is = rw (is, first) (comes_to_token h s q job.token (rw (token_stays job.units job) at comes))
 
--- and a completion tells it
+-- and a completion gives it
 pub names_done : (h : TheHouse) (c : Completion) → NamesJob counting (ran.Done c) h → NamesToken (ran.Done c) c.result h
 names_done h c comes = comes_to_token h c.server c.seq c.result comes

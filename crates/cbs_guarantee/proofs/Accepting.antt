@@ -69,7 +69,7 @@ since_open within open_at now period some long late =
           absurd (omega arith)
     ]
 
--- the sum of all such numbers grows by one where a job comes
+-- the sum of all such numbers grows by one if a job comes
 all_since_came : (parts since now i : ℕ) (xs : List Stream) → AllByRecursion (IsOpenSoon parts now) xs → i < length xs → since ≤ now
     → (get_or xs i no_stream).open_at ≤ now
     → sum_by (jobs_since since) xs + 1 ≤ sum_by (jobs_since since) (changed_at (came now) xs i)
@@ -94,7 +94,7 @@ all_since_open parts within now i xs each lt long late =
     let h = sum_changed f g (λ x. x) xs i 1 no_stream lt most (since_open within x.open_at now x.rate.period some long late) in
     rw (sum_changed_same f (λ x. x) xs i (λ x. refl)) at h
 
--- where there is a stream, the sum of all spans is positive
+-- if there is a stream, the sum of all spans is positive
 spans_some : (rates : List Rate) (i : ℕ) → AllByRecursion IsStream rates → i < length rates → 0 < all_spans rates
 spans_some [] i each lt = absurd (omega arith)
 spans_some (r ∷ rates) i each lt = let h = each.0.span in omega (arith, sum_by-cons (λ (r : Rate). r.budget) r rates)
@@ -131,7 +131,7 @@ module _ {W : Type 0} (work : Meaning W) where
     IsCounted L = (K : List (Step W)) → N.steps ≡ K ++ L → total_of work setup s L ≡ 0 → AreStreams work setup s rates of L
         → jobs_of work setup s L ≤ done + since_after L
 
-    -- where a job comes, it is one of them, or finished
+    -- if a job comes, it is one of them, or finished
     counted_given : AreDone → (M : List (Step W)) (job : W) → submit_refusal setup.backlog (faces work (after work setup M)) s ≡ None
         → (K : List (Step W)) → N.steps ≡ K ++ Submit s job ∷ M → total_of work setup s M ≡ 0 → AreStreams work setup s rates of (Submit s job ∷ M)
         → jobs_of work setup s M ≤ done + since_after M → jobs_of work setup s (Submit s job ∷ M) ≤ done + since_after (Submit s job ∷ M)

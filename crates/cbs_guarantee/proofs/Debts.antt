@@ -41,7 +41,7 @@ debts_later parts now n (x ∷ xs) =
     let e = mul-add n (share parts x.rate) (shares parts xs) in
     rw (sum_by-cons (debt parts now) x xs, sum_by-cons (debt parts (now + n)) x xs, sum_by-cons (λ x. share parts x.rate) x xs) (omega arith)
 
--- where a job came, its stream's debt is its share of a whole distance, and was none
+-- if a job came, its stream's debt is its share of a whole distance, and was none before
 debt_came : (a o now period : ℕ) → o ≤ now → a * (now + period - now) ≡ a * (o - now) + a * period
 debt_came a o now period late =
     let e : now + period - now ≡ period = omega arith in
@@ -96,7 +96,7 @@ borne_later parts now n due xs h =
       fits = h.fits;
     }
 
--- and where a job of a stream comes
+-- and if a job of a stream comes
 pub borne_came : (parts now due span i : ℕ) (xs : List Stream) → IsBorne parts now due xs → i < length xs → (get_or xs i no_stream).open_at ≤ now
     → span ≤ (get_or xs i no_stream).rate.budget
     → IsBorne parts now (max due now + span) (changed_at (came now) xs i)

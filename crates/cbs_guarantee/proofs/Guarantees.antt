@@ -1,4 +1,4 @@
--- All that is guaranteed holds, where every list of steps is punctual.
+-- All that is guaranteed holds, if every list of steps is punctual.
 use Rattle.std.proofs.Common.{List}
 use Rattle.cbs_job.specs.Work.{Meaning}
 use Rattle.cbs_steps.specs.History.{History}

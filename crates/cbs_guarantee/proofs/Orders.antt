@@ -55,7 +55,7 @@ module _ (rates : List Rate) where
   greater : (s t : ℕ) → is_at_most (rate_at rates s) (rate_at rates t) ≡ false → ComesBefore rates s t
   greater s t f = record { bandwidth = grind (arith, nat_tests); number = λ y. absurd (grind (arith, nat_tests)) }
 
-  -- where t comes before s and before the head of the order, it comes before the head of both
+  -- if t comes before s and before the head of the order, it comes before the head of both
   behind : (t s : ℕ) (order : List ℕ) → ComesBefore rates t s → IsGreatestFirst rates (t ∷ order) → IsGreatestFirst rates (ordered_with rates s order)
       → IsGreatestFirst rates (t ∷ ordered_with rates s order)
   behind t s [] first sorted rest = (first, tt)

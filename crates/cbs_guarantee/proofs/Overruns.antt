@@ -86,7 +86,7 @@ module _ {W : Type 0} (work : Meaning W) (setup : Setup) where
         due : due_after work setup s M ≤ opens M - (every - span)
         last : (jobs_of work setup s M ≡ 0) ⊎ ((spent M).from + every ≤ opens M)
 
-      -- where a job comes that is not early, it is due as if it came first
+      -- if a job comes that is not early, it is due as if it came first
       paid_given : (M : List (Step W)) (job : W) → submit_refusal setup.backlog (faces work (after work setup M)) s ≡ None
           → IsOneStream work setup s every ticks (Submit s job ∷ M)
           → IsPaid M → ((spent (Submit s job ∷ M)).from ≡ (after work setup M).now) × (opens (Submit s job ∷ M) ≡ (after work setup M).now + every)
@@ -219,7 +219,7 @@ module _ {W : Type 0} (work : Meaning W) (setup : Setup) where
         IsEnough L M = (K : List (Step W)) → K ++ M ≡ L → jobs_of work setup s L ≡ jobs_of work setup s M → opens L ≡ opens M
             → jobs_of work setup s L ≤ finished work (account (after work setup L).accounts s)
 
-        -- where the next job may come, all are finished
+        -- if the next job may come, all are finished
         pub all_done : (L : List (Step W)) → IsGoing L → opens L ≤ (after work setup L).now
             → jobs_of work setup s L ≤ finished work (account (after work setup L).accounts s)
         all_done L go late = from L [] refl refl refl
@@ -252,7 +252,7 @@ module _ {W : Type 0} (work : Meaning W) (setup : Setup) where
             subst (λ A. IsGoing A → (after work setup M).now + span + others_charges (after work setup A).accounts s ≤ (after work setup A).now
             → jobs_of work setup s M < finished work (account (after work setup A).accounts s)) (sym e) (done_in_time M job is.accepted K) go late
 
-        -- where the next job may come, it is accepted
+        -- if the next job may come, it is accepted
         pub overrun_accepts : (L : List (Step W)) → IsGoing L → 0 < setup.backlog → opens L ≤ (after work setup L).now
             → Accepts work (record { setup = setup; steps = L }) s
         overrun_accepts L go some late =

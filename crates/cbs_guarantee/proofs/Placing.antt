@@ -17,7 +17,7 @@ use Rattle.cbs_rate.specs.declared.error.AdmitError.{AdmitError}
 use Rattle.cbs_guarantee.specs.Parts.{rate_at, plan_of, placed, servers_of, IsPart}
 use Rattle.cbs_guarantee.specs.declared.parts.Part.{Part}
 
--- what an answer says of why a plan refuses
+-- what a result says about why a plan refuses
 pub refused_of : {N : Type 0} (o : Option AdmitError) (r : Result N AdmitError) (n : N) → AnswersBy r o n → is_ok r ≡ false → o ≢ None
 refused_of o (Ok x) n h bad = cc
 refused_of o (Err e) n h bad = λ none. cc
@@ -91,7 +91,7 @@ module _ (bound : Fraction) (rates : List Rate) (s : ℕ) where
   is_refused None not = absurd (not refl)
   is_refused (Some e) not = refl
 
-  -- where the parts before i refuse it, and part i takes it, it stands there
+  -- if the parts before i refuse the server, and part i takes it, it stands there
   pub placed_here : (parts : List (List ℕ)) (i : ℕ) → i < length parts → ((k : ℕ) → k < i → refusal_of (get_or parts k []) ≢ None)
       → refusal_of (get_or parts i []) ≡ None → placed bound rates s parts ≡ set parts i (get_or parts i [] ++ s ∷ [])
   placed_here [] i lt before here = absurd (omega arith)
@@ -100,7 +100,7 @@ module _ (bound : Fraction) (rates : List Rate) (s : ℕ) where
       let over = is_refused (refusal_of p) (before 0 (omega arith)) in
       rw over (ap (λ xs. p ∷ xs) (placed_here parts i (omega arith) (λ k less. before (suc k) (omega arith)) here))
 
-  -- where all refuse it, it is a part
+  -- if all parts refuse the server, it gets a new part
   pub placed_new : (parts : List (List ℕ)) → ((k : ℕ) → k < length parts → refusal_of (get_or parts k []) ≢ None)
       → placed bound rates s parts ≡ parts ++ (s ∷ []) ∷ []
   placed_new [] before = refl

@@ -95,7 +95,7 @@ module _ {W : Type 0} (work : Meaning W) (setup : Setup) (s : ℕ) where
       pub borne : IsBorne parts (now_after M) (due_after M) (streams M)
       pub rates_are : map (λ (x : Stream). x.rate) (streams M) ≡ rates
 
-    -- where neither a job nor anything that is due came, it is so still
+    -- if neither a job nor anything that is due came, it is so still
     stays : (x : Step W) (M : List (Step W)) → IsBorneAfter M → due_after (x ∷ M) ≡ due_after M → streams (x ∷ M) ≡ streams M → IsBorneAfter (x ∷ M)
     stays x M h e f =
         let later = borne_later parts (now_after M) (now_after (x ∷ M) - now_after M) (due_after M) (streams M) h.borne in
@@ -103,7 +103,7 @@ module _ {W : Type 0} (work : Meaning W) (setup : Setup) (s : ℕ) where
         let n : now_after M + (now_after (x ∷ M) - now_after M) ≡ now_after (x ∷ M) = omega arith in
         record { borne = rw (e, f) (rw n at later); rates_are = rw f h.rates_are }
 
-    -- where a job of a stream comes
+    -- if a job of a stream comes
     given : (job : W) (M : List (Step W)) → submit_refusal setup.backlog (faces work (after work setup M)) s ≡ None → IsStreamJob work setup s rates of M job
         → IsBorneAfter M → IsBorneAfter (Submit s job ∷ M)
     given job M accepted is h =

@@ -141,7 +141,7 @@ module _ {W : Type 0} (work : Meaning W) (setup : Setup) (s every units overrun 
 
   module _ (keeps : (L : List (Step W)) → KeepsChargedDue work (record { setup = setup; steps = L })) (delay : ℕ)
       (apart : span_of (reserved work setup s) (units * (1 + overrun)) + delay ≤ every) where
-    -- where the next job may come, all that was asked for is done
+    -- if the next job may come, all that was asked for is done
     idle_after : (M : List (Step W)) → IsGoing work setup s every (units * (1 + overrun)) (omega arith) keeps delay apart M
         → opens_after work setup s every M ≤ (after work setup M).now
         → (let a = account (after work setup M).accounts s in all work a ≡ a.got)

@@ -120,7 +120,7 @@ module _ {W A : Type 0} {g : Ghosts W} where
   pub opened_same : (rings rings' : List (Ring A)) (a b : Feed W A g) → rings' ≡ rings → KeepsFeed a b → IsOpened rings a.client → IsOpened rings' b.client
   opened_same rings rings' a b e p o = rw (e, p.client.0, p.client.1) o
 
-  -- so it is where the house made steps
+  -- so it is if the house made steps
   pub opened_moved : (a b : House W A g) (c : Client W A g) → rings_of b ≡ rings_of a → IsOpened (rings_of a) c → IsOpened (rings_of b) c
   opened_moved a b c e o = rw e o
 
@@ -215,7 +215,7 @@ module _ {W A : Type 0} {g : Ghosts W} (n : ℕ) where
   most_both (x ∷ a) [] c d p q = absurd p
   most_both (x ∷ a) (y ∷ b) c d p q = (p.0, most_both a b c d p.1 q)
 
-  -- of all, where one did something
+  -- for all feeds, if one did something
   most_set : (fs : List (Feed W A g)) (i : ℕ) (f d : Feed W A g) → i < length fs → SendsAtMost n (get_or fs i d) f → EachSendsAtMost n fs (set fs i f)
   unfolding EachSendsAtMost
   most_set [] i f d l p = absurd (omega arith)

@@ -142,7 +142,7 @@ module _ {W A : Type 0} {g : Ghosts W} (work : Meaning W) (may : ℕ → ℕ →
       → AreMoves work may (MayServe work) M (moves_in k.turns)
   all_move exactly n a b k M agrees = each_moves work may (length (core_of a).faces) k.turns M k.each (k.runs M agrees)
 
-  -- turns that are at most so many, and fewer only where these servers are closed
+  -- turns that are at most so many, and fewer only if these servers are closed
   pub turns_within : (most turns : ℕ) (servers : List ℕ) (a b : House W A g) (n : ℕ) → turns ≤ most → (turns < most → All (IsClosed (core_of b)) servers)
       → TakesExactly work may turns a b n → TakesTurns work may most servers a b n
   turns_within most turns servers a b n within fewer k =
@@ -173,7 +173,7 @@ module _ {W A : Type 0} {g : Ghosts W} (work : Meaning W) (may : ℕ → ℕ →
         moves = (n, record { moves = moves_in k.turns; made = rw all k.made; each = all_move t.turns n a b k; count = rw all k.count });
       }
 
-  -- a round, and what is done behind it
+  -- a round, and what is done after it
   pub serves_round : (most : ℕ) (servers : List ℕ) (a b c d : House W A g) (n : ℕ) → ServesBy work may a b → TakesTurns work may most servers b c n
       → ServesBy work may c d → ServesBy work may a d
   serves_round most servers a b c d n before round rest =

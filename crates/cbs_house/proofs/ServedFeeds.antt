@@ -29,6 +29,6 @@ module _ {W A : Type 0} {g : Ghosts W} (work : Meaning W) (h : House W A g) (hou
         results = none_held work h housed none s l ∙ ap (λ ws. drop (handed_of h s) (map (whole work) ws)) all;
       }
 
-  -- where no job is held, all feeds are done and all their messages received, all is served
+  -- if no job is held, all feeds are done and all their messages received, all is served
   pub all_served : (fs : List (Feed W A g)) → HoldsNoJob (core_of h) → Ready h fs → All IsDone fs → All (IsSettled h) fs → All (IsServed work h) fs
   all_served fs none ready done settled k d l = served_at (get_or fs k d) none (ready_at h fs k d l ready) (done k d l) (settled k d l)

@@ -47,7 +47,7 @@ module _ {X : Type 0} where
   nothing_behind xs ys zs p = no_length ys (let e = ap length p.1 in omega (arith, e, length-append (xs ++ ys) p.0, length-append xs ys))
 
 module _ {W : Type 0} where
-  -- nothing stands behind an end
+  -- nothing stands after an end
   end_stands_last : (ms : List (Message W)) (m : Message W) (ns : List (Message W)) → has_end ms ≡ true → end_is_last (ms ++ m ∷ ns) ≡ true → ⊥
   end_stands_last [] m ns e l = false≢true e
   end_stands_last (Job w ∷ ms) m ns e l = end_stands_last ms m ns e l
@@ -115,7 +115,7 @@ module _ {W A : Type 0} {g : Ghosts W} where
   none_behind a c n [] e l sent count = omega (arith, count)
   none_behind a c n (k ∷ rest) e l sent count = end_stands_last (received a (server_of c)) k rest e (ap end_is_last (sym sent) ∙ l)
 
-  -- where nothing stands in the ring any more, all that was sent was received
+  -- if nothing stands in the ring any more, all that was sent was received
   pub standing_none : (a : House W A g) (f : Feed W A g) → Standing a f.client 0 → IsTaken a f
   standing_none a f h = (
     [],
@@ -184,7 +184,7 @@ module _ {W A : Type 0} {g : Ghosts W} where
     poll_takes a b c Full housed last opened k memory few n h = absurd (few refl)
     poll_takes a b c OutOfMemory housed last opened k memory few n h = absurd (memory refl)
 
-    -- where no job is held, no backlog is full
+    -- if no job is held, no backlog is full
     pub not_full : (a b : House W A g) (s : ℕ) (p : Poll) → Housed work a.core a.rings a.collector → HoldsNoJob (core_of a) → Polled work a s p b → p ≢ Full
     not_full a b s p housed none k e =
         let full : Polled work a s Full b = rw e at k in

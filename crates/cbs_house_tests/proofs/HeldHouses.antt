@@ -1,4 +1,4 @@
--- A house behind a handle, and that it is on time.
+-- A house in a handle, and that it is on time.
 use Rattle.std.proofs.Common.{◌≡◌, Option, Some, None, Ok, refl}
 use Rattle.cbs_clients.specs.Houses.{IsHouseOnTime}
 use Rattle.cbs_embed.specs.Calls.{TheHouse, OnHeld, InHouse, Turns}

@@ -50,7 +50,7 @@ peak_none : (k greatest : ℕ) → output_after peaking k (record { numbers = []
 peak_none zero greatest = refl
 peak_none (suc k) greatest = peak_none k greatest
 
--- one number more at the front
+-- one more number at the start
 peak_cons : (n : ℕ) (ns : List ℕ) (greatest m : ℕ) → IsPeakFrom (max greatest n) ns m → IsPeakFrom greatest (n ∷ ns) m
 peak_cons n ns greatest m r =
     let a : max greatest n ≤ m = r.above in

@@ -4,7 +4,7 @@ use Rattle.std.proofs.lemmas.List.Edits.{get_or-insert_below}
 use Rattle.std.specs.List.{insert, copy_within}
 
 module _ {X : Type 0} where
-  -- a list is that without its last, and the last behind it
+  -- a list is the list without its last element, and that element after it
   pub last_behind : (xs : List X) → 0 < length xs → (free : X) × (xs ≡ insert (take (length xs - 1) xs) (length xs - 1) free)
   last_behind [] some = absurd (omega arith)
   last_behind (x ∷ []) some = (x, refl)

@@ -14,7 +14,7 @@ length-changed_at f (x ∷ xs) (suc i) = ap suc (length-changed_at f xs i)
 -- no change of one element or of all changes how many there are
 pub ruleset counted = (length-changed_at, length-map)
 
--- what stands where a change was made
+-- the element at the place of a change
 pub changed_here : {X : Type 0} (f : X → X) (xs : List X) (i : ℕ) (d : X) → i < length xs → get_or (changed_at f xs i) i d ≡ f (get_or xs i d)
 changed_here f [] i d lt = absurd (omega arith)
 changed_here f (x ∷ xs) zero d lt = refl
@@ -37,7 +37,7 @@ written f xs i s x y same lt read e = rw (same, e) (here f xs s x lt (rw same at
     here f (z ∷ zs) zero x lt read = ap (λ v. f v ∷ zs) read
     here f (z ∷ zs) (suc i) x lt read = ap (λ ws. z ∷ ws) (here f zs i x (omega arith) read)
 
--- where a list of lists has an element, there is a list
+-- if a list of lists has an element, there is a list
 pub within_lists : {X : Type 0} (lists : List (List X)) (s : ℕ) → 0 < length (get_or lists s []) → s < length lists
 within_lists [] s some = absurd (omega arith)
 within_lists (xs ∷ lists) zero some = omega arith
@@ -50,7 +50,7 @@ module _ {X Y : Type 0} (h : X → Y) (f : X → X) (g : Y → Y) where
   map-changed_at (x ∷ xs) zero d e = ap (λ y. y ∷ map h xs) e
   map-changed_at (x ∷ xs) (suc i) d e = ap (λ ys. h x ∷ ys) (map-changed_at xs i d e)
 
--- a part of each element that a change keeps, where all are changed
+-- a part of each element that a change keeps, if all are changed
 pub map_kept : {X Y : Type 0} (g : X → Y) (f : X → X) (xs : List X) → ((x : X) → g (f x) ≡ g x) → map g (map f xs) ≡ map g xs
 map_kept g f [] same = refl
 map_kept g f (x ∷ xs) same = rw (same x, map_kept g f xs same) refl

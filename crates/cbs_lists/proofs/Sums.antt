@@ -26,7 +26,7 @@ sum-mono f g (x ∷ xs) d h =
     let rest = sum-mono f g xs d (λ i lt. h (suc i) (omega arith)) in
     omega (arith, sum_by-cons f x xs, sum_by-cons g x xs)
 
--- a sum of lesser numbers, where a change of one gains something
+-- a sum of lesser numbers, if a change of one gains something
 pub sum_changed : {X : Type 0} (f g : X → ℕ) (h : X → X) (xs : List X) (s gain : ℕ) (d : X) → s < length xs
     → ((i : ℕ) → i < length xs → f (get_or xs i d) ≤ g (get_or xs i d))
     → f (h (get_or xs s d)) + gain ≤ g (get_or xs s d) → sum_by f (changed_at h xs s) + gain ≤ sum_by g xs
@@ -39,7 +39,7 @@ sum_changed f g h (x ∷ xs) (suc s) gain d lt each here =
     let rest = sum_changed f g h xs s gain d (omega arith) (λ i lt. each (suc i) (omega arith)) here in
     omega (arith, sum_by-cons f x (changed_at h xs s), sum_by-cons g x xs)
 
--- a sum of lesser numbers, where a change of one keeps it lesser
+-- a sum of lesser numbers, if a change of one keeps it lesser
 pub sum_changed-le : {X : Type 0} (f g : X → ℕ) (h : X → X) (xs : List X) (s : ℕ) (d : X) → ((i : ℕ) → i < length xs → f (get_or xs i d) ≤ g (get_or xs i d))
     → (s < length xs → f (h (get_or xs s d)) ≤ g (get_or xs s d)) → sum_by f (changed_at h xs s) ≤ sum_by g xs
 sum_changed-le f g h [] s d each here = omega arith
@@ -58,7 +58,7 @@ sum_changed_same f h [] s e = refl
 sum_changed_same f h (x ∷ xs) zero e = omega (arith, e x, sum_by-cons f (h x) xs, sum_by-cons f x xs)
 sum_changed_same f h (x ∷ xs) (suc s) e = omega (arith, sum_changed_same f h xs s e, sum_by-cons f x (changed_at h xs s), sum_by-cons f x xs)
 
--- a sum of greater numbers, where a change of one gains something
+-- a sum of greater numbers, if a change of one gains something
 pub sum_raised : {X : Type 0} (f g : X → ℕ) (h : X → X) (xs : List X) (s gain : ℕ) (d : X) → s < length xs → ((i : ℕ) → i < length xs → f (get_or xs i d) ≤ g (get_or xs i d))
     → f (get_or xs s d) + gain ≤ g (h (get_or xs s d)) → sum_by f xs + gain ≤ sum_by g (changed_at h xs s)
 sum_raised f g h [] s gain d lt each here = absurd (omega arith)
@@ -70,7 +70,7 @@ sum_raised f g h (x ∷ xs) (suc s) gain d lt each here =
     let rest = sum_raised f g h xs s gain d (omega arith) (λ i lt. each (suc i) (omega arith)) here in
     omega (arith, sum_by-cons f x xs, sum_by-cons g x (changed_at h xs s))
 
--- where a change of one keeps it greater
+-- the same if a change of one keeps it greater
 pub sum_raised-le : {X : Type 0} (f g : X → ℕ) (h : X → X) (xs : List X) (s : ℕ) (d : X) → ((i : ℕ) → i < length xs → f (get_or xs i d) ≤ g (get_or xs i d))
     → (s < length xs → f (get_or xs s d) ≤ g (h (get_or xs s d))) → sum_by f xs ≤ sum_by g (changed_at h xs s)
 sum_raised-le f g h [] s d each here = omega arith
@@ -83,7 +83,7 @@ sum_raised-le f g h (x ∷ xs) (suc s) d each here =
     let rest = sum_raised-le f g h xs s d (λ i lt. each (suc i) (omega arith)) (λ lt. here (omega arith)) in
     omega (arith, sum_by-cons f x xs, sum_by-cons g x (changed_at h xs s))
 
--- a sum of numbers that are no greater, where one is nothing
+-- a sum of numbers that are no greater, if one is nothing
 pub sum_spared : {X : Type 0} (f g : X → ℕ) (xs : List X) (s : ℕ) (d : X) → s < length xs → ((i : ℕ) → i < length xs → f (get_or xs i d) ≤ g (get_or xs i d))
     → f (get_or xs s d) ≡ 0 → sum_by f xs + g (get_or xs s d) ≤ sum_by g xs
 sum_spared f g [] s d lt each none = absurd (omega arith)

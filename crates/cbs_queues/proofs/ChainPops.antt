@@ -66,7 +66,7 @@ module _ {T : Type 0} (slots : List (Option (Node T))) (k : ℕ) (node : Node T)
   keys_kept h zero = refl
   keys_kept h (suc i) = rw (next_kept h) (keys_kept (next_of (node_at slots h)) i)
 
-  -- lists are sound still where a value is written in place
+  -- lists are still sound if a value is written in place
   pub sound_written : (ends : List Ends) → IsSound slots ends → IsSound written ends
   sound_written ends sound = record {
     held = λ s i lt. rw (keys_kept (ends_at ends s).head i) (some_kept (key_at slots ends s i) (sound.held s i lt));
@@ -112,7 +112,7 @@ module _ {T : Type 0} (slots : List (Option (Node T))) (ends : List Ends) (s : �
         let first = same.1 in
         absurd (omega arith))
 
-    -- the keys behind the first of s
+    -- the keys after the first of s
     shift : (i : ℕ) → key s (suc i) ≡ key_from slots node.next i
     shift i = rw found refl
 
@@ -130,7 +130,7 @@ module _ {T : Type 0} (slots : List (Option (Node T))) (ends : List Ends) (s : �
     list_rest : chain later ((was s).len - 1) node.next ≡ drop 1 (list_of slots (was s))
     list_rest = chain_kept slots later ((was s).len - 1) node.next rest_kept ∙ sym (rest slots (was s) node found some)
 
-    -- the lists where the first value of s was written
+    -- the lists after the first value of s was written
     lists_written_by : (w : T) → node_at later (was s).head ≡ Some (record { value = w; next = node.next })
         → lists_of later ends ≡ changed_at (λ values. w ∷ drop 1 values) (lists_of slots ends) s
     lists_written_by w here =
@@ -140,7 +140,7 @@ module _ {T : Type 0} (slots : List (Option (Node T))) (ends : List Ends) (s : �
         ∙ ap (λ values. w ∷ values) list_rest)
         lists_elsewhere
 
-    -- the ends where the first value of s was taken out
+    -- the ends after the first value of s was taken out
     abbrev after : List Ends
     after = set ends s (ends_popped (was s) node.next)
 
@@ -151,7 +151,7 @@ module _ {T : Type 0} (slots : List (Option (Node T))) (ends : List Ends) (s : �
     abbrev key_now : ℕ → ℕ → ℕ
     key_now t i = key_at later after t i
 
-    -- the lists where the first value of s was taken out
+    -- the lists after the first value of s was taken out
     pub lists_popped : lists_of later after ≡ changed_at (drop 1) (lists_of slots ends) s
     lists_popped =
         map_written (list_of slots) (list_of later) (drop 1)
@@ -171,12 +171,12 @@ module _ {T : Type 0} (slots : List (Option (Node T))) (ends : List Ends) (s : �
         rw (ends_elsewhere t ne)
         (key_kept slots later (was t).head i (λ j below. node_kept t j (omega arith) (λ e. absurd (ne e))))
 
-    -- the keys of s stand one place further to the front
+    -- the keys of s stand one place nearer to the start
     key_here : (i : ℕ) → i < (was s).len - 1 → key_now s i ≡ key s (suc i)
     key_here i lt =
         rw ends_here (key_kept slots later node.next i (λ j below. rest_kept j (omega arith)) ∙ sym (shift i))
 
-    -- where the key at place i of t stood before: at place j
+    -- the place of the key at place i of t before: it was place j
     record WasAt (t i j : ℕ) : Type 0 where
       below : j < (was t).len
       key : key_now t i ≡ key t j
@@ -209,7 +209,7 @@ module _ {T : Type 0} (slots : List (Option (Node T))) (ends : List Ends) (s : �
       | inr ne ↦ let x = a.stayed ne in let y = b.stayed ne in omega arith
     ]
 
-    -- the last key of s is its tail still, where one is left
+    -- the last key of s is its tail still, if one is left
     tail_here : 0 < (is s).len → (is s).tail ≡ key_now s ((is s).len - 1)
     tail_here more =
         let left : 0 < (was s).len - 1 = rw ends_here at more in
@@ -251,7 +251,7 @@ module _ {T : Type 0} (slots : List (Option (Node T))) (ends : List Ends) (s : �
           omega (arith, some, fewer, sound.counted, sums);
     }
 
-  -- the lists where the first value of s is written in place
+  -- the lists after the first value of s was written in place
   pub lists_written : (node : Node T) (w : T) (found : node_at slots (was s).head ≡ Some node)
       → lists_of (written slots (was s).head node w found) ends
       ≡ changed_at (λ values. w ∷ drop 1 values) (lists_of slots ends) s

@@ -1,4 +1,4 @@
--- A value behind the last of a list.
+-- A value after the last of a list.
 use Rattle.std.proofs.Common.{◌≡◌, ◌≢◌, ◌⊎◌, ℕ, zero, suc, ◌+◌, ◌-◌, ◌<◌, false, eqb, List, [], ◌∷◌, ◌++◌, length, set, Option, Some, None, is_some}
 use Rattle.std.proofs.Common.{IsSome, count_by, refl, sym, ap, ◌∙◌, inl, inr, subst, arith, add-one, if◌then◌else◌}
 use Rattle.std.proofs.lemmas.Bool.{cases_eq, cases_lt}
@@ -11,23 +11,23 @@ use Rattle.cbs_queues.specs.declared.chains.Ends.{Ends}
 use Rattle.cbs_queues.specs.Chains.{no_ends, ends_at, ends_pushed, node_at, key_from, key_at, chain, list_of, lists_of, IsSound, linked_to, linked}
 use Rattle.cbs_queues.proofs.ChainKeys.{within_slots, key_behind, key_kept, chain_kept, chain_pushed, map_written}
 
--- the first of two where a number is 0
+-- the first of two if a number is 0
 if_none : {X : Type 0} (n : ℕ) (x y : X) → n ≡ 0 → (if eqb n 0 then x else y) ≡ x
 if_none n x y e = rw e refl
 
--- the second where it is not
+-- the second if it is not
 if_some : {X : Type 0} (n : ℕ) (x y : X) → 0 < n → (if eqb n 0 then x else y) ≡ y
 if_some zero x y some = absurd (omega arith)
 if_some (suc n) x y some = let z : eqb (suc n) 0 ≡ false = grind (arith, nat_tests) in rw z refl
 
--- what is there, where something is
+-- the value of an option that holds one
 some_of : {X : Type 0} (o : Option X) → IsSome o → (x : X) × (o ≡ Some x)
 some_of None some = absurd (cc)
 some_of (Some x) some = (x, refl)
 
 module _ {T : Type 0} (slots later : List (Option (Node T))) (ends : List Ends) (s q : ℕ) (v : T) where
-  -- the slots once v stands at key q behind the last value of s: q was vacant, the last value, if there is one, is
-  -- followed by q, and each other key holds what it held
+  -- The slots after v was put at key q, after the last value of s. Key q was vacant, the last value, if there is one,
+  -- is followed by q, and each other key holds what it held
   pub record IsPushed : Type 0 where
     pub fresh : node_at slots q ≡ None
     pub stored : (node : Node T) × (node_at later q ≡ Some node) × (node.value ≡ v)
@@ -156,7 +156,7 @@ module _ {T : Type 0} (slots later : List (Option (Node T))) (ends : List Ends) 
   ends_here : is s ≡ ends_pushed (was s) q
   ends_here = get_or-set_same ends s (ends_pushed (was s) q) no_ends within
 
-  -- the new key follows n keys, where n is the length
+  -- the new key follows n keys, if n is the length
   new_behind : (n : ℕ) → n ≡ (was s).len → key_from later (if eqb n 0 then q else (was s).head) n ≡ q
   new_behind zero e = refl
   new_behind (suc m) e =
@@ -175,7 +175,7 @@ module _ {T : Type 0} (slots later : List (Option (Node T))) (ends : List Ends) 
     | inr ne ↦ rw (ends_elsewhere t ne) (keys_kept t i lt)
   ]
 
-  -- the new key stands behind those of s
+  -- the new key stands after those of s
   key_new : (t i : ℕ) → (t ≡ s) × (i ≡ (was s).len) → key_now t i ≡ q
   key_new t i new = rw (new.0, new.1, ends_here) (new_behind (was s).len refl)
 
@@ -235,7 +235,7 @@ module _ {T : Type 0} (slots later : List (Option (Node T))) (ends : List Ends) 
         omega (arith, sound.counted, pushed.grown, sums);
   }
 
-  -- the list of s has the new value behind its others
+  -- the list of s has the new value after its others
   list_pushed : (n : ℕ) → n ≡ (was s).len
       → chain later (n + 1) (if eqb n 0 then q else (was s).head) ≡ chain slots n (was s).head ++ v ∷ []
   list_pushed zero e = let stored = pushed.stored in rw (stored.1, stored.2) refl

@@ -43,14 +43,14 @@ module _ {W : Type 0} (work : Meaning W) where
 
 module _ {W : Type 0} (work : Meaning W) (lists : List (List W)) (s : ℕ) (job now : W) (rest : List W)
     (first : list_at lists s ≡ job ∷ rest) where
-  -- where a unit is left, the first job stands there as it is after its unit
+  -- if a unit is left, the first job stands there as it is after its unit
   pub job_stays : now ≡ work.after job → 0 < work.left now
       → changed_at (λ jobs. now ∷ drop 1 jobs) lists s ≡ changed_at (jobs_run work) lists s
   job_stays e some =
       let more : eqb (work.left (work.after job)) 0 ≡ false = rw (← e) (grind (arith, nat_tests)) in
       changed_same (λ jobs. now ∷ drop 1 jobs) (jobs_run work) lists s [] (rw (first, more, e) refl)
 
-  -- where none is left, it is taken out
+  -- if none is left, it is taken out
   pub job_leaves : now ≡ work.after job → work.left now ≡ 0
       → changed_at (drop 1) (changed_at (λ jobs. now ∷ drop 1 jobs) lists s) s ≡ changed_at (jobs_run work) lists s
   job_leaves e none =

@@ -12,7 +12,7 @@ use Rattle.cbs_queues.specs.Queues.{AreCounted, IsCounted, jobs_of, list_at}
 use Rattle.cbs_lists.proofs.Lists.{written, AllZip-length, AllZip-get, AllZip-changed_at}
 
 module _ {W : Type 0} (work : Meaning W) where
-  -- nothing was taken in where no job came
+  -- nothing was taken in if no job came
   pub counted_none : (n : ℕ) → AllZip (IsCounted work) (replicate n []) (replicate n 0)
   counted_none zero = tt
   counted_none (suc n) = (record { counted = tt; short = tt; few = omega arith }, counted_none n)
@@ -22,14 +22,14 @@ module _ {W : Type 0} (work : Meaning W) where
   few_left [] all = omega arith
   few_left (j ∷ jobs) all = let one = all.0 in omega (arith, few_left jobs all.1, sum_by-cons work.left j jobs)
 
-  -- so few are left behind the first
+  -- so few units are left after the first job
   pub behind_few : (queue : List (QueuedJob W)) (total : ℕ) → IsCounted work queue total → sum_by work.left (jobs_of (drop 1 queue)) ≤ 4096000000
   behind_few [] total h = omega arith
   behind_few (first ∷ queue) total h =
       let few = h.few in
       omega (arith, few_left (jobs_of queue) h.short, length-map queue (λ (queued : QueuedJob W). queued.job))
 
-  -- what came in behind the first is what is left there
+  -- the units that came in after the first job are those left there
   pub behind_first : (queue : List (QueuedJob W)) (total : ℕ) (first : QueuedJob W) (units : ℕ) → slice_get queue 0 ≡ Some first
       → (first.taken_in + units) % 2 ^ 64 ≡ total → units < 2 ^ 64 → IsCounted work queue total → units ≡ sum_by work.left (jobs_of (drop 1 queue))
   behind_first [] total first units found same fits h = cc
@@ -38,21 +38,21 @@ module _ {W : Type 0} (work : Meaning W) where
       let counted = h.counted.0 in
       omega (arith, behind_few (q ∷ queue) total h)
 
-  -- what all jobs have left is what the first has and what is behind it
+  -- the units that all jobs have left are those of the first and those after it
   pub owed_first : (queue : List (QueuedJob W)) (first : QueuedJob W) → slice_get queue 0 ≡ Some first
       → work.left first.job + sum_by work.left (jobs_of (drop 1 queue)) ≡ sum_by work.left (jobs_of queue)
   owed_first [] first found = cc
   owed_first (q ∷ queue) first found =
       let same : q ≡ first = cc in rw (← same) (omega (arith, sum_by-cons work.left q.job (jobs_of queue)))
 
-  -- what is left of the jobs, where one comes in
+  -- the units left of the jobs, if one comes in
   left_joined : (queue : List (QueuedJob W)) (come : QueuedJob W)
       → sum_by work.left (jobs_of (queue ++ come ∷ [])) ≡ sum_by work.left (jobs_of queue) + work.left come.job
   left_joined queue come =
       rw (map-append (λ (queued : QueuedJob W). queued.job) queue (come ∷ []))
       (omega (arith, sum_by-append work.left (jobs_of queue) (come.job ∷ []), sum_by-cons work.left come.job []))
 
-  -- the units of a job that comes in are counted behind each other
+  -- the units of jobs that come in are counted one after the other
   are_joined : (queue : List (QueuedJob W)) (total : ℕ) (come : QueuedJob W) → come.taken_in ≡ (total + work.left come.job) % 2 ^ 64
       → AreCounted work queue total → AreCounted work (queue ++ come ∷ []) come.taken_in
   are_joined [] total come e all = (omega arith, tt)

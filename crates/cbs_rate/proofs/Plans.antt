@@ -92,7 +92,7 @@ module _ {p : Inside} {r : Rate} {budget period next : ℕ} (asked : IsAsked p r
   fits_next =
       rw (taken_next, asked.next_is) (fits_common p.bound.num p.bound.den (p.rates.items ++ r ∷ []) (lawful_next r asked.summed asked.ok))
 
-  -- periods are refused where their common multiple is too great
+  -- periods are refused if their common multiple is too great
   pub refusal_fine : 1_000_000_000_000_000_000 < next → admit_refusal (planned p) r ≡ Some PeriodsTooFine
   refusal_fine fine =
       let m : 1_000_000_000_000_000_000 < common_multiple (p.rates.items ++ r ∷ []) = rw asked.next_is at fine in

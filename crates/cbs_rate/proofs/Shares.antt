@@ -60,7 +60,7 @@ product_some rates all = elim (cases_lt 0 (all_periods rates / common_multiple r
       absurd (omega arith)
 ]
 
--- the rates fit over the product of all periods exactly where they do over the least common multiple
+-- the rates fit over the product of all periods exactly if they do over the least common multiple
 pub fits_common : (num den : ℕ) (rates : List Rate) → AllLawful rates
     → (den * total_share rates ≤ num * all_periods rates) ↔ (den * sum_by (share (common_multiple rates)) rates ≤ num * common_multiple rates)
 fits_common num den rates all =

@@ -45,7 +45,7 @@ apart_all : (x e : Entry) (es : List Entry) → is_ahead x e ≡ true → AllByR
 apart_all x e [] b all ne = tt
 apart_all x e (r ∷ rs) b all ne = (record { ahead = ahead_along x e r b all.0.ahead; other = ne.0 }, apart_all x e rs b all.1 ne.1)
 
--- the list stays in order where an entry of a server that has none enters
+-- the list stays in order if an entry enters whose server has none
 ordered_by : (x : Entry) (es : List Entry) → IsOrdered es → AllByRecursion (λ r. x.server ≢ r.server) es → IsOrdered (entered x es)
 ordered_by x [] sorted ne = (tt, tt)
 ordered_by x (e ∷ es) sorted ne = elim (cases_Bool (is_ahead x e)) [
@@ -53,7 +53,7 @@ ordered_by x (e ∷ es) sorted ne = elim (cases_Bool (is_ahead x e)) [
   | inr f ↦ rw f (All-entered (IsApart e) x es (record { ahead = ahead_other x e ne.0 f; other = λ q. ne.0 (sym q) }) sorted.0, ordered_by x es sorted.1 ne.1)
 ]
 
--- the list stays in order where a server that is not listed enters
+-- the list stays in order if a server enters that is not listed
 pub ordered-entered : (x : Entry) (es : List Entry) → IsOrdered es → listed es x.server ≡ None → IsOrdered (entered x es)
 ordered-entered x es sorted none = ordered_by x es sorted (unlisted x.server es none)
 
@@ -76,7 +76,7 @@ listed-other x (e ∷ es) t ne =
       | inr f ↦ rw f (ap (λ o. if eqb e.server t then Some e.deadline else o) (listed-other x es t ne))
     ]
 
--- no first server is listed behind the first
+-- the first server is not listed again after the first place
 pub rest_here : (s : ℕ) (es : List Entry) → IsOrdered es → first_of es ≡ Some s → listed (drop 1 es) s ≡ None
 rest_here s [] sorted h = cc
 rest_here s (e ∷ es) sorted h =
@@ -88,7 +88,7 @@ All-without : (P : Entry → Type 0) (s : ℕ) (es : List Entry) → AllByRecurs
 All-without P s [] all = tt
 All-without P s (e ∷ es) all = elim (cases_Bool (eqb e.server s)) [ inl t ↦ rw t all.1 | inr f ↦ rw f (all.0, All-without P s es all.1) ]
 
--- the list stays in order where a server leaves
+-- the list stays in order if a server leaves
 pub ordered-without : (s : ℕ) (es : List Entry) → IsOrdered es → IsOrdered (without s es)
 ordered-without s [] sorted = tt
 ordered-without s (e ∷ es) sorted = elim (cases_Bool (eqb e.server s)) [
@@ -120,7 +120,7 @@ others-without s (e ∷ es) t ne = elim (cases_Bool (eqb e.server s)) [
   | inr f ↦ rw f (ap (λ o. if eqb e.server t then Some e.deadline else o) (others-without s es t ne))
 ]
 
--- where none of the first is of server s, it leaves behind them
+-- if none of the first entries is of server s, it leaves from after them
 without_after : (s : ℕ) (es : List Entry) (p : ℕ) → AllByRecursion (λ e. eqb e.server s ≡ false) (take p es) → without s es ≡ take p es ++ without s (drop p es)
 without_after s es zero all = refl
 without_after s [] (suc p) all = refl
@@ -147,7 +147,7 @@ All-take_more P [] p d lt all here = absurd (omega arith)
 All-take_more P (e ∷ es) zero d lt all here = (here, tt)
 All-take_more P (e ∷ es) (suc p) d lt all here = (all.0, All-take_more P es p d (omega arith) all.1 here)
 
--- an entry that is taken from behind the slots that lie idle
+-- an entry that is taken from after the slots that lie idle
 pub drop-removed : (xs : List Entry) (f p : ℕ) → drop f (take (f + p) xs ++ drop (suc (f + p)) xs) ≡ take p (drop f xs) ++ drop (suc p) (drop f xs)
 drop-removed xs zero p = let z : zero + p ≡ p = omega arith in rw z refl
 drop-removed [] (suc f) p = rw (take_none (suc f + p), drop_none (suc (suc f + p)), drop_none (suc f), take_none p, drop_none (suc p)) refl

@@ -9,7 +9,7 @@ use Rattle.cbs_ready.specs.ReadyList.{is_ahead, entered, IsApart, IsOrdered}
 use Rattle.cbs_ready.proofs.Ordered.{ahead_along}
 use Rattle.cbs_lists.proofs.Lists.{AllByRecursion-get, AllByRecursion-weaker}
 
--- where all have left, one in the slot of the last is alone
+-- if all have left, one in the slot of the last is alone
 pub alone_again : (n : ℕ) (es : List Entry) (x : Entry) → 0 < n → n ≡ length es → x ∷ drop 1 (drop (n - 1) es) ≡ entered x (drop n es)
 alone_again n es x some all =
     let rest : drop 1 (drop (n - 1) es) ≡ [] = drop-drop 1 (n - 1) es ∙ drop_all (n - 1 + 1) es (omega arith) in
@@ -24,12 +24,12 @@ ahead_from x (e ∷ es) zero d sorted lt t =
 ahead_from x (e ∷ es) (suc n) d sorted lt t = ahead_from x es n d sorted.1 (omega arith) t
 
 module _ (x d : Entry) where
-  -- a place is an entry's own where the one before it, if there is one, stays before the entry
+  -- a place is an entry's own if the one before it, if there is one, stays before the entry
   abbrev pub IsBehind : List Entry → ℕ → Type 0
   IsBehind es zero = Unit {0}
   IsBehind es (suc n) = is_ahead x (get_or es n d) ≡ false
 
-  -- no entry before that place is behind
+  -- no entry before that place comes after the new one
   none_behind : (e : Entry) (es : List Entry) (n : ℕ) → AllByRecursion (IsApart e) es → n ≤ length es → IsBehind (e ∷ es) (suc n) → is_ahead x e ≡ false
   none_behind e es zero all le here = here
   none_behind e es (suc n) all le here = elim (cases_Bool (is_ahead x e)) [
@@ -37,7 +37,7 @@ module _ (x d : Entry) where
     | inr f ↦ f
   ]
 
-  -- what is behind in a list is so in the rest of it
+  -- what comes after in a list does so in the rest of it
   next_behind : (e : Entry) (es : List Entry) (n : ℕ) → IsBehind (e ∷ es) (suc n) → IsBehind es n
   next_behind e es zero here = tt
   next_behind e es (suc n) here = here
@@ -51,6 +51,6 @@ module _ (x d : Entry) where
   insert-entered (e ∷ es) (suc n) le sorted behind here =
       rw (none_behind e es n sorted.0 (omega arith) here) (ap (λ ts. e ∷ ts) (insert-entered es n (omega arith) sorted.1 behind (next_behind e es n here)))
 
-  -- the place is its own where it is not ahead of the one before
+  -- the place is its own if it is not ahead of the one before
   pub own_place : (es : List Entry) (place : ℕ) → 0 < place → is_ahead x (get_or es (place - 1) d) ≡ false → IsBehind es place
   own_place es place some ahead = let next : suc (place - 1) ≡ place = omega arith in subst (λ n. IsBehind es n) next ahead

@@ -134,7 +134,7 @@ charge_ticked mode r (suc (suc n)) s some ok is soft begun =
     ap (λ k. after_charge mode r k s) e ∙ charge_added mode r 1 (suc n) s ok is soft begun
     ∙ charge_ticked mode r (suc n) (after_charge mode r 1 s) (omega arith) ok (IsState-after_charge mode r 1 s ok is soft begun) (soft_after_charge mode r 1 s soft) (begun_after_charge mode r 1 s begun)
 
--- a charge postpones the deadline by a period a tick at most, where something could still be taken
+-- a charge postpones the deadline by at most one period per tick, if something could still be taken
 pub charge_early : (mode : Mode) (r : Rate) (n : ℕ) (s : State) → 0 < n → IsRate r.budget r.period → IsState r s → (mode ≡ Soft → s.throttled ≡ false) → 0 < s.deadline
     → (after_charge mode r n s).deadline ≤ s.deadline + n * r.period
 charge_early mode r n s some ok is soft begun =

@@ -24,7 +24,7 @@ begun_after_charge Throttled r n s begun = grind (arith, nat_tests)
 pub begun_after_replenishment : (r : Rate) (now : ℕ) (s : State) → 0 < s.deadline → 0 < (after_replenishment r now s).deadline
 begun_after_replenishment r now s begun = grind (arith, nat_tests)
 
--- an arrival puts the deadline at most a period from now, where it was not later already
+-- an arrival puts the deadline at most a period from now, if it was not later already
 pub deadline-arrived-le : (mode : Mode) (r : Rate) (now bound : ℕ) (s : State) → s.deadline ≤ bound → now + r.period ≤ bound
     → (after_arrival mode r now s).deadline ≤ bound
 deadline-arrived-le mode r now bound s h i = grind (arith, nat_tests)

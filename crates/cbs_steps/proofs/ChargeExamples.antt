@@ -42,7 +42,7 @@ left_of servers M s = account (world servers M).accounts s
 abbrev row : List Terms → List (Step ℕ) → ℕ → ℕ × State
 row servers M s = ((world servers M).now, (left_of servers M s).state)
 
--- what one more step is answered
+-- the reply to one more step
 abbrev answer : List Terms → List (Step ℕ) → Step ℕ → Reply ℕ
 answer servers M x = reply_to units 4 (world servers M) x
 
@@ -157,12 +157,12 @@ greatest_is_too_few : ((left_of quarters two_long_units 0).charges.most ∷ (lef
 unfolding ticks
 greatest_is_too_few = refl
 
--- A charge is refused where there is no such server,
+-- A charge is refused if there is no such server,
 no_such_server : answer soft one_unit (Charge 1 1) ≡ reply.Refused error.NoSuchServer
 unfolding ticks
 no_such_server = refl
 
--- where nobody ran yet,
+-- if no server has run yet,
 nobody_ran : answer soft (Submit 0 3 ∷ []) (Charge 0 1) ≡ reply.Refused error.NotRunning
 nobody_ran = refl
 
@@ -175,7 +175,7 @@ charged_after_advance = refl
 abbrev two_units : List (Step ℕ)
 two_units = Run ∷ Run ∷ Submit 1 1 ∷ Submit 0 1 ∷ []
 
--- and where another server got the last unit. That one is charged.
+-- and if another server got the last unit. That one is charged.
 charged_for_another : (answer (server Soft 2 5 ∷ soft) two_units (Charge 0 1) ∷ answer (server Soft 2 5 ∷ soft) two_units (Charge 1 1) ∷ [])
     ≡ reply.Refused error.NotRunning ∷ reply.Charged ∷ []
 unfolding ticks

@@ -12,7 +12,7 @@ all_below-is : (p : ℕ → Bool) (n : ℕ) → ((r : ℕ) → r < n → p r ≡
 all_below-is p zero h = refl
 all_below-is p (suc n) h = rw (all_below-is p n (λ r lt. h r (omega arith)), h n (omega arith))
 
--- where no number below a bound passes, there is no first
+-- if no number below a bound passes, there is no first
 first_below-none : (p : ℕ → Bool) (n : ℕ) → ((r : ℕ) → r < n → p r ≡ false) → first_below p n ≡ None
 first_below-none p zero h = refl
 first_below-none p (suc n) h = rw (first_below-none p n (λ r lt. h r (omega arith)), h n (omega arith))
@@ -28,7 +28,7 @@ first_below-is p (suc n) s lt h before =
           rw (first_below-none p n (λ r below. before r (omega arith)), e, h)
     ]
 
--- where one number below a bound fails, not all below it pass
+-- if one number below a bound fails, not all below it pass
 all_below-not : (p : ℕ → Bool) (n s : ℕ) → s < n → p s ≡ false → all_below p n ≡ false
 all_below-not p zero s lt h = absurd (omega arith)
 all_below-not p (suc n) s lt h =
@@ -89,7 +89,7 @@ module _ (ranks : List Rank) (i : ℕ) where
     first = below_more (λ r. (rank_at ranks r).ready ≡ true → is_before ranks i r ≡ true) i before (λ _. before_itself ranks i);
   }
 
-  -- the earliest so far stays where the next is not ready, or not of an earlier deadline
+  -- the earliest so far stays if the next is not ready, or not of an earlier deadline
   best_old : (b : ℕ) → IsEarliest ranks i b → ((rank_at ranks i).ready ≡ true → (rank_at ranks b).deadline ≤ (rank_at ranks i).deadline)
       → IsEarliest ranks (i + 1) b
   best_old b best le = record {

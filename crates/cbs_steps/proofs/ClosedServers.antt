@@ -59,7 +59,7 @@ module _ {W : Type 0} (work : Meaning W) where
   closes_at now (a ∷ accounts) (suc s) = ap (λ (b : Account W). b.closed)
       (tail_closing now a accounts s (close_refusal (map (face_of work) accounts) s)) ∙ closes_at now accounts s
 
-  -- after an answered close of t, server s is closed where it was closed before, or where t is s
+  -- after a close of t with its reply, server s is closed if it was closed before, or if t is s
   close_grown : (M : History W) (t s : ℕ) (r : Reply W) (closed : Bool) → (closed ≡ true → (account_in work M s).closed ≡ true) → Answers work M (Close t) r
       → (closed || eqb t s) ≡ true → (account_in work (grown M (Close t) r) s).closed ≡ true
   close_grown M t s r closed h answers either = elim (cases_Bool closed) [
@@ -72,7 +72,7 @@ module _ {W : Type 0} (work : Meaning W) where
         ]
   ]
 
-  -- answered by the rules, no submit to a closed server is accepted
+  -- with replies of the rules, no submit to a closed server is accepted
   pub NoneAfterClose-all : (M : History W) (xs : List (Step W)) (rs : List (Reply W)) (s : ℕ) (closed : Bool) → AnswersAll work M xs rs
       → (closed ≡ true → (account_in work M s).closed ≡ true) → NoneAfterClose s closed xs rs
   NoneAfterClose-all M [] rs s closed all h = tt
@@ -85,13 +85,13 @@ module _ {W : Type 0} (work : Meaning W) where
       NoneAfterClose-all (grown M (Close t) r) xs rs s (closed || eqb t s) all.1 (close_grown M t s r closed h all.0)
   NoneAfterClose-all M (x ∷ xs) (r ∷ rs) s closed all h = NoneAfterClose-all (grown M x r) xs rs s closed all.1 (λ y. closed_grown M x r s (h y))
 
-  -- the rules never answer by want of memory
+  -- the rules never reply that memory is refused
   no_lack : (w : World W) (s : ℕ) (job : W) (o : Option CoreError) → ((e : CoreError) → Some e ≡ o → is_out_of_memory e ≡ false)
       → is_lack (submit_reply w s job o) ≡ false
   no_lack w s job None named = refl
   no_lack w s job (Some e) named = named e refl
 
-  -- a close is never answered by want of memory
+  -- the reply to a close never says that memory is refused
   no_lack-close : (o : Option CoreError) → is_lack {W = W} (close_reply o) ≡ false
   no_lack-close None = refl
   no_lack-close (Some e) = refl
@@ -100,7 +100,7 @@ module _ {W : Type 0} (work : Meaning W) where
   no_lack-charge None = refl
   no_lack-charge (Some e) = refl
 
-  -- the rules alone never answer by want of memory
+  -- the rules alone never reply that memory is refused
   sure : (M : History W) (x : Step W) → is_lack (reply_in work M x) ≡ false
   sure M (Submit s job) =
       let w = world_after work M in
@@ -110,7 +110,7 @@ module _ {W : Type 0} (work : Meaning W) where
   sure M (Close s) = no_lack-close (close_refusal (faces work (world_after work M)) s)
   sure M (Charge s n) = no_lack-charge (charge_refusal (world_after work M) s n)
 
-  -- the replies that the rules give answer the list
+  -- the replies of the rules are replies to the list
   all_answered : (M : History W) (xs : List (Step W)) → AnswersAll work M xs (replies_after work M xs)
   all_answered M [] = tt
   all_answered M (x ∷ xs) = let f = sure M x in (rw f refl, rw f (all_answered (M ⊕ x) xs))

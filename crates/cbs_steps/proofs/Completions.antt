@@ -24,7 +24,7 @@ use Rattle.cbs_steps.proofs.Histories.{holds_grown, chosen_is_ready}
 use Rattle.cbs_steps.proofs.Faces.{runnable}
 use Rattle.cbs_steps.proofs.StepLists.{grown_by-push}
 
--- so many numbers from the first on are those of a part and those behind it
+-- so many numbers from the first on are those of a part and those after it
 range_with_len-append : (k m n : ℕ) → range_with_len k (m + n) ≡ range_with_len k m ++ range_with_len (k + m) n
 range_with_len-append k zero n = let e : zero + n ≡ n = omega arith in let f : k + 0 ≡ k = omega arith in rw (e, f) refl
 range_with_len-append k (suc m) n =
@@ -89,12 +89,12 @@ module _ {W : Type 0} (work : Meaning W) where
       (λ now n a some runs h. h)
       M x r s ([], sym (append-nil before))
 
-  -- a completion tells the whole result of the accepted job of its number
+  -- a completion gives the whole result of the accepted job of its number
   pub record Tells (a : Account W) (c : Completion) : Type 0 where
     pub within : c.seq < length a.accepted
     pub result : c.result ≡ get_or (map (whole work) a.accepted) c.seq 0
 
-  -- a unit that completes a job tells the number and the whole result of the next unfinished one
+  -- a unit that completes a job gives the number and the whole result of the next unfinished one
   unit_is : (a : Account W) (s : ℕ) (c : Completion) → Some c ≡ completion_ran (unit_reply work a s)
       → c ≡ record { server = s; seq = finished work a; result = get_or (map (whole work) a.accepted) (finished work a) 0 }
   unit_is a s c e = elim (cases_Bool (eqb (need work a (finished work a + 1)) (a.got + 1))) [
@@ -122,22 +122,22 @@ module _ {W : Type 0} (work : Meaning W) where
         rw is record { within = active_within (account w.accounts s) (ready s refl); result = refl }
   ]
 
-  -- no completion is told by the answer to a submit
+  -- the reply to a submit has no completion
   submit_none : (w : World W) (s : ℕ) (job : W) (o : Option CoreError) → completion_in (submit_reply w s job o) ≡ None
   submit_none w s job None = refl
   submit_none w s job (Some e) = refl
 
-  -- no completion is told by the answer to a close
+  -- the reply to a close has no completion
   close_none : (o : Option CoreError) → completion_in {W = W} (close_reply o) ≡ None
   close_none None = refl
   close_none (Some e) = refl
 
-  -- nor by the answer to a charge
+  -- nor has the reply to a charge
   charge_none : (o : Option CoreError) → completion_in {W = W} (charge_reply o) ≡ None
   charge_none None = refl
   charge_none (Some e) = refl
 
-  -- a reply that the rules give tells a job's whole result, since a run alone completes a job
+  -- a reply of the rules gives a job's whole result, since only a run completes a job
   reply_tells : (M : History W) (x : Step W) (c : Completion) → Some c ≡ completion_in (reply_in work M x) → Tells (account_in work M c.server) c
   reply_tells M (Submit s job) c e = let n = submit_none (world_after work M) s job (submit_refusal M.setup.backlog (faces work (world_after work M)) s) in cc
   reply_tells M Run c e = run_tells (world_after work M) (chosen work (world_after work M)) c (chosen_is_ready work (world_after work M)) e
@@ -146,12 +146,12 @@ module _ {W : Type 0} (work : Meaning W) where
   reply_tells M (Close s) c e = let n = close_none (close_refusal (faces work (world_after work M)) s) in cc
   reply_tells M (Charge s n) c e = let n = charge_none (charge_refusal (world_after work M) s n) in cc
 
-  -- no completion is told by a reply that says that memory refused a submit
+  -- a reply that memory refused a submit has no completion
   lack_none : (r : Reply W) → is_lack r ≡ true → completion_in r ≡ None
   lack_none (reply.Ran q) e = cc
   lack_none _ e = refl
 
-  -- so does each answer: want of memory completes no job
+  -- so does each reply: a submit that memory refused completes no job
   pub answer_tells : (M : History W) (x : Step W) (r : Reply W) (c : Completion) → Answers work M x r → Some c ≡ completion_in r
       → Tells (account_in work M c.server) c
   answer_tells M x r c answers e = elim (cases_Bool (is_lack r)) [
@@ -192,7 +192,8 @@ module _ {W : Type 0} (work : Meaning W) where
       (completions_of s (replies_after work M xs)) (completion_of s (completion_in (reply_in work N x))) before now)
 
 module _ {W : Type 0} (work : Meaning W) where
-  -- an account goes on by the completion that a step is answered by, where that is of its server and is numbered and counted so
+  -- an account goes on by the completion in the reply to a step, if that is of its server and is numbered and counted
+  -- so
   pub completes_told : (M : History W) (x : Step W) (r : Reply W) (s : ℕ) (c : Completion) → Some c ≡ completion_in r → Answers work M x r → c.server ≡ s
       → c.seq ≡ finished work (account_in work M s) → finished work (account_in work (grown M x r) s) ≡ finished work (account_in work M s) + 1
       → Completes work (account_in work M s) (account_in work (grown M x r) s) (c ∷ [])

@@ -22,7 +22,7 @@ pub record IsCovered (r : Rate) (n b got : ℕ) (s : State) : Type 0 where
 funds-le : (r : Rate) (s : State) → IsState r s → funds r s ≤ r.budget
 funds-le r s is = let c = is.capped in elim (cases_Bool s.throttled) [ inl t ↦ rw t (omega arith) | inr f ↦ rw f c ]
 
--- where a unit is owed, it is due by then
+-- if a unit is owed, it is due by then
 pub covered-until : (r : Rate) (n b got : ℕ) (s : State) → IsState r s → IsCovered r n b got s → got < n → until r s ≤ b
 covered-until r n b got s is c owes = let l = funds-le r s is in by_periods c.periods c.units c.by
   where
@@ -87,7 +87,7 @@ module _ (r : Rate) (n b got : ℕ) (s : State) where
       let d = c.by in
       record { periods = c.periods + m; units = omega arith; by = omega arith }
 
-  -- so they do where nothing is owed, and a job comes in
+  -- so they do if nothing is owed, and a job comes in
   pub covered_arrival : (mode : Mode) (now m : ℕ) → s.throttled ≡ false → got ≡ n → IsCovered r n b got s
       → IsCovered r (n + m * r.budget) (max b now + m * r.period) got (after_arrival mode r now s)
   covered_arrival mode now m free paid c = elim (cases_Bool (is_renewed mode r now s)) [
@@ -99,7 +99,8 @@ module _ (r : Rate) (n b got : ℕ) (s : State) where
   pub covered-less : (fewer : ℕ) → fewer ≤ n → IsCovered r n b got s → IsCovered r fewer b got s
   covered-less fewer le c = let u = c.units in record { periods = c.periods; units = omega arith; by = c.by }
 
--- what b covers is taken by then, where what may still be taken is due later than the clock but for a while, and b and the while have passed
+-- What b covers is taken by then, if b and the while have passed. The premise is that what may still be taken is due
+-- later than the clock but for the while
 pub covered_taken : (r : Rate) (n b taken now late : ℕ) (s : State) → IsState r s → IsCovered r n b taken s → now < until r s + late → b + late ≤ now → n ≤ taken
 covered_taken r n b taken now late s is c soon past = elim (cases_lt taken n) [
   | inr done ↦ done

@@ -1,12 +1,13 @@
--- The arithmetic of demands, over plain numbers: P parts of a tick, a server of q ticks in every t, where t * p is P, so that
--- q * p parts of each tick are its share; budget c, deadline d.
+-- The arithmetic of demands, over plain numbers: P parts of a tick, a server of q ticks in every t, with t * p equal to
+-- P, so that q * p parts of each tick are its share; budget c, deadline d.
 use Rattle.std.proofs.Common.{◌≡◌, ℕ, ◌+◌, ◌-◌, ◌*◌, ◌≤◌, ◌<◌, ltb, arith, inl, inr, ap}
 use Rattle.std.specs.Prelude.{if◌then◌else◌}
 use Rattle.std.proofs.lemmas.Bool.{cases_lt}
 use Rattle.std.proofs.lemmas.Bool.Decides.{nat_tests}
 use Rattle.std.proofs.lemmas.Nat.{mul-le}
 
--- what is asked for up to x: nothing before the deadline, from then on c ticks, and u parts of each tick behind the deadline
+-- what is asked for up to x: nothing before the deadline, from then on c ticks, and u parts of each tick after the
+-- deadline
 abbrev pub asked : ℕ → ℕ → ℕ → ℕ → ℕ → ℕ
 asked P u c d x = if ltb x d then 0 else c * P + (x - d) * u
 
@@ -51,7 +52,7 @@ asked_kept P p q t c d now x e le h = elim (cases_lt x d) [
       omega arith
 ]
 
--- where the deadline has come, the share of the time from now on stays below what is asked for
+-- if the deadline has come, the share of the time from now on stays below what is asked for
 line_past : (P u c d now x : ℕ) → d ≤ now → now ≤ x → (x - now) * u ≤ asked P u c d x
 line_past P u c d now x le h =
     let f = asked_from P u c d x (omega arith) in
@@ -91,7 +92,7 @@ renewed_kept P p q t c d now x e some capped early le h = elim (cases_lt x (now 
       omega arith
 ]
 
--- nor does one where the deadline has come
+-- nor does one if the deadline has come
 pub renewed_past : (P p q t c d now x : ℕ) → t * p ≡ P → now ≤ x → d ≤ now → asked P (q * p) q (now + t) x ≤ asked P (q * p) c d x
 renewed_past P p q t c d now x e early le =
     let a = asked_renewed P p q t now x e in

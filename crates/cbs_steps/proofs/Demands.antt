@@ -108,7 +108,7 @@ module _ (P : ℕ) (r : Rate) (e : r.period * (P / r.period) ≡ P) where
   replenished_full : (now : ℕ) (s : State) (x : ℕ) → IsState r s → full_demand P r (after_replenishment r now s) x ≡ full_demand P r s x
   replenished_full now s x is = rw (replenished_funds r now s is, replenished_until r now s) refl
 
-  -- a throttled server stays below its share from now on, where its deadline has not come
+  -- a throttled server stays below its share from now on, if its deadline has not come
   throttled_line : (s : State) (now x : ℕ) → s.throttled ≡ true → now ≤ s.deadline → full_demand P r s x ≤ share_until P r now x
   throttled_line s now x t ahead =
       let u = share P r in
@@ -118,7 +118,7 @@ module _ (P : ℕ) (r : Rate) (e : r.period * (P / r.period) ≡ P) where
       let less = line-mono u (x - s.deadline) (x - now) (omega arith) in
       omega arith
 
--- where the server is active or not
+-- whether the server is active or not
 module _ (P : ℕ) (r : Rate) (now x : ℕ) where
   -- the demand is never more than the full one
   pub demand-le : (active : Bool) (s : State) → demand_of P r now x active s ≤ full_demand P r s x
@@ -208,7 +208,7 @@ module _ (P : ℕ) (r : Rate) (e : r.period * (P / r.period) ≡ P) (now x : ℕ
         rw (free_stays r (now + 1) s (grind (arith, nat_tests))) goal
   ]
 
-  -- where the server is not ready, at most its share from then on
+  -- if the server is not ready, at most its share from then on
   pub rest_line : (active && not s.throttled) ≡ false → (s.throttled ≡ true → now < s.deadline)
       → demand_of P r (now + 1) x active (after_replenishment r (now + 1) s) ≤ share_until P r (now + 1) x
   rest_line rest ahead = elim (cases_Bool s.throttled) [

@@ -288,7 +288,7 @@ module _ {W : Type 0} (work : Meaning W) where
       (λ r t. from + div_ceil (work.left job + (t - base)) r.budget * r.period) (growing a.accepted job before from base refl) N.steps K of.steps ok quiet
       (rw z (covered_job d w.now job a kept)) (rw same late) (λ owes. rw same (omega arith))
 
-  -- where nothing is charged, a job is due when it is without charges
+  -- if nothing is charged, a job is due when it is without charges
   module _ (setup : Setup) (s : ℕ) where
     -- no units need no budget
     none_due : (r : Rate) → 0 < r.budget → due_tick r (record { from = 0; units = 0 }) ≡ 0

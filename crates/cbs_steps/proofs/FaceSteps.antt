@@ -65,7 +65,7 @@ module _ (backlog now : ℕ) where
     pub server_closed : IsServer backlog now (with_close f)
     server_closed = server_stated now (omega arith) f.state true ok.state ok.free ok.begun ok.early
 
-    -- through a job that comes in, where the backlog is not full
+    -- through a job that comes in, if the backlog is not full
     pub server_joined : backlog_of f < backlog → IsServer backlog now (with_job now f)
     server_joined few =
         let counted = ok.counted in

@@ -53,7 +53,7 @@ ready_within [] s h = absurd (cc)
 ready_within (f ∷ fs) zero h = omega arith
 ready_within (f ∷ fs) (suc s) h = let lt = ready_within fs s h in omega arith
 
--- a job that comes in behind others changes nothing of the deadline by which a server runs
+-- a job that comes in after others changes nothing of the deadline by which a server runs
 pub ready_behind : (now : ℕ) (f : Face) → is_active f ≡ true → ready_by (with_job now f) ≡ ready_by f
 ready_behind now f a = let b : is_active (with_job now f) ≡ true = grind (arith, nat_tests) in rw (a, b) refl
 

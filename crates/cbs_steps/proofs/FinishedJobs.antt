@@ -11,7 +11,7 @@ pub greatest-le : (p : ℕ → Bool) (n : ℕ) → greatest p n ≤ n
 greatest-le p zero = omega arith
 greatest-le p (suc n) = let h = greatest-le p n in grind arith
 
--- it passes, where 0 does
+-- it passes, if 0 does
 pub greatest_passes : (p : ℕ → Bool) (n : ℕ) → p 0 ≡ true → p (greatest p n) ≡ true
 greatest_passes p zero h = h
 greatest_passes p (suc n) h = let i = greatest_passes p n h in grind arith

@@ -44,7 +44,7 @@ module _ {W : Type 0} (work : Meaning W) where
     | inr f ↦ let g : None ≡ Some s = rw f at e in cc
   ]
 
-  -- a server is ready still where all are let go
+  -- a server is still ready if all are let go
   pub loose_ready : (w : World W) (t : ℕ) → is_ready (face_of work (account w.accounts t)) ≡ true → is_ready (face_of work (account (let_go w).accounts t)) ≡ true
   loose_ready w t ready = rw (get_or-map account_let_go w.accounts t no_account) ready
 
@@ -52,7 +52,7 @@ module _ {W : Type 0} (work : Meaning W) where
   pub let_go_faces : (w : World W) → faces work (let_go w) ≡ faces work w
   let_go_faces w = map-map (face_of work) account_let_go w.accounts
 
-  -- a tick, and n ticks, where all are let go
+  -- a tick, and n ticks, if all are let go
   let_go_tick : (w : World W) → tick (let_go w) ≡ let_go (tick w)
   let_go_tick w = ap (λ (xs : List (Account W)). record { now = w.now + 1; accounts = xs })
       (map-map (account_with_replenishment (w.now + 1)) account_let_go w.accounts ∙ sym (map-map account_let_go (account_with_replenishment (w.now + 1)) w.accounts))
@@ -88,7 +88,7 @@ module _ {W : Type 0} (work : Meaning W) where
     abbrev Holds : World W → ℕ → Type 0
     Holds w s = P w.now (account w.accounts s)
 
-    -- where a change of account i keeps P of it, P still holds of each account of which it held
+    -- if a change of account i keeps P of it, P still holds of each account of which it held
     holds_changed : (now : ℕ) (f : Account W → Account W) (accounts : List (Account W)) (i s : ℕ)
         → (P now (account accounts i) → P now (f (account accounts i))) → P now (account accounts s) → P now (account (changed_at f accounts i) s)
     holds_changed now f [] i s k h = h
@@ -97,7 +97,7 @@ module _ {W : Type 0} (work : Meaning W) where
     holds_changed now f (a ∷ accounts) (suc i) zero k h = h
     holds_changed now f (a ∷ accounts) (suc i) (suc s) k h = holds_changed now f accounts i s k h
 
-    -- where a tick keeps P of every account, P still holds of each of which it held, and beyond the last server
+    -- if a tick keeps P of every account, P still holds of each of which it held, and past the last server
     holds_map : (now : ℕ) (accounts : List (Account W)) (s : ℕ) → P now (account accounts s)
         → P (now + 1) (account (map (account_with_replenishment (now + 1)) accounts) s)
     holds_map now [] s h = replenishment now no_account h
@@ -114,7 +114,7 @@ module _ {W : Type 0} (work : Meaning W) where
     holds_ticks zero w s h = h
     holds_ticks (suc n) w s h = holds_ticks n (tick w) s (holds_tick w s h)
 
-    -- where letting go keeps P of every account, P still holds of each of which it held
+    -- if letting go keeps P of every account, P still holds of each of which it held
     holds_let_go : (w : World W) (s : ℕ) → Holds w s → Holds (let_go w) s
     holds_let_go w s h = go w.accounts s h
       where
@@ -128,7 +128,7 @@ module _ {W : Type 0} (work : Meaning W) where
     holds_close w t s None h = holds_changed w.now account_with_close w.accounts t s (close w.now (account w.accounts t)) h
     holds_close w t s (Some e) h = h
 
-    -- so does a run, where the server that runs, if one does, is ready
+    -- so does a run, if the server that runs, if one does, is ready
     holds_run : (w : World W) (s : ℕ) (o : Option ℕ) → ((t : ℕ) → o ≡ Some t → is_ready (face_of work (account w.accounts t)) ≡ true) → Holds w s
         → Holds (after_run w o) s
     holds_run w s None ready h = h
@@ -205,14 +205,14 @@ module _ {W : Type 0} (work : Meaning W) where
       holds_next backlog w (Close t) s h = holds_close_step backlog w t s h
       holds_next backlog w (Charge t n) s h = holds_charge_step charge backlog w t n s h
 
-      -- one step more, as it was answered
+      -- one step more, with its reply
       pub holds_grown : (M : History W) (x : Step W) (r : Reply W) (s : ℕ) → Holds (world_after work M) s → Holds (world_after work (grown M x r)) s
       holds_grown M x r s h = elim (cases_Bool (is_lack r)) [
         | inl t ↦ rw t h
         | inr f ↦ rw f (holds_next M.setup.backlog (world_after work M) x s h)
       ]
 
-      -- more steps, as they were answered
+      -- more steps, with their replies
       pub holds_grown_by : (M : History W) (xs : List (Step W)) (rs : List (Reply W)) (s : ℕ) → Holds (world_after work M) s
           → Holds (world_after work (grown_by M xs rs)) s
       holds_grown_by M [] rs s h = h
@@ -224,7 +224,7 @@ module _ {W : Type 0} (work : Meaning W) where
       holds_after setup [] s h = h
       holds_after setup (x ∷ M) s h = holds_next setup.backlog (after work setup M) x s (holds_after setup M s h)
 
-      -- more steps behind a list, the newest first
+      -- more steps after a list, the newest first
       pub holds_behind : (setup : Setup) (K M : List (Step W)) (s : ℕ) → Holds (after work setup M) s → Holds (after work setup (K ++ M)) s
       holds_behind setup [] M s h = h
       holds_behind setup (x ∷ K) M s h = holds_next setup.backlog (after work setup (K ++ M)) x s (holds_behind setup K M s h)

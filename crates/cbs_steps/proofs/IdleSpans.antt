@@ -16,7 +16,7 @@ use Rattle.cbs_steps.specs.Waiting.{NoneReady, span_of}
 use Rattle.cbs_steps.specs.Waiting.{most, wake, wake_of}
 use Rattle.cbs_steps.proofs.Waiting.{wake_idle}
 
--- where a server is chosen, somebody is ready
+-- if a server is chosen, some server is ready
 pub somebody : (fs : List Face) (o : Option ℕ) → IsChoice (ranks fs) (length fs) o → is_some o ≡ true → NoneReady fs → ⊥
 somebody fs None choice some rest = cc
 somebody fs (Some s) choice some rest =
@@ -24,7 +24,7 @@ somebody fs (Some s) choice some rest =
     let no = AllByRecursion-get (λ f. is_ready f ≡ false) fs s no_face rest choice.within in
     cc
 
--- and where none is, nobody is
+-- and if none is chosen, none is ready
 pub nobody : (fs : List Face) (o : Option ℕ) → IsChoice (ranks fs) (length fs) o → is_some o ≡ false → NoneReady fs
 nobody fs None choice none = AllByRecursion-make (λ f. is_ready f ≡ false) fs no_face (λ s lt. sym (rank_ready fs s) ∙ choice s lt)
 nobody fs (Some s) choice none = cc
@@ -57,7 +57,7 @@ all_sleep : (tick : ℕ) (fs : List Face) → NoneReady fs → tick < wake_of fs
 all_sleep tick [] rest early = tt
 all_sleep tick (f ∷ fs) rest early = (sleeps tick f rest.0 (omega arith), all_sleep tick fs rest.1 (omega arith))
 
--- and where nobody becomes ready, the least of the ticks is later
+-- and if no server becomes ready, the least of the ticks is later
 all_wake : (tick : ℕ) (fs : List Face) → tick < most → NoneReady fs → NoneReady (map (with_replenishment tick) fs) → tick < wake_of fs
 all_wake tick [] end rest quiet = end
 all_wake tick (f ∷ fs) end rest quiet =
@@ -70,7 +70,7 @@ module _ {W : Type 0} (work : Meaning W) (w : World W) where
   faces_ticked : (m : ℕ) → 0 < m → faces work (ticks m w) ≡ map (with_replenishment (w.now + m)) (faces work w)
   faces_ticked m some = ap (faces work) (ticks_some m w some) ∙ replenished_faces work (w.now + m) w.accounts
 
-  -- the span that is answered is the idle span
+  -- the span that is returned is the idle span
   pub span_is : (o : Option ℕ) → MatchOption o (¬ NoneReady (faces work w)) (λ n. NoneReady (faces work w) × (n ≡ span_of w.now (faces work w)))
       → MatchOption o (¬ IsAtRest work w) (IsIdleSpan work w)
   span_is None busy = busy

@@ -44,7 +44,7 @@ pub record Parts {W : Type 0} (work : Meaning W) (jobs xs : List W) (g k : ℕ) 
   pub lefts : AreLeft work.left (sum_by work.left (take (k + 1) xs) - g) jobs (drop k xs)
 
 module _ {W : Type 0} (f : W → ℕ) (xs : List W) (g k : ℕ) where
-  -- where no unit of the next job was run, what is left is what each job came with
+  -- if no unit of the next job was run, what is left is what each job came with
   rest_lefts : (js ys : List W) → map f js ≡ map f ys → drop k xs ≡ ys → sum_by f (take k xs) ≡ g → AreLeft f (sum_by f (take (k + 1) xs) - g) js ys
   rest_lefts [] [] e d s = tt
   rest_lefts [] (z ∷ zs) e d s = cc
@@ -99,7 +99,7 @@ pub record FirstServed {W : Type 0} (work : Meaning W) (job : W) (js xs : List W
   pub some : 0 < work.left (work.after job) → Parts work (work.after job ∷ js) xs (g + 1) k
 
 module _ {W : Type 0} (work : Meaning W) (law : Lowers work) (job : W) (js xs : List W) (g k : ℕ) where
-  -- so it is where the first job has a unit left
+  -- so it is if the first job has a unit left
   pub first_served : (rest : List W) → drop k xs ≡ rest → Parts work (job ∷ js) xs g k → AllByRecursion (λ w. 0 < work.left w) (job ∷ js) → FirstServed work job js xs g k
   first_served [] d p all = absurd (rw d at p.lefts)
   first_served (y ∷ ys) d p all =
@@ -139,15 +139,15 @@ module _ {W : Type 0} (work : Meaning W) (xs : List W) (g k : ℕ) (job : W)
   abbrev more : List W
   more = xs ++ job ∷ []
 
-  -- with the new job behind, the units still suffice for the finished jobs
+  -- with the new job after them, the units still suffice for the finished jobs
   joined_begun : sum_by work.left (take k more) ≤ g
   joined_begun = rw (take-append-le k xs (job ∷ []) (done-le work.left xs g k c)) (done_within work.left xs g k c)
 
-  -- where a job was unfinished, the jobs up to the first such need the units that they needed before
+  -- if a job was unfinished, the jobs up to the first such need the units that they needed before
   joined_need : k < length xs → sum_by work.left (take (k + 1) more) ≡ sum_by work.left (take (k + 1) xs)
   joined_need lt = rw (take-append-le (k + 1) xs (job ∷ []) (omega arith))
 
-  -- where all were finished, the new job needs just what the units got leave
+  -- if all were finished, the new job needs just what the units got leave
   joined_last : length xs ≤ k → sum_by work.left (take (k + 1) more) ≡ g + work.left job
   joined_last ge =
       let n : length more ≤ k + 1 = omega (arith, length-append xs (job ∷ []), done-le work.left xs g k c) in
@@ -155,14 +155,14 @@ module _ {W : Type 0} (work : Meaning W) (xs : List W) (g k : ℕ) (job : W)
       let f : sum_by work.left xs ≤ g = rw (← e) (done_within work.left xs g k c) in
       rw (take_all (k + 1) more n, sum_by-append work.left xs (job ∷ [])) (omega (arith, sum_by-cons work.left job []))
 
-  -- with the new job behind, the units do not suffice for one job more than the finished ones
+  -- with the new job after them, the units do not suffice for one job more than the finished ones
   joined_beyond : g < sum_by work.left (take (k + 1) more)
   joined_beyond = elim (cases_lt k (length xs)) [
     | inl lt ↦ rw (joined_need lt) (done_beyond work.left xs g k c lt)
     | inr ge ↦ omega (arith, joined_last ge)
   ]
 
-  -- units left that agree with those of the unfinished jobs do so with the new job behind both
+  -- units left that agree with those of the unfinished jobs do so with the new job after both
   joined_lefts : (jobs rest : List W) → drop k xs ≡ rest → AreLeft work.left (sum_by work.left (take (k + 1) xs) - g) jobs rest
       → AreLeft work.left (sum_by work.left (take (k + 1) more) - g) (jobs ++ job ∷ []) (rest ++ job ∷ [])
   joined_lefts [] [] d l =

@@ -83,7 +83,7 @@ module _ {W : Type 0} (work : Meaning W) where
       (λ i l. blocks-most P x (account w.accounts i) (sound_at work P w ok i l)) (blocks_none work P x a (omega arith)) in
       omega arith
 
-  -- where d has come, a server that waits for a later tick has a later deadline
+  -- if d has come, a server that waits for a later tick has a later deadline
   later : (P now d : ℕ) (a : Account W) → IsSound work P a → d ≤ now → IsAhead now (face_of work a)
       → blocks work d a ≤ (if ltb d a.state.deadline then a.charges.most else 0)
   later P now d a ok come ahead =

@@ -24,22 +24,22 @@ pub use Rattle.cbs_steps.proofs.StepLists.{all_yielded}
 use Rattle.cbs_steps.proofs.Ticks.{ticks_none}
 
 module _ {W : Type 0} (work : Meaning W) where
-  -- where the choice sees nobody ready, nobody is ready
+  -- if the choice sees no server ready, none is ready
   rest_from : (fs : List Face) → ((r : ℕ) → r < length (ranks fs) → (rank_at (ranks fs) r).ready ≡ false) → AllByRecursion (λ f. is_ready f ≡ false) fs
   rest_from [] h = tt
   rest_from (f ∷ fs) h = (h 0 (omega arith), rest_from fs (λ r lt. h (suc r) (omega arith)))
 
-  -- where nobody is chosen, nobody is ready
+  -- if no server is chosen, none is ready
   none_ready : (w : World W) → None ≡ chosen work w → IsAtRest work w
   none_ready w e = rest_from (faces work w) (let h = choice_is (ranks (faces work w)) in rw (← e) at h)
 
-  -- a run takes a tick where somebody is ready and the clock is not at its end
+  -- a run takes a tick if some server is ready and the clock is not at its end
   run_takes : (w : World W) (o : Option ℕ) → o ≡ chosen work w → ¬ IsAtRest work w → w.now < clock_end
       → w.now < (after_run w (if ltb w.now clock_end then o else None)).now
   run_takes w None e busy early = absurd (busy (none_ready w e))
   run_takes w (Some s) e busy early = let t : ltb w.now clock_end ≡ true = grind (arith, nat_tests) in rw t (omega arith)
 
-  -- a run where somebody is ready takes a tick
+  -- a run takes a tick if some server is ready
   pub run_later : (backlog : ℕ) (w : World W) → ¬ IsAtRest work w → w.now < clock_end → w.now < (next work backlog w Run).now
   run_later backlog w busy early = run_takes w (chosen work w) refl busy early
 
@@ -49,7 +49,7 @@ module _ {W : Type 0} (work : Meaning W) where
   ticks-now zero w = omega arith
   ticks-now (suc n) w = let h = ticks-now n (tick w) in omega (arith, h)
 
-  -- where nobody is ready now, nobody is for one tick
+  -- if no server is ready now, none is for one tick
   quiet_one : (w : World W) → IsAtRest work w → IsQuiet work w 1
   quiet_one w rest zero lt = rw (ticks_none w) rest
   quiet_one w rest (suc m) lt = absurd (omega arith)
@@ -67,7 +67,7 @@ module _ {W : Type 0} (work : Meaning W) where
       later (suc n) some = let e = ticks-now (suc n) (let_go w) in omega arith
 
 module _ {W : Type 0} where
-  -- two lists of steps, one behind the other
+  -- two lists of steps, one after the other
   pub after-append : (M : History W) (xs ys : List (Step W)) → M ⊕⊕ (xs ++ ys) ≡ (M ⊕⊕ xs) ⊕⊕ ys
   after-append M [] ys = refl
   after-append M (x ∷ xs) ys = after-append (M ⊕ x) xs ys

@@ -169,7 +169,7 @@ module _ {W : Type 0} (work : Meaning W) where
   sound_after setup [] ok = sound_start setup ok
   sound_after setup (x ∷ M) ok = sound_next work (all_periods (given setup)) setup.backlog (after work setup M) x (sound_after setup M ok)
 
-  -- and one on time, where each advance takes nobody's time
+  -- and one on time, if each step takes nobody's time
   pub timely_after : (setup : Setup) (M : List (Step W)) → IsAdmitted (given setup) → AreQuiet work setup M
       → IsTimely work (all_periods (given setup)) (after work setup M)
   timely_after setup [] ok quiet = timely_start setup ok
@@ -210,7 +210,7 @@ module _ {W : Type 0} (work : Meaning W) where
       (timely_next work (all_periods (given M.setup)) M.setup.backlog (world_after work M) x (sound_after M.setup M.steps ok) quiet
       (known_on_time M.setup M.steps on))
 
-  -- also where memory refused it
+  -- also if memory refused it
   on_time_one : (M : History W) (x : Step W) (r : Reply W) → IsAdmitted (given M.setup) → IsQuietStep work (world_after work M) x
       → IsWorldOnTime work (world_after work M)
       → IsAdmitted (given (grown M x r).setup) × IsWorldOnTime work (world_after work (grown M x r))

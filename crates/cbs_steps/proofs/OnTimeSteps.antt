@@ -222,7 +222,7 @@ module _ {W : Type 0} (work : Meaning W) (P : ℕ) where
   all_ahead now [] = tt
   all_ahead now (a ∷ accounts) = (replenished_ahead a.terms.reservation now a.state, all_ahead now accounts)
 
-  -- a tick where nobody is ready keeps a world on time
+  -- a tick in which no server is ready keeps a world on time
   timely_tick : (w : World W) → AllSound work P w → IsTimely work P w → IsAtRest work w → IsTimely work P (tick w)
   timely_tick w ok on rest =
       let rests = AllByRecursion-mapped (λ (f : Face). is_ready f ≡ false) (face_of work) w.accounts rest in
@@ -305,7 +305,7 @@ module _ {W : Type 0} (work : Meaning W) (P : ℕ) where
     ahead = AllByRecursion-map (λ a. IsAhead w.now (face_of work a)) (λ a. IsAhead w.now (face_of work a)) account_let_go w.accounts on.ahead (λ a h. h);
   }
 
-  -- so does a run, where a server runs or none
+  -- so does a run, whether a server runs or none
   timely_run : (w : World W) (o : Option ℕ) → ((s : ℕ) → o ≡ Some s → chosen work w ≡ Some s) → AllSound work P w → IsTimely work P w
       → IsTimely work P (after_run w o)
   timely_run w None chose ok on = on
@@ -313,7 +313,7 @@ module _ {W : Type 0} (work : Meaning W) (P : ℕ) where
       let same : chosen work (let_go w) ≡ chosen work w = rw (let_go_faces work w) refl in
       timely_run_one (let_go w) s (same ∙ chose s refl) (sound_let_go w ok) (timely_let_go w on)
 
-  -- what is left of a quiet advance behind its first tick is quiet
+  -- what is left of a quiet advance after its first tick is quiet
   pub quiet_more : (w : World W) (n : ℕ) → IsQuiet work w (suc n) → IsQuiet work (tick w) n
   unfolding ticks
   quiet_more w n q = λ m lt. q (suc m) (omega arith)
@@ -324,7 +324,7 @@ module _ {W : Type 0} (work : Meaning W) (P : ℕ) where
   timely_ticks zero w ok on q = on
   timely_ticks (suc n) w ok on q = timely_ticks n (tick w) (sound_tick w ok) (timely_tick w ok on (q 0 (omega arith))) (quiet_more w n q)
 
-  -- what is quiet is so where all are let go
+  -- what is quiet is so if all are let go
   pub quiet_let_go : (w : World W) (n : ℕ) → IsQuiet work w n → IsQuiet work (let_go w) n
   quiet_let_go w n q = λ m lt. let r = q m lt in rw (let_go_ticks work m w, let_go_faces work (ticks m w)) r
 

@@ -33,7 +33,8 @@ module _ {W : Type 0} (work : Meaning W) where
   abbrev pub asks : ℕ → ℕ → ℕ → Account W → ℕ
   asks P now x a = demand_of P a.terms.reservation now x (a.runs || is_active (face_of work a)) a.state
 
-  -- the ticks by which charges of a server may have held the clock up for those whose deadline is x: none where its own is not later
+  -- the ticks by which charges of a server may have held the clock up for those whose deadline is x: none if its own is
+  -- not later
   abbrev pub blocks : ℕ → Account W → ℕ
   blocks x a = if ltb x (until a.terms.reservation a.state) then (if a.runs then a.latest else a.charges.most) else 0
 
@@ -94,7 +95,7 @@ module _ {W : Type 0} (work : Meaning W) (P now x : ℕ) (a : Account W) (ok : I
   blocks_tick : blocks work x (account_with_replenishment (now + 1) a) ≡ blocks work x a
   blocks_tick = rw (replenished_until r (now + 1) a.state) refl
 
-  -- where it was not ready and does not run, it is below its share
+  -- if it was not ready and does not run, it is below its share
   asks_rest : is_ready (face_of work a) ≡ false → a.runs ≡ false → IsAhead now (face_of work a)
       → asks work P (now + 1) x (account_with_replenishment (now + 1) a) ≤ share_until P r (now + 1) x
   asks_rest rest loose ahead =
@@ -236,7 +237,7 @@ module _ {W : Type 0} (work : Meaning W) (P : ℕ) where
   loose_tick : (w : World W) → AllLoose w → AllLoose (tick w)
   loose_tick w loose = AllByRecursion-map (λ a. a.runs ≡ false) (λ a. a.runs ≡ false) (account_with_replenishment (w.now + 1)) w.accounts loose (λ a h. h)
 
-  -- a tick where nobody is ready, and nobody runs
+  -- a tick in which no server is ready, and none runs
   paced_rest : (w : World W) → AllSound work P w → IsPaced work P 0 w → AllLoose w → IsAtRest work w → IsPaced work P 0 (tick w)
   paced_rest w ok on loose rest =
       let rests = AllByRecursion-mapped (λ f. is_ready f ≡ false) (face_of work) w.accounts rest in
@@ -264,7 +265,7 @@ module _ {W : Type 0} (work : Meaning W) (P : ℕ) where
   paced_rests (suc n) w ok on loose q = paced_rests n (tick w) (sound_tick work P w ok) (paced_rest w ok on loose (q 0 (omega arith))) (loose_tick w loose)
       (quiet_more work P w n q)
 
-  -- a unit of the chosen server, where nobody runs, and the tick after it
+  -- a unit of the chosen server, if no server runs, and the tick after it
   paced_run_one : (w : World W) (s : ℕ) → chosen work w ≡ Some s → AllSound work P w → IsPaced work P 0 w → AllLoose w
       → IsPaced work P 0 (tick (record w { accounts = changed_at account_with_unit w.accounts s }))
   paced_run_one w s chose ok on loose =
@@ -340,7 +341,7 @@ module _ {W : Type 0} (work : Meaning W) (P : ℕ) where
     ahead = λ z. absurd (omega arith);
   }
 
-  -- a run, where a server runs or none
+  -- a run, whether a server runs or none
   paced_run : (w : World W) (o : Option ℕ) → ((s : ℕ) → o ≡ Some s → chosen work w ≡ Some s) → AllSound work P w → IsPaced work P 0 w → IsPaced work P 0 (after_run w o)
   paced_run w None chose ok on = on
   paced_run w (Some s) chose ok on =

@@ -15,7 +15,7 @@ next_terms (k ∷ modes) [] n m r e f = cc
 next_terms (k ∷ modes) (q ∷ rates) zero m r e f = let same : m ≡ k = cc in let equal : r ≡ q = cc in rw (same, equal) refl
 next_terms (k ∷ modes) (q ∷ rates) (suc n) m r e f = ap (λ fs. new_face (record { mode = k; reservation = q }) ∷ fs) (next_terms modes rates n m r e f)
 
--- there are as many terms as reservations, where there are as many modes
+-- there are as many terms as reservations, if there are as many modes
 pub length-terms : (modes : List Mode) (rates : List Rate) → length modes ≡ length rates → length (terms_of modes rates) ≡ length rates
 length-terms [] [] e = refl
 length-terms [] (r ∷ rates) e = cc

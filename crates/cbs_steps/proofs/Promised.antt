@@ -124,7 +124,7 @@ module _ {W : Type 0} (work : Meaning W) where
         let count = ap length e.split ∙ length-append e.before (e.last ∷ []) in
         omega arith
 
-  -- so is what is told, if something is owed
+  -- so is the tick that is returned, if something is owed
   pub tick_kept : (M : History W) (s : ℕ) (o : Option ℕ) → IsAdmitted (given work M.setup) → IsWorldOnTime work (world_after work M)
       → o ≡ promised work (account_in work M s) → IfSome o (λ tick. AllFinishedBy work M s tick)
   tick_kept M s None ok on e = tt

@@ -1,4 +1,4 @@
--- Each job is finished by the tick that was told when it was accepted.
+-- Each job is finished by the tick that was given when it was accepted.
 use Rattle.std.proofs.Common.{◌≡◌, ℕ, ◌+◌, ◌-◌, ◌*◌, ◌≤◌, ◌<◌, true, false, ◌||◌, List, [], ◌∷◌, ◌++◌, length, take, arith, refl, inl, inr, sym}
 use Rattle.std.proofs.Common.{subst, ap, ◌∙◌, None, length-append, append_assoc}
 use Rattle.std.specs.List.{sum_by}
@@ -121,7 +121,7 @@ module _ {W : Type 0} (work : Meaning W) where
         ] in
         grind (arith, nat_tests)
 
-    -- a job behind it keeps all this
+    -- a job after it keeps all this
     pub awaited_job : (now : ℕ) (more : W) (a : Account W) → IsAwaited a → IsAwaited (account_with_job work now more a)
     awaited_job now more a h = record {
       lawful = lawful_job work now more a h.lawful;
@@ -185,7 +185,8 @@ module _ {W : Type 0} (work : Meaning W) where
     pub awaited_close : (a : Account W) → IsAwaited a → IsAwaited (account_with_close a)
     awaited_close a h = record { lawful = lawful_close work a h.lawful; behind = h.behind; jobs = h.jobs; pending = h.pending }
 
-    -- where what may still be taken is due later than the clock but for a while, and b and the while have passed, it is finished
+    -- It is finished if b and the while have passed. The premise is that what may still be taken is due later than the
+    -- clock but for the while
     pub awaited_finished : (now late : ℕ) (a : Account W) → IsAwaited a → (is_active (face_of work a) ≡ true → now < until a.terms.reservation a.state + late)
         → b a.terms.reservation a.charges.total + late ≤ now → (a.got < goal → taken a < n a.terms.reservation a.charges.total) → length before < finished work a
     awaited_finished now late a h soon past under = done-finished a h (elim (cases_lt a.got goal) [
@@ -223,7 +224,7 @@ module _ {W : Type 0} (work : Meaning W) where
     pub total : all (account_with_job work w.now job a) ≡ sum_by work.left a.accepted + work.left job
     total = omega (arith, sum_by-append work.left a.accepted (job ∷ []))
 
-    -- where it is covered from its submit on, and b and what the others were charged have passed, it is finished
+    -- it is finished if it is covered from its submit on, and b and what the others were charged have passed
     pub covered_finished : (n b : Rate → ℕ → ℕ) → IsGrowing a.accepted job n b → (L K : List (Step W)) → L ≡ K ++ Submit s job ∷ M → IsAdmitted (given work setup)
         → AdvanceQuietly work setup L
         → (let c = account_with_job work w.now job a in IsCovered a.terms.reservation (n a.terms.reservation c.charges.total) (b a.terms.reservation c.charges.total) (taken c) c.state)

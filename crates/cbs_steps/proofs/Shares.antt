@@ -24,8 +24,8 @@ use Rattle.cbs_steps.proofs.Faces.{runnable}
 use Rattle.cbs_steps.proofs.Histories.{holds_after, holds_behind, terms_behind}
 use Rattle.cbs_steps.proofs.LawfulServers.{IsLawful, lawful_job, lawful_unit, lawful_charge, lawful_let_go, lawful_replenishment, lawful_close, ready_budget}
 
--- the units got and what may still be taken are within the share of the time until that is due, counted from where x and y stand
--- for what they were
+-- The units got, and what may still be taken, are within the share of the time until that is due. x and y stand for the
+-- values at the start of the count
 abbrev IsShared : Rate → ℕ → ℕ → ℕ → State → Type 0
 IsShared r x y got s = (got + funds r s) * r.period + x ≤ y + until r s * r.budget
 
@@ -215,7 +215,7 @@ module _ {W : Type 0} (work : Meaning W) (x y : ℕ) (terms : Terms) where
       rw same (omega arith)
 
 module _ {W : Type 0} (work : Meaning W) where
-  -- from a list of steps on, behind more of them
+  -- from a list of steps on, after more of them
   pub share_behind : (setup : Setup) (K M : List (Step W)) (s : ℕ) → IsLawful work (account (after work setup M).accounts s)
       → IsWithinShare (account (after work setup M).accounts s) (account (after work setup (K ++ M)).accounts s)
   share_behind setup K M s ok =

@@ -1,4 +1,4 @@
--- Why a submit is refused, and what it says where it is not.
+-- Why a submit is refused, and what follows if it is not.
 use Rattle.std.proofs.Common.{◌≡◌, ℕ, ◌<◌, false, leb, List, length, refl, Option, Some, None, inl, inr}
 use Rattle.std.proofs.lemmas.Bool.{cases_lt, cases_Bool}
 use Rattle.std.proofs.lemmas.Option.{slice_get_past}
@@ -7,7 +7,7 @@ use Rattle.cbs_steps.specs.Faces.{Face, backlog_of, refuses_submit, submit_refus
 use Rattle.cbs_steps.specs.declared.error.CoreError.{CoreError}
 use Rattle.cbs_steps.specs.declared.error.CoreError.TheVariants as error
 
--- want of memory is no such refusal
+-- an error out of memory is no such refusal
 pub refusal_named : (backlog : ℕ) (o : Option Face) (e : CoreError) → Some e ≡ refuses_submit backlog o → is_out_of_memory e ≡ false
 refusal_named backlog None e k = let same : e ≡ error.NoSuchServer = cc in rw same refl
 refusal_named backlog (Some f) e k = elim (cases_Bool f.closed) [

@@ -129,7 +129,7 @@ module _ {W : Type 0} (work : Meaning W) (n b : ℕ) where
       | inr ge ↦ let none : account accounts s ≡ no_account = get_or_past accounts s no_account ge in let off : false ≡ true = rw none at active in cc
     ]
 
-    -- so do the steps behind M
+    -- so do the steps after M
     supplied_after : (setup : Setup) (K M : List (Step W)) → StaysActive work setup s M K → IsSupplied (account (after work setup M).accounts s)
         → IsSupplied (account (after work setup (K ++ M)).accounts s)
     supplied_after setup [] M busy h = h

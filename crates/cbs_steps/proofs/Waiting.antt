@@ -25,7 +25,7 @@ replenished_early tick now f h lt = elim (cases_Bool f.state.throttled) [
   | inr n ↦ rw n refl
 ]
 
--- where nobody is due, a replenishment changes nothing
+-- if no server is due, a replenishment changes nothing
 pub none_replenished : (tick now : ℕ) (fs : List Face) → NoneDueBefore tick fs → now < tick → map (with_replenishment now) fs ≡ fs
 none_replenished tick now [] all lt = refl
 none_replenished tick now (f ∷ fs) all lt = ap₂ ◌∷◌ (replenished_early tick now f all.0 lt) (none_replenished tick now fs all.1 lt)
@@ -57,7 +57,7 @@ wake_free f h = rw h refl
 pub wake_idle : (f : Face) → is_active f ≡ false → wake f ≡ most
 wake_idle f h = rw (h, and-false f.state.throttled) refl
 
--- where one server waits no later than before, the least of the ticks is its own or the one before
+-- if one server waits no later than before, the least of the ticks is its own or the one before
 pub wake_set : (fs : List Face) (i : ℕ) (x y : Face) → i < length fs → x ≡ get_or fs i x → wake y ≤ wake x → wake_of (set fs i y) ≡ min (wake_of fs) (wake y)
 wake_set [] i x y lt read le = absurd (omega arith)
 wake_set (f ∷ fs) zero x y lt read le = let same : wake x ≡ wake f = ap wake read in omega arith

@@ -15,7 +15,7 @@ use Rattle.cbs_steps.proofs.Promises.{count_after}
 use Rattle.cbs_steps.proofs.Shares.{share_behind, cap_behind}
 
 module _ {W : Type 0} (work : Meaning W) where
-  -- each server of the setup is lawful behind every list of steps
+  -- each server of the setup is lawful after every list of steps
   lawful_behind : (setup : Setup) (M : List (Step W)) (s : ℕ) → IsAdmitted (given work setup) → s < length setup.servers
       → IsLawful work (account (after work setup M).accounts s)
   lawful_behind setup M s ok lt =

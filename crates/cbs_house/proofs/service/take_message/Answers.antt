@@ -30,7 +30,7 @@ pub returns-in_default-clause-steps : goal.returns-in_default-clause-steps
 returns-in_default-clause-steps g c =
     serves_poll g.W.Work.meaning g.M.Meter.may_tell c.args.house.now c.poll.new.self c.server-server.result c.poll.result c.poll.ensures.polled
 
--- the first poll found the backlog full; behind the drain the second takes the message
+-- the first poll found the backlog full; after the drain the second takes the message
 pub returns-in_ok-drain_metered-in-Full-clause-taken : goal.returns-in_ok-drain_metered-in-Full-clause-taken
 returns-in_ok-drain_metered-in-Full-clause-taken g c =
     let work = g.W.Work.meaning in

@@ -6,7 +6,7 @@ use Rattle.cbs_ready.proofs.Slots.{ahead_from, insert-entered, own_place, IsBehi
 use Rattle.cbs_ready.proofs.entries.put.Goals as goal
 use Rattle.cbs_ready.proofs.entries.put.Goals.{then-loop-place-test+else-is_ahead, else-loop-place-test}
 
--- what stands where there is no entry
+-- the entry if there is none
 abbrev none : Entry
 none = record { deadline = 0; server = 0 }
 

@@ -15,7 +15,7 @@ index-requires g c =
     (omega (arith, is, length-map queues jobs_of)) in
     search rules
 
--- what is behind the first job is what is left there, which is little
+-- the units after the first job are those left there, which are few
 behind : (g : Over) (c : goal.After-behind g)
     → (c.behind.result ≡ sum_by g.W.Work.meaning.left (jobs_of (drop 1 (list_at c.self.inside.jobs.lists c.args.server)))) × (c.behind.result ≤ 4096000000)
 behind g c =
