@@ -59,8 +59,8 @@ pub fn open_house<W: Work, A: Allocator + Copy>(
     open_house_of(alloc, &plan, &modes, backlog, ring)
 }
 
-/// Opens a house with its clients as [`open_house`] does, but borrows the plan and the modes. Each of them takes up to
-/// half a kilobyte, which a move would copy.
+/// Opens a house with its clients as [`open_house`] does, and returns both, but borrows the plan and the modes. Each of
+/// them takes up to half a kilobyte, which a move would copy.
 // Neither this function nor the next is inlined, so that no stack frame holds all copies of a house at once.
 #[inline(never)]
 pub fn open_house_of<W: Work, A: Allocator + Copy>(

@@ -1,4 +1,5 @@
--- Worked examples, computed from the definitions: of each step the clock after it, its reply, and the state of a server after it.
+-- Worked examples, computed from the definitions: of each step the clock after it, its reply, and the state of a server
+-- after it.
 use Rattle.std.proofs.Common.{◌≡◌, ℕ, List, [], ◌∷◌, refl, true, false, arith}
 use Rattle.cbs_job.specs.FileJobs.{of_files}
 use Rattle.cbs_job.specs.declared.file.FileJob.{FileJob}

@@ -1,4 +1,5 @@
--- Lateness, demands, shares, promises and due ticks of small examples, computed from the definitions. A job is the number of its units.
+-- Lateness, demands, shares, promises and due ticks of small examples, computed from the definitions. A job is the
+-- number of its units.
 use Rattle.std.proofs.Common.{◌≡◌, ℕ, ◌+◌, ◌-◌, ◌*◌, Bool, List, [], ◌∷◌, refl, true, false, map, Option, Some, None}
 use Rattle.std.specs.List.{sum_by}
 use Rattle.cbs_job.specs.Work.{Meaning}
@@ -51,7 +52,8 @@ whole = server Soft 3 5 ∷ server Soft 2 5 ∷ []
 abbrev both : List (Step ℕ)
 both = Submit 1 2 ∷ Submit 0 9 ∷ []
 
--- together they are a plan of exactly one, which admission lets through: so what is promised of a plan is promised of some plan
+-- together they are a plan of exactly one, which admission lets through: so what is promised of a plan is promised of
+-- some plan
 abbrev rates : List Rate
 rates = map (λ (t : Terms). t.reservation) whole
 
@@ -106,8 +108,8 @@ told m M = promised units (left_of (server m 2 5 ∷ []) M 0)
 abbrev three : List (Step ℕ)
 three = Submit 0 3 ∷ []
 
--- a job of three units that comes at 0 has the budget of deadline 5, and one more: it is promised for 10, before each unit
--- and after, by a soft server
+-- a job of three units that comes at 0 has the budget of deadline 5, and one more: it is promised for 10, before each
+-- unit and after, by a soft server
 promised_soft : (told Soft [] ∷ told Soft three ∷ told Soft (Run ∷ three) ∷ told Soft (Run ∷ Run ∷ three) ∷ told Soft (Run ∷ Run ∷ Run ∷ three) ∷ [])
     ≡ None ∷ Some 10 ∷ Some 10 ∷ Some 10 ∷ None ∷ []
 promised_soft = refl

@@ -45,7 +45,8 @@ pub fn admit(servers: &[Server]) -> Result<(), Refusal>
     take_all(&mut whole_processor(), servers)
 }
 
-/// Adds one more server to the setup. After a refusal the setup is of no use.
+/// Adds one more server to the setup. Returns why the server is refused, if it is. After a refusal the setup is of no
+/// use.
 fn take_in(setup: &mut Setup, server: Server) -> Result<(), Refusal>
     ensures answer { MatchResult result (λ _. server_refusal setup.old.plan server None ≡ None)
         (λ error. (rest : Option Refusal) → server_refusal setup.old.plan server rest ≡ Some error) }

@@ -182,8 +182,8 @@ module _ {W : Type 0} (work : Meaning W) where
         pub opens : (every : ℕ) → opens_after work setup s every (x ∷ M) ≡ opens_after work setup s every M
         pub units : units_before work setup s (x ∷ M) ≡ units_before work setup s M
 
-      -- From one world to another, server s got units, was replenished, closed or let go, and no more: what these keep of its account
-      -- still holds
+      -- From one world to another, server s got units, was replenished, closed or let go, and no more: what these keep
+      -- of its account still holds
       abbrev pub Moves : World W → World W → Type 1
       Moves v w = (Q : Account W → Type 0) → ((a : Account W) → is_ready (face_of work a) ≡ true → Q a → Q (account_with_unit a))
           → ((now : ℕ) (a : Account W) → Q a → Q (account_with_replenishment now a)) → ((a : Account W) → Q a → Q (account_with_close a))

@@ -1,4 +1,5 @@
--- Where each unit is charged before the next job comes, a job takes no more than its units and what each may be charged.
+-- Where each unit is charged before the next job comes, a job takes no more than its units and what each may be
+-- charged.
 use Rattle.std.proofs.Common.{◌≡◌, ℕ, zero, suc, ◌+◌, ◌-◌, ◌*◌, ◌≤◌, ◌<◌, true, false, eqb, List, [], ◌∷◌, length, arith, refl, sym}
 use Rattle.std.proofs.Common.{ap, None, Option, Some}
 use Rattle.std.specs.Prelude.{map}
@@ -29,8 +30,8 @@ use Rattle.cbs_guarantee.proofs.Steps.{others_behind, moves_ticks, by_step}
 use Rattle.cbs_guarantee.proofs.Streams.{reserved, due_given, due_charged}
 
 module _ {W : Type 0} (work : Meaning W) (setup : Setup) (s every units overrun : ℕ) where
-  -- Of a server that had got `before` units when its last job came, and since then ticks were counted for that: they are no more than its
-  -- units, and what each unit that it got since may be charged; the last one may be charged more
+  -- Of a server that had got `before` units when its last job came, and since then ticks were counted for that: they
+  -- are no more than its units, and what each unit that it got since may be charged; the last one may be charged more
   record IsCounted (before ticks : ℕ) (a : Account W) : Type 0 where
     since : before ≤ a.got
     asked : all work a ≤ before + units

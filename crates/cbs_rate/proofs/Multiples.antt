@@ -151,7 +151,8 @@ some_from_dvd g a d some = elim (cases_lt 0 g) [
       absurd (omega arith)
 ]
 
--- what two positive numbers divide, and what divides each such number, is one of them over their greatest common divisor times the other
+-- what two positive numbers divide, and what divides each such number, is one of them over their greatest common
+-- divisor times the other
 module _ (a b g l : ℕ) (a_some : 0 < a) (b_some : 0 < b) (gcd : IsGcd a b g) (a_l : a ∣ l) (b_l : b ∣ l) (divides : (k : ℕ) → a ∣ k → b ∣ k → l ∣ k) where
   a_is : g * (a / g) ≡ a
   a_is = mul-div_cancel' g gcd.0

@@ -1,4 +1,5 @@
--- What every server keeps (`IsState`), through an arrival, a unit, a charge and a replenishment; and that a soft server is never throttled.
+-- What every server keeps (`IsState`), through an arrival, a unit, a charge and a replenishment; and that a soft server
+-- is never throttled.
 use Rattle.std.proofs.Common.{◌≡◌, ℕ, ◌+◌, ◌-◌, ◌≤◌, ◌<◌, true, false, ltb, arith, refl, inl, inr}
 use Rattle.std.proofs.lemmas.Bool.{cases_lt}
 use Rattle.std.proofs.lemmas.Bool.Decides.{nat_tests}

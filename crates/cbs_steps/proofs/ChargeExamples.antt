@@ -1,5 +1,5 @@
--- Worked examples of charges, computed from the definitions: states, the bound on lateness, refusals, promises, shares and due ticks. A job
--- is the number of its units.
+-- Worked examples of charges, computed from the definitions: states, the bound on lateness, refusals, promises, shares
+-- and due ticks. A job is the number of its units.
 use Rattle.std.proofs.Common.{◌≡◌, ℕ, ◌+◌, ◌-◌, ◌*◌, Bool, List, [], ◌∷◌, refl, true, false, Option, Some}
 use Rattle.cbs_job.specs.Work.{Meaning}
 use Rattle.cbs_rules.specs.Rules.{State, Terms}
@@ -65,7 +65,8 @@ soft = server Soft 2 5 ∷ []
 abbrev throttled : List Terms
 throttled = server Throttled 2 5 ∷ []
 
--- A soft server whose unit is charged 3 ticks took 4, which is two budgets: it has a whole one again, for a deadline two periods later.
+-- A soft server whose unit is charged 3 ticks took 4, which is two budgets: it has a whole one again, for a deadline
+-- two periods later.
 soft_charged : (row soft one_unit 0 ∷ row soft (Charge 0 3 ∷ one_unit) 0 ∷ []) ≡ (1, at 1 5) ∷ (4, at 2 15) ∷ []
 unfolding ticks
 soft_charged = refl
@@ -75,7 +76,8 @@ soft_exhausted : (row soft (Charge 0 1 ∷ one_unit) 0 ∷ row (server Soft 3 5 
 unfolding ticks
 soft_exhausted = refl
 
--- A throttled server that is charged a tick beyond its budget waits with an overrun of 1, which its replenishment takes from the new budget.
+-- A throttled server that is charged a tick beyond its budget waits with an overrun of 1, which its replenishment takes
+-- from the new budget.
 throttled_charged : (row throttled one_unit 0 ∷ row throttled (Charge 0 2 ∷ one_unit) 0 ∷ row throttled (Advance 2 ∷ Charge 0 2 ∷ one_unit) 0 ∷ [])
     ≡ (1, at 1 5) ∷ (3, waits 5 1) ∷ (5, at 1 10) ∷ []
 unfolding ticks
@@ -92,7 +94,8 @@ charged_in_parts : world throttled (Charge 0 1 ∷ Charge 0 2 ∷ one_unit) ≡ 
 unfolding ticks
 charged_in_parts = refl
 
--- the clock, the deadline of server s, and the most that each server with a later one was charged for one unit, all together
+-- the clock, the deadline of server s, and the most that each server with a later one was charged for one unit, all
+-- together
 abbrev lateness : List Terms → List (Step ℕ) → ℕ → List ℕ
 lateness servers M s =
     let w = world servers M in
@@ -151,7 +154,8 @@ quarters_late : late quarters two_long_units 2 ≡ true
 unfolding ticks
 quarters_late = refl
 
--- The greatest charge, 4, does not bound it, since 4 + 4 is not more than 8. The sum of both servers' greatest, 2 + 4, does.
+-- The greatest charge, 4, does not bound it, since 4 + 4 is not more than 8. The sum of both servers' greatest, 2 + 4,
+-- does.
 greatest_is_too_few : ((left_of quarters two_long_units 0).charges.most ∷ (left_of quarters two_long_units 1).charges.most ∷ lateness quarters two_long_units 2)
     ≡ 2 ∷ 4 ∷ 8 ∷ 4 ∷ 6 ∷ []
 unfolding ticks
@@ -205,8 +209,8 @@ none_answered = refl
 abbrev told : List Terms → List (Step ℕ) → Option ℕ
 told servers M = promised units (left_of servers M 0)
 
--- A job of three units is promised for 10. Its first unit is charged 2, one of which is an overrun: two units and the overrun need two
--- budgets more, so it is promised for 15 from then on.
+-- A job of three units is promised for 10. Its first unit is charged 2, one of which is an overrun: two units and the
+-- overrun need two budgets more, so it is promised for 15 from then on.
 promised_charged : (told throttled (Submit 0 3 ∷ []) ∷ told throttled one_unit ∷ told throttled (Charge 0 2 ∷ one_unit)
     ∷ told throttled (Advance 2 ∷ Charge 0 2 ∷ one_unit) ∷ [])
     ≡ Some 10 ∷ Some 10 ∷ Some 15 ∷ Some 15 ∷ []
@@ -222,7 +226,8 @@ done_charged : finished_at throttled (Run ∷ Advance 4 ∷ Run ∷ Advance 2 �
 unfolding ticks
 done_charged = refl
 
--- a throttled server of 1 in 10, which gets a unit just before its deadline and one after, of which the second is charged 5
+-- a throttled server of 1 in 10, which gets a unit just before its deadline and one after, of which the second is
+-- charged 5
 abbrev tenth : List Terms
 tenth = server Throttled 1 10 ∷ []
 
@@ -245,21 +250,22 @@ abbrev shares : ℕ → ℕ → Account ℕ → Account ℕ → List ℕ
 shares q t a b = ((taken b + b.state.budget + a.state.overrun) * t + a.state.deadline * q)
     ∷ ((taken a + a.state.budget + b.state.overrun) * t + b.state.deadline * q) ∷ []
 
--- From 9 to 16 it took 7 ticks, more than its share of those, but its deadline pays for them to the last: 7 * 10 + 10 is 1 * 10 + 70.
+-- From 9 to 16 it took 7 ticks, more than its share of those, but its deadline pays for them to the last: 7 * 10 + 10
+-- is 1 * 10 + 70.
 share_met : shares 1 10 (left_of tenth opened 0) (left_of tenth spent 0) ≡ 80 ∷ 80 ∷ []
 unfolding ticks
 share_met = refl
 
--- A soft server of 2 in 5 that is charged 3, and a throttled one that is charged 2, of which one is an overrun, pay to the last, too:
--- (4 + 2) * 5 is 15 * 2, and 3 * 5 is 1 * 5 + 5 * 2.
+-- A soft server of 2 in 5 that is charged 3, and a throttled one that is charged 2, of which one is an overrun, pay to
+-- the last, too: (4 + 2) * 5 is 15 * 2, and 3 * 5 is 1 * 5 + 5 * 2.
 share_met_at_once : (shares 2 5 (left_of soft [] 0) (left_of soft (Charge 0 3 ∷ one_unit) 0)
     ∷ shares 2 5 (left_of throttled [] 0) (left_of throttled (Charge 0 2 ∷ one_unit) 0) ∷ [])
     ≡ (30 ∷ 30 ∷ []) ∷ (15 ∷ 15 ∷ []) ∷ []
 unfolding ticks
 share_met_at_once = refl
 
--- The cap of those 7 ticks is 1 + 7 / 10 + 1 + 5, its budget, its share, a budget, and the most charged for one unit: ten times of each,
--- and the first tick of the window on both sides. Without the most charged it would be 2 + 7 / 10.
+-- The cap of those 7 ticks is 1 + 7 / 10 + 1 + 5, its budget, its share, a budget, and the most charged for one unit:
+-- ten times of each, and the first tick of the window on both sides. Without the most charged it would be 2 + 7 / 10.
 cap_kept : (let w = world tenth opened in
     let a = account w.accounts 0 in
     let v = world tenth spent in
@@ -294,8 +300,8 @@ second_states = refl
 abbrev due : List (Step ℕ) → Due
 due M = charged_due units (setup shared) 1 M
 
--- So it counts for that job: charged before it comes, the first job has two units, is due at 4, and the next one at 8; charged after,
--- the next job has three units, and is due at 12.
+-- So it counts for that job: charged before it comes, the first job has two units, is due at 4, and the next one at 8;
+-- charged after, the next job has three units, and is due at 12.
 dues_charged : (due first_done ∷ due charged_first ∷ due charged_late ∷ [])
     ≡ record { from = 0; units = 1 } ∷ record { from = 4; units = 2 } ∷ record { from = 4; units = 3 } ∷ []
 unfolding ticks

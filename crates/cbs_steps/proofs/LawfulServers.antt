@@ -36,8 +36,9 @@ arrives_in now f rate is begun bound early late = elim (cases_Bool (is_active f 
       }
 ]
 
--- its reservation is within its limits, its budget, deadline, mark and overrun are ones that the rules leave, a soft one is never
--- throttled, while it is active or runs it has had its first deadline, and no unit was charged more than the most
+-- its reservation is within its limits, its budget, deadline, mark and overrun are ones that the rules leave, a soft
+-- one is never throttled, while it is active or runs it has had its first deadline, and no unit was charged more than
+-- the most
 pub record IsLawful {W : Type 0} (work : Meaning W) (a : Account W) : Type 0 where
   pub rate : IsRate a.terms.reservation.budget a.terms.reservation.period
   pub state : IsState a.terms.reservation a.state

@@ -1,5 +1,5 @@
--- On time but for charges: what the servers may ask for is at most the time that is left, and what those with a later deadline may
--- have held the clock up by charges. Where each advance is quiet, every step keeps it.
+-- On time but for charges: what the servers may ask for is at most the time that is left, and what those with a later
+-- deadline may have held the clock up by charges. Where each advance is quiet, every step keeps it.
 use Rattle.std.proofs.Common.{◌≡◌, ℕ, zero, suc, ◌+◌, ◌-◌, ◌*◌, ◌≤◌, ◌<◌, true, false, ltb, leb, ◌||◌, ◌⊎◌, List, [], ◌∷◌, length, map, arith, refl, inl, inr, ap, Option, Some, None, ◌∙◌}
 use Rattle.std.specs.Prelude.{if◌then◌else◌}
 use Rattle.std.specs.List.{sum_by, AllByRecursion}
@@ -126,7 +126,8 @@ module _ {W : Type 0} (work : Meaning W) (P now x : ℕ) (a : Account W) (ok : I
     blocks_run : a.state.deadline ≤ x → blocks work x a ≡ 0
     blocks_run far = blocks_none work P x a (let f = free in let u : until r a.state ≡ a.state.deadline = rw f refl in omega arith)
 
-  -- a charge of n ticks of a server that runs asks for so many ticks less, or moves its deadline past x and holds up so many more
+  -- a charge of n ticks of a server that runs asks for so many ticks less, or moves its deadline past x and holds up so
+  -- many more
   charge_trades : (n : ℕ) → a.runs ≡ true
       → (let c = account_with_charge n a in
       ((asks work P now x c + n * P ≤ asks work P now x a) × (blocks work x a ≤ blocks work x c))

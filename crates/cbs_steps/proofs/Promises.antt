@@ -61,7 +61,8 @@ module _ {W : Type 0} (work : Meaning W) where
       let e = all_needed a in
       omega arith
 
-  -- One job: those before it, how many ticks are covered, and by when. Both may grow with what the server is charged in all
+  -- One job: those before it, how many ticks are covered, and by when. Both may grow with what the server is charged in
+  -- all
   module _ (before : List W) (job : W) (n b : Rate → ℕ → ℕ) where
     -- the units that the jobs up to it need
     abbrev pub goal : ℕ

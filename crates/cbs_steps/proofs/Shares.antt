@@ -82,8 +82,8 @@ numbers r s is = elim (cases_Bool s.throttled) [
       rw (f, u, z) goal
 ]
 
--- In throttled mode a deadline is at most a period from now, and of a server that waits, its overrun and its deadline are beyond that
--- by no more than what it was charged for its last unit
+-- In throttled mode a deadline is at most a period from now, and of a server that waits, its overrun and its deadline
+-- are beyond that by no more than what it was charged for its last unit
 record IsNear (r : Rate) (mode : Mode) (now latest : ℕ) (s : State) : Type 0 where
   free : mode ≡ Throttled → s.throttled ≡ false → s.deadline ≤ now + r.period
   waits : mode ≡ Throttled → s.throttled ≡ true → s.deadline * r.budget + s.overrun * r.period ≤ (now + r.period) * r.budget + latest * r.period

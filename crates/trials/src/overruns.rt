@@ -33,12 +33,12 @@ fn word_of(mode: Mode) -> &'static str {
     }
 }
 
-/// Runs a trial in which nothing is measured.
+/// Runs a trial without a meter, and returns its measurements.
 fn unmetered(rt: &impl Clock, alloc: Global, mode: Mode, millis: u64) -> Result<Seen> {
     run(rt, alloc, mode, &mut NoMeter, Duration::from_millis(millis))
 }
 
-/// Runs a trial in which each unit is measured.
+/// Runs a trial with a meter that measures each unit, and returns its measurements.
 fn metered(rt: &impl Clock, alloc: Global, mode: Mode, millis: u64) -> Result<Seen> {
     let mut meter = ClockMeter::new(rt, time_of(1)).context("a tick of no length")?;
     run(rt, alloc, mode, &mut meter, Duration::from_millis(millis))

@@ -46,7 +46,7 @@ impl Gate for RandomDelays {
         drawn % 4 > 0
     }
 
-    /// A full backlog is skipped: if servers wait for their deadlines, most polls find one.
+    /// Delays the house, except after a full backlog: if servers wait for their deadlines, most polls find one.
     fn answered(&self, server: u16, poll: Poll) {
         if poll != Poll::Full {
             let drawn = self.draw(server, 0);

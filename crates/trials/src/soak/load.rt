@@ -18,8 +18,8 @@ pub struct Load {
     pub jobs: Vec<Vec<Task<FileJob>>>,
 }
 
-/// Reads a load. Its first line is `SEED BACKLOG RING`. Each further line is `server BUDGET PERIOD MODE`, or `job
-/// SERVER KIND NUMBERS..` for a server of a line above.
+/// Reads a load, and returns it. Its first line is `SEED BACKLOG RING`. Each further line is
+/// `server BUDGET PERIOD MODE`, or `job SERVER KIND NUMBERS..` for a server of a line above.
 pub fn read_load(alloc: Global, text: &str) -> Result<Load> {
     let mut lines = text.lines();
     let first = lines.next().context("line 1: there is none")?;

@@ -9,7 +9,7 @@ use cbs_rules::Mode;
 use std::alloc::Global;
 use std::time::{Clock, Instant};
 
-/// Times run steps with no server idle. If all servers are throttled, the clock advances by one tick.
+/// Returns the time of run steps with no server idle. If all servers are throttled, the clock advances by one tick.
 pub fn run_steps(
     rt: &impl Clock,
     alloc: Global,
@@ -22,7 +22,7 @@ pub fn run_steps(
     time_run_steps(rt, &mut core, steps)
 }
 
-/// Times run steps on a core with no job.
+/// Returns the time of run steps on a core with no job.
 fn time_run_steps(rt: &impl Clock, core: &mut Core<CountJob>, steps: u64) -> Result<Timing> {
     fill(core, 4, LONG)?;
     let start = Instant::now(rt)?;
@@ -40,13 +40,13 @@ fn run_or_wait(core: &mut Core<CountJob>, steps: u64) -> Result<()> {
     Ok(())
 }
 
-/// Times jobs of one unit, 64 for each server at a time: their submits and their units.
+/// Returns the time of jobs of one unit, 64 for each server at a time: their submits and their units.
 pub fn submits(rt: &impl Clock, alloc: Global, servers: u16, jobs: u64) -> Result<Timing> {
     let mut core = core_of(alloc, servers, 1, Mode::Soft)?;
     time_submits(rt, &mut core, jobs)
 }
 
-/// Times submits on a core with no job.
+/// Returns the time of submits on a core with no job.
 fn time_submits(rt: &impl Clock, core: &mut Core<CountJob>, jobs: u64) -> Result<Timing> {
     let start = Instant::now(rt)?;
     run_batches(core, jobs)?;
@@ -70,13 +70,13 @@ fn run_batch(core: &mut Core<CountJob>, steps: u64) {
     }
 }
 
-/// Times advances by one tick while all servers are ready.
+/// Returns the time of advances by one tick while all servers are ready.
 pub fn advances(rt: &impl Clock, alloc: Global, servers: u16, ticks: u64) -> Result<Timing> {
     let mut core = core_of(alloc, servers, 1, Mode::Soft)?;
     time_advances(rt, &mut core, ticks)
 }
 
-/// Times advances on a core with no job.
+/// Returns the time of advances on a core with no job.
 fn time_advances(rt: &impl Clock, core: &mut Core<CountJob>, ticks: u64) -> Result<Timing> {
     fill(core, 1, LONG)?;
     let start = Instant::now(rt)?;

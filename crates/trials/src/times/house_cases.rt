@@ -15,13 +15,13 @@ use std::alloc::Global;
 use std::thread::Threads;
 use std::time::{Clock, Instant};
 
-/// Times polls of empty rings, of all servers in turn.
+/// Returns the time of polls of empty rings, of all servers in turn.
 pub fn polls(rt: &impl Clock, alloc: Global, servers: u16, polls: u64) -> Result<Timing> {
     let (mut house, _clients) = idle_house(alloc, servers)?;
     time_polls(rt, &mut house, polls / u64::from(servers.max(1)))
 }
 
-/// Times `turns` turns of such polls.
+/// Returns the time of `turns` turns of such polls.
 fn time_polls(rt: &impl Clock, house: &mut House<CountJob>, turns: u64) -> Result<Timing> {
     let start = Instant::now(rt)?;
     poll_turns(house, turns)?;
