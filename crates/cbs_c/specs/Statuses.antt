@@ -24,7 +24,7 @@ pub record Tells {T U : Type 0} (Does : Option Held → Result T Refusal → Opt
   pub told : status ≡ status_after answer
   pub out : after ≡ shown_or shown answer before
 
--- Tells, for a call with no value
+-- the same relation as Tells, for a call without a value
 pub record Answers {T : Type 0} (Does : Option Held → Result T Refusal → Option Held → Type 0) (held : Option Held) (status : ℕ)
     (holds : Option Held) : Type 0 where
   pub answer : Result T Refusal

@@ -39,7 +39,8 @@ module _ {W : Type 0} where
   abbrev pub new_seat : Seat W
   new_seat = record { received = []; known = []; handed = 0; results = [] }
 
-  -- these messages were taken: they alone left the first part of what is known to wait in the ring
+  -- these messages were taken: the messages known to wait before are a prefix of them followed by those known to wait
+  -- now
   pub record TakesMessages (ms : List (Message W)) (old new : Seat W) : Type 0 where
     pub received : new.received ≡ old.received ++ ms
     pub known : IsPrefix old.known (ms ++ new.known)

@@ -40,7 +40,7 @@ module _ {W : Type 0} where
     pub answer : reply.Ran told ≡ reply_in work M Run
     pub pays : IsRunPaid may (world_after work M).now told paid
 
-  -- a move after M of a house with such a meter: one step that a rule allows there, and after a run the steps that pay
+  -- a move after M of a house with such a meter: one step that a rule allows there, and after a run its payment
   abbrev pub IsMove : Meaning W → (ℕ → ℕ → Type 0) → (History W → Step W → Type 0) → History W → List (Step W) → Type 0
   IsMove work may allowed M [] = ⊥
   IsMove work may allowed M (Submit s job ∷ xs) = allowed M (Submit s job) × (xs ≡ [])

@@ -96,7 +96,7 @@ module _ {W A : Type 0} {g : Ghosts W} where
   GoesOn work may old new told n =
       (RunsOne work may old new told × (n ≡ 0)) ⊎ (Advances work old new n × (told ≡ ran.Idle)) ⊎ ((new ≡ old) × StaysBy told old × (n ≡ 0))
 
-  -- the number of a completion is its place among the results of its server, of which it is the next
+  -- the number of a completion is the number of results that its server had before
   abbrev pub IsNumbered : Ran → House W A g → Type 0
   IsNumbered ran.Idle h = Unit {0}
   IsNumbered ran.ClockEnd h = Unit {0}

@@ -19,7 +19,7 @@ use std::time::Clock;
 /// kept for that end. A client that ended before sends nothing more when it is dropped.
 pub struct Client<W: Work, A: Allocator = Global> {
     pub(crate) server: u16,
-    // how many jobs were sent
+    // The number of jobs sent.
     count: u64,
     ended: bool,
     pub(crate) ring: Producer<Message<W>, A>,
@@ -60,7 +60,7 @@ fn end_at_last<W: Work, A: Allocator>(ended: bool, ring: &mut Producer<Message<W
 /// A job that was not sent, handed back.
 #[derive(Drop)]
 pub struct SendRefused<W: Work> {
-    /// Why it was refused.
+    /// The reason of the refusal.
     pub error: SendError,
     /// The job, as it was given.
     pub task: Task<W>,

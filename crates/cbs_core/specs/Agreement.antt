@@ -35,7 +35,7 @@ module _ {W : Type 0} where
   pub record Agrees (work : Meaning W) (core : CoreHeld W) (M : History W) : Type 0 where
     pub world : AgreesWorld work core M.setup.backlog (world_after work M)
 
-  -- told holds of the state after every history that the core agrees with
+  -- `told` holds of the state after every history that the core agrees with
   abbrev pub TellsOf : Meaning W → CoreHeld W → (World W → Type 0) → Type 0
   TellsOf work core told = (M : History W) → Agrees work core M → told (world_after work M)
 

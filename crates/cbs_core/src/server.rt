@@ -143,7 +143,7 @@ impl Server {
         None
     }
 
-    /// Returns the server's view: budget, deadline, marks and counts.
+    /// Returns the server's view: budget, deadline, flags and counts.
     pub fn view(&self) -> ServerView
         ensures { result ≡ view_of self.now }
     {
@@ -195,7 +195,7 @@ impl Server {
         ensures face { self.new ≡ with_unit done self.old }
         ensures stays { result ≡ true → (is_ready self.new ≡ true) × (self.new.state.deadline ≡ self.old.state.deadline) }
     {
-        // The budget is not 0 here, so the comparison with 1 tells whether a tick is left.
+        // The budget is not 0 here, so a tick is left unless it is 1.
         let more = self.state.budget() != 1;
         self.state.consume(self.mode);
         // Most units do not finish a job.

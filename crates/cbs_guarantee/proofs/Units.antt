@@ -1,5 +1,4 @@
--- Where each unit is charged before the next job comes, a job takes no more than its units and what each may be
--- charged.
+-- If each unit is charged before the next job comes, a job takes no more than its units and what each may be charged.
 use Rattle.std.proofs.Common.{◌≡◌, ℕ, zero, suc, ◌+◌, ◌-◌, ◌*◌, ◌≤◌, ◌<◌, true, false, eqb, List, [], ◌∷◌, length, arith, refl, sym}
 use Rattle.std.proofs.Common.{ap, None, Option, Some}
 use Rattle.std.specs.Prelude.{map}

@@ -5,7 +5,7 @@ ghost use Rattle.std.specs.Prelude.{◌≤◌};
 use std::thread::{sleep, yield_now};
 use std::time::{Clock, Duration};
 
-/// How many turns in a row that moved no message end with a yield. The number is bounded, since on a busy machine each
+/// The number of turns in a row that moved no message and end with a yield. It is bounded, since on a busy machine each
 /// yield may last as long as another program's share.
 const YIELDS: u64 = 64;
 

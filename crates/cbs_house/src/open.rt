@@ -18,7 +18,7 @@ use std::alloc::{Allocator, Global};
 /// Lists of jobs for which no house was opened, handed back.
 #[derive(Drop)]
 pub struct OpenRefused<W: Work, A: Allocator = Global> {
-    /// Why it was refused.
+    /// The reason of the refusal.
     pub error: HouseError,
     /// The lists of jobs, as they were given.
     pub lists: Vec<Vec<Task<W>, A>, A>,

@@ -1,8 +1,7 @@
 -- The meaning of a piece of work: a machine that makes one step for each unit, and always has an output.
 use Rattle.std.specs.Prelude.{◌≡◌, ℕ, zero, suc, ◌-◌, ◌<◌}
 
--- the meaning of the calls of a kind of work: the number of units left, the output so far, and the work after one more
--- unit
+-- the meaning of the calls of a kind of work: how many units are left, the output so far, and the work after one unit
 pub record Meaning (W : Type 0) : Type 0 where
   pub left : W → ℕ
   pub output : W → ℕ

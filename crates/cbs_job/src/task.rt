@@ -12,7 +12,7 @@ use thiserror::Error;
 /// The most units that a job may have.
 pub const MAX_UNITS: u32 = 1_000_000;
 
-/// Work with 1 to [`MAX_UNITS`] units left, of which no unit was run: it has no `step`.
+/// Work with 1 to [`MAX_UNITS`] units left that was not started: it has no `step`.
 #[derive(Drop)]
 pub struct Task<W: Work> {
     work: W,
@@ -61,7 +61,7 @@ impl TaskError {
 /// Work that made no task, handed back.
 #[derive(Drop)]
 pub struct TaskRefused<W: Work> {
-    /// Why it was refused.
+    /// The reason of the refusal.
     pub error: TaskError,
     /// The work, as it was given.
     pub work: W,

@@ -19,8 +19,8 @@ module _ {W : Type 0} where
   abbrev pub jobs_of : List (QueuedJob W) → List W
   jobs_of queue = map (λ queued. queued.job) queue
 
-  -- The count of each job agrees with the server's: the units taken in up to the job, and the units left of the jobs
-  -- after it, are all units taken in, modulo 2^64
+  -- The counts of the jobs are right. For each job, the units taken in up to it, and those left of the jobs after it,
+  -- are the server's units taken in, modulo 2^64
   abbrev pub AreCounted : Meaning W → List (QueuedJob W) → ℕ → Type 0
   AreCounted work [] total = Unit
   AreCounted work (first ∷ behind) total = ((first.taken_in + sum_by work.left (jobs_of behind)) % 2 ^ 64 ≡ total) × AreCounted work behind total

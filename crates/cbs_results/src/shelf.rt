@@ -12,7 +12,7 @@ use std::mem::replace;
 #[derive(Drop)]
 pub struct Shelf<A: Allocator = Global> {
     results: Vec<u64, A>,
-    // The number of results taken, of which the last are kept.
+    // The number of results taken. The last ones of them are kept.
     taken: u64,
     announced: u64,
 }

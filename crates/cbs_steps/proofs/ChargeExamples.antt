@@ -83,7 +83,7 @@ throttled_charged : (row throttled one_unit 0 ∷ row throttled (Charge 0 2 ∷ 
 unfolding ticks
 throttled_charged = refl
 
--- Where the overrun would be a whole budget, the server waits a period longer instead: at 5 it is not replenished.
+-- If the overrun would be a whole budget, the server waits a period longer instead: at 5 it is not replenished.
 throttled_longer : (row throttled (Charge 0 3 ∷ one_unit) 0 ∷ row throttled (Charge 0 4 ∷ one_unit) 0 ∷ row throttled (Advance 5 ∷ Charge 0 4 ∷ one_unit) 0 ∷ [])
     ≡ (4, waits 10 0) ∷ (5, waits 10 1) ∷ (10, at 1 15) ∷ []
 unfolding ticks

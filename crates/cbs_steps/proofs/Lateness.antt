@@ -1,4 +1,4 @@
--- Where each advance is quiet, servers are late by no more than what the others may be charged.
+-- If each advance is quiet, servers are late by no more than what the others may be charged.
 use Rattle.std.proofs.Common.{◌≡◌, ℕ, ◌+◌, ◌-◌, ◌*◌, ◌≤◌, ◌<◌, true, false, ltb, ◌||◌, List, [], ◌∷◌, ◌++◌, length, map, arith, refl, inl, inr, ap, ◌∙◌}
 use Rattle.std.specs.Prelude.{if◌then◌else◌}
 use Rattle.std.specs.List.{sum_by}

@@ -1,5 +1,5 @@
 -- On time but for charges: what the servers may ask for is at most the time that is left, and what those with a later
--- deadline may have held the clock up by charges. Where each advance is quiet, every step keeps it.
+-- deadline may have held the clock up by charges. If each advance is quiet, every step keeps it.
 use Rattle.std.proofs.Common.{◌≡◌, ℕ, zero, suc, ◌+◌, ◌-◌, ◌*◌, ◌≤◌, ◌<◌, true, false, ltb, leb, ◌||◌, ◌⊎◌, List, [], ◌∷◌, length, map, arith, refl, inl, inr, ap, Option, Some, None, ◌∙◌}
 use Rattle.std.specs.Prelude.{if◌then◌else◌}
 use Rattle.std.specs.List.{sum_by, AllByRecursion}

@@ -1,4 +1,4 @@
--- Where no step takes anybody's time, nobody was charged.
+-- If no step takes anybody's time, no server was charged.
 use Rattle.std.proofs.Common.{◌≡◌, ℕ, zero, suc, ◌+◌, Bool, ◌||◌, List, [], ◌∷◌, map, arith, refl}
 use Rattle.std.specs.Prelude.{if◌then◌else◌}
 use Rattle.std.proofs.lemmas.Bool.Decides.{nat_tests}

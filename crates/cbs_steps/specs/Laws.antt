@@ -76,9 +76,9 @@ module _ {W : Type 0} where
       ≤ (taken before + before.state.budget + after.state.overrun) * r.period + after.state.deadline * r.budget
 
   -- In any window from M to N, a server of throttled mode takes no more than the sum of four numbers. This holds if M
-  -- leaves its deadline not past. The numbers are the budget that it starts with, its share of the ticks of the window,
-  -- one budget, and its greatest charge for one unit. With Q ticks in every T: (ticks taken since) <= (budget before) +
-  -- Q / T * (ticks from M to N) + Q + (most charged for one unit), written as above.
+  -- leaves its deadline not past. The numbers are the budget that it starts with, its share of the window's ticks, one
+  -- budget, and its greatest charge for one unit. With Q ticks in every T: (ticks taken since) <= (budget before) + Q /
+  -- T * (ticks from M to N) + Q + (most charged for one unit), written as above.
   abbrev pub IsWithinCap : Meaning W → History W → History W → ℕ → Type 0
   IsWithinCap work M N s =
       let before = account_in work M s in

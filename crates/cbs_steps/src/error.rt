@@ -1,13 +1,13 @@
-//! Why the core refuses.
+//! The reasons why the core refuses.
 
 ghost use Rattle.std.specs.Prelude.{◌≡◌};
 
 use thiserror::Error;
 
-/// Why the core refuses a call.
+/// The reason why the core refuses a call.
 #[derive(Clone, Copy, Debug, PartialEq, Eq, Error)]
 pub enum CoreError {
-    /// The backlog is not within 1 to 4096.
+    /// The backlog is not within 1 to 4096 jobs.
     #[error("the backlog is not within 1 to 4096 jobs")]
     BadBacklog = 1,
     /// An allocation was refused.

@@ -6,13 +6,13 @@ use cbs_job::{Completion, Task, Work};
 /// A job that was not accepted, handed back.
 #[derive(Drop)]
 pub struct SubmitRefused<W: Work> {
-    /// Why it was refused.
+    /// The reason of the refusal.
     pub error: CoreError,
     /// The job, as it was given.
     pub task: Task<W>,
 }
 
-/// What a run step did.
+/// The result of a run step.
 #[derive(Clone, Copy, Debug, PartialEq, Eq)]
 pub enum Ran {
     /// No server is ready. Nothing changed.
@@ -37,7 +37,7 @@ pub enum Reply<W: Work> {
     Accepted(u64),
     /// The submit was refused.
     NotAccepted(SubmitRefused<W>),
-    /// The run step did this.
+    /// The result of a run step.
     Ran(Ran),
     /// The ticks passed.
     Advanced,

@@ -6,15 +6,15 @@ use std::alloc::{Allocator, Global};
 /// One step: a request to the core.
 #[derive(Drop)]
 pub enum Step<W: Work> {
-    /// Gives a job to a server.
+    /// A submit of a job to a server.
     Submit(u16, Task<W>),
-    /// Runs one unit of one job, which takes one tick.
+    /// A run of one unit of one job, which takes one tick.
     Run,
-    /// Lets this many ticks pass.
+    /// An advance of the clock by this many ticks.
     Advance(u64),
-    /// Closes a server: it accepts no further job.
+    /// The close of a server, which then accepts no further job.
     Close(u16),
-    /// Charges a server the ticks that its last unit took after its first tick. As many ticks pass.
+    /// A charge of a server for the ticks that its last unit took after its first tick. As many ticks pass.
     Charge(u16, u64),
 }
 

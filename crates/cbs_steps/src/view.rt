@@ -1,6 +1,6 @@
 //! The view of a server.
 
-/// Budget, deadline, marks and counts of one server.
+/// The budget, deadline, flags and counts of one server.
 #[derive(Clone, Copy, Debug, PartialEq, Eq)]
 pub struct ServerView {
     /// The ticks that the server may still use, at most the budget of its reservation.

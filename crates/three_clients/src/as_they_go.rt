@@ -14,7 +14,7 @@ use std::alloc::Global;
 use std::thread::{Threads, join_mut};
 use std::time::Clock;
 
-/// How many turns in a row without anything to do the house waits for the clients: about 15 seconds.
+/// The number of idle turns in a row for which the house waits for the clients: about 15 seconds.
 const IDLE_TURNS: u64 = 1_000_000;
 
 /// Runs the clients and the house at once, until all clients have sent all their jobs and ended.

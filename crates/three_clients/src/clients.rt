@@ -8,10 +8,10 @@ use std::alloc::{AllocError, Global};
 use std::thread::{Threads, for_each_mut};
 use std::time::Clock;
 
-/// How many jobs each client sends: many more than its ring and the backlog of its server hold.
+/// The number of jobs that each client sends: many more than its ring and the backlog of its server hold.
 pub const JOBS: u16 = 400;
 
-/// How often a client tries to send a message to a full ring before it gives up.
+/// The number of tries for a message at a full ring before a client gives up.
 const TRIES: u64 = 1_000_000;
 
 /// Returns how many units the jobs of a server have: 3 for a camera, 5 for an encoder, 1 for telemetry.

@@ -16,7 +16,7 @@ use std::time::Clock;
 /// The number of servers of each column.
 const COLUMNS: [u16; 3] = [1, 8, 64];
 
-/// How many of each are made if no time is wanted.
+/// The number of things made for each case if no time is wanted.
 const BRIEFLY: u64 = 4_096;
 
 /// How often a case is timed; the least time counts.

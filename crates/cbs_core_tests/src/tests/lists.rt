@@ -134,7 +134,7 @@ fn each_step_has_its_reply(rt: HostRuntime) {
     answers(&rt, &mut core, steps_of(&rt, alloc, alloc, &asked), &wanted);
 }
 
-/// Jobs of one unit, of which the first two are charged.
+/// Jobs of one unit. The first two are charged.
 const CHARGED: [Asked; 10] = [
     Asked::Charge(0, 1),
     Asked::Submit(0, 7),

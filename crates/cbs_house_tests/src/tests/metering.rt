@@ -211,7 +211,7 @@ impl Clock for Steady {
     }
 }
 
-/// How many nanoseconds each unit takes, and how many ticks of 10 microseconds come after its first.
+/// The nanoseconds that each unit takes, and the ticks of 10 microseconds after its first.
 const TOOK: [(u64, u64); 7] = [
     (0, 0),
     (1, 0),

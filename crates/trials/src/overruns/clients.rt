@@ -20,11 +20,11 @@ const PERIOD: u64 = 10;
 /// How many jobs a ring has room for, and also the backlog of each server.
 pub const ROOM: u64 = 256;
 
-/// How long a unit of control takes, in microseconds.
+/// The time that a unit of control takes, in microseconds.
 const SHORT: u64 = 300;
 
-/// How long a unit of greedy takes, in microseconds. It is a little less than 20 ticks, since a meter measures somewhat
-/// more, and then returns 19 ticks after the first.
+/// The time that a unit of greedy takes, in microseconds. It is a little less than 20 ticks, since a meter measures
+/// somewhat more, and then returns 19 ticks after the first.
 const LONG: u64 = 19_900;
 
 /// Returns the servers, with this mode for greedy.

@@ -55,7 +55,7 @@ impl Gate for RandomDelays {
     }
 }
 
-/// Returns a number of which each bit depends on all bits of this one.
+/// Returns a number in which each bit depends on all bits of `number`.
 fn mixed(number: u64) -> u64 {
     let once = (number ^ (number >> 30)).wrapping_mul(0xbf58_476d_1ce4_e5b9);
     let twice = (once ^ (once >> 27)).wrapping_mul(0x94d0_49bb_1331_11eb);

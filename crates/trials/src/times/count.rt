@@ -42,7 +42,7 @@ impl Work for CountJob {
     }
 }
 
-/// Returns a job of `units` units, of which there must be 1 to 1000000, or `None` otherwise.
+/// Returns a job of `units` units, or `None` unless they are 1 to 1000000.
 pub fn counting(units: u32) -> Option<Task<CountJob>> {
     Task::new(CountJob {
         left: units,
