@@ -239,8 +239,8 @@ impl<A: Allocator> Servers<A> {
         }
     }
 
-    /// Charges a server that is throttled, and replenishes every server that is due at tick `now`. The charge moves the
-    /// server's deadline, so the ticks in `waits` are computed anew.
+    /// Charges a server that is throttled, which stays so, and then replenishes every server that is due at tick `now`.
+    /// The charge may move the server's deadline, so the ticks in `waits` are computed anew.
     #[tactic(auto, using(cbs_lists::proofs::Lists::written))]
     fn charge_throttled(&mut self, server: u16, ticks: u64, for_unit: u64, now: u64)
         requires within { server < length self.old }

@@ -12,8 +12,8 @@ use cbs_steps::{Step, all_punctual};
 /// function does nothing. Its contract is the theorem, for every executor that makes the steps.
 ///
 /// The guarantee is for a server whose jobs are those of streams that ask for no more than all its time. Each such job
-/// is accepted. It is finished after all spans and the delay by the other servers, counted from when it came. The one
-/// premise on the others is that no advance takes anybody's time.
+/// is accepted, if the backlog suffices. It is finished within the sum of all spans and the delay by the other servers,
+/// counted from when it came. The one premise on the others is that no advance takes anybody's time.
 pub fn all_guaranteed<W: Work>(plan: &Plan, modes: &Modes, backlog: u64)
     requires { length modes.now ≡ length plan.now.rates }
     ensures { (steps : List (Step W)) → IsGuaranteed W.meaning (history_of modes.now plan.now.rates backlog steps) }

@@ -169,8 +169,8 @@ fn put(entries: &mut [Entry], entry: Entry)
     write(&mut entries[place], entry);
 }
 
-/// Takes out the last entry, and moves `entry` from the back to the front. Each move passes four of the rest, as long
-/// as `entry` comes before all four. Returns the place that it reached.
+/// Takes out the last entry, and moves `entry` from the back towards the front, past four of the rest at a time. It
+/// moves as long as it comes before all four. Returns the place that it reached.
 fn pass_fours(entries: &mut [Entry], entry: Entry) -> usize
     requires some { 0 < length entries.old }
     requires order { IsOrdered (take (length entries.old - 1) entries.old) }

@@ -55,9 +55,10 @@ after_unit mode r s =
     let spent : State = record s { budget = s.budget - 1 } in
     if eqb spent.budget 0 then after_exhaustion mode r spent else spent
 
--- A charge of more ticks than the budget has, e of them beyond it. A soft server gets at once as many whole budgets as
--- it needs to have some left. Its deadline is postponed by one period for each. A server of throttled mode waits. Its
--- deadline is postponed by one period for each whole budget in e, and the rest of e is its overrun
+-- A charge of at least as many ticks as the budget has, with e ticks beyond it, an old overrun included. A soft server
+-- gets at once as many whole budgets as it needs to have some left. Its deadline is postponed by one period for each. A
+-- server of throttled mode waits. Its deadline is postponed by one period for each whole budget in e, and the rest of e
+-- is its overrun
 abbrev pub after_excess : Mode → Rate → ℕ → State → State
 after_excess Soft r e s = record s { budget = r.budget - e % r.budget; deadline = s.deadline + (e / r.budget + 1) * r.period }
 after_excess Throttled r e s = record { budget = 0; deadline = s.deadline + e / r.budget * r.period; throttled = true; overrun = e % r.budget }

@@ -18,7 +18,7 @@ module _ {W : Type 0} where
       let d = (account w.accounts s).state.deadline in
       s < length w.accounts → is_ready (face_of work (account w.accounts s)) ≡ true → w.now < d + later_charges d w.accounts
 
-  -- If each advance was quiet, the deadline of a ready server has passed by less than some charges. They are those of
-  -- one unit of each server with a later deadline
+  -- If each advance was quiet, the deadline of a ready server has passed by less than some charges, added up. They are
+  -- the greatest for one unit of each server with a later deadline
   abbrev pub KeepsLateness : Meaning W → History W → Type 0
   KeepsLateness work N = AdvanceQuietly work N.setup N.steps → (s : ℕ) → IsLateByLess work (world_after work N) s
