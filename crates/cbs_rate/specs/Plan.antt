@@ -29,7 +29,7 @@ total_share rates = sum_by (share (all_periods rates)) rates
 
 -- Whether the rates fit the bound: the sum of budget / period over all of them is at most num / den. Both sides are
 -- taken times den and times the product of all periods. With the bound 1/1 it is the processor utilisation up to which
--- earliest deadline first meets every deadline.
+-- earliest deadline first meets every deadline (Liu and Layland, JACM 1973).
 abbrev pub fits : Fraction → List Rate → Bool
 fits bound rates = leb (bound.den * total_share rates) (bound.num * all_periods rates)
 

@@ -12,7 +12,8 @@ pub const MAX_PERIOD: u64 = 1_000_000_000;
 
 /// A budget of Q ticks in every period of T ticks, with `1 <= Q <= T <= MAX_PERIOD`.
 ///
-/// It is the pair (Q, T) that a Constant Bandwidth Server is given: its holder may run for Q ticks in every T.
+/// It is the pair (Q, T) that a Constant Bandwidth Server is given (Abeni and Buttazzo, RTSS 1998): its holder may run for Q
+/// ticks in every T.
 #[derive(Clone, Copy, Debug, PartialEq, Eq)]
 pub struct Reservation {
     // 32 bits hold a period, so a plan of 64 servers takes half a kilobyte.

@@ -1,5 +1,6 @@
 -- The rules for one server: its start, an arrival, a unit, a charge, a replenishment. Soft mode is the Constant
--- Bandwidth Server. Throttled mode is this project's own.
+-- Bandwidth Server of Luca Abeni and Giorgio Buttazzo, 'Integrating Multimedia Applications in Hard Real-Time Systems',
+-- RTSS 1998. Throttled mode is this project's own, modelled on Linux's SCHED_DEADLINE.
 use Rattle.std.specs.Prelude.{◌≡◌, ℕ, zero, suc, ◌+◌, ◌-◌, ◌*◌, ◌/◌, ◌%◌, ◌≤◌, ◌<◌, Bool, true, false, ◌&&◌, ◌||◌, eqb, leb, ltb, if◌then◌else◌}
 use Rattle.cbs_rate.specs.Rate.{Rate}
 use Rattle.cbs_rules.specs.declared.mode.Mode.{Mode}
@@ -32,7 +33,7 @@ abbrev pub fresh_state : State
 fresh_state = record { budget = 0; deadline = 0; throttled = false; overrun = 0 }
 
 -- Whether an arrival at an idle, unthrottled server renews it. Its deadline has come, or its budget is too much for the
--- time that is left. With c the budget and d the deadline, the soft rule is c ≥ (d - now) * Q / T, multiplied out. The
+-- time that is left. With c the budget and d the deadline, the soft rule of 1998 is c ≥ (d - now) * Q / T, multiplied out. The
 -- throttled rule has > instead of ≥
 abbrev pub is_renewed : Mode → Rate → ℕ → State → Bool
 is_renewed Soft r now s = leb s.deadline now || leb ((s.deadline - now) * r.budget) (s.budget * r.period)
@@ -43,8 +44,8 @@ is_renewed Throttled r now s = leb s.deadline now || ltb ((s.deadline - now) * r
 abbrev pub after_arrival : Mode → Rate → ℕ → State → State
 after_arrival mode r now s = if is_renewed mode r now s then record s { budget = r.budget; deadline = now + r.period } else s
 
--- exhaustion: a soft server gets a whole budget at once and its deadline is postponed by one period; a server of
--- throttled mode waits
+-- exhaustion: a soft server gets a whole budget at once and its deadline is postponed by one period (1998); a
+-- server of throttled mode waits
 abbrev pub after_exhaustion : Mode → Rate → State → State
 after_exhaustion Soft r s = record s { budget = r.budget; deadline = s.deadline + r.period }
 after_exhaustion Throttled r s = record s { throttled = true }

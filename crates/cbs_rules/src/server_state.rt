@@ -56,7 +56,7 @@ impl ServerState {
     /// throttled.
     ///
     /// Let c be the budget and d the deadline. The server is renewed if `d <= now`, or if `c * T >= (d - now) * Q`
-    /// (soft) or `c * T > (d - now) * Q` (throttled). A renewed server has the budget Q and the deadline `now + T`.
+    /// (soft; Abeni and Buttazzo, RTSS 1998) or `c * T > (d - now) * Q` (throttled). A renewed server has the budget Q and the deadline `now + T`.
     /// Otherwise both stay.
     pub fn arrive_idle(&mut self, mode: Mode, now: u64)
         requires free { self.old.state.throttled ≡ false }

@@ -1,4 +1,4 @@
--- Which server runs: earliest deadline first, and of equal deadlines the lower number.
+-- Which server runs: earliest deadline first (Liu and Layland, JACM 1973), and of equal deadlines the lower number.
 use Rattle.std.specs.Prelude.{◌≡◌, ℕ, ◌<◌, Bool, true, false, not, ◌&&◌, ◌||◌, eqb, leb, ltb, List, length, get_or, Option, Some, None}
 use Rattle.cbs_steps.specs.Searches.{all_below, first_below}
 

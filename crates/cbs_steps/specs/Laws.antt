@@ -68,7 +68,7 @@ module _ {W : Type 0} where
   -- No server takes more than its share of the time that its deadline moves over. With Q ticks in every T, from before
   -- to after: (ticks taken since) + (budget - overrun) - (budget - overrun before) <= Q / T * (deadline - deadline
   -- before). Here both sides are taken T times, and each subtracted number stands on the other side. It is the
-  -- bandwidth lemma, with charges counted as taken.
+  -- bandwidth lemma of Abeni and Buttazzo 1998, with charges counted as taken.
   abbrev pub IsWithinShare : Account W → Account W → Type 0
   IsWithinShare before after =
       let r = before.terms.reservation in

@@ -1,5 +1,5 @@
 -- On time: all servers together ask for no more than the time that is left, so that none is late. The argument is that
--- of the processor's demand under earliest deadline first.
+-- of the processor's demand under earliest deadline first (Baruah, Rosier and Howell, Real-Time Systems 1990).
 use Rattle.std.specs.Prelude.{◌≡◌, ℕ, ◌+◌, ◌-◌, ◌*◌, ◌≤◌, ◌<◌, min, Bool, true, false, ◌||◌, ◌&&◌, leb, ltb, if◌then◌else◌, List, [], ◌∷◌}
 use Rattle.std.specs.List.{sum_by, AllByRecursion}
 use Rattle.cbs_job.specs.Work.{Meaning}
