@@ -23,7 +23,7 @@ apart_push [] q p h j = (j, tt)
 apart_push (x ∷ []) q p h j = (h.0, (j, tt))
 apart_push (x ∷ y ∷ ys) q p h j = (h.0, apart_push (y ∷ ys) q p h.1 j)
 
--- with no last one there is none
+-- if there is no last stretch, there is no stretch at all
 abbrev HasLast : List Stretch → Option Stretch → Type 0
 HasLast done None = done ≡ []
 HasLast done (Some q) = Unit {0}
@@ -54,13 +54,13 @@ apart_until : (w : Window) (last : Option Last) (to : ℕ) (j : Joined) → IsAp
 apart_until w None to j h = h
 apart_until w (Some l) to j h = apart_with w (waiting_stretch l to) (with_stretch w (throttled_stretch l to) j) (apart_with w (throttled_stretch l to) j h)
 
--- what a server does
+-- the stretches of a server are apart
 apart_seen : (w : Window) (own : List Seen) → IsApart (spans_seen w own)
 apart_seen w [] = apart_none
 apart_seen w (o ∷ own) =
     apart_with w (step_stretch o) (spans_until w (last_of own) (begun o) (spans_seen w own))
     (apart_until w (last_of own) (begun o) (spans_seen w own) (apart_seen w own))
 
--- .. and after its last step
+-- they are apart also after its last step
 pub apart_at_end : (w : Window) (end : ℕ) (own : List Seen) → AreApart (all_of (spans_until w (last_of own) end (spans_seen w own)))
 apart_at_end w end own = let h = apart_until w (last_of own) end (spans_seen w own) (apart_seen w own) in h.apart

@@ -36,7 +36,7 @@ or_none : (x a b : Bool) → a ≡ false → b ≡ false → ((x || a) || b) ≡
 or_none true a b e f = refl
 or_none false a b e f = rw (e, f) refl
 
--- so until a step of its own its bars are as they were
+-- until a step of its own, the bars of a server stay as they were
 bars_until : (w : Window) (j t : ℕ) (last : Option Last) (to : ℕ) (s : Joined) → w.from ≤ t → t < w.to
     → is_covered (kind.Runs j) t (all_of (spans_until w last to s)) ≡ is_covered (kind.Runs j) t (all_of s)
 bars_until w j t None to s a b = refl
@@ -69,7 +69,7 @@ own_unit s j (event.NotClosed k error) h = refl
 own_unit s j (event.Charged k n) h = refl
 own_unit s j (event.NotCharged k n error) h = refl
 
--- a step of another ran none
+-- a step of another server ran no unit of server s
 other_unit : (s j : ℕ) (e : Event) → is_server s (server_of e) ≡ false → runs_unit_of s j e ≡ false
 other_unit s j (event.Ran (unit.Unit k q)) h = and_false (eqb k s) (eqb q j) h
 other_unit s j (event.Ran (unit.Done c)) h = and_false (eqb c.server s) (eqb c.seq j) h
@@ -106,12 +106,12 @@ bars_seen w s j t (o ∷ seen) a b = elim (cases_Bool (is_server s (server_of o.
       rw n (bars_seen w s j t seen a b ∙ ap (λ x. x || ran s j t seen) (sym (and_false (runs_unit_of s j o.event) (took t o) (other_unit s j o.event n))))
 ]
 
--- .. and so it is with what comes after its last step
+-- the same with what comes after its last step
 pub bars_at_end : (w : Window) (s j t end : ℕ) (seen : List Seen) → w.from ≤ t → t < w.to
     → is_covered (kind.Runs j) t (all_of (spans_until w (last_of (steps_of s seen)) end (spans_seen w (steps_of s seen)))) ≡ ran s j t seen
 bars_at_end w s j t end seen a b = let own = steps_of s seen in bars_until w j t (last_of own) end (spans_seen w own) a b ∙ bars_seen w s j t seen a b
 
--- what is kept of servers with these reservations, of the steps that were seen
+-- what is collected of servers with these reservations, from the steps that were seen
 pub record AreRows (w : Window) (rates : List Rate) (seen : List Seen) (k : Kept) : Type 0 where
   pub window : k.window ≡ w
   pub count : length k.rows ≡ length rates
@@ -176,7 +176,7 @@ rows_after w rates seen o k (Some i) is was = elim (cases_Bool (ltb i (length k.
       })
 ]
 
--- what is kept after all steps
+-- what is collected after all steps
 pub rows_seen : (w : Window) (rates : List Rate) (seen : List Seen) → AreRows w rates seen (kept_seen (new_kept w rates) seen)
 rows_seen w rates [] = record {
   window = refl;
@@ -186,7 +186,7 @@ rows_seen w rates [] = record {
 }
 rows_seen w rates (o ∷ seen) = rows_after w rates seen o (kept_seen (new_kept w rates) seen) (server_of o.event) refl (rows_seen w rates seen)
 
--- the charts of what is kept show what was seen
+-- the charts that are made of what was collected show what was seen
 pub chart_seen : (w : Window) (rates : List Rate) (end : ℕ) (seen : List Seen) (k : Kept) (c : Chart) → k ≡ kept_seen (new_kept w rates) seen → c.window ≡ w
     → c.idle.items ≡ all_of k.idle → AreRowCharts w end k.rows c.servers.items → IsChart rates end seen c
 chart_seen w rates end seen k c is window idle charts =

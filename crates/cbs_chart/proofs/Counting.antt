@@ -8,7 +8,7 @@ use Rattle.cbs_chart.specs.declared.counts.Counts.{Counts}
 use Rattle.cbs_chart.specs.declared.stretch.Kind.{Kind}
 use Rattle.cbs_chart.specs.declared.stretch.Stretch.{Stretch}
 
--- what is told of a sum, with one more
+-- a sum as a chart gives it, with one number more
 told_more : (a b : ℕ) → told (a + b) ≡ told (told a + b)
 told_more a b = omega arith
 
@@ -50,7 +50,7 @@ pub counts_next : (from to : ℕ) (ps : List Stretch) (i : ℕ) (d : Stretch) �
     → counts_of from to (take (i + 1) ps) ≡ counts_with (get_or ps i d).kind (overlap from to (get_or ps i d)) (counts_of from to (take i ps))
 counts_next from to ps i d lt = ap (counts_of from to) (take_more ps i d lt) ∙ counts_more from to (take i ps) (get_or ps i d)
 
--- .. which takes no tick of the cell
+-- the same for a stretch that takes no tick of the cell
 pub counts_skipped : (from to : ℕ) (ps : List Stretch) (i : ℕ) (d : Stretch) → i < length ps → overlap from to (get_or ps i d) ≡ 0
     → counts_of from to (take (i + 1) ps) ≡ counts_of from to (take i ps)
 counts_skipped from to ps i d lt none =

@@ -13,7 +13,7 @@ use Rattle.cbs_chart.specs.declared.stretch.Kind.TheVariants as kind
 use Rattle.cbs_chart.specs.declared.stretch.Stretch.{Stretch}
 use Rattle.cbs_chart.specs.declared.window.Window.{Window}
 
--- what is of the same kind as one thing is it of another one that is the same
+-- a thing of the same kind as one thing is of the same kind as another, if these two are
 same_kinds : (a b k : Kind) → same_kind a b ≡ true → same_kind a k ≡ same_kind b k
 same_kinds (kind.Runs i) (kind.Runs j) k e = let s : i ≡ j = grind (arith, nat_tests) in ap (λ n. same_kind (kind.Runs n) k) s
 same_kinds kind.Charged kind.Charged k e = refl
@@ -34,7 +34,7 @@ both_right : (a b : Bool) → (a && b) ≡ true → b ≡ true
 both_right true b e = e
 both_right false b e = absurd cc
 
--- one of two ranges of ticks that touch or overlap takes a tick exactly if the range of both does
+-- two ranges of ticks touch or overlap: the range over both takes exactly the ticks that one of them takes
 range_of_both : (a b c d t : ℕ) → a ≤ c → c ≤ b → (leb a t && ltb t (max b d)) ≡ ((leb a t && ltb t b) || (leb c t && ltb t d))
 range_of_both a b c d t h g = elim (cases_Bool (leb a t)) [
   | inl x ↦ elim (cases_Bool (ltb t b)) [
@@ -52,7 +52,7 @@ test_of_both : (a b c : Bool) → (a && (b || c)) ≡ ((a && b) || (a && c))
 test_of_both true b c = refl
 test_of_both false b c = refl
 
--- a stretch that another joined covers the ticks of both
+-- a stretch that another one joined covers the ticks of both
 joined_shows : (k : Kind) (t : ℕ) (q p : Stretch) → joins q p ≡ true
     → shows k t (record { kind = q.kind; from = q.from; to = max q.to p.to }) ≡ (shows k t q || shows k t p)
 joined_shows k t q p j =
@@ -102,14 +102,14 @@ covered_joined k t p done (Some q) = elim (cases_Bool (joins q p)) [
       ∙ both_last (is_covered k t (done ++ q ∷ [])) (shows k t p))
 ]
 
--- within a window what is within it is all
+-- within a window, the part of a stretch within the window takes the same ticks as the stretch
 clipped_shows : (w : Window) (k : Kind) (t : ℕ) (p : Stretch) → w.from ≤ t → t < w.to → shows k t (clipped w p) ≡ shows k t p
 clipped_shows w k t p a b = ap (λ x. same_kind p.kind k && x) (clipped_takes w t p a b)
   where
     clipped_takes : (w : Window) (t : ℕ) (p : Stretch) → w.from ≤ t → t < w.to → takes t (clipped w p) ≡ takes t p
     clipped_takes w t p a b = grind (arith, nat_tests)
 
--- a stretch with nothing within the window takes none of its ticks
+-- a stretch with no part within the window takes none of its ticks
 nothing_shown : (w : Window) (k : Kind) (t : ℕ) (p : Stretch) → w.from ≤ t → t < w.to → ltb (max p.from w.from) (min p.to w.to) ≡ false → shows k t p ≡ false
 nothing_shown w k t p a b e = elim (cases_Bool (same_kind p.kind k)) [
   | inl y ↦ rw y (grind (arith, nat_tests))
@@ -120,7 +120,7 @@ or_false : (x : Bool) → x ≡ (x || false)
 or_false true = refl
 or_false false = refl
 
--- one more, of which the window may show something, covers its ticks of the window, and changes no others
+-- one more stretch, which the window may show in part, covers its ticks of the window, and changes no others
 pub with_covers : (w : Window) (k : Kind) (t : ℕ) (p : Stretch) (j : Joined) → w.from ≤ t → t < w.to
     → is_covered k t (all_of (with_stretch w p j)) ≡ (is_covered k t (all_of j) || shows k t p)
 with_covers w k t p j a b = elim (cases_Bool (ltb (max p.from w.from) (min p.to w.to))) [
@@ -135,7 +135,7 @@ pub cover_more : (w : Window) (k : Kind) (t : ℕ) (ps : List Stretch) (i : ℕ)
 cover_more w k t ps i d j a b lt h =
     with_covers w k t (get_or ps i d) j a b ∙ (ap (λ x. x || shows k t (get_or ps i d)) h ∙ sym (list_any_more (shows k t) ps i d lt))
 
--- the late ticks of jobs take a tick exactly if one of the jobs is late in it
+-- the late ticks of jobs cover a tick exactly if one of the jobs is late in it
 pub late_of_jobs : (end t : ℕ) (jobs : List ChartJob)
     → list_any (shows kind.Late t) (map (late_stretch end) jobs) ≡ list_any (λ job. takes t (late_stretch end job)) jobs
 late_of_jobs end t [] = refl

@@ -1,4 +1,4 @@
--- What is kept of all servers, and what a picture shows of them.
+-- What is collected of all servers, and what a picture shows of them.
 use Rattle.std.specs.Prelude.{◌≡◌, ℕ, ◌<◌, ◌≤◌, Bool, false, ◌&&◌, eqb, leb, ltb, if◌then◌else◌, List, [], ◌∷◌, length, map, get_or, set, slice_get, is_none, Option, Some, None}
 use Rattle.std.specs.List.{list_any}
 use Rattle.cbs_rate.specs.Rate.{Rate}
@@ -21,7 +21,7 @@ use Rattle.cbs_chart.specs.declared.stretch.Kind.TheVariants as kind
 use Rattle.cbs_chart.specs.declared.waits.Last.{Last}
 use Rattle.cbs_chart.specs.declared.window.Window.{Window}
 
--- what is kept of one server
+-- what is collected of one server
 pub record RowSeen : Type 0 where
   pub reservation : Rate
   pub last : Option Last
@@ -34,7 +34,7 @@ pub record RowSeen : Type 0 where
   pub deadlines : List ℕ
   pub course : CourseSeen
 
--- .. before its first step
+-- what is collected of a server before its first step
 abbrev pub new_row : Rate → RowSeen
 new_row r = record {
   reservation = r;
@@ -49,7 +49,7 @@ new_row r = record {
   course = no_course;
 }
 
--- .. after one step more
+-- what is collected after one more step
 abbrev pub row_after : Window → Seen → RowSeen → RowSeen
 row_after w o row = record {
   reservation = row.reservation;
@@ -64,7 +64,7 @@ row_after w o row = record {
   course = course_after w row.reservation row.last o row.course;
 }
 
--- .. and of its steps, the newest first
+-- what is collected of all steps, the newest first
 abbrev pub row_seen : Window → Rate → List Seen → RowSeen
 row_seen w r own = record {
   reservation = r;
@@ -79,7 +79,7 @@ row_seen w r own = record {
   course = course_seen w r own;
 }
 
--- .. with what goes on after its last step, up to a tick
+-- what is collected, with what goes on after the last step up to a tick
 abbrev pub row_until : Window → ℕ → RowSeen → RowSeen
 row_until w to row = record {
   reservation = row.reservation;
@@ -94,20 +94,20 @@ row_until w to row = record {
   course = course_until w row.reservation row.last to row.course;
 }
 
--- what is kept of all servers: of each, and the ticks in which nobody runs
+-- what is collected of all servers: for each server its row, and the ticks in which nobody runs
 pub record Kept : Type 0 where
   pub window : Window
   pub rows : List RowSeen
   pub idle : Joined
 
--- what stands if there is no such server
+-- what stands for a server that does not exist
 abbrev pub no_row : RowSeen
 no_row = new_row (record { budget = 0; period = 0 })
 
 abbrev pub row_at : List RowSeen → ℕ → RowSeen
 row_at rows s = get_or rows s no_row
 
--- after one step more of server s, or of none
+-- what is collected after one more step, of server s or of none
 abbrev pub kept_with : Option ℕ → Seen → Kept → Kept
 kept_with None o k = record { window = k.window; rows = k.rows; idle = idle_after k.window o k.idle }
 kept_with (Some s) o k =
@@ -116,21 +116,21 @@ kept_with (Some s) o k =
 abbrev pub kept_after : Seen → Kept → Kept
 kept_after o k = kept_with (server_of o.event) o k
 
--- after all steps, the newest first
+-- what is collected after all steps, the newest first
 abbrev pub kept_seen : Kept → List Seen → Kept
 kept_seen first [] = first
 kept_seen first (o ∷ seen) = kept_after o (kept_seen first seen)
 
--- before the first step
+-- what is collected before the first step
 abbrev pub new_kept : Window → List Rate → Kept
 new_kept w rates = record { window = w; rows = map new_row rates; idle = nothing_joined }
 
--- the ticks in which nobody runs, of all steps
+-- the ticks in which nobody runs, over all steps
 abbrev pub idle_seen : Window → List Seen → Joined
 idle_seen w [] = nothing_joined
 idle_seen w (o ∷ seen) = if is_none (server_of o.event) then idle_after w o (idle_seen w seen) else idle_seen w seen
 
--- what a picture shows of a server with a reservation, of its steps, in a run that ends at a tick
+-- what a picture shows of a server with this reservation, from its steps, in a run that ends at this tick
 pub record IsServerChart (w : Window) (r : Rate) (end : ℕ) (own : List Seen) (c : ServerChart) : Type 0 where
   pub spans : c.spans.items ≡ all_of (spans_until w (last_of own) end (spans_seen w own))
   pub refused : c.refused.items ≡ all_of (refused_seen w own)
@@ -142,18 +142,18 @@ pub record IsServerChart (w : Window) (r : Rate) (end : ℕ) (own : List Seen) (
   pub deadlines : c.deadlines.items ≡ deadlines_until w r (last_of own) end (deadlines_seen w r own)
   pub course : record { opening = c.opening; corners = c.corners.items } ≡ course_until w r (last_of own) end (course_seen w r own)
 
--- a unit is of job j of server s
+-- the unit is one of job j of server s
 abbrev pub is_unit_of : ℕ → ℕ → Ran → Bool
 is_unit_of s j (unit.Unit k q) = eqb k s && eqb q j
 is_unit_of s j (unit.Done c) = eqb c.server s && eqb c.seq j
 is_unit_of s j _ = false
 
--- a step ran one
+-- the step ran a unit of job j of server s
 abbrev pub runs_unit_of : ℕ → ℕ → Event → Bool
 runs_unit_of s j (event.Ran r) = is_unit_of s j r
 runs_unit_of s j _ = false
 
--- a step took tick t
+-- the step took tick t
 abbrev pub took : ℕ → Seen → Bool
 took t o = leb (begun o) t && ltb t o.clock
 
@@ -165,13 +165,13 @@ ran s j t seen = list_any (λ o. runs_unit_of s j o.event && took t o) seen
 abbrev pub rate_at : List Rate → ℕ → Rate
 rate_at rates s = get_or rates s (record { budget = 0; period = 0 })
 
--- what a picture shows of servers with these reservations, of all steps
+-- what a picture shows of servers with these reservations, from all steps
 pub record IsChart (rates : List Rate) (end : ℕ) (seen : List Seen) (c : Chart) : Type 0 where
   pub idle : c.idle.items ≡ all_of (idle_seen c.window seen)
   pub count : length c.servers.items ≡ length rates
   pub each : (s : ℕ) (server : ServerChart) → slice_get c.servers.items s ≡ Some server
       → IsServerChart c.window (rate_at rates s) end (steps_of s seen) server
-  -- tick t is covered by a bar of server s with the number of job j exactly if the steps ran a unit of job j of s in it
+  -- a bar of server s with the number j covers tick t exactly if the steps ran a unit of its job j in tick t
   pub bars : (s j t : ℕ) (server : ServerChart) → slice_get c.servers.items s ≡ Some server → c.window.from ≤ t → t < c.window.to
       → is_covered (kind.Runs j) t server.spans.items ≡ ran s j t seen
   -- neighbouring units of one job are one bar

@@ -1,23 +1,23 @@
--- How many ticks of a cell stretches take.
+-- Counts of the ticks in a cell that stretches take.
 use Rattle.std.specs.Prelude.{ℕ, ◌-◌, ◌+◌, Bool, true, false, if◌then◌else◌, max, min, List, sum_by}
 use Rattle.cbs_chart.specs.declared.counts.Counts.{Counts}
 use Rattle.cbs_chart.specs.declared.stretch.Kind.{Kind}
 use Rattle.cbs_chart.specs.declared.stretch.Kind.TheVariants as kind
 use Rattle.cbs_chart.specs.declared.stretch.Stretch.{Stretch}
 
--- how many ticks from one up to another a stretch takes
+-- how many ticks of a stretch are at the tick `from` or later, and before the tick `to`
 abbrev pub overlap : ℕ → ℕ → Stretch → ℕ
 overlap from to p = min p.to to - max p.from from
 
--- a number as it is told: one that is greater than 2^64 - 1 as that
+-- a count as a chart gives it: at most 2^64 - 1
 abbrev pub told : ℕ → ℕ
 told n = min n 18446744073709551615
 
--- so many ticks, if it is so
+-- the number of ticks if the condition holds, else 0
 abbrev pub ticks_if : Bool → ℕ → ℕ
 ticks_if b n = if b then n else 0
 
--- how many ticks of the cell from one tick up to another are taken by stretches whose kind passes a test
+-- how many ticks of a cell, which goes from one tick up to another, are taken by stretches whose kind passes the test
 abbrev pub counted : (Kind → Bool) → ℕ → ℕ → List Stretch → ℕ
 counted is from to ps = sum_by (λ p. ticks_if (is p.kind) (overlap from to p)) ps
 
@@ -61,7 +61,7 @@ counts_of from to ps = record {
   idle = told (counted is_idle from to ps);
 }
 
--- counts with so many ticks more of a kind
+-- the counts with this many more ticks of a kind
 abbrev pub counts_with : Kind → ℕ → Counts → Counts
 counts_with k n c = record {
   runs = told (c.runs + ticks_if (is_runs k) n);

@@ -1,4 +1,4 @@
--- The deadlines that a server takes, of its steps, the newest first.
+-- The deadlines that a server gets, from its steps. The steps stand with the newest first.
 use Rattle.std.specs.Prelude.{ℕ, ◌+◌, Bool, ◌&&◌, ◌||◌, eqb, leb, ltb, if◌then◌else◌, List, [], ◌∷◌, ◌++◌, Option, Some, None}
 use Rattle.cbs_rate.specs.Rate.{Rate}
 use Rattle.cbs_steps.specs.declared.view.ServerView.{ServerView}
@@ -8,38 +8,38 @@ use Rattle.cbs_chart.specs.Rows.{last_of}
 use Rattle.cbs_chart.specs.declared.waits.Last.{Last}
 use Rattle.cbs_chart.specs.declared.window.Window.{Window}
 
--- a throttled server is replenished by a tick at which no step of it was made since
+-- a throttled server that makes no step until a tick is replenished at or before that tick
 abbrev pub is_renewed : Last → ℕ → Bool
 is_renewed l to = l.view.throttled && leb l.view.deadline to
 
--- the deadline that it has then: a period later
+-- the deadline of a server after that replenishment: one period later
 abbrev pub renewed_deadline : Rate → Last → ℕ
 renewed_deadline r l = l.view.deadline + r.period
 
--- the deadline of a server at a tick, before a step of its own; 0 at the start
+-- the deadline of a server at a tick, before a step of its own. At the start it is 0
 abbrev pub deadline_at : Rate → Option Last → ℕ → ℕ
 deadline_at r None to = 0
 deadline_at r (Some l) to = if is_renewed l to then renewed_deadline r l else l.view.deadline
 
--- a deadline more, if the window shows it: one at its end is shown too
+-- one more deadline, if the window shows it. A deadline at the window's end is shown too
 abbrev pub with_deadline : Window → ℕ → List ℕ → List ℕ
 with_deadline w d ds = if leb w.from d && leb d w.to then ds ++ d ∷ [] else ds
 
--- the deadlines up to a tick at which no step of the server is made
+-- the deadlines up to a tick, before which the server makes no further step
 abbrev pub deadlines_until : Window → Rate → Option Last → ℕ → List ℕ → List ℕ
 deadlines_until w r None to ds = ds
 deadlines_until w r (Some l) to ds = if is_renewed l to then with_deadline w (renewed_deadline r l) ds else ds
 
--- .. that of a step up to the window's end, if it is another than before
+-- the deadlines with the one after a step, if the step ends by the window's end and the deadline changed
 abbrev pub deadlines_with : Window → ℕ → ℕ → Option ServerView → List ℕ → List ℕ
 deadlines_with w before clock None ds = ds
 deadlines_with w before clock (Some v) ds = if ltb w.to clock || eqb v.deadline before then ds else with_deadline w v.deadline ds
 
--- .. after one step more
+-- the deadlines after one more step
 abbrev pub deadlines_after : Window → Rate → Option Last → Seen → List ℕ → List ℕ
 deadlines_after w r last o ds = deadlines_with w (deadline_at r last (begun o)) o.clock o.view (deadlines_until w r last (begun o) ds)
 
--- .. after all steps
+-- the deadlines after all steps
 abbrev pub deadlines_seen : Window → Rate → List Seen → List ℕ
 deadlines_seen w r [] = []
 deadlines_seen w r (o ∷ own) = deadlines_after w r (last_of own) o (deadlines_seen w r own)

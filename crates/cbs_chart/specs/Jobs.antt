@@ -1,4 +1,4 @@
--- The jobs of one server, of its steps, the newest first.
+-- The jobs of one server, from its steps. The steps stand with the newest first.
 use Rattle.std.specs.Prelude.{ℕ, ◌+◌, Bool, ◌&&◌, ltb, if◌then◌else◌, min, List, [], ◌∷◌, ◌++◌, drop, filter, slice_get, unwrap_or, Option, Some, None}
 use Rattle.cbs_steps.specs.declared.reply.Ran.{Ran}
 use Rattle.cbs_steps.specs.declared.reply.Ran.TheVariants as ran
@@ -11,20 +11,20 @@ use Rattle.cbs_chart.specs.declared.stretch.Kind.TheVariants.{Late}
 use Rattle.cbs_chart.specs.declared.stretch.Stretch.{Stretch}
 use Rattle.cbs_chart.specs.declared.window.Window.{Window}
 
--- a job that was accepted
+-- the job that was accepted
 abbrev pub job_of : Arrival → ℕ → Option ℕ → ChartJob
 job_of job number promised = record { number = number; came = job.came; units = job.units; within = job.within; promised = promised; finish = None }
 
--- a job that is finished at a tick
+-- the job, finished at a tick
 abbrev pub finished_at : ℕ → ChartJob → ChartJob
 finished_at clock job =
     record { number = job.number; came = job.came; units = job.units; within = job.within; promised = job.promised; finish = Some clock }
 
--- a job that is finished at a tick is unfinished in a tick of the window
+-- a job that is finished at this tick is unfinished in some tick of the window
 abbrev pub is_shown : Window → ℕ → ChartJob → Bool
 is_shown w finish job = ltb w.from finish && ltb job.came w.to
 
--- the jobs that were finished and are shown, and those that wait, the oldest first
+-- the finished jobs that are shown, and the jobs that wait, the oldest first
 pub record JobsSeen : Type 0 where
   pub finished : List ChartJob
   pub waiting : List ChartJob
@@ -32,7 +32,7 @@ pub record JobsSeen : Type 0 where
 abbrev pub no_jobs : JobsSeen
 no_jobs = record { finished = []; waiting = [] }
 
--- after the oldest of those that wait is finished at a tick, if there is one
+-- the jobs after the oldest one that waits is finished at a tick, if a job waits
 abbrev pub jobs_without : Window → ℕ → Option ChartJob → JobsSeen → JobsSeen
 jobs_without w clock None js = js
 jobs_without w clock (Some job) js = record {
@@ -40,12 +40,12 @@ jobs_without w clock (Some job) js = record {
   waiting = drop 1 js.waiting;
 }
 
--- .. after a unit: the last one of a job finishes the oldest of those that wait
+-- the jobs after a run. The last unit of a job finishes the oldest one that waits
 abbrev pub jobs_after_run : Window → ℕ → Ran → JobsSeen → JobsSeen
 jobs_after_run w clock (ran.Done c) js = jobs_without w clock (slice_get js.waiting 0) js
 jobs_after_run w clock _ js = js
 
--- .. after a step that leaves the clock at a tick
+-- the jobs after a step that leaves the clock at a tick
 abbrev pub jobs_after : Window → ℕ → Event → JobsSeen → JobsSeen
 jobs_after w clock (event.Accepted job number promised) js = record { finished = js.finished; waiting = js.waiting ++ job_of job number promised ∷ [] }
 jobs_after w clock (event.Ran r) js = jobs_after_run w clock r js
@@ -60,15 +60,17 @@ jobs_seen w (o ∷ own) = jobs_after w o.clock o.event (jobs_seen w own)
 abbrev pub came_before_end : Window → ChartJob → Bool
 came_before_end w job = ltb job.came w.to
 
--- the jobs that the window shows: the finished ones, and then those that wait and came before its end
+-- the jobs that the window shows: the finished ones, and after them the waiting ones that came before its end
 abbrev pub all_jobs : Window → JobsSeen → List ChartJob
 all_jobs w js = js.finished ++ filter (came_before_end w) js.waiting
 
--- the tick from which on a job is late, if it is to be finished within so many ticks; else the one given
+-- the tick from which on a job is late, if there is a number of ticks within which it is to be finished. Otherwise it
+-- is the given tick
 abbrev pub late_from : Option ℕ → ℕ → ℕ → ℕ
 late_from None came else_from = else_from
 late_from (Some within) came else_from = min (came + within) 18446744073709551615
 
--- the ticks in which a job is late, of a run that ends at a tick: from the last that is wanted until it is finished
+-- the ticks in which a job is late, in a run that ends at a tick. They go from the tick by which the job was to be
+-- finished to its end
 abbrev pub late_stretch : ℕ → ChartJob → Stretch
 late_stretch end job = let to = unwrap_or job.finish end in record { kind = Late; from = late_from job.within job.came to; to = to }

@@ -1,4 +1,5 @@
--- The ticks at which jobs come and are finished, and how many are refused, of a server's steps, the newest first.
+-- The ticks at which jobs come and are finished, and the number of refused releases, from a server's steps. The steps
+-- stand with the newest first.
 use Rattle.std.specs.Prelude.{ℕ, ◌+◌, ◌&&◌, leb, ltb, if◌then◌else◌, min, List, [], ◌∷◌, ◌++◌}
 use Rattle.cbs_steps.specs.declared.reply.Ran.{Ran}
 use Rattle.cbs_steps.specs.declared.reply.Ran.TheVariants as ran
@@ -7,37 +8,38 @@ use Rattle.cbs_views.specs.declared.seen.Event.TheVariants as event
 use Rattle.cbs_views.specs.declared.seen.Seen.{Seen}
 use Rattle.cbs_chart.specs.declared.window.Window.{Window}
 
--- how many releases of a server were refused in the window, after one step more
+-- how many releases of a server were refused in the window, after one more step
 abbrev pub refusals_after : Window → Event → ℕ → ℕ
 refusals_after w (event.NotAccepted job error) n = if leb w.from job.came && ltb job.came w.to then min (n + 1) 18446744073709551615 else n
 refusals_after w _ n = n
 
--- .. after all steps
+-- how many were refused after all steps
 abbrev pub refusals_seen : Window → List Seen → ℕ
 refusals_seen w [] = 0
 refusals_seen w (o ∷ own) = refusals_after w o.event (refusals_seen w own)
 
--- the ticks of the window at which accepted jobs came, after one step more
+-- the ticks of the window at which accepted jobs came, after one more step
 abbrev pub arrivals_after : Window → Event → List ℕ → List ℕ
 arrivals_after w (event.Accepted job number promised) ts = if leb w.from job.came && ltb job.came w.to then ts ++ job.came ∷ [] else ts
 arrivals_after w _ ts = ts
 
--- .. after all steps
+-- those ticks after all steps
 abbrev pub arrivals_seen : Window → List Seen → List ℕ
 arrivals_seen w [] = []
 arrivals_seen w (o ∷ own) = arrivals_after w o.event (arrivals_seen w own)
 
--- the ticks at which jobs were finished, each the end of a tick of the window, after a run that leaves the clock at one
+-- the ticks at which jobs were finished, after a run that leaves the clock at a tick. Each is the end of a tick of the
+-- window
 abbrev pub completions_after_run : Window → ℕ → Ran → List ℕ → List ℕ
 completions_after_run w clock (ran.Done c) ts = if ltb w.from clock && leb clock w.to then ts ++ clock ∷ [] else ts
 completions_after_run w clock _ ts = ts
 
--- .. after one step more
+-- those ticks after one more step
 abbrev pub completions_after : Window → ℕ → Event → List ℕ → List ℕ
 completions_after w clock (event.Ran r) ts = completions_after_run w clock r ts
 completions_after w clock _ ts = ts
 
--- .. after all steps
+-- those ticks after all steps
 abbrev pub completions_seen : Window → List Seen → List ℕ
 completions_seen w [] = []
 completions_seen w (o ∷ own) = completions_after w o.clock o.event (completions_seen w own)

@@ -1,4 +1,4 @@
--- What becomes of what is kept of one server. For the code alone.
+-- What a chart shows of what was collected of one server. For the code alone.
 use Rattle.std.specs.Prelude.{◌≡◌, ℕ, ◌<◌, ◌≤◌, List}
 use Rattle.std.specs.List.{list_any}
 use Rattle.cbs_chart.specs.Charts.{RowSeen}
@@ -13,12 +13,12 @@ use Rattle.cbs_chart.specs.declared.stretch.Kind.TheVariants as kind
 use Rattle.cbs_chart.specs.declared.stretch.Stretch.{Stretch}
 use Rattle.cbs_chart.specs.declared.window.Window.{Window}
 
--- a tick of the window is covered by one of these stretches exactly if one of the jobs is late in it, in a run that ends at a tick
+-- in a run that ends at this tick, the stretches cover a tick of the window exactly if a job is late in it
 abbrev pub LateCovered : Window → ℕ → List ChartJob → List Stretch → Type 0
 LateCovered w end jobs late =
     (t : ℕ) → w.from ≤ t → t < w.to → is_covered kind.Late t late ≡ list_any (λ job. takes t (late_stretch end job)) jobs
 
--- what a window shows of a server of which this is kept
+-- what a window shows of a server, from what was collected of it
 pub record IsRowChart (w : Window) (end : ℕ) (row : RowSeen) (c : ServerChart) : Type 0 where
   pub spans : c.spans.items ≡ all_of (spans_until w row.last end row.spans)
   pub refused : c.refused.items ≡ all_of row.refused

@@ -7,7 +7,7 @@ use Rattle.cbs_chart.specs.declared.stretch.Kind.TheVariants as kind
 use Rattle.cbs_chart.specs.declared.stretch.Stretch.{Stretch}
 use Rattle.cbs_chart.specs.declared.window.Window.{Window}
 
--- both are the same
+-- both kinds are the same
 abbrev pub same_kind : Kind → Kind → Bool
 same_kind (kind.Runs i) (kind.Runs j) = eqb i j
 same_kind kind.Charged kind.Charged = true
@@ -23,23 +23,23 @@ same_kind _ _ = false
 abbrev pub takes : ℕ → Stretch → Bool
 takes t p = leb p.from t && ltb t p.to
 
--- it is of this kind, and takes tick t
+-- the stretch is of this kind, and takes tick t
 abbrev pub shows : Kind → ℕ → Stretch → Bool
 shows k t p = same_kind p.kind k && takes t p
 
--- tick t is covered by one of these stretches that is of this kind
+-- one of the stretches is of this kind and takes tick t
 abbrev pub is_covered : Kind → ℕ → List Stretch → Bool
 is_covered k t ps = list_any (shows k t) ps
 
--- what of a stretch is within a window
+-- the part of a stretch that is within a window
 abbrev pub clipped : Window → Stretch → Stretch
 clipped w p = record { kind = p.kind; from = max p.from w.from; to = min p.to w.to }
 
--- stretch p is of the kind of q, and begins within q or at its end
+-- stretch p is of the kind of stretch q, and begins within q or at its end
 abbrev pub joins : Stretch → Stretch → Bool
 joins q p = same_kind q.kind p.kind && (leb q.from p.from && leb p.from q.to)
 
--- stretches in order: those that stay as they are, and the last one, which the next may join
+-- stretches in order: those that do not change any more, and the last one, which the next may join
 pub record Joined : Type 0 where
   pub done : List Stretch
   pub last : Option Stretch
@@ -47,22 +47,22 @@ pub record Joined : Type 0 where
 abbrev pub nothing_joined : Joined
 nothing_joined = record { done = []; last = None }
 
--- all of them
+-- all stretches
 abbrev pub all_of : Joined → List Stretch
 all_of j = j.done ++ option_to_list j.last
 
--- one more, with at least one tick: it becomes part of the last one if it joins that
+-- the stretches with one more, which has at least one tick. If it joins the last one, it becomes part of it
 abbrev pub joined_with : Stretch → List Stretch → Option Stretch → Joined
 joined_with p done None = record { done = done; last = Some p }
 joined_with p done (Some q) =
     if joins q p then record { done = done; last = Some (record { kind = q.kind; from = q.from; to = max q.to p.to }) }
     else record { done = done ++ q ∷ []; last = Some p }
 
--- what of one more is within a window, if something is
+-- the stretches with the part of one more that is within a window, if there is such a part
 abbrev pub with_stretch : Window → Stretch → Joined → Joined
 with_stretch w p j = if ltb (max p.from w.from) (min p.to w.to) then joined_with (clipped w p) j.done j.last else j
 
--- no stretch is of the kind of the one before it and begins within that or at its end: neighbours of one kind are one stretch
+-- no stretch joins the one before it: neighbouring stretches of one kind are one stretch
 abbrev pub AreApart : List Stretch → Type 0
 AreApart [] = Unit {0}
 AreApart (p ∷ []) = Unit {0}

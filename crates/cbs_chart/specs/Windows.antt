@@ -8,7 +8,8 @@ use Rattle.cbs_chart.specs.declared.window.WindowError.TheVariants.{Empty, TooLo
 abbrev pub ticks_of : Window → ℕ
 ticks_of w = w.to - w.from
 
--- the ticks from one up to another are a window, if there are some, and at most 20000
+-- the ticks from one up to another are a window, if there are 1 to 20000 of them. Otherwise the error says why they are
+-- none
 abbrev pub AnswersWindow : ℕ → ℕ → Result Window WindowError → Type 0
 AnswersWindow from to (Ok w) = (w.from ≡ from) × (w.to ≡ to)
 AnswersWindow from to (Err Empty) = to ≤ from

@@ -14,7 +14,7 @@ use std::alloc::{AllocError, Global};
 /// What a window shows of one server.
 #[derive(Drop)]
 pub struct ServerChart {
-    /// What it does, in order. In ticks of none of them it has no job and is not throttled.
+    /// The stretches of what the server does, in order. In all other ticks it has no job and is not throttled.
     pub spans: Vec<Stretch>,
     /// The ticks in which releases are refused.
     pub refused: Vec<Stretch>,
@@ -22,17 +22,18 @@ pub struct ServerChart {
     pub refusals: u64,
     /// The ticks in which a job is late.
     pub late: Vec<Stretch>,
-    /// The jobs that are unfinished in one of the window's ticks, the finished ones first.
+    /// The jobs that are unfinished in some tick of the window. First come those that are finished by the end of the
+    /// run, then the others.
     pub jobs: Vec<ChartJob>,
     /// The ticks at which accepted jobs come.
     pub arrivals: Vec<u64>,
     /// The ticks at which jobs are finished.
     pub completions: Vec<u64>,
-    /// The deadlines that it takes.
+    /// The deadlines that the server gets.
     pub deadlines: Vec<u64>,
-    /// The budget at the window's first tick.
+    /// The budget at the first tick of the window.
     pub opening: u64,
-    /// The course of the budget after that: straight lines from corner to corner.
+    /// The budget after that: straight lines from corner to corner.
     pub corners: Vec<Corner>,
 }
 
@@ -49,7 +50,8 @@ pub struct Chart {
     pub servers: Vec<ServerChart>,
 }
 
-/// Returns the ticks of a window in which jobs are late, of a run that ends at a tick.
+/// Returns the ticks of a window in which jobs are late, in a run that ends at the tick `end`. The only error is out of
+/// memory.
 fn late_of(
     alloc: Global,
     window: Window,
@@ -71,7 +73,8 @@ fn late_of(
 }
 
 impl Row {
-    /// Returns what a window shows of the server, in a run that ends at a tick.
+    /// Returns what a window shows of the server, in a run that ends at the tick `end`. The only error is out of
+    /// memory.
     pub fn into_chart(
         mut self,
         alloc: Global,

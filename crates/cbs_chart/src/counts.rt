@@ -1,20 +1,21 @@
-//! How many ticks of a cell stretches take.
+//! Counts of the ticks in a cell that stretches take.
 
 ghost use Rattle.std.specs.Prelude.{◌≡◌, ◌+◌};
 ghost use Rattle.cbs_chart.specs.Counts.{counts_of, counts_with, overlap};
 
 use crate::stretch::{Kind, Stretch};
 
-/// How many ticks of a cell are taken by stretches, by what goes on in them; of each at most 2^64 - 1 are told.
+/// The ticks of a cell that stretches take, counted by what goes on in them. A count of more than 2^64 - 1 is given as
+/// 2^64 - 1.
 #[derive(Clone, Copy, Debug, PartialEq, Eq)]
 pub struct Counts {
     /// The server runs.
     pub runs: u64,
-    /// It is charged.
+    /// The server is charged for its last unit.
     pub charged: u64,
-    /// It has a job, and is throttled.
+    /// The server has a job, and is throttled.
     pub held: u64,
-    /// It has a job, and another runs.
+    /// The server has a job, and another runs.
     pub waits: u64,
     /// A release is refused.
     pub refused: u64,
@@ -25,7 +26,7 @@ pub struct Counts {
 }
 
 impl Stretch {
-    /// Returns how many ticks from one up to another it takes.
+    /// Returns how many ticks of the stretch are at `from` or later and before `to`.
     pub fn overlap(&self, from: u64, to: u64) -> u64
         ensures { result ≡ overlap from to self.now }
     {
@@ -34,7 +35,7 @@ impl Stretch {
 }
 
 impl Counts {
-    /// Returns these counts with so many ticks more of a kind.
+    /// Returns the counts with this many more ticks of a kind.
     fn with(self, kind: Kind, ticks: u64) -> Counts
         ensures { result ≡ counts_with kind ticks self }
     {
@@ -52,7 +53,7 @@ impl Counts {
         counts
     }
 
-    /// Returns how many ticks from one up to another stretches take, by what goes on in them.
+    /// Returns the counts of the ticks that stretches take, at `from` or later and before `to`.
     pub fn of(stretches: &[Stretch], from: u64, to: u64) -> Counts
         ensures { result ≡ counts_of from to stretches.now }
     {

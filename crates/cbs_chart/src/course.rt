@@ -10,7 +10,7 @@ use cbs_views::{Event, Seen};
 use std::alloc::{AllocError, Global};
 use std::marker::Model;
 
-/// A tick, and the budget that a server has there.
+/// A tick, and the budget of a server at that tick.
 #[derive(Clone, Copy, Debug, PartialEq, Eq)]
 pub struct Corner {
     /// The tick.
@@ -22,9 +22,9 @@ pub struct Corner {
 /// The budget of a server in a window: straight lines from corner to corner.
 #[derive(Drop)]
 pub(crate) struct Course {
-    /// The budget at the window's first tick.
+    /// The budget at the first tick of the window.
     opening: u64,
-    /// The corners after that.
+    /// The corners after that tick.
     corners: Vec<Corner>,
 }
 
@@ -36,7 +36,7 @@ impl Model for Course {
     ghost view = { λ c. record { opening = c.opening; corners = c.corners.items } };
 }
 
-/// Returns the budget of a server at a tick, before a step of its own.
+/// Returns the budget of a server at the tick `to`, before a step of its own.
 fn budget_at(reservation: Reservation, last: Option<Last>, to: u64) -> u64
     ensures { result ≡ budget_at reservation last to }
 {
@@ -49,7 +49,7 @@ fn budget_at(reservation: Reservation, last: Option<Last>, to: u64) -> u64
     last.view.budget
 }
 
-/// Returns what a step leaves of a budget, before that is renewed.
+/// Returns what a step leaves of a budget, before the budget is renewed.
 fn spent(event: &Event, budget: u64) -> u64
     ensures { result ≡ spent event.now budget }
 {
@@ -77,7 +77,8 @@ impl Course {
         }
     }
 
-    /// Adds a corner, if the window shows it or opens with it.
+    /// Adds a corner if the window shows it. A corner at or before the window's first tick becomes the opening budget
+    /// instead.
     fn add_corner(&mut self, window: Window, tick: u64, budget: u64) -> Result<(), AllocError>
         ensures { OnOk result (self.new ≡ with_corner window tick budget self.old) }
     {
@@ -89,7 +90,8 @@ impl Course {
         Ok(())
     }
 
-    /// Adds the corners of a step that begins with one budget, leaves another of it, and is followed by a third.
+    /// Adds the corners of a step: with the budget at its beginning, what it leaves of that budget, and the budget
+    /// after it.
     fn add_fall(
         &mut self,
         window: Window,
@@ -108,7 +110,7 @@ impl Course {
         self.add_corner(window, seen.clock, after)
     }
 
-    /// Adds the corners of a server that is replenished before a tick, if no step of it was made since.
+    /// Adds the corners of a replenishment at or before the tick `to`, if the server has one since its last step.
     pub fn add_renewed(
         &mut self,
         window: Window,
@@ -129,7 +131,7 @@ impl Course {
         Ok(())
     }
 
-    /// Adds a step of the server.
+    /// Adds a step of the server. Refuses if out of memory.
     #[inline]
     pub fn add(
         &mut self,
@@ -153,7 +155,7 @@ impl Course {
         )
     }
 
-    /// Returns the budget at the window's first tick, and the corners after that.
+    /// Returns the budget at the first tick of the window, and the corners after it.
     pub fn into_parts(self) -> (u64, Vec<Corner>)
         ensures opening { result.0 ≡ self.opening }
         ensures corners { result.1.items ≡ self.corners }

@@ -1,4 +1,4 @@
-//! The deadlines that a server takes.
+//! The deadlines that a server gets.
 
 ghost use Rattle.std.specs.Prelude.{◌≡◌, ◌++◌, ◌∷◌, ◌≤◌, OnOk};
 ghost use Rattle.cbs_chart.specs.Deadlines.{deadline_at, deadlines_after, deadlines_until, is_renewed, renewed_deadline, with_deadline};
@@ -10,7 +10,7 @@ use cbs_views::Seen;
 use std::alloc::AllocError;
 
 impl Last {
-    /// Returns whether the server is replenished by a tick at which no step of it was made since.
+    /// Returns whether the server, which makes no step until the tick `to`, is replenished at or before that tick.
     pub fn is_renewed(&self, to: u64) -> bool
         ensures { result ≡ is_renewed self.now to }
     {
@@ -18,7 +18,7 @@ impl Last {
     }
 }
 
-/// Returns the deadline that a server has after it was replenished.
+/// Returns the deadline of a server after its replenishment.
 fn renewed_deadline(reservation: Reservation, last: &Last) -> u128
     requires { last.now.view.deadline ≤ 18446744073709551615 }
     ensures { result ≡ renewed_deadline reservation last.now }
@@ -26,7 +26,7 @@ fn renewed_deadline(reservation: Reservation, last: &Last) -> u128
     last.view.deadline + u128::from(reservation.period())
 }
 
-/// Returns the deadline that a server has at a tick, before a step of its own.
+/// Returns the deadline of a server at the tick `to`, before a step of its own.
 fn deadline_at(reservation: Reservation, last: Option<Last>, to: u64) -> u128
     ensures { result ≡ deadline_at reservation last to }
 {
@@ -39,7 +39,7 @@ fn deadline_at(reservation: Reservation, last: Option<Last>, to: u64) -> u128
     last.view.deadline
 }
 
-/// Adds a deadline, if a window shows it.
+/// Adds a deadline if the window shows it.
 fn add_deadline(window: Window, deadline: u128, deadlines: &mut Vec<u64>) -> Result<(), AllocError>
     ensures { OnOk result (deadlines.new.items ≡ with_deadline window deadline deadlines.old.items) }
 {
@@ -49,7 +49,8 @@ fn add_deadline(window: Window, deadline: u128, deadlines: &mut Vec<u64>) -> Res
     Ok(())
 }
 
-/// Adds the deadline that a server takes where it is replenished before a tick, and no step of it was made since.
+/// Adds the deadline that a server gets by a replenishment at or before the tick `to`, if it has one since its last
+/// step.
 pub(crate) fn add_renewed(
     window: Window,
     reservation: Reservation,
@@ -68,7 +69,7 @@ pub(crate) fn add_renewed(
     Ok(())
 }
 
-/// Adds the deadlines that a server takes up to a step of its own, and by it.
+/// Adds the deadlines that a server gets before a step of its own, and by that step.
 #[inline]
 pub(crate) fn add_deadlines(
     window: Window,

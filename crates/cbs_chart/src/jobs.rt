@@ -15,21 +15,21 @@ use std::marker::Model;
 /// An accepted job.
 #[derive(Clone, Copy, Debug, PartialEq, Eq)]
 pub struct ChartJob {
-    /// Its number among the accepted jobs of its server, from 0.
+    /// The number of the job among the accepted jobs of its server, from 0.
     pub number: u64,
-    /// The tick at which it came.
+    /// The tick at which the job came.
     pub came: u64,
-    /// How many units it has.
+    /// How many units the job has.
     pub units: u32,
-    /// Within how many ticks of its coming it is to be finished, if that is wanted.
+    /// Within how many ticks of its arrival the job is to be finished, if that is wanted.
     pub within: Option<u64>,
-    /// By when it was promised to be finished, if something was promised.
+    /// The tick by which the job was promised to be finished, if one was promised.
     pub promised: Option<u128>,
-    /// The tick at which it was finished, if it was.
+    /// The tick at which the job was finished, if it was.
     pub finish: Option<u64>,
 }
 
-/// The jobs of one server that a window shows, and those that wait.
+/// The jobs of one server that a window shows, and the jobs that wait.
 #[derive(Drop)]
 pub(crate) struct Jobs {
     finished: Vec<ChartJob>,
@@ -45,7 +45,7 @@ impl Model for Jobs {
     ghost view = { λ j. record { finished = j.finished.items; waiting = j.waiting.items } };
 }
 
-/// Returns a job that was accepted.
+/// Returns the job that was accepted.
 fn job_of(job: Arrival, number: u64, promised: Option<u128>) -> ChartJob
     ensures { result ≡ job_of job number promised }
 {
@@ -60,14 +60,14 @@ fn job_of(job: Arrival, number: u64, promised: Option<u128>) -> ChartJob
 }
 
 impl ChartJob {
-    /// Returns whether a job that is finished at a tick is one of a window.
+    /// Returns whether the window shows the job, if it is finished at the tick `finish`.
     fn is_shown(&self, window: Window, finish: u64) -> bool
         ensures { result ≡ is_shown window finish self.now }
     {
         window.from < finish && self.came < window.to
     }
 
-    /// Returns the ticks in which it is late, of a run that ends at a tick.
+    /// Returns the ticks in which the job is late, in a run that ends at the tick `end`.
     pub(crate) fn late(&self, end: u64) -> Stretch
         ensures { result ≡ late_stretch end self.now }
     {
@@ -84,7 +84,7 @@ impl ChartJob {
 }
 
 impl Jobs {
-    /// Returns no jobs.
+    /// Returns an empty list of jobs.
     pub fn new(alloc: Global) -> Jobs
         ensures { result ≡ no_jobs }
     {
@@ -94,7 +94,8 @@ impl Jobs {
         }
     }
 
-    /// Takes the oldest job that waits, which was finished at a tick.
+    /// Removes the oldest job that waits, which was finished at the tick `clock`. Keeps it as a finished job if the
+    /// window shows it. Refuses if out of memory.
     fn finish(&mut self, window: Window, clock: u64) -> Result<(), AllocError>
         ensures { OnOk result (self.new ≡ jobs_without window clock (slice_get self.old.waiting 0) self.old) }
     {
@@ -114,7 +115,7 @@ impl Jobs {
         Ok(())
     }
 
-    /// Adds a step, after which the clock is at a tick.
+    /// Adds a step, after which the clock is at `clock`. Refuses if out of memory.
     #[inline]
     pub fn add(&mut self, window: Window, clock: u64, event: Event) -> Result<(), AllocError>
         ensures { OnOk result (self.new ≡ jobs_after window clock event self.old) }
@@ -140,7 +141,8 @@ impl Jobs {
         }
     }
 
-    /// Returns the finished jobs, and then those that wait and came before the window's end.
+    /// Returns the finished jobs, and after them the waiting jobs that came before the window's end. The only error is
+    /// out of memory.
     pub fn into_all(self, window: Window) -> Result<Vec<ChartJob>, AllocError>
         ensures { IfOk result (λ all. all.items ≡ all_jobs window self) }
     {

@@ -1,4 +1,4 @@
-//! What a picture shows of a run: what each server does in each tick of a window, and what comes and ends in it.
+//! What a picture shows of a run: what each server does in each tick of a window, and which jobs come and end then.
 #![tactic(auto)]
 
 mod chart;

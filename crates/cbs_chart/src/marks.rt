@@ -1,4 +1,4 @@
-//! The ticks at which jobs come and are finished, and how many are refused.
+//! The ticks at which jobs come and are finished, and the number of refused releases.
 
 ghost use Rattle.std.specs.Prelude.{◌≡◌, OnOk};
 ghost use Rattle.cbs_chart.specs.Marks.{arrivals_after, completions_after, refusals_after};
@@ -8,7 +8,7 @@ use cbs_steps::Ran;
 use cbs_views::{Event, Seen};
 use std::alloc::AllocError;
 
-/// Returns how many releases were refused in a window, after a step.
+/// Returns how many releases were refused in the window, after one more step: at most 2^64 - 1.
 #[inline]
 pub(crate) fn refusals_after(window: Window, event: &Event, refusals: u64) -> u64
     ensures { result ≡ refusals_after window event.now refusals }
@@ -31,7 +31,7 @@ pub(crate) fn refusals_after(window: Window, event: &Event, refusals: u64) -> u6
     }
 }
 
-/// Adds the tick at which a job came, if a step accepted it and the window shows it.
+/// Adds the tick at which a job came, if the step accepted a job and the window shows that tick.
 #[inline]
 pub(crate) fn add_arrival(
     window: Window,
@@ -58,7 +58,7 @@ pub(crate) fn add_arrival(
     }
 }
 
-/// Adds the tick at which a step finished a job, if it did and the window shows it.
+/// Adds the tick at which a job was finished, if the step finished a job and the window shows that tick.
 #[inline]
 pub(crate) fn add_completion(
     window: Window,

@@ -1,4 +1,4 @@
-//! What is drawn.
+//! The content of a picture.
 
 use crate::chart::ServerChart;
 use crate::stretch::Stretch;
@@ -19,12 +19,12 @@ pub struct Drawn {
     pub chart: ServerChart,
 }
 
-/// What is drawn of a run.
+/// The content of a picture of a run.
 #[derive(Drop)]
 pub struct Picture {
     /// The name of the file that was run.
     pub file: String,
-    /// The part of the time that is reserved for all servers together.
+    /// The share of the time that is reserved for all servers together.
     pub reserved: Bandwidth,
     /// The window.
     pub window: Window,

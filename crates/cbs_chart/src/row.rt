@@ -1,4 +1,4 @@
-//! What is kept of one server.
+//! What is collected of one server.
 
 ghost use Rattle.std.specs.Prelude.{◌≡◌, OnOk};
 ghost use Rattle.cbs_chart.specs.Charts.{row_after, row_until, new_row};
@@ -17,7 +17,7 @@ use cbs_views::{Event, Seen};
 use std::alloc::{AllocError, Global};
 use std::marker::Model;
 
-/// What is kept of one server.
+/// What is collected of one server.
 #[derive(Drop)]
 pub(crate) struct Row {
     pub(crate) reservation: Reservation,
@@ -51,7 +51,7 @@ impl Model for Row {
     } };
 }
 
-/// Adds the stretches of a server up to a tick at which no step of it is made.
+/// Adds the stretches from a server's last step up to the tick `to`, before which it makes no further step.
 #[inline]
 fn add_spans(
     window: Window,
@@ -68,7 +68,7 @@ fn add_spans(
     spans.add(window, last.waiting(to))
 }
 
-/// Adds a refused release, if a step is one.
+/// Adds the tick of a refused release, if the step is a refusal.
 #[inline]
 fn add_refused(window: Window, event: &Event, refused: &mut Stretches) -> Result<(), AllocError>
     ensures { OnOk result (refused.new ≡ refused_after window event.now refused.old) }
@@ -94,7 +94,7 @@ fn add_refused(window: Window, event: &Event, refused: &mut Stretches) -> Result
 }
 
 impl Row {
-    /// Returns what is kept of a server before its first step.
+    /// Returns what is collected of a server before its first step: nothing.
     pub fn new(alloc: Global, reservation: Reservation) -> Row
         ensures { result ≡ new_row reservation }
     {
@@ -112,7 +112,7 @@ impl Row {
         }
     }
 
-    /// Adds a step of the server.
+    /// Adds a step of the server. Refuses if out of memory.
     #[inline]
     pub fn add(&mut self, window: Window, seen: &Seen) -> Result<(), AllocError>
         ensures { OnOk result (self.new ≡ row_after window seen.now self.old) }
@@ -131,7 +131,7 @@ impl Row {
         Ok(())
     }
 
-    /// Adds what goes on after the last step of the server, up to a tick.
+    /// Adds what goes on after the last step of the server, up to the tick `to`. Refuses if out of memory.
     pub fn add_end(&mut self, window: Window, to: u64) -> Result<(), AllocError>
         ensures { OnOk result (self.new ≡ row_until window to self.old) }
     {

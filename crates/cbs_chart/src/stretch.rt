@@ -11,17 +11,17 @@ use cbs_views::{Event, Seen};
 /// What goes on in a stretch of ticks.
 #[derive(Clone, Copy, Debug, PartialEq, Eq)]
 pub enum Kind {
-    /// The server runs units of its job of this number.
+    /// The server runs units of its job with this number.
     Runs(u64),
     /// The server is charged for its last unit.
     Charged,
-    /// The server has a job, and another runs.
+    /// The server has a job and is not throttled, but does not run.
     Waits,
     /// The server has a job, and is throttled.
     Held,
     /// The server has no job, and is throttled.
     Resting,
-    /// A release of the server is refused in each tick.
+    /// In each of the ticks a release of the server is refused.
     Refused,
     /// A job of the server is late.
     Late,
@@ -29,7 +29,7 @@ pub enum Kind {
     Idle,
 }
 
-/// The ticks from `from` up to `to`, which is not among them.
+/// The ticks from `from` up to `to`, without `to`, and what goes on in them.
 #[derive(Clone, Copy, Debug, PartialEq, Eq)]
 pub struct Stretch {
     /// What goes on.
@@ -41,7 +41,7 @@ pub struct Stretch {
 }
 
 impl Kind {
-    /// Returns whether both are the same.
+    /// Returns whether both kinds are the same.
     pub fn is_same(self, other: Kind) -> bool
         ensures { result ≡ same_kind self other }
     {
@@ -60,7 +60,7 @@ impl Kind {
 }
 
 impl Stretch {
-    /// Returns what of it is within a window.
+    /// Returns the part of the stretch that is within a window.
     pub(crate) fn clipped(self, window: Window) -> Stretch
         ensures { result ≡ clipped window self }
     {
@@ -71,7 +71,7 @@ impl Stretch {
         }
     }
 
-    /// Returns whether another one of the same kind begins within it or at its end.
+    /// Returns whether another stretch of the same kind begins within this one or at its end.
     pub(crate) fn joins(self, other: Stretch) -> bool
         ensures { result ≡ joins self other }
     {
@@ -108,7 +108,7 @@ fn kind_of(event: &Event) -> Kind
 }
 
 impl Stretch {
-    /// Returns the ticks of a step.
+    /// Returns the ticks of a step, with what goes on in them.
     pub(crate) fn of(seen: &Seen) -> Stretch
         ensures { result ≡ step_stretch seen.now }
     {

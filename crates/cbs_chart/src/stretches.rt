@@ -1,4 +1,4 @@
-//! Stretches in order, of which each joins the last one if it can.
+//! Stretches in order. Each new one becomes part of the last one if it can join it.
 
 ghost use Rattle.std.specs.Prelude.{◌≡◌, ◌++◌, ◌∷◌, [], None, IfOk, OnOk};
 ghost use Rattle.cbs_chart.specs.Stretches.{Joined, all_of, nothing_joined, joined_with, with_stretch};
@@ -25,7 +25,7 @@ impl Model for Stretches {
 }
 
 impl Stretches {
-    /// Returns no stretch.
+    /// Returns an empty list of stretches.
     pub fn new(alloc: Global) -> Stretches
         ensures { result ≡ nothing_joined }
     {
@@ -35,7 +35,7 @@ impl Stretches {
         }
     }
 
-    /// Adds a stretch with at least one tick.
+    /// Adds a stretch with at least one tick. Refuses if out of memory.
     #[inline]
     fn join(&mut self, stretch: Stretch) -> Result<(), AllocError>
         ensures { OnOk result (self.new ≡ joined_with stretch self.old.done self.old.last) }
@@ -57,7 +57,7 @@ impl Stretches {
         Ok(())
     }
 
-    /// Adds what of a stretch is within a window, if something is.
+    /// Adds the part of a stretch that is within a window, if there is one. Refuses if out of memory.
     #[inline]
     pub fn add(&mut self, window: Window, stretch: Stretch) -> Result<(), AllocError>
         ensures { OnOk result (self.new ≡ with_stretch window stretch self.old) }
@@ -69,7 +69,7 @@ impl Stretches {
         Ok(())
     }
 
-    /// Returns all of them, in order.
+    /// Returns all stretches, in order. The only error is out of memory.
     pub fn into_all(mut self) -> Result<Vec<Stretch>, AllocError>
         ensures { IfOk result (λ all. all.items ≡ all_of self) }
     {

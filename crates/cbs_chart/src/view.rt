@@ -1,4 +1,4 @@
-//! What collects a chart: a view of steps.
+//! The collector of a chart: a view of steps.
 
 ghost use Rattle.std.specs.Prelude.{◌≡◌, ◌∷◌, List, IfOk, OnOk};
 ghost use Rattle.cbs_rate.specs.Rate.{Rate};
@@ -15,7 +15,7 @@ use cbs_views::{Seen, View};
 use std::alloc::{AllocError, Global};
 use std::marker::Model;
 
-/// What is seen of the servers of a plan in a window.
+/// What a window shows of the servers of a plan, collected from the steps that it sees.
 ///
 /// It keeps what the window shows, and a job for each unfinished one.
 #[derive(Drop)]
@@ -34,7 +34,7 @@ impl Model for ChartView {
 }
 
 impl ChartView {
-    /// Returns the view of the servers of a plan, before the first step.
+    /// Returns the view of the servers of a plan, before the first step. The only error is out of memory.
     pub fn new(alloc: Global, window: Window, plan: &Plan) -> Result<ChartView, AllocError>
         ensures { IfOk result (λ view. view ≡ new_kept window plan.now.rates) }
     {
@@ -50,7 +50,7 @@ impl ChartView {
         })
     }
 
-    /// Adds a step of a server, or of none.
+    /// Adds a step of the server with this number, or of no server. Refuses if out of memory.
     #[inline]
     fn add(&mut self, server: Option<u16>, seen: &Seen) -> Result<(), AllocError>
         ensures { OnOk result (self.new ≡ kept_with server seen.now self.old) }
@@ -65,7 +65,7 @@ impl ChartView {
         Ok(())
     }
 
-    /// Returns what the window shows of a run that ends at a tick.
+    /// Returns what the window shows of a run that ends at the tick `end`. The only error is out of memory.
     pub fn into_chart(self, alloc: Global, end: u64) -> Result<Chart, AllocError>
         ensures window { IfOk result (λ chart. chart.window ≡ self.window) }
         ensures end { IfOk result (λ chart. chart.end ≡ end) }

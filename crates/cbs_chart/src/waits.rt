@@ -1,4 +1,4 @@
-//! What a server does from its last step on, until its next one.
+//! What a server does between two of its steps.
 
 ghost use Rattle.std.specs.Prelude.{◌≡◌};
 ghost use Rattle.cbs_chart.specs.Rows.{has_job, last_seen, throttled_stretch, throttled_until, waiting_stretch};
@@ -6,23 +6,24 @@ ghost use Rattle.cbs_chart.specs.Rows.{has_job, last_seen, throttled_stretch, th
 use crate::stretch::{Kind, Stretch};
 use cbs_steps::ServerView;
 
-/// What a server shows after its last step.
+/// The view of a server after its last step.
 #[derive(Clone, Copy, Debug, PartialEq, Eq)]
 pub(crate) struct Last {
     /// The clock after the step.
     pub clock: u64,
-    /// What the server shows.
+    /// The server's view.
     pub view: ServerView,
 }
 
-/// Returns whether a server that shows this has an unfinished job.
+/// Returns whether a server with this view has an unfinished job.
 fn has_job(view: &ServerView) -> bool
     ensures { result ≡ has_job view.now }
 {
     view.finished < view.accepted
 }
 
-/// Returns up to which tick a server that shows this from a tick on is throttled, at most up to `to`.
+/// Returns the tick until which a server with this view at the tick `from` is throttled, at most `to`. Returns `from`
+/// if it is not throttled.
 fn throttled_until(view: &ServerView, from: u64, to: u64) -> u64
     ensures { result ≡ throttled_until view.now from to }
 {
@@ -34,7 +35,7 @@ fn throttled_until(view: &ServerView, from: u64, to: u64) -> u64
 }
 
 impl Last {
-    /// Returns what a server shows after a step, if it shows something.
+    /// Returns the view of a server after a step with the clock, or `None` if there is no view.
     pub fn of(clock: u64, view: Option<ServerView>) -> Option<Last>
         ensures { result ≡ last_seen clock view }
     {
@@ -42,7 +43,7 @@ impl Last {
         Some(Last { clock, view })
     }
 
-    /// Returns the ticks up to `to` in which the server is throttled.
+    /// Returns the ticks up to the tick `to` in which the server is throttled.
     pub fn throttled(&self, to: u64) -> Stretch
         ensures { result ≡ throttled_stretch self.now to }
     {
@@ -58,7 +59,7 @@ impl Last {
         }
     }
 
-    /// Returns the ticks up to `to` in which the server has a job, is not throttled, and does not run.
+    /// Returns the ticks up to the tick `to` in which the server has a job, is not throttled, and does not run.
     pub fn waiting(&self, to: u64) -> Stretch
         ensures { result ≡ waiting_stretch self.now to }
     {

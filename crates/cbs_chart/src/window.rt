@@ -5,10 +5,10 @@ ghost use Rattle.std.specs.Prelude.{◌≡◌, ◌+◌, ◌-◌, ◌<◌, ◌≤
 use std::fmt;
 use thiserror::Error;
 
-/// The most ticks that a picture shows.
+/// The greatest number of ticks that a picture shows.
 pub const MOST_TICKS: u64 = 20_000;
 
-/// The ticks from `from` up to `to`, which is not among them: at least one, and at most [`MOST_TICKS`].
+/// The ticks from `from` up to `to`, without `to`: at least one, and at most [`MOST_TICKS`].
 #[derive(Clone, Copy, Debug, PartialEq, Eq)]
 pub struct Window {
     /// The first tick.
@@ -19,13 +19,13 @@ pub struct Window {
     ghost short: { to ≤ from + 20000 },
 }
 
-/// Why ticks make no window.
+/// The reason why ticks make no window.
 #[derive(Clone, Copy, Debug, PartialEq, Eq, Error)]
 pub enum WindowError {
-    /// There is no tick.
+    /// There is no tick from `from` up to `to`.
     #[error("there is no tick to show")]
     Empty,
-    /// There are more than [`MOST_TICKS`].
+    /// There are more than [`MOST_TICKS`] ticks.
     #[error("at most 20000 ticks are shown at a time")]
     TooLong,
 }
@@ -33,7 +33,8 @@ pub enum WindowError {
 impl Window {
     ghost use Rattle.cbs_chart.specs.Windows.{AnswersWindow, ticks_of};
 
-    /// Returns the window of these ticks, or why there is none.
+    /// Returns the window of the ticks from `from` up to `to`. Refuses if there is no such tick, or more than
+    /// [`MOST_TICKS`].
     pub fn new(from: u64, to: u64) -> Result<Window, WindowError>
         ensures { AnswersWindow from to result }
     {
@@ -46,7 +47,7 @@ impl Window {
         Ok(Window { from, to })
     }
 
-    /// Returns how many ticks it has.
+    /// Returns how many ticks the window has: 1 to 20,000.
     pub fn ticks(&self) -> u64
         ensures value { result ≡ ticks_of self.now }
         ensures some { 0 < result }

@@ -1,4 +1,4 @@
--- What is told of a file with no fault.
+-- The text about a file with no fault.
 use Rattle.std.specs.Prelude.{◌≡◌, ℕ, ◌+◌, ◌-◌, ◌*◌, eqb, if◌then◌else◌, List, ◌++◌, codes, decimal, length, map}
 use Rattle.std.specs.List.{range_with_len}
 use Rattle.cbs_load.specs.Loads.{LoadFile}
@@ -15,11 +15,13 @@ use Rattle.cbs_check.specs.Notes.{notes_text, set_off}
 use Rattle.cbs_check.specs.Servers.{reserved, servers_table}
 use Rattle.cbs_check.specs.Sources.{sources_text}
 
--- what is left under the bound: so many ticks of `bound.den` times the least common multiple
+-- what is left under the bound, in ticks. They are ticks of a span: `bound.den` times the least common multiple of all
+-- periods
 abbrev pub left_over : Planned → ℕ
 left_over plan = plan.bound.num * common_multiple plan.rates - plan.bound.den * reserved plan.rates
 
--- the first line: that the servers fit, what they have reserved, and what is left under the bound
+-- the first line: that the servers fit, what share of the time they have reserved, and what share is left under the
+-- bound
 unfoldable pub fits_text : Planned → List ℕ
 fits_text plan =
     codes "fits: " ++ fraction_text (reserved plan.rates) (common_multiple plan.rates) ++ codes " of the time is reserved, "
@@ -32,34 +34,34 @@ periods_text ticks =
     if eqb ticks 1 then codes "The periods come together every tick.\n"
     else codes "The periods come together every " ++ decimal ticks ++ codes " ticks.\n"
 
--- what is told of servers with these names, modes and rates, and greatest budgets
+-- the text about servers with these names, modes, rates and greatest budgets
 unfoldable pub plan_text : List (List ℕ) → List Mode → Planned → List ℕ → List ℕ
 plan_text names modes plan budgets =
     fits_text plan ++ codes "\n" ++ columns_text (servers_table names modes plan.rates budgets) ++ codes "\n" ++ periods_text (common_multiple plan.rates)
 
--- what is told of a load, by the greatest budgets of its servers and by what is told of their sources
+-- the text about a load, by the greatest budgets of its servers and the figures of their sources
 abbrev pub load_text : LoadFile → List ℕ → List ServerLoad → List ℕ
 load_text f budgets loads =
     plan_text f.names f.modes f.plan budgets ++ sources_text f.names f.plan.rates loads f.sources ++ lateness_text f
     ++ set_off (notes_text f.names f.plan.rates loads)
 
--- the names of servers that have none of their own
+-- the names of servers that have no names of their own
 abbrev pub numbered : ℕ → List (List ℕ)
 numbered n = map (λ s. codes "server " ++ decimal s) (range_with_len 0 n)
 
--- what is reserved and what is left are together the bound
+-- what is reserved and what is left make up the bound
 abbrev pub IsSplit : Planned → Type 0
 IsSplit plan = plan.bound.den * reserved plan.rates + left_over plan ≡ plan.bound.num * common_multiple plan.rates
 
--- the text of a plan: by the greatest budget of each server
+-- the text about a plan, with the greatest budget of each server
 pub record IsPlanText (plan : Planned) (modes : List Mode) (text : List ℕ) : Type 0 where
   pub budgets : List ℕ
   pub greatest : AreGreatest plan (length plan.rates) budgets
   pub split : IsSplit plan
   pub text_is : text ≡ plan_text (numbered (length plan.rates)) modes plan budgets
 
--- the text of a load: by the greatest budget of each server, what its sources ask for, and what is promised of them. By what is told
--- of overruns, no server is ever later
+-- the text about a load, with the greatest budget of each server, the demand of its sources, and what is promised for
+-- them. No server is ever later than the text says
 pub record IsLoadText (f : LoadFile) (text : List ℕ) : Type 0 where
   pub budgets : List ℕ
   pub loads : List ServerLoad

@@ -1,4 +1,4 @@
--- What to do about servers whose sources may ask for more than they have.
+-- Notes on servers whose sources may ask for more than the servers have.
 use Rattle.std.specs.Prelude.{ℕ, ◌*◌, ◌≤◌, ◌<◌, leb, ltb, if◌then◌else◌, List, [], ◌∷◌, ◌++◌, codes, decimal, flat_map, get_or, length, Option, Some, None}
 use Rattle.std.specs.Int.{div_ceil}
 use Rattle.std.specs.List.{range_with_len}
@@ -12,29 +12,29 @@ use Rattle.cbs_size.specs.declared.server_load.ServerLoad.{ServerLoad}
 use Rattle.cbs_check.specs.Fractions.{fraction_text}
 use Rattle.cbs_check.specs.Servers.{name_at}
 
--- what is asked is within what is summed exactly
+-- the demand is within the limits of exact sums
 pub record IsSummed (a : Asked) : Type 0 where
   pub some : 0 < a.of
   pub coarse : a.of ≤ greatest_common_multiple
   pub small : a.ticks ≤ most_sources * (most_units * a.of)
 
--- the budget that covers it, if one does
+-- the budget that covers the demand, or that no budget covers it. A budget is at most the period
 unfoldable pub cover_text : ℕ → ℕ → List ℕ
 cover_text budget period =
     if leb budget period then codes "      " ++ decimal budget ++ codes " in every " ++ decimal period ++ codes " would cover it\n"
     else codes "      no budget covers that\n"
 
--- the least budget at this period that covers what is asked
+-- the least budget at this period that covers the demand
 abbrev pub least_cover : ℕ → Asked → ℕ
 least_cover period a = div_ceil (a.ticks * period) a.of
 
--- what may be asked for, what there is, and what would cover it
+-- what the sources may ask for, what the server has, and which budget would cover the demand
 unfoldable pub too_much_text : List ℕ → Rate → Asked → List ℕ
 too_much_text name rate a =
     codes "note: " ++ name ++ codes " may ask for " ++ fraction_text a.ticks a.of ++ codes " of the time and has " ++ fraction_text rate.budget rate.period
     ++ codes " reserved;\n" ++ cover_text (least_cover rate.period a) rate.period
 
--- the note of a server, if one is due: its sources may ask for more than it has, or that cannot be told
+-- the note of a server, if it needs one: its sources may ask for more than it has, or their demand cannot be summed
 abbrev pub note_text : List ℕ → Rate → Option Asked → List ℕ
 note_text name rate None =
     codes "note: what the sources of " ++ name ++ codes " ask for is not summed:\n      the ticks between their jobs share too few factors\n"

@@ -9,7 +9,7 @@ use Rattle.cbs_rules.specs.declared.mode.Mode.TheVariants.{Soft, Throttled}
 use Rattle.cbs_text.specs.Columns.{CellText}
 use Rattle.cbs_check.specs.Fractions.{fraction_text, percent_text}
 
--- a cell that is marked, if it is so
+-- a cell that is marked if the condition holds
 abbrev pub marked_if : Bool → List ℕ → CellText
 marked_if marked text = record { text = text; marked = marked }
 
@@ -17,7 +17,7 @@ marked_if marked text = record { text = text; marked = marked }
 abbrev pub plain : List ℕ → CellText
 plain text = marked_if false text
 
--- the word of a mode
+-- the word for a mode
 abbrev pub mode_word : Mode → List ℕ
 mode_word Soft = codes "soft"
 mode_word Throttled = codes "throttled"
@@ -29,7 +29,7 @@ name_at names s = get_or names s []
 abbrev pub mode_at : List Mode → ℕ → Mode
 mode_at modes s = get_or modes s Soft
 
--- what a server has, and the greatest budget that it could have
+-- the row of a server: what it has, and the greatest budget that it could have
 abbrev pub server_row : List ℕ → Mode → Rate → ℕ → List CellText
 server_row name mode rate greatest =
     plain name ∷ plain (mode_word mode) ∷ plain (decimal rate.budget) ∷ plain (decimal rate.period) ∷ plain (fraction_text rate.budget rate.period)
@@ -40,7 +40,7 @@ servers_heading =
     plain (codes "SERVER") ∷ plain (codes "mode") ∷ plain (codes "budget") ∷ plain (codes "period") ∷ plain (codes "share") ∷ plain []
     ∷ plain (codes "greatest budget") ∷ []
 
--- the ticks that all servers together may run in as many as the least common multiple of their periods
+-- how many ticks all servers together may run in the least common multiple of their periods
 abbrev pub reserved : List Rate → ℕ
 reserved rates = sum_by (share (common_multiple rates)) rates
 
@@ -53,7 +53,7 @@ total_row rates =
 abbrev pub row_at : List (List ℕ) → List Mode → List Rate → List ℕ → ℕ → List CellText
 row_at names modes rates budgets s = server_row (name_at names s) (mode_at modes s) (rate_at rates s) (get_or budgets s 0)
 
--- SERVER: a row for each server, and one for all
+-- the table SERVER: a row for each server, and one for all servers together
 unfoldable pub servers_table : List (List ℕ) → List Mode → List Rate → List ℕ → List (List CellText)
 servers_table names modes rates budgets =
     servers_heading ∷ map (row_at names modes rates budgets) (range_with_len 0 (length rates)) ++ total_row rates ∷ []

@@ -10,34 +10,35 @@ use Rattle.cbs_text.specs.Columns.{CellText, columns_text}
 use Rattle.cbs_check.specs.Fractions.{fraction_text}
 use Rattle.cbs_check.specs.Servers.{plain, marked_if, name_at}
 
--- a range of numbers, of which one may stand alone
+-- a range of numbers; a range of one number is written as that number
 abbrev pub range_text : Bounds → List ℕ
 range_text r = if eqb r.least r.greatest then decimal r.least else decimal r.least ++ codes ".." ++ decimal r.greatest
 
--- a number, if there is one
+-- a number, or - if there is none
 abbrev pub number_text : Option ℕ → List ℕ
 number_text None = codes "-"
 number_text (Some n) = decimal n
 
--- a time is no longer than what is wanted, if anything is
+-- a time is at most the wanted one, if a time is wanted
 abbrev pub is_within : ℕ → Option ℕ → Bool
 is_within time None = false
 is_within time (Some within) = leb time within
 
--- whether each job is finished in the time that is wanted, if it is finished within a time
+-- whether each job is finished in time, if it is promised to be finished within this time
 abbrev pub promise_text : ℕ → Bool → List ℕ
 promise_text time in_time = if in_time then codes "yes, by " ++ decimal time else codes "not promised"
 
--- the same by what is promised, and what is wanted
+-- the same, by the promised and the wanted time, if there are these
 abbrev pub in_time_text : Option ℕ → Option ℕ → List ℕ
 in_time_text None within = codes "not promised"
 in_time_text (Some time) within = promise_text time (is_within time within)
 
--- the source may ask for more than the share of its server: the most units of a job over the least ticks to the next
+-- the source may ask for more than the share of its server. It asks for the most units of a job in the least ticks to
+-- the next
 abbrev pub is_asking_too_much : Rate → SourceTerms → Bool
 is_asking_too_much rate t = ltb (rate.budget * t.every.least) (t.units.greatest * rate.period)
 
--- what a source may ask for, what its server has, and what is promised
+-- the row of a source: what it may ask for, what its server has, and what is promised
 abbrev pub source_row : List ℕ → Rate → Option ℕ → SourceTerms → List CellText
 source_row name rate promised t =
     plain name ∷ plain (range_text t.units) ∷ plain (range_text t.every)
@@ -54,7 +55,7 @@ module _ (names : List (List ℕ)) (rates : List Rate) (loads : List ServerLoad)
   abbrev pub row_of : SourceTerms → List CellText
   row_of t = source_row (name_at names t.server) (rate_at rates t.server) (get_or loads t.server no_load).promised t
 
-  -- SOURCE OF: a row for each source
+  -- the table SOURCE OF: a row for each source
   abbrev pub sources_table : List SourceTerms → List (List CellText)
   sources_table sources = sources_heading ∷ map row_of sources
 

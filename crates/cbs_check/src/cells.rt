@@ -1,4 +1,4 @@
-//! Cells of the tables. Each call's only error is out of memory.
+//! Cells of the tables. The only error of each call is out of memory.
 
 ghost use Rattle.std.specs.Prelude.{◌≡◌, ◌++◌, [], ◌∷◌, ◌<◌, decimal, OnOk, string_bytes};
 ghost use Rattle.cbs_check.specs.Fractions.{fraction_text, percent_text};
@@ -27,7 +27,7 @@ pub(crate) fn push_number(alloc: Global, row: &mut Vec<Cell>, number: u64) -> Re
     Ok(())
 }
 
-/// Adds a cell with a part of a whole to a row, as a shortened fraction, marked if it is to be looked at.
+/// Adds a cell with a part of a whole to a row, as a shortened fraction. The cell is marked if `marked` is true.
 pub(crate) fn push_fraction(
     alloc: Global,
     row: &mut Vec<Cell>,

@@ -1,4 +1,4 @@
-//! What is told of a file with no fault.
+//! The text about a file with no fault.
 
 ghost use Rattle.std.specs.Prelude.{◌≡◌, ◌++◌, length, map, IfOk, OnOk, string_bytes};
 ghost use Rattle.cbs_check.specs.Checks.{left_over, fits_text, periods_text, plan_text, numbered, IsPlanText, IsLoadText};
@@ -15,7 +15,8 @@ use cbs_rules::Modes;
 use cbs_size::{greatest_budgets, server_loads};
 use std::alloc::{AllocError, Global};
 
-/// Returns what is left under the bound: so many ticks of the bound's denominator times the least common multiple of all periods.
+/// Returns what is left under the bound, in ticks. They are ticks of a span: the bound's denominator times the least
+/// common multiple of all periods.
 fn left_over(plan: &Plan) -> u128
     ensures { result ≡ left_over plan.now }
 {
@@ -25,7 +26,7 @@ fn left_over(plan: &Plan) -> u128
     all.saturating_sub(u128::from(bound.den()) * u128::from(reserved.ticks))
 }
 
-/// Appends that the servers fit, what they have reserved, and what is left under the bound.
+/// Appends that the servers fit, what share of the time they have reserved, and what share is left under the bound.
 #[tactic(auto, unfolding(crate::specs::Checks::fits_text))]
 fn append_fits(text: &mut String, plan: &Plan) -> Result<(), AllocError>
     ensures { OnOk result (string_bytes text.new ≡ string_bytes text.old ++ fits_text plan.now) }
@@ -59,7 +60,7 @@ fn append_periods(text: &mut String, ticks: u64) -> Result<(), AllocError>
     text.push_str(" ticks.\n")
 }
 
-/// Appends what is told of the servers of a plan, with these names and modes, and these greatest budgets.
+/// Appends the text about the servers of a plan, with these names, modes and greatest budgets.
 #[tactic(auto, unfolding(crate::specs::Checks::plan_text))]
 fn append_plan(
     alloc: Global,
@@ -82,7 +83,7 @@ fn append_plan(
     append_periods(text, plan.bandwidth().of)
 }
 
-/// Returns names for so many servers that have none of their own.
+/// Returns names for this many servers, which have no names of their own.
 fn numbered(alloc: Global, servers: u16) -> Result<Vec<String>, AllocError>
     ensures names { IfOk result (λ names. map string_bytes names.items ≡ numbered servers) }
     ensures count { IfOk result (λ names. length names.items ≡ servers) }
@@ -96,9 +97,9 @@ fn numbered(alloc: Global, servers: u16) -> Result<Vec<String>, AllocError>
     Ok(names)
 }
 
-/// Returns what is told of a task file's servers, as text. The first line says that they fit, what is reserved, and what is left
-/// under the bound. The table has each server with the greatest budget that it could have, with all others as they are. The last
-/// line says after how many ticks all periods begin together again.
+/// Returns the text about a task file's servers. The first line says that they fit, what share of the time is reserved,
+/// and what share is left under the bound. The table has each server with the greatest budget that it could have, if
+/// all others stay as they are. The last line says after how many ticks all periods begin together again.
 ///
 /// `modes` has the mode of each server of the plan. The only error is out of memory.
 pub fn check_plan(alloc: Global, plan: &Plan, modes: &Modes) -> Result<String, AllocError>
@@ -112,11 +113,11 @@ pub fn check_plan(alloc: Global, plan: &Plan, modes: &Modes) -> Result<String, A
     Ok(text)
 }
 
-/// Returns what is told of a load, as text: first of its servers, as by [`check_plan`].
+/// Returns the text about a load. It begins with the text about its servers, as [`check_plan`] writes it.
 ///
-/// A table of its sources follows, if it has any: what each may ask for, and whether its jobs are in time always, whatever the others
-/// do. If units may overrun, a line says how late they can make a server. A note stands for each server whose sources may ask for
-/// more than it has. The only error is out of memory.
+/// If the load has sources, a table of them follows. The table shows what each source may ask for, and whether its jobs
+/// are always in time, whatever the other servers do. If units may overrun, a line says how late they can make a
+/// server. There is a note for each server whose sources may ask for more than it has. The only error is out of memory.
 pub fn check_load(alloc: Global, load: &Load) -> Result<String, AllocError>
     ensures { IfOk result (λ text. IsLoadText load.now (string_bytes text)) }
 {

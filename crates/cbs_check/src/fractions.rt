@@ -1,4 +1,4 @@
-//! Parts of the time as text.
+//! Shares of the time as text.
 
 ghost use Rattle.std.specs.Prelude.{◌≡◌, ◌++◌, ◌<◌, OnOk, string_bytes};
 ghost use Rattle.cbs_check.specs.Fractions.{greatest_divisor, fraction_text, percent_text};
@@ -16,7 +16,7 @@ fn divisor(part: u128, whole: u128) -> u128
     greatest_common_divisor(part, whole)
 }
 
-/// Appends a word and a part of a whole as a shortened fraction. The only error is out of memory.
+/// Appends a word, and a part of a whole as a shortened fraction. The only error is out of memory.
 #[tactic(auto, unfolding(crate::specs::Fractions::fraction_text))]
 pub(crate) fn append_fraction(
     text: &mut String,
@@ -32,7 +32,7 @@ pub(crate) fn append_fraction(
     append_pair(text, "/", whole / divisor)
 }
 
-/// Appends a part of a whole in per cent, with one decimal, a half upward. The only error is out of memory.
+/// Appends a part of a whole in per cent, with one decimal, rounded, a half upward. The only error is out of memory.
 #[tactic(auto, unfolding(crate::specs::Fractions::percent_text))]
 pub(crate) fn append_percent(text: &mut String, part: u64, whole: u64) -> Result<(), AllocError>
     requires { 0 < whole }

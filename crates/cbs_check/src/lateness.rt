@@ -1,4 +1,4 @@
-//! How late units that overrun can make the servers of a load.
+//! The text about how late overruns can make the servers of a load.
 
 ghost use Rattle.std.specs.Prelude.{◌≡◌, ◌++◌, OnOk, string_bytes};
 ghost use Rattle.cbs_check.specs.Lateness.{late_by_text, is_overrunning, lateness_text};
@@ -9,7 +9,7 @@ use cbs_simulate::SourceTerms;
 use cbs_size::greatest_delay;
 use std::alloc::AllocError;
 
-/// Returns whether units of some source may overrun.
+/// Returns whether units of a source may overrun.
 fn is_overrunning(sources: &[SourceTerms]) -> bool
     ensures { result ≡ is_overrunning sources.now }
 {
@@ -21,7 +21,7 @@ fn is_overrunning(sources: &[SourceTerms]) -> bool
     false
 }
 
-/// Appends that servers can be late by so many ticks. The only error is out of memory.
+/// Appends that overruns can make servers late by at most this many ticks. The only error is out of memory.
 #[tactic(auto, unfolding(crate::specs::Lateness::late_by_text))]
 fn append_late_by(text: &mut String, ticks: u128) -> Result<(), AllocError>
     ensures { OnOk result (string_bytes text.new ≡ string_bytes text.old ++ late_by_text ticks) }
@@ -40,8 +40,8 @@ fn append_late_by(text: &mut String, ticks: u128) -> Result<(), AllocError>
     text.push_str(" ticks.\n")
 }
 
-/// Appends an empty line and how late servers can be, if units of some source of a load may overrun. The only error is out of
-/// memory.
+/// Appends an empty line, and how late servers can be, if units of a source of the load may overrun. The only error is
+/// out of memory.
 pub(crate) fn append_lateness(text: &mut String, load: &Load) -> Result<(), AllocError>
     ensures { OnOk result (string_bytes text.new ≡ string_bytes text.old ++ lateness_text load.now) }
 {

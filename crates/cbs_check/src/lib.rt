@@ -1,4 +1,4 @@
-//! What is told of a file with no fault, as text: the servers of a task file or a load, and the sources of a load.
+//! The text about a file with no fault: the servers of a task file or a load, and the sources of a load.
 #![tactic(auto)]
 
 mod cells;

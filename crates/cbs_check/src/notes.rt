@@ -1,4 +1,4 @@
-//! Notes on servers whose sources may ask for more than they have.
+//! Notes on servers whose sources may ask for more than the servers have.
 
 ghost use Rattle.std.specs.Prelude.{◌≡◌, ◌++◌, ◌<◌, ◌≤◌, length, IfSome, IfOk, OnOk, string_bytes};
 ghost use Rattle.cbs_size.specs.ServerLoads.{AreServerLoads};
@@ -11,7 +11,8 @@ use cbs_rate::Reservation;
 use cbs_size::{Asked, ServerLoad};
 use std::alloc::{AllocError, Global};
 
-/// Appends the budget that covers what is asked, if it is at most the period. The only error is out of memory.
+/// Appends the budget that covers the demand, or that no budget covers it. A budget is at most the period. The only
+/// error is out of memory.
 #[tactic(auto, unfolding(crate::specs::Notes::cover_text))]
 fn append_cover(text: &mut String, budget: u128, period: u64) -> Result<(), AllocError>
     ensures { OnOk result (string_bytes text.new ≡ string_bytes text.old ++ cover_text budget period) }
@@ -24,7 +25,7 @@ fn append_cover(text: &mut String, budget: u128, period: u64) -> Result<(), Allo
     text.push_str(" would cover it\n")
 }
 
-/// Appends that more may be asked for than there is. The only error is out of memory.
+/// Appends the note that the sources of a server may ask for more than it has. The only error is out of memory.
 #[tactic(auto, unfolding(crate::specs::Notes::too_much_text))]
 fn append_too_much(
     text: &mut String,
@@ -51,7 +52,7 @@ fn append_too_much(
     append_cover(text, cover, period)
 }
 
-/// Appends the note of a server, if one is due. The only error is out of memory.
+/// Appends the note of a server, if it needs one. The only error is out of memory.
 fn append_note(
     text: &mut String,
     name: &str,
@@ -76,7 +77,7 @@ fn append_note(
     append_too_much(text, name, rate, asked)
 }
 
-/// Returns the notes of all servers of a load, of which this is told. The only error is out of memory.
+/// Returns the notes of all servers of a load, with these figures of their sources. The only error is out of memory.
 fn notes(alloc: Global, load: &Load, loads: &[ServerLoad]) -> Result<String, AllocError>
     requires { AreServerLoads load.now (length load.now.plan.rates) loads.now }
     ensures { IfOk result (λ text. string_bytes text ≡ notes_text load.now.names load.now.plan.rates loads.now) }
@@ -92,8 +93,8 @@ fn notes(alloc: Global, load: &Load, loads: &[ServerLoad]) -> Result<String, All
     Ok(text)
 }
 
-/// Appends the notes of all servers of a load, of which this is told, after an empty line, if there are notes. The only error is
-/// out of memory.
+/// Appends an empty line and the notes of all servers of a load, if there are any. `loads` has the figures of their
+/// sources. The only error is out of memory.
 pub(crate) fn append_notes(
     alloc: Global,
     text: &mut String,

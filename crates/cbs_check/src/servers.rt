@@ -10,7 +10,7 @@ use cbs_rules::{Mode, Modes};
 use cbs_text::{Cell, append_columns};
 use std::alloc::{AllocError, Global};
 
-/// Returns the word of a mode.
+/// Returns the word for a mode.
 fn mode_word(mode: Mode) -> &'static str
     ensures { result.now ≡ mode_word mode }
 {
@@ -20,7 +20,7 @@ fn mode_word(mode: Mode) -> &'static str
     }
 }
 
-/// Returns the heading.
+/// Returns the heading of the table.
 fn heading(alloc: Global) -> Result<Vec<Cell>, AllocError>
     ensures { IfOk result (λ row. row.items ≡ servers_heading) }
 {
@@ -58,7 +58,7 @@ fn server_row(
     Ok(row)
 }
 
-/// Returns the row of all servers together.
+/// Returns the row for all servers together.
 fn total_row(alloc: Global, plan: &Plan) -> Result<Vec<Cell>, AllocError>
     ensures { IfOk result (λ row. row.items ≡ total_row plan.now.rates) }
 {
@@ -102,7 +102,7 @@ fn rows(
     Ok(rows)
 }
 
-/// Appends the table of the servers of a plan, with these names and modes, and these greatest budgets. The only error is out of
+/// Appends the table of the servers of a plan, with these names, modes and greatest budgets. The only error is out of
 /// memory.
 pub(crate) fn append_servers(
     alloc: Global,

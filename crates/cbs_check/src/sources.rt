@@ -30,7 +30,7 @@ fn push_range(alloc: Global, row: &mut Vec<Cell>, range: Range) -> Result<(), Al
     Ok(())
 }
 
-/// Adds a cell with a number, if there is one, to a row.
+/// Adds a cell with a number to a row, or with `-` if there is no number.
 fn push_optional(alloc: Global, row: &mut Vec<Cell>, number: Option<u64>) -> Result<(), AllocError>
     ensures { OnOk result (row.new.items ≡ row.old.items ++ plain (number_text number) ∷ []) }
 {
@@ -40,7 +40,7 @@ fn push_optional(alloc: Global, row: &mut Vec<Cell>, number: Option<u64>) -> Res
     }
 }
 
-/// Returns whether a time is no longer than what is wanted, if anything is.
+/// Returns whether a time is at most the wanted one. Without a wanted time, returns `false`.
 fn is_within(time: u64, within: Option<u64>) -> bool
     ensures { result ≡ is_within time within }
 {
@@ -50,7 +50,7 @@ fn is_within(time: u64, within: Option<u64>) -> bool
     }
 }
 
-/// Adds a cell to a row: whether each job is finished in time, if it is finished within so many ticks.
+/// Adds a cell to a row: whether each job is finished in time, if it is promised to be finished within `time` ticks.
 fn push_promise(
     alloc: Global,
     row: &mut Vec<Cell>,
@@ -68,7 +68,7 @@ fn push_promise(
     Ok(())
 }
 
-/// Adds a cell to a row: whether each job is finished in the time that is wanted.
+/// Adds a cell to a row: whether each job is promised to be finished within the wanted ticks.
 fn push_in_time(
     alloc: Global,
     row: &mut Vec<Cell>,
@@ -91,7 +91,7 @@ fn is_asking_too_much(rate: Reservation, terms: &SourceTerms) -> bool
         < u128::from(terms.units.greatest()) * u128::from(rate.period())
 }
 
-/// Returns the heading.
+/// Returns the heading of the table.
 fn heading(alloc: Global) -> Result<Vec<Cell>, AllocError>
     ensures { IfOk result (λ row. row.items ≡ sources_heading) }
 {
@@ -106,7 +106,7 @@ fn heading(alloc: Global) -> Result<Vec<Cell>, AllocError>
     Ok(row)
 }
 
-/// Returns the row of a source, of a server with this name and reservation, and of what is promised.
+/// Returns the row of a source, with the name and the reservation of its server, and the ticks that are promised.
 fn source_row(
     alloc: Global,
     name: &str,
@@ -149,8 +149,8 @@ fn rows(alloc: Global, load: &Load, loads: &[ServerLoad]) -> Result<Vec<Vec<Cell
     Ok(rows)
 }
 
-/// Appends an empty line and the table of the sources of a load, of whose servers this is told, if it has sources. The only
-/// error is out of memory.
+/// Appends an empty line and the table of the sources of a load, if it has sources. `loads` has the figures of the
+/// sources by server. The only error is out of memory.
 pub(crate) fn append_sources(
     alloc: Global,
     text: &mut String,

@@ -1,4 +1,4 @@
-//! Tests of what is told of a file: what is guaranteed by it, and what is wrong with it.
+//! Tests of the text that is printed about a file: what the file guarantees, or what is wrong with it.
 #![tactic(auto)]
 
 #[cfg(test)]

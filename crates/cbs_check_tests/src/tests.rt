@@ -1,4 +1,4 @@
-//! Whole texts of files.
+//! Whole texts about files.
 
 mod broken_files;
 mod broken_values;

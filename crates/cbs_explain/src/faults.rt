@@ -18,7 +18,8 @@ fn append_spot(text: &mut String, spot: &Spot<'_>) -> Result<(), AllocError> {
     writeln!(text, "\n  --> {spot}")
 }
 
-/// Returns which key may be meant by a key that a table may not have, if one is near.
+/// Returns a remark on the key that may be meant, if a key of the table is near enough. The only error is out of
+/// memory.
 fn key_remark(alloc: Global, spot: &Spot<'_>, key: &str) -> Result<String, AllocError> {
     match nearest_key(alloc, spot, key)? {
         Some(name) => format!(in alloc; "did you mean `{name}`?"),
@@ -26,7 +27,7 @@ fn key_remark(alloc: Global, spot: &Spot<'_>, key: &str) -> Result<String, Alloc
     }
 }
 
-/// Appends what is said of a key that a table may not have.
+/// Appends the explanation of a key that a table may not have.
 fn append_unknown(
     alloc: Global,
     text: &mut String,
@@ -41,7 +42,7 @@ fn append_unknown(
     append_keys_note(alloc, text, spot.subject, false)
 }
 
-/// Appends what is said of a key that is missing.
+/// Appends the explanation of a key that is missing.
 fn append_missing(
     alloc: Global,
     text: &mut String,
@@ -53,7 +54,7 @@ fn append_missing(
     append_keys_note(alloc, text, spot.subject, true)
 }
 
-/// Appends what is said of a value of a wrong type.
+/// Appends the explanation of a value of a wrong type.
 fn append_type_fault(
     alloc: Global,
     text: &mut String,
@@ -67,7 +68,7 @@ fn append_type_fault(
     append_type_line(alloc, text, key, value)
 }
 
-/// Appends what is said of a value that is out of range.
+/// Appends the explanation of a value that is out of range.
 fn append_range_fault(
     alloc: Global,
     text: &mut String,
@@ -85,7 +86,7 @@ fn append_range_fault(
     Ok(())
 }
 
-/// Appends what is said of a name that an earlier server has.
+/// Appends the explanation of a name that an earlier server has.
 fn append_taken(
     alloc: Global,
     text: &mut String,
@@ -101,7 +102,7 @@ fn append_taken(
     append_taken_line(alloc, text, value)
 }
 
-/// Appends what is said of an entry that is no table.
+/// Appends the explanation of an entry that is no table.
 fn append_no_table(text: &mut String, spot: &Spot<'_>, value: &Value) -> Result<(), AllocError> {
     let place = spot.place;
     let phrase = type_phrase(value);
@@ -111,7 +112,7 @@ fn append_no_table(text: &mut String, spot: &Spot<'_>, value: &Value) -> Result<
     )
 }
 
-/// Appends what is said of a fault.
+/// Appends the explanation of a finding.
 fn append_finding(
     alloc: Global,
     text: &mut String,
@@ -128,12 +129,12 @@ fn append_finding(
     }
 }
 
-/// Appends the kind of a fault, if nothing more is known.
+/// Appends the kind of a fault, for a fault of which nothing more is known.
 fn append_kind(text: &mut String, kind: FileKind) -> Result<(), AllocError> {
     writeln!(text, "error: {kind}")
 }
 
-/// Returns that a document says in no way what it is, or that it is of the other kind.
+/// Returns that a document has no key that says of which kind it is, or that it is of the other kind.
 fn other_kind(document: Document<'_>) -> &'static str {
     if document.has("load") {
         "this is a load file, and a task file is wanted"
@@ -144,7 +145,7 @@ fn other_kind(document: Document<'_>) -> &'static str {
     }
 }
 
-/// Appends that a document says in no way what it is, or that it is of the other kind.
+/// Appends that a document has no key that says of which kind it is, or that it is of the other kind.
 fn append_other_kind(text: &mut String, spot: &Spot<'_>) -> Result<(), AllocError> {
     let kind = other_kind(spot.document);
     writeln!(text, "error: {kind}\n  --> {spot}")?;
@@ -152,7 +153,7 @@ fn append_other_kind(text: &mut String, spot: &Spot<'_>) -> Result<(), AllocErro
     text.push_str("  = note: a task file has `format = 2`, and a load file `load = 1`\n")
 }
 
-/// Appends what is said of a fault in a document.
+/// Appends the explanation of a fault in a document.
 fn append_fault(
     alloc: Global,
     text: &mut String,
@@ -173,9 +174,9 @@ fn append_fault(
     }
 }
 
-/// Returns what a person needs to know of the first fault of a task file or a load file: what is wrong and where, the line as
-/// it is, what is allowed, and what may help. Its bytes are read again. If nothing more is known, it is the kind in words. The
-/// only error is out of memory.
+/// Returns the explanation of the first fault of a task file or a load file, for a person. It says what is wrong and
+/// where, shows the line, and says what is allowed and what may help. The bytes are read again for this. If nothing
+/// more is known, it is the kind of the fault in words. The only error is out of memory.
 pub fn explain(
     alloc: Global,
     name: &str,

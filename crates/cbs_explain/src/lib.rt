@@ -1,4 +1,4 @@
-//! What is wrong with a task file or a load file, as a text for a person: what stands below the line of a fault.
+//! The explanation of a fault of a task file or a load file, for a person. It is printed below the line of the fault.
 #![tactic(auto)]
 
 mod faults;

@@ -1,4 +1,4 @@
-//! Why a plan does not take a server.
+//! The reasons why a plan does not take a server.
 
 use crate::over::append_over;
 use crate::page::{Marked, append_bar, append_line, append_note};
@@ -17,7 +17,7 @@ fn append_too_many(text: &mut String, spot: &Spot<'_>) -> Result<(), AllocError>
     )
 }
 
-/// Appends the line of the period of a server, and which periods fit.
+/// Appends the line of a server's period, and which periods fit.
 fn append_period(alloc: Global, text: &mut String, period: u64) -> Result<(), AllocError> {
     let line = format!(in alloc; "period = {period}")?;
     let marked = Marked {
@@ -57,7 +57,7 @@ fn append_too_fine(
     )
 }
 
-/// Appends why a plan does not take the server with a number.
+/// Appends why a plan does not take the server with this number.
 pub(crate) fn append_not_admitted(
     alloc: Global,
     text: &mut String,

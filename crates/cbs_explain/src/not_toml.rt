@@ -1,4 +1,4 @@
-//! A text that is no TOML.
+//! The explanation of a text that is no TOML.
 
 use crate::page::{Marked, append_line};
 use cbs_findings::{Broken, Position, Quote, broken_at};
@@ -51,7 +51,7 @@ fn append_at(
     append_numbered(alloc, text, broken)
 }
 
-/// Appends what is said of bytes that are no TOML.
+/// Appends the explanation of bytes that are no TOML.
 pub(crate) fn append_not_toml(
     alloc: Global,
     text: &mut String,

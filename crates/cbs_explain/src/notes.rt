@@ -6,7 +6,7 @@ use std::alloc::{AllocError, Global};
 use std::fmt::Write;
 use toml::Value;
 
-/// Returns the names of some keys: of all, or of those that may be left out.
+/// Returns the names of the keys: of all, or of those that may be left out. The only error is out of memory.
 fn key_names(alloc: Global, keys: &[Key], all: bool) -> Result<Vec<&'static str>, AllocError> {
     let named = keys.iter().filter(|key| all || !key.required);
     named.map(|key| key.name).collect(alloc)
@@ -21,7 +21,7 @@ fn append_keys(alloc: Global, text: &mut String, subject: Subject) -> Result<(),
     append_list(text, &names, "`", ", ")
 }
 
-/// Appends which keys of a table have to be there.
+/// Appends which keys a table must have.
 fn append_required(alloc: Global, text: &mut String, subject: Subject) -> Result<(), AllocError> {
     let optional = key_names(alloc, subject.keys(), false)?;
     if optional.is_empty() {
@@ -32,7 +32,7 @@ fn append_required(alloc: Global, text: &mut String, subject: Subject) -> Result
     text.push_str(" may be left out")
 }
 
-/// Appends a note of the keys that a table has, and of those that have to be there if one is missing.
+/// Appends a note on the keys that a table has. If a key is missing, appends also which keys it must have.
 pub(crate) fn append_keys_note(
     alloc: Global,
     text: &mut String,
@@ -48,7 +48,7 @@ pub(crate) fn append_keys_note(
     append_note(text, 2, "note", &words)
 }
 
-/// Appends a note of the servers that there are.
+/// Appends a note on the servers that there are.
 pub(crate) fn append_servers_note(
     alloc: Global,
     text: &mut String,

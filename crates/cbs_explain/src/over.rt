@@ -1,4 +1,4 @@
-//! A server with which the plan is over the bound: by how much, and what would fit.
+//! The explanation of a server that takes the plan over its bound: by how much, and what would fit.
 
 use crate::page::{append_bar, append_note};
 use cbs_findings::{Document, Fraction, Percent, Refused, Spot, excess, reservations, share};
@@ -23,7 +23,7 @@ fn append_row(
     writeln!(text, "   | {label:<24}  {fraction:>10}  {percent:>7}{end}")
 }
 
-/// Appends a row of the servers before, if there are any.
+/// Appends a row for the servers before this one, if there are any.
 fn append_before(alloc: Global, text: &mut String, refused: &Refused) -> Result<(), AllocError> {
     let label = match refused.number {
         0 => return Ok(()),
@@ -33,7 +33,7 @@ fn append_before(alloc: Global, text: &mut String, refused: &Refused) -> Result<
     append_row(alloc, text, &label, refused.before(), "")
 }
 
-/// Appends the sum: the servers before, the server, and by how much they are over the bound.
+/// Appends the sum: the servers before this one, this server, and by how much they are over the bound.
 fn append_sum(alloc: Global, text: &mut String, refused: &Refused) -> Result<(), AllocError> {
     let budget = refused.reservation.budget();
     let period = refused.reservation.period();
@@ -47,7 +47,7 @@ fn append_sum(alloc: Global, text: &mut String, refused: &Refused) -> Result<(),
     append_bar(text, MARGIN)
 }
 
-/// Appends a help.
+/// Appends a help line.
 fn append_help(text: &mut String, words: &str) -> Result<(), AllocError> {
     append_note(text, MARGIN, "help", words)
 }
@@ -74,7 +74,7 @@ fn append_least(alloc: Global, text: &mut String, refused: &Refused) -> Result<(
     append_help(text, &words)
 }
 
-/// Returns the name of a server, or its number in words.
+/// Returns the name of a server, or its number in words if it has no name. The only error is out of memory.
 fn called(alloc: Global, document: Document<'_>, number: usize) -> Result<String, AllocError> {
     match document.server_name(number) {
         Some(name) => String::from_str(alloc, name),
@@ -113,7 +113,8 @@ fn append_parts(
     Ok(())
 }
 
-/// Appends a split of all servers over as few executors as first fit finds, if there is one.
+/// Appends a split of all servers over several executors, if there is one. It has as few executors as the first-fit
+/// method finds.
 fn append_split(
     alloc: Global,
     text: &mut String,
@@ -139,7 +140,7 @@ fn append_split(
     }
 }
 
-/// Appends what is said of a server with which the plan is over the bound.
+/// Appends the explanation of a server that takes the plan over its bound.
 pub(crate) fn append_over(
     alloc: Global,
     text: &mut String,

@@ -3,26 +3,27 @@
 use std::alloc::AllocError;
 use std::fmt::Write;
 
-/// The most columns of a line that is broken.
+/// The most columns of a line before it is broken.
 const COLUMNS: usize = 80;
 
-/// Appends a bar below so many columns, and nothing beside it.
+/// Appends a bar after `margin` columns, with nothing beside it.
 pub(crate) fn append_bar(text: &mut String, margin: usize) -> Result<(), AllocError> {
     writeln!(text, "{:margin$}|", "")
 }
 
-/// A part of a line to which carets point, and what is said of it.
+/// The part of a line to which carets point, with a remark.
 #[derive(Clone, Copy)]
 pub(crate) struct Marked<'a> {
     /// The first character, from 0.
     pub from: usize,
     /// How many characters.
     pub count: usize,
-    /// What stands after the carets.
+    /// The remark after the carets.
     pub remark: &'a str,
 }
 
-/// Appends a line of a document, with carets below, of which one at least is made. Before its bar stands its number, or blanks.
+/// Appends a line of a document, with at least one caret below it. `gutter` is the line's number, or blanks, and stands
+/// before the bar.
 pub(crate) fn append_line(
     text: &mut String,
     gutter: &str,
@@ -43,7 +44,7 @@ pub(crate) fn append_line(
     )
 }
 
-/// Appends a word at a column, or in a new line if it does not fit, and returns the column after it.
+/// Appends a word at a column, or on a new line if it does not fit. Returns the column after the word.
 fn append_word(
     text: &mut String,
     indent: usize,
@@ -63,7 +64,7 @@ fn append_word(
     }
 }
 
-/// Appends words in lines of at most [`COLUMNS`] columns, from a column on, which is that of the later lines, too.
+/// Appends words in lines of at most [`COLUMNS`] columns. All lines begin at the column `indent`.
 fn append_broken(text: &mut String, indent: usize, words: &str) -> Result<(), AllocError> {
     let mut column = indent;
     for word in words.split(' ') {
@@ -72,7 +73,7 @@ fn append_broken(text: &mut String, indent: usize, words: &str) -> Result<(), Al
     text.push_str("\n")
 }
 
-/// Appends a note, or a help, of some words.
+/// Appends a note or a help with these words.
 pub(crate) fn append_note(
     text: &mut String,
     margin: usize,
@@ -84,7 +85,7 @@ pub(crate) fn append_note(
     append_broken(text, indent, words)
 }
 
-/// Appends words one after another, each between two marks, and with another word before the last.
+/// Appends words one after another, each between two marks, with the word `last` before the last one.
 pub(crate) fn append_list(
     text: &mut String,
     words: &[&str],

@@ -1,4 +1,4 @@
-//! The line of a value that is not what its key wants, with carets and a remark.
+//! The line of a value that is not what its key needs, with carets and a remark.
 
 use crate::page::{Marked, append_line};
 use crate::shown::Shown;
@@ -8,7 +8,7 @@ use std::alloc::{AllocError, Global};
 use std::fmt::Write;
 use toml::Value;
 
-/// Returns the word that may be meant by a value, if it is a text and its key wants one of some words.
+/// Returns the word that may be meant by a value, if the value is a text and its key needs a word of a set.
 fn meant<'a>(
     alloc: Global,
     want: Want,
@@ -34,7 +34,7 @@ fn append_span(text: &mut String, least: u64, greatest: u64) -> Result<(), Alloc
     }
 }
 
-/// Appends which numbers a range may be of, or what it may be the other way round.
+/// Appends which numbers a range may have. If its numbers are the wrong way round, appends the right way.
 fn append_range(
     text: &mut String,
     least: u64,
@@ -50,7 +50,7 @@ fn append_range(
     }
 }
 
-/// Appends what a value may be, in short.
+/// Appends in short what a value may be.
 fn append_short(
     text: &mut String,
     want: Want,
@@ -70,7 +70,7 @@ fn append_short(
     }
 }
 
-/// Returns whether a key wants numbers.
+/// Returns whether a key needs numbers.
 fn wants_number(want: Want) -> bool {
     matches!(
         want,
@@ -78,7 +78,8 @@ fn wants_number(want: Want) -> bool {
     )
 }
 
-/// Appends a value after its key, and returns where it stands: at its text, not at the quotes, if it is meant as a word.
+/// Appends a value after its key. Returns the value's place in the line. If a word is meant, that is the place of the
+/// text between the quotes.
 fn appended<'a>(
     line: &mut String,
     key: &str,

@@ -1,4 +1,4 @@
-//! Values of a document, as they are shown.
+//! Values of a document, as an explanation shows them.
 
 use std::fmt;
 use toml::Value;
@@ -6,7 +6,8 @@ use toml::Value;
 /// The most entries of an array that are shown.
 const MOST_ENTRIES: usize = 6;
 
-/// A value, as it may be written in a file. Tables, arrays in arrays, and all but the first entries of a long array are left out.
+/// A value, as it may be written in a file. Tables, arrays in arrays, and the later entries of a long array are left
+/// out.
 #[derive(Clone, Copy)]
 pub(crate) struct Shown<'a>(pub &'a Value);
 
@@ -51,7 +52,7 @@ impl fmt::Display for Shown<'_> {
     }
 }
 
-/// Returns what the type of a value is called.
+/// Returns the words for the type of a value.
 pub(crate) fn type_phrase(value: &Value) -> &'static str {
     match value {
         Value::String(_) => "a text",

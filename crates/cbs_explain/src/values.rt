@@ -1,4 +1,4 @@
-//! What is said of a value that is not what its key wants.
+//! The explanations of a value that is not what its key needs.
 
 use crate::page::append_list;
 use crate::shown::{Shown, type_phrase};
@@ -7,12 +7,12 @@ use std::alloc::AllocError;
 use std::fmt::Write;
 use toml::Value;
 
-/// Appends the words of a choice, each between quotes.
+/// Appends the words of a set, each between quotes.
 fn append_words(text: &mut String, words: &[&str]) -> Result<(), AllocError> {
     append_list(text, words, "\"", " or ")
 }
 
-/// Appends of which type a value has to be.
+/// Appends which type a value must have.
 pub(crate) fn append_type(text: &mut String, want: Want) -> Result<(), AllocError> {
     match want {
         Want::Number(_, _) | Want::Budget | Want::Server => text.push_str("a number"),
@@ -124,7 +124,7 @@ fn append_units(text: &mut String, name: &str, value: &Value) -> Result<(), Allo
     }
 }
 
-/// Appends that a value is not what it may be.
+/// Appends that a value is none of those that are allowed.
 fn append_plain(
     text: &mut String,
     key: Key,
@@ -159,7 +159,7 @@ pub(crate) fn append_outside(
     }
 }
 
-/// Returns the first entry of an array that is no number.
+/// Returns the first entry of an array that is no number, or `None` if there is none.
 fn odd_entry(want: Want, value: &Value) -> Option<&Value> {
     if !matches!(want, Want::Range(_, _) | Want::Bound | Want::Units) {
         return None;

@@ -1,4 +1,4 @@
--- Which format a task file has, and what that decides: where the modes of the servers stand, and how long an advance may be.
+-- The format of a task file, and what it decides: where the modes of the servers stand, and how long an advance may be.
 use Rattle.std.specs.Prelude.{ℕ, ℤ, eqb, if◌then◌else◌, Result, Ok}
 use Rattle.cbs_rules.specs.Rules.{clock_end}
 use Rattle.cbs_tables.specs.declared.fault.FileKind.{FileKind}

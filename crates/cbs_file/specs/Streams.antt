@@ -1,4 +1,4 @@
--- What was read of the steps of a file, entry by entry.
+-- The steps of a file, as they were read entry by entry.
 use Rattle.std.specs.Prelude.{◌≡◌, ℕ, codes, List, length, Option, Some, None, Result, Ok, Err, MatchResult, All}
 use Rattle.std.specs.Borrow.{Bor}
 use Rattle.std.specs.Ordering.{nat_cmp, match_ordering}
@@ -22,12 +22,12 @@ use Rattle.cbs_file.specs.declared.terms.Terms.{Terms}
 use Rattle.cbs_file.specs.Entries.{step_entry}
 use Rattle.cbs_file.specs.TaskFiles.{IsFileStep}
 
--- the steps, or the first fault, which stands after them
+-- the steps, or the first fault, which stands at the entry after them
 abbrev pub outcome : List (Step FileJob) → Option FileKind → Result (List (Step FileJob)) FileFault
 outcome steps None = Ok steps
 outcome steps (Some kind) = Err (faulty (AtStep (length steps)) kind)
 
--- the entries spell what was read of them, by these terms
+-- by these terms, the entries spell exactly the steps and the fault that were read
 abbrev pub Spells : Terms → StepsRead → List Data → Type 0
 Spells t r entries = (each_from 0 (λ i entry. at (AtStep i) (step_entry t.format t.servers entry)) entries ≡ outcome r.steps.items r.fault)
     × All (IsFileStep t.servers) r.steps.items
@@ -37,18 +37,20 @@ abbrev pub ReadsSteps : Terms → Result (StepsRead × Bor (List ℕ)) Stop → 
 ReadsSteps t r expected =
     MatchResult r (λ p. (ds : Items) × (expected ≡ Some (ds, p.1.now)) × Spells t p.0 (list_of ds)) (λ e. e ≡ NotToml → expected ≡ None)
 
--- the members with one more, at its place in the order
+-- the members with one more, at its place in the order of the keys
 abbrev pub insert_member : List ℕ → Data → Members → Members
 insert_member k x no_members = member k x no_members
 insert_member k x (member l d ms) = match_ordering (slice_cmp nat_cmp k l) (member k x (member l d ms)) (member l x ms) (member l d (insert_member k x ms))
 
--- the lines that the grammar takes add the tables that spell what was read, at the key of the steps; or the grammar refuses
+-- the grammar refuses the lines; or they add an array of tables at the key of the steps, and these tables spell what
+-- was read
 abbrev pub ReadsStepTables : Terms → Nodes → Result StepsRead Stop → Option Lines → Type 0
 ReadsStepTables t root r expected = MatchResult r
     (λ found. (ds : Items) × (doc : Lines) × (expected ≡ Some doc) × (close doc.0 ≡ insert_member (codes "step") (array ds) (close root)) × Spells t found (list_of ds))
     (λ e. e ≡ NotToml → expected ≡ None)
 
--- a document that was read is the table, with the steps at their key if they were read apart
+-- the expected members are the table of the document that was read, with the steps at their key if the steps were read
+-- apart
 abbrev pub IsDocument : Document → Option StepsRead → Option Members → Type 0
 IsDocument doc None expected = expected ≡ Some (table_view doc.table)
 IsDocument doc (Some r) expected =

@@ -31,7 +31,7 @@ use cbs_tables::{FileFault, FileKind, MEMORY, Place, at, document, faulty, wants
 use std::alloc::Global;
 use toml::Value;
 
-/// Admits the server of one entry, where all servers may have a mode already.
+/// Admits the server of one entry. If `mode` is given, all servers have that mode, and the entry has none.
 fn admit_entry(setup: &mut Setup, mode: Option<Mode>, entry: &Value) -> Result<(), FileKind>
     ensures { seen (λ _. setup.new) result ≡ admitted_entry mode setup.old (view entry.now) }
 {
@@ -42,7 +42,8 @@ fn admit_entry(setup: &mut Setup, mode: Option<Mode>, entry: &Value) -> Result<(
     }
 }
 
-/// The servers of the entries of `server`, where all servers may have a mode already.
+/// Returns the servers of the entries of `server`. If `mode` is given, all servers have that mode, and the entries have
+/// none.
 fn setup_of(bound: Bound, mode: Option<Mode>, entries: &[Value]) -> Result<Setup, FileFault>
     ensures { result ≡ taken_in (admitted_entry mode) 0 (no_servers bound) (map view entries.now) }
 {
@@ -56,7 +57,7 @@ fn setup_of(bound: Bound, mode: Option<Mode>, entries: &[Value]) -> Result<Setup
     Ok(setup)
 }
 
-/// The steps of the entries of `step`, in a file of this format with so many servers.
+/// Returns the steps of the entries of `step`, in a file of this format with this many servers.
 fn steps_of(
     alloc: Global,
     format: Format,
@@ -81,7 +82,7 @@ fn steps_of(
     Ok(steps)
 }
 
-/// Returns the task file that the bytes spell, or its first fault. The whole document stands in memory.
+/// Returns the task file that the bytes spell, or its first fault. The whole document is held in memory.
 #[tactic(auto, unfolding(crate::specs::Spelling::file))]
 fn read_whole(alloc: Global, bytes: &[u8]) -> Result<TaskFile, FileFault>
     ensures { Gives no_memory (λ f. f) result (file bytes.now) }
@@ -102,8 +103,8 @@ fn read_whole(alloc: Global, bytes: &[u8]) -> Result<TaskFile, FileFault>
     })
 }
 
-/// Returns the file of a document whose steps were read apart, or its first fault. Returns `None` if they were read by other terms
-/// than the document has.
+/// Returns the file of a document whose steps were read apart, or its first fault. Returns `None` if the steps were
+/// read by other terms than the document sets.
 fn finish(alloc: Global, document: Document) -> Option<Result<TaskFile, FileFault>>
     requires { IfSome document.read (λ r. All (IsFileStep document.terms.servers) r.steps.items) }
     ensures { (bytes : List ℕ) → is_utf8 bytes ≡ true → IsDocument document document.read (parse_document bytes)
@@ -143,8 +144,8 @@ fn finish(alloc: Global, document: Document) -> Option<Result<TaskFile, FileFaul
     }
 }
 
-/// Returns the file that the bytes spell, or its first fault, if its document has simple keys alone, and the array of the steps
-/// last. Returns `None` for another shape.
+/// Returns the file that the bytes spell, or its first fault. The document must have only simple keys, and the array of
+/// the steps must stand last. Returns `None` for another shape.
 fn read_apart(alloc: Global, bytes: &[u8]) -> Option<Result<TaskFile, FileFault>>
     ensures { IfSome result (λ r. Gives no_memory (λ f. f) r (file bytes.now)) }
 {
@@ -169,10 +170,9 @@ fn spelled_file(alloc: Global, bytes: &[u8]) -> Result<TaskFile, FileFault>
     }
 }
 
-/// The task file that the bytes spell, or its first fault, as [`read_file`] reads it, where the bytes want at most `memory`
-/// bytes of memory.
+/// Returns the task file that the bytes spell, or its first fault, as [`read_file`] does.
 ///
-/// Where they want more, the answer is [`FileKind::OutOfMemory`], before anything is parsed.
+/// If the bytes need more than `memory` bytes of memory, returns [`FileKind::OutOfMemory`], before anything is parsed.
 pub fn read_file_within(alloc: Global, memory: u64, bytes: &[u8]) -> Result<TaskFile, FileFault>
     ensures read { Gives no_memory (λ f. f) result (file bytes.now) }
     ensures bounded { memory < memory_wanted bytes.now → result ≡ Err no_memory }
@@ -183,14 +183,15 @@ pub fn read_file_within(alloc: Global, memory: u64, bytes: &[u8]) -> Result<Task
     spelled_file(alloc, bytes)
 }
 
-/// The task file that the bytes spell, or its first fault.
+/// Returns the task file that the bytes spell, or its first fault.
 ///
-/// The bytes are parsed as TOML; then the top table is tested, then each entry of `server` in order,
-/// then each entry of `step`. In each table the tests are, over all its keys: a key that it may not
-/// have, a key that is missing, a value of the wrong type, a value out of range. An entry of
-/// `server` is then admitted to the plan. The `format` of the top table, and the `op` of a step, are
-/// tested before the other keys. [`FileKind::OutOfMemory`] may come at any time, and stands
-/// at the top. It comes at once where the bytes want more memory than [`MEMORY`].
+/// The bytes are parsed as TOML. Then the top table is tested, then each entry of `server` in order, then each entry of
+/// `step`. Each table is tested in four turns, each over all its keys: unknown keys, missing keys, types of values,
+/// ranges of values. After its tests, an entry of `server` is admitted to the plan. The `format` of the top table and
+/// the `op` of a step are tested before the other keys.
+///
+/// [`FileKind::OutOfMemory`] may come at any time, and its place is the top. It comes at once if the bytes need more
+/// memory than [`MEMORY`].
 pub fn read_file(alloc: Global, bytes: &[u8]) -> Result<TaskFile, FileFault>
     ensures read { Gives no_memory (λ f. f) result (file bytes.now) }
     ensures bounded { usual_bound < memory_wanted bytes.now → result ≡ Err no_memory }

@@ -1,4 +1,4 @@
-//! Which format a task file has, and what that decides.
+//! The format of a task file, and what it decides.
 
 ghost use Rattle.std.specs.Prelude.{◌≡◌, ◌≤◌};
 ghost use Rattle.cbs_file.specs.Formats.{format_of, longest_advance};
@@ -10,14 +10,14 @@ use cbs_tables::{FileKind, within};
 /// The format of a task file.
 #[derive(Clone, Copy, Debug, PartialEq, Eq)]
 pub enum Format {
-    /// Format 1: all servers follow one mode, which the top table has.
+    /// Format 1: all servers follow one mode, which stands in the top table.
     One,
-    /// Format 2: each server has its mode, in its entry.
+    /// Format 2: each server has its own mode, which stands in its entry.
     Two,
 }
 
 impl Format {
-    /// The longest advance of one step, in ticks.
+    /// Returns the longest advance of one step, in ticks.
     pub fn longest_advance(self) -> u64
         ensures value { result ≡ longest_advance self }
         ensures most { result ≤ LIMIT }
@@ -29,7 +29,7 @@ impl Format {
     }
 }
 
-/// The format of this number.
+/// Returns the format of this number, 1 or 2.
 pub fn format_of(number: i64) -> Result<Format, FileKind>
     ensures { result ≡ format_of number }
 {

@@ -1,5 +1,5 @@
-//! Task files: the plan and mode of some servers, the limits of their queues, and a list of steps, read from the bytes of a
-//! TOML document.
+//! Task files: a plan of servers with their modes, the limits of their queues, and a list of steps. They are read from
+//! the bytes of a TOML document.
 #![tactic(auto)]
 
 mod entries;

@@ -1,4 +1,4 @@
-//! The steps of a task file, read entry by entry: each is taken, and let go.
+//! The steps of a task file, read entry by entry. Each entry is freed after its step was taken.
 
 ghost use Rattle.std.specs.Prelude.{◌≡◌, ◌<◌, ◌≤◌, ℕ, codes, length, List, ◌++◌, ◌∷◌, [], OnOk, IfErr};
 ghost use Rattle.toml.specs.Data.{Data, no_items};
@@ -20,7 +20,7 @@ use std::alloc::Global;
 use toml::Value;
 use toml_parser::text::{first, skip, skip_blank};
 
-/// What was read of the steps: those before the first fault, and its kind.
+/// The steps that were read: those before the first fault, and the kind of that fault.
 #[derive(Drop)]
 pub struct StepsRead {
     pub steps: Vec<Step<FileJob>>,
@@ -28,7 +28,7 @@ pub struct StepsRead {
 }
 
 impl StepsRead {
-    /// Returns what was read before the first entry.
+    /// Returns the steps that were read before the first entry: none.
     fn new(alloc: Global) -> StepsRead
         ensures { (terms : Terms) → Spells terms result [] }
     {
@@ -63,7 +63,7 @@ impl StepsRead {
     }
 }
 
-/// Takes one more entry, and lets it go.
+/// Takes one more entry, and frees it.
 fn take(found: &mut StepsRead, alloc: Global, terms: Terms, entry: Value) -> Result<(), Stop>
     ensures took { OnOk result ((entries : List Data) → Spells terms found.old entries → Spells terms found.new (entries ++ view entry ∷ [])) }
     ensures memory { IfErr result (λ e. e ≡ OutOfMemory) }
@@ -71,7 +71,7 @@ fn take(found: &mut StepsRead, alloc: Global, terms: Terms, entry: Value) -> Res
     found.take(alloc, terms, &entry)
 }
 
-/// Returns the steps of an array whose bracket was read, and the text after the array.
+/// Returns the steps of an array whose opening bracket was read, and the text after the array.
 pub fn step_array(alloc: Global, terms: Terms, s: &str) -> Result<(StepsRead, &str), Stop>
     ensures value { (n : ℕ) → length s.now < n → ReadsSteps terms result (spec.items (spec.val 79) n no_items s.now) }
     ensures shorter { Shortens s.now result }
@@ -89,7 +89,7 @@ pub fn step_array(alloc: Global, terms: Terms, s: &str) -> Result<(StepsRead, &s
     }
 }
 
-/// Returns the steps of an array of tables whose first header was read. They go on to the end of the text.
+/// Returns the steps of an array of tables whose first header was read. The tables go on to the end of the text.
 pub fn step_tables(alloc: Global, terms: Terms, s: &str) -> Result<StepsRead, Stop>
     ensures { (n : ℕ) (root : Nodes) → length s.now < n
         → ReadsStepTables terms root result (spec.lines n (growing (codes "step") root no_items no_nodes) s.now) }

@@ -1,4 +1,4 @@
-//! The document of a task file, read line by line, so that it is never whole in memory: its steps are read apart.
+//! The document of a task file, read line by line. Its steps are read apart, so the document is never whole in memory.
 
 ghost use Rattle.std.specs.Prelude.{◌≡◌, ◌<◌, ◌≤◌, ℕ, true, codes, length, List, [], IfOk, IfSome, All, option_map};
 ghost use Rattle.toml.specs.Parse as spec;
@@ -17,7 +17,8 @@ use toml::{Table, Value};
 use toml_parser::Key;
 use toml_parser::text::{byte_at, first, skip, skip_blank, skip_ws};
 
-/// The table of a document. If the steps stand last, it lacks them, and beside it stands what was read of them, by which terms.
+/// The table of a document. If the steps stand last, the table lacks them; what was read of them stands beside it, with
+/// the terms by which they were read.
 #[derive(Drop)]
 pub struct Document {
     pub table: Table,
@@ -25,14 +26,14 @@ pub struct Document {
     pub read: Option<StepsRead>,
 }
 
-/// Returns whether the key is `step`.
+/// Returns whether the key is `step`. No other key gives `true`.
 fn is_step(key: &Key) -> bool
     ensures { result ≡ true → key_view key.now ≡ ([], codes "step") }
 {
     key.path.is_empty() && key.last.as_str() == "step"
 }
 
-/// Returns the text after its byte order mark, if it has one.
+/// Returns the text after its byte order mark, or the whole text if it has none.
 fn skip_bom(s: &str) -> &str
     ensures rest { result.now ≡ spec.skip_bom s.now }
     ensures within { length result.now ≤ length s.now }
@@ -44,7 +45,7 @@ fn skip_bom(s: &str) -> &str
     }
 }
 
-/// Returns the document of a table, whose other lines are arrays of tables.
+/// Returns the document of a table whose other lines are arrays of tables.
 fn read_tables(alloc: Global, table: Table, s: &str) -> Result<Document, Stop>
     ensures value { (n : ℕ) (root : Nodes) (path : List (List ℕ)) → close root ≡ table_view table → length s.now < n
         → ReadsDocument result (option_map (λ doc. close doc.0) (spec.lines n (root, path) s.now)) }
@@ -83,8 +84,8 @@ fn read_tables(alloc: Global, table: Table, s: &str) -> Result<Document, Stop>
     }
 }
 
-/// Returns the document of a text with simple keys: pairs, and then arrays of tables under headers in double brackets. The steps stand
-/// last: as the array of a pair, or under such headers.
+/// Returns the document of a text with simple keys: pairs, and then arrays of tables under headers in double brackets.
+/// The steps stand last, as the array of a pair or under such headers.
 pub fn read_document(alloc: Global, s: &str) -> Result<Document, Stop>
     ensures value { ReadsDocument result (spec.parse_document s.now) }
     ensures named { IfOk result (λ d. IfSome d.read (λ r. All (IsFileStep d.terms.servers) r.steps.items)) }

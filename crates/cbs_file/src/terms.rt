@@ -1,4 +1,4 @@
-//! What the steps of a file are read by.
+//! The terms by which the steps of a file are read.
 
 ghost use Rattle.std.specs.Prelude.{◌≡◌, ◌≤◌, true};
 ghost use Rattle.cbs_rate.specs.Limits.{most_servers};
@@ -8,7 +8,7 @@ use crate::top::format_at;
 use cbs_rate::MAX_SERVERS;
 use toml::{Table, Value};
 
-/// What the steps of a file are read by: its format, and how many servers it has.
+/// The terms by which the steps of a file are read: its format, and how many servers it has.
 #[derive(Clone, Copy, Debug, PartialEq, Eq)]
 pub struct Terms {
     pub format: Format,
@@ -17,7 +17,8 @@ pub struct Terms {
 }
 
 impl Terms {
-    /// Returns the terms that the table seems to set. Whoever has the whole table looks whether it does.
+    /// Returns the terms that the table seems to set. Once the whole table is tested, the caller compares them by
+    /// [`Terms::are_of`].
     pub fn of(table: &Table) -> Terms {
         let servers = match table.get("server") {
             Some(Value::Array(entries)) if entries.len() <= MAX_SERVERS => entries.len() as u64,
@@ -29,7 +30,7 @@ impl Terms {
         }
     }
 
-    /// Returns whether a file of this format with so many servers sets these terms.
+    /// Returns `true` only if a file of this format with this many servers sets these terms.
     pub fn are_of(self, format: Format, servers: u64) -> bool
         ensures { result ≡ true → (format ≡ self.format) × (servers ≡ self.servers) }
     {

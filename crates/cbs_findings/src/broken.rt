@@ -1,11 +1,11 @@
-//! Where a text is no TOML, and what is wrong there.
+//! The place at which a text is no TOML, and what is wrong there.
 
 use toml::de::Error;
 
-/// What `toml` says of a comma that is missing in an array.
+/// The message of `toml` for a comma that is missing in an array.
 const NO_COMMA: &str = "missing comma between array elements, expected `,` or `]`";
 
-/// What `toml` says of a character in a text, or of a text that is not closed.
+/// The message of `toml` for a bad character in a text, and for a text that is not closed.
 const BAD_TEXT: &str = "invalid string";
 
 /// A place in a text.
@@ -13,9 +13,9 @@ const BAD_TEXT: &str = "invalid string";
 pub struct Position<'a> {
     /// The line, from 1.
     pub number: usize,
-    /// What stands before the place in its line.
+    /// The part of the line before the place.
     pub before: &'a str,
-    /// What stands at the place and after it in its line.
+    /// The part of the line from the place on.
     pub after: &'a str,
 }
 
@@ -28,14 +28,14 @@ pub struct Quote {
     pub mark: char,
 }
 
-/// What is wrong with a text that is no TOML.
+/// The error of a text that is no TOML.
 #[derive(Clone, Copy)]
 pub struct Broken<'a> {
-    /// What `toml` says of it.
+    /// The message of `toml`.
     pub message: &'a str,
-    /// Where it is.
+    /// The place of the error.
     pub position: Position<'a>,
-    /// How many characters of the line it is about.
+    /// How many characters of the line the error is about.
     pub count: usize,
 }
 
@@ -62,7 +62,7 @@ fn first_line(tail: &str) -> &str {
     line.strip_suffix('\r').unwrap_or(line)
 }
 
-/// Returns a place in a text.
+/// Returns the position of a place in a text, or `None` if the text does not have the place.
 fn position_at(text: &str, at: usize) -> Option<Position<'_>> {
     let (head, tail) = text.split_at_checked(at)?;
     Some(Position {
@@ -77,7 +77,8 @@ fn is_number(word: &str) -> bool {
     word.parse::<i64>().is_ok()
 }
 
-/// Returns where the second of two numbers stands that an error is about. `toml` takes them for a date with a blank in it.
+/// Returns the place of the second of two numbers that an error is about, since a comma is missing between them. `toml`
+/// takes such numbers for a date with a blank in it. Returns `None` for any other error.
 fn missing_comma(text: &str, start: usize, end: usize) -> Option<usize> {
     let (first, second) = text.get(start..end)?.split_once(' ')?;
     let second = second.trim_start();
@@ -87,7 +88,7 @@ fn missing_comma(text: &str, start: usize, end: usize) -> Option<usize> {
     None
 }
 
-/// Returns the quote that is open after one more character.
+/// Returns the quote that is open after one more character, if one is.
 fn open_after(open: Option<Quote>, escaped: bool, next: Quote) -> Option<Quote> {
     match open {
         None if next.mark == '"' || next.mark == '\'' => Some(next),
@@ -96,7 +97,7 @@ fn open_after(open: Option<Quote>, escaped: bool, next: Quote) -> Option<Quote> 
     }
 }
 
-/// Returns the quote that is open at the end of the beginning of a line.
+/// Returns the quote that is open after the beginning of a line, if one is.
 fn open_quote(before: &str) -> Option<Quote> {
     let mut open: Option<Quote> = None;
     let mut escaped = false;
@@ -109,7 +110,7 @@ fn open_quote(before: &str) -> Option<Quote> {
     open
 }
 
-/// Returns the key of an entry, if the entry is there twice, and else all of it.
+/// Returns the key of an entry if the key is there twice, and else the whole entry.
 fn marked_part<'a>(message: &str, entry: &'a str) -> &'a str {
     match entry.split_once('=') {
         Some((key, _)) if message == "duplicate key" => key.trim_end(),
@@ -126,7 +127,7 @@ fn marked_count(message: &str, after: &str, bytes: usize) -> usize {
 }
 
 impl Broken<'_> {
-    /// Returns the quote of a text that is not closed, if it is that.
+    /// Returns the opening quote, if the error is a text that is not closed.
     pub fn unclosed(self) -> Option<Quote> {
         if self.message != BAD_TEXT || !self.position.after.is_empty() {
             return None;
@@ -134,7 +135,7 @@ impl Broken<'_> {
         open_quote(self.position.before)
     }
 
-    /// Returns what is wrong, in other words than `toml` has for the commonest.
+    /// Returns what is wrong. For common errors the words are not those of `toml`.
     pub fn sentence(&self) -> &str {
         match self.message {
             NO_COMMA => "missing comma between the entries of an array",
@@ -151,7 +152,7 @@ impl Broken<'_> {
     }
 }
 
-/// Returns what is wrong with a text, by what `toml` says of it, if `toml` says where.
+/// Returns the error of a text, from the error of `toml`, or `None` if that has no place.
 pub fn broken_at<'a>(text: &'a str, error: &'a Error) -> Option<Broken<'a>> {
     let span = error.span()?;
     let (start, message) = match missing_comma(text, span.start, span.end) {

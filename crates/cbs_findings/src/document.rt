@@ -1,10 +1,10 @@
-//! Documents that are read again, and their entries.
+//! Documents that are read again to explain a fault, and their entries.
 
 use cbs_tables::{items, members, optional, text};
 use std::alloc::{AllocError, Global};
 use toml::{Table, Value};
 
-/// What kind of document is read.
+/// The kind of a document.
 #[derive(Clone, Copy, PartialEq, Eq)]
 pub enum Kind {
     /// A task file of format 1.
@@ -15,7 +15,7 @@ pub enum Kind {
     Load,
 }
 
-/// Returns the kind of a document: it is a load file if it has a key `load`.
+/// Returns the kind of a document. It is a load file if it has a key `load`.
 fn kind_of(top: &Table) -> Kind {
     if optional(top, "load").is_some() {
         return Kind::Load;
@@ -26,16 +26,16 @@ fn kind_of(top: &Table) -> Kind {
     }
 }
 
-/// A document that is read again.
+/// A document that is read again to explain a fault.
 #[derive(Clone, Copy)]
 pub struct Document<'a> {
     /// The name of its file.
     pub name: &'a str,
-    /// What kind of file it is.
+    /// The kind of the file.
     pub kind: Kind,
     /// Its top table.
     pub top: &'a Table,
-    /// The entries of `server`, none if it is no array.
+    /// The entries of `server`, or none if `server` is no array.
     pub servers: &'a [Value],
 }
 
@@ -55,38 +55,38 @@ impl<'a> Document<'a> {
         optional(self.top, key).is_some()
     }
 
-    /// Returns the name of the server with a number, if there is such a server and it has a name.
+    /// Returns the name of the server with this number, or `None` if there is no such server or it has no name.
     pub fn server_name(self, number: usize) -> Option<&'a str> {
         name_of(self.servers.get(number)?)
     }
 }
 
-/// Returns the values of an array, if there is one at a key.
+/// Returns the values of the array at a key, or `None` if there is no array.
 fn array_at<'a>(table: &'a Table, key: &str) -> Option<&'a [Value]> {
     Some(items(optional(table, key)?).ok()?.as_slice())
 }
 
-/// Returns the entries of an array, none if there is no array.
+/// Returns the entries of the array at a key, or none if there is no array.
 pub(crate) fn entries<'a>(table: &'a Table, key: &str) -> &'a [Value] {
     array_at(table, key).unwrap_or(&[])
 }
 
-/// Returns the value at a key, if an entry is a table that has it.
+/// Returns the value at a key of an entry, or `None` if the entry is no table or lacks the key.
 pub(crate) fn value_at<'a>(entry: &'a Value, key: &str) -> Option<&'a Value> {
     optional(members(entry).ok()?, key)
 }
 
-/// Returns the text at a key, if an entry is a table that has one.
+/// Returns the text at a key of an entry, or `None` if the entry is no table or has no text there.
 pub(crate) fn text_at<'a>(entry: &'a Value, key: &str) -> Option<&'a str> {
     text(value_at(entry, key)?).ok()
 }
 
-/// Returns the name of a server, if its entry has one.
+/// Returns the name of a server, or `None` if its entry has none.
 pub(crate) fn name_of(entry: &Value) -> Option<&str> {
     text_at(entry, "name")
 }
 
-/// Returns the number of the first server of a name.
+/// Returns the number of the first server with this name, or `None` if there is none.
 pub(crate) fn server_named(servers: &[Value], name: &str) -> Option<usize> {
     servers
         .iter()

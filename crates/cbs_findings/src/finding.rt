@@ -1,4 +1,4 @@
-//! What a fault is about: the first key that fails.
+//! The subject of a fault: the first key that fails.
 
 use crate::document::{name_of, server_named, value_at};
 use crate::keys::{Key, Subject};
@@ -7,12 +7,12 @@ use crate::wants::test;
 use cbs_tables::{FileKind, Place, optional};
 use toml::{Table, Value};
 
-/// What a fault is about.
+/// The subject of a fault.
 #[derive(Clone, Copy)]
 pub enum Finding<'a> {
     /// A key that a table may not have.
     Unknown(&'a str, &'a Value),
-    /// A key that has to be there.
+    /// A key that is missing.
     Missing(Key),
     /// A value of a wrong type.
     WrongType(Key, &'a Value),
@@ -24,7 +24,7 @@ pub enum Finding<'a> {
     NoTable(&'a Value),
 }
 
-/// Returns the fault of a key, if it has one.
+/// Returns the fault of a key, or `None` if it has none.
 fn fault_of(key: Key, table: &Table, spot: &Spot<'_>) -> Option<FileKind> {
     match optional(table, key.name) {
         Some(value) => test(key.want, value, spot).err(),
@@ -33,18 +33,18 @@ fn fault_of(key: Key, table: &Table, spot: &Spot<'_>) -> Option<FileKind> {
     }
 }
 
-/// Returns the first key with a fault of a kind.
+/// Returns the first key with a fault of this kind, or `None` if there is none.
 fn first_key(kind: FileKind, table: &Table, spot: &Spot<'_>) -> Option<Key> {
     let mut keys = spot.subject.keys().iter().copied();
     keys.find(|key| fault_of(*key, table, spot) == Some(kind))
 }
 
-/// Returns whether tables of a kind have a key.
+/// Returns whether tables of this kind have a key.
 fn has_key(subject: Subject, name: &str) -> bool {
     subject.keys().iter().any(|key| key.name == name)
 }
 
-/// Returns the first key that a table may not have.
+/// Returns the first key that a table may not have, or `None` if there is none.
 fn unknown<'a>(table: &'a Table, subject: Subject) -> Option<Finding<'a>> {
     let (name, value) = table
         .iter()
@@ -52,12 +52,12 @@ fn unknown<'a>(table: &'a Table, subject: Subject) -> Option<Finding<'a>> {
     Some(Finding::Unknown(name.as_str(), value))
 }
 
-/// Returns the number of the first server with the name of an entry.
+/// Returns the number of the first server with the name of an entry, or `None` if there is none.
 fn first_of_name(servers: &[Value], entry: &Value) -> Option<usize> {
     server_named(servers, name_of(entry)?)
 }
 
-/// Returns the name of a server that an earlier one has.
+/// Returns the name of a server, if an earlier server has the same name.
 fn taken<'a>(spot: &Spot<'a>) -> Option<Finding<'a>> {
     let Place::Server(number) = spot.place else {
         return None;
@@ -70,7 +70,7 @@ fn taken<'a>(spot: &Spot<'a>) -> Option<Finding<'a>> {
     Some(Finding::Taken(value_at(entry, "name")?, other))
 }
 
-/// Returns what a fault of a kind is about, by the first key that has such a fault.
+/// Returns the subject of a fault of this kind. `key` is the first key with such a fault.
 fn found<'a>(kind: FileKind, table: &'a Table, key: Key) -> Option<Finding<'a>> {
     if kind == FileKind::MissingKey {
         return Some(Finding::Missing(key));
@@ -83,7 +83,7 @@ fn found<'a>(kind: FileKind, table: &'a Table, key: Key) -> Option<Finding<'a>> 
     }
 }
 
-/// Returns what a fault of a kind is about, if it can be told.
+/// Returns the subject of a fault of this kind, or `None` if it cannot be found.
 pub fn find<'a>(kind: FileKind, spot: &Spot<'a>) -> Option<Finding<'a>> {
     let Some(table) = spot.table else {
         return Some(Finding::NoTable(spot.entry?));

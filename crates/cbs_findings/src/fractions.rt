@@ -5,7 +5,7 @@ ghost use Rattle.std.specs.Prelude.{◌≡◌, ◌*◌};
 use cbs_size::greatest_common_divisor;
 use std::fmt;
 
-/// A part of the time, as a fraction.
+/// A share of the time, as a fraction.
 #[derive(Clone, Copy)]
 pub struct Fraction {
     /// The part.
@@ -29,7 +29,7 @@ impl Fraction {
         }
     }
 
-    /// Returns the tenths of a per cent, a half upward, of a fraction that has a whole.
+    /// Returns the tenths of a per cent, rounded, a half upward. The whole must not be 0.
     fn tenths(self) -> u128 {
         let twice = self.whole.saturating_mul(2);
         if twice == 0 {

@@ -8,13 +8,13 @@ use cbs_rules::LIMIT;
 /// The longest advance of a step in a file of format 1, in ticks.
 const OLD_ADVANCE: u64 = 1_000_000_000;
 
-/// The most sources of a load.
+/// The greatest number of sources of a load.
 const MAX_SOURCES: u64 = 65_536;
 
 /// The greatest integer of TOML.
 const MAX_INTEGER: u64 = 9_223_372_036_854_775_807;
 
-/// A set of words of which a key has one.
+/// A set of words, of which the value of a key is one.
 #[derive(Clone, Copy)]
 pub enum Words {
     Modes,
@@ -39,7 +39,7 @@ impl Words {
     }
 }
 
-/// What a key wants of its value.
+/// The values that a key may have.
 #[derive(Clone, Copy)]
 pub enum Want {
     /// A number from the first to the second.
@@ -48,17 +48,17 @@ pub enum Want {
     Budget,
     /// The number of a server.
     Server,
-    /// A number, or the least and the greatest, from the first to the second.
+    /// A number, or a least and a greatest one, from the first number to the second.
     Range(u64, u64),
-    /// One of some words.
+    /// One word of a set.
     Word(Words),
     /// A name of a server.
     Name,
-    /// A name that a server has.
+    /// The name of a server of the file.
     ServerName,
     /// Two numbers that make a bound.
     Bound,
-    /// An array of tables, at most so many.
+    /// An array of at most this many tables.
     Tables(u64),
     /// An array of numbers, one for each unit.
     Units,
@@ -68,7 +68,7 @@ pub enum Want {
 #[derive(Clone, Copy)]
 pub struct Key {
     pub name: &'static str,
-    /// Whether it has to be there.
+    /// Whether the key must be there.
     pub required: bool,
     pub want: Want,
 }
@@ -190,7 +190,7 @@ pub enum Subject {
     /// A server of a load file.
     NamedServer,
     Source,
-    /// A step whose word is not known.
+    /// A step whose `op` is not known.
     Step,
     Submit,
     Run,
@@ -219,7 +219,7 @@ impl Subject {
         }
     }
 
-    /// Returns what such a table is called.
+    /// Returns the words for such a table.
     pub fn phrase(self) -> &'static str {
         match self {
             Subject::FormatOne => "a task file of format 1",

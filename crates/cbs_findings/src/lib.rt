@@ -1,4 +1,5 @@
-//! What is found wrong with a task file or a load file: the table, the key and the value that a fault is about, and what would fit.
+//! The findings in a faulty task file or load file: the table, key and value that the fault is about, and what would
+//! fit.
 #![tactic(auto)]
 
 mod broken;

@@ -1,4 +1,4 @@
-//! What a misspelt word may have been meant to be.
+//! The word that a misspelt word may stand for.
 
 use crate::spot::Spot;
 use cbs_tables::optional;
@@ -6,13 +6,14 @@ use std::alloc::{AllocError, Global};
 use strsim::levenshtein;
 use toml::Table;
 
-/// The greatest distance at which a word is taken for a misspelt one.
+/// The greatest distance at which one word may be another, misspelt.
 const FARTHEST: usize = 2;
 
-/// The longest word that is looked at, in bytes.
+/// The longest word that is compared, in bytes.
 const LONGEST: usize = 64;
 
-/// Returns the nearest of some words, and of equally near ones the first, if it is near enough. The only error is out of memory.
+/// Returns the nearest of some words, if it is near enough. Of equally near words, returns the first. The only error is
+/// out of memory.
 pub fn nearest_word<'a>(
     alloc: Global,
     word: &str,
@@ -33,7 +34,7 @@ pub fn nearest_word<'a>(
     Ok(found)
 }
 
-/// Returns the keys of a kind of table that a table does not have.
+/// Returns those keys of a kind of table that this table does not have. The only error is out of memory.
 fn absent_keys(
     alloc: Global,
     spot: &Spot<'_>,
@@ -45,8 +46,8 @@ fn absent_keys(
         .collect(alloc)
 }
 
-/// Returns the key that may be meant by one that a table may not have: the nearest of those that the table does not have yet, if it is
-/// near enough. The only error is out of memory.
+/// Returns the key that may be meant by a key which the table may not have. That is the nearest of the keys which the
+/// table lacks, if it is near enough. The only error is out of memory.
 pub fn nearest_key(
     alloc: Global,
     spot: &Spot<'_>,

@@ -12,23 +12,23 @@ use toml::{Table, Value};
 /// A server that a plan does not take.
 #[derive(Drop)]
 pub struct Refused {
-    /// Its number.
+    /// The server's number.
     pub number: usize,
-    /// Why it is not taken.
+    /// Why the plan does not take it.
     pub why: AdmitError,
     /// The plan of the servers before it.
     pub plan: Plan,
-    /// What it asks for.
+    /// The reservation that the server asks for.
     pub reservation: Reservation,
 }
 
 impl Refused {
-    /// Returns what the servers before it have.
+    /// Returns the share of the time that the servers before it have.
     pub fn before(&self) -> Fraction {
         share(self.plan.bandwidth())
     }
 
-    /// Returns what it would have.
+    /// Returns the share of the time that it would have.
     pub fn own(&self) -> Fraction {
         Fraction {
             part: u128::from(self.reservation.budget()),
@@ -36,7 +36,7 @@ impl Refused {
         }
     }
 
-    /// Returns what all would have together.
+    /// Returns the share of the time that all of them would have together.
     pub fn total(&self) -> Fraction {
         total(self.plan.bandwidth(), self.reservation)
     }
@@ -50,7 +50,8 @@ impl Refused {
         }
     }
 
-    /// Returns the least period in which its budget fits into what is left, if the plan takes that.
+    /// Returns the least period in which the server's budget fits into what is left, or `None` if the plan does not
+    /// take that.
     pub fn least_period(&self) -> Option<u64> {
         let budget = self.reservation.budget();
         let period = least_period(budget, excess(self.bound(), self.before())?)?;
@@ -60,7 +61,7 @@ impl Refused {
         Some(period)
     }
 
-    /// Returns the ticks after which all periods come together.
+    /// Returns after how many ticks all periods begin together again.
     pub fn common_multiple(&self) -> u128 {
         let common = u128::from(self.plan.bandwidth().of);
         let period = u128::from(self.reservation.period());
@@ -76,17 +77,17 @@ fn bound_at(top: &Table) -> Result<Bound, FileKind> {
     bound_of(pair(items(present(top, "bound")?)?)?)
 }
 
-/// Returns the number at a key of a server.
+/// Returns the number at a key of a server, or `None` if there is none.
 fn number_at(entry: &Value, key: &str) -> Option<i64> {
     integer(value_at(entry, key)?).ok()
 }
 
-/// Returns the reservation of a server.
+/// Returns the reservation of a server, or `None` if it has none.
 fn reservation_of(entry: &Value) -> Option<Reservation> {
     reservation(number_at(entry, "budget")?, number_at(entry, "period")?).ok()
 }
 
-/// Returns the plan of servers, if it takes them all.
+/// Returns the plan of servers, or `None` if it does not take them all.
 fn plan_of(bound: Bound, servers: &[Value]) -> Option<Plan> {
     let mut plan = Plan::new(bound);
     for entry in servers {
@@ -95,7 +96,7 @@ fn plan_of(bound: Bound, servers: &[Value]) -> Option<Plan> {
     Some(plan)
 }
 
-/// Returns the server with a number, if the plan of those before it refuses it.
+/// Returns the server with this number, or `None` unless the plan of the servers before it refuses it.
 pub fn refused_at(document: Document<'_>, number: u64) -> Option<Refused> {
     let number = usize::try_from(number).ok()?;
     let reservation = reservation_of(document.servers.get(number)?)?;
@@ -110,7 +111,7 @@ pub fn refused_at(document: Document<'_>, number: u64) -> Option<Refused> {
     })
 }
 
-/// Returns the reservations of all servers, if each has one. The only error is out of memory.
+/// Returns the reservations of all servers, or `None` if one has none. The only error is out of memory.
 pub fn reservations(
     alloc: Global,
     servers: &[Value],

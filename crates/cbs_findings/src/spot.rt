@@ -6,30 +6,30 @@ use cbs_tables::Place;
 use std::fmt;
 use toml::{Table, Value};
 
-/// What is said of an entry beside its number.
+/// What is written about an entry, beside its number.
 #[derive(Clone, Copy)]
 enum Label<'a> {
     Nothing,
-    /// It is the server of this name.
+    /// A server with this name.
     Named(&'a str),
-    /// It is a source of the server of this name.
+    /// A source of the server with this name.
     Of(&'a str),
-    /// What a step does.
+    /// A step, with what it does.
     Does(&'static str),
 }
 
-/// The table in which a fault stands, or the entry that should be one.
+/// The table in which a fault is, or the entry that should be a table.
 #[derive(Clone, Copy)]
 pub struct Spot<'a> {
     /// The document.
     pub document: Document<'a>,
-    /// The place of the fault in it.
+    /// The place of the fault in the document.
     pub place: Place,
     /// The kind of the table.
     pub subject: Subject,
-    /// The table; none for an entry that is no table.
+    /// The table, or none if the entry is no table.
     pub table: Option<&'a Table>,
-    /// The entry; none at the top.
+    /// The entry, or none if the table is the top table.
     pub entry: Option<&'a Value>,
     label: Label<'a>,
 }
@@ -63,7 +63,7 @@ fn server_subject(kind: Kind) -> Subject {
     }
 }
 
-/// Returns the kind of a step, by its word.
+/// Returns the kind of a step, by its `op`.
 fn step_subject(kind: Kind, entry: &Value) -> Subject {
     match text_at(entry, "op") {
         Some("submit") => Subject::Submit,
@@ -75,7 +75,7 @@ fn step_subject(kind: Kind, entry: &Value) -> Subject {
     }
 }
 
-/// Returns what is said of a server.
+/// Returns what is written about a server.
 fn server_label(kind: Kind, entry: &Value) -> Label<'_> {
     match name_of(entry) {
         Some(name) if kind == Kind::Load => Label::Named(name),
@@ -83,7 +83,7 @@ fn server_label(kind: Kind, entry: &Value) -> Label<'_> {
     }
 }
 
-/// Returns what is said of a source: of which server it is, if there is one of that name.
+/// Returns what is written about a source: its server, if there is one with that name.
 fn source_label<'a>(servers: &[Value], entry: &'a Value) -> Label<'a> {
     match text_at(entry, "server") {
         Some(name) if server_named(servers, name).is_some() => Label::Of(name),
@@ -91,7 +91,7 @@ fn source_label<'a>(servers: &[Value], entry: &'a Value) -> Label<'a> {
     }
 }
 
-/// Returns what is said of a step.
+/// Returns what is written about a step.
 fn step_label(subject: Subject) -> Label<'static> {
     match subject {
         Subject::Step => Label::Nothing,
@@ -115,12 +115,12 @@ fn top_spot(document: Document<'_>) -> Spot<'_> {
     }
 }
 
-/// Returns the entry with a number, from 0, of an array of the top table.
+/// Returns the entry with this number, from 0, of an array of the top table, or `None` if there is none.
 fn entry_at<'a>(document: Document<'a>, key: &str, number: u64) -> Option<&'a Value> {
     entries(document.top, key).get(usize::try_from(number).ok()?)
 }
 
-/// Returns the table at a place of a document, if there is an entry.
+/// Returns the table at a place of a document, or `None` if there is no such entry.
 pub fn spot_at(document: Document<'_>, place: Place) -> Option<Spot<'_>> {
     let kind = document.kind;
     let (entry, subject, label) = match place {

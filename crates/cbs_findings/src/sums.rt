@@ -1,4 +1,4 @@
-//! What servers have of the time together, and what is left of it.
+//! The share of the time that servers have together, and what is left of it.
 
 ghost use Rattle.std.specs.Prelude.{◌≡◌, ◌+◌, ◌*◌, IfSome};
 ghost use Rattle.std.specs.Int.{div_ceil};
@@ -6,7 +6,7 @@ ghost use Rattle.std.specs.Int.{div_ceil};
 use crate::fractions::Fraction;
 use cbs_rate::{Bandwidth, Reservation};
 
-/// Returns a part of the time as a fraction.
+/// Returns a share of the time as a fraction.
 pub fn share(bandwidth: Bandwidth) -> Fraction
     ensures part { result.part ≡ bandwidth.ticks }
     ensures whole { result.whole ≡ bandwidth.of }
@@ -17,7 +17,7 @@ pub fn share(bandwidth: Bandwidth) -> Fraction
     }
 }
 
-/// Returns what servers have together with one more.
+/// Returns the share that some servers and one more have together.
 pub(crate) fn total(before: Bandwidth, own: Reservation) -> Fraction
     ensures part { result.part ≡ before.ticks * own.period + own.budget * before.of }
     ensures whole { result.whole ≡ before.of * own.period }
@@ -32,7 +32,7 @@ pub(crate) fn total(before: Bandwidth, own: Reservation) -> Fraction
     }
 }
 
-/// Returns by how much a fraction is greater than another, if it is not less.
+/// Returns by how much a fraction is greater than another, or `None` if it is less.
 pub fn excess(greater: Fraction, less: Fraction) -> Option<Fraction>
     ensures part { IfSome result (λ excess. excess.part + less.part * greater.whole ≡ greater.part * less.whole) }
     ensures whole { IfSome result (λ excess. excess.whole ≡ greater.whole * less.whole) }
@@ -46,7 +46,8 @@ pub fn excess(greater: Fraction, less: Fraction) -> Option<Fraction>
     })
 }
 
-/// Returns the least period in which a budget fits into a room, if there is one: the budget divided by the room, upward.
+/// Returns the least period in which a budget fits into a share of the time, or `None` if there is none. It is the
+/// budget divided by the share, rounded up.
 pub(crate) fn least_period(budget: u64, room: Fraction) -> Option<u64>
     ensures { IfSome result (λ period. period ≡ div_ceil (budget * room.whole) room.part) }
 {

@@ -1,4 +1,4 @@
-//! Whether a value is what its key wants.
+//! Tests of whether a value is what its key needs.
 
 use crate::document::server_named;
 use crate::keys::Want;
@@ -25,12 +25,12 @@ fn is_name(name: &str) -> bool {
         && bytes.iter().all(|byte| byte.is_ascii_alphanumeric() || *byte == b'-' || *byte == b'_')
 }
 
-/// Returns the period of a table, if it is one.
+/// Returns the period of a table, or `None` if it is no period.
 pub fn period_of(table: &Table) -> Option<u64> {
     number(1, MAX_PERIOD, optional(table, "period")?).ok()
 }
 
-/// Returns the first of some values that is not what a unit wants, from 1.
+/// Returns the place, from 1, of the first value that is no number of a unit, or `None` if there is none.
 pub fn first_bad_unit(values: &[Value]) -> Option<usize> {
     let place = values
         .iter()
@@ -38,7 +38,7 @@ pub fn first_bad_unit(values: &[Value]) -> Option<usize> {
     Some(place + 1)
 }
 
-/// Returns the least and the greatest number of a range, for both of which one number stands.
+/// Returns the least and the greatest number of a range. One number stands for both.
 pub fn two_numbers(value: &Value) -> Result<(i64, i64), FileKind> {
     if let Some(number) = value.as_integer() {
         return Ok((number, number));
@@ -46,7 +46,7 @@ pub fn two_numbers(value: &Value) -> Result<(i64, i64), FileKind> {
     pair(items(value)?)?.ok_or(FileKind::OutOfRange)
 }
 
-/// Tests a range.
+/// Tests that a value is a range from `low` to `high`.
 fn test_range(low: u64, high: u64, value: &Value) -> Result<(), FileKind> {
     let (least, greatest) = two_numbers(value)?;
     let least = within(low, high, least)?;
@@ -54,7 +54,7 @@ fn test_range(low: u64, high: u64, value: &Value) -> Result<(), FileKind> {
     Ok(())
 }
 
-/// Tests a budget. If the period is no period, the budget is tested without it.
+/// Tests that a value is a budget. If the period is no valid period, tests the budget without it.
 fn test_budget(value: &Value, table: Option<&Table>) -> Result<(), FileKind> {
     let greatest = match table {
         Some(table) => period_of(table).unwrap_or(u64::MAX),
@@ -64,7 +64,7 @@ fn test_budget(value: &Value, table: Option<&Table>) -> Result<(), FileKind> {
     Ok(())
 }
 
-/// Tests the numbers of the units of a job.
+/// Tests that a value is an array of the numbers of a job's units.
 fn test_units(value: &Value) -> Result<(), FileKind> {
     let values = items(value)?;
     all_integers(values)?;
@@ -75,7 +75,7 @@ fn test_units(value: &Value) -> Result<(), FileKind> {
     Ok(())
 }
 
-/// Returns an error unless something holds.
+/// Returns an error unless `holds` is true.
 fn hold(holds: bool) -> Result<(), FileKind> {
     if holds {
         Ok(())
@@ -84,7 +84,7 @@ fn hold(holds: bool) -> Result<(), FileKind> {
     }
 }
 
-/// Tests whether a value of a table is what its key wants.
+/// Tests that a value of a table is what its key needs.
 pub(crate) fn test(want: Want, value: &Value, spot: &Spot<'_>) -> Result<(), FileKind> {
     let servers = spot.document.servers;
     match want {

@@ -1,4 +1,4 @@
--- The whole report as JSON: keys, and the figure of each.
+-- The whole report as JSON: its keys, and the figure of each key.
 use Rattle.std.specs.Prelude.{ℕ, Bool, List, [], ◌∷◌, ◌++◌, codes, map, Option, Some, None, string_bytes}
 use Rattle.std.specs.List.{list_all}
 use Rattle.serde_json.specs.Data.{Data, null, boolean, number, unsigned, string, array, object, Items, no_items, item, Members, no_members, put}
@@ -14,7 +14,7 @@ use Rattle.cbs_print.specs.Reports.{released, is_in_time, sum_of}
 use Rattle.cbs_print.specs.declared.report.RunReport.{RunReport}
 use Rattle.cbs_print.specs.declared.report.ServerReport.{ServerReport}
 
--- members, and these put among them, by the order of the keys
+-- the members, and these put among them, in the order of their keys
 abbrev pub with_members : List (List ℕ × Data) → Members → Members
 with_members [] ms = ms
 with_members (m ∷ more) ms = with_members more (put m.0 m.1 ms)
@@ -31,12 +31,12 @@ whole n = number (unsigned n)
 unfoldable pub pair_data : ℕ → ℕ → Data
 pair_data a b = array (item (whole a) (item (whole b) no_items))
 
--- the word of a mode
+-- the word for a mode
 abbrev pub mode_word : Mode → List ℕ
 mode_word Soft = codes "soft"
 mode_word Throttled = codes "throttled"
 
--- what came of the jobs of servers
+-- how many jobs of the servers came, were refused, are finished, and are late
 unfoldable pub jobs_data : List ServerReport → Data
 jobs_data servers = object_of (
     (codes "released", whole (told (sum_of released servers)))
@@ -56,7 +56,7 @@ within_data (Some b) = object_of ((codes "least", whole b.least) ∷ (codes "gre
 unfoldable pub units_data : Figures → Data
 units_data f = object_of ((codes "asked", whole f.asked) ∷ (codes "run", whole f.run) ∷ [])
 
--- the ticks from a job's coming to its end, of the finished jobs
+-- the response times of the finished jobs: the ticks from a job's arrival to its end
 unfoldable pub ranks_data : Figures → Option Ranks → Data
 ranks_data f None = null
 ranks_data f (Some r) = object_of (
@@ -68,7 +68,7 @@ ranks_data f (Some r) = object_of (
     ∷ (codes "greatest", whole r.greatest)
     ∷ [])
 
--- the ticks by which the finished jobs with a promise were earlier than that
+-- the ticks by which the finished jobs with a promise were earlier than promised
 unfoldable pub early_data : Figures → Option ℕ → Data
 early_data f None = null
 early_data f (Some least) =
@@ -78,7 +78,7 @@ early_data f (Some least) =
 unfoldable pub charges_data : Figures → Data
 charges_data f = object_of ((codes "all", whole f.charged) ∷ (codes "greatest", whole f.greatest_charge) ∷ [])
 
--- a server
+-- the object of a server
 unfoldable pub server_data : ServerReport → Data
 server_data s = object_of (
     (codes "name", string (string_bytes s.name))
@@ -96,7 +96,7 @@ server_data s = object_of (
     ∷ (codes "greatest_backlog", whole s.figures.greatest_backlog)
     ∷ [])
 
--- the servers, in their order
+-- the objects of the servers, in their order
 abbrev pub servers_data : List ServerReport → Items
 servers_data servers = items_of (map server_data servers)
 
@@ -104,7 +104,7 @@ servers_data servers = items_of (map server_data servers)
 abbrev pub all_in_time : List ServerReport → Bool
 all_in_time servers = list_all (λ s. is_in_time s.figures) servers
 
--- how the time went
+-- how many ticks were run, idle and charged
 unfoldable pub ticks_data : RunReport → Data
 ticks_data r = object_of (
     (codes "run", whole (told (sum_of (λ f. f.run) r.servers.items)))
@@ -112,7 +112,7 @@ ticks_data r = object_of (
     ∷ (codes "charged", whole (told (sum_of (λ f. f.charged) r.servers.items)))
     ∷ [])
 
--- the seed of what was drawn
+-- the seed of the numbers that were drawn, or null if there is none
 unfoldable pub seed_data : Option ℕ → Data
 seed_data None = null
 seed_data (Some seed) = whole seed
@@ -134,6 +134,6 @@ report_data r = object_of (
     ∷ (codes "servers", array (servers_data r.servers.items))
     ∷ [])
 
--- .. as text: one line
+-- the whole report as text: one line
 abbrev pub report_json : RunReport → List ℕ
 report_json r = compact_text (report_data r) ++ codes "\n"

@@ -17,7 +17,7 @@ fn all_in_time(servers: &[ServerReport]) -> bool
     servers.iter().all(|server| server.is_in_time())
 }
 
-/// Returns how the time of a run went.
+/// Returns how many ticks of a run were run, idle and charged.
 #[tactic(auto, unfolding(crate::specs::Json::ticks_data))]
 fn ticks_value(alloc: Global, report: &RunReport) -> Result<Value, AllocError>
     ensures { IfOk result (λ v. view v ≡ ticks_data report.now) }
@@ -29,7 +29,7 @@ fn ticks_value(alloc: Global, report: &RunReport) -> Result<Value, AllocError>
     })
 }
 
-/// Returns the seed of what was drawn, or null if nothing is drawn.
+/// Returns the seed of the numbers that were drawn, or null if there is none.
 #[tactic(auto, unfolding(crate::specs::Json::seed_data))]
 fn seed_value(seed: Option<u64>) -> Value
     ensures { view result ≡ seed_data seed }
@@ -40,7 +40,7 @@ fn seed_value(seed: Option<u64>) -> Value
     }
 }
 
-/// Returns what is told of each server.
+/// Returns the object of each server.
 fn servers_values(alloc: Global, servers: &[ServerReport]) -> Result<Vec<Value>, AllocError>
     ensures { IfOk result (λ values. map view values.items ≡ map server_data servers.now) }
 {
@@ -51,7 +51,7 @@ fn servers_values(alloc: Global, servers: &[ServerReport]) -> Result<Vec<Value>,
     Ok(values)
 }
 
-/// Returns what is told of a run.
+/// Returns the object of a whole report.
 #[tactic(auto, unfolding(crate::specs::Json::report_data))]
 fn report_value(alloc: Global, report: &RunReport) -> Result<Value, AllocError>
     ensures { IfOk result (λ v. view v ≡ report_data report.now) }
@@ -73,7 +73,7 @@ fn report_value(alloc: Global, report: &RunReport) -> Result<Value, AllocError>
     })
 }
 
-/// Returns a report as JSON: one object on one line, with a newline at its end. The only error is out of memory.
+/// Returns a report as JSON: one object on one line, with a line feed at its end. The only error is out of memory.
 pub fn report_json(alloc: Global, report: &RunReport) -> Result<String, AllocError>
     ensures { IfOk result (λ text. string_bytes text ≡ report_json report.now) }
 {

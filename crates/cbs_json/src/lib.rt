@@ -1,4 +1,4 @@
-//! What a run came to, as JSON.
+//! The report of a run, as JSON.
 #![tactic(auto)]
 
 mod json;

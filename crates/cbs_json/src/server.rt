@@ -1,4 +1,4 @@
-//! What is told of one server.
+//! The object of one server.
 
 ghost use Rattle.std.specs.Prelude.{◌≡◌, [], ◌∷◌, IfOk};
 ghost use Rattle.serde_json.specs.View.{view};
@@ -12,7 +12,7 @@ use cbs_simulate::Range;
 use serde_json::{Value, json};
 use std::alloc::{AllocError, Global};
 
-/// Returns two numbers.
+/// Returns an array of two numbers.
 #[tactic(auto, unfolding(crate::specs::Json::pair_data))]
 pub(crate) fn pair_value(alloc: Global, first: u64, second: u64) -> Result<Value, AllocError>
     ensures { IfOk result (λ v. view v ≡ pair_data first second) }
@@ -20,7 +20,7 @@ pub(crate) fn pair_value(alloc: Global, first: u64, second: u64) -> Result<Value
     json!(in alloc; [first, second])
 }
 
-/// Returns the word of a mode.
+/// Returns the word for a mode.
 fn mode_word(mode: Mode) -> &'static str
     ensures { result.now ≡ mode_word mode }
 {
@@ -30,7 +30,7 @@ fn mode_word(mode: Mode) -> &'static str
     }
 }
 
-/// Returns what came of the jobs of servers.
+/// Returns how many jobs of the servers came, were refused, are finished, and are late.
 #[tactic(auto, unfolding(crate::specs::Json::jobs_data))]
 pub(crate) fn jobs_value(alloc: Global, servers: &[ServerReport]) -> Result<Value, AllocError>
     ensures { IfOk result (λ v. view v ≡ jobs_data servers.now) }
@@ -45,7 +45,7 @@ pub(crate) fn jobs_value(alloc: Global, servers: &[ServerReport]) -> Result<Valu
     })
 }
 
-/// Returns within how many ticks jobs are to be finished, or null if that is not said.
+/// Returns within how many ticks jobs are to be finished, or null if that is not wanted.
 #[tactic(auto, unfolding(crate::specs::Json::within_data))]
 fn within_value(alloc: Global, within: Option<Range>) -> Result<Value, AllocError>
     ensures { IfOk result (λ v. view v ≡ within_data within) }
@@ -56,7 +56,7 @@ fn within_value(alloc: Global, within: Option<Range>) -> Result<Value, AllocErro
     json!(in alloc; {"least": range.least(), "greatest": range.greatest()})
 }
 
-/// Returns the units of a server.
+/// Returns how many units a server was asked for, and how many it ran.
 #[tactic(auto, unfolding(crate::specs::Json::units_data))]
 fn units_value(alloc: Global, figures: &Figures) -> Result<Value, AllocError>
     ensures { IfOk result (λ v. view v ≡ units_data figures.now) }
@@ -64,7 +64,7 @@ fn units_value(alloc: Global, figures: &Figures) -> Result<Value, AllocError>
     json!(in alloc; {"asked": figures.asked, "run": figures.run})
 }
 
-/// Returns how long jobs took, or null if none is finished.
+/// Returns the response times of a server, or null if no job is finished.
 #[tactic(auto, unfolding(crate::specs::Json::ranks_data))]
 fn ranks_value(alloc: Global, figures: &Figures) -> Result<Value, AllocError>
     ensures { IfOk result (λ v. view v ≡ ranks_data figures.now figures.now.responses) }
@@ -83,7 +83,7 @@ fn ranks_value(alloc: Global, figures: &Figures) -> Result<Value, AllocError>
     })
 }
 
-/// Returns how much earlier than promised jobs were finished, or null if none was.
+/// Returns how many ticks earlier than promised jobs were finished, or null if no finished job had a promise.
 #[tactic(auto, unfolding(crate::specs::Json::early_data))]
 fn early_value(alloc: Global, figures: &Figures) -> Result<Value, AllocError>
     ensures { IfOk result (λ v. view v ≡ early_data figures.now figures.now.early_least) }
@@ -95,7 +95,7 @@ fn early_value(alloc: Global, figures: &Figures) -> Result<Value, AllocError>
     json!(in alloc; {"least": told(least), "mean": mean})
 }
 
-/// Returns what a server was charged.
+/// Returns how many ticks a server was charged, and the greatest charge.
 #[tactic(auto, unfolding(crate::specs::Json::charges_data))]
 fn charges_value(alloc: Global, figures: &Figures) -> Result<Value, AllocError>
     ensures { IfOk result (λ v. view v ≡ charges_data figures.now) }
@@ -103,7 +103,7 @@ fn charges_value(alloc: Global, figures: &Figures) -> Result<Value, AllocError>
     json!(in alloc; {"all": figures.charged, "greatest": figures.greatest_charge})
 }
 
-/// Returns what is told of a server.
+/// Returns the object of a server.
 #[tactic(auto, unfolding(crate::specs::Json::server_data))]
 pub(crate) fn server_value(alloc: Global, server: &ServerReport) -> Result<Value, AllocError>
     ensures { IfOk result (λ v. view v ≡ server_data server.now) }

@@ -1,4 +1,4 @@
-//! Figures of several servers, added up, and numbers as they are told.
+//! Figures of several servers, added up, and numbers as JSON has them.
 
 ghost use Rattle.std.specs.Prelude.{◌≡◌};
 ghost use Rattle.cbs_print.specs.Reports.{sum_of};
@@ -7,27 +7,27 @@ ghost use Rattle.cbs_json.specs.Sums.{figure_of};
 
 use cbs_print::ServerReport;
 
-/// Returns a number, or 2^64 - 1 if it is greater.
+/// Returns the number, or 2^64 - 1 if the number is greater.
 pub(crate) fn told(number: u128) -> u64
     ensures { result ≡ told number }
 {
     u64::try_from(number).unwrap_or(u64::MAX)
 }
 
-/// A figure that is added up.
+/// A figure that is added up over servers.
 #[derive(Clone, Copy)]
 pub(crate) enum Sum {
     /// The jobs that came.
     Released,
-    /// Those that were refused.
+    /// The jobs that were refused.
     Refused,
-    /// Those that are finished.
+    /// The accepted jobs that are finished.
     Finished,
-    /// The accepted ones that are not.
+    /// The accepted jobs that are not finished.
     Unfinished,
-    /// The finished ones that are late.
+    /// The finished jobs that are late.
     LateFinished,
-    /// The unfinished ones that are.
+    /// The unfinished jobs that are late.
     LateUnfinished,
     /// The units that ran.
     Run,
@@ -53,7 +53,7 @@ impl Sum {
         }
     }
 
-    /// Returns the sum of this figure over servers, or 2^64 - 1 if it is greater.
+    /// Returns the sum of this figure over servers, or 2^64 - 1 if the sum is greater.
     pub(crate) fn of(self, servers: &[ServerReport]) -> u64
         ensures { result ≡ told (sum_of (figure_of self) servers.now) }
     {

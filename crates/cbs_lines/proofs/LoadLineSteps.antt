@@ -17,7 +17,7 @@ begins lines w well none = record { well = well; written = rw none (all_waits w.
 
 module _ (old mid new : Writer) (lines after : LoadLines) (os : List Seen) (o : Seen) (text : List ℕ) (has : HasWritten lines old mid os)
     (is : text ≡ seen_line o) where
-  -- what waits with the line more is all of the lines but what is written
+  -- the text that waits, with one more line, is what is not yet written of the lines
   more_waits : AppendsAllBut old.written mid.written (lines.pending ++ text) (lines_of (o ∷ os))
   unfolding lines_of
   more_waits = rw (← is) (waits_too old.written mid.written lines.pending (lines_of os) text has.written)
@@ -56,7 +56,7 @@ module _ (old mid new : Writer) (lines : LoadLines) (os : List Seen) (has : HasW
     part_ends old.written mid.written new.written lines.pending [] lines.pending (lines_of os) (sym (append-nil lines.pending)) has.written front,
   )
 
--- the lines of some first steps begin those of all
+-- the lines of the first steps, up to some step, begin the lines of all steps
 lines_begin : (later done : List Seen) → (more : List ℕ) × (lines_of (later ++ done) ≡ lines_of done ++ more)
 unfolding lines_of
 lines_begin [] done = ([], sym (append-nil (lines_of done)))
@@ -64,7 +64,7 @@ lines_begin (o ∷ later) done =
     let h = lines_begin later done in
     (h.0 ++ seen_line o, ap (λ t. t ++ seen_line o) h.1 ∙ append_assoc (lines_of done) h.0 (seen_line o))
 
--- so a prefix of some lines is one of all
+-- a prefix of the lines of the first steps is a prefix of all lines
 pub fails_in_all : (old new : Writer) (later done steps : List Seen) → later ++ done ≡ steps → FailsToWrite old new (lines_of done)
     → FailsToWrite old new (lines_of steps)
 fails_in_all old new later done steps all fails =
@@ -72,7 +72,7 @@ fails_in_all old new later done steps all fails =
     let is : lines_of done ++ h.0 ≡ lines_of steps = sym h.1 ∙ ap lines_of all in
     (fails.0, rw is at (front_more old.written new.written (lines_of done) h.0 fails.1))
 
--- the lines of some first steps are written, but for what waits
+-- the lines of the first steps, up to some step, are written, except for the text that waits
 pub record HasSome (lines : LoadLines) (old new : Writer) (steps : List Seen) : Type 0 where
   pub later : List Seen
   pub done : List Seen
@@ -80,7 +80,7 @@ pub record HasSome (lines : LoadLines) (old new : Writer) (steps : List Seen) : 
   pub has : HasWritten lines old new done
 
 module _ (lines : LoadLines) (old new : Writer) (later done steps : List Seen) (all : later ++ done ≡ steps) where
-  -- if no write failed, that is so
+  -- if no write failed, the same holds for all lines
   pub some_written : lines.write_failed ≡ false → HasWritten lines old new done ⊎ FailedToWrite lines old new done → HasSome lines old new steps
   some_written well (inl has) = record { later = later; done = done; all = all; has = has }
   some_written well (inr (inl p)) = let t = p.0 in absurd cc

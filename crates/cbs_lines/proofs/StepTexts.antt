@@ -19,7 +19,7 @@ use Rattle.cbs_lines.specs.declared.run_error.RunError.{RunError}
 use Rattle.cbs_lines.specs.declared.run_error.RunError.TheVariants.{OutOfMemory, WriteFault, ClockEnd, Stalled}
 use Rattle.cbs_lines.proofs.WrittenText.{Appends-nothing, all_waits, waits_too, all_but_then, front_more, part_ends, part_done}
 
--- what always holds holds of a result
+-- what always holds also holds for a result
 pub on_ok_always : {T E : Type 0} {P : Type 0} (r : Result T E) → P → OnOk r P
 on_ok_always (Ok x) p = p
 on_ok_always (Err e) p = tt
@@ -67,7 +67,7 @@ nothing_written text M steps w =
     let nothing = Appends-nothing w.written in
     record { done = []; rest = steps; all = refl; written = (nothing, refl); front = ([], texts_after text M steps, nothing, refl) }
 
--- so it stops before the first step
+-- it then stops before the first step
 pub no_step_made : (text : StepText) (M : History FileJob) (steps : List (Step FileJob)) (core : CoreHeld FileJob) (w : Writer) → Agrees of_files core M
     → StopsAtStep text M steps core w w
 unfolding nothing_written
@@ -97,7 +97,7 @@ module _ {text : StepText} {M : History FileJob} {steps : List (Step FileJob)} {
       → Appends old new (texts_after text M so_far.done)
   flushed new so_far wrote = part_done old new [] _ refl (all_but_then old now new waiting [] _ so_far.lines (waiting, wrote, append-nil waiting))
 
-  -- and if only a prefix of it is written, so is only a prefix of all
+  -- if only a prefix of it is written, only a prefix of all texts is
   pub flushed_front : (new : Option (List ℕ)) → SoFar text M steps old now waiting core left → AppendsFront now new waiting
       → AppendsFront old new (texts_after text M steps)
   flushed_front new so_far wrote = rw (texts_are so_far) (front_more old new _ _
@@ -142,7 +142,7 @@ module _ {text : StepText} {M : History FileJob} {steps : List (Step FileJob)} {
             (all_but_then old now new (waiting ++ part) waiting' _ (waits_too old now waiting _ part so_far.lines) wrote);
       }
 
-  -- a front of what waited and of one more text is written
+  -- a prefix of what waited and of one more text is written
   pub pushed_front : (new : Option (List ℕ)) (part : List ℕ) (x : Step FileJob) (xs : List (Step FileJob)) → left ≡ x ∷ xs
       → SoFar text M steps old now waiting core left
       → ((N : History FileJob) → Agrees of_files core N → part ≡ text_after text N x)
@@ -156,7 +156,7 @@ module _ {text : StepText} {M : History FileJob} {steps : List (Step FileJob)} {
       rw whole (part_ends old now new (waiting ++ part) more _ _ (sym (append_assoc waiting part more))
       (waits_too old now waiting _ (part ++ more) so_far.lines) wrote)
 
--- what the core made is of no account to the writer
+-- the writer does not depend on what the core made
 pub without_core : (text : StepText) (M : History FileJob) (steps : List (Step FileJob)) (core : CoreHeld FileJob)
     (r : Result (Unit {0}) RunError) (old new : Writer)
     → Leaves (texts_after text M steps) (StopsWriting (texts_after text M steps) (StopsAtStep text M steps core)) r old new

@@ -16,7 +16,7 @@ keeps : (bytes : Option (List ℕ)) → Keeps bytes bytes
 keeps None = tt
 keeps (Some xs) = refl
 
--- so is a writer
+-- a writer that nothing was written to is kept
 pub untouched : (w : Writer) → IsUntouched w w
 untouched w = (keeps w.written, refl)
 

@@ -30,7 +30,7 @@ pub Appends-nothing : (a : Option (List ℕ)) → Appends a a []
 Appends-nothing None = tt
 Appends-nothing (Some xs) = sym (append-nil xs)
 
--- ---- a text that is written part by part: all of it is written but the rest, which one part more makes shorter
+-- ---- a text that is written part by part: all of it is written except the rest, which becomes shorter with each part
 pub part_goes_on : (old mid new : Option (List ℕ)) (part more left text : List ℕ) → left ≡ part ++ more → AppendsAllBut old mid left text
     → Appends mid new part → AppendsAllBut old new more text
 part_goes_on old mid new part more left text is so_far wrote =
@@ -60,11 +60,11 @@ waits_too old now waiting text part so_far = (so_far.0, so_far.1, sym (append_as
 pub all_waits : (old : Option (List ℕ)) (text : List ℕ) → AppendsAllBut old old text text
 all_waits old text = ([], Appends-nothing old, refl)
 
--- what is a prefix of a text is one of the text and more
+-- a prefix of a text is also a prefix of the text and more
 pub front_more : (old new : Option (List ℕ)) (text part : List ℕ) → AppendsFront old new text → AppendsFront old new (text ++ part)
 front_more old new text part (front, rest, wrote, parts) = (front, rest ++ part, wrote, ap (λ t. t ++ part) parts ∙ append_assoc front rest part)
 
--- what waited is written, but for its end
+-- the text that waited is written, except for its end
 pub all_but_then : (old mid new : Option (List ℕ)) (waiting left text : List ℕ) → AppendsAllBut old mid waiting text → AppendsAllBut mid new left waiting
     → AppendsAllBut old new left text
 all_but_then old mid new waiting left text (front, wrote, parts) (more, wrote_more, more_parts) =

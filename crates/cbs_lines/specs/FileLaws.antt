@@ -10,12 +10,13 @@ use Rattle.cbs_steps.specs.declared.step.Step.{Step}
 use Rattle.cbs_file.specs.TaskFiles.{File}
 use Rattle.cbs_lines.specs.StepTexts.{start_of}
 
--- the completions of server s among the replies to these steps after M go on from its finished jobs, without gap or repeat,
--- each with the whole result of the job of its number
+-- the completions of server s among the replies to these steps after M go on from its finished jobs, without gap or
+-- repeat. Each has the whole result of the job with its number
 abbrev pub CompletesAll : History FileJob → List (Step FileJob) → ℕ → Type 0
 CompletesAll M steps s = Completes of_files (account_in of_files M s) (account_in of_files (M ⊕⊕ steps) s) (completions_of s (replies_after of_files M steps))
 
--- So it is of the steps of the file; after a close of a server no submit to it is accepted; and the laws on time hold.
+-- The completions of each server are so over all steps of the file. After a close of a server no submit to it is
+-- accepted. The laws on time hold.
 pub record KeepsLaws (f : File) : Type 0 where
   pub completions : (s : ℕ) → CompletesAll (start_of f) f.steps s
   pub closes : (s : ℕ) → NoneAfterClose s (account_in of_files (start_of f) s).closed f.steps (replies_after of_files (start_of f) f.steps)

@@ -1,4 +1,4 @@
--- The text of one line of a trace: the clock, the call that the step makes, what it is answered, and the state of the server that
+-- The text of one line of a trace: the clock, the call of the step, its reply, and the state of a server. That server
 -- accepted a job, ran or was charged.
 use Rattle.std.specs.Prelude.{ℕ, List, [], ◌++◌, codes, decimal, Option, Some, None, if◌then◌else◌}
 use Rattle.cbs_steps.specs.Errors.{core_error_name}
@@ -12,7 +12,7 @@ use Rattle.cbs_steps.specs.declared.view.ServerView.{ServerView}
 use Rattle.cbs_lines.specs.declared.call.Call.{Call}
 use Rattle.cbs_lines.specs.declared.call.Call.TheVariants.{Submit, Run, Advance, Close, Charge}
 
--- what was asked
+-- the call of a step
 abbrev pub call_text : Call → List ℕ
 call_text (Submit server) = codes "submit " ++ decimal server
 call_text Run = codes "run"
@@ -20,18 +20,18 @@ call_text (Advance ticks) = codes "advance " ++ decimal ticks
 call_text (Close server) = codes "close " ++ decimal server
 call_text (Charge server ticks) = codes "charge " ++ decimal server ++ codes " " ++ decimal ticks
 
--- why a call was refused
+-- the error of a refused call
 abbrev pub error_text : CoreError → List ℕ
 error_text error = codes " refused " ++ core_error_name error
 
--- what a run did
+-- the result of a run
 abbrev pub ran_text : Ran → List ℕ
 ran_text ran.Idle = codes " idle"
 ran_text ran.ClockEnd = codes " refused ClockEnd"
 ran_text (ran.Unit server seq) = codes " " ++ decimal server ++ codes " job " ++ decimal seq
 ran_text (ran.Done done) = codes " " ++ decimal done.server ++ codes " job " ++ decimal done.seq ++ codes " done " ++ decimal done.result
 
--- what was answered
+-- the reply to a call
 abbrev pub reply_text : Reply FileJob → List ℕ
 reply_text (Accepted seq) = codes " job " ++ decimal seq ++ codes " accepted"
 reply_text (NotAccepted refused) = error_text refused.error
@@ -41,7 +41,7 @@ reply_text Closed = []
 reply_text Charged = []
 reply_text (Refused error) = error_text error
 
--- the budget c and the deadline d of a server, and whether it is throttled
+-- the budget c and the deadline d of a server, and whether the server is throttled
 abbrev pub state_text : Option ServerView → List ℕ
 state_text None = []
 state_text (Some view) = codes " c=" ++ decimal view.budget ++ codes " d=" ++ decimal view.deadline ++ (if view.throttled then codes " throttled" else [])
@@ -54,6 +54,6 @@ shown_server call (OfRun (ran.Unit server seq)) = Some server
 shown_server call (OfRun (ran.Done done)) = Some done.server
 shown_server call reply = None
 
--- the whole line, ended by a line feed
+-- the whole line, with a line feed at its end
 abbrev pub line_text : ℕ → Call → Reply FileJob → Option ServerView → List ℕ
 line_text clock call reply server = codes "@" ++ decimal clock ++ codes " " ++ call_text call ++ reply_text reply ++ state_text server ++ codes "\n"

@@ -1,4 +1,4 @@
--- What is written of the steps of a task file, whatever is written of each.
+-- The texts of the steps of a task file, whatever the text of a step is.
 use Rattle.std.specs.Prelude.{◌≡◌, ◌⊎◌, ℕ, List, [], ◌∷◌, ◌++◌}
 use Rattle.cbs_job.specs.FileJobs.{of_files}
 use Rattle.cbs_job.specs.declared.file.FileJob.{FileJob}
@@ -24,7 +24,7 @@ call_of (step.Advance ticks) = Advance ticks
 call_of (step.Close server) = Close server
 call_of (step.Charge server ticks) = Charge server ticks
 
--- what is written of a step, by its call, its reply, and the world that it left
+-- the text of a step, by its call, its reply, and the world after it
 abbrev pub StepText : Type 0
 StepText = Call → Reply FileJob → World FileJob → List ℕ
 
@@ -45,7 +45,7 @@ start_of f = record { setup = record { servers = terms_of f.modes f.plan.rates; 
 abbrev pub texts_of : StepText → File → List ℕ
 texts_of text f = texts_after text (start_of f) f.steps
 
--- the texts of some first steps were written, a front of all texts, and no call failed
+-- the texts of the first steps were written, up to some step. They are a prefix of all texts, and no call failed
 pub record WritesSteps (text : StepText) (M : History FileJob) (steps : List (Step FileJob)) (old new : Writer) : Type 0 where
   pub done : List (Step FileJob)
   pub rest : List (Step FileJob)
@@ -53,11 +53,11 @@ pub record WritesSteps (text : StepText) (M : History FileJob) (steps : List (St
   pub written : Writes old new (texts_after text M done)
   pub front : AppendsFront old.written new.written (texts_after text M steps)
 
--- the core has made the steps of the history M, or one more: the first of the rest
+-- the core has made the steps of the history M, or also the first of the rest
 abbrev pub HasMade : CoreHeld FileJob → History FileJob → List (Step FileJob) → Type 0
 HasMade core M rest = Agrees of_files core M ⊎ ((x : Step FileJob) × (xs : List (Step FileJob)) × (rest ≡ x ∷ xs) × Agrees of_files core (M ⊕ x))
 
--- .. and the core made just the steps whose texts were written, or the one behind them too
+-- the texts of the first steps were written, up to some step. The core has made these steps, or also the next one
 pub record StopsAtStep (text : StepText) (M : History FileJob) (steps : List (Step FileJob)) (core : CoreHeld FileJob) (old new : Writer) : Type 0 where
   pub writes : WritesSteps text M steps old new
   pub made : HasMade core (M ⊕⊕ writes.done) writes.rest

@@ -12,17 +12,17 @@ use Rattle.cbs_lines.specs.StepTexts.{StepText, start_of, texts_of, WritesSteps}
 use Rattle.cbs_lines.specs.Writers.{Writer, StopsWriting}
 use Rattle.cbs_lines.specs.declared.run_error.RunError.{RunError}
 
--- the view, if it is one
+-- the view, if there is one
 abbrev pub view_if_any : Result ServerView CoreError → Option ServerView
 view_if_any (Ok view) = Some view
 view_if_any (Err error) = None
 
--- what a line shows of a server
+-- the state of a server that a line shows, if it shows one
 abbrev pub shown : World FileJob → Option ℕ → Option ServerView
 shown w None = None
 shown w (Some s) = view_if_any (view_reply (slice_get (faces of_files w) s))
 
--- the text of the line of a step, which left w
+-- the line of a step, after which the world is w
 unfoldable pub line_of : StepText
 line_of call reply w = line_text w.now call reply (shown w (shown_server call reply))
 
@@ -30,7 +30,7 @@ line_of call reply w = line_text w.now call reply (shown w (shown_server call re
 abbrev pub trace : File → List ℕ
 trace f = texts_of line_of f
 
--- how a replay stops: where memory ran out the lines of some first steps were written, where a call failed a front of the trace;
--- it stops for no other cause
+-- how a replay stops. If memory ran out, the lines of the first steps were written, up to some step. If a write failed,
+-- a prefix of the trace was written. There is no other cause
 abbrev pub TraceStops : File → RunError → Writer → Writer → Type 0
 TraceStops f = StopsWriting (trace f) (WritesSteps line_of (start_of f) f.steps)

@@ -1,11 +1,11 @@
--- What a call leaves in the writer that it was lent.
+-- What a call leaves on the writer that it was lent.
 use Rattle.std.specs.Prelude.{◌≡◌, ◌⊎◌, ℕ, ◌+◌, List, Option, Result, Ok, Err}
 use Rattle.std.specs.Io.KnownBytes.{Appends, Keeps}
 use Rattle.cbs_lines.specs.Writes.{AppendsFront}
 use Rattle.cbs_lines.specs.declared.run_error.RunError.{RunError}
 use Rattle.cbs_lines.specs.declared.run_error.RunError.TheVariants.{OutOfMemory, WriteFault, ClockEnd, Stalled}
 
--- a writer: the bytes written so far, where they are known, and how many calls failed
+-- a writer: the bytes that were written so far, if they are known, and how many calls failed
 pub record Writer : Type 0 where
   pub written : Option (List ℕ)
   pub failed : ℕ
@@ -18,21 +18,21 @@ IsUntouched old new = Keeps old.written new.written × (new.failed ≡ old.faile
 abbrev pub Writes : Writer → Writer → List ℕ → Type 0
 Writes old new text = Appends old.written new.written text × (new.failed ≡ old.failed)
 
--- a front of the text was written, and then a call failed
+-- a prefix of the text was written, and then a call failed
 abbrev pub FailsToWrite : Writer → Writer → List ℕ → Type 0
 FailsToWrite old new text = (new.failed ≡ old.failed + 1) × AppendsFront old.written new.written text
 
--- the text was written; or a front of it, and then a call failed
+-- the text was written; or a prefix of it was, and then a call failed
 abbrev pub TriesToWrite : Writer → Writer → List ℕ → Type 0
 TriesToWrite old new text = Writes old new text ⊎ FailsToWrite old new text
 
--- what a run answered, and what it left: at Ok its whole output, and at an error what it leaves where it stops so
+-- the result of a run, and what it left on the writer: at Ok its whole output, and at an error what `stops` says
 abbrev pub Leaves : List ℕ → (RunError → Writer → Writer → Type 0) → Result (Unit {0}) RunError → Writer → Writer → Type 0
 Leaves output stops (Ok x) old new = Writes old new output
 Leaves output stops (Err error) old new = stops error old new
 
--- how a text that is written as it is made stops: where memory ran out short is left, where a call failed a front of the text;
--- it stops for no other cause
+-- how a text that is written while it is made stops. If memory ran out, `short` says what was written. If a write
+-- failed, a prefix of the text was written. There is no other cause
 abbrev pub StopsWriting : List ℕ → (Writer → Writer → Type 0) → RunError → Writer → Writer → Type 0
 StopsWriting text short OutOfMemory old new = short old new
 StopsWriting text short WriteFault old new = FailsToWrite old new text

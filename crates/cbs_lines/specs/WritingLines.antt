@@ -1,4 +1,4 @@
--- What the lines of a load have written while they are made.
+-- What is written of the lines of a load while they are made.
 use Rattle.std.specs.Prelude.{◌≡◌, ◌⊎◌, true, false, List, ◌∷◌}
 use Rattle.cbs_views.specs.declared.seen.Seen.{Seen}
 use Rattle.cbs_lines.specs.LoadLines.{lines_of}
@@ -6,13 +6,14 @@ use Rattle.cbs_lines.specs.Writers.{Writer, FailsToWrite}
 use Rattle.cbs_lines.specs.Writes.{AppendsAllBut}
 use Rattle.cbs_lines.specs.declared.load_lines.LoadLines.{LoadLines}
 
--- the lines of the steps were written, but for what waits, and no call failed
+-- the lines of the steps were written, except for the text that waits, and no call failed
 pub record HasWritten (lines : LoadLines) (old new : Writer) (seen : List Seen) : Type 0 where
   pub well : lines.write_failed ≡ false
   pub written : AppendsAllBut old.written new.written lines.pending (lines_of seen)
   pub none_failed : new.failed ≡ old.failed
 
--- a prefix of the lines was written, and then a call failed; or those of all steps but the newest, but for what waits
+-- a prefix of the lines was written, and then a call failed. Or the lines of all steps but the newest were written,
+-- except for the text that waits
 abbrev pub FailedToWrite : LoadLines → Writer → Writer → List Seen → Type 0
 FailedToWrite lines old new seen =
     ((lines.write_failed ≡ true) × FailsToWrite old new (lines_of seen))

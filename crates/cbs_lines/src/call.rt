@@ -9,23 +9,23 @@ use cbs_core::Step;
 use cbs_job::FileJob;
 use std::alloc::AllocError;
 
-/// The call that a step makes.
+/// The call of a step, without its job.
 #[derive(Clone, Copy)]
 pub enum Call {
     /// A job for this server.
     Submit(u16),
     /// One unit of the chosen server.
     Run,
-    /// So many ticks pass.
+    /// This many ticks pass.
     Advance(u64),
     /// No further job for this server.
     Close(u16),
-    /// So many ticks more for the last unit of this server.
+    /// This many ticks more for the last unit of this server.
     Charge(u16, u64),
 }
 
 impl Call {
-    /// Appends it to a text. Only want of memory is an error.
+    /// Appends the call to a text. The only error is out of memory.
     pub fn append_to(&self, text: &mut String) -> Result<(), AllocError>
         ensures { OnOk result (string_bytes text.new ≡ string_bytes text.old ++ call_text self.now) }
     {
@@ -42,7 +42,7 @@ impl Call {
     }
 }
 
-/// The call that a step makes, without its job.
+/// Returns the call of a step, without its job.
 pub fn call_of(step: &Step<FileJob>) -> Call
     ensures { result ≡ call_of step.now }
 {

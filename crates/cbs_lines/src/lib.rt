@@ -1,4 +1,4 @@
-//! The lines of steps, written as the steps are made: of a task file's, and of a load's simulation.
+//! The lines of steps, written while the steps are made: the steps of a task file, or of a load's simulation.
 #![tactic(auto)]
 
 mod call;

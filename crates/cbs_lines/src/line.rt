@@ -17,7 +17,7 @@ pub(crate) fn append_error(text: &mut String, error: CoreError) -> Result<(), Al
     text.push_str(error.name())
 }
 
-/// Appends what a run did to a text. The only error is out of memory.
+/// Appends the result of a run to a text. The only error is out of memory.
 pub(crate) fn append_ran(text: &mut String, ran: Ran) -> Result<(), AllocError>
     ensures { OnOk result (string_bytes text.new ≡ string_bytes text.old ++ ran_text ran) }
 {
@@ -36,7 +36,7 @@ pub(crate) fn append_ran(text: &mut String, ran: Ran) -> Result<(), AllocError>
     }
 }
 
-/// Appends what a call was answered to a text. The only error is out of memory.
+/// Appends the reply to a call to a text. The only error is out of memory.
 fn append_reply(text: &mut String, reply: &Reply<FileJob>) -> Result<(), AllocError>
     ensures { OnOk result (string_bytes text.new ≡ string_bytes text.old ++ reply_text reply.now) }
 {
@@ -67,7 +67,8 @@ pub(crate) fn append_state(text: &mut String, server: Option<ServerView>) -> Res
     Ok(())
 }
 
-/// Returns the server whose state a line shows: the one that accepted a job, ran, or was charged.
+/// Returns the server whose state a line shows: the one that accepted a job, ran, or was charged. Returns `None` if the
+/// line shows none.
 pub fn shown_server(call: Call, reply: &Reply<FileJob>) -> Option<u16>
     ensures { result ≡ shown_server call reply.now }
 {
@@ -80,8 +81,8 @@ pub fn shown_server(call: Call, reply: &Reply<FileJob>) -> Option<u16>
     }
 }
 
-/// Writes the line of a call into `text`, in the place of what was there: the clock after it, the call, what it was
-/// answered, and the state of the server that the line shows, if it shows one. The only error is out of memory.
+/// Writes the line of a call into `text`, in place of its old content. The line has the clock after the call, the call,
+/// the reply, and the state of a server if it shows one. The only error is out of memory.
 pub fn write_line(
     text: &mut String,
     clock: u64,

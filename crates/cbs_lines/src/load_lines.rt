@@ -18,7 +18,7 @@ use cbs_planning::show_load;
 use cbs_views::{Event, Seen, View};
 use std::alloc::{AllocError, Global};
 
-/// Appends a call that was refused, and why, to a text. The only error is out of memory.
+/// Appends a call and the error of its refusal to a text. The only error is out of memory.
 fn append_refused(text: &mut String, call: Call, error: CoreError) -> Result<(), AllocError>
     ensures { OnOk result (string_bytes text.new ≡ string_bytes text.old ++ (call_text call ++ error_text error)) }
 {
@@ -26,7 +26,7 @@ fn append_refused(text: &mut String, call: Call, error: CoreError) -> Result<(),
     append_error(text, error)
 }
 
-/// Appends what a step asked, and what it was answered, to a text. The only error is out of memory.
+/// Appends the call of a step and its result to a text. The only error is out of memory.
 fn append_event(text: &mut String, event: Event) -> Result<(), AllocError>
     ensures { OnOk result (string_bytes text.new ≡ string_bytes text.old ++ event_text event) }
 {
@@ -54,7 +54,7 @@ fn append_event(text: &mut String, event: Event) -> Result<(), AllocError>
     }
 }
 
-/// Returns what the line of a step tells of its server: nothing, if a job was refused.
+/// Returns the view of the server that the line of a step shows: none, if a job was refused.
 fn view_told(event: Event, view: Option<ServerView>) -> Option<ServerView>
     ensures { result ≡ view_told event view }
 {
@@ -64,7 +64,7 @@ fn view_told(event: Event, view: Option<ServerView>) -> Option<ServerView>
     }
 }
 
-/// Writes the line of a step into `text`, in the place of what was there. The only error is out of memory.
+/// Writes the line of a step into `text`, in place of its old content. The only error is out of memory.
 fn write_seen(text: &mut String, seen: Seen) -> Result<(), AllocError>
     ensures { OnOk result (string_bytes text.new ≡ seen_line seen) }
 {
@@ -76,7 +76,7 @@ fn write_seen(text: &mut String, seen: Seen) -> Result<(), AllocError>
     text.push_str("\n")
 }
 
-/// Writes the line of each step to the writer that it is lent.
+/// A view that writes the line of each step to the writer that it is lent.
 #[derive(Drop)]
 struct LoadLines {
     line: String,
@@ -108,8 +108,9 @@ impl<O: ByteOutput> View<O> for LoadLines {
 
 /// Simulates a load, and writes a line for each step.
 ///
-/// Refuses with [`RunError::OutOfMemory`] if there is no memory: then the lines of some first steps are written. Refuses with
-/// [`RunError::WriteFault`] if a write fails or takes no byte: then what is written is a prefix of the whole text.
+/// Refuses with [`RunError::OutOfMemory`] if out of memory: then the lines of the first steps are written, up to some
+/// step. Refuses with [`RunError::WriteFault`] if a write fails or takes no byte: then a prefix of the whole text is
+/// written.
 pub fn write_load_lines<O: ByteOutput>(
     alloc: Global,
     load: &Load,

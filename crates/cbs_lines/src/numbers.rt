@@ -1,11 +1,11 @@
-//! Numbers behind a text.
+//! Numbers after a text.
 
 ghost use Rattle.std.specs.Prelude.{◌≡◌, ◌++◌, OnOk, string_bytes};
 
 use itoa::{Buffer, Integer};
 use std::alloc::AllocError;
 
-/// Appends a word and a number in decimal. Only want of memory is an error.
+/// Appends a word and a number in decimal. The only error is out of memory.
 pub fn append_pair<N: Integer>(text: &mut String, word: &str, number: N) -> Result<(), AllocError>
     ensures { OnOk result (string_bytes text.new ≡ string_bytes text.old ++ word.now ++ N.text number) }
 {

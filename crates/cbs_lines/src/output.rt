@@ -1,4 +1,4 @@
-//! Writers whose failed calls are counted, and whole texts written to one.
+//! Writers that count their failed calls, and calls that write a whole text.
 
 ghost use Rattle.std.specs.Prelude.{◌≡◌, ℕ, ◌+◌, ◌<◌, ◌≤◌, ◌^◌, ◌-◌, List, length, take, Option, IfOk, OnOk, OnErr};
 ghost use Rattle.std.specs.Io.KnownBytes.{Appends, Keeps};
@@ -11,14 +11,14 @@ use std::marker::Model;
 
 /// A writer of bytes, which counts its calls that failed.
 pub trait ByteOutput {
-    // The bytes written so far, where they are known.
+    // The bytes that were written so far, if they are known.
     ghost written: { Self → Option (List ℕ) };
 
     // How many calls failed.
     ghost failed: { Self → ℕ };
 
-    /// Writes some of the bytes, from the front, and answers how many. A call that takes none of
-    /// some has failed, and a call that fails has written nothing.
+    /// Writes a prefix of the bytes, and returns its length. It is 0 only if there are no bytes. A call that fails has
+    /// written nothing.
     fn write(&mut self, bytes: &[u8]) -> io::Result<usize>
         requires { failed self.old < 2 ^ 64 - 1 }
         ensures took { IfOk result (λ n. (n ≤ length bytes.now) × (0 < length bytes.now → 0 < n)) }
@@ -40,7 +40,7 @@ impl<W> Model for ToWrite<W> {
 }
 
 impl<W> ToWrite<W> {
-    /// The writer, of which no call has failed yet.
+    /// Returns a writer of which no call has failed yet.
     pub fn new(writer: W) -> ToWrite<W>
         ensures { result ≡ record { inner = writer; failed = 0 } }
     {
@@ -64,7 +64,7 @@ impl<W: Write> ByteOutput for ToWrite<W> {
     }
 }
 
-/// Writes the whole text. At a refusal a front of it is written.
+/// Writes the whole text. If it refuses, a prefix of the text is written.
 pub fn write_text<O: ByteOutput>(out: &mut O, text: &[u8]) -> io::Result<()>
     requires { O.failed out.old < 2 ^ 64 - 1 }
     ensures ok { OnOk result (Appends (O.written out.old) (O.written out.new) text.now × (O.failed out.new ≡ O.failed out.old)) }
@@ -78,7 +78,7 @@ pub fn write_text<O: ByteOutput>(out: &mut O, text: &[u8]) -> io::Result<()>
     Ok(())
 }
 
-/// Writes the pieces in turn, and takes no memory. At a refusal a front of them is written.
+/// Writes the pieces in turn, and takes no memory. If it refuses, a prefix of them is written.
 pub fn write_pieces<O: ByteOutput>(out: &mut O, pieces: &[&str]) -> io::Result<()>
     requires { O.failed out.old < 2 ^ 64 - 1 }
     ensures ok { OnOk result (Appends (O.written out.old) (O.written out.new) (joined pieces.now) × (O.failed out.new ≡ O.failed out.old)) }

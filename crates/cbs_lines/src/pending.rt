@@ -9,10 +9,10 @@ use std::alloc::{AllocError, Global};
 use std::io;
 use std::marker::Model;
 
-/// How many bytes wait before they are written.
+/// How many bytes may wait before they are written.
 const CAPACITY: usize = 16_384;
 
-/// Text that waits to be written, so that a writer gets few calls.
+/// Text that waits to be written, so that the writer is called seldom.
 #[derive(Drop)]
 pub struct Pending {
     text: String,
@@ -27,7 +27,7 @@ impl Model for Pending {
 }
 
 impl Pending {
-    /// No text, and room for 16 KiB.
+    /// Returns an empty text with room for 16 KiB. The only error is out of memory.
     pub fn new(alloc: Global) -> Result<Pending, AllocError>
         ensures { IfOk result (λ p. p ≡ []) }
     {
@@ -35,7 +35,7 @@ impl Pending {
         Ok(Pending { text })
     }
 
-    /// Writes all that waits. At a refusal a front of it is written.
+    /// Writes all text that waits. If it refuses, a prefix of that text is written.
     pub fn flush<O: ByteOutput>(&mut self, out: &mut O) -> io::Result<()>
         requires { O.failed out.old < 2 ^ 64 - 1 }
         ensures ok { OnOk result (Appends (O.written out.old) (O.written out.new) self.old × (self.new ≡ []) × (O.failed out.new ≡ O.failed out.old)) }
@@ -47,7 +47,7 @@ impl Pending {
         Ok(())
     }
 
-    /// Writes what waits where so many bytes more would not fit.
+    /// Writes the text that waits if this many more bytes would not fit.
     fn make_room<O: ByteOutput>(&mut self, bytes: usize, out: &mut O) -> io::Result<()>
         requires { O.failed out.old < 2 ^ 64 - 1 }
         ensures ok { OnOk result (AppendsAllBut (O.written out.old) (O.written out.new) self.new self.old × (O.failed out.new ≡ O.failed out.old)) }
@@ -60,7 +60,7 @@ impl Pending {
         Ok(())
     }
 
-    /// Adds the text to what waits, and writes where that is full. A text for which there is neither
+    /// Adds the text to what waits. If it does not fit, what waits is written first. A text for which there is neither
     /// room nor memory is written at once.
     pub fn push<O: ByteOutput>(&mut self, text: &str, out: &mut O) -> io::Result<()>
         requires { O.failed out.old < 2 ^ 64 - 1 }

@@ -1,4 +1,4 @@
-//! Why a run ends early.
+//! The reasons why a run ends early.
 
 ghost use Rattle.std.specs.Prelude.{◌≡◌};
 ghost use Rattle.cbs_lines.specs.declared.run_error.RunError.TheVariants.{OutOfMemory, WriteFault};
@@ -7,7 +7,7 @@ use std::alloc::AllocError;
 use std::io;
 use thiserror::Error;
 
-/// Why a run ends early.
+/// The reason why a run ends early.
 #[derive(Clone, Copy, Debug, PartialEq, Eq, Error)]
 pub enum RunError {
     /// An allocation was refused: for the command line, the core or the house, a job, a result or a line.
@@ -19,7 +19,7 @@ pub enum RunError {
     /// The clock came to its end, and a job was unfinished.
     #[error("the clock came to its end with a job unfinished")]
     ClockEnd = 3,
-    /// The clients did not send all, in as many rounds as they are given.
+    /// The clients did not send all jobs in the rounds that they are given.
     #[error("the clients did not send all in the rounds that they are given")]
     Stalled = 4,
 }
@@ -27,14 +27,14 @@ pub enum RunError {
 impl RunError {
     ghost use Rattle.cbs_lines.specs.Runs.{run_error_number, run_error_name};
 
-    /// The error's number, from 1.
+    /// Returns the error's number, from 1.
     pub fn number(self) -> u8
         ensures { result ≡ run_error_number self }
     {
         self as u8
     }
 
-    /// The error's name, as the program prints it.
+    /// Returns the error's name, as the program prints it.
     pub fn name(self) -> &'static str
         ensures { result.now ≡ run_error_name self }
     {

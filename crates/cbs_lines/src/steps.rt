@@ -1,4 +1,4 @@
-//! The steps of a task file, made in order, and something written of each.
+//! The steps of a task file, made in order, with a text that is written for each.
 
 ghost use Rattle.std.specs.Prelude.{ℕ, ◌≡◌, ◌⊎◌, ◌-◌, ◌<◌, ◌^◌, OnOk, OnErr, string_bytes};
 ghost use Rattle.cbs_job.specs.FileJobs.{of_files};
@@ -19,13 +19,13 @@ use cbs_file::{Parts, TaskFile};
 use cbs_job::FileJob;
 use std::alloc::{AllocError, Global};
 
-/// A view of steps: what is written of each.
+/// A view of steps, which writes a text for each step.
 pub trait StepView {
-    // What is written of a step.
+    // The text of a step.
     ghost text_of: { StepText };
 
-    /// Writes the text of a call with its reply, which left the core so, into `text`, in the place of
-    /// what was there. Only want of memory is an error.
+    /// Writes the text of a call with its reply into `text`, in place of its old content. `core` is the core after the
+    /// call. The only error is out of memory.
     fn write_step(
         &self,
         text: &mut String,
@@ -36,7 +36,7 @@ pub trait StepView {
         ensures { OnOk result (TellsOf of_files core.now (λ w. string_bytes text.new ≡ text_of call reply.now w)) };
 }
 
-/// Whether memory refused a submit.
+/// Returns whether a submit was refused because of memory.
 fn lacks_memory(reply: &Reply<FileJob>) -> bool
     ensures { result ≡ is_lack reply.now }
 {
@@ -46,8 +46,8 @@ fn lacks_memory(reply: &Reply<FileJob>) -> bool
     }
 }
 
-/// Makes one step, and writes its text into `text`, in the place of what was there. Only want of
-/// memory is an error: the step is then made, or it is a submit that memory refused.
+/// Makes one step, and writes its text into `text`, in place of its old content. The only error is out of memory. After
+/// the error the step is made, or the core is as before: then the step is a submit that was refused.
 fn take_step<V: StepView>(
     view: &V,
     core: &mut Core<FileJob>,
@@ -71,9 +71,9 @@ fn take_step<V: StepView>(
 
 /// Makes the steps on the core, in order, and writes the text of each.
 ///
-/// Refuses with [`RunError::OutOfMemory`] at the first step for which there is no memory: then the text
-/// of each step before it is written, and the core has made those, and at most that one. Refuses with
-/// [`RunError::WriteFault`] if a write fails or takes no byte: then a prefix of the whole is written.
+/// Refuses with [`RunError::OutOfMemory`] at the first step for which there is no memory. Then the text of each step
+/// before it is written, and the core has made these steps, and at most that one more. Refuses with
+/// [`RunError::WriteFault`] if a write fails or takes no byte: then a prefix of the whole text is written.
 fn write_steps<V: StepView, O: ByteOutput>(
     view: &V,
     alloc: Global,
@@ -102,12 +102,11 @@ fn write_steps<V: StepView, O: ByteOutput>(
     Ok(())
 }
 
-/// Makes the steps of a task file on a new core with the file's plan, modes and backlog, and writes the
-/// text of each.
+/// Makes the steps of a task file on a new core with the file's plan, modes and backlog, and writes the text of each.
 ///
-/// Refuses with [`RunError::OutOfMemory`] where there is no memory: then the texts of some first steps
-/// are written. Refuses with [`RunError::WriteFault`] where a write fails or takes no byte: then a
-/// front of the whole is written.
+/// Refuses with [`RunError::OutOfMemory`] if out of memory: then the texts of the first steps are written, up to some
+/// step. Refuses with [`RunError::WriteFault`] if a write fails or takes no byte: then a prefix of the whole text is
+/// written.
 pub fn write_file_steps<V: StepView, O: ByteOutput>(
     view: &V,
     alloc: Global,

@@ -18,7 +18,7 @@ use cbs_file::TaskFile;
 use cbs_job::FileJob;
 use std::alloc::{AllocError, Global};
 
-/// A line of each step.
+/// A view that writes a line for each step.
 struct Lines;
 
 impl StepView for Lines {
@@ -35,7 +35,7 @@ impl StepView for Lines {
     }
 }
 
-/// Returns what a line shows of a server, after a call that was answered so.
+/// Returns the state that a line shows, after a call with this reply, or `None` if the line shows none.
 fn shown(core: &Core<FileJob>, call: Call, reply: &Reply<FileJob>) -> Option<ServerView>
     ensures { TellsOf of_files core.now (λ w. result ≡ shown w (shown_server call reply.now)) }
 {
@@ -45,17 +45,17 @@ fn shown(core: &Core<FileJob>, call: Call, reply: &Reply<FileJob>) -> Option<Ser
     }
 }
 
-/// Runs the steps of a task file on a new core, and writes a line for each.
+/// Runs the steps of a task file on a new core, and writes a line for each step.
 ///
-/// Refuses with [`RunError::OutOfMemory`] if there is no memory: then the lines of the steps
-/// before are written. Refuses with [`RunError::WriteFault`] if a write fails or takes no byte:
-/// then what is written is a prefix of the whole text.
+/// Refuses with [`RunError::OutOfMemory`] if out of memory: then the lines of the first steps are written, up to some
+/// step. Refuses with [`RunError::WriteFault`] if a write fails or takes no byte: then a prefix of the whole text is
+/// written.
 pub fn replay<O: ByteOutput>(alloc: Global, file: TaskFile, out: &mut O) -> Result<(), RunError>
     requires { O.failed out.old < 2 ^ 64 - 1 }
     ensures written { Leaves (trace file) (TraceStops file) result
         (record { written = O.written out.old; failed = O.failed out.old }) (record { written = O.written out.new; failed = O.failed out.new }) }
 
-    // What the replies, whose lines these are, mean for each server, over the whole file.
+    // What the replies on these lines mean for each server, over the whole file.
     ensures laws { OnOk result (KeepsLaws file) }
 {
     write_file_steps(&Lines, alloc, file, out)

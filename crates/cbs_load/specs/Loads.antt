@@ -7,8 +7,8 @@ use Rattle.cbs_rules.specs.declared.mode.Mode.{Mode}
 use Rattle.cbs_simulate.specs.Drawing.{IsLawful}
 use Rattle.cbs_simulate.specs.declared.terms.SourceTerms.{SourceTerms}
 
--- the names, the modes and the plan of the servers, the greatest backlog of each, the tick at which a simulation ends, the seed
--- of what is drawn, and the sources
+-- the names, modes and plan of the servers, the greatest backlog of each, the sources, the tick at which a simulation
+-- ends, and the seed
 pub record LoadFile : Type 0 where
   pub names : List (List ℕ)
   pub modes : List Mode
@@ -18,17 +18,17 @@ pub record LoadFile : Type 0 where
   pub seed : ℕ
   pub sources : List SourceTerms
 
--- the most sources of a load
+-- the greatest number of sources of a load
 abbrev pub most_sources : ℕ
 most_sources = 65536
 
--- the source gives jobs to one of so many servers, within its limits
+-- the source is within its limits, and gives jobs to one of this many servers
 pub record IsSource (servers : ℕ) (t : SourceTerms) : Type 0 where
   pub named : t.server < servers
   pub lawful : IsLawful t
   pub within : IsSome t.within
 
--- what every load file keeps
+-- what holds of every load file
 pub record IsLoad (f : LoadFile) : Type 0 where
   pub named : length f.names ≡ length f.plan.rates
   pub moded : length f.modes ≡ length f.plan.rates

@@ -15,11 +15,11 @@ use Rattle.cbs_load.specs.declared.server.ServerEntry.{ServerEntry}
 abbrev pub is_name_byte : ℕ → Bool
 is_name_byte b = is_ascii_alphanumeric b || eqb b 45 || eqb b 95
 
--- a name has 1 to 32 of them
+-- a name: 1 to 32 letters, digits, `-` and `_`
 abbrev pub name_of : List ℕ → Result (List ℕ) FileKind
 name_of name = if nat_le 1 (length name) && nat_le (length name) 32 && list_all is_name_byte name then Ok name else Err OutOfRange
 
--- a server, as its entry has it
+-- a server, as its entry gives it
 pub record ServerData : Type 0 where
   pub name : List ℕ
   pub mode : Mode
@@ -43,6 +43,6 @@ server_entry entry = do
   reservation ← reservation budget_number period_number
   Ok (record { name = name; mode = mode; reservation = reservation })
 
--- the server that the code holds
+-- the server, as the code holds it
 abbrev pub server_view : ServerEntry → ServerData
 server_view s = record { name = s.name.now; mode = s.mode; reservation = s.reservation }

@@ -13,12 +13,13 @@ use Rattle.cbs_tables.specs.declared.fault.FileKind.TheVariants.{OutOfRange}
 use Rattle.cbs_tables.specs.Fields.{◌>>=◌, only_keys, present, integer, text, items, members, pair, within, of_some}
 use Rattle.cbs_load.specs.declared.source.SourceFields.{SourceFields}
 
--- two numbers, the least and the greatest: one number stands for both. None if an array has fewer or more
+-- the least and the greatest number of a range. One number stands for both. There are none if an array has fewer or
+-- more than two
 abbrev pub two_numbers : Data → Result (Option (ℤ × ℤ)) FileKind
 two_numbers (an_integer n) = Ok (Some (n, n))
 two_numbers d = items d >>= pair
 
--- the numbers from the least, which is `low` at least, to the greatest, which is `high` at most
+-- the range from the least number, which is at least `low`, to the greatest, which is at most `high`
 abbrev pub range_within : ℕ → ℕ → Option (ℤ × ℤ) → Result Bounds FileKind
 range_within low high None = Err OutOfRange
 range_within low high (Some two) = do
@@ -26,12 +27,12 @@ range_within low high (Some two) = do
   greatest ← within least high two.1
   Ok (record { least = least; greatest = greatest })
 
--- the place that was found
+-- the place that was found, or the fault that there is none
 abbrev pub found_place : Option ℕ → Result ℕ FileKind
 found_place None = Err OutOfRange
 found_place (Some i) = Ok i
 
--- the server of this name
+-- the server with this name
 abbrev pub server_named : List (List ℕ) → List ℕ → Result ℕ FileKind
 server_named names name = found_place (position (λ n. bytes_eq n name) names)
 
@@ -39,7 +40,7 @@ server_named names name = found_place (position (λ n. bytes_eq n name) names)
 abbrev pub period_at : List Rate → ℕ → ℕ
 period_at rates server = (get_or rates server (record { budget = 0; period = 0 })).period
 
--- the keys of a source, each of its type
+-- the values of a source's keys, each of its type
 pub record FieldsData : Type 0 where
   pub server : List ℕ
   pub first : Option ℤ
@@ -49,7 +50,7 @@ pub record FieldsData : Type 0 where
   pub within : Option ℤ
   pub overrun : Option (Option (ℤ × ℤ))
 
--- the keys of an entry, or the first fault over all of them
+-- the values of an entry's keys, or the first fault over all of them
 unfoldable pub source_fields : Data → Result FieldsData FileKind
 source_fields entry = do
   table ← members entry
@@ -66,8 +67,8 @@ source_fields entry = do
   overrun_numbers ← of_some two_numbers (get_member (codes "overrun") table)
   Ok (record { server = server_name; first = first_number; every = every_numbers; units = units_numbers; jobs = jobs_number; within = within_number; overrun = overrun_numbers })
 
--- What the keys spell, or that one is out of range. Left out, `first` and `overrun` are 0, `jobs` may be any number, and `within` is
--- the server's period.
+-- The source that the values spell, or the fault that one is out of range. If they are left out, `first` and `overrun`
+-- are 0, the number of `jobs` has no limit, and `within` is the server's period.
 unfoldable pub spelled_by : List (List ℕ) → List Rate → FieldsData → Result SourceTerms FileKind
 spelled_by names rates f = do
   server ← server_named names f.server
@@ -93,7 +94,7 @@ source_entry names rates entry = do
   fields ← source_fields entry
   spelled_by names rates fields
 
--- the keys that the code holds
+-- the values of the keys, as the code holds them
 abbrev pub fields_view : SourceFields → FieldsData
 fields_view f = record {
   server = f.server.now;

@@ -1,4 +1,4 @@
--- What the bytes of a load file spell: the load, or its first fault with the place where that stands.
+-- What the bytes of a load file spell: the load, or its first fault with the place of that fault.
 use Rattle.std.specs.Prelude.{ℕ, Bool, bytes_eq, codes, if◌then◌else◌, is_some, List, [], ◌∷◌, ◌++◌, Option, Some, None, Result, Ok, Err}
 use Rattle.std.specs.List.{list_any}
 use Rattle.toml.specs.Data.{Data, get_member}
@@ -25,16 +25,16 @@ pub record Named : Type 0 where
   pub names : List (List ℕ)
   pub setup : ModedPlan
 
--- the servers, unless the plan refused the last
+-- the servers, unless the plan refused the last one
 abbrev pub unless_refused : Named → Option AdmitError → Result Named FileKind
 unless_refused servers None = Ok servers
 unless_refused servers (Some error) = Err NotAdmitted
 
--- a name that no server before has
+-- the fault OutOfRange if an earlier server has the name
 abbrev pub unless_taken : List (List ℕ) → List ℕ → Result (Unit {0}) FileKind
 unless_taken names name = if list_any (λ n. bytes_eq n name) names then Err OutOfRange else Ok tt
 
--- the servers with that of one more entry
+-- the servers with the one of one more entry
 abbrev pub admitted_entry : Named → Data → Result Named FileKind
 admitted_entry so_far entry = do
   server ← server_entry entry

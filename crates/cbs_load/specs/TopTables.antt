@@ -1,4 +1,4 @@
--- What the top table of a load file spells. The entries of its two arrays are not looked into here.
+-- What the top table of a load file spells. The entries of its two arrays are not read here.
 use Rattle.std.specs.Prelude.{ℕ, ℤ, codes, map, unwrap_or, List, [], ◌∷◌, Option, Result, Ok}
 use Rattle.cbs_rate.specs.Limits.{most_backlog}
 use Rattle.toml.specs.Data.{Data, Members, get_member}
@@ -12,7 +12,7 @@ use Rattle.cbs_load.specs.Loads.{most_sources}
 use Rattle.cbs_load.specs.declared.top.TypedValues.{TypedValues}
 use Rattle.cbs_load.specs.declared.top.TopTable.{TopTable}
 
--- the kind of load file, of which there is one
+-- the kind of the load file, which is 1
 abbrev pub kind_at : Members → Result ℕ FileKind
 kind_at table = do
   kind_value ← present (codes "load") table
@@ -32,7 +32,8 @@ pub record TypedData : Type 0 where
   pub servers : List Data
   pub sources : List Data
 
--- the values, or the first fault over all keys: a key that the table may not have, a key that it lacks, a value of another type
+-- the values, or the first fault over all keys. Unknown keys are tested first, then missing keys, then the types of the
+-- values
 unfoldable pub typed_values : Members → Result TypedData FileKind
 typed_values table = do
   _ ← only_keys top_keys table
@@ -59,7 +60,7 @@ pub record TopData : Type 0 where
   pub servers : List Data
   pub sources : List Data
 
--- what the values spell, or that one is out of range; the seed is 0 if it is left out
+-- what the values spell, or the fault that one is out of range. If the seed is left out, it is 0
 unfoldable pub spelled_by : TypedData → Result TopData FileKind
 spelled_by n = do
   bound ← bound_of n.bound
@@ -69,14 +70,14 @@ spelled_by n = do
   _ ← sized 0 most_sources n.sources
   Ok (record { bound = bound; backlog = backlog; until = until; seed = unwrap_or seed 0; servers = n.servers; sources = n.sources })
 
--- what the top table spells, or its first fault: the kind of load comes first
+-- what the top table spells, or its first fault. The kind of the load comes first
 abbrev pub top_table : Members → Result TopData FileKind
 top_table table = do
   _ ← kind_at table
   found ← typed_values table
   spelled_by found
 
--- the values that the code holds
+-- the values, as the code holds them
 abbrev pub typed_view : TypedValues → TypedData
 typed_view n = record {
   bound = n.bound;
@@ -87,7 +88,7 @@ typed_view n = record {
   sources = map view n.sources.now.items;
 }
 
--- the top table that the code holds
+-- the top table, as the code holds it
 abbrev pub top_view : TopTable → TopData
 top_view t = record {
   bound = t.bound;

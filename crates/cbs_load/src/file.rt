@@ -26,7 +26,8 @@ use cbs_tables::{
 use std::alloc::Global;
 use toml::Value;
 
-/// Takes in the server of one entry: its name, and its reservation and mode.
+/// Admits the server of one entry: adds its name, and its reservation and mode. Refuses a name that another server has,
+/// and a server that the plan does not take.
 fn admit_entry(
     alloc: Global,
     names: &mut Vec<String>,
@@ -53,7 +54,7 @@ fn admit_entry(
     Ok(())
 }
 
-/// Returns the names, and the plan and modes, of the servers of the entries of `server`.
+/// Returns the names, the plan and the modes of the servers of the entries of `server`.
 fn servers_of(
     alloc: Global,
     bound: Bound,
@@ -130,8 +131,8 @@ fn has_load_key(alloc: Global, bytes: &[u8]) -> Result<bool, FileFault>
 
 /// Returns whether the bytes spell a load file: whether the top table has the key `load`.
 ///
-/// The fault is [`FileKind::NotToml`] or [`FileKind::OutOfMemory`], at the top. If the bytes want more than `memory` bytes of
-/// memory, it is out of memory, before anything is parsed.
+/// The fault is [`FileKind::NotToml`] or [`FileKind::OutOfMemory`], and its place is the top. If the bytes need more
+/// than `memory` bytes of memory, returns [`FileKind::OutOfMemory`], before anything is parsed.
 pub fn is_load_within(alloc: Global, memory: u64, bytes: &[u8]) -> Result<bool, FileFault>
     ensures read { Gives no_memory (λ is. is) result (is_load bytes.now) }
     ensures bounded { memory < memory_wanted bytes.now → result ≡ Err no_memory }
@@ -142,10 +143,9 @@ pub fn is_load_within(alloc: Global, memory: u64, bytes: &[u8]) -> Result<bool, 
     has_load_key(alloc, bytes)
 }
 
-/// Returns the load that the bytes spell, or its first fault, as [`read_load`] reads it, if the bytes want at most `memory`
-/// bytes of memory.
+/// Returns the load that the bytes spell, or its first fault, as [`read_load`] does.
 ///
-/// If they want more, the answer is [`FileKind::OutOfMemory`], before anything is parsed.
+/// If the bytes need more than `memory` bytes of memory, returns [`FileKind::OutOfMemory`], before anything is parsed.
 pub fn read_load_within(alloc: Global, memory: u64, bytes: &[u8]) -> Result<Load, FileFault>
     ensures read { Gives no_memory (λ f. f) result (load bytes.now) }
     ensures bounded { memory < memory_wanted bytes.now → result ≡ Err no_memory }
@@ -158,11 +158,13 @@ pub fn read_load_within(alloc: Global, memory: u64, bytes: &[u8]) -> Result<Load
 
 /// Returns the load that the bytes spell, or its first fault.
 ///
-/// The bytes are parsed as TOML; then the top table is tested, then each entry of `server` in order, then each entry of
-/// `source`. In each table the tests are, over all its keys: a key that it may not have, a key that is missing, a value
-/// of the wrong type, a value out of range. An entry of `server` is then admitted to the plan. The key `load` of the top
-/// table is tested before the others. [`FileKind::OutOfMemory`] may come at any time, and stands at the top. It comes at
-/// once if the bytes want more memory than [`MEMORY`].
+/// The bytes are parsed as TOML. Then the top table is tested, then each entry of `server` in order, then each entry of
+/// `source`. Each table is tested in four turns, each over all its keys: unknown keys, missing keys, types of values,
+/// ranges of values. After its tests, an entry of `server` is admitted to the plan. The key `load` of the top table is
+/// tested before the other keys.
+///
+/// [`FileKind::OutOfMemory`] may come at any time, and its place is the top. It comes at once if the bytes need more
+/// memory than [`MEMORY`].
 pub fn read_load(alloc: Global, bytes: &[u8]) -> Result<Load, FileFault>
     ensures read { Gives no_memory (λ f. f) result (load bytes.now) }
     ensures bounded { usual_bound < memory_wanted bytes.now → result ≡ Err no_memory }

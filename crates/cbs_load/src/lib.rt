@@ -1,5 +1,5 @@
-//! Load files: servers with a name, a mode and a reservation each, and sources of jobs for them, read from the bytes of a TOML
-//! document.
+//! Load files: servers with a name, a mode and a reservation each, and sources of jobs for them. They are read from the
+//! bytes of a TOML document.
 #![tactic(auto)]
 
 mod file;

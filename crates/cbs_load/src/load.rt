@@ -10,7 +10,7 @@ use std::marker::Model;
 
 /// A load: named servers with their plan and modes, and sources of jobs for them.
 ///
-/// The backlog is 1 to 4096, and the end 1 to 10^12; each source gives jobs to a server of the plan.
+/// The backlog is 1 to 4096, and the end is 1 to 10^12. Each source gives jobs to a server of the plan.
 pub struct Load {
     pub(crate) names: Vec<String>,
     pub(crate) setup: Setup,
@@ -20,7 +20,8 @@ pub struct Load {
     pub(crate) sources: Vec<SourceTerms>,
 }
 
-// One call on each way out of what owns a load.
+// Written by hand, as one call. A derived `Drop` would be written out, field by field, wherever a function that owns a
+// load returns.
 impl Drop for Load {
     fn drop(self) {
         let Load {
@@ -84,7 +85,7 @@ impl Load {
         self.until
     }
 
-    /// Returns the seed of what is drawn.
+    /// Returns the seed of the numbers that are drawn.
     pub fn seed(&self) -> u64
         ensures { result ≡ self.now.seed }
     {

@@ -14,7 +14,7 @@ use toml::Value;
 /// The longest name of a server, in bytes.
 const MAX_NAME: usize = 32;
 
-/// One server, as its entry has it.
+/// One server, as its entry gives it.
 #[derive(Clone, Copy)]
 pub struct ServerEntry<'a> {
     pub name: &'a str,
@@ -29,14 +29,14 @@ fn is_name_byte(byte: u8) -> bool
     byte.is_ascii_alphanumeric() || byte == b'-' || byte == b'_'
 }
 
-/// Returns whether all bytes are of a name.
+/// Returns whether all bytes may stand in a name.
 fn are_name_bytes(bytes: &[u8]) -> bool
     ensures { result ≡ list_all is_name_byte bytes.now }
 {
     bytes.iter().all(|byte| is_name_byte(*byte))
 }
 
-/// Returns the name, if it is one: 1 to [`MAX_NAME`] letters, digits, `-` and `_`.
+/// Returns the name, if it is 1 to [`MAX_NAME`] letters, digits, `-` and `_`. Refuses any other as out of range.
 fn name_of(name: &str) -> Result<&str, FileKind>
     ensures { seen (λ s. s.now) result ≡ name_of name.now }
 {
@@ -47,14 +47,14 @@ fn name_of(name: &str) -> Result<&str, FileKind>
     Ok(name)
 }
 
-/// Returns whether a server has this name.
+/// Returns whether a server already has this name.
 pub fn is_taken(names: &[String], name: &str) -> bool
     ensures { result ≡ list_any (λ n. bytes_eq (string_bytes n) name.now) names.now }
 {
     names.iter().any(|other| other.as_str() == name)
 }
 
-/// Returns the server of one entry. Whether another has its name is not looked at.
+/// Returns the server of one entry. This does not test whether another server has its name.
 #[tactic(auto, unfolding(crate::specs::Servers::server_entry))]
 pub fn server_entry(entry: &Value) -> Result<ServerEntry<'_>, FileKind>
     ensures { seen server_view result ≡ server_entry (view entry.now) }

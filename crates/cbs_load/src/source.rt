@@ -18,7 +18,7 @@ use cbs_tables::{
 };
 use toml::Value;
 
-/// The keys of a source, each of its type.
+/// The values of a source's keys, each of its type.
 #[derive(Clone, Copy)]
 struct SourceFields<'a> {
     server: &'a str,
@@ -30,8 +30,8 @@ struct SourceFields<'a> {
     overrun: Option<Option<(i64, i64)>>,
 }
 
-/// Returns the least and the greatest number, for both of which one number stands; or `None` for an array of fewer or
-/// more than two.
+/// Returns the least and the greatest number of a range. One number stands for both. Returns `None` for an array of
+/// fewer or more than two numbers.
 fn two_numbers(value: &Value) -> Result<Option<(i64, i64)>, FileKind>
     ensures { result ≡ two_numbers (view value.now) }
 {
@@ -41,7 +41,7 @@ fn two_numbers(value: &Value) -> Result<Option<(i64, i64)>, FileKind>
     pair(items(value)?)
 }
 
-/// Returns two numbers, if there is a value.
+/// Returns the least and the greatest number of a range, if there is a value.
 fn optional_numbers(value: Option<&Value>) -> Result<Option<Option<(i64, i64)>>, FileKind>
     ensures { result ≡ of_some two_numbers (option_map (λ v. view v.now) value.entry) }
 {
@@ -51,7 +51,8 @@ fn optional_numbers(value: Option<&Value>) -> Result<Option<Option<(i64, i64)>>,
     }
 }
 
-/// Returns the numbers from the least to the greatest, all from `low` to `high`.
+/// Returns the range from the least to the greatest number. Refuses it unless the least is at least `low`, the greatest
+/// is at most `high`, and the least is no greater than the greatest.
 fn range_within(low: u64, high: u64, numbers: Option<(i64, i64)>) -> Result<Range, FileKind>
     ensures value { result ≡ range_within low high numbers }
     ensures bounds { IfOk result (λ r. (low ≤ r.least) × (r.greatest ≤ high)) }
@@ -65,7 +66,7 @@ fn range_within(low: u64, high: u64, numbers: Option<(i64, i64)>) -> Result<Rang
     }
 }
 
-/// Returns a range from `low` to `high`, if there are numbers.
+/// Returns a range within `low` and `high`, if there are numbers. Refuses as [`range_within`] does.
 fn optional_range(
     low: u64,
     high: u64,
@@ -80,14 +81,14 @@ fn optional_range(
     }
 }
 
-/// Returns the place of a name among others.
+/// Returns the place of a name among the names, or `None` if it is not among them.
 fn place_of(names: &[String], name: &str) -> Option<usize>
     ensures { result ≡ position (λ n. bytes_eq (string_bytes n) name.now) names.now }
 {
     names.iter().position(|other| other.as_str() == name)
 }
 
-/// Returns the number of the server of this name.
+/// Returns the number of the server with this name. Refuses a name that no server has as out of range.
 fn server_named(names: &[String], name: &str) -> Result<u16, FileKind>
     requires { length names.now ≤ most_servers }
     ensures value { result ≡ server_named (map string_bytes names.now) name.now }
@@ -110,7 +111,7 @@ fn period_at(plan: &Plan, server: u16) -> u64
     }
 }
 
-/// Returns the keys of an entry, or the first fault over all of them.
+/// Returns the values of an entry's keys, or the first fault over all of them.
 #[tactic(auto, unfolding(crate::specs::Sources::source_fields))]
 fn source_fields(entry: &Value) -> Result<SourceFields<'_>, FileKind>
     ensures { seen fields_view result ≡ source_fields (view entry.now) }
@@ -141,7 +142,7 @@ fn source_fields(entry: &Value) -> Result<SourceFields<'_>, FileKind>
     })
 }
 
-/// Returns what the keys spell, each in its range.
+/// Returns the source that the values spell, each in its range.
 #[tactic(auto, unfolding(crate::specs::Sources::spelled_by))]
 fn spelled_by(
     names: &[String],

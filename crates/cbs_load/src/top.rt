@@ -17,7 +17,7 @@ use cbs_tables::{
 };
 use toml::{Table, Value};
 
-/// The most sources of a load.
+/// The greatest number of sources of a load.
 pub const MAX_SOURCES: usize = 65_536;
 
 /// The greatest seed: the greatest integer of TOML.
@@ -34,7 +34,7 @@ struct TypedValues<'a> {
     sources: &'a Vec<Value>,
 }
 
-/// What the top table spells. The entries of its arrays are not yet looked into.
+/// What the top table spells. The entries of its arrays are not read yet.
 #[derive(Drop)]
 pub struct TopTable<'a> {
     pub bound: Bound,
@@ -45,7 +45,7 @@ pub struct TopTable<'a> {
     pub sources: &'a Vec<Value>,
 }
 
-/// Returns the kind of load file, of which there is one.
+/// Returns the kind of the load file. There is only the kind 1.
 fn kind_at(table: &Table) -> Result<u64, FileKind>
     ensures { result ≡ kind_at (table_view table.now) }
 {
@@ -105,7 +105,7 @@ fn spelled_by(values: TypedValues<'_>) -> Result<TopTable<'_>, FileKind>
     })
 }
 
-/// Returns what the top table spells, or its first fault: the kind of load file comes first.
+/// Returns what the top table spells, or its first fault. The kind of the load file is tested first.
 pub fn top_table(table: &Table) -> Result<TopTable<'_>, FileKind>
     ensures value { seen top_view result ≡ top_table (table_view table.now) }
     ensures backlog { IfOk result (λ t. (1 ≤ t.backlog) × (t.backlog ≤ most_backlog)) }

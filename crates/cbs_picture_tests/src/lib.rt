@@ -1,4 +1,4 @@
-//! Tests of what pictures show of a run, and of two of their forms: a timeline, and a trace.
+//! Tests of what pictures show of a run, in two of their forms: a timeline and a trace.
 #![tactic(auto)]
 
 #[cfg(test)]

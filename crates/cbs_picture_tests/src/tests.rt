@@ -26,7 +26,7 @@ fn chart_of(rt: &impl Abort, alloc: Global, load: &Load, from: u64, to: u64) -> 
         .expect(rt, "memory")
 }
 
-/// Returns the picture of a load, from one tick up to another.
+/// Returns the picture of a load for the ticks from `from` up to `to`.
 pub(crate) fn picture_of(
     rt: &impl Abort,
     alloc: Global,

@@ -19,11 +19,11 @@ pub map_more : {A B : Type 0} (f : A → B) (xs : List A) (ys : List B) (i : ℕ
     → map f (xs ++ x ∷ []) ≡ take (i + 1) ys
 map_more f xs ys i x so_far is = map-append f xs (x ∷ []) ∙ (ap (λ zs. zs ++ f x ∷ []) so_far ∙ sym (taken ys i (f x) is))
 
--- what is kept is of the window that it was made for
+-- what is collected is of the window that it was made for
 pub kept_window : (w : Window) (rates : List Rate) (seen : List Seen) (k : Kept) → k ≡ kept_seen (new_kept w rates) seen → k.window ≡ w
 kept_window w rates seen k is = ap (λ (k : Kept). k.window) is ∙ (rows_seen w rates seen).window
 
--- what becomes of what is kept of the steps of a run is its chart
+-- what is collected of the steps of a run makes its chart
 pub chart_is : (w : Window) (rates : List Rate) (end until : ℕ) (seen : List Seen) (k : Kept) (c : Chart) → k ≡ kept_seen (new_kept w rates) seen → end ≡ until
     → ((rs : List Rate) (steps : List Seen) → k ≡ kept_seen (new_kept k.window rs) steps → IsChart rs end steps c) → IsChart rates until seen c
 chart_is w rates end until seen k c kept at shows =

@@ -1,4 +1,4 @@
--- The steps of a load, as they are seen.
+-- The steps of a load, as a view sees them.
 use Rattle.std.proofs.Common.{◌≡◌, ◌⊎◌, ◌∙◌, ℕ, List, [], ◌++◌, ap, inl, map, sym, Option, None, refl}
 use Rattle.std.proofs.lemmas.List.{append-nil, map-append}
 use Rattle.cbs_load.specs.Loads.{LoadFile}
@@ -28,7 +28,7 @@ simulation modes plan backlog coming = record {
   owing = None;
 }
 
--- it is seen as the load is whose servers and releases these are
+-- a view sees it as it sees the load with these servers and releases
 pub same_seen : (f : LoadFile) (within : List (Option ℕ)) (modes : List Mode) (plan : Planned) (backlog until : ℕ) (coming : List Release)
     → within ≡ withins f → modes ≡ f.modes → plan ≡ f.plan → backlog ≡ f.backlog → until ≡ f.until
     → coming ≡ merged (released_by_all 0 f.sources f.until f.seed)
@@ -44,7 +44,7 @@ same_figures bs cs m n seen fs b e h = rw (← b, ← e) h
 pub saw_none : {S : Type 0} (saw failed : S → S → List Seen → Type 0) (first now : S) (steps : List Seen) → saw first now [] → SawSome saw failed first now steps
 saw_none saw failed first now steps was = record { later = steps; done = []; all = append-nil steps; seen = inl was }
 
--- a view of some of the moves of a simulation saw some first steps
+-- a view of the first moves of a simulation, up to some move, saw the first steps, up to some step
 pub saw_some : {S : Type 0} (saw failed : S → S → List Seen → Type 0) (first now : S) (within : List (Option ℕ)) (until : ℕ) (sim : Simulation LoadJob)
     (done left : List Move) (steps : List Seen) → done ++ left ≡ moves_of loading job_of until sim
     → map (seen_of within) (shown loading job_of sim (moves_of loading job_of until sim) []) ≡ steps

@@ -54,7 +54,7 @@ figures_at rates now seen fs s r all reservation figures =
     get_or-map (λ (rate : Rate). rate.budget) rates s r.reservation 0 here.0 ∙ ap (λ x. x.budget) here.1 in
     subst (λ b. AreFigures b now (steps_of s seen) r.figures) budget (all.each s r.figures figures)
 
--- what is told of one server of a load is its report
+-- the figures of one server of a load make its report
 pub server_is : (f : LoadFile) (s : ℕ) (r : ServerReport) (fs : List Figures)
     → AreAllFigures (map (λ rate. rate.budget) f.plan.rates) f.until (seen_in f) fs
     → Some (string_bytes r.name) ≡ slice_get f.names s → Some r.mode ≡ slice_get f.modes s → Some r.reservation ≡ slice_get f.plan.rates s → r.within ≡ within_of s f.sources
@@ -70,7 +70,7 @@ server_is f s r fs all name mode reservation within figures waits there =
       held = own.held ∙ ap told (waits s there);
     }
 
--- .. of a task file
+-- the same for a task file
 pub task_server_is : (f : File) (s : ℕ) (r : ServerReport) (fs : List Figures)
     → AreAllFigures (map (λ rate. rate.budget) f.plan.rates) (clock_of_tasks f) (seen_in_tasks f) fs
     → string_bytes r.name ≡ name_of s → Some r.mode ≡ slice_get f.modes s → Some r.reservation ≡ slice_get f.plan.rates s → r.within ≡ None

@@ -1,4 +1,4 @@
--- The steps of a task file, as they are seen, one after another.
+-- The steps of a task file, as a view sees them, one after another.
 use Rattle.std.proofs.Common.{◌≡◌, ℕ, List, [], ◌∷◌, ◌++◌, length, map, Result, Ok, Err, refl, subst}
 use Rattle.std.specs.Prelude.{OnOk}
 use Rattle.std.specs.List.{range_with_len}
@@ -33,7 +33,7 @@ unfolding seen_from
 seen_more M [] x seen = refl
 seen_more M (y ∷ ys) x seen = seen_more (M ⊕ y) ys x (seen_after M y ∷ seen)
 
--- what always holds holds of a result
+-- what always holds also holds for a result
 pub on_ok_always : {T E : Type 0} {P : Type 0} (r : Result T E) → P → OnOk r P
 on_ok_always (Ok x) p = p
 on_ok_always (Err e) p = tt

@@ -1,4 +1,4 @@
--- What is reckoned of a server's own steps are the ticks at which it waits.
+-- The throttled ticks that are computed from a server's own steps are the ticks at which it waits.
 use Rattle.std.proofs.Common.{◌≡◌, ℕ, zero, suc, ◌+◌, ◌-◌, ◌≤◌, ◌<◌, Bool, true, false, not, ◌&&◌, leb, ltb, List, [], ◌∷◌, length, map, arith, refl, ap, sym, subst, ◌∙◌, inl, inr, Option, Some, None}
 use Rattle.std.proofs.lemmas.Bool.Decides.{nat_tests}
 use Rattle.std.proofs.lemmas.List.{length-map}
@@ -37,14 +37,14 @@ use Rattle.cbs_planning.proofs.Runs.{simulation}
 use Rattle.cbs_planning.proofs.Waits.{passed, wait, waited_is, wait_none, wait_more, wait_counted}
 use Rattle.cbs_planning.proofs.WaitingMoves.{IsOwn, IsOther, Leaves, seen_as, shown_jump, run_leaves, pass_leaves, charge_leaves, submit_leaves}
 
--- two tests that agree at so many ticks count the same
+-- two tests that agree at all of these ticks count the same
 count_same : (p q : ℕ → Bool) (t n : ℕ) → ((i : ℕ) → t ≤ i → i < t + n → p i ≡ q i) → count_ticks p t n ≡ count_ticks q t n
 count_same p q t zero same = refl
 count_same p q t (suc n) same =
     let here : p t ≡ q t = same t (omega arith) (omega arith) in
     rw (here, count_same p q (t + 1) n (λ i from to. same i (omega arith) (omega arith))) refl
 
--- one that holds at none counts none
+-- a test that holds at no tick counts 0
 count_none : (p : ℕ → Bool) (t n : ℕ) → ((i : ℕ) → t ≤ i → i < t + n → p i ≡ false) → count_ticks p t n ≡ 0
 count_none p t zero none = refl
 count_none p t (suc n) none =
@@ -94,13 +94,14 @@ module _ (s : ℕ) (within : List (Option ℕ)) where
       subst (λ o. Leaves s w (after_charging w t n o) (seen_as s (event.Charged t n) (after_charging w t n o)) (is_charge_of s (charge t n))) (sym none)
       (charge_leaves s w t n lt ahead)
 
-  -- So far so many ticks are counted, and what is reckoned of its steps is right, however many ticks pass before its next one.
+  -- The ticks so far are counted, and what is computed from its steps is right, however many ticks pass before its next
+  -- step.
   record Reckons (sim : Simulation LoadJob) (seen : List Sight) (count : ℕ) : Type 0 where
     so_far : (n : ℕ) → throttled (clock_of loading job_of sim + n) (steps_of s (map (seen_of within) seen))
         ≡ count + wait (clock_of loading job_of sim) n (shows (world_after loading sim.history) s)
     ahead : IsAhead (clock_of loading job_of sim) (shows (world_after loading sim.history) s)
 
-  -- what is shown once so many ticks have passed
+  -- the view when this many ticks have passed
   shown_ticks : (j : ℕ) (w : World LoadJob) → shows (ticks j w) s ≡ passed w.now j (shows w s)
   shown_ticks zero w = ap (λ v. shows v s) (ticks_none w)
   shown_ticks (suc j) w = ap (λ v. shows v s) (ticks_some (suc j) w (omega arith)) ∙ shown_jump s (suc j) w
@@ -136,7 +137,7 @@ module _ (s : ℕ) (within : List (Option ℕ)) where
           ahead = ahead;
         }
 
-    -- after another
+    -- after a step of another server
     after_other : (k : ℕ) → v.now ≡ w.now + k → IsAhead v.now (shows v s) → IsOther s k w v o (is_charge_of s m)
         → Reckons (after_move loading job_of sim m) (sight_of loading job_of sim m ∷ seen) (count + count_ticks (waits_in sim m s) w.now k)
     after_other k clock ahead h =
@@ -163,7 +164,7 @@ module _ (s : ℕ) (within : List (Option ℕ)) where
           ahead = ahead;
         }
 
-    -- after any
+    -- after a step of any server
     after_it : (l : Leaves s w v o (is_charge_of s m))
         → Reckons (after_move loading job_of sim m) (sight_of loading job_of sim m ∷ seen) (count + count_ticks (waits_in sim m s) w.now l.ticks)
     after_it l = elim l.sort [
@@ -171,7 +172,7 @@ module _ (s : ℕ) (within : List (Option ℕ)) where
       | inr h ↦ after_other l.ticks l.clock l.ahead h
     ]
 
-  -- so it is to the end
+  -- the same holds up to the end
   reckoned : (until : ℕ) (sim : Simulation LoadJob) (ms : List Move) (seen : List Sight) (count : ℕ) → s < length sim.history.setup.servers
       → Reckons sim seen count → AllMoves loading job_of (IsGranted loading job_of) sim ms → clock_of loading job_of (after_moves loading job_of sim ms) ≡ until
       → (clock_of loading job_of sim ≤ until)
@@ -204,7 +205,7 @@ module _ (s : ℕ) (within : List (Option ℕ)) where
       let from = ap (λ t. count_ticks (waits_at sim (m ∷ ms) s) t (until - d)) clock in
       (omega arith, omega (arith, rest.1, all, first, then_, from))
 
--- nobody waits at the start
+-- no server waits at the start
 at_start : (ts : List Terms) (s : ℕ)
     → (let f = face_of loading (account (map new_account ts) s) in (is_waiting f ≡ false) × IsAhead 0 f)
 at_start [] s = (refl, λ e. cc)
@@ -228,7 +229,7 @@ all_granted : (until : ℕ) (sim : Simulation LoadJob) (ms : List Move) → AllM
 all_granted until sim [] charges = tt
 all_granted until sim (m ∷ ms) charges = (charges.0.granted, all_granted until (after_move loading job_of sim m) ms charges.1)
 
--- so each is that a core made
+-- each simulation that a core made is such a one
 pub whole_if_made : {S : Type 0} (saw : S → S → List Sight → Type 0) (until : ℕ) (sim : Simulation LoadJob) (new : CoreHeld LoadJob) (w v : S)
     → Simulates loading job_of until saw sim new w v → IsWhole until sim
 whole_if_made saw until sim new w v made = record {
@@ -236,13 +237,13 @@ whole_if_made saw until sim new w v made = record {
   ends = sym made.state.world.clock ∙ made.clock;
 }
 
--- it is that of the load whose servers and releases these are
+-- a simulation is that of the load with its servers and releases
 pub whole_of : (f : LoadFile) (modes : List Mode) (plan : Planned) (backlog until : ℕ) (coming : List Release)
     → modes ≡ f.modes → plan ≡ f.plan → backlog ≡ f.backlog → until ≡ f.until → coming ≡ merged (released_by_all 0 f.sources f.until f.seed)
     → IsWhole until (simulation modes plan backlog coming) → IsWhole f.until (start_of f)
 whole_of f modes plan backlog until coming a b c d e whole = rw (a, b, c, d, e) at whole
 
--- the ticks that are reckoned of a server's own steps are those in which it is throttled and has a job
+-- the throttled ticks that are computed from a server's own steps are those in which it is throttled and has a job
 pub throttled_is : (f : LoadFile) → length f.modes ≡ length f.plan.rates → IsWhole f.until (start_of f) → AreThrottled f
 throttled_is f moded whole s lt =
     let sim = start_of f in

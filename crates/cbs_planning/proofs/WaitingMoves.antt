@@ -1,4 +1,4 @@
--- What each move of a simulation leaves of a server that may wait.
+-- What each move of a simulation does to a server that may wait.
 use Rattle.std.proofs.Common.{◌≡◌, ℕ, zero, suc, ◌+◌, ◌-◌, ◌≤◌, ◌<◌, Bool, true, false, not, ◌&&◌, eqb, leb, ltb, List, [], ◌∷◌, length, map, get_or, arith, refl, ap, sym, subst, ◌∙◌, inl, inr, ◌⊎◌, Option, Some, None}
 use Rattle.std.specs.Prelude.{if◌then◌else◌, Result, Ok, Err}
 use Rattle.std.proofs.Math.ListN.{get_or-map}
@@ -34,55 +34,56 @@ use Rattle.cbs_planning.specs.Throttled.{is_waiting, shows}
 use Rattle.cbs_planning.proofs.Waits.{passed, ready_waits_not}
 
 module _ (s : ℕ) where
-  -- a step of server s: it began when the clock stood so, it shows what the server shows, and in none of its ticks the server waited
+  -- a step of server s. It began at this clock, and shows the view of the server. In none of its ticks the server
+  -- waited
   pub record IsOwn (w v : World LoadJob) (o : Seen) (charges : Bool) : Type 0 where
     pub own : is_server s (server_of o.event) ≡ true
     pub begun : begun o ≡ w.now
     pub view : o.view ≡ Some (view_of (shows v s))
     pub none : (t : ℕ) → w.now ≤ t → t < v.now → (not charges && is_waiting (shows (ticks (t - w.now) w) s)) ≡ false
 
-  -- a step of nobody, or of another server: for server s so many ticks passed
+  -- a step of no server, or of another one: for server s, this many ticks passed
   pub record IsOther (n : ℕ) (w v : World LoadJob) (o : Seen) (charges : Bool) : Type 0 where
     pub other : is_server s (server_of o.event) ≡ false
     pub charge : charges ≡ false
     pub shown : shows v s ≡ passed w.now n (shows w s)
 
-  -- what a step of so many ticks leaves
+  -- what a step of this many ticks leaves
   pub record Leaves (w v : World LoadJob) (o : Seen) (charges : Bool) : Type 0 where
     pub ticks : ℕ
     pub clock : v.now ≡ w.now + ticks
     pub ahead : IsAhead v.now (shows v s)
     pub sort : IsOwn w v o charges ⊎ IsOther ticks w v o charges
 
-  -- it is seen so
+  -- a view sees the step so
   abbrev pub seen_as : Event → World LoadJob → Seen
   seen_as e v = record { clock = v.now; event = e; view = view_seen (faces loading v) e }
 
-  -- what a server shows that is there
+  -- the view of a server that exists
   view_there : (accounts : List (Account LoadJob)) (i : ℕ) → i < length accounts → view_at (map (face_of loading) accounts) (Some i) ≡ Some (view_of (face_of loading (account accounts i)))
   view_there [] i lt = absurd (omega arith)
   view_there (a ∷ accounts) zero lt = refl
   view_there (a ∷ accounts) (suc i) lt = view_there accounts i (omega arith)
 
-  -- what the step of a server shows that is server s
+  -- the view of the server of a step, if that is server s
   view_own : (v : World LoadJob) (t : ℕ) (e : Event) → server_of e ≡ Some t → eqb t s ≡ true → s < length v.accounts
       → view_seen (faces loading v) e ≡ Some (view_of (shows v s))
   view_own v t e of same lt =
       let is : t ≡ s = grind (arith, nat_tests) in
       rw (of, is) (view_there v.accounts s lt)
 
-  -- what is shown after a jump
+  -- the view after a jump
   pub shown_jump : (n : ℕ) (u : World LoadJob) → shows (jumped n u) s ≡ with_replenishment (u.now + n) (shows u s)
   shown_jump n u = ap (face_of loading) (replenished_account (u.now + n) u.accounts s)
 
   ahead_jump : (n : ℕ) (u : World LoadJob) → IsAhead (u.now + n) (shows (jumped n u) s)
   ahead_jump n u = subst (λ f. IsAhead (u.now + n) f) (sym (shown_jump n u)) (replenished_ahead (shows u s).terms.reservation (u.now + n) (shows u s).state)
 
-  -- what is shown of those that are let go
+  -- letting go the server that ran changes no view
   shown_loose : (w : World LoadJob) → shows (let_go w) s ≡ shows w s
   shown_loose w = ap (face_of loading) (get_or-map account_let_go w.accounts s no_account)
 
-  -- a change of another server changes nothing of server s
+  -- a change of another server does not change server s
   shown_changed : (f : Account LoadJob → Account LoadJob) (w : World LoadJob) (t : ℕ) → eqb t s ≡ false → shows (record w { accounts = changed_at f w.accounts t }) s ≡ shows w s
   shown_changed f w t other =
       ap (face_of loading) (changed_elsewhere f w.accounts t s no_account (λ e. let g : s ≡ t = e in grind (arith, nat_tests)))
@@ -91,7 +92,7 @@ module _ (s : ℕ) where
   still : (w : World LoadJob) (e : Event) → is_server s (server_of e) ≡ false → IsAhead w.now (shows w s) → Leaves w w (seen_as e w) false
   still w e other ahead = record { ticks = 0; clock = omega arith; ahead = ahead; sort = inr (record { other = other; charge = refl; shown = refl }) }
 
-  -- what is shown after a jump from where the same was shown
+  -- the view after a jump from a world with the same clock and the same view
   later : (w u : World LoadJob) (n : ℕ) → u.now ≡ w.now → shows u s ≡ shows w s → shows (jumped (suc n) u) s ≡ passed w.now (suc n) (shows w s)
   later w u n now shown =
       shown_jump (suc n) u ∙ (ap (λ c. with_replenishment (c + suc n) (shows u s)) now ∙ ap (with_replenishment (w.now + suc n)) shown)
@@ -213,7 +214,7 @@ module _ (s : ℕ) where
   of_submit within r (Ok q) p = (refl, refl)
   of_submit within r (Err e) p = (refl, refl)
 
-  -- what the step of a server leaves that takes no tick
+  -- what a step of a server leaves, if it takes no tick
   at_once : (w v : World LoadJob) (t : ℕ) (e : Event) → v.now ≡ w.now → server_of e ≡ Some t → ticks_of e ≡ 0 → s < length v.accounts → IsAhead v.now (shows v s)
       → (eqb t s ≡ false → shows v s ≡ shows w s) → Leaves w v (seen_as e v) false
   at_once w v t e now of takes there ahead same = elim (cases_Bool (eqb t s)) [

@@ -13,11 +13,11 @@ abbrev pub passed : ℕ → ℕ → Face → Face
 passed c zero f = f
 passed c (suc n) f = with_replenishment (c + suc n) f
 
--- how many of the n ticks from tick c a server that shows this waits
+-- in how many of the n ticks from tick c a server with this view waits
 abbrev pub wait : ℕ → ℕ → Face → ℕ
 wait c n f = if is_waiting f then min f.state.deadline (c + n) - c else 0
 
--- that is what is reckoned of a view
+-- that number is what is computed from a view
 pub waited_is : (c n : ℕ) (f : Face) → waited (Some (view_of f)) c (c + n) ≡ wait c n f
 waited_is c n f = elim (cases_Bool f.state.throttled) [
   | inl t ↦ elim (cases_Bool (ltb f.finished f.accepted)) [
@@ -30,24 +30,24 @@ waited_is c n f = elim (cases_Bool f.state.throttled) [
   ]
 ]
 
--- in no tick it waits for none
+-- in 0 ticks it waits for 0 ticks
 pub wait_none : (c : ℕ) (f : Face) → wait c 0 f ≡ 0
 wait_none c f = elim (cases_Bool (is_waiting f)) [
   | inl t ↦ rw t (omega arith)
   | inr u ↦ rw u refl
 ]
 
--- after n ticks it waits still, if its deadline has not come
+-- after n ticks it still waits, if its deadline has not come
 pub waiting_after : (c n : ℕ) (f : Face) → IsAhead c f → is_waiting (passed c n f) ≡ (is_waiting f && ltb (c + n) f.state.deadline)
 waiting_after c zero f ahead = grind (arith, nat_tests)
 waiting_after c (suc n) f ahead = grind (arith, nat_tests)
 
--- by the same deadline
+-- the same for the same deadline
 deadline_after : (c n : ℕ) (f : Face) → c + n < f.state.deadline → (passed c n f).state.deadline ≡ f.state.deadline
 deadline_after c zero f later = refl
 deadline_after c (suc n) f later = grind (arith, nat_tests)
 
--- so many ticks, and then so many more
+-- in a number of ticks, and then in some more ticks
 pub wait_more : (c k n : ℕ) (f : Face) → IsAhead c f → wait c (k + n) f ≡ wait c k f + wait (c + k) n (passed c k f)
 wait_more c k n f ahead =
     let d = f.state.deadline in
@@ -72,7 +72,7 @@ wait_more c k n f ahead =
           rw (e, u) refl
     ]
 
--- it is ahead still
+-- the server is still ahead
 pub ahead_after : (c n : ℕ) (f : Face) → IsAhead c f → IsAhead (c + n) (passed c n f)
 ahead_after c zero f ahead = grind (arith, nat_tests)
 ahead_after c (suc n) f ahead = grind (arith, nat_tests)
@@ -99,7 +99,7 @@ wait_one c i f ahead =
       | inr u ↦ let none : is_waiting (passed c i f) ≡ false = w ∙ rw u refl in rw (none, u) refl
     ]
 
--- those are the ticks at which it waits
+-- these are the ticks at which the server waits
 pub wait_counted : (c : ℕ) (f : Face) → IsAhead c f → (at : ℕ → Bool) (n i : ℕ) → ((j : ℕ) → i ≤ j → j < i + n → at (c + j) ≡ is_waiting (passed c j f))
     → count_ticks at (c + i) n + wait c i f ≡ wait c (i + n) f
 wait_counted c f ahead at zero i is = let e : i + 0 ≡ i = omega arith in rw e (omega arith)

@@ -1,4 +1,4 @@
--- What comes of a load.
+-- The outcome of a load: its steps as a view sees them, and its reports.
 use Rattle.std.specs.Prelude.{◌≡◌, ℕ, ◌<◌, eqb, min, max, if◌then◌else◌, List, [], ◌∷◌, length, map, sum_by, slice_get, string_bytes, Option, Some, None}
 use Rattle.cbs_load.specs.Loads.{LoadFile}
 use Rattle.cbs_rate.specs.Plan.{common_multiple, share}
@@ -19,7 +19,7 @@ use Rattle.cbs_views.specs.declared.seen.Seen.{Seen}
 use Rattle.cbs_planning.specs.Sights.{seen_of}
 use Rattle.cbs_planning.specs.Throttled.{ticks_waiting}
 
--- the start of a load: no step is made, and all that its sources release comes
+-- the start of a load: no step is made yet, and all releases of its sources are still to come
 abbrev pub start_of : LoadFile → Simulation LoadJob
 start_of f = record {
   history = record { setup = record { servers = terms_of f.modes f.plan.rates; backlog = f.backlog }; steps = [] };
@@ -31,26 +31,28 @@ start_of f = record {
 abbrev pub throttled_ticks : LoadFile → ℕ → ℕ
 throttled_ticks f s = ticks_waiting f.until (start_of f) s
 
--- within how many ticks the jobs of each source are to be finished
+-- for each source, within how many ticks its jobs are to be finished
 abbrev pub withins : LoadFile → List (Option ℕ)
 withins f = map (λ t. t.within) f.sources
 
--- the steps of a load, as they are seen, the newest first
+-- the steps of a load, as a view sees them, the newest first
 abbrev pub seen_in : LoadFile → List Seen
 seen_in f = map (seen_of (withins f)) (shown loading job_of (start_of f) (moves_of loading job_of f.until (start_of f)) [])
 
--- a range that also has one number more, if there is one
+-- a range that also contains one number more, if there is one
 abbrev pub widened : Option ℕ → Option Bounds → Option Bounds
 widened None b = b
 widened (Some n) None = Some (record { least = n; greatest = n })
 widened (Some n) (Some b) = Some (record { least = min n b.least; greatest = max n b.greatest })
 
--- within how many ticks the jobs of the sources of server s are to be finished: from the least to the greatest
+-- within how many ticks the jobs of the sources of server s are to be finished: from the least of these numbers to the
+-- greatest
 abbrev pub within_of : ℕ → List SourceTerms → Option Bounds
 within_of s [] = None
 within_of s (t ∷ ts) = if eqb t.server s then widened t.within (within_of s ts) else within_of s ts
 
--- what is reckoned of each server's own steps are the ticks in which it is throttled and has a job
+-- for each server, the throttled ticks that are computed from its own steps are the ticks in which it is throttled and
+-- has a job
 abbrev pub AreThrottled : LoadFile → Type 0
 AreThrottled f = (s : ℕ) → s < length f.plan.rates → throttled f.until (steps_of s (seen_in f)) ≡ throttled_ticks f s
 
@@ -63,7 +65,7 @@ pub record IsServerReport (f : LoadFile) (s : ℕ) (r : ServerReport) : Type 0 w
   pub figures : AreFigures r.reservation.budget f.until (steps_of s (seen_in f)) r.figures
   pub held : r.figures.throttled ≡ told (throttled_ticks f s)
 
--- the report of a load with a name
+-- the report of a load that names the file so
 pub record IsReportOf (name : List ℕ) (f : LoadFile) (r : RunReport) : Type 0 where
   pub file : string_bytes r.file ≡ name
   pub seed : r.seed ≡ Some f.seed

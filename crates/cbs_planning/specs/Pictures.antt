@@ -14,14 +14,14 @@ use Rattle.cbs_planning.specs.Loads.{seen_in}
 use Rattle.cbs_planning.specs.Tasks.{clock_of_tasks, name_of, seen_in_tasks}
 use Rattle.cbs_planning.specs.declared.shown.NothingShown.{NothingShown}
 
--- the rule of the window: of the ticks that are asked for, a run that ends at a tick shows those before its end; if it has none of
--- them, the answer names the first one and the end
+-- the rule of the window. Of the ticks that are asked for, a run shows those before its end. If it has none of them,
+-- the error names the first one and the end
 abbrev pub AnswersShown : Window → ℕ → Result Window NothingShown → Type 0
 AnswersShown asked end (Ok w) = (w.from ≡ asked.from) × (w.to ≡ min asked.to end)
 AnswersShown asked end (Err e) = (end ≤ asked.from) × (e ≡ record { from = asked.from; end = end })
 
--- a picture of a chart, with this name for its file, of servers that are called so and have these modes and this plan: it has the chart's
--- window, end and idle ticks, and shows of each server what the chart does
+-- a picture of a chart, with this name for its file, and with servers of these names, modes and plan. It has the
+-- chart's window, end and idle ticks, and shows of each server what the chart shows
 pub record IsChartPicture (name : List ℕ) (called : List (List ℕ)) (moded : List Mode) (plan : Planned) (c : Chart) (p : Picture) : Type 0 where
   pub file : string_bytes p.file ≡ name
   pub reserved : p.reserved ≡ record { ticks = sum_by (share (common_multiple plan.rates)) plan.rates; of = common_multiple plan.rates }
@@ -33,7 +33,7 @@ pub record IsChartPicture (name : List ℕ) (called : List (List ℕ)) (moded : 
   pub reservations : map (λ d. d.reservation) p.servers.items ≡ plan.rates
   pub charts : map (λ d. d.chart) p.servers.items ≡ c.servers.items
 
--- a picture of a window of a run that ends at a tick, in which these steps were seen
+-- a picture of a window of a run that ends at this tick, in which these steps were seen
 pub record IsRunPicture (name : List ℕ) (called : List (List ℕ)) (moded : List Mode) (plan : Planned) (w : Window) (until : ℕ) (seen : List Seen)
     (p : Picture) : Type 0 where
   pub chart : Chart
@@ -42,11 +42,11 @@ pub record IsRunPicture (name : List ℕ) (called : List (List ℕ)) (moded : Li
   pub shows : IsChart plan.rates until seen chart
   pub picture : IsChartPicture name called moded plan chart p
 
--- the picture of a window of a load, of a file with this name
+-- the picture of a window of a load, with this name for its file
 abbrev pub IsPictureOf : List ℕ → LoadFile → Window → Picture → Type 0
 IsPictureOf name f w p = IsRunPicture name f.names f.modes f.plan w f.until (seen_in f) p
 
--- .. of a task file
+-- the same for a task file
 abbrev pub IsTaskPicture : List ℕ → File → Window → Picture → Type 0
 IsTaskPicture name f w p =
     IsRunPicture name (map name_of (range_with_len 0 (length f.plan.rates))) f.modes f.plan w (clock_of_tasks f) (seen_in_tasks f) p

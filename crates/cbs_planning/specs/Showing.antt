@@ -2,7 +2,8 @@
 use Rattle.std.specs.Prelude.{◌≡◌, ◌⊎◌, List, ◌++◌}
 use Rattle.cbs_views.specs.declared.seen.Seen.{Seen}
 
--- a view saw some of the first of these steps, the newest first, or failed to see the last of those
+-- the steps stand with the newest first. The view saw the first of them, up to some step, or it failed to see the last
+-- of these
 pub record SawSome {S : Type 0} (saw failed : S → S → List Seen → Type 0) (first now : S) (steps : List Seen) : Type 0 where
   pub later : List Seen
   pub done : List Seen

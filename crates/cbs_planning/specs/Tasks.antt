@@ -1,4 +1,4 @@
--- What comes of a task file.
+-- The outcome of a task file: its steps as a view sees them, and its reports.
 use Rattle.std.specs.Prelude.{◌≡◌, ℕ, List, [], ◌∷◌, ◌++◌, codes, decimal, length, sum_by, slice_get, string_bytes, Option, Some, None, Result, Ok, Err}
 use Rattle.cbs_file.specs.TaskFiles.{File}
 use Rattle.cbs_job.specs.FileJobs.{of_files}
@@ -27,7 +27,7 @@ use Rattle.cbs_planning.specs.Sights.{view_seen}
 use Rattle.cbs_planning.specs.declared.task_steps.Asked.{Asked}
 use Rattle.cbs_planning.specs.declared.task_steps.Asked.TheVariants.{Submit, Run, Advance, Close, Charge}
 
--- what a step asks for, without its job
+-- the request of a step, without its job
 abbrev pub asked_of : Step FileJob → Asked
 asked_of (step.Submit s job) = Submit s (of_files.left job)
 asked_of step.Run = Run
@@ -40,31 +40,32 @@ abbrev pub refusal_in : Reply FileJob → Option CoreError
 refusal_in (reply.Refused e) = Some e
 refusal_in _ = None
 
--- a job that is submitted at a tick: nothing says within how many ticks it is to be finished
+-- a job that is submitted at a tick. There is no number of ticks within which it is to be finished
 abbrev pub task_arrival : ℕ → ℕ → ℕ → Arrival
 task_arrival now s units = record { server = s; came = now; units = units; within = None }
 
--- a submit, by what it is answered and what is promised then
+-- the event of a submit, by its result and by the tick that is promised then
 abbrev pub submit_seen : Arrival → Result ℕ CoreError → Option ℕ → Event
 submit_seen job (Ok q) promised = event.Accepted job q promised
 submit_seen job (Err e) promised = event.NotAccepted job e
 
--- an advance, by why it is refused
+-- the event of an advance, by why it is refused, if it is
 abbrev pub advance_seen : ℕ → Option CoreError → Event
 advance_seen n None = event.Advanced n
 advance_seen n (Some e) = event.NotAdvanced n e
 
--- a close
+-- the event of a close, by why it is refused, if it is
 abbrev pub close_seen : ℕ → Option CoreError → Event
 close_seen s None = event.Closed s
 close_seen s (Some e) = event.NotClosed s e
 
--- a charge
+-- the event of a charge, by why it is refused, if it is
 abbrev pub charge_seen : ℕ → ℕ → Option CoreError → Event
 charge_seen s n None = event.Charged s n
 charge_seen s n (Some e) = event.NotCharged s n e
 
--- what a step did, by its reply and by what it left. A submit takes no tick, so the clock that it left is that at which it came
+-- the event of a step, by its reply and by the world after it. A submit takes no tick, so the clock after it is the
+-- tick at which it came
 abbrev pub event_of_step : World FileJob → Asked → Reply FileJob → Event
 event_of_step w (Submit s units) r = submit_seen (task_arrival w.now s units) (answer_in r) (promised_in of_files w s (answer_in r))
 event_of_step w Run r = event.Ran (ran_in r)
@@ -72,17 +73,17 @@ event_of_step w (Advance n) r = advance_seen n (refusal_in r)
 event_of_step w (Close s) r = close_seen s (refusal_in r)
 event_of_step w (Charge s n) r = charge_seen s n (refusal_in r)
 
--- a step, as it is seen, by its reply and by what it left
+-- a step, as a view sees it, by its reply and by the world after it
 abbrev pub seen_of_step : World FileJob → Asked → Reply FileJob → Seen
 seen_of_step w x r =
     let e = event_of_step w x r in
     record { clock = w.now; event = e; view = view_seen (faces of_files w) e }
 
--- the step x after the history M, as it is seen
+-- the step x after the history M, as a view sees it
 abbrev pub seen_after : History FileJob → Step FileJob → Seen
 seen_after M x = seen_of_step (world_after of_files (M ⊕ x)) (asked_of x) (reply_in of_files M x)
 
--- steps after the history M, as they are seen, the newest first, on what was seen before
+-- steps after the history M, as a view sees them. They stand with the newest first, before what was seen earlier
 unfoldable pub seen_from : History FileJob → List (Step FileJob) → List Seen → List Seen
 seen_from M [] seen = seen
 seen_from M (x ∷ xs) seen = seen_from (M ⊕ x) xs (seen_after M x ∷ seen)
@@ -103,7 +104,7 @@ setup_of f = record { plan = f.plan; modes = f.modes }
 abbrev pub start_of_tasks : File → History FileJob
 start_of_tasks f = start_with (setup_of f) f.backlog
 
--- all steps of a task file, as they are seen, the newest first
+-- all steps of a task file, as a view sees them, the newest first
 abbrev pub seen_in_tasks : File → List Seen
 seen_in_tasks f = seen_from (start_of_tasks f) f.steps []
 
@@ -123,7 +124,7 @@ pub record IsTaskServerReport (f : File) (s : ℕ) (r : ServerReport) : Type 0 w
   pub within : r.within ≡ None
   pub figures : AreFigures r.reservation.budget (clock_of_tasks f) (steps_of s (seen_in_tasks f)) r.figures
 
--- the report of a task file with a name
+-- the report of a task file that names the file so
 pub record IsTaskReport (name : List ℕ) (f : File) (r : RunReport) : Type 0 where
   pub file : string_bytes r.file ≡ name
   pub seed : r.seed ≡ None

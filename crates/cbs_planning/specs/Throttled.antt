@@ -1,4 +1,4 @@
--- In how many ticks of a simulation a server is throttled and has a job, by the faces that the rules give.
+-- The ticks of a simulation in which a server is throttled and has a job, counted from the faces that the rules give.
 use Rattle.std.specs.Prelude.{ℕ, zero, suc, ◌+◌, ◌-◌, Bool, false, not, ◌&&◌, eqb, ltb, if◌then◌else◌, List, [], ◌∷◌}
 use Rattle.cbs_report.specs.Figures.{one_if}
 use Rattle.cbs_simulate.specs.Loading.{loading, job_of}
@@ -8,11 +8,11 @@ use Rattle.cbs_steps.specs.Accounts.{face_of}
 use Rattle.cbs_steps.specs.Faces.{Face, is_active}
 use Rattle.cbs_steps.specs.History.{World, account, ticks, world_after}
 
--- a server that shows this waits: it has an unfinished job, and is throttled
+-- a server with this face waits: it has an unfinished job, and is throttled
 abbrev pub is_waiting : Face → Bool
 is_waiting f = is_active f && f.state.throttled
 
--- what server s shows
+-- the face of server s
 abbrev pub shows : World LoadJob → ℕ → Face
 shows w s = face_of loading (account w.accounts s)
 
@@ -21,22 +21,22 @@ abbrev pub is_charge_of : ℕ → Move → Bool
 is_charge_of s (charge t n) = eqb t s
 is_charge_of s _ = false
 
--- server s waits at tick t, while the move takes its ticks: by what the server shows once the clock has come to t. A charge of its
--- own is no wait, since its unit goes on
+-- server s waits at tick t, while the move takes its ticks. What decides is the face of the server when the clock has
+-- come to t. A server that is charged does not wait, since its unit goes on
 abbrev pub waits_in : Simulation LoadJob → Move → ℕ → ℕ → Bool
 waits_in sim m s t = let w = world_after loading sim.history in not (is_charge_of s m) && is_waiting (shows (ticks (t - w.now) w) s)
 
--- server s waits at tick t of a simulation that makes these moves: while the move that takes the clock past t does so
+-- server s waits at tick t of a simulation that makes these moves. What decides is the move that takes the clock past t
 abbrev pub waits_at : Simulation LoadJob → List Move → ℕ → ℕ → Bool
 waits_at sim [] s t = false
 waits_at sim (m ∷ ms) s t =
     if ltb t (clock_of loading job_of (after_move loading job_of sim m)) then waits_in sim m s t else waits_at (after_move loading job_of sim m) ms s t
 
--- at how many of the n ticks from t on it is so
+-- how many of the n ticks from t on pass the test
 abbrev pub count_ticks : (ℕ → Bool) → ℕ → ℕ → ℕ
 count_ticks at t zero = 0
 count_ticks at t (suc n) = one_if (at t) + count_ticks at (t + 1) n
 
--- the ticks before the end of a simulation at which server s waits
+-- how many ticks before the end of a simulation server s waits
 abbrev pub ticks_waiting : ℕ → Simulation LoadJob → ℕ → ℕ
 ticks_waiting until sim s = count_ticks (waits_at sim (moves_of loading job_of until sim) s) 0 until

@@ -8,7 +8,8 @@ use cbs_rate::Plan;
 use cbs_rules::Modes;
 use std::alloc::{AllocError, Global};
 
-/// Returns the picture of a chart of servers with this plan and these modes, called by these names, of a file of this name.
+/// Returns the picture of a chart. The servers have this plan, these modes and these names, and the picture names the
+/// file `file`. The only error is out of memory.
 pub(crate) fn picture_of_chart(
     alloc: Global,
     file: &str,

@@ -1,4 +1,4 @@
-//! Loads, simulated, and task files, replayed: what comes of them, as a report or a picture.
+//! Loads that are simulated and task files that are replayed, with their outcome as a report or a picture.
 #![tactic(auto)]
 
 mod drawn;

@@ -12,7 +12,7 @@ use cbs_chart::{Chart, ChartView, Picture, Window};
 use cbs_load::Load;
 use std::alloc::{AllocError, Global};
 
-/// Simulates a load up to its end, and returns what a window shows of that.
+/// Returns what a window shows of a load, which it simulates up to its end. The only error is out of memory.
 fn chart_of<P: Progress>(
     alloc: Global,
     load: &Load,
@@ -31,10 +31,10 @@ fn chart_of<P: Progress>(
     told.view.into_chart(alloc, load.until())
 }
 
-/// Simulates a load up to its end, and returns the picture of a window of that, with this name for its file. Tells now and then
-/// how far it is. The only error is out of memory.
+/// Returns the picture of a window of a load, which it simulates up to its end. The picture names the file `file`.
+/// Reports to `progress` now and then how far the simulation is. The only error is out of memory.
 ///
-/// Ticks outside of the window take no memory. [`shown_of`](crate::shown_of) gives a window that ends with the load.
+/// Ticks outside of the window take no memory. [`shown_of`](crate::shown_of) returns a window that ends with the load.
 pub fn picture_of<P: Progress>(
     alloc: Global,
     file: &str,

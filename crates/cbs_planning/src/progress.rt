@@ -5,16 +5,16 @@ ghost use Rattle.std.specs.Prelude.{◌≡◌};
 use cbs_views::{Seen, View};
 use std::alloc::AllocError;
 
-/// After how many steps it is told again: they take some milliseconds.
+/// The number of steps from one report to the next. This many steps take some milliseconds.
 const STEPS: u32 = 65_536;
 
-/// Is told now and then how far a simulation is.
+/// A receiver of reports on how far a simulation is, which come now and then.
 pub trait Progress {
-    /// Is told the clock, and the tick at which the simulation ends.
+    /// Receives the clock, and the tick at which the simulation ends.
     fn tell(&mut self, clock: u64, until: u64);
 }
 
-/// Tells nobody.
+/// A receiver that ignores all reports.
 #[derive(Drop)]
 pub struct NoProgress;
 
@@ -22,7 +22,7 @@ impl Progress for NoProgress {
     fn tell(&mut self, _clock: u64, _until: u64) {}
 }
 
-/// A view that tells how far the simulation is which it sees.
+/// A view that also reports how far the simulation is that it sees.
 #[derive(Drop)]
 pub(crate) struct Telling<V> {
     pub(crate) view: V,

@@ -14,7 +14,8 @@ use cbs_print::{RunReport, ServerReport};
 use cbs_report::{Figures, Report};
 use std::alloc::{AllocError, Global};
 
-/// Simulates a load up to its end. Returns the figures of its servers, and the ticks in which nobody ran.
+/// Returns the figures of the servers of a load, and in how many ticks nobody ran. For this it simulates the load up to
+/// its end.
 fn simulated<P: Progress>(
     alloc: Global,
     load: &Load,
@@ -34,7 +35,7 @@ fn simulated<P: Progress>(
     Ok((figures, idle))
 }
 
-/// Returns the report of one server of a load, with these figures.
+/// Returns the report of one server of a load, with these figures. The only error is out of memory.
 fn server_report(
     alloc: Global,
     load: &Load,
@@ -58,8 +59,8 @@ fn server_report(
     })
 }
 
-/// Simulates a load, and returns the report of that, with this name for its file. Tells now and then how far it is. The only error is
-/// out of memory.
+/// Returns the report of a load, which it simulates up to its end. The report names the file `file`. Reports to
+/// `progress` now and then how far the simulation is. The only error is out of memory.
 pub fn report_of<P: Progress>(
     alloc: Global,
     file: &str,

@@ -18,9 +18,10 @@ pub struct Stopped<V> {
     pub view: V,
 }
 
-/// Simulates a load up to its end, and shows each step to the view, which it returns. The view has to be ready.
+/// Simulates a load up to its end, and shows each step to the view. Returns the view. The view has to be ready.
 ///
-/// Refuses if out of memory, or if the view fails. The view has then seen some first steps, but maybe the last of these.
+/// Refuses if out of memory, or if the view fails. The view has then seen the first steps, up to some step. It may have
+/// failed to see the last of these.
 pub fn show_load<C, V: View<C>>(
     alloc: Global,
     load: &Load,

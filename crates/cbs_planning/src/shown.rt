@@ -1,4 +1,4 @@
-//! Which ticks of a run are shown.
+//! The ticks of a run that are shown.
 
 ghost use Rattle.cbs_planning.specs.Pictures.{AnswersShown};
 
@@ -6,19 +6,19 @@ use cbs_chart::Window;
 use std::fmt;
 use thiserror::Error;
 
-/// A run has none of the ticks that are to be shown: it ends before the first of them.
+/// The error of a run that has none of the ticks to show, since it ends at or before the first of them.
 #[derive(Clone, Copy, Debug, PartialEq, Eq, Error)]
 #[error("the first tick to show is {from}, and the run ends at tick {end}")]
 pub struct NothingShown {
-    /// The first tick that is to be shown.
+    /// The first tick to show.
     pub from: u64,
     /// The tick at which the run ends.
     pub end: u64,
 }
 
-/// Returns the ticks of a window that a run has which ends at a tick: those before its end.
+/// Returns those ticks of a window that a run has which ends at the tick `end`: the ticks before the end.
 ///
-/// Refuses if the run has none of them.
+/// Refuses if the run has none of the window's ticks.
 pub fn shown_of(asked: Window, end: u64) -> Result<Window, NothingShown>
     ensures { AnswersShown asked end result }
 {

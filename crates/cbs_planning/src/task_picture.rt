@@ -16,7 +16,7 @@ use cbs_rules::Setup;
 use cbs_views::{Seen, View};
 use std::alloc::{AllocError, Global};
 
-/// A view that keeps nothing of what it sees.
+/// A view that ignores all that it sees.
 #[derive(Drop)]
 struct Blind;
 
@@ -28,7 +28,7 @@ impl View<()> for Blind {
     }
 }
 
-/// Makes the steps of a task file, and returns the clock after them. The only error is out of memory.
+/// Returns the clock after the steps of a task file, which it makes. The only error is out of memory.
 pub fn clock_of(alloc: Global, tasks: TaskFile) -> Result<u64, AllocError>
     ensures { IfOk result (λ clock. clock ≡ clock_of_tasks tasks) }
 {
@@ -45,7 +45,8 @@ pub fn clock_of(alloc: Global, tasks: TaskFile) -> Result<u64, AllocError>
     Ok(core.now())
 }
 
-/// Makes steps, in order, on a new core with this setup and backlog, and returns what a window shows of them.
+/// Returns what a window shows of steps, which it makes in order on a new core with this setup and backlog. The only
+/// error is out of memory.
 fn chart_of_steps(
     alloc: Global,
     setup: &Setup,
@@ -65,7 +66,7 @@ fn chart_of_steps(
     view.into_chart(alloc, core.now())
 }
 
-/// Returns the names of so many servers of a task file.
+/// Returns the names of this many servers of a task file.
 fn server_names(alloc: Global, count: usize) -> Result<Vec<String>, AllocError>
     ensures { IfOk result (λ names. map string_bytes names.items ≡ map name_of (range_with_len 0 count)) }
 {
@@ -76,10 +77,12 @@ fn server_names(alloc: Global, count: usize) -> Result<Vec<String>, AllocError>
     Ok(names)
 }
 
-/// Makes the steps of a task file, and returns the picture of a window of that, with this name for the file. Server S is called
-/// `server S`, and no job is to be finished within any ticks. The only error is out of memory.
+/// Returns the picture of a window of a task file, of which it makes all steps. The picture names the file `file`.
+/// Server S is called `server S`, and no job has a number of ticks within which it is to be finished. The only error is
+/// out of memory.
 ///
-/// [`clock_of`] tells the end of the file's run, and [`shown_of`](crate::shown_of) gives a window that ends there.
+/// [`clock_of`] returns the tick at which the file's run ends. [`shown_of`](crate::shown_of) returns a window that ends
+/// there.
 pub fn task_picture_of(
     alloc: Global,
     file: &str,

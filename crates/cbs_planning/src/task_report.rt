@@ -15,7 +15,7 @@ use cbs_report::{Figures, Report};
 use cbs_rules::Setup;
 use std::alloc::{AllocError, Global};
 
-/// What came of steps: the figures of the servers, the ticks in which nobody ran, and the clock.
+/// The outcome of steps: the figures of the servers, in how many ticks nobody ran, and the clock.
 #[derive(Drop)]
 struct Outcome {
     figures: Vec<Figures>,
@@ -23,7 +23,8 @@ struct Outcome {
     clock: u64,
 }
 
-/// Makes steps, in order, on a new core with this setup and backlog.
+/// Returns the outcome of steps, which it makes in order on a new core with this setup and backlog. The only error is
+/// out of memory.
 fn outcome_of(
     alloc: Global,
     setup: &Setup,
@@ -49,7 +50,7 @@ fn outcome_of(
     })
 }
 
-/// Returns the report of one server of a task file, with these figures.
+/// Returns the report of one server of a task file, with these figures. The only error is out of memory.
 fn task_server_report(
     alloc: Global,
     setup: &Setup,
@@ -73,8 +74,9 @@ fn task_server_report(
     })
 }
 
-/// Makes the steps of a task file, and returns the report of that, with this name for the file. Server S is called `server S`,
-/// no job is to be finished within any ticks, and nothing is drawn. The only error is out of memory.
+/// Returns the report of a task file, of which it makes all steps. The report names the file `file`. Server S is called
+/// `server S`, no job has a number of ticks within which it is to be finished, and there is no seed. The only error is
+/// out of memory.
 pub fn task_report_of(alloc: Global, file: &str, tasks: TaskFile) -> Result<RunReport, AllocError>
     ensures report { IfOk result (IsTaskReport file.now tasks) }
     ensures few { IfOk result (λ r. length r.servers.items ≤ 64) }

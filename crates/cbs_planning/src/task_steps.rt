@@ -17,22 +17,22 @@ use cbs_job::FileJob;
 use cbs_views::{Arrival, Event, Seen, View};
 use std::alloc::AllocError;
 
-/// What a step asks for, without its job.
+/// The request of a step, without its job.
 #[derive(Clone, Copy)]
 pub(crate) enum Asked {
-    /// A job of so many units for this server.
+    /// A job of this many units for this server.
     Submit(u16, u32),
     /// One unit of the chosen server.
     Run,
-    /// So many ticks pass.
+    /// This many ticks pass.
     Advance(u64),
     /// No further job for this server.
     Close(u16),
-    /// So many ticks more for the last unit of this server.
+    /// This many ticks more for the last unit of this server.
     Charge(u16, u64),
 }
 
-/// Returns what a step asks for.
+/// Returns the request of a step.
 fn asked_of(step: &Step<FileJob>) -> Asked
     ensures { result ≡ asked_of step.now }
 {
@@ -45,7 +45,7 @@ fn asked_of(step: &Step<FileJob>) -> Asked
     }
 }
 
-/// Returns whether memory refused a submit.
+/// Returns whether a submit was refused because of memory.
 fn lacks_memory(reply: &Reply<FileJob>) -> bool
     ensures { result ≡ is_lack reply.now }
 {
@@ -55,7 +55,7 @@ fn lacks_memory(reply: &Reply<FileJob>) -> bool
     }
 }
 
-/// Returns what a submit was answered.
+/// Returns the result of a submit.
 fn answer_in(reply: &Reply<FileJob>) -> Result<u64, CoreError>
     ensures { result ≡ answer_in reply.now }
 {
@@ -66,7 +66,7 @@ fn answer_in(reply: &Reply<FileJob>) -> Result<u64, CoreError>
     }
 }
 
-/// Returns what a run was answered.
+/// Returns the result of a run.
 fn ran_in(reply: &Reply<FileJob>) -> Ran
     ensures { result ≡ ran_in reply.now }
 {
@@ -76,7 +76,7 @@ fn ran_in(reply: &Reply<FileJob>) -> Ran
     }
 }
 
-/// Returns why an advance, a close or a charge was refused, if it was.
+/// Returns why an advance, a close or a charge was refused, or `None` if it was not.
 fn refusal_in(reply: &Reply<FileJob>) -> Option<CoreError>
     ensures { result ≡ refusal_in reply.now }
 {
@@ -86,7 +86,7 @@ fn refusal_in(reply: &Reply<FileJob>) -> Option<CoreError>
     }
 }
 
-/// Returns what an advance did, by why it was refused.
+/// Returns the event of an advance. `refusal` says why it was refused, if it was.
 fn advance_seen(ticks: u64, refusal: Option<CoreError>) -> Event
     ensures { result ≡ advance_seen ticks refusal }
 {
@@ -96,7 +96,7 @@ fn advance_seen(ticks: u64, refusal: Option<CoreError>) -> Event
     }
 }
 
-/// Returns what a close did, by why it was refused.
+/// Returns the event of a close. `refusal` says why it was refused, if it was.
 fn close_seen(server: u16, refusal: Option<CoreError>) -> Event
     ensures { result ≡ close_seen server refusal }
 {
@@ -106,7 +106,7 @@ fn close_seen(server: u16, refusal: Option<CoreError>) -> Event
     }
 }
 
-/// Returns what a charge did, by why it was refused.
+/// Returns the event of a charge. `refusal` says why it was refused, if it was.
 fn charge_seen(server: u16, ticks: u64, refusal: Option<CoreError>) -> Event
     ensures { result ≡ charge_seen server ticks refusal }
 {
@@ -120,7 +120,7 @@ fn charge_seen(server: u16, ticks: u64, refusal: Option<CoreError>) -> Event
     }
 }
 
-/// Returns what a submit of a job with so many units did, by what it was answered.
+/// Returns the event of a submit of a job with this many units. `answer` is the result of the submit.
 fn submit_seen(
     core: &Core<FileJob>,
     server: u16,
@@ -145,7 +145,7 @@ fn submit_seen(
     }
 }
 
-/// Returns what a step did, by its reply and by the core that it left.
+/// Returns the event of a step, by its reply and by the core after it.
 fn event_of_step(core: &Core<FileJob>, asked: Asked, reply: &Reply<FileJob>) -> Event
     ensures { TellsOf of_files core.now (λ w. result ≡ event_of_step w asked reply.now) }
 {
@@ -158,7 +158,7 @@ fn event_of_step(core: &Core<FileJob>, asked: Asked, reply: &Reply<FileJob>) -> 
     }
 }
 
-/// Returns a step as it is seen, by its reply and by the core that it left.
+/// Returns a step as a view sees it, by its reply and by the core after it.
 fn seen_of_step(core: &Core<FileJob>, asked: Asked, reply: &Reply<FileJob>) -> Seen
     ensures { TellsOf of_files core.now (λ w. result ≡ seen_of_step w asked reply.now) }
 {
@@ -170,7 +170,7 @@ fn seen_of_step(core: &Core<FileJob>, asked: Asked, reply: &Reply<FileJob>) -> S
     }
 }
 
-/// Makes a step, and shows it to the view.
+/// Makes a step, and shows it to the view. Refuses if out of memory, or if the view fails.
 fn show_step<C, V: View<C>>(
     core: &mut Core<FileJob>,
     step: Step<FileJob>,
@@ -191,9 +191,9 @@ fn show_step<C, V: View<C>>(
     view.see(lent, seen_of_step(core, asked, &reply))
 }
 
-/// Makes steps, in order, and shows each to the view, which has to be ready.
+/// Makes steps, in order, and shows each to the view. The view has to be ready.
 ///
-/// Refuses if out of memory, or if the view fails: then the core has made the first steps, up to some step.
+/// Refuses if out of memory, or if the view fails. The core has then made the first steps, up to some step.
 pub fn show_steps<C, V: View<C>>(
     core: &mut Core<FileJob>,
     steps: Vec<Step<FileJob>>,

@@ -10,16 +10,16 @@ use cbs_steps::ServerView;
 use cbs_views::{Arrival, Event, Seen, View};
 use std::alloc::{AllocError, Allocator};
 
-/// A view of a simulation, and within how many ticks the jobs of each source are to be finished.
+/// A view of a simulation. Beside it stands, for each source, within how many ticks its jobs are to be finished.
 #[derive(Drop)]
 pub struct Watched<V> {
     /// The view.
     pub view: V,
-    /// The ticks by source, if they are wanted.
+    /// The ticks within which the jobs are to be finished, by source, if that is wanted.
     pub within: Vec<Option<u64>>,
 }
 
-/// Returns what is known of the job of a release.
+/// Returns the job of a release, as a view sees it.
 fn arrival_of(within: &[Option<u64>], release: Release) -> Arrival
     ensures { result ≡ arrival_of within.now release }
 {
@@ -31,7 +31,7 @@ fn arrival_of(within: &[Option<u64>], release: Release) -> Arrival
     }
 }
 
-/// Returns what a move did, as a step.
+/// Returns the event of a move, as a view sees it.
 #[inline(always)]
 fn event_seen(within: &[Option<u64>], event: Happening) -> Event
     ensures { result ≡ event_seen within.now event }
@@ -60,7 +60,7 @@ fn event_seen(within: &[Option<u64>], event: Happening) -> Event
     }
 }
 
-/// Returns what the server of a step shows, if there is one.
+/// Returns what the server of a step shows, or `None` if the step has no server.
 #[inline(always)]
 pub(crate) fn view_seen<W: Work, A: Allocator>(
     core: &Core<W, A>,

@@ -1,4 +1,4 @@
-//! Within how many ticks jobs are to be finished.
+//! The ticks within which jobs are to be finished.
 
 ghost use Rattle.std.specs.Prelude.{◌≡◌, IfOk, map};
 ghost use Rattle.cbs_planning.specs.Loads.{widened, within_of};
@@ -6,7 +6,7 @@ ghost use Rattle.cbs_planning.specs.Loads.{widened, within_of};
 use cbs_simulate::{Range, SourceTerms};
 use std::alloc::{AllocError, Global};
 
-/// Returns a range that also has one number more, if there is one.
+/// Returns a range that also contains one number more, if there is one.
 fn widened(number: Option<u64>, range: Option<Range>) -> Option<Range>
     ensures { result ≡ widened number range }
 {
@@ -19,8 +19,8 @@ fn widened(number: Option<u64>, range: Option<Range>) -> Option<Range>
     }
 }
 
-/// Returns within how many ticks the jobs of a server's sources are to be finished, from the least to the greatest, or `None` if
-/// it has no source.
+/// Returns within how many ticks the jobs of a server's sources are to be finished: from the least of these numbers to
+/// the greatest. Returns `None` if no source of the server has such a number.
 pub(crate) fn within_of(server: u16, sources: &[SourceTerms]) -> Option<Range>
     ensures { result ≡ within_of server sources.now }
 {
@@ -36,7 +36,7 @@ pub(crate) fn within_of(server: u16, sources: &[SourceTerms]) -> Option<Range>
     range
 }
 
-/// Returns within how many ticks the jobs of each source are to be finished.
+/// Returns, for each source, within how many ticks its jobs are to be finished, if that is wanted.
 pub(crate) fn by_source(
     alloc: Global,
     sources: &[SourceTerms],

@@ -1,4 +1,4 @@
-//! Tests of what is read, guaranteed and simulated of a load, and of the figures of that.
+//! Tests of loads: how they are read, what they guarantee, how they are simulated, and their figures.
 #![tactic(auto)]
 
 #[cfg(test)]

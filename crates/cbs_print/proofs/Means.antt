@@ -1,22 +1,22 @@
--- Shares and means as they are printed, and a mean by the quotient of the sum and its rest.
+-- Shares and means as a report prints them, and a mean by the quotient of the sum and its remainder.
 use Rattle.std.proofs.Common.{◌≡◌, ◌∙◌, ℕ, ◌+◌, ◌*◌, ◌/◌, ◌%◌, ◌<◌, ◌++◌, false, eqb, codes, decimal, append_assoc, ap, arith}
 use Rattle.std.proofs.Math.Nat.{mul-add-div}
 use Rattle.std.proofs.lemmas.Bool.Decides.{nat_tests}
 use Rattle.std.proofs.lemmas.Nat.{div-add-mod'}
 use Rattle.cbs_print.specs.Numbers.{percent_tenths, percent_text, mean_tenths, mean_text}
 
--- the tenths that the rest gives
+-- the tenths from the remainder
 abbrev rest_tenths : ℕ → ℕ → ℕ
 rest_tenths rest count = (20 * rest + count) / (2 * count)
 
--- the tenths of the quotient, and those of the rest
+-- the tenths from the quotient and from the remainder
 tenths_are : (total count : ℕ) → 0 < count → mean_tenths total count ≡ 10 * (total / count) + rest_tenths (total % count) count
 tenths_are total count h =
     let split : 20 * total + count ≡ 2 * count * (10 * (total / count)) + (20 * (total % count) + count) = omega (arith, div-add-mod' total count) in
     let some : 0 < 2 * count = omega arith in
     ap (λ n. n / (2 * count)) split ∙ mul-add-div some (10 * (total / count)) (20 * (total % count) + count)
 
--- .. so the whole part and the tenths are these
+-- the whole part and the tenths are these
 pub whole_is : (total count : ℕ) → 0 < count → total / count + (20 * (total % count) + count) / (2 * count) / 10 ≡ mean_tenths total count / 10
 whole_is total count h = omega (arith, tenths_are total count h)
 

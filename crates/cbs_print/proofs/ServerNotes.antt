@@ -10,7 +10,7 @@ some_notes : (clock : ℕ) (wrong : List ServerReport) → 0 < length wrong → 
 some_notes clock [] h = absurd (omega arith)
 some_notes clock (s ∷ wrong) h = refl
 
--- some are: the notes of these are those of all servers, where one that is not wrong has none
+-- some servers are not in time. Their notes are those of all servers, since a server that is in time has none
 pub notes_are : (clock : ℕ) (servers : List ServerReport) → 0 < length (not_in_time servers)
     → notes_text clock (not_in_time servers) ≡ codes "\n" ++ flat_map (note_if_wrong clock) servers
 notes_are clock servers h =

@@ -1,4 +1,4 @@
--- What a report tells, and what is added up of its servers.
+-- The content of a report, and the sums over its servers.
 use Rattle.std.specs.Prelude.{ℕ, ◌+◌, Bool, ◌&&◌, eqb, List, sum_by}
 use Rattle.cbs_report.specs.declared.figures.Figures.{Figures}
 use Rattle.cbs_print.specs.declared.report.ServerReport.{ServerReport}
@@ -17,11 +17,11 @@ released f = f.refused + accepted f
 abbrev pub late : Figures → ℕ
 late f = f.late_finished + f.late_unfinished
 
--- none of the jobs is late, and none was refused
+-- no job is late, and none was refused
 abbrev pub is_in_time : Figures → Bool
 is_in_time f = eqb (late f) 0 && eqb f.refused 0
 
--- a figure of each server, added up
+-- a figure, added up over the servers
 abbrev pub sum_of : (Figures → ℕ) → List ServerReport → ℕ
 sum_of figure servers = sum_by (λ s. figure s.figures) servers
 

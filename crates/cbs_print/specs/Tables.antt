@@ -13,16 +13,16 @@ use Rattle.cbs_print.specs.declared.report.ServerReport.{ServerReport}
 abbrev pub plain : List ℕ → CellText
 plain text = record { text = text; marked = false }
 
--- a cell that is marked, if it is so
+-- a cell that is marked if the condition holds
 abbrev pub marked_if : Bool → List ℕ → CellText
 marked_if marked text = record { text = text; marked = marked }
 
--- the number of jobs that are late, if times are wanted
+-- the number of jobs that are late, if a time is wanted
 abbrev pub late_cell : Figures → Option Bounds → CellText
 late_cell f None = plain (codes "-")
 late_cell f (Some within) = marked_if (ltb 0 (late f)) (decimal (late f))
 
--- JOBS: what came of each server's jobs
+-- a row of the table JOBS: how many jobs of the server came, were refused, are finished, and are late
 abbrev pub jobs_row : ℕ → ServerReport → List CellText
 jobs_row backlog s =
     plain (string_bytes s.name) ∷ plain (decimal (released s.figures)) ∷ marked_if (ltb 0 s.figures.refused) (decimal s.figures.refused)
@@ -41,7 +41,7 @@ jobs_total servers =
 unfoldable pub jobs_table : RunReport → List (List CellText)
 jobs_table r = jobs_heading ∷ map (jobs_row r.backlog) r.servers.items ++ jobs_total r.servers.items ∷ []
 
--- a reservation: so many ticks in every so many
+-- a reservation: the budget in the period
 abbrev pub reservation_text : ServerReport → List ℕ
 reservation_text s = decimal s.reservation.budget ++ codes " in " ++ decimal s.reservation.period
 
@@ -49,7 +49,7 @@ reservation_text s = decimal s.reservation.budget ++ codes " in " ++ decimal s.r
 abbrev pub is_asked_too_much : ℕ → ServerReport → Bool
 is_asked_too_much clock s = not (is_in_time s.figures) && ltb (s.reservation.budget * clock) (s.figures.asked * s.reservation.period)
 
--- TICKS: what each server has, was asked for, and got
+-- a row of the table TICKS: what the server has, was asked for, and ran
 abbrev pub ticks_row : ℕ → ServerReport → List CellText
 ticks_row clock s =
     plain (string_bytes s.name) ∷ plain (reservation_text s) ∷ plain (percent_text s.reservation.budget s.reservation.period)
@@ -69,19 +69,20 @@ ticks_total r =
 unfoldable pub ticks_table : RunReport → List (List CellText)
 ticks_table r = ticks_heading ∷ map (ticks_row r.clock) r.servers.items ++ ticks_total r ∷ []
 
--- the ticks that are wanted: of all sources of a server alike, or from the least to the greatest
+-- the ticks within which the jobs of a server are wanted: one number, or the least and the greatest if its sources
+-- differ
 abbrev pub within_text : Option Bounds → List ℕ
 within_text None = codes "-"
 within_text (Some b) = if eqb b.least b.greatest then decimal b.least else decimal b.least ++ codes ".." ++ decimal b.greatest
 
--- the cells of the response times; the greatest is marked if a job is late
+-- the cells of the response times. The greatest is marked if a job is late
 abbrev pub rank_cells : Figures → Option Ranks → List CellText
 rank_cells f None = map plain (codes "-" ∷ codes "-" ∷ codes "-" ∷ codes "-" ∷ codes "-" ∷ codes "-" ∷ [])
 rank_cells f (Some r) =
     plain (decimal r.least) ∷ plain (mean_text f.response_total f.finished) ∷ plain (decimal r.median) ∷ plain (decimal r.p95)
     ∷ plain (decimal r.p99) ∷ marked_if (ltb 0 (late f)) (decimal r.greatest) ∷ []
 
--- RESPONSE: how long each server's jobs took
+-- a row of the table RESPONSE: how long the server's jobs took
 abbrev pub response_row : ServerReport → List CellText
 response_row s = plain (string_bytes s.name) ∷ rank_cells s.figures s.figures.responses ++ plain (within_text s.within) ∷ []
 
@@ -91,12 +92,12 @@ response_heading = map plain (codes "RESPONSE" ∷ codes "least" ∷ codes "mean
 unfoldable pub response_table : List ServerReport → List (List CellText)
 response_table servers = response_heading ∷ map response_row servers
 
--- a number, if there is one
+-- a number, or - if there is none
 abbrev pub number_text : Option ℕ → List ℕ
 number_text None = codes "-"
 number_text (Some n) = decimal n
 
--- EARLY: how much earlier than promised they were finished
+-- a row of the table EARLY: how many ticks earlier than promised the server's jobs were finished
 abbrev pub early_row : ServerReport → List CellText
 early_row s =
     plain (string_bytes s.name) ∷ plain (number_text s.figures.early_least) ∷ plain (mean_text s.figures.early_total s.figures.early_count) ∷ []
@@ -107,7 +108,7 @@ early_heading = map plain (codes "EARLY" ∷ codes "least" ∷ codes "mean" ∷ 
 unfoldable pub early_table : List ServerReport → List (List CellText)
 early_table servers = early_heading ∷ map early_row servers
 
--- CHARGES: what each server was charged
+-- a row of the table CHARGES: what the server was charged
 abbrev pub charges_row : ServerReport → List CellText
 charges_row s = plain (string_bytes s.name) ∷ plain (decimal s.figures.charged) ∷ plain (decimal s.figures.greatest_charge) ∷ []
 

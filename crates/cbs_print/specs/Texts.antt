@@ -8,22 +8,22 @@ use Rattle.cbs_print.specs.Tables.{jobs_table, ticks_table, response_table, earl
 use Rattle.cbs_print.specs.Verdicts.{not_in_time, verdict_text}
 use Rattle.cbs_print.specs.declared.report.RunReport.{RunReport}
 
--- what of the time was charged, if something was
+-- how many ticks were charged, if any were
 abbrev pub charged_text : ℕ → List ℕ
 charged_text charged = if eqb charged 0 then [] else decimal charged ++ codes " charged, "
 
--- what was run, and how the time went
+-- the summary: the file, and how many ticks were run, charged and idle
 unfoldable pub summary_text : RunReport → List ℕ
 summary_text r =
     string_bytes r.file ++ codes ", ticks 0 to " ++ decimal r.clock ++ codes ": " ++ decimal (sum_of (λ f. f.run) r.servers.items) ++ codes " run ("
     ++ percent_text (sum_of (λ f. f.run) r.servers.items) r.clock ++ codes "), " ++ charged_text (sum_of (λ f. f.charged) r.servers.items)
     ++ decimal r.idle ++ codes " idle\n"
 
--- an empty line, and a table
+-- an empty line and a table
 unfoldable pub table_text : List (List CellText) → List ℕ
 table_text rows = codes "\n" ++ columns_text rows
 
--- what was charged, if something was
+-- the table of charges, if any tick was charged
 abbrev pub charges_text : RunReport → List ℕ
 charges_text r = if eqb (sum_of (λ f. f.charged) r.servers.items) 0 then [] else table_text (charges_table r.servers.items)
 

@@ -20,29 +20,29 @@ late_text f = decimal (late f) ++ codes " of " ++ decimal (accepted f) ++ codes 
 abbrev pub refused_text : Figures → List ℕ
 refused_text f = decimal f.refused ++ codes " of " ++ decimal (released f) ++ codes " refused"
 
--- which of both there are
+-- what is wrong with a server: late jobs, refused jobs, or both
 abbrev pub wrong_text : Figures → List ℕ
 wrong_text f =
     if eqb f.refused 0 then late_text f
     else if eqb (late f) 0 then refused_text f
     else late_text f ++ codes ", " ++ refused_text f
 
--- how many servers more there are
+-- how many more servers there are
 abbrev pub others_text : ℕ → List ℕ
 others_text n =
     if eqb n 0 then []
     else if eqb n 1 then codes ", and 1 server more"
     else codes ", and " ++ decimal n ++ codes " servers more"
 
--- a server that is not in time, with what is wrong of it, and how many servers more there are
+-- a server that is not in time, with what is wrong with it, and how many more such servers there are
 abbrev pub server_text : ServerReport → ℕ → List ℕ
 server_text s others = codes "not in time: " ++ string_bytes s.name ++ codes ": " ++ wrong_text s.figures ++ others_text others
 
--- the first server of these, or that none is
+-- the first of the servers that are not in time, or that there is none
 abbrev pub first_text : ℕ → List ServerReport → List ℕ
 first_text jobs [] = codes "in time: no job late, none refused, of " ++ decimal jobs
 first_text jobs (s ∷ others) = server_text s (length others)
 
--- the verdict: all jobs are in time, or the first server that has one late or refused
+-- the verdict: all jobs are in time, or the first server with a job that is late or was refused
 unfoldable pub verdict_text : List ServerReport → List ℕ
 verdict_text servers = first_text (sum_of released servers) (not_in_time servers) ++ codes "\n"

@@ -7,7 +7,7 @@ use cbs_text::Cell;
 use std::alloc::{AllocError, Global};
 use std::fmt::Display;
 
-/// Adds a cell that shows something to a row, and marks it if it is to be looked at.
+/// Adds a cell that shows something to a row. The cell is marked if `marked` is true.
 pub(crate) fn add_marked<D: Display + Drop>(
     alloc: Global,
     row: &mut Vec<Cell>,

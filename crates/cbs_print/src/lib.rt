@@ -1,4 +1,4 @@
-//! What a run came to, as text: a verdict, tables and notes.
+//! The report of a run, as text: a verdict, tables and notes.
 #![tactic(auto)]
 
 mod cells;

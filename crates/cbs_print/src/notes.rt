@@ -1,4 +1,4 @@
-//! What to do about servers that are not in time.
+//! Notes on what to do about servers that are not in time.
 
 ghost use Rattle.std.specs.Prelude.{◌≡◌, ◌++◌, ◌≤◌, ◌^◌, ◌<◌, OnOk, string_bytes};
 ghost use Rattle.cbs_rate.specs.Limits.{longest_period};
@@ -11,7 +11,7 @@ use crate::verdict::count_wrong;
 use std::alloc::AllocError;
 use std::fmt::Write;
 
-/// Appends what a server was asked for, and what it has.
+/// Appends what share of the time a server was asked for, and what share it has.
 fn append_asked(text: &mut String, clock: u64, server: &ServerReport) -> Result<(), AllocError>
     ensures { OnOk result (string_bytes text.new ≡ string_bytes text.old ++ asked_text clock server.now) }
 {
@@ -25,7 +25,7 @@ fn append_asked(text: &mut String, clock: u64, server: &ServerReport) -> Result<
     )
 }
 
-/// Returns the least budget in every period that gives so many ticks up to the clock, if there is one.
+/// Returns the least budget in every period that gives this many ticks up to the clock, or `None` if there is none.
 fn cover_of(ticks: u128, period: u64, clock: u64) -> Option<u128>
     requires ticks { ticks < 2 ^ 65 }
     requires period { period ≤ longest_period }
@@ -39,7 +39,7 @@ fn cover_of(ticks: u128, period: u64, clock: u64) -> Option<u128>
     if budget <= period { Some(budget) } else { None }
 }
 
-/// Appends the budget that covers what was asked for, if there is one.
+/// Appends the budget that covers what was asked for, or that no budget covers it.
 fn append_cover(text: &mut String, cover: Option<u128>, period: u64) -> Result<(), AllocError>
     ensures { OnOk result (string_bytes text.new ≡ string_bytes text.old ++ cover_text cover period) }
 {
@@ -52,7 +52,7 @@ fn append_cover(text: &mut String, cover: Option<u128>, period: u64) -> Result<(
     }
 }
 
-/// Appends what would cover what a server was asked for, or that it has enough.
+/// Appends which budget would cover what a server was asked for, or that the server has enough.
 fn append_remedy(text: &mut String, clock: u64, server: &ServerReport) -> Result<(), AllocError>
     ensures { OnOk result (string_bytes text.new ≡ string_bytes text.old ++ remedy_text clock server.now) }
 {

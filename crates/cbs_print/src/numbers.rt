@@ -1,11 +1,11 @@
-//! Shares and means, as they are printed.
+//! Shares and means, as a report prints them.
 
 ghost use Rattle.std.specs.Prelude.{◌≡◌, ◌/◌, ◌%◌, ◌^◌, ◌<◌};
 ghost use Rattle.cbs_print.specs.Numbers.{percent_tenths, mean_tenths};
 
 use std::fmt;
 
-/// A part of a whole, in per cent with one decimal, a half upward; of no whole there is none.
+/// A part of a whole, in per cent with one decimal, rounded, a half upward. If the whole is 0, it is written as `-`.
 #[derive(Drop)]
 pub(crate) struct Percent {
     part: u128,
@@ -14,7 +14,7 @@ pub(crate) struct Percent {
 }
 
 impl Percent {
-    /// Returns such a part of a whole.
+    /// Returns a part of a whole.
     pub(crate) fn new(part: u128, whole: u64) -> Percent
         requires { part < 2 ^ 80 }
         ensures part { result.part ≡ part }
@@ -23,7 +23,7 @@ impl Percent {
         Percent { part, whole }
     }
 
-    /// Returns the tenths of a per cent, if there is a whole.
+    /// Returns the tenths of a per cent. The whole must not be 0.
     fn tenths(&self) -> u128
         requires { 0 < self.now.whole }
         ensures { result ≡ percent_tenths self.now.part self.now.whole }
@@ -48,7 +48,7 @@ impl fmt::Display for Percent {
     }
 }
 
-/// The mean of numbers, with one decimal, a half upward; of no number there is none.
+/// The mean of numbers, with one decimal, rounded, a half upward. If there is no number, it is written as `-`.
 #[derive(Drop)]
 pub(crate) struct Mean {
     /// The sum of the numbers.
@@ -58,8 +58,8 @@ pub(crate) struct Mean {
 }
 
 impl Mean {
-    /// Returns the whole part and the tenths, if there are numbers. They come from the quotient and its rest, since 20 times the
-    /// sum may not fit.
+    /// Returns the whole part and the tenths of the mean. There must be a number. They are computed from the quotient
+    /// and the remainder, since 20 times the sum may not fit.
     fn parts(&self) -> (u128, u128)
         requires { 0 < self.now.count }
         ensures whole { result.0 ≡ mean_tenths self.now.total self.now.count / 10 }

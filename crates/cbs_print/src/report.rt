@@ -1,4 +1,4 @@
-//! What a report tells.
+//! The content of a report.
 
 ghost use Rattle.std.specs.Prelude.{◌≡◌, ◌^◌, ◌<◌};
 ghost use Rattle.cbs_print.specs.Notes.{wanted};
@@ -10,7 +10,7 @@ use cbs_report::Figures;
 use cbs_rules::Mode;
 use cbs_simulate::Range;
 
-/// What a report tells of one server.
+/// The content of a report on one server.
 #[derive(Drop)]
 pub struct ServerReport {
     /// Its name.
@@ -19,28 +19,29 @@ pub struct ServerReport {
     pub mode: Mode,
     /// Its reservation.
     pub reservation: Reservation,
-    /// Within how many ticks of their coming its jobs are to be finished, if that is wanted: from the least to the greatest.
+    /// Within how many ticks of their arrival the server's jobs are to be finished, if that is wanted: from the least
+    /// number to the greatest.
     pub within: Option<Range>,
     /// Its figures.
     pub figures: Figures,
 }
 
-/// What a report tells.
+/// The content of a report.
 #[derive(Drop)]
 pub struct RunReport {
     /// The name of the file that was run.
     pub file: String,
-    /// The seed of what was drawn, if something is drawn.
+    /// The seed of the numbers that were drawn, if any were.
     pub seed: Option<u64>,
     /// The clock at the end.
     pub clock: u64,
-    /// The ticks in which nobody ran.
+    /// The number of ticks in which nobody ran.
     pub idle: u64,
-    /// How many unfinished jobs a server may have.
+    /// How many accepted, unfinished jobs a server may have.
     pub backlog: u64,
-    /// The bound on the part of the time that may be reserved.
+    /// The bound on the share of the time that may be reserved.
     pub bound: Bound,
-    /// The part of the time that is reserved for all servers together.
+    /// The share of the time that is reserved for all servers together.
     pub reserved: Bandwidth,
     /// The servers, by number: at most 64.
     pub servers: Vec<ServerReport>,
@@ -71,7 +72,7 @@ impl ServerReport {
         u128::from(self.figures.refused) + self.accepted()
     }
 
-    /// Returns the ticks that it was asked for: the units of its jobs, and what was charged for them.
+    /// Returns how many ticks the server was asked for: the units of its jobs, and the ticks that it was charged.
     pub(crate) fn wanted(&self) -> u128
         ensures value { result ≡ wanted self.now }
         ensures small { result < 2 ^ 65 }
@@ -86,7 +87,8 @@ impl ServerReport {
         self.late() == 0 && self.figures.refused == 0
     }
 
-    /// Returns whether it was asked for more than its share of the time, and a job is late or was refused.
+    /// Returns whether the server was asked for more than its share of the time, and a job of it is late or was
+    /// refused.
     pub(crate) fn is_asked_too_much(&self, clock: u64) -> bool
         ensures { result ≡ is_asked_too_much clock self.now }
     {

@@ -11,7 +11,7 @@ use crate::totals::Total;
 use cbs_text::Cell;
 use std::alloc::{AllocError, Global};
 
-/// Adds how many jobs are late, if times are wanted.
+/// Adds a cell with the number of late jobs, or with `-` if no time is wanted.
 fn add_late(alloc: Global, row: &mut Vec<Cell>, server: &ServerReport) -> Result<(), AllocError>
     ensures { OnOk result (row.new.items ≡ row.old.items ++ late_cell server.now.figures server.now.within ∷ []) }
 {
@@ -56,7 +56,7 @@ fn jobs_total(alloc: Global, servers: &[ServerReport]) -> Result<Vec<Cell>, Allo
     Ok(row)
 }
 
-/// Returns the table of jobs: what came of each server's jobs.
+/// Returns the table of jobs: how many jobs of each server came, were refused, are finished, and are late.
 #[tactic(auto, unfolding(crate::specs::Tables::jobs_table))]
 pub(crate) fn jobs_table(alloc: Global, report: &RunReport) -> Result<Vec<Vec<Cell>>, AllocError>
     requires { length report.now.servers.items ≤ 64 }
@@ -130,7 +130,7 @@ fn ticks_total(alloc: Global, report: &RunReport) -> Result<Vec<Cell>, AllocErro
     Ok(row)
 }
 
-/// Returns the table of ticks: what each server has, was asked for, and got.
+/// Returns the table of ticks: what each server has, was asked for, and ran.
 #[tactic(auto, unfolding(crate::specs::Tables::ticks_table))]
 pub(crate) fn ticks_table(alloc: Global, report: &RunReport) -> Result<Vec<Vec<Cell>>, AllocError>
     requires { length report.now.servers.items ≤ 64 }
@@ -157,7 +157,7 @@ pub(crate) fn ticks_table(alloc: Global, report: &RunReport) -> Result<Vec<Vec<C
     Ok(table)
 }
 
-/// Adds the ticks within which jobs are wanted, if they are.
+/// Adds a cell with the ticks within which the jobs are wanted, or with `-` if there are none.
 fn add_within(alloc: Global, row: &mut Vec<Cell>, server: &ServerReport) -> Result<(), AllocError>
     ensures { OnOk result (row.new.items ≡ row.old.items ++ plain (within_text server.now.within) ∷ []) }
 {
@@ -172,7 +172,7 @@ fn add_within(alloc: Global, row: &mut Vec<Cell>, server: &ServerReport) -> Resu
     add(alloc, row, format_args!("{least}..{greatest}"))
 }
 
-/// Adds the cells of response times that there are none of.
+/// Adds the six cells of a server that has no response times.
 fn add_no_ranks(alloc: Global, row: &mut Vec<Cell>) -> Result<(), AllocError>
     ensures { OnOk result (row.new.items ≡ row.old.items ++ replicate 6 (plain (codes "-"))) }
 {
@@ -234,7 +234,7 @@ pub(crate) fn response_table(
     Ok(table)
 }
 
-/// Adds a number, if there is one.
+/// Adds a cell with a number, or with `-` if there is no number.
 fn add_number(alloc: Global, row: &mut Vec<Cell>, number: Option<u128>) -> Result<(), AllocError>
     ensures { OnOk result (row.new.items ≡ row.old.items ++ plain (number_text number) ∷ []) }
 {
@@ -259,7 +259,7 @@ fn early_row(alloc: Global, server: &ServerReport) -> Result<Vec<Cell>, AllocErr
     Ok(row)
 }
 
-/// Returns the table of how much earlier than promised jobs were finished.
+/// Returns the table of how many ticks earlier than promised jobs were finished.
 #[tactic(auto, unfolding(crate::specs::Tables::early_table))]
 pub(crate) fn early_table(
     alloc: Global,

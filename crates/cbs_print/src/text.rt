@@ -14,7 +14,7 @@ use cbs_text::{Cell, append_columns};
 use std::alloc::{AllocError, Global};
 use std::fmt::Write;
 
-/// Appends what of the time was charged, if something was.
+/// Appends how many ticks were charged, if any were.
 fn append_charged(text: &mut String, charged: u128) -> Result<(), AllocError>
     ensures { OnOk result (string_bytes text.new ≡ string_bytes text.old ++ charged_text charged) }
 {
@@ -24,7 +24,7 @@ fn append_charged(text: &mut String, charged: u128) -> Result<(), AllocError>
     write!(text, "{charged} charged, ")
 }
 
-/// Appends what was run, and how the time went.
+/// Appends the summary: the file, and how many ticks were run, charged and idle.
 #[tactic(auto, unfolding(crate::specs::Texts::summary_text))]
 fn append_summary(text: &mut String, report: &RunReport) -> Result<(), AllocError>
     requires { length report.now.servers.items ≤ 64 }
@@ -40,7 +40,7 @@ fn append_summary(text: &mut String, report: &RunReport) -> Result<(), AllocErro
     writeln!(text, "{idle} idle")
 }
 
-/// Appends an empty line, and a table.
+/// Appends an empty line and a table.
 #[tactic(auto, unfolding(crate::specs::Texts::table_text))]
 fn append_table(text: &mut String, table: &[Vec<Cell>]) -> Result<(), AllocError>
     ensures { OnOk result (string_bytes text.new ≡ string_bytes text.old ++ table_text (rows_of table.now)) }
@@ -49,7 +49,7 @@ fn append_table(text: &mut String, table: &[Vec<Cell>]) -> Result<(), AllocError
     append_columns(text, table)
 }
 
-/// Appends the table of charges, if something was charged.
+/// Appends the table of charges, if any tick was charged.
 fn append_charges(alloc: Global, text: &mut String, report: &RunReport) -> Result<(), AllocError>
     requires { length report.now.servers.items ≤ 64 }
     ensures { OnOk result (string_bytes text.new ≡ string_bytes text.old ++ charges_text report.now) }
@@ -72,7 +72,7 @@ fn append_tables(alloc: Global, text: &mut String, report: &RunReport) -> Result
     append_charges(alloc, text, report)
 }
 
-/// Returns a report as text: a verdict, what was run, tables, and what to do about the servers that are not in time. The only
+/// Returns a report as text: a verdict, a summary, tables, and notes on the servers that are not in time. The only
 /// error is out of memory.
 pub fn report_text(alloc: Global, report: &RunReport) -> Result<String, AllocError>
     requires few { length report.now.servers.items ≤ 64 }

@@ -5,24 +5,24 @@ ghost use Rattle.cbs_print.specs.Reports.{figure_of, sum_of};
 
 use crate::report::ServerReport;
 
-/// A figure that is added up of all servers.
+/// A figure that is added up over all servers.
 #[derive(Clone, Copy)]
 pub(crate) enum Total {
     /// The jobs that came.
     Released,
-    /// Those that were refused.
+    /// The jobs that were refused.
     Refused,
-    /// Those that are finished.
+    /// The accepted jobs that are finished.
     Finished,
-    /// The accepted ones that are not.
+    /// The accepted jobs that are not finished.
     Unfinished,
-    /// Those that are late.
+    /// The accepted jobs that are late.
     Late,
     /// The units of all jobs that came.
     Asked,
     /// The units that ran.
     Run,
-    /// Those that used a budget up.
+    /// The units that used up a budget.
     UsedUp,
     /// The ticks in which a server was throttled and had a job.
     Throttled,
@@ -51,7 +51,7 @@ impl Total {
         }
     }
 
-    /// Returns the sum of this figure over servers, at most 64.
+    /// Returns the sum of this figure over at most 64 servers.
     pub(crate) fn of(self, servers: &[ServerReport]) -> u128
         requires { length servers.now ≤ 64 }
         ensures value { result ≡ sum_of (figure_of self) servers.now }

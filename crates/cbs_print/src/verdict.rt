@@ -27,7 +27,7 @@ fn append_refused(text: &mut String, server: &ServerReport) -> Result<(), AllocE
     write!(text, "{refused} of {released} refused")
 }
 
-/// Appends what is wrong of a server.
+/// Appends what is wrong with a server: late jobs, refused jobs, or both.
 fn append_wrong(text: &mut String, server: &ServerReport) -> Result<(), AllocError>
     ensures { OnOk result (string_bytes text.new ≡ string_bytes text.old ++ wrong_text server.now.figures) }
 {
@@ -42,7 +42,7 @@ fn append_wrong(text: &mut String, server: &ServerReport) -> Result<(), AllocErr
     append_refused(text, server)
 }
 
-/// Appends how many servers more there are.
+/// Appends how many more servers there are.
 fn append_others(text: &mut String, count: usize) -> Result<(), AllocError>
     ensures { OnOk result (string_bytes text.new ≡ string_bytes text.old ++ others_text count) }
 {
@@ -53,21 +53,21 @@ fn append_others(text: &mut String, count: usize) -> Result<(), AllocError>
     }
 }
 
-/// Returns the place of the first server that has a job late or refused.
+/// Returns the place of the first server with a job that is late or was refused, or `None` if there is none.
 fn first_wrong(servers: &[ServerReport]) -> Option<usize>
     ensures { result ≡ position is_wrong servers.now }
 {
     servers.iter().position(|server| !server.is_in_time())
 }
 
-/// Returns how many servers have a job late or refused.
+/// Returns how many servers have a job that is late or was refused.
 pub(crate) fn count_wrong(servers: &[ServerReport]) -> usize
     ensures { result ≡ length (not_in_time servers.now) }
 {
     servers.iter().filter(|server| !server.is_in_time()).count()
 }
 
-/// Appends a server that is not in time, with what is wrong of it, and how many servers more there are.
+/// Appends a server that is not in time, with what is wrong with it, and how many more such servers there are.
 fn append_server(text: &mut String, server: &ServerReport, others: usize) -> Result<(), AllocError>
     ensures { OnOk result (string_bytes text.new ≡ string_bytes text.old ++ server_text server.now others) }
 {
@@ -77,7 +77,8 @@ fn append_server(text: &mut String, server: &ServerReport, others: usize) -> Res
     append_others(text, others)
 }
 
-/// Appends the first server that has a job late or refused, and how many more there are, or that there is none.
+/// Appends the first server with a job that is late or was refused, and how many more there are. If there is none,
+/// appends that.
 fn append_first(text: &mut String, servers: &[ServerReport]) -> Result<(), AllocError>
     requires { length servers.now ≤ 64 }
     ensures { OnOk result (string_bytes text.new ≡ string_bytes text.old ++ first_text (sum_of released servers.now) (not_in_time servers.now)) }
@@ -91,7 +92,7 @@ fn append_first(text: &mut String, servers: &[ServerReport]) -> Result<(), Alloc
     }
 }
 
-/// Appends the verdict: that all jobs are in time, or the first server that has one late or refused.
+/// Appends the verdict: that all jobs are in time, or the first server with a job that is late or was refused.
 #[tactic(auto, unfolding(crate::specs::Verdicts::verdict_text))]
 pub(crate) fn append_verdict(text: &mut String, servers: &[ServerReport]) -> Result<(), AllocError>
     requires { length servers.now ≤ 64 }

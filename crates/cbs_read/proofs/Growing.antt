@@ -7,7 +7,7 @@ use Rattle.toml.proofs.Turns.{at_key_ok}
 use Rattle.cbs_read.specs.Reading.{IsPlace, growing}
 
 module _ (key : List ℕ) (root : Nodes) (done : Items) where
-  -- what becomes of the document if a pair goes into its last table
+  -- the document after a pair was put into its last table
   written : (last : Nodes) (o : Option Nodes)
       → option_map (λ r. (r, key ∷ [])) (option_map (λ new. replace key new (insert key (open_array done last) root)) (option_map (open_array done) o))
       ≡ option_map (growing key root done) o

@@ -1,4 +1,4 @@
--- How a result of a reader stands to what the grammar gives.
+-- How the result of a reader relates to what the grammar gives.
 use Rattle.std.specs.Prelude.{◌≡◌, ℕ, ◌<◌, List, [], ◌∷◌, length, Option, Some, None, option_map, Result, MatchResult, IfOk, String, Vec}
 use Rattle.std.specs.Borrow.{Bor}
 use Rattle.std.specs.BTreeMap.{BTreeMap}
@@ -17,15 +17,16 @@ use Rattle.cbs_read.specs.declared.stop.Stop.TheVariants.{NotToml}
 abbrev pub Table : Type 0
 Table = BTreeMap (String Global) Value
 
--- the result is what the grammar gives, seen through f; a refusal says that the grammar refuses, and other stops say nothing
+-- a successful result is what the grammar gives, seen through f. The stop NotToml means that the grammar refuses; other
+-- stops say nothing
 abbrev pub Gives : {A B : Type 0} → (A → B) → Result A Stop → Option B → Type 0
 Gives f r expected = MatchResult r (λ a. expected ≡ Some (f a)) (λ e. e ≡ NotToml → expected ≡ None)
 
--- the same of a value and the text after it
+-- the same for a value and the text after it
 abbrev pub Reads : {A B : Type 0} → (A → B) → Result (A × Bor (List ℕ)) Stop → Read B → Type 0
 Reads f r expected = Gives (λ p. (f p.0, p.1.now)) r expected
 
--- less text is left
+-- after a success, less text is left than before
 abbrev pub Shortens : {A : Type 0} → List ℕ → Result (A × Bor (List ℕ)) Stop → Type 0
 Shortens text r = IfOk r (λ p. length p.1.now < length text)
 
@@ -34,21 +35,24 @@ abbrev pub nodes_of : Members → Nodes
 nodes_of no_members = no_nodes
 nodes_of (member k d ms) = node k (value d) (nodes_of ms)
 
--- where the pairs of a text go: into the nodes that a document has there
+-- the function `at` builds a document from the nodes at one place of it. Defining a pair in that document puts the pair
+-- into those nodes
 abbrev pub IsPlace : (Nodes → Document) → Type 0
 IsPlace at = (ns : Nodes) (key : Key) (d : Data) → define (at ns) (key, key_value d) ≡ option_map at (put key d ns)
 
--- the lines of a text up to some other one are the pairs of a table, which go to a place; or the grammar refuses
+-- the lines of a text, up to some other line, are the pairs of a table, and go to a place; or the grammar refuses
 abbrev pub ReadsPairs : ℕ → (Nodes → Document) → List ℕ → Result (Table × Bor (List ℕ)) Stop → Type 0
 ReadsPairs n at text r = MatchResult r
     (λ p. (m : ℕ) × (length p.1.now < m) × (lines n (at no_nodes) text ≡ lines m (at (nodes_of (table_view p.0))) p.1.now))
     (λ e. e ≡ NotToml → lines n (at no_nodes) text ≡ None)
 
--- the document in which an array of tables grows, at a key of the top table: what is done of it, and its last table
+-- the document while an array of tables grows at a key of the top table. `done` are its complete tables, and `last` is
+-- its last one
 abbrev pub growing : List ℕ → Nodes → Items → Nodes → Document
 growing key root done last = (insert key (open_array done last) root, key ∷ [])
 
--- the lines of a text, after the header of the first table of an array, up to some other one are the tables of the array
+-- after the header of the first table, the lines of a text up to some other line are the tables of the array. Or the
+-- grammar refuses
 abbrev pub ReadsTables : List ℕ → ℕ → Nodes → List ℕ → Result (Vec Value Global × Bor (List ℕ)) Stop → Type 0
 ReadsTables key n root text r = MatchResult r
     (λ p. (m : ℕ) × (length p.1.now < m) × (done : Items) × (last : Nodes)

@@ -1,4 +1,4 @@
-//! TOML values, pairs and arrays of tables, read from the front of a text over the tokens of `toml_parser`.
+//! TOML values, pairs and arrays of tables, read from the start of a text with the tokens of `toml_parser`.
 #![tactic(auto)]
 
 mod lines;

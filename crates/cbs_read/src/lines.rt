@@ -13,14 +13,15 @@ use std::collections::BTreeMap;
 use toml::Table;
 use toml_parser::text::{byte_at, first, skip, skip_blank, skip_ws};
 
-/// Returns whether a line may end here.
+/// Returns whether a line may end at the start of the text.
 pub fn ends_line(s: &str) -> bool
     ensures { result ≡ spec.ends_line s.now }
 {
     s.is_empty() || matches!(first(s), b'#' | b'\n' | b'\r')
 }
 
-/// Returns the table of the pairs at the front of a text, up to its end or the first header, and the text after them.
+/// Returns the table of the pairs at the start of a text, and the text after them. The pairs end at the end of the text
+/// or at the first header.
 pub fn pairs(alloc: Global, s: &str) -> Result<(Table, &str), Stop>
     ensures value { (n : ℕ) (at : Nodes → Document) → IsPlace at → length s.now < n → ReadsPairs n at s.now result }
     ensures within { IfOk result (λ p. length p.1.now ≤ length s.now) }
@@ -42,7 +43,7 @@ pub fn pairs(alloc: Global, s: &str) -> Result<(Table, &str), Stop>
     }
 }
 
-/// Returns the key of the header in double brackets at the front of a text, and the text after it.
+/// Returns the key of the header in double brackets at the start of a text, and the text after the header.
 pub fn array_header(alloc: Global, s: &str) -> Result<(String, &str), Stop>
     ensures value { Reads (λ key. (([], string_bytes key), array_table)) result (spec.line s.now) }
     ensures shorter { Shortens s.now result }

@@ -10,8 +10,8 @@ use std::alloc::Global;
 use toml::Value;
 use toml_parser::text::skip_blank;
 
-/// Returns the tables of an array whose first header was read, up to the end of the text or a header with another key, and the
-/// text after them.
+/// Returns the tables of an array whose first header was read, and the text after them. The tables end at the end of
+/// the text or at a header with another key.
 pub fn tables<'s>(alloc: Global, key: &str, s: &'s str) -> Result<(Vec<Value>, &'s str), Stop>
     ensures value { (n : ℕ) (root : Nodes) → get_node key.now root ≡ None → length s.now < n → ReadsTables key.now n root s.now result }
     ensures within { IfOk result (λ p. length p.1.now ≤ length s.now) }

@@ -1,4 +1,4 @@
-//! The tokens of `toml_parser`, with the stops of this crate.
+//! The tokens of `toml_parser`, with the reasons to stop of this crate.
 ghost use Rattle.std.specs.Prelude.{◌≡◌, true, string_bytes, [], IfOk, IfErr};
 ghost use Rattle.toml.specs.View.{view};
 ghost use Rattle.toml.specs.Parse as spec;
@@ -36,7 +36,7 @@ fn scalar_value(scalar: Scalar) -> Value
     }
 }
 
-/// Returns the string or the scalar at the front of a text, and the text after it.
+/// Returns the string or the scalar at the start of a text, and the text after it.
 pub fn atom(alloc: Global, s: &str) -> Result<(Value, &str), Stop>
     ensures value { Reads view result (spec.atom s.now) }
     ensures shorter { Shortens s.now result }
@@ -54,7 +54,7 @@ pub fn atom(alloc: Global, s: &str) -> Result<(Value, &str), Stop>
     }
 }
 
-/// Returns the key at the front of a text, and the text after the blanks that follow it.
+/// Returns the key at the start of a text, and the text after the blanks that follow the key.
 pub fn dotted(alloc: Global, s: &str) -> Result<(Key, &str), Stop>
     ensures value { Reads key_view result (key s.now) }
     ensures shorter { Shortens s.now result }
@@ -65,7 +65,7 @@ pub fn dotted(alloc: Global, s: &str) -> Result<(Key, &str), Stop>
     }
 }
 
-/// Returns the key at the front of a text, and the text after its `=` and the blanks there.
+/// Returns the key at the start of a text, and the text after the key's `=` and the blanks that follow the `=`.
 pub fn key_equals(alloc: Global, s: &str) -> Result<(Key, &str), Stop>
     ensures value { Reads key_view result (spec.key_equals s.now) }
     ensures shorter { Shortens s.now result }
@@ -81,7 +81,7 @@ pub fn key_equals(alloc: Global, s: &str) -> Result<(Key, &str), Stop>
     }
 }
 
-/// Returns the one part of a key, unless it has dots.
+/// Returns the one part of a key. Refuses a key with dots with [`Stop::Unusual`].
 pub fn simple(key: Key) -> Result<String, Stop>
     ensures key { IfOk result (λ last. key_view key ≡ ([], string_bytes last)) }
     ensures unusual { IfErr result (λ e. e ≡ Unusual) }

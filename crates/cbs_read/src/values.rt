@@ -15,8 +15,8 @@ use toml::{Table, Value};
 use toml_parser::Key;
 use toml_parser::text::{first, skip, skip_blank};
 
-/// Returns the value at the front of a text, with arrays and inline tables at most `depth` deep and no key with dots, and the text
-/// after it.
+/// Returns the value at the start of a text, and the text after it. Arrays and inline tables may be at most `depth`
+/// deep, and no key may have dots.
 #[cycle(value)]
 pub fn value(alloc: Global, s: &str, depth: usize) -> Result<(Value, &str), Stop>
     ensures value { Reads view result (spec.val depth s.now) }
@@ -38,7 +38,7 @@ pub fn value(alloc: Global, s: &str, depth: usize) -> Result<(Value, &str), Stop
     }
 }
 
-/// Returns the items of an array whose bracket was read, and the text after it.
+/// Returns the items of an array whose opening bracket was read, and the text after the array.
 #[cycle(value)]
 fn array(alloc: Global, s: &str, depth: usize) -> Result<(Vec<Value>, &str), Stop>
     ensures value { (n : ℕ) → length s.now < n → Reads array_view result (spec.items (spec.val depth) n no_items s.now) }
@@ -59,7 +59,7 @@ fn array(alloc: Global, s: &str, depth: usize) -> Result<(Vec<Value>, &str), Sto
     }
 }
 
-/// Returns the members of an inline table whose brace was read, and the text after it.
+/// Returns the members of an inline table whose opening brace was read, and the text after the table.
 #[cycle(value)]
 fn inline_table(alloc: Global, s: &str, depth: usize) -> Result<(Table, &str), Stop>
     ensures value { (n : ℕ) → length s.now < n → Reads table_view result (spec.members (spec.val depth) n no_nodes s.now) }
@@ -79,7 +79,7 @@ fn inline_table(alloc: Global, s: &str, depth: usize) -> Result<(Table, &str), S
     }
 }
 
-/// Adds a pair to a table. Refuses a key that the table has.
+/// Adds a pair to a table. Refuses a key with dots, and a key that the table already has.
 pub fn put(table: &mut Table, key: Key, value: Value) -> Result<(), Stop>
     ensures { Gives (λ _. nodes_of (table_view table.new)) result (put (key_view key) (view value) (nodes_of (table_view table.old))) }
 {
@@ -93,7 +93,8 @@ pub fn put(table: &mut Table, key: Key, value: Value) -> Result<(), Stop>
     }
 }
 
-/// Returns the text after the comma that follows an element, or at the bracket that closes its array or table.
+/// Returns the text after the comma that follows an element. If the closing bracket follows, returns the text from that
+/// bracket on.
 pub fn after_element(s: &str, closing: u8) -> Result<&str, Stop>
     ensures value { Gives (λ rest. rest.now) result (spec.after_element closing s.now) }
     ensures within { IfOk result (λ rest. length rest.now ≤ length s.now) }

@@ -28,7 +28,7 @@ none_below n (m ∷ ns) all =
     let rest = none_below n ns (λ i d lt. all (suc i) d (omega arith)) in
     grind (arith, nat_tests)
 
--- as many numbers as stand up to a place are at most the number there
+-- at least as many numbers as stand up to a place are at most the number there
 enough : (ns : List ℕ) (i d : ℕ) → IsNonDecreasing ns → i < length ns → suc i ≤ at_most (slice_index_or ns i d) ns
 enough [] i d rising lt = absurd (omega arith)
 enough (n ∷ ns) zero d rising lt = grind (arith, nat_tests)
@@ -37,7 +37,7 @@ enough (n ∷ ns) (suc i) d rising lt =
     let le = rising_head n ns rising i d (omega arith) in
     grind (arith, nat_tests)
 
--- .. and no more are less than it than stand before it
+-- no more numbers are less than it than stand before it
 few : (ns : List ℕ) (i d : ℕ) → IsNonDecreasing ns → i < length ns → below (slice_index_or ns i d) ns ≤ i
 few [] i d rising lt = absurd (omega arith)
 few (n ∷ ns) zero d rising lt = let h = none_below n ns (rising_head n ns rising) in grind (arith, nat_tests)
@@ -75,7 +75,7 @@ below_sum : (n : ℕ) (ns : List ℕ) → below n ns ≡ sum_by (λ m. if ltb m 
 below_sum n [] = refl
 below_sum n (m ∷ ns) = let h = below_sum n ns in let c = sum_by-cons (λ (k : ℕ). if ltb k n then 1 else 0) m ns in omega arith
 
--- so percentiles are the same in any order
+-- percentiles are the same in any order
 same_percentile : (percent n : ℕ) (ns ms : List ℕ) → IsPermutation ns ms → IsPercentile percent ms n → IsPercentile percent ns n
 same_percentile percent n ns ms perm p =
     let count = length_permutation ns ms perm in
@@ -97,7 +97,7 @@ least_first (m ∷ ms) n rising some is = rw is (record {
   least = λ i d lt. rising 0 i d (omega arith) lt;
 })
 
--- the ranks of numbers that were put into order
+-- the ranks of numbers that were sorted
 pub same_ranks : (ns ms : List ℕ) (r : Ranks) → IsPermutation ns ms → AreRanks ms r → AreRanks ns r
 same_ranks ns ms r perm h =
     let back = IsPermutation-sym ns ms perm in
@@ -112,7 +112,7 @@ same_ranks ns ms r perm h =
       greatest = same_percentile 100 r.greatest ns ms perm h.greatest;
     }
 
--- .. and if there are none
+-- the same if there are no numbers
 pub same_matches : (ns ms : List ℕ) (o : Option Ranks) → IsPermutation ns ms → MatchOption o (ms ≡ []) (AreRanks ms) → MatchOption o (ns ≡ []) (AreRanks ns)
 same_matches ns ms None perm none = length_nil ns (let e = length_permutation ns ms perm in let f = ap length none in omega arith)
 same_matches ns ms (Some r) perm h = same_ranks ns ms r perm h

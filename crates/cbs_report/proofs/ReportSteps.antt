@@ -98,7 +98,7 @@ passed_kept (event.NotClosed s error) r = refl
 passed_kept (event.Charged s n) r = refl
 passed_kept (event.NotCharged s n error) r = refl
 
--- it is added to the ticks in which nobody ran
+-- these ticks are added to those in which nobody ran
 passed_idle : (e : Event) (r : Reported) (n : ℕ) → r.idle ≡ told n → (passed e r).idle ≡ told (ticks_idle e + n)
 passed_idle (event.Advanced m) r n h = omega arith
 passed_idle (event.Accepted job number promised) r n h = omega arith
@@ -137,7 +137,7 @@ adds_at old k o x y lt is step same =
 pub adds_none : (old : List Kept) (k : ℕ) (o : Seen) → length old ≤ k → AddsStep k o old old
 adds_none old k o le = record { here = λ within own was. absurd (omega arith); others = λ t ne. refl; budgets = refl }
 
--- two facts of one answer, together
+-- two facts of one result, together
 pub ok_both : {T E A B C : Type 0} (r : Result T E) → OnOk r A → OnOk r B → (A → B → C) → OnOk r C
 ok_both (Ok x) a b f = f a b
 ok_both (Err e) a b f = tt

@@ -11,7 +11,7 @@ use Rattle.cbs_report.specs.Figures.{told, told_sum, is_used_up, throttled, wait
 use Rattle.cbs_report.specs.Tallies.{sums_of, sums_after, held_of, held_with, wait_of, waited_since}
 use Rattle.cbs_report.specs.declared.sums.Sums.{Sums}
 
--- a sum that is told, and one number more
+-- a sum as a report gives it, with one number more
 pub told_more : (n m : ℕ) → told (told n + m) ≡ told (m + n)
 told_more n m = omega arith
 
@@ -50,16 +50,16 @@ sums_step budget clock (event.NotCharged s n error) v own =
 pub sums_seen : (budget : ℕ) (o : Seen) (own : List Seen) → sums_after budget o.event o.view (sums_of budget own) ≡ sums_of budget (o ∷ own)
 sums_seen budget o own = sums_step budget o.clock o.event o.view own
 
--- how long a server that shows this waits
+-- how long a server with this view waits
 waits : (clock to : ℕ) (v : Option ServerView) → waited_since (wait_of clock v) to ≡ waited v clock to
 waits clock to None = refl
 waits clock to (Some v) = elim (cases_Bool (v.throttled && ltb v.finished v.accepted)) [ inl t ↦ rw t refl | inr f ↦ rw f refl ]
 
--- the ticks that a server was throttled with a job up to a tick, by what is kept of that
+-- the ticks up to a tick in which a server was throttled with a job, from what is kept of them
 pub held_until : (own : List Seen) (to : ℕ) → told ((held_of own).ticks + waited_since (held_of own).wait to) ≡ told (throttled to own)
 held_until [] to = omega arith
 held_until (o ∷ own) to = rw (waits o.clock to o.view) (told_more (throttled (begun o) own) (waited o.view o.clock to))
 
--- .. with one step more
+-- the same with one step more
 pub held_seen : (o : Seen) (own : List Seen) → held_with (begun o) o.clock o.view (held_of own) ≡ held_of (o ∷ own)
 held_seen o own = rw (held_until own (begun o)) refl

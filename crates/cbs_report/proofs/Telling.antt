@@ -23,7 +23,7 @@ tell_count now (x ∷ ks) (y ∷ fs) all = let h = tell_count now ks fs all.1 in
 tell_count now [] (y ∷ fs) all = absurd all
 tell_count now (x ∷ ks) [] all = absurd all
 
--- those at a place are of the tally at that place
+-- the figures at a place are those of the tally at that place
 tell_at : (now : ℕ) (ks : List Kept) (fs : List Figures) (s : ℕ) (f : Figures) → TellAll now ks fs → slice_get fs s ≡ Some f
     → (s < length ks) × Tells now (kept_at ks s) f
 tell_at now [] [] s f all e = absurd cc
@@ -32,7 +32,7 @@ tell_at now (x ∷ ks) (y ∷ fs) (suc s) f all e = let h = tell_at now ks fs s 
 tell_at now [] (y ∷ fs) s f all e = absurd all
 tell_at now (x ∷ ks) [] s f all e = absurd all
 
--- so all figures are those of what was seen
+-- all figures are those of what was seen
 pub all_figures : (first now : Reported) (seen : List Seen) (until : ℕ) (fs : List Figures) → TellAll until now.kept fs → HasSeen first now seen
     → AreAllFigures (budgets first) until seen fs
 all_figures first now seen until fs all was = record {

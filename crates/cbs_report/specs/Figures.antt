@@ -1,4 +1,4 @@
--- The figures of one server: functions of its steps, the newest first.
+-- The figures of one server, as functions of its steps. The steps stand with the newest first.
 use Rattle.std.specs.Prelude.{◌≡◌, ℕ, ◌+◌, ◌-◌, Bool, false, ◌&&◌, ◌||◌, eqb, leb, ltb, min, max, if◌then◌else◌, List, [], ◌∷◌, ◌++◌, length, map, drop, filter, flat_map, Option, Some, None, MatchOption}
 use Rattle.cbs_steps.specs.declared.reply.Ran.TheVariants as ran
 use Rattle.cbs_steps.specs.declared.view.ServerView.{ServerView}
@@ -21,14 +21,14 @@ abbrev pub steps_of : ℕ → List Seen → List Seen
 steps_of s [] = []
 steps_of s (o ∷ seen) = if is_server s (server_of o.event) then o ∷ steps_of s seen else steps_of s seen
 
--- a number as it is told: one that is greater than 2^64 - 1 as that, and a sum that is greater than 2^128 - 1 as that
+-- a count as a report gives it: at most 2^64 - 1; and a sum of ticks: at most 2^128 - 1
 abbrev pub told : ℕ → ℕ
 told n = min n 18446744073709551615
 
 abbrev pub told_sum : ℕ → ℕ
 told_sum n = min n 340282366920938463463374607431768211455
 
--- one, if it is so
+-- 1 if the condition holds, else 0
 abbrev pub one_if : Bool → ℕ
 one_if b = if b then 1 else 0
 
@@ -37,7 +37,7 @@ abbrev pub total : (Seen → ℕ) → List Seen → ℕ
 total f [] = 0
 total f (o ∷ own) = f o + total f own
 
--- the greatest f of a step; 0 of none
+-- the greatest f of a step, or 0 if there is no step
 abbrev pub greatest : (Seen → ℕ) → List Seen → ℕ
 greatest f [] = 0
 greatest f (o ∷ own) = max (greatest f own) (f o)
@@ -58,12 +58,13 @@ abbrev pub units_run : Event → ℕ
 units_run (event.Ran r) = ticks_of_run r
 units_run _ = 0
 
--- the budget of a server is whole, or it waits for that: so it is after a unit that used it up, and after no other
+-- after a unit that used up the budget, and only then, the budget is whole again or the server waits for its
+-- replenishment
 abbrev pub is_used_up : ℕ → Option ServerView → Bool
 is_used_up budget None = false
 is_used_up budget (Some v) = v.throttled || eqb v.budget budget
 
--- the units that used the budget up, by what the server shows after them
+-- the units that used up the budget, by what the server shows after them
 abbrev pub units_exhausting : ℕ → Event → Option ServerView → ℕ
 units_exhausting budget (event.Ran r) view = if is_used_up budget view then ticks_of_run r else 0
 units_exhausting budget _ view = 0
@@ -73,13 +74,14 @@ abbrev pub ticks_charged : Event → ℕ
 ticks_charged (event.Charged s n) = n
 ticks_charged _ = 0
 
--- how many ticks a server that shows this waits from a tick on, throttled and with a job: up to its deadline, but not beyond `to`
+-- how many ticks a server with this view waits from a tick on, throttled and with a job. It waits up to its deadline,
+-- but not beyond `to`
 abbrev pub waited : Option ServerView → ℕ → ℕ → ℕ
 waited None from to = 0
 waited (Some v) from to = if v.throttled && ltb v.finished v.accepted then min v.deadline to - from else 0
 
--- the ticks up to `now` in which the server was throttled and had a job: after each of its steps until its next one begins. Only
--- its own steps and its deadline change what it shows
+-- the ticks up to `now` in which the server was throttled and had a job. They are counted from each of its steps to the
+-- beginning of its next one. Only its own steps and its deadline change what it shows
 abbrev pub throttled : ℕ → List Seen → ℕ
 throttled now [] = 0
 throttled now (o ∷ own) = waited o.view o.clock now + throttled (begun o) own
@@ -94,27 +96,28 @@ waiting_after (event.Accepted job number promised) jobs = jobs ++ accepted_job j
 waiting_after (event.Ran (ran.Done c)) jobs = drop 1 jobs
 waiting_after _ jobs = jobs
 
--- .. and after all steps
+-- the jobs that wait to be finished after all steps
 abbrev pub waiting : List Seen → List AcceptedJob
 waiting [] = []
 waiting (o ∷ own) = waiting_after o.event (waiting own)
 
--- the greatest number of jobs that wait after a step: the greatest backlog
+-- the greatest number of jobs that wait after a step
 abbrev pub greatest_backlog : List Seen → ℕ
 greatest_backlog [] = 0
 greatest_backlog (o ∷ own) = max (greatest_backlog own) (length (waiting (o ∷ own)))
 
--- a finished job, and when it was finished
+-- a finished job, with the tick at which it was finished
 pub record Finish : Type 0 where
   pub job : AcceptedJob
   pub at : ℕ
 
--- the finished jobs after the oldest of those that wait is finished at a tick, if there is one
+-- the finished jobs after the oldest job that waits is finished at a tick, if a job waits
 abbrev pub with_first : ℕ → List AcceptedJob → List Finish → List Finish
 with_first now [] done = done
 with_first now (job ∷ jobs) done = done ++ record { job = job; at = now } ∷ []
 
--- the finished jobs after a step that leaves the clock at `now`: the last unit of a job finishes the oldest of those that waited
+-- the finished jobs after a step that leaves the clock at `now`. The last unit of a job finishes the oldest job that
+-- waited
 abbrev pub finished_after : ℕ → Event → List AcceptedJob → List Finish → List Finish
 finished_after now (event.Ran (ran.Done c)) jobs done = with_first now jobs done
 finished_after now _ jobs done = done
@@ -128,21 +131,21 @@ finished (o ∷ own) = finished_after o.clock o.event (waiting own) (finished ow
 abbrev pub response : Finish → ℕ
 response f = f.at - f.job.came
 
--- .. of each of them
+-- the response time of each finished job
 abbrev pub responses : List Seen → List ℕ
 responses own = map response (finished own)
 
--- so many ticks are more than wanted
+-- a number of ticks is greater than the wanted one
 abbrev pub exceeds : ℕ → Option ℕ → Bool
 exceeds n None = false
 exceeds n (Some w) = ltb w n
 
--- so many ticks are all that was wanted, or more
+-- a number of ticks is at least the wanted one
 abbrev pub uses : ℕ → Option ℕ → Bool
 uses n None = false
 uses n (Some w) = leb w n
 
--- how many finished jobs were finished later than wanted
+-- how many of the finished jobs took more ticks than wanted
 abbrev pub late_among : List Finish → ℕ
 late_among [] = 0
 late_among (f ∷ fs) = one_if (exceeds (response f) f.job.within) + late_among fs
@@ -150,20 +153,20 @@ late_among (f ∷ fs) = one_if (exceeds (response f) f.job.within) + late_among 
 abbrev pub late : List Seen → ℕ
 late own = late_among (finished own)
 
--- a job that waits at `now` is late already
+-- a job that waits at `now` is already late
 abbrev pub is_overdue : ℕ → AcceptedJob → Bool
 is_overdue now job = uses (now - job.came) job.within
 
--- how many of the jobs that wait at `now` are
+-- how many of the jobs that wait at `now` are already late
 abbrev pub overdue : ℕ → List AcceptedJob → ℕ
 overdue now jobs = length (filter (is_overdue now) jobs)
 
--- how much earlier than promised a job was finished, if something was promised
+-- how many ticks earlier than promised a job was finished, if a tick was promised; 0 if it was finished later
 abbrev pub early_by : ℕ → Option ℕ → List ℕ
 early_by at None = []
 early_by at (Some promised) = (promised - at) ∷ []
 
--- .. of each finished job
+-- the same for each finished job
 abbrev pub earliness : List Finish → List ℕ
 earliness fs = flat_map (λ f. early_by f.at f.job.promised) fs
 
@@ -172,7 +175,7 @@ abbrev pub sum_of : List ℕ → ℕ
 sum_of [] = 0
 sum_of (n ∷ ns) = n + sum_of ns
 
--- the lesser of a number and another, if there is another
+-- the lesser of a number and a second one, if there is a second one
 abbrev pub lesser : ℕ → Option ℕ → ℕ
 lesser n None = n
 lesser n (Some m) = min n m
@@ -182,7 +185,7 @@ abbrev pub least_of : List ℕ → Option ℕ
 least_of [] = None
 least_of (n ∷ ns) = Some (lesser n (least_of ns))
 
--- the figures of a server with a budget, of its steps, up to `now`
+-- the figures of a server with this budget, over its steps, up to the tick `now`
 pub record AreFigures (budget now : ℕ) (own : List Seen) (f : Figures) : Type 0 where
   pub refused : f.refused ≡ told (total (λ o. refusals o.event) own)
   pub ended : f.finished ≡ length (finished own)

@@ -7,12 +7,13 @@ abbrev pub at_most : ℕ → List ℕ → ℕ
 at_most n [] = 0
 at_most n (m ∷ ms) = (if leb m n then 1 else 0) + at_most n ms
 
--- how many of them are less than n
+-- how many of the numbers are less than n
 abbrev pub below : ℕ → List ℕ → ℕ
 below n [] = 0
 below n (m ∷ ms) = (if ltb m n then 1 else 0) + below n ms
 
--- n is a percentile of the numbers, by nearest rank: the least of them that so many per cent of them are not greater than
+-- n is a percentile of the numbers, by nearest rank. It is the least of the numbers that at least this many per cent of
+-- them do not exceed
 pub record IsPercentile (percent : ℕ) (numbers : List ℕ) (n : ℕ) : Type 0 where
   pub among : Contains numbers n
   pub reached : percent * length numbers ≤ 100 * at_most n numbers
@@ -23,7 +24,7 @@ pub record IsLeast (numbers : List ℕ) (n : ℕ) : Type 0 where
   pub among : Contains numbers n
   pub least : All (λ m. n ≤ m) numbers
 
--- the least of the numbers, and their 50th, 95th, 99th and 100th percentile
+-- the ranks of the numbers: the least, and the 50th, 95th, 99th and 100th percentile
 pub record AreRanks (numbers : List ℕ) (r : Ranks) : Type 0 where
   pub least : IsLeast numbers r.least
   pub median : IsPercentile 50 numbers r.median

@@ -4,7 +4,7 @@ use Rattle.cbs_views.specs.declared.seen.Seen.{Seen}
 use Rattle.cbs_report.specs.Figures.{AreFigures, steps_of}
 use Rattle.cbs_report.specs.declared.figures.Figures.{Figures}
 
--- the figures of each server with these budgets, by number, of what was seen up to `now`
+-- the figures of each server with these budgets, by number, over what was seen up to the tick `now`
 pub record AreAllFigures (budgets : List ℕ) (now : ℕ) (seen : List Seen) (figures : List Figures) : Type 0 where
   pub count : length figures ≡ length budgets
   pub each : (s : ℕ) (f : Figures) → slice_get figures s ≡ Some f → AreFigures (get_or budgets s 0) now (steps_of s seen) f

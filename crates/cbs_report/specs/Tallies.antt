@@ -1,4 +1,5 @@
--- What a report keeps of the steps of one server, the newest first, and what one step more makes of it. For the code alone.
+-- What a report keeps of the steps of one server, and how one more step changes it. The steps stand with the newest
+-- first. For the code alone.
 use Rattle.std.specs.Prelude.{◌≡◌, ◌≢◌, ℕ, ◌+◌, ◌-◌, ◌<◌, ◌&&◌, ltb, max, min, if◌then◌else◌, List, [], ◌∷◌, ◌++◌, length, drop, get_or, map, slice_get, Option, Some, None}
 use Rattle.cbs_steps.specs.declared.reply.Ran.{Ran}
 use Rattle.cbs_steps.specs.declared.reply.Ran.TheVariants as ran
@@ -16,7 +17,7 @@ use Rattle.cbs_report.specs.declared.held.Wait.{Wait}
 use Rattle.cbs_report.specs.declared.job.AcceptedJob.{AcceptedJob}
 use Rattle.cbs_report.specs.declared.sums.Sums.{Sums}
 
--- what is summed up of steps
+-- the sums over steps
 abbrev pub sums_of : ℕ → List Seen → Sums
 sums_of budget own = record {
   refused = told (total (λ o. refusals o.event) own);
@@ -27,14 +28,14 @@ sums_of budget own = record {
   greatest_charge = greatest (λ o. ticks_charged o.event) own;
 }
 
--- a run more, after which the server shows this
+-- the sums after one more run, after which the server has this view
 abbrev pub sums_with : ℕ → Ran → Option ServerView → Sums → Sums
 sums_with budget r v s = record s {
   run = told (s.run + ticks_of_run r);
   used_up = if is_used_up budget v then told (s.used_up + ticks_of_run r) else s.used_up;
 }
 
--- a step more
+-- the sums after one more step
 abbrev pub sums_after : ℕ → Event → Option ServerView → Sums → Sums
 sums_after budget (event.Accepted job number promised) v s = record s { asked = told (s.asked + job.units) }
 sums_after budget (event.NotAccepted job error) v s = record s { refused = told (s.refused + 1); asked = told (s.asked + job.units) }
@@ -42,30 +43,30 @@ sums_after budget (event.Ran r) v s = sums_with budget r v s
 sums_after budget (event.Charged server n) v s = record s { charged = told (s.charged + n); greatest_charge = max s.greatest_charge n }
 sums_after budget _ v s = s
 
--- whether a server that shows this at a tick waits from there on, throttled and with a job
+-- the wait of a server that has this view at a tick: it is throttled and has a job
 abbrev pub wait_of : ℕ → Option ServerView → Option Wait
 wait_of clock None = None
 wait_of clock (Some v) = if v.throttled && ltb v.finished v.accepted then Some (record { since = clock; deadline = v.deadline }) else None
 
--- how many ticks it waits up to a tick
+-- how many ticks of the wait there are up to a tick
 abbrev pub waited_since : Option Wait → ℕ → ℕ
 waited_since None to = 0
 waited_since (Some w) to = min w.deadline to - w.since
 
--- the ticks in which the server was throttled with a job, up to its last step; and whether it waits after that
+-- the ticks up to its last step in which the server was throttled with a job, and the wait that goes on after that step
 abbrev pub held_of : List Seen → Held
 held_of [] = record { ticks = 0; wait = None }
 held_of (o ∷ own) = record { ticks = told (throttled (begun o) own); wait = wait_of o.clock o.view }
 
--- a step more, that began at a tick and left the clock at another
+-- the same after one more step, which began at one tick and left the clock at another
 abbrev pub held_with : ℕ → ℕ → Option ServerView → Held → Held
 held_with begun clock v h = record { ticks = told (h.ticks + waited_since h.wait begun); wait = wait_of clock v }
 
--- what is summed up of how much earlier than promised jobs were finished
+-- the sums over numbers of ticks by which jobs were finished earlier than promised
 abbrev pub early_of : List ℕ → Early
 early_of ns = record { count = told (length ns); total = told_sum (sum_of ns); least = least_of ns }
 
--- one more
+-- the same after one more finished job
 abbrev pub early_with : Option ℕ → ℕ → Early → Early
 early_with None at e = e
 early_with (Some promised) at e = record {
@@ -74,7 +75,7 @@ early_with (Some promised) at e = record {
   least = Some (lesser (promised - at) e.least);
 }
 
--- what is kept of the jobs: those that wait, the response times of those that were finished, and what is summed up of both
+-- the tally of the jobs: those that wait, the response times of those that were finished, and sums over both
 pub record Jobs : Type 0 where
   pub waiting : List AcceptedJob
   pub responses : List ℕ
@@ -93,11 +94,11 @@ jobs_of own = record {
   early = early_of (earliness (finished own));
 }
 
--- after a job was accepted
+-- the tally after a job was accepted
 abbrev pub jobs_with : AcceptedJob → Jobs → Jobs
 jobs_with job t = record t { waiting = t.waiting ++ job ∷ []; greatest_backlog = max t.greatest_backlog (length (t.waiting ++ job ∷ [])) }
 
--- after the oldest was finished, if there is one
+-- the tally after the oldest job was finished, if there is one
 abbrev pub jobs_without : ℕ → Option AcceptedJob → Jobs → Jobs
 jobs_without now None t = t
 jobs_without now (Some job) t = record t {
@@ -108,13 +109,13 @@ jobs_without now (Some job) t = record t {
   early = early_with job.promised now t.early;
 }
 
--- after a step
+-- the tally after a step
 abbrev pub jobs_after : ℕ → Event → Jobs → Jobs
 jobs_after now (event.Accepted job number promised) t = jobs_with (accepted_job job promised) t
 jobs_after now (event.Ran (ran.Done c)) t = jobs_without now (slice_get t.waiting 0) t
 jobs_after now _ t = t
 
--- all that is kept of one server, of its steps
+-- the tally of one server, over its steps
 pub record Kept : Type 0 where
   pub budget : ℕ
   pub sums : Sums
@@ -124,7 +125,7 @@ pub record Kept : Type 0 where
 abbrev pub kept_of : ℕ → List Seen → Kept
 kept_of budget own = record { budget = budget; sums = sums_of budget own; held = held_of own; jobs = jobs_of own }
 
--- what stands if there is no such server
+-- the tally that stands for a server that does not exist
 abbrev pub no_kept : Kept
 no_kept = kept_of 0 []
 
@@ -132,17 +133,17 @@ no_kept = kept_of 0 []
 abbrev pub kept_at : List Kept → ℕ → Kept
 kept_at kept s = get_or kept s no_kept
 
--- the ticks that a step lets pass with nobody running
+-- the ticks that a step lets pass, in which nobody runs
 abbrev pub ticks_idle : Event → ℕ
 ticks_idle (event.Advanced n) = n
 ticks_idle _ = 0
 
--- what a report keeps: of each server, and the ticks in which nobody ran
+-- what a report keeps: the tally of each server, and the number of ticks in which nobody ran
 pub record Reported : Type 0 where
   pub kept : List Kept
   pub idle : ℕ
 
--- what a step that is of no server makes of it
+-- the report after a step that is of no server
 abbrev pub passed : Event → Reported → Reported
 passed (event.Advanced n) r = record r { idle = told (r.idle + n) }
 passed _ r = r
@@ -151,28 +152,28 @@ passed _ r = r
 abbrev pub budgets : Reported → List ℕ
 budgets r = map (λ k. k.budget) r.kept
 
--- the tallies are those of what was seen, server by server
+-- for each server, the tally is the one of its steps among those that were seen
 abbrev pub AreKept : List Kept → List Seen → Type 0
 AreKept kept seen = (s : ℕ) → s < length kept → kept_at kept s ≡ kept_of (kept_at kept s).budget (steps_of s seen)
 
--- a report kept its servers, and is that of what was seen
+-- the report has the same servers as at first, and agrees with what was seen
 pub record HasSeen (first now : Reported) (seen : List Seen) : Type 0 where
   pub budgets : budgets now ≡ budgets first
   pub kept : AreKept now.kept seen
   pub idle : now.idle ≡ told (total (λ o. ticks_idle o.event) seen)
 
--- the tally of server s became what one step more makes of it, and no others changed
+-- one more step was added to the tally of server s, and no other tally changed
 pub record AddsStep (s : ℕ) (o : Seen) (old new : List Kept) : Type 0 where
   pub here : s < length old → (own : List Seen) → kept_at old s ≡ kept_of (kept_at old s).budget own
       → kept_at new s ≡ kept_of (kept_at old s).budget (o ∷ own)
   pub others : (t : ℕ) → t ≢ s → kept_at new t ≡ kept_at old t
   pub budgets : map (λ k. k.budget) new ≡ map (λ k. k.budget) old
 
--- these are the figures of that tally up to `now`, of whatever steps it is
+-- these are the figures of the tally up to the tick `now`, for all steps that the tally may be of
 abbrev pub Tells : ℕ → Kept → Figures → Type 0
 Tells now k f = (own : List Seen) → k ≡ kept_of k.budget own → AreFigures k.budget now own f
 
--- so it is of each tally and its figures
+-- the same for each tally and its figures
 abbrev pub TellAll : ℕ → List Kept → List Figures → Type 0
 TellAll now [] [] = Unit {0}
 TellAll now (k ∷ ks) (f ∷ fs) = Tells now k f × TellAll now ks fs

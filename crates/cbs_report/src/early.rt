@@ -1,21 +1,21 @@
-//! How much earlier than promised jobs are finished.
+//! Sums of how many ticks earlier than promised jobs are finished.
 
 ghost use Rattle.std.specs.Prelude.{◌≡◌, []};
 ghost use Rattle.cbs_report.specs.Tallies.{early_of, early_with};
 
-/// What is summed up of how much earlier than promised jobs were finished.
+/// Sums over finished jobs: how many ticks earlier than promised they were finished.
 #[derive(Clone, Copy, Debug, PartialEq, Eq)]
 pub struct Early {
-    /// How many were, of those to which something was promised.
+    /// How many jobs were finished that had been promised a tick.
     pub count: u64,
-    /// Their ticks added up.
+    /// The ticks by which these jobs were earlier, added up.
     pub total: u128,
-    /// The least of them.
+    /// The least of these numbers of ticks, if there is a job.
     pub least: Option<u128>,
 }
 
 impl Early {
-    /// Returns what is summed up of no job.
+    /// Returns the sums over no job.
     pub fn new() -> Early
         ensures { result ≡ early_of [] }
     {
@@ -26,7 +26,8 @@ impl Early {
         }
     }
 
-    /// Adds a job that was finished at a tick, if something was promised to it.
+    /// Adds a job that was finished at the tick `at`, if a tick was promised to it. A job that was finished later than
+    /// promised counts as 0 ticks earlier.
     #[inline]
     pub fn add(&mut self, promised: Option<u128>, at: u64)
         ensures { self.new ≡ early_with promised at self.old }

@@ -1,4 +1,4 @@
-//! How long a server is throttled and has a job.
+//! The ticks in which a server is throttled and has a job.
 
 ghost use Rattle.std.specs.Prelude.{◌≡◌, ◌+◌, []};
 ghost use Rattle.cbs_report.specs.Figures.{told};
@@ -9,22 +9,22 @@ use cbs_steps::ServerView;
 /// A throttled server with a job.
 #[derive(Clone, Copy, Debug, PartialEq, Eq)]
 pub struct Wait {
-    /// The clock after its last step.
+    /// The clock after the server's last step.
     pub since: u64,
-    /// The tick at which it is replenished.
+    /// The tick at which the server is replenished.
     pub deadline: u128,
 }
 
 /// The ticks in which a server was throttled and had a job.
 #[derive(Clone, Copy, Debug, PartialEq, Eq)]
 pub struct Held {
-    /// Those up to its last step.
+    /// The ticks up to the server's last step.
     pub ticks: u64,
-    /// Whether it waits after that.
+    /// The wait that goes on after that step, if the server waits.
     pub wait: Option<Wait>,
 }
 
-/// Returns whether a server that shows this at a tick waits from there on.
+/// Returns the wait of a server that shows this view at a tick, or `None` if the server does not wait.
 fn wait_of(clock: u64, view: Option<ServerView>) -> Option<Wait>
     ensures { result ≡ wait_of clock view }
 {
@@ -39,7 +39,7 @@ fn wait_of(clock: u64, view: Option<ServerView>) -> Option<Wait>
 }
 
 impl Held {
-    /// Returns that of a server with no step.
+    /// Returns the ticks of a server with no step: none.
     pub fn new() -> Held
         ensures { result ≡ held_of [] }
     {
@@ -49,7 +49,7 @@ impl Held {
         }
     }
 
-    /// Returns the ticks up to `now`.
+    /// Returns the ticks up to the tick `now`.
     pub fn until(&self, now: u64) -> u64
         ensures { result ≡ told (self.now.ticks + waited_since self.now.wait now) }
     {
@@ -60,14 +60,15 @@ impl Held {
         self.ticks.saturating_add(end.saturating_sub(wait.since))
     }
 
-    /// Adds the ticks up to a step that began at a tick, and after which the server shows this.
+    /// Adds the ticks up to a step that began at the tick `begun` and left the clock at `clock`. After the step the
+    /// server shows this view.
     #[inline(always)]
     pub fn add(&mut self, begun: u64, clock: u64, view: Option<ServerView>)
         ensures { self.new ≡ held_with begun clock view self.old }
     {
         self.ticks = self.until(begun);
         let wait = wait_of(clock, view);
-        // Most steps are of a server that did not wait and does not wait after them: it is left as it is.
+        // At most steps the server waits neither before nor after: nothing changes then.
         if self.wait.is_some() || wait.is_some() {
             self.wait = wait;
         }

@@ -1,20 +1,20 @@
-//! Jobs that wait.
+//! Jobs that wait to be finished.
 
 ghost use Rattle.std.specs.Prelude.{◌≡◌, ◌-◌};
 
 /// An accepted job.
 #[derive(Clone, Copy, Debug, PartialEq, Eq)]
 pub struct AcceptedJob {
-    /// The tick at which it came.
+    /// The tick at which the job came.
     pub came: u64,
-    /// Within how many ticks of its coming it is to be finished, if that is wanted.
+    /// Within how many ticks of its arrival the job is to be finished, if that is wanted.
     pub within: Option<u64>,
-    /// By when it was promised to be finished, if something was promised.
+    /// The tick by which the job was promised to be finished, if one was promised.
     pub promised: Option<u128>,
 }
 
 impl AcceptedJob {
-    /// Returns how many ticks after its coming the clock is at `now`.
+    /// Returns how many ticks after the job's arrival the tick `now` is.
     pub fn age(&self, now: u64) -> u64
         ensures { result ≡ now - self.now.came }
     {

@@ -43,7 +43,7 @@ impl<A: Allocator> Model for JobTally<A> {
     } };
 }
 
-/// Returns whether so many ticks are more than wanted.
+/// Returns whether a number of ticks is greater than the wanted one. Without a wanted number, returns `false`.
 fn exceeds(ticks: u64, within: Option<u64>) -> bool
     ensures { result ≡ exceeds ticks within }
 {
@@ -53,7 +53,7 @@ fn exceeds(ticks: u64, within: Option<u64>) -> bool
     }
 }
 
-/// Returns whether so many ticks are all that was wanted, or more.
+/// Returns whether a number of ticks is at least the wanted one. Without a wanted number, returns `false`.
 fn uses(ticks: u64, within: Option<u64>) -> bool
     ensures { result ≡ uses ticks within }
 {
@@ -81,7 +81,7 @@ impl<A: Allocator + Clone> JobTally<A> {
 }
 
 impl<A: Allocator> JobTally<A> {
-    /// Adds a job that was accepted.
+    /// Adds a job that was accepted. Refuses if out of memory.
     #[inline(always)]
     fn accept(&mut self, job: AcceptedJob) -> Result<(), AllocError>
         ensures { OnOk result (self.new ≡ jobs_with job self.old) }
@@ -91,7 +91,8 @@ impl<A: Allocator> JobTally<A> {
         Ok(())
     }
 
-    /// Takes the oldest job, which was finished at a tick, from those that wait.
+    /// Removes the oldest job that waits, which was finished at the tick `now`, and adds its response time. Refuses if
+    /// out of memory.
     #[inline(always)]
     fn finish(&mut self, now: u64) -> Result<(), AllocError>
         ensures { OnOk result (self.new ≡ jobs_without now (slice_get self.old.waiting 0) self.old) }
@@ -109,7 +110,7 @@ impl<A: Allocator> JobTally<A> {
         Ok(())
     }
 
-    /// Adds a step, after which the clock is at `now`.
+    /// Adds a step, after which the clock is at `now`. Refuses if out of memory.
     #[inline(always)]
     pub fn add(&mut self, now: u64, event: Event) -> Result<(), AllocError>
         ensures { OnOk result (self.new ≡ jobs_after now event self.old) }
@@ -125,7 +126,7 @@ impl<A: Allocator> JobTally<A> {
         }
     }
 
-    /// Returns how many of the jobs that wait at `now` are late already.
+    /// Returns how many of the waiting jobs are late at the tick `now`.
     fn overdue(&self, now: u64) -> u64
         ensures { result ≡ overdue now self.now.waiting }
     {
@@ -136,8 +137,8 @@ impl<A: Allocator> JobTally<A> {
         late.count() as u64
     }
 
-    /// Returns the figures up to `now`, with these sums and so many ticks in which the server was throttled and had a job. The
-    /// response times are put into order.
+    /// Returns the figures up to the tick `now`, with these sums and this many ticks in which the server was throttled
+    /// and had a job. Sorts the response times.
     pub fn figures(&mut self, now: u64, sums: &Sums, held: u64) -> Figures
         ensures { (budget : ℕ) (own : List Seen) → self.old ≡ jobs_of own → sums.now ≡ sums_of budget own
             → held ≡ told (throttled now own) → AreFigures budget now own result }

@@ -1,4 +1,5 @@
-//! The figures of a run: what each server was asked for and got, how long its jobs took, and how much of that was late.
+//! The figures of a run: what each server was asked for and ran, how long its jobs took, and how many of them were
+//! late.
 #![tactic(auto)]
 
 mod early;

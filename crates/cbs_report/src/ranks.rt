@@ -1,4 +1,4 @@
-//! Ranks among numbers.
+//! Ranks of numbers.
 
 ghost use Rattle.std.specs.Prelude.{◌≡◌, ◌≤◌, ◌<◌, [], length, IsPermutation, MatchOption};
 ghost use Rattle.std.specs.List.Sorted.{IsNonDecreasing};
@@ -7,7 +7,7 @@ ghost use Rattle.cbs_report.specs.Percentiles.{IsPercentile, AreRanks};
 use crate::figures::Ranks;
 use std::alloc::Allocator;
 
-/// Returns a percentile of numbers in ascending order, by nearest rank.
+/// Returns a percentile of numbers that stand in ascending order, by nearest rank.
 fn percentile(sorted: &[u64], percent: u8) -> u64
     requires order { IsNonDecreasing sorted.now }
     requires numbers { 0 < length sorted.now }
@@ -19,7 +19,8 @@ fn percentile(sorted: &[u64], percent: u8) -> u64
     sorted[rank - 1]
 }
 
-/// Returns the least of numbers in ascending order and their percentiles, or `None` if there are none.
+/// Returns the least of numbers that stand in ascending order, with their percentiles. Returns `None` if there are no
+/// numbers.
 fn ranks_in(sorted: &[u64]) -> Option<Ranks>
     requires { IsNonDecreasing sorted.now }
     ensures { MatchOption result (sorted.now ≡ []) (AreRanks sorted.now) }
@@ -34,8 +35,8 @@ fn ranks_in(sorted: &[u64]) -> Option<Ranks>
     })
 }
 
-/// Returns the least of the numbers and their percentiles, or `None` if there are none. The numbers are put into ascending
-/// order.
+/// Returns the least of the numbers, with their percentiles. Returns `None` if there are no numbers. Sorts the numbers
+/// in ascending order.
 pub fn ranks_of<A: Allocator>(numbers: &mut Vec<u64, A>) -> Option<Ranks>
     ensures ranks { MatchOption result (numbers.old.items ≡ []) (AreRanks numbers.old.items) }
     ensures same { IsPermutation numbers.old.items numbers.new.items }

@@ -13,7 +13,7 @@ use cbs_views::{Event, Seen, View};
 use std::alloc::{AllocError, Allocator, Global};
 use std::marker::Model;
 
-/// The figures of the servers of a plan, of the steps that it saw.
+/// The figures of the servers of a plan, over the steps that it saw.
 ///
 /// It keeps a number for each finished job, a job for each unfinished one, and sums.
 #[derive(Drop)]
@@ -44,7 +44,8 @@ impl<A: Allocator + Clone> Report<A> {
         Ok(Report { tallies, idle: 0 })
     }
 
-    /// Returns the figures of each server up to `now`, by number.
+    /// Returns the figures of each server up to the tick `now`, by the server's number. The only error is out of
+    /// memory.
     pub fn figures(self, alloc: A, now: u64) -> Result<Vec<Figures, A>, AllocError>
         ensures { IfOk result (λ figures. (first : Reported) (seen : List Seen) → HasSeen first self seen
             → AreAllFigures (budgets first) now seen figures.items) }
@@ -58,14 +59,14 @@ impl<A: Allocator + Clone> Report<A> {
 }
 
 impl<A: Allocator> Report<A> {
-    /// Returns the ticks in which nobody ran, or 2^64 - 1 if they would be more.
+    /// Returns in how many ticks nobody ran, or 2^64 - 1 if there were more.
     pub fn idle(&self) -> u64
         ensures { (first : Reported) (seen : List Seen) → HasSeen first self.now seen → result ≡ told (total (λ o. ticks_idle o.event) seen) }
     {
         self.idle
     }
 
-    /// Adds a step of a server, if there is such a server.
+    /// Adds a step of the server with this number, if there is such a server. Refuses if out of memory.
     #[inline(always)]
     fn add(&mut self, server: u16, seen: Seen) -> Result<(), AllocError>
         ensures adds { OnOk result (AddsStep server seen self.old.kept self.new.kept) }
@@ -78,7 +79,7 @@ impl<A: Allocator> Report<A> {
         self.tallies[index].add(seen)
     }
 
-    /// Adds the ticks of a step in which nobody ran.
+    /// Adds the ticks of a step, if nobody ran in them.
     #[inline(always)]
     fn pass(&mut self, event: Event)
         ensures { self.new ≡ passed event self.old }

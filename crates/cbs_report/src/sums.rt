@@ -8,7 +8,7 @@ ghost use Rattle.cbs_report.specs.Tallies.{sums_of, sums_with, sums_after};
 use cbs_steps::{Ran, ServerView};
 use cbs_views::Event;
 
-/// What is summed up of the steps of one server.
+/// Sums over the steps of one server.
 #[derive(Clone, Copy, Debug, PartialEq, Eq)]
 pub struct Sums {
     /// The jobs that were refused.
@@ -17,11 +17,11 @@ pub struct Sums {
     pub asked: u64,
     /// The units that ran.
     pub run: u64,
-    /// The units that used the budget up.
+    /// The units that used up the budget.
     pub used_up: u64,
-    /// The ticks that it was charged.
+    /// The ticks that the server was charged.
     pub charged: u64,
-    /// The greatest charge.
+    /// The greatest charge, in ticks.
     pub greatest_charge: u64,
 }
 
@@ -35,7 +35,7 @@ fn units_of(ran: Ran) -> u64
     }
 }
 
-/// Returns whether a server that shows this after a unit has used its budget up.
+/// Returns whether a server that shows this view after a unit has used up its budget.
 fn is_used_up(budget: u64, view: Option<ServerView>) -> bool
     ensures { result ≡ is_used_up budget view }
 {
@@ -60,7 +60,7 @@ impl Sums {
         }
     }
 
-    /// Adds a unit, if one ran, by what the server shows after it.
+    /// Adds a unit, if the run had one, by the server's view after it.
     #[inline(always)]
     fn add_run(&mut self, budget: u64, ran: Ran, view: Option<ServerView>)
         ensures { self.new ≡ sums_with budget ran view self.old }
@@ -72,7 +72,7 @@ impl Sums {
         }
     }
 
-    /// Adds a step, by what the server shows after it.
+    /// Adds a step, by the server's view after it.
     #[inline(always)]
     pub fn add(&mut self, budget: u64, event: Event, view: Option<ServerView>)
         ensures { self.new ≡ sums_after budget event view self.old }

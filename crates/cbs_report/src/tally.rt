@@ -1,4 +1,4 @@
-//! What a report keeps of one server.
+//! The tally of one server, as a report keeps it.
 
 ghost use Rattle.std.specs.Prelude.{◌≡◌, ℕ, List, [], ◌∷◌, IfOk, OnOk};
 ghost use Rattle.cbs_views.specs.declared.seen.Seen.{Seen};
@@ -13,7 +13,7 @@ use cbs_views::Seen;
 use std::alloc::{AllocError, Allocator, Global};
 use std::marker::Model;
 
-/// What is kept of one server.
+/// The tally of one server: its sums, its throttled ticks and its jobs.
 #[derive(Drop)]
 pub struct Tally<A: Allocator = Global> {
     budget: u64,
@@ -46,7 +46,7 @@ impl<A: Allocator + Clone> Tally<A> {
 }
 
 impl<A: Allocator> Tally<A> {
-    /// Adds a step of the server.
+    /// Adds a step of the server. Refuses if out of memory.
     #[inline(always)]
     pub fn add(&mut self, seen: Seen) -> Result<(), AllocError>
         ensures adds { OnOk result ((own : List Seen) → self.old ≡ kept_of self.old.budget own → self.new ≡ kept_of self.old.budget (seen ∷ own)) }
@@ -57,7 +57,7 @@ impl<A: Allocator> Tally<A> {
         self.jobs.add(seen.clock, seen.event)
     }
 
-    /// Returns the figures up to `now`. The response times are put into order.
+    /// Returns the figures up to the tick `now`. Sorts the response times.
     pub fn figures(&mut self, now: u64) -> Figures
         ensures { (own : List Seen) → self.old ≡ kept_of self.old.budget own → AreFigures self.old.budget now own result }
     {

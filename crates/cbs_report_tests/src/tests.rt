@@ -1,4 +1,4 @@
-//! Whole texts of runs.
+//! Whole texts of reports.
 
 use cbs_report::{Figures, Ranks};
 

@@ -22,7 +22,7 @@ use Rattle.cbs_run.specs.declared.pictures.Undrawn.TheVariants.{Unread, Ended, S
 pub same_file : (bytes : List ℕ) (f h : File) → file bytes ≡ Ok f → file bytes ≡ Ok h → clock_of_tasks f ≡ clock_of_tasks h
 same_file bytes f h p q = let same : f ≡ h = cc in ap clock_of_tasks same
 
--- a text that is printed is of whatever all such texts are
+-- a text that is printed has every property that all such texts have
 pub stops_as : (is is' : List ℕ → Type 0) → ((t : List ℕ) → is t → is' t) → (error : RunError) (old new : Writer)
     → StopsPrinting is IsUntouched error old new → StopsPrinting is' IsUntouched error old new
 stops_as is is' f OutOfMemory old new h = h
@@ -30,7 +30,7 @@ stops_as is is' f WriteFault old new h = (h.0, f h.0 h.1, h.2)
 stops_as is is' f ClockEnd old new h = h
 stops_as is is' f Stalled old new h = h
 
--- .. whether it was printed whole or not
+-- the same, whether the text was printed whole or not
 pub prints_as : (is is' : List ℕ → Type 0) → ((t : List ℕ) → is t → is' t) → (r : Result (Unit {0}) RunError) (old new : Writer)
     → Prints is r old new → Prints is' r old new
 prints_as is is' f (Ok x) old new h = (h.0, f h.0 h.1, h.2)
@@ -43,7 +43,7 @@ prints_drawing drawing is p here r old new h = prints_as (IsDrawn drawing p) (Is
 
 module _ {F : Type 0} (read : List ℕ → Result F FileFault) (is : F → List ℕ → Type 0) (ends : F → ℕ) (asked : Window) (bytes : List ℕ)
     (out out' err err' : Writer) where
-  -- why nothing is drawn ends a command so
+  -- the reason why nothing is drawn ends a command so
   pub ends_undrawn : (u : Undrawn) (status : ℕ) → Draws read is ends asked bytes (Err u) out out' → TellsUndrawn u err err' status
       → EndsDrawing read is ends asked bytes out out' err err' status
   ends_undrawn (Unread fault) status d t = rw t.0 (printed 3 (refused fault d.0 d.1 t.1))
@@ -54,7 +54,7 @@ module _ {F : Type 0} (read : List ℕ → Result F FileFault) (is : F → List 
       rw t.0 (nothing_shown d.0 d.1 d.2.0 d.3 told)
   ends_undrawn (Stopped error) status d t = rw t.0 (printed 4 (stopped d.0 error d.1 d.2 t.1))
 
-  -- .. and so if the bytes want more memory than they may
+  -- the same if the bytes need more memory than they may
   pub lacks_undrawn : (u : Undrawn) (status : ℕ) → u ≡ Unread no_memory → Draws read is ends asked bytes (Err u) out out' → TellsUndrawn u err err' status
       → LacksMemory out out' err err' status
   lacks_undrawn u status e d t =

@@ -27,13 +27,13 @@ use Rattle.cbs_run.specs.ServingStops.{HouseStops}
 use Rattle.cbs_lines.specs.StepTexts.{start_of}
 
 module _ {X Y : Type 0} where
-  -- what is the same at each is the same of all
+  -- what is the same for each element is the same for all
   map_all : (f k : X → Y) (xs : List X) → All (λ x. f x ≡ k x) xs → map f xs ≡ map k xs
   map_all f k [] h = refl
   map_all f k (x ∷ xs) h = ap₂ ◌∷◌ (All-head (λ x. f x ≡ k x) x xs h) (map_all f k xs (All-tail (λ x. f x ≡ k x) x xs h))
 
 module _ {W A : Type 0} {g : Ghosts W} where
-  -- where nothing was handed out, the results of the servers are those of the lists of jobs
+  -- if nothing was handed out, the results of the servers are those of the lists of jobs
   pub results_are : (work : Meaning W) (h : House W A g) (ring n : ℕ) (fs fs' : List (Feed W A g)) (jobs : List (List W))
       → All (λ f. IsUnused ring (client_of f)) fs
       → map (λ f. server_of (client_of f)) fs ≡ range_with_len 0 n → map unsent_jobs fs ≡ jobs → KeepsFeeds fs fs' → ((s : ℕ) → handed_of h s ≡ 0)

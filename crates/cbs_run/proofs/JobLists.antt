@@ -10,7 +10,7 @@ use Rattle.cbs_steps.specs.declared.step.Step.{Step}
 use Rattle.cbs_steps.specs.declared.step.Step.TheVariants.{Submit}
 use Rattle.cbs_run.specs.ResultLines.{job_for, jobs_for}
 
--- so many lists, of which none has a job yet
+-- this many lists, none of which has a job yet
 pub none_listed : (lists : List (List FileJob)) (n : ℕ) → lists ≡ replicate n [] → (length lists ≡ n) × ((s : ℕ) → get_or lists s [] ≡ [])
 none_listed lists n is =
     let count : length lists ≡ n = ap length is ∙ length-replicate {A = List FileJob} n [] in (
@@ -21,7 +21,7 @@ none_listed lists n is =
       ],
     )
 
--- a submit puts its job at the end of its server's list, and leaves the other lists
+-- a submit puts its job at the end of its server's list, and does not change the other lists
 submit_listed : (lists : List (List FileJob)) (server s : ℕ) (job : FileJob) → server < length lists
     → get_or (set lists server (get_or lists server [] ++ job ∷ [])) s [] ≡ get_or lists s [] ++ jobs_for s (Submit server job ∷ [])
 submit_listed lists server s job lt = elim (eqb_tells server s) [
@@ -30,7 +30,7 @@ submit_listed lists server s job lt = elim (eqb_tells server s) [
 ]
 
 module _ {X : Type 0} (jobs : X → List FileJob) (lists : List X) where
-  -- .. where y is the list of its server with the job at the end
+  -- the same, if y is the list of its server with the job at the end
   pub job_listed : (i server s : ℕ) (x y : X) (job : FileJob) → i ≡ server → server < length lists → x ≡ get_or lists i x → jobs y ≡ jobs x ++ job ∷ []
       → get_or (map jobs (set lists i y)) s [] ≡ get_or (map jobs lists) s [] ++ jobs_for s (Submit server job ∷ [])
   job_listed i server s x y job same lt at pushed =
@@ -41,7 +41,7 @@ module _ {X : Type 0} (jobs : X → List FileJob) (lists : List X) where
       map-set jobs lists i y ∙ rw (same, is) refl in
       rw written (submit_listed (map jobs lists) server s job (omega (arith, length-map lists jobs)))
 
--- a list has the jobs of one step more, and the jobs of the steps that are left are its others
+-- a list has the jobs of one step more, and the jobs of the steps that are left are to follow
 pub lists_on : (s : ℕ) (old new jobs : List FileJob) (x : Step FileJob) (xs steps : List (Step FileJob)) → steps ≡ x ∷ xs
     → new ≡ old ++ jobs_for s (x ∷ []) → old ++ jobs_for s steps ≡ jobs
     → new ++ jobs_for s xs ≡ jobs

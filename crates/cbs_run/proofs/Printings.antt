@@ -1,11 +1,11 @@
--- A text that is written as it is made, as one that is printed.
+-- A text that is written while it is made, compared with a text that is printed.
 use Rattle.std.proofs.Common.{◌≡◌, List, ℕ, refl}
 use Rattle.cbs_lines.specs.Writers.{Writer, StopsWriting}
 use Rattle.cbs_lines.specs.declared.run_error.RunError.{RunError}
 use Rattle.cbs_lines.specs.declared.run_error.RunError.TheVariants.{OutOfMemory, WriteFault, ClockEnd, Stalled}
 use Rattle.cbs_run.specs.Printing.{StopsPrinting}
 
--- what is left if writing stops is what is left if printing does
+-- what is left if writing stops is what is left if printing stops
 pub prints_short : (text : List ℕ) (short : Writer → Writer → Type 0) (error : RunError) (old new : Writer) → StopsWriting text short error old new
     → StopsPrinting (λ t. t ≡ text) short error old new
 prints_short text short OutOfMemory old new h = h

@@ -14,7 +14,7 @@ any_file bytes = do
   is ← is_load bytes
   if is then seen Load (load bytes) else seen Tasks (file bytes)
 
--- the text is what is told of the file
+-- the text is what `check` prints about the file
 abbrev pub IsCheckText : AnyFile → List ℕ → Type 0
 IsCheckText (Load f) text = IsLoadText f text
 IsCheckText (Tasks f) text = IsPlanText f.plan f.modes text

@@ -1,9 +1,9 @@
--- What a call that reads answered.
+-- What a call that reads returned.
 use Rattle.std.specs.Prelude.{ℕ, List, codes, Bool, true, false, Result, Ok, Err}
 use Rattle.cbs_run.specs.declared.input.ReadError.{ReadError}
 use Rattle.cbs_run.specs.declared.input.ReadError.TheVariants.{OutOfMemory, ReadFault, TooLarge}
 
--- a read failed
+-- the result is that a read failed
 abbrev pub is_read_fault : {A : Type 0} → Result A ReadError → Bool
 is_read_fault (Ok x) = false
 is_read_fault (Err OutOfMemory) = false

@@ -15,10 +15,10 @@ abbrev pub text_in : Form → RunReport → List ℕ
 text_in Report r = report_text r
 text_in Json r = report_json r
 
--- the text is that of a report of the load in the form, which has this name for its file
+-- the text is that of a report of the load in this form, and names the file so
 abbrev pub IsReportText : Form → List ℕ → LoadFile → List ℕ → Type 0
 IsReportText form name f text = (r : RunReport) × IsReportOf name f r × (text ≡ text_in form r)
 
--- .. of the task file
+-- the same for a task file
 abbrev pub IsTaskReportText : Form → List ℕ → File → List ℕ → Type 0
 IsTaskReportText form name f text = (r : RunReport) × IsTaskReport name f r × (text ≡ text_in form r)

@@ -17,11 +17,11 @@ job_for s _ = None
 abbrev pub jobs_for : ℕ → List (Step FileJob) → List FileJob
 jobs_for s steps = filter_map (job_for s) steps
 
--- the line of server s with these results: each after a blank, and a line feed at the end
+-- the line of server s with these results: a blank before each result, and a line feed at the end
 unfoldable pub server_line : ℕ → List ℕ → List ℕ
 server_line s results = codes "server " ++ decimal s ++ codes ":" ++ flat_map (λ r. codes " " ++ decimal r) results ++ codes "\n"
 
--- the lines of n servers, where f says the results of each
+-- the lines of n servers, if f gives the results of each
 abbrev pub kept_lines : (ℕ → List ℕ) → ℕ → List ℕ
 kept_lines f n = flat_map (λ s. server_line s (f s)) (range_with_len 0 n)
 

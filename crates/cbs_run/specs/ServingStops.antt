@@ -16,7 +16,7 @@ use Rattle.cbs_lines.specs.Writers.{Writer, IsUntouched, FailsToWrite}
 use Rattle.cbs_lines.specs.declared.run_error.RunError.{RunError}
 use Rattle.cbs_lines.specs.declared.run_error.RunError.TheVariants as run
 
--- a core with the file's servers, modes and backlog comes, by steps of serving, into such a state
+-- by steps of serving, a core with the file's servers, modes and backlog comes into a state with this property
 pub record ComesTo (f : File) (state : CoreHeld FileJob → Type 0) : Type 0 where
   pub steps : List (Step FileJob)
   pub core : CoreHeld FileJob
@@ -24,21 +24,21 @@ pub record ComesTo (f : File) (state : CoreHeld FileJob → Type 0) : Type 0 whe
   pub agrees : Agrees of_files core (start_of f ⊕⊕ steps)
   pub comes : state core
 
--- why a house that serves the file stops; of want of memory nothing is said
+-- why a house that serves the file stops. If out of memory, nothing is said
 abbrev pub HouseStops : File → HouseError → Type 0
 HouseStops f house.OutOfMemory = Unit {0}
 HouseStops f house.ClockEnd = ComesTo f IsAtEnd
 HouseStops f house.Stalled = ComesTo f HoldsNoJob
 HouseStops f _ = ⊥
 
--- the run fault that an error of the house is, if it is one
+-- the run fault that stands for an error of the house, if one does
 abbrev pub fault_of : HouseError → Option RunError
 fault_of house.OutOfMemory = Some run.OutOfMemory
 fault_of house.ClockEnd = Some run.ClockEnd
 fault_of house.Stalled = Some run.Stalled
 fault_of _ = None
 
--- how serving stops: where a call failed a front of the results was written, and else nothing
+-- how serving stops: if a write failed, a prefix of the results was written; otherwise nothing was
 abbrev pub ServeStops : File → RunError → Writer → Writer → Type 0
 ServeStops f run.OutOfMemory old new = IsUntouched old new
 ServeStops f run.WriteFault old new = FailsToWrite old new (result_lines f)

@@ -1,4 +1,4 @@
--- What a run leaves, by its status.
+-- What a run leaves on its writers, by its status.
 use Rattle.std.specs.Prelude.{◌≡◌, ◌⊎◌, ℕ, List, Ok, Err}
 use Rattle.cbs_file.specs.Spelling.{file}
 use Rattle.cbs_tables.specs.Documents.{no_memory}
@@ -10,7 +10,7 @@ use Rattle.cbs_lines.specs.Writers.{Writer, IsUntouched, Writes, TriesToWrite}
 use Rattle.cbs_lines.specs.declared.run_error.RunError.{RunError}
 use Rattle.cbs_words.specs.declared.actions.Verb.{Verb}
 
--- a run over the bytes ended with the status, and left out and err so
+-- a run over the bytes ended with this status, and left out and err so
 pub data Ends (verb : Verb) (bytes : List ℕ) (out out' err err' : Writer) : ℕ → Type 0 where
   done : (f : File) → file bytes ≡ Ok f → Writes out out' (output_of verb f) → IsUntouched err err' → Ends verb bytes out out' err err' 0
   refused : (fault : FileFault) → (fault ≡ no_memory) ⊎ (file bytes ≡ Err fault) → IsUntouched out out' → TriesToWrite err err' (file_line fault)
@@ -18,6 +18,6 @@ pub data Ends (verb : Verb) (bytes : List ℕ) (out out' err err' : Writer) : �
   stopped : (f : File) (error : RunError) → file bytes ≡ Ok f → StopsShort verb f error out out' → TriesToWrite err err' (run_line error)
       → Ends verb bytes out out' err err' 4
 
--- the file wanted more memory than it may: nothing was written but the line of that
+-- the file needed more memory than it may: nothing was written but the line of out of memory
 abbrev pub LacksMemory : Writer → Writer → Writer → Writer → ℕ → Type 0
 LacksMemory out out' err err' status = (status ≡ 3) × IsUntouched out out' × TriesToWrite err err' (file_line no_memory)

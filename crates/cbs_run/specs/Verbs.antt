@@ -1,4 +1,4 @@
--- What each verb writes, and leaves where it stops.
+-- What each verb writes, and what it leaves if it stops early.
 use Rattle.std.specs.Prelude.{ℕ, List}
 use Rattle.cbs_file.specs.TaskFiles.{File}
 use Rattle.cbs_run.specs.ResultLines.{result_lines}
@@ -14,7 +14,7 @@ abbrev pub output_of : Verb → File → List ℕ
 output_of Replay f = trace f
 output_of Serve f = result_lines f
 
--- how a verb stops short
+-- how a verb stops early
 abbrev pub StopsShort : Verb → File → RunError → Writer → Writer → Type 0
 StopsShort Replay f = TraceStops f
 StopsShort Serve f = ServeStops f

@@ -27,7 +27,8 @@ enum AnyFile {
     Tasks(TaskFile),
 }
 
-/// Returns the file that the bytes spell, or its first fault, if the bytes want at most `memory` bytes of memory.
+/// Returns the file that the bytes spell, or its first fault. If the bytes need more than `memory` bytes of memory,
+/// returns out of memory.
 #[tactic(auto, unfolding(crate::specs::Checked::any_file))]
 fn read_any(alloc: Global, memory: u64, bytes: &[u8]) -> Result<AnyFile, FileFault>
     ensures read { Gives no_memory (λ f. f) result (any_file bytes.now) }
@@ -43,7 +44,7 @@ fn read_any(alloc: Global, memory: u64, bytes: &[u8]) -> Result<AnyFile, FileFau
     }
 }
 
-/// Returns what is told of a file.
+/// Returns the text that `check` prints about a file.
 fn check_text(alloc: Global, file: &AnyFile) -> Result<String, AllocError>
     ensures { IfOk result (λ text. IsCheckText file.now (string_bytes text)) }
 {
@@ -53,7 +54,7 @@ fn check_text(alloc: Global, file: &AnyFile) -> Result<String, AllocError>
     }
 }
 
-/// Prints what is told of a file.
+/// Prints the text that `check` prints about a file.
 fn print_check<O: ByteOutput>(alloc: Global, file: &AnyFile, out: &mut O) -> Result<(), RunError>
     requires { O.failed out.old < 2 ^ 64 - 1 }
     ensures { Prints (IsCheckText file.now) result
@@ -64,15 +65,16 @@ fn print_check<O: ByteOutput>(alloc: Global, file: &AnyFile, out: &mut O) -> Res
     Ok(())
 }
 
-/// Prints what is told of the load or the task file that the bytes spell: a load if the top table has the key `load`. Its
-/// file has this name. Returns the status.
+/// Checks the load or the task file that the bytes spell, and prints what it holds. The bytes are a load if the top
+/// table has the key `load`. The explanation of a fault names the file `name`. Returns the status.
 ///
-/// At status 0 the whole text is on `out`, and nothing on `err`. At status 3 the file has a fault: its line goes to `err`, with
-/// what a person needs to know of it below, and nothing to `out`. At status 4 the run ended early: the line of that goes to `err`, and `out` has a prefix of the text, which
-/// is empty unless a write failed. A line that cannot be written changes no status.
+/// At status 0 the whole text is on `out`, and nothing on `err`. At status 3 the file has a fault: the line of the
+/// fault goes to `err`, with an explanation below it, and nothing to `out`. At status 4 the run ended early: the line
+/// of the run fault goes to `err`, and `out` has a prefix of the text. That prefix is empty unless a write failed. A
+/// line that cannot be written changes no status.
 ///
-/// If the bytes want more than `memory` bytes of memory, the status is 3, with the line of out of memory on `err`, and
-/// nothing is parsed.
+/// If the bytes need more than `memory` bytes of memory, nothing is parsed. The status is 3, and the line of out of
+/// memory goes to `err`.
 pub fn check_bytes_within<O: ByteOutput, E: ByteOutput>(
     alloc: Global,
     memory: u64,

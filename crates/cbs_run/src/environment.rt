@@ -1,4 +1,4 @@
-//! A bound on memory, as the environment names it.
+//! A bound on memory, as an environment variable gives it.
 
 ghost use Rattle.std.specs.Prelude.{ℕ, ◌*◌, ◌^◌, ◌-◌, ◌<◌, min};
 ghost use Rattle.std.specs.Result.{OkIff};
@@ -6,14 +6,14 @@ ghost use Rattle.std.specs.Str.Parse.{IsNumeral, digits_value, without_leading_p
 
 use std::num::ParseIntError;
 
-/// The variable of the environment that names how much memory a file may want, in MiB.
+/// The environment variable that says how much memory a file may need, in MiB.
 pub const MEMORY_VARIABLE: &str = "CBSRUN_MEMORY";
 
 const MEBIBYTE: u64 = 1_048_576;
 
-/// The bytes of so many MiB, a whole number in decimal; `u64::MAX` where that many bytes pass it.
+/// Returns how many bytes this many MiB are, or `u64::MAX` if there are more. The MiB are a whole number in decimal.
 ///
-/// Refuses a text that is no such number, or one of 2^64 or more.
+/// Refuses a text that is no such number, and a number of 2^64 or more.
 pub fn memory_bound(mebibytes: &str) -> Result<u64, ParseIntError>
     ensures { OkIff result
         (IsNumeral 10 (without_leading_plus mebibytes.now) × (digits_value 10 (without_leading_plus mebibytes.now) < 2 ^ 64))

@@ -1,4 +1,4 @@
-//! What is wrong with a file, on standard error.
+//! What is wrong with a file, written to standard error.
 
 ghost use Rattle.std.specs.Prelude.{◌≡◌, ◌+◌, ◌-◌, ◌<◌, ◌^◌};
 ghost use Rattle.cbs_tables.specs.Documents.{no_memory};
@@ -12,8 +12,8 @@ use cbs_file::{FileFault, FileKind};
 use cbs_lines::{ByteOutput, write_pieces};
 use std::alloc::Global;
 
-/// Writes the line of a file's fault. Below it, after an empty line, stands what a person needs to know of the fault: nothing, if
-/// the fault is out of memory, or if there is no memory for it.
+/// Writes the line of a file's fault, then an empty line and an explanation of the fault. The explanation is left out
+/// if the fault is out of memory, or if there is no memory for it.
 pub(crate) fn write_explained<E: ByteOutput>(
     alloc: Global,
     name: &str,

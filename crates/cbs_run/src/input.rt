@@ -1,4 +1,4 @@
-//! Readers whose failed calls are counted, and all bytes of one.
+//! Readers that count their failed calls, and a call that reads all bytes.
 
 ghost use Rattle.std.specs.Prelude.{◌≡◌, ℕ, ◌+◌, ◌<◌, ◌≤◌, ◌^◌, ◌-◌, ◌↔◌, List, length, take, Option, IfOk, IfErr, OnErr, if◌then◌else◌};
 ghost use Rattle.std.specs.Io.KnownBytes.{Consumes, IsAtEnd, Keeps};
@@ -13,14 +13,14 @@ use thiserror::Error;
 
 /// A reader of bytes, which counts its calls that failed.
 pub trait ByteInput {
-    // The bytes that are left to read, where they are known.
+    // The bytes that are left to read, if they are known.
     ghost left: { Self → Option (List ℕ) };
 
     // How many calls failed.
     ghost failed: { Self → ℕ };
 
-    /// Reads some bytes into the front of `room`, and answers how many: none only at the end,
-    /// or where there is no room. A call that fails has taken nothing.
+    /// Reads some bytes into the first part of `room`, and returns how many. It returns 0 only at the end, or if `room`
+    /// is empty. A call that fails has taken no byte.
     fn read(&mut self, room: &mut [u8]) -> io::Result<usize>
         requires { failed self.old < 2 ^ 64 - 1 }
         ensures took { IfOk result (λ n. n ≤ length room.new) }
@@ -43,7 +43,7 @@ impl<R> Model for FromRead<R> {
 }
 
 impl<R> FromRead<R> {
-    /// The reader, of which no call has failed yet.
+    /// Returns a reader of which no call has failed yet.
     pub fn new(reader: R) -> FromRead<R>
         ensures { result ≡ record { inner = reader; failed = 0 } }
     {
@@ -73,10 +73,10 @@ pub const MAX_BYTES: usize = 16_777_216;
 /// The most bytes that one read is asked for: 64 KiB.
 const PIECE: usize = 65_536;
 
-/// Why the bytes of a reader could not be had.
+/// The reason why the bytes of a reader could not be read.
 #[derive(Clone, Copy, Debug, PartialEq, Eq, Error)]
 pub enum ReadError {
-    /// There was no memory for what came.
+    /// There was no memory for the bytes that came.
     #[error("out of memory while reading")]
     OutOfMemory = 1,
     /// A read failed.
@@ -88,14 +88,14 @@ pub enum ReadError {
 }
 
 impl ReadError {
-    /// The error's number, from 1.
+    /// Returns the error's number, from 1.
     pub fn number(self) -> u8
         ensures { result ≡ read_error_number self }
     {
         self as u8
     }
 
-    /// The error's name, as the program prints it.
+    /// Returns the error's name, as the program prints it.
     pub fn name(self) -> &'static str
         ensures { result.now ≡ read_error_name self }
     {
@@ -107,20 +107,20 @@ impl ReadError {
     }
 }
 
-/// All bytes that the reader has left, of which there may be [`MAX_BYTES`].
+/// Returns all bytes that the reader has left: at most [`MAX_BYTES`].
 ///
-/// Refuses with [`ReadError::ReadFault`] where a read fails, with [`ReadError::TooLarge`] where
-/// more than [`MAX_BYTES`] came before any fault or want of memory, and with
-/// [`ReadError::OutOfMemory`]. After a refusal the bytes that were read are gone.
+/// Refuses with [`ReadError::ReadFault`] if a read fails, and with [`ReadError::OutOfMemory`] if out of memory. Refuses
+/// with [`ReadError::TooLarge`] if more than [`MAX_BYTES`] came before either of these. After a refusal the bytes that
+/// were read are lost.
 pub fn read_all<R: ByteInput>(alloc: Global, reader: &mut R) -> Result<Vec<u8>, ReadError>
     requires { R.failed reader.old < 2 ^ 64 - 1 }
-    // At Ok these are the bytes up to the end.
+    // At Ok: the bytes up to the end.
     ensures ok { IfOk result (λ v. Consumes (R.left reader.old) (R.left reader.new) v.items × IsAtEnd (R.left reader.new)) }
     ensures small { IfOk result (λ v. length v.items ≤ 16777216) }
-    // At a refusal some bytes came: too many exactly at TooLarge.
+    // At a refusal some bytes came. There were too many of them exactly if the error is TooLarge.
     ensures refused { IfErr result (λ e. (came : List ℕ) × Consumes (R.left reader.old) (R.left reader.new) came
         × ((e ≡ ReadError.TooLarge) ↔ (16777216 < length came))) }
-    // A read fault is one call that failed, and nothing else is.
+    // At a read fault exactly one call failed, and else none.
     ensures fault { R.failed reader.new ≡ R.failed reader.old + (if is_read_fault result then 1 else 0) }
 {
     let mut room = [0u8; PIECE];

@@ -10,7 +10,7 @@ use cbs_core::Step;
 use cbs_job::{FileJob, Task};
 use std::alloc::{AllocError, Global};
 
-/// A list with no job for each of so many servers.
+/// Returns an empty list of jobs for each of this many servers.
 fn empty_lists(alloc: Global, servers: u16) -> Result<Vec<Vec<Task<FileJob>>>, AllocError>
     ensures { IfOk result (λ lists. map (λ jobs. jobs.items) lists.items ≡ replicate servers []) }
 {
@@ -21,7 +21,7 @@ fn empty_lists(alloc: Global, servers: u16) -> Result<Vec<Vec<Task<FileJob>>>, A
     Ok(lists)
 }
 
-/// Puts the job of a submit at the end of its server's list. Other steps have no job.
+/// Adds the job of a submit after the last one of its server's list. Other steps have no job.
 fn add_job(lists: &mut Vec<Vec<Task<FileJob>>>, step: Step<FileJob>) -> Result<(), AllocError>
     requires { IsFileStep (length lists.old.items) step }
     ensures len { length lists.new.items ≡ length lists.old.items }
@@ -34,8 +34,7 @@ fn add_job(lists: &mut Vec<Vec<Task<FileJob>>>, step: Step<FileJob>) -> Result<(
     Ok(())
 }
 
-/// The jobs that the steps submit to each server, in the order of the steps. Only want of memory is
-/// an error.
+/// Returns the jobs that the steps submit to each server, in the order of the steps. The only error is out of memory.
 pub fn jobs_by_server(
     alloc: Global,
     servers: u16,

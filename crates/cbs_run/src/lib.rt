@@ -1,5 +1,5 @@
-//! Files from their bytes to a status: task files run, to a trace of their steps or the results of their jobs; loads simulated;
-//! what is told of either; and pictures of what ran.
+//! The commands, from the bytes of a file to a status. A task file is run, to a trace of its steps or the results of
+//! its jobs. A load is simulated. Either can be checked, and drawn as a picture of its run.
 #![tactic(auto)]
 
 mod check;

@@ -1,4 +1,4 @@
-//! Loads and task files, drawn: from their bytes to a status.
+//! Pictures of loads and task files: from their bytes to a status.
 
 ghost use Rattle.std.specs.Prelude.{◌≡◌, ◌+◌, ◌-◌, ◌<◌, ◌≤◌, ◌^◌, Err, IfOk, OnOk, OnErr, length, string_bytes};
 ghost use Rattle.std.specs.Io.KnownBytes.{Appends};
@@ -29,18 +29,18 @@ use itoa::Buffer;
 use std::alloc::{AllocError, Global};
 use std::io;
 
-/// Why nothing is drawn.
+/// The reason why nothing is drawn.
 #[derive(Clone, Copy)]
 enum Undrawn {
     /// The file has a fault.
     Unread(FileFault),
-    /// The run ends before the first tick that is to be shown.
+    /// The run ends before the first tick to show.
     Ended(NothingShown),
     /// The run ended early.
     Stopped(RunError),
 }
 
-/// Returns a picture, of at most 64 servers, as it is drawn.
+/// Returns the text of a picture of at most 64 servers, in this drawing.
 fn drawn_text(alloc: Global, drawing: Drawing, picture: &Picture) -> Result<String, AllocError>
     requires { length picture.now.servers.items ≤ 64 }
     ensures { IfOk result (λ text. IsDrawn drawing picture.now (string_bytes text)) }
@@ -52,7 +52,7 @@ fn drawn_text(alloc: Global, drawing: Drawing, picture: &Picture) -> Result<Stri
     }
 }
 
-/// Prints a picture, of at most 64 servers.
+/// Prints a picture of at most 64 servers, in this drawing.
 fn print_picture<O: ByteOutput>(
     alloc: Global,
     drawing: Drawing,
@@ -69,7 +69,7 @@ fn print_picture<O: ByteOutput>(
     Ok(())
 }
 
-/// Simulates a load, and prints the picture of a window of that, with this name for its file.
+/// Simulates a load, and prints the picture of a window of its run. The picture names the file `name`.
 fn print_load<P: Progress, O: ByteOutput>(
     alloc: Global,
     drawing: Drawing,
@@ -87,7 +87,7 @@ fn print_load<P: Progress, O: ByteOutput>(
     print_picture(alloc, drawing, &picture, out)
 }
 
-/// Makes the steps of a task file, and prints the picture of a window of that, with this name for the file.
+/// Makes the steps of a task file, and prints the picture of a window of its run. The picture names the file `name`.
 fn print_tasks<O: ByteOutput>(
     alloc: Global,
     drawing: Drawing,
@@ -134,8 +134,8 @@ fn draw_load<P: Progress, O: ByteOutput>(
     }
 }
 
-/// Draws the ticks of a window of the task file that the bytes spell. They are read twice, and its steps made twice: first for the
-/// tick at which they end.
+/// Draws the ticks of a window of the task file that the bytes spell. The file is read twice, and its steps are made
+/// twice: the first time only for the tick at which they end.
 fn draw_tasks<O: ByteOutput>(
     alloc: Global,
     memory: u64,
@@ -171,7 +171,7 @@ fn draw_tasks<O: ByteOutput>(
     }
 }
 
-/// Writes the line of a run that has none of the ticks which are to be shown.
+/// Writes the line of a run that has none of the ticks to show.
 #[tactic(auto, unfolding(crate::specs::Pictured::nothing_shown_line))]
 fn write_nothing_shown<E: ByteOutput>(err: &mut E, nothing: NothingShown) -> io::Result<()>
     requires { E.failed err.old < 2 ^ 64 - 1 }
@@ -194,7 +194,7 @@ fn write_nothing_shown<E: ByteOutput>(err: &mut E, nothing: NothingShown) -> io:
     )
 }
 
-/// Writes why nothing is drawn of the file that the bytes spell, and returns the status.
+/// Writes why nothing is drawn of the file that the bytes spell. Returns the status.
 fn write_undrawn<E: ByteOutput>(
     alloc: Global,
     name: &str,
@@ -223,16 +223,17 @@ fn write_undrawn<E: ByteOutput>(
     }
 }
 
-/// Simulates the load that the bytes spell, and draws the ticks of that which are asked for, as far as it has them, with this name
-/// for its file. Tells now and then how far it is. Returns the status.
+/// Simulates the load that the bytes spell, and draws the ticks that are asked for, as far as the run has them. The
+/// drawing names the file `name`. Reports to `progress` now and then how far the simulation is. Returns the status.
 ///
-/// At status 0 the whole drawing is on `out`, and nothing on `err`. At status 2 the load ends before the first tick that is asked
-/// for: a line on `err` names both, and nothing is on `out`. At status 3 the file has a fault: its line goes to `err`, with what a
-/// person needs to know of it below, and nothing to `out`. At status 4 the run ended early: the line of that goes to `err`, and
-/// `out` has a prefix of the drawing, which is empty unless a write failed. A line that cannot be written changes no status.
+/// At status 0 the whole drawing is on `out`, and nothing on `err`. At status 2 the load ends at or before the first
+/// tick that is asked for. A line on `err` names that tick and the end, and nothing is on `out`. At status 3 the file
+/// has a fault: the line of the fault goes to `err`, with an explanation below it, and nothing to `out`. At status 4
+/// the run ended early: the line of the run fault goes to `err`, and `out` has a prefix of the drawing. That prefix is
+/// empty unless a write failed. A line that cannot be written changes no status.
 ///
-/// If the bytes want more than `memory` bytes of memory, the status is 3, with the line of out of memory on `err`, and nothing is
-/// parsed.
+/// If the bytes need more than `memory` bytes of memory, nothing is parsed. The status is 3, and the line of out of
+/// memory goes to `err`.
 pub fn draw_load_within<P: Progress, O: ByteOutput, E: ByteOutput>(
     alloc: Global,
     memory: u64,
@@ -261,10 +262,11 @@ pub fn draw_load_within<P: Progress, O: ByteOutput, E: ByteOutput>(
     }
 }
 
-/// Makes the steps of the task file that the bytes spell, and draws the ticks of that which are asked for, as far as it has them,
-/// with this name for its file. Returns the status.
+/// Makes the steps of the task file that the bytes spell. Draws the ticks that are asked for, as far as the run has
+/// them. The drawing names the file `name`. Returns the status.
 ///
-/// The statuses are those of [`draw_load_within`]: the run of a task file ends at the tick to which its steps bring the clock.
+/// The statuses are those of [`draw_load_within`]. The run of a task file ends at the tick to which its steps bring the
+/// clock.
 pub fn draw_tasks_within<O: ByteOutput, E: ByteOutput>(
     alloc: Global,
     memory: u64,

@@ -1,4 +1,4 @@
-//! Reports in a form, and that of a task file from its bytes to a status.
+//! Reports in a form, and the report of a task file: from its bytes to a status.
 
 ghost use Rattle.std.specs.Prelude.{◌≡◌, ◌+◌, ◌-◌, ◌<◌, ◌≤◌, ◌^◌, IfOk, length, string_bytes};
 ghost use Rattle.cbs_tables.specs.Memory.{memory_wanted};
@@ -19,7 +19,7 @@ use cbs_print::{RunReport, report_text};
 use cbs_words::Form;
 use std::alloc::{AllocError, Global};
 
-/// Returns the text of a report in this form, of at most 64 servers.
+/// Returns the text of a report of at most 64 servers, in this form.
 pub(crate) fn text_of(alloc: Global, form: Form, report: &RunReport) -> Result<String, AllocError>
     requires { length report.now.servers.items ≤ 64 }
     ensures { IfOk result (λ text. string_bytes text ≡ text_in form report.now) }
@@ -30,7 +30,7 @@ pub(crate) fn text_of(alloc: Global, form: Form, report: &RunReport) -> Result<S
     }
 }
 
-/// Makes the steps of a task file, and prints the report of that in this form, with this name for the file.
+/// Makes the steps of a task file, and prints the report of its run in this form. The report names the file `name`.
 fn print_task_report<O: ByteOutput>(
     alloc: Global,
     form: Form,
@@ -48,16 +48,16 @@ fn print_task_report<O: ByteOutput>(
     Ok(())
 }
 
-/// Makes the steps of the task file that the bytes spell, and prints the report of that in this form, with this name for its
-/// file. Returns the status.
+/// Makes the steps of the task file that the bytes spell, and prints the report of its run in this form. The report
+/// names the file `name`. Returns the status.
 ///
-/// At status 0 the whole report is on `out`, and nothing on `err`. At status 3 the file has a fault: its line goes to
-/// `err`, with what a person needs to know of it below, and nothing to `out`. At status 4 the run ended early: the line of
-/// that goes to `err`, and `out` has a prefix of the report, which is empty unless a write failed. A line that cannot be
-/// written changes no status.
+/// At status 0 the whole report is on `out`, and nothing on `err`. At status 3 the file has a fault: the line of the
+/// fault goes to `err`, with an explanation below it, and nothing to `out`. At status 4 the run ended early: the line
+/// of the run fault goes to `err`, and `out` has a prefix of the report. That prefix is empty unless a write failed. A
+/// line that cannot be written changes no status.
 ///
-/// If the bytes want more than `memory` bytes of memory, the status is 3, with the line of out of memory on `err`, and
-/// nothing is parsed.
+/// If the bytes need more than `memory` bytes of memory, nothing is parsed. The status is 3, and the line of out of
+/// memory goes to `err`.
 pub fn report_bytes_within<O: ByteOutput, E: ByteOutput>(
     alloc: Global,
     memory: u64,

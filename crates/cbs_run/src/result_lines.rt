@@ -1,4 +1,4 @@
-//! What serving a task file writes.
+//! The lines that serving a task file writes.
 
 ghost use Rattle.std.specs.Prelude.{◌≡◌, ◌++◌, IfOk, OnOk, length, string_bytes};
 ghost use Rattle.cbs_clients.specs.Houses.{core_of, results_of};
@@ -22,8 +22,8 @@ fn append_line(text: &mut String, server: u16, results: &[u64]) -> Result<(), Al
     text.push_str("\n")
 }
 
-/// Returns the lines of all servers of a house, in order of their numbers, with the results that it keeps. The only
-/// error is out of memory.
+/// Returns the lines of all servers of a house, in order of their numbers, with the results that the house keeps. The
+/// only error is out of memory.
 pub fn result_text(alloc: Global, house: &House<FileJob>) -> Result<String, AllocError>
     ensures { IfOk result (λ text. string_bytes text ≡ kept_lines (results_of house.now) (length (core_of house.now).faces)) }
 {

@@ -15,19 +15,19 @@ use std::alloc::Global;
 use std::thread::Threads;
 use std::time::Clock;
 
-/// The status of a run that is done, or of a request for help.
+/// The status of a run that is complete, and of a request for help.
 pub const DONE: u8 = 0;
 
 /// The status of a wrong command line.
 pub const WRONG_WORDS: u8 = 2;
 
-/// The status where the file could not be read, or has a fault.
+/// The status if the file could not be read, or has a fault.
 pub const BAD_FILE: u8 = 3;
 
 /// The status of a run that ended early.
 pub const RUN_FAULT: u8 = 4;
 
-/// Does with a task file what the verb says.
+/// Replays or serves a task file, as the verb says.
 fn run_file<R: Threads + Clock + Sync, O: ByteOutput>(
     rt: &R,
     alloc: Global,
@@ -45,10 +45,10 @@ fn run_file<R: Threads + Clock + Sync, O: ByteOutput>(
     }
 }
 
-/// Does with the bytes of a task file what the verb says, as [`run_bytes`] does, and answers the status, where the bytes
-/// want at most `memory` bytes of memory.
+/// Replays or serves the task file that the bytes spell, as [`run_bytes`] does. Returns the status.
 ///
-/// Where they want more, the status is 3, with the line of want of memory on `err`, and nothing is parsed.
+/// If the bytes need more than `memory` bytes of memory, nothing is parsed. The status is 3, and the line of out of
+/// memory goes to `err`.
 pub fn run_bytes_within<R: Threads + Clock + Sync, O: ByteOutput, E: ByteOutput>(
     rt: &R,
     alloc: Global,
@@ -85,14 +85,14 @@ pub fn run_bytes_within<R: Threads + Clock + Sync, O: ByteOutput, E: ByteOutput>
     }
 }
 
-/// Does with the bytes of a task file what the verb says, and answers the status.
+/// Replays or serves the task file that the bytes spell, as the verb says. Returns the status.
 ///
-/// At status 0 the whole output is on `out`, and nothing on `err`. At status 3 the file has a fault:
-/// its line goes to `err`, and nothing to `out`. At status 4 the run ended early: the line of that
-/// goes to `err`, and `out` has a front of the output, which in serving is empty unless a write
-/// failed. A line that cannot be written changes no status.
+/// At status 0 the whole output is on `out`, and nothing on `err`. At status 3 the file has a fault: the line of the
+/// fault goes to `err`, and nothing to `out`. At status 4 the run ended early: the line of the run fault goes to `err`,
+/// and `out` has a prefix of the output. In serving that prefix is empty unless a write failed. A line that cannot be
+/// written changes no status.
 ///
-/// A file may want [`MEMORY`] bytes of memory.
+/// A file may need up to [`MEMORY`] bytes of memory.
 pub fn run_bytes<R: Threads + Clock + Sync, O: ByteOutput, E: ByteOutput>(
     rt: &R,
     alloc: Global,

@@ -1,4 +1,4 @@
-//! The results of a task file, served to clients and written to a writer.
+//! The jobs of a task file, served to clients, and their results, written to a writer.
 
 ghost use Rattle.std.specs.Prelude.{ℕ, ◌≡◌, ◌<◌, ◌≤◌, ◌-◌, ◌^◌, All, IfErr, IfOk, length, map};
 ghost use Rattle.std.specs.List.{range_with_len};
@@ -25,8 +25,8 @@ use std::alloc::Global;
 use std::thread::Threads;
 use std::time::Clock;
 
-/// Returns the run fault that an error of the house is, if it is one. The others never come of a task file,
-/// whose numbers are in range.
+/// Returns the run fault that stands for an error of the house, or `None` if none does. The errors with none never come
+/// from a task file, since its numbers are in range.
 fn fault_of(error: HouseError) -> Option<RunError>
     ensures { result ≡ fault_of error }
 {
@@ -41,8 +41,8 @@ fn fault_of(error: HouseError) -> Option<RunError>
     }
 }
 
-/// Returns a house with the plan, modes, backlog and ring of a task file; and for each of its servers, in
-/// order, a feed of the jobs that the file submits to it. The only error is out of memory.
+/// Returns a house with the plan, modes, backlog and ring of a task file. Beside it, returns a feed for each of its
+/// servers, in order, with the jobs that the file submits to that server. The only error is out of memory.
 fn open_file(
     alloc: Global,
     file: TaskFile,
@@ -72,7 +72,7 @@ fn open_file(
     }
 }
 
-/// Returns the house of a task file, after the clients have sent all its jobs and all are finished.
+/// Returns the house of a task file, after the clients have sent all its jobs and all jobs are finished.
 fn served_house<R: Threads + Clock + Sync>(
     rt: &R,
     alloc: Global,
@@ -89,11 +89,12 @@ fn served_house<R: Threads + Clock + Sync>(
 
 /// Serves the submits of a task file, and writes the results of each server.
 ///
-/// The house has the plan, the modes, the backlog and the ring of the file. Refuses with
-/// [`RunError::OutOfMemory`]; with [`RunError::ClockEnd`] if the clock came to its end with a job
-/// unfinished; and with [`RunError::Stalled`] if the clients did not send all in the rounds that
-/// they are given. Nothing is written then. Refuses with [`RunError::WriteFault`] if a write fails
-/// or takes no byte: then a prefix of the text is written.
+/// The house has the plan, the modes, the backlog and the ring of the file.
+///
+/// Refuses with [`RunError::OutOfMemory`] if out of memory, and with [`RunError::ClockEnd`] if the clock came to its
+/// end with a job unfinished. Refuses with [`RunError::Stalled`] if the clients did not send all jobs in the rounds
+/// that they are given. After these three nothing is written. Refuses with [`RunError::WriteFault`] if a write fails or
+/// takes no byte: then a prefix of the text is written.
 pub fn serve_file<R: Threads + Clock + Sync, O: ByteOutput>(
     rt: &R,
     alloc: Global,

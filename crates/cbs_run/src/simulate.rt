@@ -20,7 +20,7 @@ use cbs_planning::{Progress, report_of};
 use cbs_words::Form;
 use std::alloc::Global;
 
-/// Simulates a load, and prints the report of that in this form, with this name for its file.
+/// Simulates a load, and prints the report of its run in this form. The report names the file `name`.
 fn print_report<P: Progress, O: ByteOutput>(
     alloc: Global,
     form: Form,
@@ -39,16 +39,16 @@ fn print_report<P: Progress, O: ByteOutput>(
     Ok(())
 }
 
-/// Simulates the load that the bytes spell, and prints the report of that in this form, with this name for its file. Tells now
-/// and then how far it is. Returns the status.
+/// Simulates the load that the bytes spell, and prints the report of its run in this form. The report names the file
+/// `name`. Reports to `progress` now and then how far the simulation is. Returns the status.
 ///
-/// At status 0 the whole report is on `out`, and nothing on `err`. At status 3 the file has a fault: its line goes to
-/// `err`, with what a person needs to know of it below, and nothing to `out`. At status 4 the run ended early: the line of
-/// that goes to `err`, and `out` has a prefix of the report, which is empty unless a write failed. A line that cannot be
-/// written changes no status.
+/// At status 0 the whole report is on `out`, and nothing on `err`. At status 3 the file has a fault: the line of the
+/// fault goes to `err`, with an explanation below it, and nothing to `out`. At status 4 the run ended early: the line
+/// of the run fault goes to `err`, and `out` has a prefix of the report. That prefix is empty unless a write failed. A
+/// line that cannot be written changes no status.
 ///
-/// If the bytes want more than `memory` bytes of memory, the status is 3, with the line of out of memory on `err`, and
-/// nothing is parsed.
+/// If the bytes need more than `memory` bytes of memory, nothing is parsed. The status is 3, and the line of out of
+/// memory goes to `err`.
 pub fn simulate_bytes_within<P: Progress, O: ByteOutput, E: ByteOutput>(
     alloc: Global,
     memory: u64,
@@ -86,14 +86,16 @@ pub fn simulate_bytes_within<P: Progress, O: ByteOutput, E: ByteOutput>(
     }
 }
 
-/// Simulates the load that the bytes spell, and writes a line for each step, with this name for its file. Returns the status.
+/// Simulates the load that the bytes spell, and writes a line for each step. The explanation of a fault names the file
+/// `name`. Returns the status.
 ///
-/// At status 0 all lines are on `out`, and nothing on `err`. At status 3 the file has a fault, as in [`simulate_bytes_within`].
-/// At status 4 the run ended early: the line of that goes to `err`. If out of memory, `out` has the lines of some first steps, and
-/// if a write failed, a prefix of all lines. A line on `err` that cannot be written changes no status.
+/// At status 0 all lines are on `out`, and nothing on `err`. At status 3 the file has a fault, as in
+/// [`simulate_bytes_within`]. At status 4 the run ended early, and the line of the run fault goes to `err`. If out of
+/// memory, `out` has the lines of the first steps, up to some step. If a write failed, `out` has a prefix of all lines.
+/// A line on `err` that cannot be written changes no status.
 ///
-/// If the bytes want more than `memory` bytes of memory, the status is 3, with the line of out of memory on `err`, and
-/// nothing is parsed.
+/// If the bytes need more than `memory` bytes of memory, nothing is parsed. The status is 3, and the line of out of
+/// memory goes to `err`.
 pub fn simulate_lines_within<O: ByteOutput, E: ByteOutput>(
     alloc: Global,
     memory: u64,

@@ -1,4 +1,4 @@
-//! Tests of task files and of the program's parts.
+//! Tests of task files, and of the parts of the program.
 #![tactic(auto)]
 
 #[cfg(test)]

@@ -1,4 +1,4 @@
-//! The library's parts, run on worked examples.
+//! The parts of the library, run on worked examples.
 
 mod errors;
 mod fakes;
@@ -15,12 +15,12 @@ use std::alloc::Global;
 use std::fmt::{Debug, Display};
 use std::process::Abort;
 
-/// Ends the test with the label and both values, unless they are the same.
+/// Ends the test with the label and both values, unless the values are the same.
 fn same<T: Debug + Drop + PartialEq>(rt: &impl Abort, label: &str, answer: T, wanted: T) {
     assert!(rt; answer == wanted, "{label}: {answer:?}, not {wanted:?}");
 }
 
-/// Ends the test where a value is not written so.
+/// Ends the test unless the value is written as this text.
 fn says(rt: &impl Abort, alloc: Global, value: &impl Display, text: &str) {
     let said = format!(in alloc; "{value}").expect(rt, "memory");
     same(rt, text, said.as_str(), text);
@@ -42,7 +42,7 @@ step = [
 ]
 ";
 
-/// Its lines.
+/// The lines of the first example's trace.
 const FIRST_LINES: &str = "\
 @0 submit 0 job 0 accepted c=2 d=5
 @1 run 0 job 0 c=1 d=5

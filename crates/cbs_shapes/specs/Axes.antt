@@ -1,11 +1,12 @@
--- Where ticks stand.
+-- The places of ticks.
 use Rattle.std.specs.Prelude.{ℕ, ◌+◌, ◌-◌, ◌*◌, ◌/◌, ◌<◌, ◌≤◌, max, min}
 use Rattle.std.specs.Int.{div_ceil}
 use Rattle.cbs_chart.specs.Counts.{told}
 use Rattle.cbs_chart.specs.Windows.{ticks_of}
 use Rattle.cbs_chart.specs.declared.window.Window.{Window}
 
--- so many cells of a width, of so many ticks each, from the left edge on; the first tick, and how many there are
+-- an axis: its left edge, the first tick, the number of ticks, the ticks of a cell, the number of cells, and the width
+-- of a cell
 pub record AxisSeen : Type 0 where
   pub left : ℕ
   pub from : ℕ
@@ -23,11 +24,11 @@ pub record IsAxis (left ticks cell cells width : ℕ) : Type 0 where
   pub few : cells ≤ 1000
   pub narrow : width ≤ 5000
 
--- how many ticks a cell has, of so many: one of up to 1000
+-- how many ticks a cell has if there are n ticks: one if there are at most 1000
 abbrev pub cell_of : ℕ → ℕ
 cell_of n = max 1 (div_ceil n 1000)
 
--- how many cells there are
+-- how many cells there are for n ticks
 abbrev pub cells_of : ℕ → ℕ
 cells_of n = max 1 (min 1000 (div_ceil n (cell_of n)))
 
@@ -42,11 +43,11 @@ axis_of w left = record {
   width = min 5000 (100000 / cells_of (ticks_of w));
 }
 
--- where a tick begins
+-- the place at which a tick begins
 unfoldable pub x_at : AxisSeen → ℕ → ℕ
 x_at a t = a.left + min (t - a.from) a.ticks * a.width / a.cell
 
--- where a cell begins
+-- the place at which a cell begins
 abbrev pub x_of_cell : AxisSeen → ℕ → ℕ
 x_of_cell a i = a.left + min i a.cells * a.width
 
@@ -54,6 +55,6 @@ x_of_cell a i = a.left + min i a.cells * a.width
 abbrev pub right_of : AxisSeen → ℕ
 right_of a = a.left + a.cells * a.width
 
--- the first tick of a cell, as far as a clock goes
+-- the first tick of a cell, at most 2^64 - 1
 abbrev pub tick_of_cell : AxisSeen → ℕ → ℕ
 tick_of_cell a i = told (a.from + i * a.cell)

@@ -1,8 +1,9 @@
--- Where the parts of a row stand, from its top.
+-- The places of the parts of a row, from its top.
 use Rattle.std.specs.Prelude.{ℕ, ◌≤◌, Bool, true, false, ltb, leb, if◌then◌else◌}
 use Rattle.cbs_shapes.specs.Axes.{AxisSeen}
 
--- whether there are many rows; whether cells have several ticks; whether budgets are drawn; where the parts of a row stand
+-- a layout: the places of the parts of a row. Beside them: whether there are more than eight rows, whether cells have
+-- several ticks, and whether budgets are drawn
 pub record LayoutSeen : Type 0 where
   pub compact : Bool
   pub dense : Bool
@@ -27,7 +28,8 @@ pub record IsLayout (top bar height lane line tip row : ℕ) : Type 0 where
   pub tip_low : tip ≤ 10000
   pub row_short : row ≤ 10000
 
--- rows of up to 8 servers, a cell of one tick, with budgets and without; of cells of several ticks; and of more servers
+-- the layouts: of up to 8 servers with a cell of one tick, without budgets and with them; of cells of several ticks; of
+-- more servers
 abbrev pub roomy : LayoutSeen
 roomy = record { compact = false; dense = false; budgets = false; top = 300; bar = 1400; height = 1800; lane = 400; line = 3600; tip = 4700; row = 6100 }
 
@@ -43,7 +45,7 @@ compact = record { compact = true; dense = false; budgets = false; top = 100; ba
 abbrev pub compact_columns : LayoutSeen
 compact_columns = record { compact = true; dense = true; budgets = false; top = 100; bar = 600; height = 1400; lane = 200; line = 2200; tip = 2200; row = 2600 }
 
--- the rows of so many servers
+-- the layout for this many servers
 abbrev pub layout_of : ℕ → AxisSeen → LayoutSeen
 layout_of servers a =
     if ltb 8 servers then (if ltb 1 a.cell then compact_columns else compact)

@@ -8,7 +8,7 @@ unfoldable pub box_text : ℕ → ℕ → ℕ → ℕ → List ℕ
 box_text x y width height =
     codes "M" ++ decimal x ++ codes " " ++ decimal y ++ codes "h" ++ decimal width ++ codes "v" ++ decimal height ++ codes "h-" ++ decimal width ++ codes "z"
 
--- how wide a stretch is
+-- the width of a stretch
 abbrev pub width_of : AxisSeen → Stretch → ℕ
 width_of a p = x_at a p.to - x_at a p.from
 
@@ -16,19 +16,19 @@ width_of a p = x_at a p.to - x_at a p.from
 abbrev pub stretch_text : AxisSeen → ℕ → ℕ → Stretch → List ℕ
 stretch_text a y height p = box_text (x_at a p.from) y (width_of a p) height
 
--- an arrow that points up from one height to another, with a head
+-- an arrow with a head that points up, from one height to another
 unfoldable pub arrow_up_text : ℕ → ℕ → ℕ → ℕ → ℕ → List ℕ
 arrow_up_text x from to half high =
     codes "M" ++ decimal x ++ codes " " ++ decimal from ++ codes "V" ++ decimal to ++ codes "m-" ++ decimal half ++ codes " " ++ decimal high
     ++ codes "l" ++ decimal half ++ codes "-" ++ decimal high ++ codes "l" ++ decimal half ++ codes " " ++ decimal high
 
--- .. that points down
+-- an arrow with a head that points down, from one height to another
 unfoldable pub arrow_down_text : ℕ → ℕ → ℕ → ℕ → ℕ → List ℕ
 arrow_down_text x from to half high =
     codes "M" ++ decimal x ++ codes " " ++ decimal from ++ codes "V" ++ decimal to ++ codes "m-" ++ decimal half ++ codes "-" ++ decimal high
     ++ codes "l" ++ decimal half ++ codes " " ++ decimal high ++ codes "l" ++ decimal half ++ codes "-" ++ decimal high
 
--- an upright line
+-- an upright line, from one height to another
 unfoldable pub upright_text : ℕ → ℕ → ℕ → List ℕ
 upright_text x from to = codes "M" ++ decimal x ++ codes " " ++ decimal from ++ codes "V" ++ decimal to
 
@@ -38,19 +38,19 @@ cross_text x from top =
     codes "M" ++ decimal x ++ codes " " ++ decimal from ++ codes "V" ++ decimal (top + 250) ++ codes "M" ++ decimal (x - 250) ++ codes " " ++ decimal top
     ++ codes "l500 500M" ++ decimal (x - 250) ++ codes " " ++ decimal (top + 500) ++ codes "l500-500"
 
--- a shape of a class, if there is one
+-- a shape of a class; nothing if the shape is empty
 unfoldable pub path_text : List ℕ → List ℕ → List ℕ
 path_text class shape =
     if eqb (length shape) 0 then []
     else codes "<path class=\"" ++ class ++ codes "\" d=\"" ++ shape ++ codes "\"/>\n"
 
--- .. with lines of a width
+-- a shape of a class, with lines of this width; nothing if the shape is empty
 unfoldable pub lines_text : List ℕ → ℕ → List ℕ → List ℕ
 lines_text class stroke shape =
     if eqb (length shape) 0 then []
     else codes "<path class=\"" ++ class ++ codes "\" stroke-width=\"" ++ decimal stroke ++ codes "\" d=\"" ++ shape ++ codes "\"/>\n"
 
--- .. with a title
+-- a shape of a class, with a title
 unfoldable pub titled_text : List ℕ → List ℕ → List ℕ → List ℕ
 titled_text class shape title =
     codes "<path class=\"" ++ class ++ codes "\" d=\"" ++ shape ++ codes "\"><title>" ++ title ++ codes "</title></path>\n"

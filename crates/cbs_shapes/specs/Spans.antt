@@ -11,7 +11,7 @@ use Rattle.cbs_shapes.specs.Axes.{AxisSeen, x_at}
 use Rattle.cbs_shapes.specs.Layouts.{LayoutSeen}
 use Rattle.cbs_shapes.specs.Shapes.{box_text, label_text, path_text, stretch_text, titled_text, width_of}
 
--- the server has a job, and does not run: its ticks are pale
+-- ticks of this kind are pale: the server has a job, and does not run
 abbrev pub is_pale : Kind → Bool
 is_pale kind.Waits = true
 is_pale kind.Held = true
@@ -24,26 +24,26 @@ pale_text a l p = if is_pale p.kind then stretch_text a l.bar l.height p else []
 unfoldable pub pale_path : AxisSeen → LayoutSeen → List Stretch → List ℕ
 pale_path a l ps = path_text (codes "wait") (flat_map (pale_text a l) ps)
 
--- what goes on in a stretch, and in which ticks
+-- the title of a stretch: what goes on in it, and in which ticks
 unfoldable pub stretch_title : List ℕ → List ℕ → Stretch → List ℕ
 stretch_title name what p = name ++ what ++ codes ": ticks " ++ decimal p.from ++ codes " to " ++ decimal p.to
 
--- by how much a job was finished late, if it was
+-- by how many ticks a job was finished late, if it was
 abbrev pub late_by_text : Option ℕ → ℕ → List ℕ
 late_by_text None took = []
 late_by_text (Some within) took = if ltb within took then codes ", late by " ++ decimal (took - within) else []
 
--- when a job was finished
+-- at which tick a job was finished, and by how much it was late
 abbrev pub finish_text : ChartJob → Option ℕ → List ℕ
 finish_text job None = codes ", not finished"
 finish_text job (Some finish) = codes ", finished at " ++ decimal finish ++ late_by_text job.within (finish - job.came)
 
--- when it came, and when it was finished
+-- at which tick a job came, and at which it was finished
 abbrev pub job_text : Option ChartJob → List ℕ
 job_text None = []
 job_text (Some job) = codes "; came at " ++ decimal job.came ++ finish_text job job.finish
 
--- the job of a number
+-- the job with this number, if it is among the jobs
 abbrev pub job_numbered : ℕ → List ChartJob → Option ChartJob
 job_numbered j jobs = find (λ job. eqb job.number j) jobs
 
@@ -51,7 +51,7 @@ job_numbered j jobs = find (λ job. eqb job.number j) jobs
 unfoldable pub bar_title : List ℕ → ℕ → Stretch → List ChartJob → List ℕ
 bar_title name j p jobs = stretch_title name (codes " job " ++ decimal j) p ++ job_text (job_numbered j jobs)
 
--- bars of one job after another differ, and so do those of soft and of throttled servers
+-- the class of a bar. It differs between a job and the next one, and between soft and throttled servers
 abbrev pub bar_class : Mode → Bool → List ℕ
 bar_class mode.Soft true = codes "s0"
 bar_class mode.Soft false = codes "s1"
@@ -70,7 +70,7 @@ unfoldable pub bar_text : AxisSeen → LayoutSeen → Mode → List ℕ → List
 bar_text a l mode name jobs j p =
     titled_text (bar_class mode (eqb (j % 2) 0)) (stretch_text a l.bar l.height p) (bar_title name j p jobs) ++ number_text a l j p
 
--- other ticks, with what goes on in them
+-- ticks that are no bar, with what goes on in them as a title
 unfoldable pub other_text : AxisSeen → LayoutSeen → List ℕ → List ℕ → List ℕ → Stretch → List ℕ
 other_text a l class name what p = titled_text class (stretch_text a l.bar l.height p) (stretch_title name what p)
 
@@ -82,7 +82,7 @@ span_text a l mode name jobs kind.Held p = other_text a l (codes "hatch") name (
 span_text a l mode name jobs kind.Resting p = other_text a l (codes "hatch") name (codes " throttled, without a job") p
 span_text a l mode name jobs _ p = []
 
--- ticks in which a job is late, at least a pixel and a half wide
+-- ticks in which a job is late, drawn at least a pixel and a half wide
 unfoldable pub late_text : AxisSeen → LayoutSeen → List ℕ → Stretch → List ℕ
 late_text a l name p =
     titled_text (codes "late") (box_text (x_at a p.from) (l.bar + l.height) (max (width_of a p) 150) l.lane) (stretch_title name (codes " late") p)

@@ -1,4 +1,4 @@
-//! Where ticks stand.
+//! The places of ticks.
 
 ghost use Rattle.std.specs.Prelude.{◌≡◌, ◌+◌, ◌≤◌, ◌<◌};
 ghost use Rattle.cbs_chart.specs.Counts.{told};
@@ -7,7 +7,7 @@ ghost use Rattle.cbs_shapes.specs.Axes.{axis_of, cell_of, cells_of, right_of, ti
 use cbs_chart::Window;
 use std::marker::Model;
 
-/// Where ticks stand, in hundredths of a pixel.
+/// The places of ticks, in hundredths of a pixel.
 #[derive(Clone, Copy)]
 pub struct Axis {
     left: u64,
@@ -30,7 +30,7 @@ impl Model for Axis {
     ghost inverse = { λ a. record { left = a.left; from = a.from; ticks = a.ticks; cell = a.cell; cells = a.cells; width = a.width } };
 }
 
-/// Returns how many ticks a cell has, of so many.
+/// Returns how many ticks a cell has if there are `ticks` of them: 1 to 20,000.
 fn cell_of(ticks: u64) -> u64
     requires { ticks ≤ 20000 }
     ensures value { result ≡ cell_of ticks }
@@ -40,7 +40,7 @@ fn cell_of(ticks: u64) -> u64
     ticks.div_ceil(1000).max(1)
 }
 
-/// Returns how many cells there are, of so many ticks.
+/// Returns how many cells there are for `ticks` ticks: 1 to 1,000.
 fn cells_of(ticks: u64) -> u64
     requires { ticks ≤ 20000 }
     ensures value { result ≡ cells_of ticks }
@@ -51,7 +51,7 @@ fn cells_of(ticks: u64) -> u64
 }
 
 impl Axis {
-    /// Returns the axis of a window.
+    /// Returns the axis of a window, with its left edge at `left`.
     pub fn of(window: Window, left: u64) -> Axis
         requires { left ≤ 100000 }
         ensures { result ≡ axis_of window left }
@@ -70,7 +70,7 @@ impl Axis {
         }
     }
 
-    /// Returns where a tick begins.
+    /// Returns the place at which a tick begins.
     pub fn x(&self, tick: u64) -> u64
         ensures value { result ≡ x_at self.now tick }
         ensures small { result ≤ 100100000 }
@@ -79,7 +79,7 @@ impl Axis {
         self.left + ticks * self.width / self.cell
     }
 
-    /// Returns where a cell begins.
+    /// Returns the place at which a cell begins.
     pub fn x_of_cell(&self, cell: u64) -> u64
         ensures value { result ≡ x_of_cell self.now cell }
         ensures small { result ≤ 5100000 }
@@ -128,7 +128,7 @@ impl Axis {
         self.cells
     }
 
-    /// Returns the first tick of a cell, as far as a clock goes.
+    /// Returns the first tick of a cell, or 2^64 - 1 if it would be greater.
     pub fn tick_of_cell(&self, cell: u64) -> u64
         requires { cell ≤ 1001 }
         ensures { result ≡ tick_of_cell self.now cell }
@@ -136,7 +136,7 @@ impl Axis {
         self.from.saturating_add(cell * self.cell)
     }
 
-    /// Returns how many ticks there are.
+    /// Returns how many ticks there are: at most 20,000.
     pub fn ticks(&self) -> u64
         ensures value { result ≡ self.now.ticks }
         ensures few { result ≤ 20000 }
@@ -144,7 +144,7 @@ impl Axis {
         self.ticks
     }
 
-    /// Returns the tick at a place, as far as a clock goes.
+    /// Returns the tick with this place after the first tick, or 2^64 - 1 if it would be greater.
     pub fn tick(&self, place: u64) -> u64
         ensures { result ≡ told (self.now.from + place) }
     {

@@ -1,4 +1,4 @@
-//! What a server does, drawn by counts of ticks in cells.
+//! What a server does, drawn in columns by counts of ticks in cells.
 
 ghost use Rattle.std.specs.Prelude.{◌≡◌, ◌≤◌, ◌<◌, ◌++◌, IfOk, OnOk, length, string_bytes};
 ghost use Rattle.cbs_shapes.specs.Columns.{cell_counts, columns_shape, count_up_to, counts_at, edge_between, edge_text, edges_text, end_text, height_before, height_of, heights_of, layer_height};
@@ -8,16 +8,16 @@ use cbs_chart::{Counts, Stretch};
 use std::alloc::{AllocError, Global};
 use std::fmt::Write;
 
-/// A layer of columns: ticks in which this goes on.
+/// A layer of columns: the ticks in which this goes on.
 #[derive(Clone, Copy, Debug, PartialEq, Eq)]
 pub enum Layer {
     /// The server runs.
     Runs,
-    /// It runs or is charged.
+    /// The server runs or is charged.
     Charged,
-    /// It runs, is charged, or is throttled with a job.
+    /// The server runs, is charged, or is throttled with a job.
     Held,
-    /// It runs, is charged, or has a job.
+    /// The server runs, is charged, or has a job.
     Active,
     /// Nobody runs.
     Idle,
@@ -56,7 +56,7 @@ pub fn cell_counts(
     Ok(counts)
 }
 
-/// Returns the ticks of a layer, of at most those of a cell.
+/// Returns how many ticks of a cell are in a layer: at most all ticks of the cell.
 fn count_up_to(cell: u64, layer: Layer, counts: &Counts) -> u64
     requires { cell ≤ 20000 }
     ensures value { result ≡ count_up_to cell layer counts.now }
@@ -86,7 +86,8 @@ fn count_up_to(cell: u64, layer: Layer, counts: &Counts) -> u64
     }
 }
 
-/// Returns the height of a count of ticks: none has none, one can be seen, and all of a cell have the whole height.
+/// Returns the height of a count of ticks. A count of 0 has height 0, and a count of 1 is high enough to be seen. All
+/// ticks of a cell have the whole height.
 #[tactic(auto, unfolding(crate::specs::Columns::height_of))]
 fn height_of(cell: u64, whole: u64, count: u64) -> u64
     requires count { count ≤ 20000 }
@@ -99,7 +100,7 @@ fn height_of(cell: u64, whole: u64, count: u64) -> u64
     200 + count * whole.saturating_sub(200) / cell.max(1)
 }
 
-/// Returns the heights of a layer.
+/// Returns the heights of a layer in all cells.
 #[tactic(auto, unfolding(crate::specs::Columns::heights_of))]
 pub fn heights_of(
     alloc: Global,
@@ -118,7 +119,7 @@ pub fn heights_of(
     Ok(heights)
 }
 
-/// Returns the height before a cell.
+/// Returns the height of the cell before this one, or 0 if this is the first cell.
 fn height_before(heights: &[u64], cell: usize) -> u64
     requires { cell < length heights.now }
     ensures { result ≡ height_before heights.now cell }
@@ -126,7 +127,8 @@ fn height_before(heights: &[u64], cell: usize) -> u64
     if cell == 0 { 0 } else { heights[cell - 1] }
 }
 
-/// Appends the edge of a cell between two heights: it begins columns, ends them, or goes on with another height.
+/// Appends the left edge of a cell between two heights. The edge begins columns, ends them, or goes on at another
+/// height.
 fn append_edge_between(
     shape: &mut String,
     axis: &Axis,
@@ -151,7 +153,7 @@ fn append_edge_between(
     write!(shape, "H{x}V{y}")
 }
 
-/// Appends the edge of a cell.
+/// Appends the left edge of a cell.
 fn append_edge(
     shape: &mut String,
     axis: &Axis,
@@ -166,7 +168,7 @@ fn append_edge(
     append_edge_between(shape, axis, base, before, heights[cell], cell as u64)
 }
 
-/// Appends the edges of all cells.
+/// Appends the left edges of all cells.
 #[tactic(auto, unfolding(crate::specs::Columns::edges_text))]
 fn append_edges(
     shape: &mut String,
@@ -182,7 +184,7 @@ fn append_edges(
     Ok(())
 }
 
-/// Appends the end of columns at the right edge, if the last cell has a height.
+/// Appends the end of the columns at the right edge, if the last cell has a height.
 #[tactic(auto, unfolding(crate::specs::Columns::end_text))]
 fn append_end(shape: &mut String, axis: &Axis, base: u64, height: u64) -> Result<(), AllocError>
     ensures { OnOk result (string_bytes shape.new ≡ string_bytes shape.old ++ end_text axis.now base height) }
@@ -194,7 +196,7 @@ fn append_end(shape: &mut String, axis: &Axis, base: u64, height: u64) -> Result
     write!(shape, "H{right}V{base}z")
 }
 
-/// Appends columns on a base line.
+/// Appends columns that stand on the line `base`.
 #[tactic(auto, unfolding(crate::specs::Columns::columns_shape))]
 pub fn append_columns(
     shape: &mut String,

@@ -5,7 +5,7 @@ ghost use Rattle.cbs_shapes.specs.Escapes.{escaped, escaped_byte};
 
 use std::alloc::{AllocError, Global};
 
-/// Appends a byte as it is written.
+/// Appends a byte as it is written in XML.
 fn append_escaped(bytes: &mut Vec<u8>, byte: u8) -> Result<(), AllocError>
     ensures { OnOk result (bytes.new.items ≡ bytes.old.items ++ escaped_byte byte) }
 {
@@ -19,7 +19,8 @@ fn append_escaped(bytes: &mut Vec<u8>, byte: u8) -> Result<(), AllocError>
     }
 }
 
-/// Returns a text as it is written in XML: `&`, `<`, `>` and `"` in words, and what XML does not allow as a question mark.
+/// Returns a text as it is written in XML. `&`, `<`, `>` and `"` are written as entities, and what XML does not allow
+/// as a question mark.
 pub fn escaped(alloc: Global, text: &str) -> Result<String, AllocError>
     ensures { IfOk result (λ written. string_bytes written ≡ escaped text.now) }
 {

@@ -1,4 +1,4 @@
-//! Where the parts of a row stand, from its top.
+//! The places of the parts of a row, from its top.
 
 ghost use Rattle.std.specs.Prelude.{◌≡◌, ◌≤◌, true, false};
 ghost use Rattle.cbs_shapes.specs.Layouts.{compact, compact_columns, layout_of, roomy, roomy_columns, with_budgets};
@@ -6,7 +6,7 @@ ghost use Rattle.cbs_shapes.specs.Layouts.{compact, compact_columns, layout_of, 
 use crate::axis::Axis;
 use std::marker::Model;
 
-/// Where the parts of a row stand, in hundredths of a pixel from its top.
+/// The places of the parts of a row, in hundredths of a pixel from its top.
 #[derive(Clone, Copy)]
 pub struct Layout {
     compact: bool,
@@ -55,7 +55,7 @@ impl Model for Layout {
     } };
 }
 
-/// Returns the rows of up to eight servers, with or without budgets.
+/// Returns the layout of up to eight servers, with or without budgets.
 fn roomy(budgets: bool) -> Layout
     ensures without { budgets ≡ false → result ≡ roomy }
     ensures with { budgets ≡ true → result ≡ with_budgets }
@@ -74,7 +74,7 @@ fn roomy(budgets: bool) -> Layout
     }
 }
 
-/// Returns the rows of up to eight servers, of columns.
+/// Returns the layout of up to eight servers that are drawn in columns.
 fn roomy_columns() -> Layout
     ensures { result ≡ roomy_columns }
 {
@@ -92,7 +92,7 @@ fn roomy_columns() -> Layout
     }
 }
 
-/// Returns the rows of more servers.
+/// Returns the layout of more than eight servers.
 fn compact() -> Layout
     ensures { result ≡ compact }
 {
@@ -110,7 +110,7 @@ fn compact() -> Layout
     }
 }
 
-/// Returns the rows of more servers, of columns.
+/// Returns the layout of more than eight servers that are drawn in columns.
 fn compact_columns() -> Layout
     ensures { result ≡ compact_columns }
 {
@@ -129,7 +129,7 @@ fn compact_columns() -> Layout
 }
 
 impl Layout {
-    /// Returns the rows of so many servers.
+    /// Returns the layout for this many servers.
     pub fn of(servers: usize, axis: &Axis) -> Layout
         ensures { result ≡ layout_of servers axis.now }
     {
@@ -141,14 +141,14 @@ impl Layout {
         }
     }
 
-    /// Returns whether there are many rows.
+    /// Returns whether there are more than eight rows.
     pub fn is_compact(&self) -> bool
         ensures { result ≡ self.now.compact }
     {
         self.compact
     }
 
-    /// Returns whether cells have several ticks.
+    /// Returns whether a cell has several ticks, so that columns are drawn.
     pub fn is_dense(&self) -> bool
         ensures { result ≡ self.now.dense }
     {
@@ -162,7 +162,7 @@ impl Layout {
         self.budgets
     }
 
-    /// Returns where arrows of arrivals end.
+    /// Returns where the arrows of arrivals end.
     pub fn top(&self) -> u64
         ensures value { result ≡ self.now.top }
         ensures small { result ≤ 10000 }
@@ -170,7 +170,7 @@ impl Layout {
         self.top
     }
 
-    /// Returns where bars begin.
+    /// Returns where the bars begin.
     pub fn bar(&self) -> u64
         ensures value { result ≡ self.now.bar }
         ensures above { 500 ≤ result }
@@ -188,7 +188,7 @@ impl Layout {
         self.height
     }
 
-    /// Returns the height of the lane of lateness.
+    /// Returns the height of the lane for late jobs.
     pub fn lane(&self) -> u64
         ensures value { result ≡ self.now.lane }
         ensures small { result ≤ 10000 }
@@ -196,7 +196,7 @@ impl Layout {
         self.lane
     }
 
-    /// Returns where the line stands.
+    /// Returns where the line of the row is.
     pub fn line(&self) -> u64
         ensures value { result ≡ self.now.line }
         ensures small { result ≤ 10000 }
@@ -204,7 +204,7 @@ impl Layout {
         self.line
     }
 
-    /// Returns where arrows of deadlines end.
+    /// Returns where the arrows of deadlines end.
     pub fn tip(&self) -> u64
         ensures value { result ≡ self.now.tip }
         ensures small { result ≤ 10000 }

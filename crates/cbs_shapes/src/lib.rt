@@ -1,4 +1,4 @@
-//! The shapes of a picture of a run, as SVG: where ticks and the parts of a row stand, and what is drawn there.
+//! The shapes of a picture of a run, as SVG. They stand at the places of ticks and of the parts of a row.
 //!
 //! All lengths are hundredths of a pixel. The only error of each call is out of memory.
 #![tactic(auto)]

@@ -1,4 +1,4 @@
-//! Marks of ticks: what comes, what ends, what is refused, and deadlines; and the course of a budget.
+//! The marks of ticks: jobs that come, are finished or are refused, and deadlines. Also the course of a budget.
 
 ghost use Rattle.std.specs.Prelude.{◌≡◌, ◌≤◌, ◌^◌, ◌<◌, ◌++◌, OnOk, string_bytes};
 ghost use Rattle.cbs_shapes.specs.Marks.{arrival_text, arrivals_path, budget_text, completion_text, completions_path, corner_text, corners_text, course_path, crosses_text, deadline_text, deadlines_path, half_of, high_of, level_of, refusal_text, refused_path, rise_of, stroke_of};
@@ -12,7 +12,7 @@ use cbs_chart::{Corner, Stretch};
 use std::alloc::{AllocError, Global};
 use std::fmt::Write;
 
-/// Returns how wide the lines of marks are.
+/// Returns the width of the lines of marks.
 fn stroke_of(axis: &Axis) -> u64
     ensures value { result ≡ stroke_of axis.now }
     ensures small { result ≤ 120 }
@@ -20,7 +20,7 @@ fn stroke_of(axis: &Axis) -> u64
     (axis.width() * 3 / 5).min(120)
 }
 
-/// Returns how wide half of an arrow's head is.
+/// Returns half the width of an arrow's head.
 fn half_of(axis: &Axis) -> u64
     ensures value { result ≡ half_of axis.now }
     ensures small { result ≤ 300 }
@@ -28,14 +28,14 @@ fn half_of(axis: &Axis) -> u64
     (axis.width() * 9 / 10).min(300)
 }
 
-/// Returns how high an arrow's head is.
+/// Returns the height of an arrow's head.
 fn high_of(axis: &Axis) -> u64
     ensures { result ≡ high_of axis.now }
 {
     half_of(axis) * 4 / 3
 }
 
-/// Appends an arrow onto the bar where a job comes.
+/// Appends an arrow that stands on the bar at the tick at which a job comes.
 fn append_arrival(
     shape: &mut String,
     axis: &Axis,
@@ -54,7 +54,7 @@ fn append_arrival(
     )
 }
 
-/// Appends arrows where jobs come.
+/// Appends arrows at the ticks at which jobs come.
 #[tactic(auto, unfolding(crate::specs::Marks::arrivals_path))]
 pub fn append_arrivals(
     alloc: Global,
@@ -72,7 +72,7 @@ pub fn append_arrivals(
     append_lines(text, "mark", stroke_of(axis), &shape)
 }
 
-/// Appends an arrow that hangs from the line at a deadline.
+/// Appends an arrow that points down from the line at a deadline.
 fn append_deadline(
     shape: &mut String,
     axis: &Axis,
@@ -91,7 +91,7 @@ fn append_deadline(
     )
 }
 
-/// Appends arrows at deadlines.
+/// Appends arrows at the ticks of deadlines.
 #[tactic(auto, unfolding(crate::specs::Marks::deadlines_path))]
 pub fn append_deadlines(
     alloc: Global,
@@ -109,7 +109,7 @@ pub fn append_deadlines(
     append_lines(text, "mark", stroke_of(axis), &shape)
 }
 
-/// Returns how far a line of a completion stands out above the bar.
+/// Returns how far the line of a finished job rises above the bar.
 fn rise_of(layout: &Layout) -> u64
     ensures value { result ≡ rise_of layout.now }
     ensures small { result ≤ 400 }
@@ -117,7 +117,7 @@ fn rise_of(layout: &Layout) -> u64
     if layout.is_compact() { 150 } else { 400 }
 }
 
-/// Appends a line over the end of the bar where a job is finished.
+/// Appends a line across the end of the bar, at the tick at which a job is finished.
 fn append_completion(
     shape: &mut String,
     axis: &Axis,
@@ -134,7 +134,7 @@ fn append_completion(
     )
 }
 
-/// Appends lines where jobs are finished.
+/// Appends lines at the ticks at which jobs are finished.
 #[tactic(auto, unfolding(crate::specs::Marks::completions_path))]
 pub fn append_completions(
     alloc: Global,
@@ -152,7 +152,7 @@ pub fn append_completions(
     append_lines(text, "mark", stroke_of(axis) * 3 / 2, &shape)
 }
 
-/// Appends a cross in a tick in which a release is refused.
+/// Appends a cross at a tick in which a release is refused.
 fn append_refusal(
     shape: &mut String,
     axis: &Axis,
@@ -164,7 +164,7 @@ fn append_refusal(
     append_cross(shape, axis.x(tick), layout.bar(), layout.top())
 }
 
-/// Appends crosses in the ticks of a stretch, in which releases are refused.
+/// Appends a cross at each tick of a stretch in which releases are refused.
 #[tactic(auto, unfolding(crate::specs::Marks::crosses_text))]
 fn append_crosses(
     shape: &mut String,
@@ -180,7 +180,7 @@ fn append_crosses(
     Ok(())
 }
 
-/// Appends crosses where releases are refused.
+/// Appends crosses at the ticks in which releases are refused.
 #[tactic(auto, unfolding(crate::specs::Marks::refused_path))]
 pub fn append_refused(
     alloc: Global,
@@ -198,7 +198,7 @@ pub fn append_refused(
     append_lines(text, "no", 160, &shape)
 }
 
-/// Returns how high a budget stands, of a whole one.
+/// Returns the height at which a budget is drawn, if a whole budget is `whole`.
 #[tactic(auto, unfolding(crate::specs::Marks::level_of))]
 fn level_of(whole: u64, budget: u64) -> u64
     requires { whole ≤ 1000000000 }
@@ -207,7 +207,7 @@ fn level_of(whole: u64, budget: u64) -> u64
     6300u64.saturating_sub(budget.min(whole) * 1300 / whole.max(1))
 }
 
-/// Appends a corner of a budget's course.
+/// Appends a corner of the course of a budget.
 #[tactic(auto, unfolding(crate::specs::Marks::corner_text))]
 fn append_corner(
     text: &mut String,
@@ -223,7 +223,7 @@ fn append_corner(
     write!(text, "L{x} {level}")
 }
 
-/// Appends all corners.
+/// Appends all corners of the course of a budget.
 #[tactic(auto, unfolding(crate::specs::Marks::corners_text))]
 fn append_corners(
     text: &mut String,
@@ -260,7 +260,7 @@ fn append_course(
     writeln!(text, "H{right}V6300z\"/>")
 }
 
-/// Appends the course of a budget, with what a whole one is, if budgets are drawn.
+/// Appends the course of a budget, labelled with the whole budget, if budgets are drawn.
 #[tactic(auto, unfolding(crate::specs::Marks::budget_text))]
 pub fn append_budget(
     alloc: Global,

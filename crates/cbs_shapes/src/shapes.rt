@@ -22,7 +22,7 @@ pub(crate) fn append_box(
     write!(shape, "M{x} {y}h{width}v{height}h-{width}z")
 }
 
-/// Returns how wide a stretch is.
+/// Returns the width of a stretch.
 pub(crate) fn width_of(axis: &Axis, stretch: &Stretch) -> u64
     ensures value { result ≡ width_of axis.now stretch.now }
     ensures small { result ≤ 100100000 }
@@ -49,7 +49,7 @@ pub fn append_stretch(
     )
 }
 
-/// Appends an arrow that points up from one height to another, with a head.
+/// Appends an arrow with a head that points up, from one height to another.
 #[tactic(auto, unfolding(crate::specs::Shapes::arrow_up_text))]
 pub(crate) fn append_arrow_up(
     shape: &mut String,
@@ -67,7 +67,7 @@ pub(crate) fn append_arrow_up(
     )
 }
 
-/// Appends an arrow that points down from one height to another, with a head.
+/// Appends an arrow with a head that points down, from one height to another.
 #[tactic(auto, unfolding(crate::specs::Shapes::arrow_down_text))]
 pub(crate) fn append_arrow_down(
     shape: &mut String,
@@ -85,7 +85,7 @@ pub(crate) fn append_arrow_down(
     )
 }
 
-/// Appends an upright line.
+/// Appends an upright line, from one height to another.
 #[tactic(auto, unfolding(crate::specs::Shapes::upright_text))]
 pub fn append_upright(shape: &mut String, x: u64, from: u64, to: u64) -> Result<(), AllocError>
     ensures { OnOk result (string_bytes shape.new ≡ string_bytes shape.old ++ upright_text x from to) }
@@ -113,7 +113,7 @@ pub(crate) fn append_cross(
     )
 }
 
-/// Appends a shape of a class, if there is one.
+/// Appends a shape of a class, unless the shape is empty.
 #[tactic(auto, unfolding(crate::specs::Shapes::path_text))]
 pub fn append_path(text: &mut String, class: &str, shape: &str) -> Result<(), AllocError>
     ensures { OnOk result (string_bytes text.new ≡ string_bytes text.old ++ path_text class.now shape.now) }
@@ -124,7 +124,7 @@ pub fn append_path(text: &mut String, class: &str, shape: &str) -> Result<(), Al
     writeln!(text, "<path class=\"{class}\" d=\"{shape}\"/>")
 }
 
-/// Appends a shape of a class, with lines of a width, if there is one.
+/// Appends a shape of a class, with lines of this width, unless the shape is empty.
 #[tactic(auto, unfolding(crate::specs::Shapes::lines_text))]
 pub(crate) fn append_lines(
     text: &mut String,

@@ -14,12 +14,12 @@ use cbs_rules::Mode;
 use std::alloc::{AllocError, Global};
 use std::fmt::Write;
 
-/// A row that is drawn: where, and of which server.
+/// The row that is drawn: its place, and its server.
 #[derive(Clone, Copy)]
 pub struct Place<'a> {
-    /// Where ticks stand.
+    /// The places of ticks.
     pub axis: Axis,
-    /// Where the parts of a row stand.
+    /// The places of the parts of the row.
     pub layout: Layout,
     /// The server's mode.
     pub mode: Mode,
@@ -27,7 +27,7 @@ pub struct Place<'a> {
     pub name: &'a str,
 }
 
-/// Returns whether ticks of a kind are pale: the server has a job, and does not run.
+/// Returns whether ticks of this kind are pale: the server has a job, and does not run.
 fn is_pale(kind: Kind) -> bool
     ensures { result ≡ is_pale kind }
 {
@@ -38,7 +38,7 @@ fn is_pale(kind: Kind) -> bool
     }
 }
 
-/// Appends the box of a stretch, if it is pale.
+/// Appends the box of a stretch, if its ticks are pale.
 fn append_if_pale(
     shape: &mut String,
     axis: &Axis,
@@ -71,7 +71,7 @@ pub fn append_pale(
     append_path(text, "wait", &shape)
 }
 
-/// Returns what goes on in a stretch, and in which ticks.
+/// Returns the title of a stretch: what goes on in it, and in which ticks.
 #[tactic(auto, unfolding(crate::specs::Spans::stretch_title))]
 pub(crate) fn stretch_title(
     alloc: Global,
@@ -86,7 +86,7 @@ pub(crate) fn stretch_title(
     format!(in alloc; "{name}{what}: ticks {from} to {to}")
 }
 
-/// Appends by how much a job that took so many ticks was finished late, if it was.
+/// Appends by how many ticks a job that took `took` ticks was finished late, if it was.
 fn append_late_by(title: &mut String, within: Option<u64>, took: u64) -> Result<(), AllocError>
     ensures { OnOk result (string_bytes title.new ≡ string_bytes title.old ++ late_by_text within took) }
 {
@@ -99,7 +99,7 @@ fn append_late_by(title: &mut String, within: Option<u64>, took: u64) -> Result<
     }
 }
 
-/// Appends when a job was finished.
+/// Appends at which tick a job was finished, and by how much it was late.
 fn append_finish(title: &mut String, job: &ChartJob, finish: Option<u64>) -> Result<(), AllocError>
     ensures { OnOk result (string_bytes title.new ≡ string_bytes title.old ++ finish_text job.now finish) }
 {
@@ -110,7 +110,7 @@ fn append_finish(title: &mut String, job: &ChartJob, finish: Option<u64>) -> Res
     append_late_by(title, job.within, finish.saturating_sub(job.came))
 }
 
-/// Appends when a job came, and when it was finished.
+/// Appends at which tick a job came, and at which it was finished.
 fn append_job(title: &mut String, job: Option<ChartJob>) -> Result<(), AllocError>
     ensures { OnOk result (string_bytes title.new ≡ string_bytes title.old ++ job_text job) }
 {
@@ -122,7 +122,7 @@ fn append_job(title: &mut String, job: Option<ChartJob>) -> Result<(), AllocErro
     append_finish(title, &job, job.finish)
 }
 
-/// Returns the job of a number.
+/// Returns the job with this number, or `None` if it is not among the jobs.
 fn job_numbered(number: u64, jobs: &[ChartJob]) -> Option<ChartJob>
     ensures { result ≡ job_numbered number jobs.now }
 {
@@ -146,7 +146,7 @@ fn bar_title(
     Ok(title)
 }
 
-/// Returns the class of a bar: bars of one job after another differ, and so do those of soft and of throttled servers.
+/// Returns the class of a bar. It differs between a job and the next one, and between soft and throttled servers.
 pub fn bar_class(mode: Mode, even: bool) -> &'static str
     ensures { result.now ≡ bar_class mode even }
 {
@@ -158,7 +158,7 @@ pub fn bar_class(mode: Mode, even: bool) -> &'static str
     }
 }
 
-/// Returns the box of a stretch in the height of bars.
+/// Returns the box of a stretch, as high as a bar.
 fn bar_shape(
     alloc: Global,
     axis: &Axis,
@@ -217,7 +217,7 @@ fn append_bar(
     append_number(alloc, text, &place.axis, &place.layout, number, span)
 }
 
-/// Appends other ticks, with what goes on in them.
+/// Appends ticks that are no bar, with what goes on in them as a title.
 #[tactic(auto, unfolding(crate::specs::Spans::other_text))]
 fn append_other(
     alloc: Global,
@@ -262,7 +262,7 @@ pub fn append_span(
     }
 }
 
-/// Appends ticks in which a job is late, at least a pixel and a half wide.
+/// Appends ticks in which a job is late. They are drawn at least a pixel and a half wide.
 #[tactic(auto, unfolding(crate::specs::Spans::late_text))]
 pub fn append_late(
     alloc: Global,

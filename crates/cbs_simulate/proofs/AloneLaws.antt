@@ -19,7 +19,7 @@ use Rattle.cbs_simulate.proofs.Simulations.{moves_are, quiet_steps}
 use Rattle.cbs_simulate.proofs.Uncharged.{uncharged, free_steps, at_ticks, plain_new}
 
 module _ {W : Type 0} (work : Meaning W) (job : Release → W) where
-  -- moves leave what was given
+  -- moves do not change the setup
   same_setup : (sim : Simulation W) (ms : List Move) → sim.history.setup ≡ (after_moves work job sim ms).history.setup
   same_setup sim [] = refl
   same_setup sim (m ∷ ms) = same_setup (after_move work job sim m) ms
@@ -56,7 +56,7 @@ module _ {W : Type 0} (work : Meaning W) (job : Release → W) where
       → SeesSome work job until saw failed sim w w
   sees_none until saw failed sim w = record { done = []; left = moves_of work job until sim; all = refl; seen = λ first seen was. inl was }
 
-  -- a new core that stopped did so after some of the moves
+  -- a new core that stopped stopped after the first moves, up to some move
   pub sees_some : (until : ℕ) → until ≤ clock_end → {S : Type 0} (saw failed : S → S → List Sight → Type 0) (ts : List Terms) (backlog : ℕ)
       (coming : List Release) (new : CoreHeld W) (w v : S) → IsInOrder 0 coming
       → (let sim : Simulation W = record { history = record { setup = record { servers = ts; backlog = backlog }; steps = [] }; coming = coming; owing = None } in

@@ -17,38 +17,38 @@ module _ {W : Type 0} (work : Meaning W) where
   advanced-now w zero = omega arith
   advanced-now w (suc n) = ap (λ (v : World W). v.now) (advance_jumps w (suc n) (omega arith))
 
-  -- so does the step, if it is not refused
+  -- the step moves the clock on by n, if it is not refused
   pub advance-now : (backlog : ℕ) (w : World W) (n : ℕ) → w.now + n ≤ clock_end → (next work backlog w (Advance n)).now ≡ w.now + n
   advance-now backlog w n within =
       let t : leb (w.now + n) clock_end ≡ true = grind (arith, nat_tests) in
       rw t (advanced-now w n)
 
-  -- so does a charge
+  -- a charge moves the clock on by its ticks
   pub charge-now : (backlog : ℕ) (w : World W) (s n : ℕ) → 0 < n → charge_refusal w s n ≡ None → (next work backlog w (Charge s n)).now ≡ w.now + n
   charge-now backlog w s n some granted = rw (granted, charge_jumps w s n some) refl
 
-  -- a submit lets it stand
+  -- a submit does not move the clock
   stands : (w : World W) (s : ℕ) (job : W) (o : Option CoreError) → (after_submit work w s job o).now ≡ w.now
   stands w s job None = refl
   stands w s job (Some e) = refl
 
-  -- so does the step
+  -- the step of a submit does not move the clock
   pub submit-now : (backlog : ℕ) (w : World W) (s : ℕ) (job : W) → (next work backlog w (Submit s job)).now ≡ w.now
   submit-now backlog w s job = stands w s job (submit_refusal backlog (faces work w) s)
 
-  -- a run moves it on by one at most
+  -- a run moves the clock on by at most one
   one_at_most : (w : World W) (o : Option ℕ) → (after_run w o).now ≤ w.now + 1
   one_at_most w None = omega arith
   one_at_most w (Some s) = omega arith
 
-  -- and by one if somebody is ready
+  -- a run moves the clock on by one if a server is ready
   pub run-now : (backlog : ℕ) (w : World W) → ¬ IsAtRest work w → w.now < clock_end → (next work backlog w Run).now ≡ w.now + 1
   run-now backlog w busy early =
       let most = one_at_most w (runner work w) in
       let least = run_later work backlog w busy early in
       omega arith
 
-  -- an idle span has a tick at least before the clock's end
+  -- an idle span has at least one tick before the clock's end
   pub span_some : (w : World W) (n : ℕ) → IsIdleSpan work w n → w.now < clock_end → 0 < n
   span_some w n span early =
       let within = span.within in

@@ -21,7 +21,7 @@ use Rattle.cbs_simulate.specs.declared.event.Event.TheVariants as event
 use Rattle.cbs_simulate.specs.declared.release.Release.{Release}
 use Rattle.cbs_simulate.proofs.Owing.{told_is}
 
--- what holds anyway holds at an error
+-- what holds in any case also holds at an error
 pub on_err : {T E P : Type 0} (r : Result T E) → P → OnErr r P
 on_err (Ok x) p = tt
 on_err (Err e) p = p
@@ -32,7 +32,7 @@ on_err_with (Ok x) f p = tt
 on_err_with (Err e) f p = f p
 
 module _ {W : Type 0} (work : Meaning W) (job : Release → W) where
-  -- a run, as it was answered
+  -- a run, with its result
   pub runs : (constant : (j : W) → whole work j ≡ work.output j) (sim : Simulation W) (old new : CoreHeld W) (r : Ran) (o : Option Charge)
       → Agrees work old sim.history → reply.Ran r ≡ reply_in work sim.history step.Run → Agrees work new (sim.history ⊕ step.Run) → DoesRun work r old new
       → o ≡ owing_told work new r → DoesMove work job sim run new (event.Ran r) o
@@ -81,7 +81,7 @@ module _ {W : Type 0} (work : Meaning W) (job : Release → W) where
   stops_after saw failed until sim m new e o w v next moves fails =
       record { moves = m ∷ []; each = (next, tt); state = moves.state; seen = λ first seen was. inr (rw (sight_is sim m new e o moves) at (fails first seen was)) }
 
-  -- only its room for jobs differs from that of a core that agrees
+  -- a core that agrees differs from this one only in its room for jobs
   pub same_but_room : (M : History W) (old new : CoreHeld W) (rooms : List ℕ) → new ≡ record old { rooms = rooms } → Agrees work old M → Agrees work new M
   same_but_room M old new rooms same agrees = rw same (record {
     world = record {
@@ -94,7 +94,7 @@ module _ {W : Type 0} (work : Meaning W) (job : Release → W) where
     };
   })
 
-  -- a move before the next release leaves the releases to come
+  -- a move before the next release does not change the releases to come
   same_coming : (now stop : ℕ) (o : Option ℕ) (coming : List Release) → coming ≡ coming_after (move_on now stop o) coming
   same_coming now stop None coming = refl
   same_coming now stop (Some span) coming = refl
@@ -107,7 +107,7 @@ module _ {W : Type 0} (work : Meaning W) (job : Release → W) where
     none_left [] e early = let f : leb until (world_after work M).now ≡ false = grind (arith, nat_tests) in rw f refl
     none_left (r ∷ rs) e early = cc
 
-    -- if none has come, it is the one up to the first of them, or to `until`
+    -- if no release has come, the next move is the one up to the first of them, or to `until`
     pub none_come : (coming : List Release) (r : Release) → slice_get coming 0 ≡ Some r → (world_after work M).now < until → (world_after work M).now < r.tick
         → next_of work job until (record { history = M; coming = coming; owing = None }) ≡ Some
         (move_to work job (min r.tick until) (record { history = M; coming = coming; owing = None }))
@@ -118,7 +118,7 @@ module _ {W : Type 0} (work : Meaning W) (job : Release → W) where
         let g : leb r.tick (world_after work M).now ≡ false = grind (arith, nat_tests) in
         rw (f, same, g) refl
 
-    -- if one has come, it is submitted
+    -- if a release has come, it is submitted
     pub one_come : (coming : List Release) (r : Release) → slice_get coming 0 ≡ Some r → (world_after work M).now < until → r.tick ≤ (world_after work M).now
         → next_of work job until (record { history = M; coming = coming; owing = None }) ≡ Some (submit r)
     one_come [] r e early come = cc
@@ -128,7 +128,7 @@ module _ {W : Type 0} (work : Meaning W) (job : Release → W) where
         let t : leb r.tick (world_after work M).now ≡ true = grind (arith, nat_tests) in
         rw (f, same, t) refl
 
-    -- if a core made a move up to `stop`, which is the next one, it made the next move
+    -- a core that made a move up to `stop` made the next move, if that is the next move
     pub makes_next : {S : Type 0} (saw : S → S → List Sight → Type 0) (stop : ℕ) (coming : List Release) (new : CoreHeld W) (o : Option Charge) (w v : S)
         → (let sim : Simulation W = record { history = M; coming = coming; owing = None } in
         next_of work job until sim ≡ Some (move_to work job stop sim) → MakesMove work job saw sim (move_to work job stop sim) new o w v
@@ -140,7 +140,7 @@ module _ {W : Type 0} (work : Meaning W) (job : Release → W) where
       rest = same_coming (world_after work M).now stop (idle_span (world_after work M).now (faces work (world_after work M))) coming;
     }
 
-    -- once the clock is at `until`, a release before that is submitted
+    -- when the clock is at `until`, a release before `until` is submitted
     pub one_late : (coming : List Release) (o : Option Charge) (r : Release) → slice_get coming 0 ≡ Some r → until ≤ (world_after work M).now → r.tick < until
         → next_of work job until (record { history = M; coming = coming; owing = o }) ≡ Some (submit r)
     one_late [] o r e late sooner = cc
@@ -150,7 +150,7 @@ module _ {W : Type 0} (work : Meaning W) (job : Release → W) where
         let s : ltb r.tick until ≡ true = grind (arith, nat_tests) in
         rw (t, same, s) refl
 
-    -- and none if there is no such release
+    -- if there is no such release, there is no next move
     pub none_late : (coming : List Release) (o : Option Charge) → until ≤ (world_after work M).now
         → ((r : Release) → slice_get coming 0 ≡ Some r → until ≤ r.tick)
         → next_of work job until (record { history = M; coming = coming; owing = o }) ≡ None
@@ -161,7 +161,7 @@ module _ {W : Type 0} (work : Meaning W) (job : Release → W) where
         let f : ltb r.tick until ≡ false = grind (arith, nat_tests) in
         rw (t, f) refl
 
-    -- up to the tick at which a release comes, the next move is the one up to that
+    -- up to the tick of the next release, the next move is the one up to that tick
     pub before_stop : (coming : List Release) → (world_after work M).now < stop_at until coming
         → (let sim : Simulation W = record { history = M; coming = coming; owing = None } in
         next_of work job until sim ≡ Some (move_to work job (stop_at until coming) sim))
@@ -182,20 +182,20 @@ module _ {W : Type 0} (work : Meaning W) (job : Release → W) where
       | inr ge ↦ one_late (q ∷ rs) o r e ge sooner
     ]
 
-    -- and there is no next move if there is none that did
+    -- if no release has come before `until`, there is no next move
     pub none_due : (coming : List Release) (o : Option Charge) → stop_at until coming ≤ (world_after work M).now
         → ((r : Release) → slice_get coming 0 ≡ Some r → until ≤ r.tick)
         → next_of work job until (record { history = M; coming = coming; owing = o }) ≡ None
     none_due [] o due later = none_late [] o due later
     none_due (r ∷ rs) o due later = let le = later r refl in none_late (r ∷ rs) o (omega arith) later
 
-    -- what is owed is charged first
+    -- a charge that is owed is made first
     pub charge_next : (coming : List Release) (c : Charge) → (world_after work M).now < until
         → next_of work job until (record { history = M; coming = coming; owing = Some c })
         ≡ Some (charge c.server (min c.ticks (until - (world_after work M).now)))
     charge_next coming c early = let f : leb until (world_after work M).now ≡ false = grind (arith, nat_tests) in rw f refl
 
-    -- so a core that charged it made the next move
+    -- a core that made this charge made the next move
     pub makes_charge : {S : Type 0} (saw : S → S → List Sight → Type 0) (coming : List Release) (c : Charge) (new : CoreHeld W) (w v : S)
         → (world_after work M).now < until
         → (let sim : Simulation W = record { history = M; coming = coming; owing = Some c } in

@@ -21,13 +21,13 @@ module _ {W : Type 0} (work : Meaning W) (job : Release → W) where
   after_more sim [] ns = refl
   after_more sim (m ∷ ms) ns = after_more (after_move work job sim m) ms ns
 
-  -- they are the next ones, too
+  -- they are also the next ones
   next_more : (until : ℕ) (sim : Simulation W) (ms ns : List Move) → AreNext work job until sim ms → AreNext work job until (after_moves work job sim ms) ns
       → AreNext work job until sim (ms ++ ns)
   next_more until sim [] ns each more = more
   next_more until sim (m ∷ ms) ns each more = (each.0, next_more until (after_move work job sim m) ms ns each.1 more)
 
-  -- and is shown last
+  -- one more move is shown before those that were made earlier
   shown_more : (sim : Simulation W) (ms : List Move) (m : Move) (seen : List Sight)
       → shown work job sim (ms ++ m ∷ []) seen ≡ sight_of work job (after_moves work job sim ms) m ∷ shown work job sim ms seen
   shown_more sim [] m seen = refl
@@ -48,7 +48,7 @@ module _ {W : Type 0} (work : Meaning W) (job : Release → W) where
       shown_before next ms (s ∷ seen) ∙ sym (append_assoc (shown work job next ms []) (s ∷ []) seen)
       ∙ ap (λ x. x ++ seen) (sym (shown_before next ms (s ∷ [])))
 
-  -- some next moves are the first of all moves
+  -- some next moves are a prefix of all moves
   pub first_moves : (until : ℕ) (ends : until ≤ clock_end) (since : ℕ) (sim : Simulation W) (ms : List Move) → IsGoing work job until ends since sim
       → AreNext work job until sim ms → ms ++ moves_of work job until (after_moves work job sim ms) ≡ moves_of work job until sim
   first_moves until ends since sim ms going each =
@@ -101,7 +101,7 @@ module _ {W : Type 0} (work : Meaning W) (job : Release → W) where
       going_first : (M : History W) → Agrees work first M → IsGoing work job until ends first.clock (sim_from M)
       going_first M agrees = let e = agrees.world.clock in record { early = rw (← e) early; waited = omega arith; order = order; owed = λ lt c e. cc }
 
-      -- if the core stopped, it stopped after these, and some more
+      -- if the core stopped, it stopped after these moves and some more
       pub stopped : (failed : S → S → List Sight → Type 0) (v : S)
           → ((M : History W) → Agrees work mid M → Stops work job until saw failed (record { history = M; coming = now; owing = o }) new u v)
           → (M : History W) → Agrees work first M → Stops work job until saw failed (record { history = M; coming = coming; owing = None }) new w v
@@ -118,7 +118,7 @@ module _ {W : Type 0} (work : Meaning W) (job : Release → W) where
       module _ (then : List Release) (p : Option Charge) (v : S) where
         module _ (next : (M : History W) → Agrees work mid M
             → MakesNext work job until saw (record { history = M; coming = now; owing = o }) new then p u v) where
-          -- what is left grows less by a move
+          -- one move makes less what is left
           less : (M : History W) → Agrees work first M → (until - new.clock) + length then < (until - mid.clock) + length now
           less M agrees =
               let h = made M agrees in
@@ -133,7 +133,7 @@ module _ {W : Type 0} (work : Meaning W) (job : Release → W) where
               let b = k.makes.state.world.clock in
               let c = k.rest in
               rw (a, b, c) fewer
-              -- so it does whatever the history was
+              -- the same, whatever the history is
 
           pub smaller : HasHistory work first → (until - new.clock) + length then < (until - mid.clock) + length now
           smaller has = elim (cases_lt ((until - new.clock) + length then) ((until - mid.clock) + length now)) [
@@ -141,7 +141,7 @@ module _ {W : Type 0} (work : Meaning W) (job : Release → W) where
             | inr ge ↦ absurd (has (λ M agrees. let lt = less M agrees in absurd (omega arith)))
           ]
 
-          -- and the moves are made, with it
+          -- the moves are made, with the next one
           pub preserved : (M : History W) → Agrees work first M
               → MakesSome work job until saw (record { history = M; coming = coming; owing = None }) new then p w v
           preserved M agrees =
@@ -149,7 +149,7 @@ module _ {W : Type 0} (work : Meaning W) (job : Release → W) where
               more_made (sim_from M) (record { history = (last_of M agrees).history; coming = now; owing = o }) mid new now then o p w u v h (at_last M agrees)
               (next (last_of M agrees).history h.state)
 
-        -- if there is none, all are made
+        -- if there is no next move, all moves are made
         pub all_made : ((M : History W) → Agrees work mid M → Ended work job until (record { history = M; coming = now; owing = o }) mid new then p u v)
             → (M : History W) → Agrees work first M → Simulates work job until saw (record { history = M; coming = coming; owing = None }) new w v
         all_made ended M agrees =

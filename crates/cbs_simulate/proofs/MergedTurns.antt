@@ -21,7 +21,7 @@ module _ {S : Type 0} (coming : S → List Release) (ordered : (it : S) → IsIn
       → option_map (λ r. r.tick) o ≡ next_tick (map coming xs) i
   next_at xs i y o lt is e = ap (option_map (λ r. r.tick)) (e ∙ ap (λ rs. slice_get rs 0) (sym (source_at coming xs i y lt is)))
 
-  -- one source more has its turn among those at hand
+  -- one more source has its turn among the sources so far
   pub turn_next : (xs : List S) (ts us : List (ℕ × ℕ)) (n : ℕ) (y : S) (o : Option Release) → n < length xs → y ≡ get_or xs n y → o ≡ slice_get (coming y) 0
       → AreTurns (λ i. i < n) (map coming xs) ts → AddsTurn n (option_map (λ r. r.tick) o) ts us → AreTurns (λ i. i < n + 1) (map coming xs) us
   turn_next xs ts us n y o lt is e turns adds =
@@ -31,7 +31,7 @@ module _ {S : Type 0} (coming : S → List Release) (ordered : (it : S) → IsIn
 
   module _ (xs : List S) (x : Reverse (ℕ × ℕ)) (hs : List (Reverse (ℕ × ℕ)))
       (turns : AreTurns (λ i. i < length (map coming xs)) (map coming xs) (map (λ t. t.0) hs)) (top : IsTop x hs) where
-    -- the source of the turn on top is there
+    -- the source of the turn on top exists
     pub top_place : x.0.1 < length xs
     top_place = let lt = (top_here (map coming xs) x hs turns top).0 in omega (arith, length-map xs coming)
 
@@ -39,16 +39,16 @@ module _ {S : Type 0} (coming : S → List Release) (ordered : (it : S) → IsIn
       here : get_or (map coming xs) x.0.1 [] ≡ coming y
       here = source_at coming xs x.0.1 y top_place is
 
-      -- it releases something
+      -- the source has a release left
       pub top_releases : 0 < length (coming y)
       top_releases = let some = top_some (map coming xs) x hs turns top in rw here at some
 
-      -- which is the first of all
+      -- this release is the first of all
       pub top_shows : slice_get (coming y) 0 ≡ slice_get (merged (map coming xs)) 0
       top_shows = ap (λ rs. slice_get rs 0) (sym here) ∙ top_next (map coming xs) x hs (all_ordered coming ordered xs) turns top
 
       module _ (z : S) (next : coming z ≡ drop 1 (coming y)) where
-        -- after it come the others
+        -- the others come after it
         pub top_passed : (now : List S) → now ≡ xs → merged (map coming (slice_set xs x.0.1 z)) ≡ drop 1 (merged (map coming now))
         top_passed now same = go (get_or (map coming xs) x.0.1 []) refl (top_some (map coming xs) x hs turns top)
           where
@@ -59,7 +59,7 @@ module _ {S : Type 0} (coming : S → List Release) (ordered : (it : S) → IsIn
                 let head : slice_get (get_or (map coming xs) x.0.1 []) 0 ≡ Some r = rw e refl in
                 passed coming xs now x.0.1 r y z same top_place (top_first (map coming xs) x hs r (all_ordered coming ordered xs) turns top head) is next
 
-        -- and its next turn is added to those of the others
+        -- the source's next turn is added to those of the others
         pub top_turns : (gs : List (Reverse (ℕ × ℕ))) (us : List (ℕ × ℕ)) (w : S) (o : Option Release) → IsPermutation hs (x ∷ gs)
             → w ≡ get_or (slice_set xs x.0.1 z) x.0.1 w
             → o ≡ slice_get (coming w) 0 → AddsTurn x.0.1 (option_map (λ r. r.tick) o) (map (λ t. t.0) gs) us

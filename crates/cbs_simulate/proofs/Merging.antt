@@ -14,7 +14,7 @@ put_first : (r : Release) (qs : List Release) → IsInOrder r.tick qs → put r 
 put_first r [] order = refl
 put_first r (q ∷ qs) order = let t : leb r.tick q.tick ≡ true = let h = order.0 in grind (arith, nat_tests) in rw t refl
 
--- one that is earlier than all of a source stays first
+-- a release that is earlier than all of a source stays first
 put_later : (q : Release) (rs qs : List Release) → IsInOrder (q.tick + 1) rs → put_all rs (q ∷ qs) ≡ q ∷ put_all rs qs
 put_later q [] qs order = refl
 put_later q (r ∷ rs) qs order =
@@ -42,18 +42,18 @@ first_there rs rss i q h order = record {
 }
 
 module _ {S : Type 0} (coming : S → List Release) where
-  -- what a source of those at hand releases
+  -- the releases of one of the sources
   pub source_at : (xs : List S) (i : ℕ) (x : S) → i < length xs → x ≡ get_or xs i x → get_or (map coming xs) i [] ≡ coming x
   source_at xs i x lt is = get_or-map coming xs i x [] lt ∙ ap coming (sym is)
 
-  -- a source that went on
+  -- a source that passed its first release
   pub went_on : (xs : List S) (i : ℕ) (x y : S) → i < length xs → x ≡ get_or xs i x → coming y ≡ drop 1 (coming x)
       → map coming (slice_set xs i y) ≡ changed_at (drop 1) (map coming xs) i
   went_on [] i x y lt is e = absurd (omega arith)
   went_on (z ∷ xs) zero x y lt is e = let same : x ≡ z = is in ap (λ rs. rs ∷ map coming xs) (rw same at e)
   went_on (z ∷ xs) (suc i) x y lt is e = ap (λ rss. coming z ∷ rss) (went_on xs i x y (omega arith) is e)
 
-  -- so the releases are those after the first
+  -- the releases are then those after the first
   pub passed : (xs now : List S) (i : ℕ) (r : Release) (x y : S) → now ≡ xs → i < length xs → IsFirst (map coming xs) i r → x ≡ get_or xs i x
       → coming y ≡ drop 1 (coming x)
       → merged (map coming (slice_set xs i y)) ≡ drop 1 (merged (map coming now))

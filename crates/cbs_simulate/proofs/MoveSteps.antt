@@ -1,4 +1,4 @@
--- What the moves of a simulation come to.
+-- What the moves of a simulation do.
 use Rattle.std.proofs.Common.{◌≡◌, ℕ, ◌+◌, ◌-◌, ◌≤◌, ◌<◌, true, false, leb, ltb, List, [], ◌∷◌, ◌++◌, length, arith, refl, sym, inl, inr, Option, Some, None}
 use Rattle.std.specs.Prelude.{min, MatchOption}
 use Rattle.std.proofs.lemmas.Bool.{cases_Bool}
@@ -19,14 +19,14 @@ use Rattle.cbs_simulate.proofs.Clocks.{advance-now, charge-now, submit-now, run-
 use Rattle.cbs_simulate.proofs.Owing.{MayBeCharged, owed_runs}
 use Rattle.cbs_simulate.proofs.Spans.{span_idle}
 
--- once the clock is at `until`, nothing is charged
+-- when the clock is at `until`, nothing is charged
 pub none_owed : (until now : ℕ) (o : Option Charge) → until ≤ now → owed_before until now o ≡ None
 none_owed until now None le = refl
 none_owed until now (Some c) le = let t : leb until now ≡ true = grind (arith, nat_tests) in rw t refl
 
 module _ {W : Type 0} (work : Meaning W) (job : Release → W) (until : ℕ) (ends : until ≤ clock_end) where
-  -- a simulation that has not passed `until`, nor the first of the releases to come, but for those that have waited since the
-  -- last charge began; what is owed may be charged
+  -- the state of a simulation. The clock has not passed `until`, nor the first release to come, except for releases
+  -- that have waited since the last charge began. A charge that is owed may be made
   pub record IsGoing (since : ℕ) (sim : Simulation W) : Type 0 where
     pub early : clock_of work job sim ≤ until
     pub waited : since ≤ clock_of work job sim
@@ -34,7 +34,7 @@ module _ {W : Type 0} (work : Meaning W) (job : Release → W) (until : ℕ) (en
     pub owed : clock_of work job sim < until → (c : Charge) → sim.owing ≡ Some c
         → (since ≡ clock_of work job sim) × MayBeCharged (world_after work sim.history) c
 
-  -- what a move of a simulation comes to
+  -- what a move of a simulation does
   pub record MovesWell (since : ℕ) (sim : Simulation W) (m : Move) : Type 0 where
     pub quiet : MovesQuietly work job sim m
     pub on_tick : IsOnTick since (clock_of work job sim) m
@@ -52,7 +52,7 @@ module _ {W : Type 0} (work : Meaning W) (job : Release → W) (until : ℕ) (en
     abbrev pub sim_of : List Release → Option Charge → Simulation W
     sim_of rs o = record { history = M; coming = rs; owing = o }
 
-    -- a release before `until` that has come is submitted well
+    -- a release before `until` that has come is submitted as it should be
     pub well_submit : (since : ℕ) (r : Release) (rs : List Release) (o : Option Charge) → IsGoing since (sim_of (r ∷ rs) o) → r.tick ≤ w.now → r.tick < until
         → owed_before until w.now o ≡ None → (w.now < until → o ≡ None) → MovesWell since (sim_of (r ∷ rs) o) (submit r)
     well_submit since r rs o going come sooner none free =
@@ -75,7 +75,7 @@ module _ {W : Type 0} (work : Meaning W) (job : Release → W) (until : ℕ) (en
           submits = rw t refl;
         }
 
-    -- what is owed is charged well
+    -- a charge that is owed is made as it should be
     pub well_charge : (since : ℕ) (rs : List Release) (c : Charge) → IsGoing since (sim_of rs (Some c)) → w.now < until
         → MovesWell since (sim_of rs (Some c)) (charge c.server (min c.ticks (until - w.now)))
     well_charge since rs c going early =
@@ -95,7 +95,7 @@ module _ {W : Type 0} (work : Meaning W) (job : Release → W) (until : ℕ) (en
           submits = refl;
         }
 
-    -- a move that goes on takes nobody's time, and moves the clock on, to `stop` at most
+    -- a move that goes on takes no server's time, and moves the clock on, to `stop` at most
     record GoesOn (rs : List Release) (stop : ℕ) (m : Move) : Type 0 where
       quiet : MovesQuietly work job (sim_of rs None) m
       later : w.now < clock_of work job (after_move work job (sim_of rs None) m)
@@ -109,7 +109,7 @@ module _ {W : Type 0} (work : Meaning W) (job : Release → W) (until : ℕ) (en
       owed : (c : Charge) → owing_after work job (sim_of rs None) m ≡ Some c
           → MayBeCharged (world_after work (after_move work job (sim_of rs None) m).history) c
 
-    -- so does a run if somebody is ready, and else an advance
+    -- a run does this if a server is ready, and an advance if none is
     goes_on : (rs : List Release) (stop : ℕ) → w.now < stop → stop ≤ until → (o : Option ℕ) → MatchOption o (¬ IsAtRest work w) (IsIdleSpan work w)
         → GoesOn rs stop (move_on w.now stop o)
     goes_on rs stop early le None busy =
@@ -142,7 +142,7 @@ module _ {W : Type 0} (work : Meaning W) (job : Release → W) (until : ℕ) (en
           owed = λ c e. cc;
         }
 
-    -- so it is made well if no release has come by `stop`
+    -- such a move is made as it should be if no release has come by `stop`
     well_on : (since : ℕ) (rs : List Release) (stop : ℕ) (m : Move) → stop ≤ until → ((now : ℕ) → now ≤ stop → IsInOrder now rs) → GoesOn rs stop m
         → MovesWell since (sim_of rs None) m
     well_on since rs stop m le order h =

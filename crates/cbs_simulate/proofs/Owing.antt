@@ -1,4 +1,4 @@
--- What a run leaves owed, and that its server may be charged for it.
+-- The charge that is owed after a run, which its server may be charged.
 use Rattle.std.proofs.Common.{◌≡◌, ℕ, zero, suc, ◌+◌, ◌<◌, true, false, eqb, leb, ltb, List, [], ◌∷◌, length, map, get_or, refl, sym, ◌∙◌, ap, arith}
 use Rattle.std.proofs.Common.{inl, inr, Option, Some, None}
 use Rattle.std.specs.Prelude.{if◌then◌else◌, drop}
@@ -25,7 +25,7 @@ use Rattle.cbs_simulate.specs.Moves.{owing_of, owing_for, overrun_in}
 use Rattle.cbs_simulate.specs.Simulating.{owing_told}
 use Rattle.cbs_simulate.specs.declared.charge.Charge.{Charge}
 
--- a server may be charged: it is there, and runs
+-- a server may be charged if it exists and runs
 pub record MayBeCharged {W : Type 0} (w : World W) (c : Charge) : Type 0 where
   pub some : 0 < c.ticks
   pub there : c.server < length w.accounts
@@ -36,7 +36,7 @@ pub length_ranks : (fs : List Face) → length (ranks fs) ≡ length fs
 length_ranks [] = refl
 length_ranks (f ∷ fs) = ap suc (length_ranks fs)
 
--- what is owed is of that server, and some ticks
+-- a charge that is owed is of that server, and of at least one tick
 owing_is : (s n : ℕ) (c : Charge) → owing_of s n ≡ Some c → (s ≡ c.server) × (0 < c.ticks)
 owing_is s zero c e = cc
 owing_is s (suc n) c e = (cc, let f : suc n ≡ c.ticks = cc in omega arith)
@@ -49,7 +49,7 @@ module _ {W : Type 0} (work : Meaning W) where
       let a = account w.accounts s in
       elim (cases_Bool (eqb (need work a (finished work a + 1)) (a.got + 1))) [ inl t ↦ rw t refl | inr f ↦ rw f refl ]
 
-  -- the chosen server is there
+  -- the chosen server exists
   chosen_there : (w : World W) (s : ℕ) → Some s ≡ chosen work w → s < length w.accounts
   chosen_there w s e =
       let rs = ranks (faces work w) in
@@ -57,7 +57,7 @@ module _ {W : Type 0} (work : Meaning W) where
       let lt = h.within in
       omega (arith, length_ranks (faces work w), length-map w.accounts (face_of work))
 
-  -- what a run leaves owed may be charged
+  -- the charge that is owed after a run may be made
   run_charged : (w : World W) (c : Charge) (o : Option ℕ) → o ≡ chosen work w → w.now < clock_end → owing_for work w (run_reply work w o) ≡ Some c
       → MayBeCharged (after_run w (if ltb w.now clock_end then o else None)) c
   run_charged w c None e early owed = cc
@@ -80,14 +80,14 @@ module _ {W : Type 0} (work : Meaning W) where
   owed_runs w c early owed = run_charged w c (chosen work w) refl early owed
 
   module _ (constant : (j : W) → whole work j ≡ work.output j) where
-    -- the output of a job that stands first among those from number k on
+    -- the output of the first job among those from number k on
     first_output : (r : ℕ) (rs : List ℕ) (xs : List W) (k : ℕ) → r ∷ rs ≡ map (whole work) (drop k xs) → r ≡ get_or (map work.output xs) k 0
     first_output r rs [] zero e = cc
     first_output r rs [] (suc k) e = cc
     first_output r rs (x ∷ xs) zero e = let same : r ≡ whole work x = cc in same ∙ constant x
     first_output r rs (x ∷ xs) (suc k) e = first_output r rs xs k e
 
-    -- the output of the first job that a core holds of a server
+    -- the output of the first job of a server that a core holds
     first_held : (core : CoreHeld W) (M : History W) (s q r : ℕ) (rs : List ℕ) → Agrees work core M → q ≡ (held_at core s).face.finished
         → map (whole work) (held_at core s).jobs ≡ r ∷ rs → r ≡ overrun_in work (world_after work M) s q
     first_held core M s q r rs agrees number e =
@@ -99,7 +99,7 @@ module _ {W : Type 0} (work : Meaning W) where
         let is : q ≡ finished work a = number ∙ ap (λ f. f.finished) face in
         rw is (first_output r rs a.accepted (finished work a) (sym e ∙ here.results))
 
-    -- what a core tells of a run is what the run leaves owed
+    -- the charge that a core shows after a run is the one that is owed
     pub told_is : (M : History W) (old new : CoreHeld W) (r : Ran) → Agrees work old M → DoesRun work r old new
         → owing_told work new r ≡ owing_for work (world_after work M) r
     told_is M old new ran.Idle agrees does = refl

@@ -31,7 +31,7 @@ none_last until (r ∷ rs) e = absurd (omega arith)
 
 module _ {W : Type 0} (work : Meaning W) (job : Release → W) (until : ℕ) (ends : until ≤ clock_end) where
   module _ (M : History W) (since : ℕ) (m : Move) where
-    -- what the next move comes to: before `until`
+    -- what the next move does, before `until`
     well_before : (rs : List Release) (o : Option Charge) → IsGoing work job until ends since (sim_of work job until ends M rs o)
         → (world_after work M).now < until
         → next_before until (world_after work M).now (faces work (world_after work M)) o rs ≡ m
@@ -39,7 +39,7 @@ module _ {W : Type 0} (work : Meaning W) (job : Release → W) (until : ℕ) (en
     well_before rs None going early is = rw is at (well_free work job until ends M since rs going early)
     well_before rs (Some c) going early is = rw is at (well_charge work job until ends M since rs c going early)
 
-    -- and at `until`
+    -- what the next move does, at `until`
     well_last : (rs : List Release) (o : Option Charge) → IsGoing work job until ends since (sim_of work job until ends M rs o)
         → until ≤ (world_after work M).now
         → last_move until rs ≡ Some m → MovesWell work job until ends since (sim_of work job until ends M rs o) m
@@ -54,7 +54,7 @@ module _ {W : Type 0} (work : Meaning W) (job : Release → W) (until : ℕ) (en
       | inr f ↦ let g : None ≡ Some m = rw f at is in cc
     ]
 
-  -- so it is of any next move
+  -- the same for any next move
   pub well_next : (since : ℕ) (sim : Simulation W) (m : Move) → IsGoing work job until ends since sim → next_of work job until sim ≡ Some m
       → MovesWell work job until ends since sim m
   well_next since sim m going e = elim (cases_Bool (leb until (clock_of work job sim))) [
@@ -65,7 +65,7 @@ module _ {W : Type 0} (work : Meaning W) (job : Release → W) (until : ℕ) (en
         well_before sim.history since m sim.coming sim.owing going (grind (arith, nat_tests)) cc
   ]
 
-  -- if there is none, the clock is at `until`, and no release before that is left
+  -- if there is no next move, the clock is at `until`, and no release before `until` is left
   pub ended_at : (since : ℕ) (sim : Simulation W) → IsGoing work job until ends since sim → next_of work job until sim ≡ None
       → (clock_of work job sim ≡ until) × (before until sim.coming ≡ [])
   ended_at since sim going e = elim (cases_Bool (leb until (clock_of work job sim))) [
@@ -73,7 +73,7 @@ module _ {W : Type 0} (work : Meaning W) (job : Release → W) (until : ℕ) (en
     | inr f ↦ let w = world_after work sim.history in let g : Some (next_before until w.now (faces work w) sim.owing sim.coming) ≡ None = rw f at e in cc
   ]
 
-  -- what some moves come to, each the next one where it stands
+  -- what some moves do, each the next one where it stands
   pub record Goes (since : ℕ) (sim : Simulation W) (ms : List Move) : Type 0 where
     pub quiet : AllMoves work job (MovesQuietly work job) sim ms
     pub on_tick : EachOnTick work job since sim ms
@@ -82,7 +82,7 @@ module _ {W : Type 0} (work : Meaning W) (job : Release → W) (until : ℕ) (en
     pub going : IsGoing work job until ends last (after_moves work job sim ms)
     pub submits : before until sim.coming ≡ submitted ms ++ before until (after_moves work job sim ms).coming
 
-  -- such moves keep all that
+  -- such moves keep all of that
   pub goes : (since : ℕ) (sim : Simulation W) (ms : List Move) → IsGoing work job until ends since sim → AreNext work job until sim ms → Goes since sim ms
   goes since sim [] going each = record { quiet = tt; on_tick = tt; charges = tt; last = since; going = going; submits = refl }
   goes since sim (m ∷ ms) going each =
@@ -142,11 +142,11 @@ module _ {W : Type 0} (work : Meaning W) (job : Release → W) (until : ℕ) (en
       ] in
       with (next_of work job until sim) refl
 
-  -- so the moves of the definition are all
+  -- the moves of the definition are all moves
   pub moves_are : (since : ℕ) (sim : Simulation W) → IsGoing work job until ends since sim → AreMoves work job until sim (moves_of work job until sim)
   moves_are since sim going = enough ((until - clock_of work job sim) + length sim.coming) since sim going (omega arith)
 
-  -- and all moves are those
+  -- all moves are the moves of the definition
   pub are_moves : (since : ℕ) (sim : Simulation W) (ms : List Move) → IsGoing work job until ends since sim → AreMoves work job until sim ms
       → ms ≡ moves_of work job until sim
   are_moves since sim ms going all = only_moves sim ms (moves_of work job until sim) all (moves_are since sim going)

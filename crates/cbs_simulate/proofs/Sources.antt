@@ -8,25 +8,26 @@ use Rattle.cbs_simulate.specs.Bounds.{Bounds}
 use Rattle.cbs_simulate.specs.Drawing.{Cursor, drawn, release_of, released, pending, pending_from}
 use Rattle.cbs_simulate.specs.declared.terms.SourceTerms.{SourceTerms}
 
--- the next job's units and overrun were drawn from a generator, which was left for what follows
+-- the next job's units and overrun were drawn from a generator, and the later draws go on with the generator that was
+-- left
 pub record DrawsNext (c : Cursor) (g : Lcg) : Type 0 where
   pub units : c.units ≡ (drawn c.terms.units g).0
   pub overrun : c.overrun ≡ (drawn c.terms.overrun (drawn c.terms.units g).1).0
   pub draws : c.draws ≡ (drawn c.terms.overrun (drawn c.terms.units g).1).1
 
--- so it is after the draws of both
+-- this holds after the draws of both
 draws_next : (c : Cursor) (f g : Lcg) → (c.units, g) ≡ drawn c.terms.units f → (c.overrun, c.draws) ≡ drawn c.terms.overrun g → DrawsNext c f
 draws_next c f g units overrun =
     let here : g ≡ (drawn c.terms.units f).1 = ap (λ p. p.1) units in
     let over : (c.overrun, c.draws) ≡ drawn c.terms.overrun (drawn c.terms.units f).1 = rw here at overrun in
     record { units = ap (λ p. p.0) units; overrun = ap (λ p. p.0) over; draws = ap (λ p. p.1) over }
 
--- then it releases what is drawn from that generator
+-- the source then releases what is drawn from that generator
 pub pending_is : (k : ℕ) (c : Cursor) (g : Lcg) → DrawsNext c g → pending_from k c ≡ released c.place c.terms c.until k c.tick g
 pending_is zero c g h = refl
 pending_is (suc k) c g h = rw (h.units, h.overrun, h.draws) refl
 
--- after the first of those that it releases yet, what follows is drawn by the generator that the draw of the ticks left
+-- after the first release that is left, the later draws go on with the generator that the draw of the ticks left
 rest_is : (k : ℕ) (c : Cursor) → 0 < length (pending_from k c)
     → (let e = drawn c.terms.every c.draws in released c.place c.terms c.until (k - 1) (c.tick + e.0) e.1) ≡ drop 1 (pending_from k c)
 rest_is zero c some = absurd (omega arith)
@@ -35,7 +36,7 @@ rest_is (suc k) c some = elim (cases_Bool (ltb c.tick c.until)) [
   | inr f ↦ let none : 0 < 0 = rw f at some in absurd (omega arith)
 ]
 
--- so a source that has drawn those ticks, and then the next units and overrun, goes on to the next
+-- a source that has drawn these ticks, and then the next units and overrun, goes on to the next job
 pub source_passed : (c now : Cursor) (n a b : ℕ) (f g h : Lcg) → c ≡ now → 0 < length (pending now) → (n, f) ≡ drawn c.terms.every c.draws
     → (a, g) ≡ drawn c.terms.units f
     → (b, h) ≡ drawn c.terms.overrun g → pending (record c { left = c.left - 1; tick = c.tick + n; units = a; overrun = b; draws = h }) ≡ drop 1 (pending now)
@@ -50,12 +51,12 @@ source_passed c now n a b f g h same some ticks units overrun =
 drawn_least : (r : Bounds) (g : Lcg) → r.least ≤ (drawn r g).0
 drawn_least r g = elim (cases_Bool (ltb r.least r.greatest)) [ inl t ↦ rw t (omega arith) | inr f ↦ rw f (omega arith) ]
 
--- once the tick is at `until`, no number of jobs left releases anything
+-- when the tick is at `until`, nothing is released, however many jobs are left
 none_released : (place : ℕ) (t : SourceTerms) (until k tick : ℕ) (g : Lcg) → until ≤ tick → released place t until k tick g ≡ []
 none_released place t until zero tick g late = refl
 none_released place t until (suc k) tick g late = let f : ltb tick until ≡ false = grind (arith, nat_tests) in rw f refl
 
--- so as many jobs as ticks to `until` are as good as more, if a tick at least is between two
+-- as many jobs as ticks to `until` are as good as more, if at least one tick is between two jobs
 pub enough_released : (place : ℕ) (t : SourceTerms) (until k m tick : ℕ) (g : Lcg) → 0 < t.every.least → until ≤ tick + k → k ≤ m
     → released place t until k tick g ≡ released place t until m tick g
 enough_released place t until zero m tick g some le more = sym (none_released place t until m tick g (omega arith))
@@ -70,7 +71,7 @@ enough_released place t until (suc k) (suc m) tick g some le more =
       | inr n ↦ rw n refl
     ]
 
--- so a new source without a count of jobs releases as many as come
+-- a new source without a count of jobs releases as many jobs as come
 pub endless : (c : Cursor) (f g : Lcg) (k : ℕ) → (c.units, g) ≡ drawn c.terms.units f → (c.overrun, c.draws) ≡ drawn c.terms.overrun g → c.left ≡ c.until
     → 0 < c.terms.every.least → c.until ≤ k
     → pending c ≡ released c.place c.terms c.until k c.tick f

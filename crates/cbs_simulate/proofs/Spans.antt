@@ -1,4 +1,4 @@
--- The idle span that a core answers is the one of the definition.
+-- The idle span that a core returns is the one of the definition.
 use Rattle.std.proofs.Common.{◌≡◌, ℕ, List, arith, refl, ap, subst, length, inl, inr, Option, Some, None}
 use Rattle.std.specs.Prelude.{MatchOption}
 use Rattle.std.specs.Option.{is_some}
@@ -26,11 +26,11 @@ spans now fs = elim (cases_Bool (is_some (chosen_among (ranks fs)))) [
 ]
 
 module _ {W : Type 0} (work : Meaning W) (w : World W) where
-  -- it is the idle span
+  -- that span is the idle span
   pub span_idle : MatchOption (idle_span w.now (faces work w)) (¬ IsAtRest work w) (IsIdleSpan work w)
   span_idle = span_is work w (idle_span w.now (faces work w)) (spans w.now (faces work w))
 
-  -- there is one idle span
+  -- there is only one idle span
   one_span : (o p : Option ℕ) → MatchOption o (¬ IsAtRest work w) (IsIdleSpan work w) → MatchOption p (¬ IsAtRest work w) (IsIdleSpan work w) → o ≡ p
   one_span None None h k = refl
   one_span None (Some n) h k = absurd (h k.at_rest)
@@ -41,10 +41,10 @@ module _ {W : Type 0} (work : Meaning W) (w : World W) where
       let e : n ≡ m = omega arith in
       ap (λ n. Some n) e
 
-  -- so what a core answers is that of the definition
+  -- the span that a core returns is the one of the definition
   pub span_here : (o : Option ℕ) → MatchOption o (¬ IsAtRest work w) (IsIdleSpan work w) → o ≡ idle_span w.now (faces work w)
   span_here o h = one_span o (idle_span w.now (faces work w)) h span_idle
 
-  -- and it is none if a server is chosen
+  -- there is no span if a server is chosen
   pub span_busy : (s : ℕ) → Some s ≡ chosen work w → None ≡ idle_span w.now (faces work w)
   span_busy s e = rw (← e) refl

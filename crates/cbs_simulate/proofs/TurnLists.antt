@@ -34,14 +34,14 @@ equal_is a b e = sym (nat_cmp_is a b Equal e)
 count_here : (t : ℕ × ℕ) → count_of t.1 t ≡ 1
 count_here t = let y : eqb t.1 t.1 ≡ true = grind (arith, nat_tests) in rw y refl
 
--- and none of another place does
+-- a turn of another place does not count
 count_other : (t : ℕ × ℕ) (i : ℕ) → t.1 ≢ i → count_of i t ≡ 0
 count_other t i ne = elim (cases_Bool (eqb t.1 i)) [
   | inl y ↦ let same : t.1 ≡ i = grind (arith, nat_tests) in absurd (ne same)
   | inr n ↦ rw n refl
 ]
 
--- if there is no turn of the place, each is of another
+-- if there is no turn of the place, each turn is of another
 none_counted : (i : ℕ) (ts : List (ℕ × ℕ)) → turns_of i ts ≡ 0 → All (λ t. t.1 ≢ i) ts
 none_counted i [] none = λ k d lt. absurd (omega arith)
 none_counted i (t ∷ ts) none =
@@ -49,7 +49,7 @@ none_counted i (t ∷ ts) none =
     All-cons (λ t. t.1 ≢ i) t ts (λ same. let y : eqb t.1 i ≡ true = grind (arith, nat_tests) in let one : count_of i t ≡ 1 = rw y refl in absurd (omega arith))
     (none_counted i ts (omega arith))
 
--- and if each is of another, there is none of the place
+-- if each turn is of another place, there is none of this one
 count_none : (i : ℕ) (ts : List (ℕ × ℕ)) → All (λ t. t.1 ≢ i) ts → turns_of i ts ≡ 0
 count_none i [] others = refl
 count_none i (t ∷ ts) others =
@@ -58,12 +58,12 @@ count_none i (t ∷ ts) others =
     let rest = count_none i ts (All-tail (λ t. t.1 ≢ i) t ts others) in
     omega arith
 
--- what is among a list and is not its first is among the rest
+-- an element of a list that is not its first one is in the rest
 in_rest : (x y : ℕ × ℕ) (ts : List (ℕ × ℕ)) → x.1 ≢ y.1 → Contains (x ∷ ts) y → Contains ts y
 in_rest x y ts ne (zero, lt, e) = absurd (ne (ap (λ t. t.1) e))
 in_rest x y ts ne (suc k, lt, e) = (k, omega arith, e)
 
--- what is among a list is so with one more in front
+-- an element of a list is also in the list with one more element before it
 in_more : (x y : ℕ × ℕ) (ts : List (ℕ × ℕ)) → Contains ts y → Contains (x ∷ ts) y
 in_more x y ts (k, lt, e) = (suc k, omega arith, e)
 
@@ -94,7 +94,7 @@ module _ (rss : List (List Release)) (ts us : List (ℕ × ℕ)) where
         ];
   }
 
-  -- a turn that is taken out leaves those of the other places
+  -- taking a turn out leaves the turns of the other places
   pub turn_taken : (P : ℕ → Type 0) (x : ℕ × ℕ) → AreTurns P rss ts → IsPermutation ts (x ∷ us)
       → AreTurns (λ j. P j × (j ≢ x.1)) (changed_at (drop 1) rss x.1) us
   turn_taken P x h perm =
@@ -113,7 +113,7 @@ module _ (rss : List (List Release)) (ts us : List (ℕ × ℕ)) where
         once = λ j. let total = sum_by_popped (count_of j) x ts us perm in let le = h.once j in omega arith;
       }
 
-  -- so it is of a source that may have no turn
+  -- the same for a source that may have no turn
   pub turn_more : (P Q : ℕ → Type 0) (i : ℕ) (o : Option ℕ) → AreTurns P rss ts → AddsTurn i o ts us → o ≡ next_tick rss i → ¬ P i → Q i
       → ((j : ℕ) → P j → Q j) → ((j : ℕ) → j ≢ i → Q j → P j) → AreTurns Q rss us
   turn_more P Q i (Some tick) h adds next fresh new keeps others = turn_added P Q tick i h adds (sym next) fresh new keeps others
@@ -141,14 +141,14 @@ from_first : (t : ℕ) (rs : List Release) → IsInOrder 0 rs → ((r : Release)
 from_first t [] order later = tt
 from_first t (r ∷ rs) order later = (later r refl, order.1)
 
--- so do all
+-- the same for the releases of all sources
 all_from : (t : ℕ) (rss : List (List Release)) → AllByRecursion (IsInOrder 0) rss
     → ((i : ℕ) (r : Release) → slice_get (get_or rss i []) 0 ≡ Some r → t ≤ r.tick)
     → AllByRecursion (IsInOrder t) rss
 all_from t [] each later = tt
 all_from t (rs ∷ rss) each later = (from_first t rs each.0 (later 0), all_from t rss each.1 (λ i. later (suc i)))
 
--- the first of the releases of source i is the first of all, if no other comes earlier, nor at the same tick from a lower place
+-- the first release of source i is the first of all, if no other comes earlier, nor at the same tick from a lower place
 pub first_least : (rss : List (List Release)) (i : ℕ) (r : Release) → AllByRecursion (IsInOrder 0) rss → i < length rss → slice_get (get_or rss i []) 0 ≡ Some r
     → ((j : ℕ) (q : Release) → slice_get (get_or rss j []) 0 ≡ Some q → (r.tick ≤ q.tick) × (j < i → r.tick < q.tick)) → IsFirst rss i r
 first_least [] i r each lt head least = absurd (omega arith)
@@ -165,7 +165,7 @@ first_least (rs ∷ rss) (suc i) r each lt head least =
 tick_is : (rs : List Release) (q : Release) → slice_get rs 0 ≡ Some q → option_map (λ r. r.tick) (slice_get rs 0) ≡ Some q.tick
 tick_is rs q e = rw e refl
 
--- so is that of the least turn
+-- the same for the tick of the least turn
 pub turn_first : (rss : List (List Release)) (ts : List (ℕ × ℕ)) (x : ℕ × ℕ) (r : Release) → AllByRecursion (IsInOrder 0) rss
     → AreTurns (λ i. i < length rss) rss ts
     → (x.1 < length rss) × (next_tick rss x.1 ≡ Some x.0) → ((y : ℕ × ℕ) → Contains ts y → (x.0 ≤ y.0) × (y.1 < x.1 → x.0 < y.0))
@@ -184,7 +184,7 @@ turn_first rss ts x r order turns here least head =
     beyond (rs ∷ rss) zero ge = absurd (omega arith)
     beyond (rs ∷ rss) (suc j) ge = beyond rss j (omega arith)
 
--- a turn that is not less than another is not later, nor at the same tick from a higher place
+-- a turn that is not less than another is not later. At the same tick its place is not higher
 above : (x y : Reverse (ℕ × ℕ)) → is_lt (turn_cmp x y) ≡ false → (x.0.0 ≤ y.0.0) × (y.0.1 < x.0.1 → x.0.0 < y.0.0)
 above x y h = (
   elim (cases_lt y.0.0 x.0.0) [
@@ -204,7 +204,7 @@ above x y h = (
   ],
 )
 
--- so of the top of a heap, among all its turns
+-- the same for the top of a heap, among all its turns
 pub top_least : (x : Reverse (ℕ × ℕ)) (hs : List (Reverse (ℕ × ℕ))) → IsUpperBound turn_cmp x hs → (y : ℕ × ℕ) → Contains (map (λ t. t.0) hs) y
     → (x.0.0 ≤ y.0) × (y.1 < x.0.1 → x.0.0 < y.0)
 top_least x [] bound y (k, lt, e) = absurd (omega arith)
@@ -218,13 +218,13 @@ pub record IsTop (x : Reverse (ℕ × ℕ)) (hs : List (Reverse (ℕ × ℕ))) :
   pub bound : IsUpperBound turn_cmp x hs
 
 module _ (rss : List (List Release)) (x : Reverse (ℕ × ℕ)) where
-  -- its source is there, and releases next at its tick
+  -- its source exists, and its next release is at its tick
   pub top_here : (hs : List (Reverse (ℕ × ℕ))) → AreTurns (λ i. i < length rss) rss (map (λ t. t.0) hs) → IsTop x hs
       → (x.0.1 < length rss) × (next_tick rss x.0.1 ≡ Some x.0.0)
   top_here [] turns top = absurd (let some = top.some in omega arith)
   top_here (h ∷ hs) turns top = let is : x ≡ h = top.here in rw is (turns.each 0 x.0 (omega arith))
 
-  -- so it releases something
+  -- the source has a release left
   pub top_some : (hs : List (Reverse (ℕ × ℕ))) → AreTurns (λ i. i < length rss) rss (map (λ t. t.0) hs) → IsTop x hs → 0 < length (get_or rss x.0.1 [])
   top_some hs turns top = go (get_or rss x.0.1 []) (top_here hs turns top).1
     where
@@ -232,13 +232,13 @@ module _ (rss : List (List Release)) (x : Reverse (ℕ × ℕ)) where
       go [] e = cc
       go (r ∷ rs) e = omega arith
 
-  -- and that is the first of all
+  -- this release is the first of all
   pub top_first : (hs : List (Reverse (ℕ × ℕ))) (r : Release) → AllByRecursion (IsInOrder 0) rss → AreTurns (λ i. i < length rss) rss (map (λ t. t.0) hs)
       → IsTop x hs
       → slice_get (get_or rss x.0.1 []) 0 ≡ Some r → IsFirst rss x.0.1 r
   top_first hs r order turns top head = turn_first rss (map (λ t. t.0) hs) x.0 r order turns (top_here hs turns top) (top_least x hs top.bound) head
 
-  -- so the first of all is the first of its source
+  -- the first of all releases is the first of its source
   pub top_next : (hs : List (Reverse (ℕ × ℕ))) → AllByRecursion (IsInOrder 0) rss → AreTurns (λ i. i < length rss) rss (map (λ t. t.0) hs) → IsTop x hs
       → slice_get (get_or rss x.0.1 []) 0 ≡ slice_get (merged rss) 0
   top_next hs order turns top = go (get_or rss x.0.1 []) refl (top_some hs turns top)

@@ -1,4 +1,4 @@
--- A simulation without overruns: nothing is charged, so no step takes anybody's time.
+-- A simulation without overruns: nothing is charged, so no step takes any server's time.
 use Rattle.std.proofs.Common.{◌≡◌, ℕ, zero, suc, ◌≤◌, ltb, List, [], ◌∷◌, ◌++◌, map, get_or, refl, sym, subst, ◌∙◌, inl, inr, Option, Some, None}
 use Rattle.std.specs.Prelude.{drop}
 use Rattle.std.specs.List.{AllByRecursion}
@@ -34,7 +34,7 @@ first_plain until (q ∷ qs) r rest e plain = elim (cases_Bool (ltb q.tick until
   | inr f ↦ let g : [] ≡ r ∷ rest = rw f at e in cc
 ]
 
--- nor has any of those after it
+-- none of the releases after the first has an overrun
 rest_plain : (rs : List Release) → AllByRecursion (λ r. r.overrun ≡ 0) rs → AllByRecursion (λ r. r.overrun ≡ 0) (drop 1 rs)
 rest_plain [] plain = tt
 rest_plain (r ∷ rs) plain = plain.1
@@ -44,7 +44,7 @@ module _ {W : Type 0} (work : Meaning W) where
   abbrev NoOverrun : Account W → Type 0
   NoOverrun a = (q : ℕ) → get_or (map work.output a.accepted) q 0 ≡ 0
 
-  -- nor has one of those with a job more that has none
+  -- if one more job comes, which has no overrun, no job has one
   one_plain : (js : List W) (j : W) (q : ℕ) → work.output j ≡ 0 → ((q : ℕ) → get_or (map work.output js) q 0 ≡ 0)
       → get_or (map work.output (js ++ j ∷ [])) q 0 ≡ 0
   one_plain [] j zero none plain = none
@@ -52,7 +52,7 @@ module _ {W : Type 0} (work : Meaning W) where
   one_plain (x ∷ js) j zero none plain = plain 0
   one_plain (x ∷ js) j (suc q) none plain = one_plain js j q none (λ q. plain (suc q))
 
-  -- a change of one account that keeps it keeps it of all
+  -- a change that keeps one account without overruns keeps all of them so
   plain_changed : (f : Account W → Account W) (xs : List (Account W)) (t s : ℕ) → ((a : Account W) → NoOverrun a → NoOverrun (f a))
       → ((s : ℕ) → NoOverrun (account xs s))
       → NoOverrun (account (changed_at f xs t) s)
@@ -62,7 +62,7 @@ module _ {W : Type 0} (work : Meaning W) where
   plain_changed f (a ∷ xs) (suc t) zero keeps plain = plain 0
   plain_changed f (a ∷ xs) (suc t) (suc s) keeps plain = plain_changed f xs t s keeps (λ s. plain (suc s))
 
-  -- so does a submit of such a job
+  -- a submit of a job without overrun keeps all accounts without overruns
   plain_submit : (w : World W) (t s : ℕ) (j : W) (o : Option CoreError) → work.output j ≡ 0 → ((s : ℕ) → NoOverrun (account w.accounts s))
       → NoOverrun (account (after_submit work w t j o).accounts s)
   plain_submit w t s j None none plain = plain_changed (account_with_job work w.now j) w.accounts t s (λ a h q. one_plain a.accepted j q none h) plain
@@ -74,7 +74,7 @@ module _ {W : Type 0} (work : Meaning W) where
   plain_start (t ∷ ts) zero q = refl
   plain_start (t ∷ ts) (suc s) q = plain_start ts s q
 
-  -- then no run leaves anything owed
+  -- no run leaves a charge that is owed
   none_owing : (w : World W) (r : Ran) → ((s q : ℕ) → overrun_in work w s q ≡ 0) → owing_for work w r ≡ None
   none_owing w ran.Idle none = refl
   none_owing w ran.ClockEnd none = refl
@@ -82,7 +82,7 @@ module _ {W : Type 0} (work : Meaning W) where
   none_owing w (ran.Done c) none = rw (none c.server c.seq) refl
 
 module _ {W : Type 0} (work : Meaning W) (job : Release → W) where
-  -- no release to come and no job has an overrun, and nothing is owed
+  -- no release to come and no job has an overrun, and no charge is owed
   pub record IsPlain (sim : Simulation W) : Type 0 where
     pub coming : AllByRecursion (λ r. r.overrun ≡ 0) sim.coming
     pub none : (s q : ℕ) → overrun_in work (world_after work sim.history) s q ≡ 0
@@ -118,7 +118,7 @@ module _ {W : Type 0} (work : Meaning W) (job : Release → W) where
     }
 
     module _ (until : ℕ) (ends : until ≤ clock_end) where
-      -- so no move charges anything
+      -- no move charges anything
       pub uncharged : (since : ℕ) (sim : Simulation W) (ms : List Move) → IsGoing work job until ends since sim → IsPlain sim → AreNext work job until sim ms
           → AllMoves work job (λ sim m. charged_by m ≡ None) sim ms
       uncharged since sim [] going plain each = tt
@@ -131,14 +131,14 @@ module _ {W : Type 0} (work : Meaning W) (job : Release → W) where
                 (plain_move sim m first plain) each.1,
           )
 
-  -- a move that advances quietly and charges nothing takes nobody's time
+  -- a move that advances quietly and charges nothing takes no server's time
   quiet_step : (w : World W) (m : Move) → charged_by m ≡ None → IsQuietAdvance work w (step_of work job m) → IsQuietStep work w (step_of work job m)
   quiet_step w (submit r) none quiet = quiet
   quiet_step w run none quiet = quiet
   quiet_step w (pass n) none quiet = quiet
   quiet_step w (charge s n) none quiet = cc
 
-  -- so do all such moves
+  -- the same for several such moves
   pub free_steps : (sim : Simulation W) (ms : List Move) → AllMoves work job (λ sim m. charged_by m ≡ None) sim ms
       → AllMoves work job (MovesQuietly work job) sim ms
       → AreQuiet work sim.history.setup sim.history.steps
@@ -155,7 +155,7 @@ module _ {W : Type 0} (work : Meaning W) (job : Release → W) where
   since_now sim (pass n) none = refl
   since_now sim (charge s n) none = cc
 
-  -- so each is submitted exactly at its tick
+  -- each release is submitted exactly at its tick
   pub at_ticks : (sim : Simulation W) (ms : List Move) → AllMoves work job (λ sim m. charged_by m ≡ None) sim ms
       → EachOnTick work job (clock_of work job sim) sim ms
       → AllMoves work job (IsAtTick work job) sim ms
@@ -166,7 +166,7 @@ module _ {W : Type 0} (work : Meaning W) (job : Release → W) where
         (subst (λ t. EachOnTick work job t (after_move work job sim m) ms) (since_now sim m none.0) each.1),
   )
 
-  -- a new simulation is such a one
+  -- a new simulation has no overruns, if its releases have none
   pub plain_new : (ts : List Terms) (backlog : ℕ) (coming : List Release) → AllByRecursion (λ r. r.overrun ≡ 0) coming
       → IsPlain (record { history = record { setup = record { servers = ts; backlog = backlog }; steps = [] }; coming = coming; owing = None })
   plain_new ts backlog coming plain = record { coming = plain; none = λ s q. plain_start work ts s q; owing = refl }

@@ -5,11 +5,11 @@ use Rattle.cbs_job.specs.Work.{Meaning, Lowers}
 use Rattle.cbs_simulate.specs.declared.load_job.LoadJob.{LoadJob}
 use Rattle.cbs_simulate.specs.declared.release.Release.{Release}
 
--- a unit lowers the count, and the output is the overrun throughout
+-- a unit lowers the count of units left, and the output is the overrun at all times
 abbrev pub loading : Meaning LoadJob
 loading = record { left = λ j. j.left; output = λ j. j.overrun; after = λ j. record j { left = j.left - 1 } }
 
--- it keeps the law of work
+-- jobs of a load keep the law of work
 pub loading_lowers : Lowers loading
 loading_lowers j some = refl
 

@@ -3,7 +3,7 @@ use Rattle.std.specs.Prelude.{ℕ, ◌≤◌, ◌<◌, ltb, List, [], ◌∷◌,
 use Rattle.cbs_rate.specs.Limits.{most_units}
 use Rattle.cbs_simulate.specs.declared.release.Release.{Release}
 
--- its units make a job: 1 to 1000000
+-- the units of a release make a job: 1 to 1000000
 pub record MakesJob (r : Release) : Type 0 where
   pub some : 0 < r.units
   pub few : r.units ≤ most_units
@@ -13,7 +13,7 @@ abbrev pub IsInOrder : ℕ → List Release → Type 0
 IsInOrder now [] = Unit {0}
 IsInOrder now (r ∷ rs) = (now ≤ r.tick) × IsInOrder r.tick rs
 
--- the releases before the first whose tick is not before `until`
+-- the releases up to the first whose tick is not before `until`, without that one
 abbrev pub before : ℕ → List Release → List Release
 before until [] = []
 before until (r ∷ rs) = if ltb r.tick until then r ∷ before until rs else []

@@ -1,4 +1,4 @@
--- What a core makes of a load.
+-- How a core simulates a load.
 use Rattle.std.specs.Prelude.{◌≡◌, ◌⊎◌, ℕ, min, List, [], ◌∷◌, ◌++◌, Option, Some, None}
 use Rattle.std.specs.List.{AllByRecursion}
 use Rattle.std.specs.Option.{option_and_then}
@@ -24,31 +24,31 @@ abbrev pub stop_at : ℕ → List Release → ℕ
 stop_at until [] = until
 stop_at until (r ∷ rs) = min r.tick until
 
--- what is owed for a run, as a core that made it tells
+-- the charge that is owed for a run, as the core that made the run shows it
 abbrev pub owing_told : {W : Type 0} → Meaning W → CoreHeld W → Ran → Option Charge
 owing_told work core (ran.Unit s q) = option_and_then (owing_of s) (front_output work (held_at core s).jobs)
 owing_told work core (ran.Done c) = owing_of c.server c.result
 owing_told work core _ = None
 
 module _ {W : Type 0} (work : Meaning W) (job : Release → W) where
-  -- a core made this move of the simulation, of which this is to be shown, and this is then owed
+  -- a core made this move of the simulation. This is its event, and this charge is then owed
   pub record DoesMove (sim : Simulation W) (m : Move) (new : CoreHeld W) (e : Event) (owing : Option Charge) : Type 0 where
     pub event : e ≡ event_of work (world_after work (sim.history ⊕ step_of work job m)) m (reply_in work sim.history (step_of work job m))
     pub state : Agrees work new (sim.history ⊕ step_of work job m)
     pub owed : owing ≡ owing_after work job sim m
 
-  -- the move of a simulation up to `stop`, if no release has come
+  -- the move of a simulation up to the tick `stop`, if no release has come
   abbrev pub move_to : ℕ → Simulation W → Move
   move_to stop sim = let w = world_after work sim.history in move_on w.now stop (idle_span w.now (faces work w))
 
-  -- a core made this move of the simulation, a watcher saw it, and this is then owed
+  -- a core made this move of the simulation, a watcher saw it, and this charge is then owed
   pub record MakesMove {S : Type 0} (saw : S → S → List Sight → Type 0) (sim : Simulation W) (m : Move) (new : CoreHeld W) (owing : Option Charge)
       (w v : S) : Type 0 where
     pub state : Agrees work new (after_move work job sim m).history
     pub owed : owing ≡ owing_after work job sim m
     pub seen : (first : S) (seen : List Sight) → saw first w seen → saw first v (sight_of work job sim m ∷ seen)
 
-  -- a core made the next move of the simulation, after which these releases come and this is owed
+  -- a core made the next move of the simulation. After it these releases are to come, and this charge is owed
   pub record MakesNext {S : Type 0} (until : ℕ) (saw : S → S → List Sight → Type 0) (sim : Simulation W) (new : CoreHeld W) (coming : List Release)
       (owing : Option Charge) (w v : S) : Type 0 where
     pub move : Move
@@ -66,23 +66,24 @@ module _ {W : Type 0} (work : Meaning W) (job : Release → W) where
     pub rest : coming ≡ (after_moves work job sim moves).coming
     pub owed : owing ≡ (after_moves work job sim moves).owing
 
-  -- a watcher that had seen this saw what the moves show, or failed to see the last of them
+  -- a watcher that had seen some moments then saw what the moves show, or failed to see the last of them
   abbrev pub SawOrFailed : {S : Type 0} → (S → S → List Sight → Type 0) → (S → S → List Sight → Type 0) → Simulation W → List Move → S → S → Type 0
   SawOrFailed {S} saw failed sim ms w v =
       (first : S) (seen : List Sight) → saw first w seen → saw first v (shown work job sim ms seen) ⊎ failed first v (shown work job sim ms seen)
 
-  -- a core stopped after some moves of the simulation, each the next one where it stands, which the watcher saw, but maybe the last
+  -- a core stopped after some moves of the simulation, each the next one where it stands. The watcher saw them, or
+  -- failed to see the last one
   pub record Stops {S : Type 0} (until : ℕ) (saw failed : S → S → List Sight → Type 0) (sim : Simulation W) (new : CoreHeld W) (w v : S) : Type 0 where
     pub moves : List Move
     pub each : AreNext work job until sim moves
     pub state : Agrees work new (after_moves work job sim moves).history
     pub seen : SawOrFailed saw failed sim moves w v
 
-  -- if this is the next move, it stopped after it at most
+  -- if this is the next move, the core stopped at the latest after it
   abbrev pub StopsAt : {S : Type 0} → (S → S → List Sight → Type 0) → (S → S → List Sight → Type 0) → Simulation W → Move → CoreHeld W → S → S → Type 0
   StopsAt saw failed sim m new w v = (until : ℕ) → next_of work job until sim ≡ Some m → Stops until saw failed sim new w v
 
-  -- a watcher saw some first moves of the simulation, but maybe the last of these
+  -- a watcher saw the first moves of the simulation, up to some move, or failed to see the last of these
   pub record SeesSome {S : Type 0} (until : ℕ) (saw failed : S → S → List Sight → Type 0) (sim : Simulation W) (w v : S) : Type 0 where
     pub done : List Move
     pub left : List Move
@@ -97,9 +98,10 @@ module _ {W : Type 0} (work : Meaning W) (job : Release → W) where
     pub owed : owing ≡ sim.owing
     pub watcher : v ≡ w
 
-  -- A core simulated a load: its steps are the moves of the definition, which are all that there are and the only ones, and the
-  -- watcher saw what they show. Each release before `until` was submitted once, in order, at its tick or as soon as a charge that
-  -- passed that had ended; each unit was charged its overrun; every advance was quiet; and the clock stands at `until`.
+  -- A core simulated a load. Its steps are the moves of the definition, all of them and no others, and the watcher saw
+  -- what they show. Each release before `until` was submitted once, in order. It was submitted at its tick, or as soon
+  -- as a charge ended that had carried the clock past its tick. Each unit was charged its overrun, every advance was
+  -- quiet, and the clock is at `until`.
   pub record Simulates {S : Type 0} (until : ℕ) (saw : S → S → List Sight → Type 0) (sim : Simulation W) (new : CoreHeld W) (w v : S) : Type 0 where
     pub state : Agrees work new (after_moves work job sim (moves_of work job until sim)).history
     pub all : AreMoves work job until sim (moves_of work job until sim)
@@ -115,8 +117,8 @@ module _ {W : Type 0} (work : Meaning W) (job : Release → W) where
   abbrev pub IsAtTick : Simulation W → Move → Type 0
   IsAtTick sim m = IsOnTick (clock_of work job sim) (clock_of work job sim) m
 
-  -- A core that was made for it simulated a load: no premise is left to the laws of a history. If no release has an overrun, each
-  -- is submitted exactly at its tick, and no step takes anybody's time.
+  -- A core that was made for a load simulated it. The laws of a history then hold with no premise left. If no release
+  -- has an overrun, each is submitted exactly at its tick, and no step takes any server's time.
   pub record SimulatesAlone {S : Type 0} (until : ℕ) (saw : S → S → List Sight → Type 0) (sim : Simulation W) (new : CoreHeld W) (w v : S) : Type 0 where
     pub simulates : Simulates until saw sim new w v
     pub punctual : IsPunctual work (after_moves work job sim (moves_of work job until sim)).history

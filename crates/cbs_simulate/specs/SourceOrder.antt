@@ -1,4 +1,4 @@
--- A source releases in order.
+-- The releases of a source are in order.
 use Rattle.std.specs.Prelude.{ℕ, zero, suc, ◌+◌, ltb, if◌then◌else◌, List, [], ◌∷◌}
 use Rattle.std.proofs.Common.{arith, inl, inr}
 use Rattle.std.proofs.lemmas.Bool.{cases_Bool}
@@ -9,11 +9,11 @@ use Rattle.cbs_simulate.specs.Ordering.{order_from}
 use Rattle.cbs_simulate.specs.declared.release.Release.{Release}
 use Rattle.cbs_simulate.specs.declared.terms.SourceTerms.{SourceTerms}
 
--- a release before others that come at its tick or later, if it comes before `until`
+-- other releases are at the tick of a release or later. With it before them they are in order, and so is the empty list
 one_ordered : (until : ℕ) (r : Release) (rs : List Release) → IsInOrder r.tick rs → IsInOrder r.tick (if ltb r.tick until then r ∷ rs else [])
 one_ordered until r rs order = elim (cases_Bool (ltb r.tick until)) [ inl y ↦ rw y ((omega arith), order) | inr n ↦ rw n tt ]
 
--- the releases of a source come at the tick or later, in order
+-- the releases of a source are at the tick or later, in order
 ordered_released : (place : ℕ) (t : SourceTerms) (until k tick : ℕ) (g : Lcg) → IsInOrder tick (released place t until k tick g)
 ordered_released place t until zero tick g = tt
 ordered_released place t until (suc k) tick g =
@@ -23,7 +23,7 @@ ordered_released place t until (suc k) tick g =
     let rest = released place t until k (tick + e.0) e.1 in
     one_ordered until (release_of place t tick u.0 o.0) rest (order_from tick (tick + e.0) rest (omega arith) (ordered_released place t until k (tick + e.0) e.1))
 
--- so do those that it releases yet
+-- the releases that a source has left are at its next tick or later, in order
 ordered_pending : (k : ℕ) (c : Cursor) → IsInOrder c.tick (pending_from k c)
 ordered_pending zero c = tt
 ordered_pending (suc k) c =
@@ -32,6 +32,6 @@ ordered_pending (suc k) c =
     one_ordered c.until (release_of c.place c.terms c.tick c.units c.overrun) rest
     (order_from c.tick (c.tick + e.0) rest (omega arith) (ordered_released c.place c.terms c.until k (c.tick + e.0) e.1))
 
--- so a source is in order
+-- the releases of a source are in order
 pub ordered_source : (c : Cursor) → IsInOrder 0 (pending c)
 ordered_source c = order_from 0 c.tick (pending c) (omega arith) (ordered_pending c.left c)

@@ -1,4 +1,4 @@
-//! Simulating from the start.
+//! Simulations from the start, on a core of their own.
 
 ghost use Rattle.std.specs.Prelude.{◌≡◌, ◌≤◌, [], length, IfOk, OnErr, None};
 ghost use Rattle.cbs_rate.specs.Refusals.{RefusesByOrMemory};
@@ -16,13 +16,14 @@ use cbs_rules::{LIMIT, Modes};
 use cbs_steps::CoreError;
 use std::alloc::Allocator;
 
-/// Runs a load up to a tick, as [`simulate`] does, on a core of its own, which it returns.
+/// Simulates a load up to the tick `until`, as [`simulate`] does, on a new core. Returns the core.
 ///
-/// There must be a mode for each server of the plan, `until` is at most [`LIMIT`], and the watcher has to be ready.
+/// There must be a mode for each server of the plan, `until` must be at most [`LIMIT`], and the watcher has to be
+/// ready.
 ///
-/// Refuses a backlog outside 1 to [`MAX_BACKLOG`](cbs_core::MAX_BACKLOG) by [`CoreError::BadBacklog`], and by
-/// [`CoreError::OutOfMemory`] if an allocation is refused, or if the watcher fails. The watcher has then seen the first moves, up to
-/// some move.
+/// Refuses a backlog outside 1 to [`MAX_BACKLOG`](cbs_core::MAX_BACKLOG) with [`CoreError::BadBacklog`]. Refuses with
+/// [`CoreError::OutOfMemory`] if out of memory, or if the watcher fails. The watcher has then seen the first moves, up
+/// to some move.
 pub fn simulate_plan<A: Allocator + Clone, R: Releases, C, S: Watcher<C>>(
     alloc: A,
     plan: &Plan,

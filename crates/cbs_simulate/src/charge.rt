@@ -3,7 +3,7 @@
 ghost use Rattle.std.specs.Prelude.{◌≡◌};
 ghost use Rattle.cbs_simulate.specs.Moves.{owing_of};
 
-/// What a server is to be charged before anything else is done.
+/// A charge of a server that must come before any other move.
 #[derive(Clone, Copy, Debug, PartialEq, Eq)]
 pub(crate) struct Charge {
     /// The server that ran the last unit.
@@ -13,7 +13,7 @@ pub(crate) struct Charge {
 }
 
 impl Charge {
-    /// Returns the charge of so many ticks, or `None` if there are none.
+    /// Returns the charge of this many ticks, or `None` if there are none.
     pub fn of(server: u16, ticks: u64) -> Option<Charge>
         ensures { result ≡ owing_of server ticks }
     {

@@ -1,4 +1,4 @@
-//! Simulating: moves, one after another, up to a tick.
+//! The driver of a simulation: it makes moves, one after another, up to a tick.
 
 ghost use Rattle.std.specs.Prelude.{◌≡◌, ◌-◌, ◌≤◌, ◌<◌, true, false, List, ◌∷◌, drop, min, slice_get, Some, None, IfOk, OnOk, OnErr};
 ghost use Rattle.cbs_core.specs.Agreement.{Agrees, HasHistory};
@@ -21,7 +21,7 @@ use cbs_rules::LIMIT;
 use cbs_steps::Ran;
 use std::alloc::{AllocError, Allocator};
 
-/// Shows what a move did.
+/// Shows the watcher what a move did.
 #[inline(always)]
 fn show<A: Allocator, C, S: Watcher<C>>(
     core: &Core<LoadJob, A>,
@@ -43,7 +43,7 @@ fn show<A: Allocator, C, S: Watcher<C>>(
     watcher.see(lent, moment, core)
 }
 
-/// Submits the release that comes next, and shows it.
+/// Submits the next release, and shows it to the watcher.
 #[inline(always)]
 fn submit_first<A: Allocator, R: Releases, C, S: Watcher<C>>(
     core: &mut Core<LoadJob, A>,
@@ -67,7 +67,7 @@ fn submit_first<A: Allocator, R: Releases, C, S: Watcher<C>>(
     show(core, event, watcher, lent)
 }
 
-/// Charges what is owed, as far as `until`, and shows it.
+/// Charges what is owed, but no further than to the tick `until`, and shows it to the watcher.
 fn show_charge<A: Allocator, C, S: Watcher<C>>(
     core: &mut Core<LoadJob, A>,
     owed: Charge,
@@ -89,7 +89,8 @@ fn show_charge<A: Allocator, C, S: Watcher<C>>(
     show(core, event, watcher, lent)
 }
 
-/// Runs a unit, or lets ticks pass up to `stop`, and shows it. Returns what is then owed.
+/// Runs a unit, or lets ticks pass up to the tick `stop`, and shows it to the watcher. Returns the charge that is then
+/// owed, if one is.
 #[inline(always)]
 fn show_next<A: Allocator, C, S: Watcher<C>>(
     core: &mut Core<LoadJob, A>,
@@ -106,7 +107,8 @@ fn show_next<A: Allocator, C, S: Watcher<C>>(
         → StopsAt loading job_of S.saw S.failed sim (move_to loading job_of stop sim) core.new (watcher.old, lent.old) (watcher.new, lent.new)) }
 {
     let (event, owing) = moves::go_on(core, stop);
-    // Most moves are units that end no job: they are shown for themselves, so that what sees them tests once what they are.
+    // Most moves are units that end no job. They are shown on a path of their own, so that the view tests once what
+    // they are.
     match event {
         Event::Ran(Ran::Unit { server, seq }) => {
             show(core, Event::Ran(Ran::Unit { server, seq }), watcher, lent)?;
@@ -116,8 +118,7 @@ fn show_next<A: Allocator, C, S: Watcher<C>>(
     Ok(owing)
 }
 
-/// Returns the tick up to which nobody but a server may have something to do: that of the next release, but no later than
-/// `until`.
+/// Returns the tick up to which no release comes: the tick of the next release, but no later than `until`.
 fn stop_of<R: Releases>(releases: &R, until: u64) -> u64
     ensures { result ≡ stop_at until (R.coming releases.now) }
 {
@@ -127,7 +128,8 @@ fn stop_of<R: Releases>(releases: &R, until: u64) -> u64
     }
 }
 
-/// Submits the next release, which has come, if it came before `until`, and shows it. Returns whether it did.
+/// Submits the next release, whose tick has come, if that tick is before `until`, and shows it to the watcher. Returns
+/// whether it was submitted.
 fn submit_due<A: Allocator, R: Releases, C, S: Watcher<C>>(
     core: &mut Core<LoadJob, A>,
     releases: &mut R,
@@ -156,9 +158,9 @@ fn submit_due<A: Allocator, R: Releases, C, S: Watcher<C>>(
     }
 }
 
-/// Makes the next move, and shows it. Returns whether there was one.
+/// Makes the next move, and shows it to the watcher. Returns whether there was a next move.
 ///
-/// It keeps the tick up to which no release comes, so that none is asked for while units run.
+/// Keeps in `stop` the tick up to which no release comes, so that the releases are not asked while units run.
 fn make_next<A: Allocator, R: Releases, C, S: Watcher<C>>(
     core: &mut Core<LoadJob, A>,
     releases: &mut R,
@@ -202,14 +204,15 @@ fn make_next<A: Allocator, R: Releases, C, S: Watcher<C>>(
     Ok(moved)
 }
 
-/// Runs a load up to a tick. At each moment it first charges what the last unit took beyond its first tick, then submits every
-/// release that has come; then it runs a unit if somebody is ready, and else lets ticks pass, up to the next release, or
-/// until somebody may be ready. It shows each move to the watcher.
+/// Simulates a load up to the tick `until`, and shows each move to the watcher. At each moment it first charges what
+/// the last unit took beyond its first tick, and then submits every release that has come. After these it runs a unit
+/// if some server is ready. If none is, it lets ticks pass, up to the next release or until a server may be ready.
 ///
-/// The clock may not be later than `until`, nor than the first release, and `until` is at most [`LIMIT`]. The watcher has to be ready.
+/// The clock must not be later than `until` or than the first release. `until` must be at most [`LIMIT`], and the
+/// watcher has to be ready.
 ///
-/// Returns an error if out of memory, or if the watcher fails: the core has then made the first of these moves, up to some move,
-/// and no other, and the watcher has seen them, but maybe the last.
+/// Refuses if out of memory, or if the watcher fails. The core has then made the first moves, up to some move, and no
+/// others. The watcher has seen these moves, but it may have failed to see the last one.
 pub fn simulate<A: Allocator, R: Releases, C, S: Watcher<C>>(
     core: &mut Core<LoadJob, A>,
     releases: &mut R,

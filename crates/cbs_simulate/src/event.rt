@@ -1,25 +1,26 @@
-//! What a simulation shows.
+//! The moments that a simulation shows.
 
 use crate::release::Release;
 use cbs_steps::{CoreError, Ran};
 
-/// What a move did, and what it was answered.
+/// The effect of a move, and its result.
 #[derive(Clone, Copy, Debug, PartialEq, Eq)]
 pub enum Event {
     /// A release was submitted.
     Submitted {
         /// The release.
         release: Release,
-        /// The job's number among the accepted jobs of its server, from 0, or why it was refused.
+        /// The job's number among the accepted jobs of its server, from 0, or the error of its refusal.
         answer: Result<u64, CoreError>,
-        /// If it was accepted, the tick by which all that the server has accepted is finished, as long as nobody is charged.
+        /// The tick by which all jobs that the server has accepted are finished, if this one was accepted. It holds as
+        /// long as nobody is charged.
         promised: Option<u128>,
     },
     /// A unit was run.
     Ran(Ran),
-    /// So many ticks passed with nobody ready.
+    /// This many ticks passed, and nobody was ready.
     Passed(u64),
-    /// A server was charged the ticks that its last unit took beyond its first, and as many passed.
+    /// A server was charged the ticks that its last unit took beyond its first, and this many ticks passed.
     Charged {
         /// The server.
         server: u16,

@@ -1,4 +1,4 @@
-//! Simulation: a load of releases is run by a core, step by step, up to a tick.
+//! Simulation: a core runs a load of releases, step by step, up to a tick.
 #![tactic(auto)]
 
 mod alone;

@@ -1,4 +1,4 @@
-//! A load: sources by their terms.
+//! Loads: sources by their terms.
 
 ghost use Rattle.std.specs.Prelude.{◌≡◌, ◌≤◌, All, IfOk, length, map};
 ghost use Rattle.cbs_simulate.specs.Drawing.{IsLawful, pending, released_by_all};
@@ -9,9 +9,11 @@ use crate::terms::SourceTerms;
 use cbs_rules::LIMIT;
 use std::alloc::{AllocError, Allocator};
 
-/// Returns the releases before `until` of sources with these terms, which are numbered from 0, with one seed for all.
+/// Returns the releases before the tick `until` of sources with these terms. The sources are numbered from 0, and one
+/// seed serves them all. The only error is out of memory.
 ///
-/// Each must be within the limits that [`SourceTerms`] names, there are at most 65,536, and `until` is at most [`LIMIT`].
+/// Each of the terms must be within the limits that [`SourceTerms`] names. There are at most 65,536 of them, and
+/// `until` is at most [`LIMIT`].
 pub fn load_of<A: Allocator + Clone>(
     alloc: A,
     terms: &[SourceTerms],

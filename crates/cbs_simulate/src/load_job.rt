@@ -1,11 +1,11 @@
-//! A job whose units are counted.
+//! Jobs whose units are only counted.
 
 ghost use Rattle.cbs_simulate.specs.Loading.{loading, loading_lowers};
 
 use cbs_job::Work;
 
-/// A job of a load: its units do nothing, they are counted. Its output is its overrun throughout, so that whoever ran a
-/// unit knows what to charge for it.
+/// A job of a load. Its units do nothing, and are only counted. Its output is its overrun at all times, so that the
+/// caller of a run knows the charge for a unit.
 #[derive(Drop)]
 pub struct LoadJob {
     /// How many units are left.

@@ -12,12 +12,13 @@ use std::cmp::Reverse;
 use std::collections::BinaryHeap;
 use std::marker::Model;
 
-/// The releases of several sources, by their ticks, and at one tick by the places of their sources.
+/// The releases of several sources, in the order of their ticks. At one tick they come in the order of their sources.
 ///
-/// The next release is known at once; to go on to the one after it takes time that grows with the logarithm of the sources.
+/// The next release is known at once. Passing it takes time that grows with the logarithm of the number of sources.
 pub struct Merged<S: Releases + Drop, A: Allocator = Global> {
     sources: Vec<S, A>,
-    // when each source that releases yet does so next, and its place; the first on top
+    // The turns: for each source with a release left, the tick of its next one, and its place. The first turn is on
+    // top.
     turns: BinaryHeap<Reverse<(u64, usize)>, A>,
 }
 
@@ -41,7 +42,7 @@ impl<S: Releases + Drop, A: Allocator> Model for Merged<S, A> {
     ghost invariant = { λ m. HasTurns (map S.coming m.sources.items) m.turns };
 }
 
-/// Adds the turn of the source at a place, if it releases yet.
+/// Adds the turn of the source at a place, if the source has a release left.
 fn add_turn<A: Allocator>(
     turns: &mut BinaryHeap<Reverse<(u64, usize)>, A>,
     place: usize,
@@ -58,7 +59,8 @@ fn add_turn<A: Allocator>(
 }
 
 impl<S: Releases + Drop, A: Allocator> Merged<S, A> {
-    /// Returns the releases of these sources. Memory is taken here, and not later.
+    /// Returns the merged releases of these sources. All memory is taken here, and none later. The only error is out of
+    /// memory.
     pub fn new(alloc: A, sources: Vec<S, A>) -> Result<Merged<S, A>, AllocError>
         ensures { IfOk result (λ merged. merged ≡ sources.items) }
     {
@@ -93,7 +95,7 @@ impl<S: Releases + Drop, A: Allocator> Releases for Merged<S, A> {
             return;
         };
         self.sources[place].pass();
-        // There is room, since a turn came out.
+        // There is room, since a turn was taken out.
         let _added = add_turn(&mut self.turns, place, self.sources[place].first());
     }
 }

@@ -1,4 +1,4 @@
-//! Each kind of move, as a core makes it.
+//! The kinds of moves, as a core makes them.
 
 ghost use Rattle.std.specs.Prelude.{◌≡◌, ◌≤◌, IfOk, OnErr, None};
 ghost use Rattle.cbs_core.specs.Agreement.{Agrees, TellsOf};
@@ -17,7 +17,7 @@ use cbs_job::Task;
 use cbs_steps::{CoreError, Ran};
 use std::alloc::{AllocError, Allocator};
 
-/// Submits the job of a release.
+/// Submits the job of a release. Refuses if out of memory: then the core is unchanged.
 #[inline(always)]
 pub(crate) fn submit<A: Allocator>(
     core: &mut Core<LoadJob, A>,
@@ -52,7 +52,7 @@ pub(crate) fn submit<A: Allocator>(
     }
 }
 
-/// Runs a unit of the chosen server. Returns what is then owed for it, beside the event.
+/// Runs a unit of the chosen server. Returns the event, and the charge that is then owed, if one is.
 #[inline(always)]
 pub(crate) fn run<A: Allocator>(core: &mut Core<LoadJob, A>) -> (Event, Option<Charge>)
     ensures { (sim : Simulation LoadJob) → Agrees loading core.old sim.history → DoesMove loading job_of sim run core.new result.0 result.1 }
@@ -61,7 +61,7 @@ pub(crate) fn run<A: Allocator>(core: &mut Core<LoadJob, A>) -> (Event, Option<C
     (Event::Ran(ran), owing(core, ran))
 }
 
-/// Returns what is owed for a run that was just answered so.
+/// Returns the charge that is owed after a run with this result, if one is.
 #[inline(always)]
 fn owing<A: Allocator>(core: &Core<LoadJob, A>, ran: Ran) -> Option<Charge>
     ensures { result ≡ owing_told loading core.now ran }
@@ -73,7 +73,7 @@ fn owing<A: Allocator>(core: &Core<LoadJob, A>, ran: Ran) -> Option<Charge>
     }
 }
 
-/// Lets so many ticks pass.
+/// Lets this many ticks pass. Returns the event.
 pub(crate) fn pass<A: Allocator>(core: &mut Core<LoadJob, A>, ticks: u64) -> Event
     ensures { (sim : Simulation LoadJob) → Agrees loading core.old sim.history → DoesMove loading job_of sim (pass ticks) core.new result None }
 {
@@ -81,7 +81,7 @@ pub(crate) fn pass<A: Allocator>(core: &mut Core<LoadJob, A>, ticks: u64) -> Eve
     Event::Passed(ticks)
 }
 
-/// Charges a server, which ran the last unit.
+/// Charges the server that ran the last unit. Returns the event.
 pub(crate) fn charge<A: Allocator>(core: &mut Core<LoadJob, A>, server: u16, ticks: u64) -> Event
     ensures { (sim : Simulation LoadJob) → Agrees loading core.old sim.history → DoesMove loading job_of sim (charge server ticks) core.new result None }
 {
@@ -89,7 +89,8 @@ pub(crate) fn charge<A: Allocator>(core: &mut Core<LoadJob, A>, server: u16, tic
     Event::Charged { server, ticks }
 }
 
-/// Runs a unit if somebody is ready, and else lets ticks pass, up to `stop` at most.
+/// Runs a unit if a server is ready; else lets ticks pass, at most up to the tick `stop`. Returns the event, and the
+/// charge that is then owed, if one is.
 #[inline(always)]
 pub(crate) fn go_on<A: Allocator>(core: &mut Core<LoadJob, A>, stop: u64) -> (Event, Option<Charge>)
     requires { core.old.clock ≤ stop }
@@ -105,8 +106,8 @@ pub(crate) fn go_on<A: Allocator>(core: &mut Core<LoadJob, A>, stop: u64) -> (Ev
     }
 }
 
-/// Returns for how many ticks nobody will be ready, or `None` if somebody is. It first asks who is ready, since that takes
-/// less time than the search for a span.
+/// Returns for how many ticks no server will be ready, or `None` if one is ready now. It first tests whether a server
+/// is ready, since that takes less time than the search for a span.
 #[inline(always)]
 fn span_if_idle<A: Allocator>(core: &Core<LoadJob, A>) -> Option<u64>
     ensures { TellsOf loading core.now (λ w. result ≡ idle_span w.now (faces loading w)) }

@@ -1,4 +1,4 @@
-//! Ranges of numbers, of which one is drawn.
+//! Ranges of numbers, from which one is drawn.
 
 ghost use Rattle.std.specs.Prelude.{◌≡◌, ◌≤◌};
 ghost use Rattle.std.specs.Option.{SomeIff};
@@ -8,7 +8,7 @@ use rand_core::utils::NextWord;
 use rand_pcg::Pcg64;
 use std::marker::Model;
 
-/// The numbers from the least to the greatest, both among them.
+/// The numbers from a least to a greatest one, with both.
 #[derive(Clone, Copy, Debug, PartialEq, Eq)]
 pub struct Range {
     least: u64,
@@ -29,7 +29,7 @@ impl Model for Range {
 }
 
 impl Range {
-    /// Returns the numbers from `least` to `greatest`, or `None` if the least is the greater.
+    /// Returns the range from `least` to `greatest`, or `None` if `least` is greater than `greatest`.
     pub fn new(least: u64, greatest: u64) -> Option<Range>
         ensures { SomeIff result (least ≤ greatest) (record { least = least; greatest = greatest }) }
     {
@@ -39,7 +39,7 @@ impl Range {
         Some(Range { least, greatest })
     }
 
-    /// Returns the range of one number, of which nothing has to be drawn.
+    /// Returns the range of one number. A draw from it takes no word of the generator.
     pub fn fixed(number: u64) -> Range
         ensures { result ≡ record { least = number; greatest = number } }
     {
@@ -65,8 +65,8 @@ impl Range {
         self.greatest
     }
 
-    /// Returns a number of the range, drawn by one word of the generator, each as often as any other up to one part in
-    /// 2^64 of their count. A range of one number takes no word.
+    /// Returns a number of the range, drawn with one word of the generator. Each number is as likely as any other, up
+    /// to one part in 2^64 of their count. A range of one number takes no word.
     pub fn draw(&self, draws: &mut Pcg64) -> u64
         ensures value { (result, draws.new) ≡ drawn self.now draws.old }
         ensures least { self.now.least ≤ result }

@@ -7,10 +7,10 @@ pub struct Release {
     pub tick: u64,
     /// The place of the source that releases it, from 0.
     pub source: u16,
-    /// The server that is to run it.
+    /// The server that is to run the job.
     pub server: u16,
-    /// How many units it has.
+    /// How many units the job has.
     pub units: u32,
-    /// The ticks that each of its units takes beyond its first.
+    /// The ticks that each of the units takes beyond its first.
     pub overrun: u64,
 }

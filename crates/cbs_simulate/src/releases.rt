@@ -6,20 +6,20 @@ ghost use Rattle.cbs_simulate.specs.declared.release.Release.{Release};
 
 use crate::release::Release;
 
-/// Releases that come, in the order in which they are submitted.
+/// A source of releases, in the order in which they are submitted.
 pub trait Releases {
-    /// Those that come.
+    /// The releases that are left.
     ghost coming: { Self → List Release };
 
-    /// They come in the order of their ticks.
+    /// They stand in the order of their ticks.
     ghost ordered: { (it : Self) → IsInOrder 0 (coming it) };
 
-    /// Returns the next one, or `None` if no more come. It has 1 to 1,000,000 units.
+    /// Returns the next release, or `None` if none is left. It has 1 to 1,000,000 units.
     fn first(&self) -> Option<Release>
         ensures next { result ≡ slice_get (coming self.now) 0 }
         ensures units { IfSome result MakesJob };
 
-    /// Goes on to the one after the next.
+    /// Passes the next release, so that the one after it is the next.
     fn pass(&mut self)
         requires { 0 < length (coming self.old) }
         ensures { coming self.new ≡ drop 1 (coming self.old) };

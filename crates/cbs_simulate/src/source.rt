@@ -1,4 +1,4 @@
-//! Sources of jobs, with numbers drawn.
+//! Sources of jobs, whose numbers are drawn.
 
 ghost use Rattle.std.specs.Prelude.{◌≡◌, ◌≤◌, ℕ, None};
 ghost use Rattle.cbs_simulate.specs.Drawing.{IsLawful, pending, released_by, released_from};
@@ -13,8 +13,8 @@ use std::marker::Model;
 
 /// A source of jobs for one server.
 ///
-/// It has a generator of its own. For each job it draws the units, then the overrun, and then the ticks to the next, so
-/// no other source and no schedule changes what it releases.
+/// It has a generator of its own. For each job it draws the units, then the overrun, and then the ticks to the next
+/// job. So no other source and no schedule changes what it releases.
 #[derive(Drop)]
 pub struct Source {
     place: u16,
@@ -50,10 +50,10 @@ impl Model for Source {
 }
 
 impl Source {
-    /// Returns a source with these terms, whose jobs are released before `until`. Its generator is the `Pcg64` whose state is
-    /// the seed and whose stream is its place.
+    /// Returns a source with these terms, whose jobs are released before the tick `until`. Its generator is the `Pcg64`
+    /// with the seed as its state and the source's place as its stream.
     ///
-    /// The terms must be within the limits that [`SourceTerms`] names, and `until` at most [`LIMIT`].
+    /// The terms must be within the limits that [`SourceTerms`] names, and `until` must be at most [`LIMIT`].
     pub fn new(place: u16, terms: &SourceTerms, until: u64, seed: u64) -> Source
         requires lawful { IsLawful terms.now }
         requires end { until ≤ LIMIT }

@@ -1,4 +1,4 @@
-//! What a source is given.
+//! The terms of a source.
 
 use crate::range::Range;
 
@@ -13,9 +13,10 @@ pub struct SourceTerms {
     pub every: Range,
     /// How many units a job has: 1 to 1,000,000.
     pub units: Range,
-    /// How many jobs it releases at most, or `None` if it releases until the simulation ends.
+    /// How many jobs the source releases at most, or `None` if it releases jobs until the simulation ends.
     pub jobs: Option<u64>,
-    /// Within how many ticks of its release each job is to be finished, if that is wanted. No simulation looks at it.
+    /// Within how many ticks of its release each job is to be finished, if that is wanted. The simulation does not use
+    /// it.
     pub within: Option<u64>,
     /// The ticks that each unit of a job takes beyond its first.
     pub overrun: Range,

@@ -1,4 +1,4 @@
-//! What watches a simulation.
+//! The watcher of a simulation.
 
 ghost use Rattle.std.specs.Prelude.{List, ◌∷◌, OnOk, OnErr};
 ghost use Rattle.cbs_simulate.specs.Shown.{Sight};
@@ -8,18 +8,20 @@ use crate::load_job::LoadJob;
 use cbs_core::Core;
 use std::alloc::{AllocError, Allocator};
 
-/// Sees each moment of a simulation, in order. `C` is what it is lent for that, such as a writer.
+/// A watcher that sees each moment of a simulation, in order. `C` is what it is lent for that, such as a writer.
 pub trait Watcher<C> {
-    /// Whether it may be shown a moment, with what it is lent.
+    /// The condition under which the watcher may be shown a moment, with what it is lent.
     ghost ready: { Self → C → Type 0 } = { λ _ _. Unit {0} };
 
-    /// What it and what it is lent held at first, and what they hold after it saw these moments, the newest first.
+    /// What the watcher and what it is lent held at first, and what they hold after it saw these moments, the newest
+    /// first.
     ghost saw: { (Self × C) → (Self × C) → List Sight → Type 0 };
 
-    /// What they hold after it failed to see the newest of these moments.
+    /// What they held at first, and what they hold after the watcher failed to see the newest of these moments.
     ghost failed: { (Self × C) → (Self × C) → List Sight → Type 0 } = { λ _ _ _. Unit {0} };
 
-    /// Sees a moment, and the core as it stands then. An error ends the simulation: out of memory, or what the watcher keeps of it.
+    /// Sees a moment, with the core as it is then. An error ends the simulation. The error means out of memory, or
+    /// another failure that the watcher keeps itself.
     fn see<A: Allocator>(
         &mut self,
         lent: &mut C,

@@ -1,4 +1,4 @@
--- What is told of each server of a plan, one server after the other.
+-- The greatest budget of each server of a plan, one server after the other.
 use Rattle.std.proofs.Common.{◌≡◌, ℕ, ◌+◌, ◌<◌, List, [], ◌∷◌, ◌++◌, length, get_or, arith, Some, inl, inr}
 use Rattle.std.specs.Prelude.{slice_get}
 use Rattle.std.proofs.lemmas.Bool.{cases_lt}
@@ -11,7 +11,7 @@ use Rattle.cbs_size.specs.Budgets.{without, IsGreatestFor, AreGreatest}
 use Rattle.cbs_size.specs.ServerLoads.{IsServerLoad, AreServerLoads, no_load}
 use Rattle.cbs_size.specs.declared.server_load.ServerLoad.{ServerLoad}
 
--- what holds of each of n elements, and of one more
+-- what holds for each of n elements, and for one more
 each_more : {X : Type 0} (P : ℕ → X → Type 0) (n : ℕ) (xs : List X) (x d : X) → length xs ≡ n → ((s : ℕ) → s < n → P s (get_or xs s d)) → P n x
     → (s : ℕ) → s < n + 1 → P s (get_or (xs ++ x ∷ []) s d)
 each_more P n xs x d count each here s lt = elim (cases_lt s n) [

@@ -1,4 +1,4 @@
--- A least common multiple of two numbers, and what sources ask for over it.
+-- A least common multiple of two numbers, and the demand of sources over it.
 use Rattle.std.proofs.Common.{◌≡◌, ℕ, ◌+◌, ◌*◌, ◌/◌, ◌%◌, ◌≤◌, ◌<◌, List, [], ◌∷◌, ◌++◌, length, take, get_or, arith, refl, ap, ◌∙◌, inl, inr}
 use Rattle.std.specs.Prelude.{map}
 use Rattle.std.specs.Int.{IsGcd, ◌∣◌}
@@ -65,7 +65,7 @@ module _ (a b g : ℕ) (a_some : 0 < a) (b_some : 0 < b) (gcd : IsGcd a b g) whe
       times_other : (x : ℕ) → a * x ≡ m → m * b ≡ a * b * x
       times_other x e = rw (← e) (omega arith)
 
--- what is asked for with one source more, over the least common multiple
+-- the demand with one source more, over the least common multiple
 pub joined_self : (before : Asked) (source : Source) (g : ℕ) → 0 < before.of → 0 < source.every → IsGcd before.of source.every g
     → ((d k : ℕ) → d ∣ k * before.of → d ∣ k * source.every → d ∣ k * g) → before.of / g * source.every ≤ 1_000_000_000_000_000_000
     → IsJoined before source (record {
@@ -81,7 +81,7 @@ joined_self before source g of_some every_some gcd scaled coarse = record {
   ticks = refl;
 }
 
--- over n times as many ticks they ask for n times as much
+-- over n times as many ticks, the demand is n times as much
 scaled_sum : (m n : ℕ) (rates : List Rate) → 0 < m → IsCommonMultiple m rates → sum_by (share (n * m)) rates ≡ n * sum_by (share m) rates
 scaled_sum m n [] some common = omega arith
 scaled_sum m n (r ∷ rs) some common =
@@ -90,7 +90,7 @@ scaled_sum m n (r ∷ rs) some common =
     let rest = scaled_sum m n rs some common.1 in
     rw (sum_by-cons (share (n * m)) r rs, sum_by-cons (share m) r rs, here, rest) (omega arith)
 
--- what sources ask for, over a common multiple that divides each other one
+-- the demand of sources, over a common multiple that divides every other one
 pub record AreSummed (sources : List Source) (a : Asked) : Type 0 where
   pub some : 0 < a.of
   pub coarse : a.of ≤ greatest_common_multiple
@@ -98,7 +98,7 @@ pub record AreSummed (sources : List Source) (a : Asked) : Type 0 where
   pub ticks : a.ticks ≡ sum_by (share a.of) (demands sources)
   pub divides : (m : ℕ) → IsCommonMultiple m (demands sources) → a.of ∣ m
 
--- nothing is asked for by no source
+-- without a source, the demand is 0
 pub summed_none : AreSummed [] (record { ticks = 0; of = 1 })
 summed_none = record {
   some = omega arith;
@@ -160,7 +160,7 @@ small_step i before after source old joined h =
 scaled_bound : (k u o n c : ℕ) → o * n ≡ c → k * (u * o) * n ≡ k * (u * c)
 scaled_bound k u o n c e = rw (← e) (omega arith)
 
--- the ticks that are asked for stay small
+-- the ticks of the demand stay within the limit
 pub before_small : (ticks of common : ℕ) → of ∣ common → ticks ≤ 65536 * (1000000 * of) → ticks * (common / of) ≤ 65536 * (1000000 * common)
 before_small ticks of common d small =
     let e = scaled_bound 65536 1000000 of (common / of) common (mul-div_cancel' of {m = common} d) in
@@ -174,7 +174,7 @@ more_small units every common d some few =
     let times = mul-le units (common / every) 1000000 common few (omega arith) in
     omega arith
 
--- if one source more is too fine, all are
+-- if the periods are too fine with one source more, they are too fine with all
 pub too_fine : (sources : List Source) (i : ℕ) (d : Source) (before : Asked) → i < length sources → AreSummed (take i sources) before
     → IsJoinedTooFine before (get_or sources i d) → AreTooFine sources
 too_fine sources i d before lt old fine = λ m some common.

@@ -24,7 +24,7 @@ greatest_from : (f : ℕ → ℕ) (a : ℕ) (xs : List ℕ) → a ≤ fold (λ m
 greatest_from f a [] = omega arith
 greatest_from f a (x ∷ xs) = let rest = greatest_from f (max a (f x)) xs in omega arith
 
--- nor than any other
+-- it is no less than any other number
 greatest_at : (f : ℕ → ℕ) (a b n i : ℕ) → i < n → f (b + i) ≤ fold (λ most s. max most (f s)) a (range_with_len b n)
 greatest_at f a b zero i lt = absurd (omega arith)
 greatest_at f a b (suc n) zero lt =
@@ -46,7 +46,7 @@ greatest_more f n = later 0 0 n n (omega arith)
     later a b (suc m) j e = let n : suc m + 1 ≡ suc (m + 1) = omega arith in rw n (later (max a (f b)) (b + 1) m j (omega arith))
 
 module _ {X : Type 0} (f : X → ℕ) (g : ℕ → ℕ) (d : X) where
-  -- numbers that are no greater add up to no more
+  -- if each number is no greater than the one beside it, the sum is no greater
   no_more : (xs : List X) (b : ℕ) → ((i : ℕ) → i < length xs → f (get_or xs i d) ≤ g (b + i)) → sum_by f xs ≤ sum (map g (range_with_len b (length xs)))
   no_more [] b each = omega arith
   no_more (x ∷ xs) b each =
@@ -55,7 +55,7 @@ module _ {X : Type 0} (f : X → ℕ) (g : ℕ → ℕ) (d : X) where
       let rest = no_more xs (b + 1) (λ i lt. let s : b + suc i ≡ b + 1 + i = omega arith in rw s at (each (suc i) (omega arith))) in
       omega (arith, sum_by-cons f x xs, sum_by-cons (λ (n : ℕ). n) (g b) (map g (range_with_len (b + 1) (length xs))))
 
-  -- and where one is nothing, to less by that
+  -- if a number is 0, the sum of the others is greater by at least the number beside it
   spared : (xs : List X) (b s : ℕ) → s < length xs → ((i : ℕ) → i < length xs → f (get_or xs i d) ≤ g (b + i)) → f (get_or xs s d) ≡ 0
       → sum_by f xs + g (b + s) ≤ sum (map g (range_with_len b (length xs)))
   spared [] b s lt each none = absurd (omega arith)

@@ -1,4 +1,4 @@
--- A plan takes all of its first servers but one, one after the other.
+-- A plan admits all of its first servers except one, one after the other.
 use Rattle.std.proofs.Common.{◌≡◌, ℕ, zero, suc, ◌+◌, ◌*◌, ◌/◌, ◌%◌, ◌≤◌, ◌<◌, ◌≢◌, List, [], ◌∷◌, ◌++◌, length, take, get_or, arith, refl, ap, Option, Some, None, Result, Ok, Err}
 use Rattle.std.specs.Prelude.{slice_get}
 use Rattle.std.specs.List.{remove, sum_by, AllByRecursion}
@@ -15,20 +15,20 @@ use Rattle.cbs_rate.specs.Refusals.{AnswersBy}
 use Rattle.cbs_rate.proofs.Multiples.{AllLawful, common_multiple-least, least-dvd}
 use Rattle.cbs_rate.proofs.Shares.{sum_scaled, fits_common}
 
--- of all, the first n
+-- a property of all elements holds for the first n
 pub all_take : {X : Type 0} (P : X → Type 0) (n : ℕ) (xs : List X) → AllByRecursion P xs → AllByRecursion P (take n xs)
 all_take P zero xs all = tt
 all_take P (suc n) [] all = tt
 all_take P (suc n) (x ∷ xs) all = (all.0, all_take P n xs all.1)
 
--- of all, all but one
+-- a property of all elements holds for all except one
 all_remove : {X : Type 0} (P : X → Type 0) (xs : List X) (s : ℕ) → AllByRecursion P xs → AllByRecursion P (remove xs s)
 all_remove P [] zero all = tt
 all_remove P [] (suc s) all = tt
 all_remove P (x ∷ xs) zero all = all.1
 all_remove P (x ∷ xs) (suc s) all = (all.0, all_remove P xs s all.1)
 
--- a sum of all but one is no greater
+-- a sum over all except one is no greater
 sum_remove-le : {X : Type 0} (f : X → ℕ) (xs : List X) (s : ℕ) → sum_by f (remove xs s) ≤ sum_by f xs
 sum_remove-le f [] zero = omega arith
 sum_remove-le f [] (suc s) = omega arith
@@ -45,12 +45,12 @@ length_remove-le [] (suc s) = omega arith
 length_remove-le (x ∷ xs) zero = omega arith
 length_remove-le (x ∷ xs) (suc s) = let rest = length_remove-le xs s in omega arith
 
--- of none, none is left
+-- removing from an empty list leaves it empty
 pub remove-nil : {X : Type 0} (s : ℕ) → remove {X = X} [] s ≡ []
 remove-nil zero = refl
 remove-nil (suc s) = refl
 
--- one more, which is the one that is left out
+-- one more server, which is the one that is left out
 same_suc : {X : Type 0} (xs : List X) (t : ℕ) → remove (take (suc t) xs) t ≡ remove (take t xs) t
 same_suc [] zero = refl
 same_suc [] (suc t) = refl
@@ -60,7 +60,7 @@ same_suc (x ∷ xs) (suc t) = ap (λ ys. x ∷ ys) (same_suc xs t)
 pub remove_same : {X : Type 0} (xs : List X) (t : ℕ) → remove (take (t + 1) xs) t ≡ remove (take t xs) t
 remove_same xs t = let e : t + 1 ≡ suc t = omega arith in rw e (same_suc xs t)
 
--- one more, which is another
+-- one more server, which is not the one that is left out
 more_suc : {X : Type 0} (xs : List X) (t s : ℕ) (d : X) → t < length xs → s ≢ t → remove (take (suc t) xs) s ≡ remove (take t xs) s ++ get_or xs t d ∷ []
 more_suc [] t s d lt ne = absurd (omega arith)
 more_suc (x ∷ xs) zero zero d lt ne = absurd (ne refl)
@@ -105,7 +105,7 @@ none_refused bound rates r few coarse fitting =
     let e = le-leb (bound.den * total_share (rates ++ r ∷ [])) (bound.num * all_periods (rates ++ r ∷ [])) fitting in
     rw (lt-leb 64 (length rates) few, lt-leb 1_000_000_000_000_000_001 (common_multiple (rates ++ r ∷ [])) (omega arith), e) refl
 
--- a plan takes its server t after its first t but one
+-- a plan admits its server t after its first t servers except one
 pub takes_next : (plan : Planned) (t s : ℕ) (d : Rate) → IsPlan plan → t < length plan.rates → s ≢ t
     → admit_refusal (record { bound = plan.bound; rates = remove (take t plan.rates) s }) (get_or plan.rates t d) ≡ None
 takes_next plan t s d ok lt ne =
@@ -128,14 +128,14 @@ takes_next plan t s d ok lt ne =
     let is = remove_more plan.rates t s d lt ne in
     none_refused plan.bound (remove (take t plan.rates) s) (get_or plan.rates t d) few (rw is at coarse) (rw is at fitting)
 
--- the first t servers of a plan but server s
+-- the first t servers of a plan, except server s
 abbrev pub front_without : Planned → ℕ → ℕ → Planned
 front_without plan t s = record { bound = plan.bound; rates = remove (take t plan.rates) s }
 
 no_rate : Rate
 no_rate = record { budget = 0; period = 0 }
 
--- the plan of them takes server t
+-- the plan of these servers admits server t
 pub takes_server : (plan others : Planned) (t s : ℕ) (r : Rate) → IsPlan plan → t < length plan.rates → s ≢ t → slice_get plan.rates t ≡ Some r
     → others ≡ front_without plan t s → admit_refusal others r ≡ None
 takes_server plan others t s r ok lt ne here is =
@@ -143,7 +143,7 @@ takes_server plan others t s r ok lt ne here is =
     let none = takes_next plan t s no_rate ok lt ne in
     rw is (rw read at none)
 
--- with it they are one more
+-- with server t they are one more
 pub others_more : (plan others after : Planned) (t s : ℕ) (r : Rate) → t < length plan.rates → s ≢ t → slice_get plan.rates t ≡ Some r
     → others ≡ front_without plan t s → after ≡ with_rate others r → after ≡ front_without plan (t + 1) s
 others_more plan others after t s r lt ne here is more =

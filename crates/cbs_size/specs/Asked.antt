@@ -1,4 +1,4 @@
--- What sources ask for at most, all together: a part of the time, exactly.
+-- The greatest demand of sources, all together, as an exact share of the time.
 use Rattle.std.specs.Prelude.{◌≡◌, ℕ, ◌*◌, ◌≤◌, ◌<◌, List, map}
 use Rattle.std.specs.List.{sum_by}
 use Rattle.cbs_rate.specs.Limits.{greatest_common_multiple, most_units}
@@ -8,15 +8,15 @@ use Rattle.cbs_guarantee.specs.declared.source.Source.{Source}
 use Rattle.cbs_load.specs.Loads.{most_sources}
 use Rattle.cbs_size.specs.declared.asked.Asked.{Asked}
 
--- what a source asks for at most: the most units of a job, in the least ticks from one job to the next
+-- the greatest demand of a source: the most units of a job, in the least ticks from one job to the next
 abbrev pub demand : Source → Rate
 demand source = record { budget = source.units; period = source.every }
 
 abbrev pub demands : List Source → List Rate
 demands sources = map demand sources
 
--- what all of them ask for: so many ticks in every so many, which are a common multiple of their periods; and no more than as many
--- sources as a load has could ask for
+-- the demand of all sources: `ticks` in every `of` ticks, and `of` is a common multiple of their periods. It is no more
+-- than as many sources as a load may have could ask for
 pub record IsAsked (sources : List Source) (a : Asked) : Type 0 where
   pub some : 0 < a.of
   pub coarse : a.of ≤ greatest_common_multiple
@@ -24,6 +24,6 @@ pub record IsAsked (sources : List Source) (a : Asked) : Type 0 where
   pub ticks : a.ticks ≡ sum_by (share a.of) (demands sources)
   pub small : a.ticks ≤ most_sources * (most_units * a.of)
 
--- no common multiple of their periods is at most 10^18, within which is summed exactly
+-- no common multiple of their periods is at most 10^18, which is the limit for exact sums
 abbrev pub AreTooFine : List Source → Type 0
 AreTooFine sources = (m : ℕ) → 0 < m → IsCommonMultiple m (demands sources) → greatest_common_multiple < m

@@ -8,11 +8,11 @@ use Rattle.cbs_rate.specs.Plan.{Planned, IsGreatestBudget}
 abbrev pub without : Planned → ℕ → Planned
 without plan s = record plan { rates = remove plan.rates s }
 
--- the greatest budget that server s could have at its period, with all others as they are
+-- the greatest budget that server s could have at its period, if all others stay as they are
 abbrev pub IsGreatestFor : Planned → ℕ → ℕ → Type 0
 IsGreatestFor plan s budget = IsGreatestBudget (without plan s) (rate_at plan.rates s).period budget
 
--- that of each of the first n servers
+-- the greatest budget of each of the first n servers
 pub record AreGreatest (plan : Planned) (n : ℕ) (budgets : List ℕ) : Type 0 where
   pub count : length budgets ≡ n
   pub each : (s : ℕ) → s < n → IsGreatestFor plan s (get_or budgets s 0)

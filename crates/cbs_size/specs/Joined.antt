@@ -1,11 +1,11 @@
--- What sources ask for, with one source more.
+-- The demand of sources, with one source more.
 use Rattle.std.specs.Prelude.{◌≡◌, ℕ, ◌+◌, ◌*◌, ◌/◌, ◌≤◌, ◌<◌}
 use Rattle.std.specs.Int.{◌∣◌}
 use Rattle.cbs_rate.specs.Limits.{greatest_common_multiple}
 use Rattle.cbs_guarantee.specs.declared.source.Source.{Source}
 use Rattle.cbs_size.specs.declared.asked.Asked.{Asked}
 
--- over a common multiple, which divides each other one, both add up to so many ticks
+-- the demand and the source are added up over a common multiple, which divides every other common multiple
 pub record IsJoined (before : Asked) (source : Source) (after : Asked) : Type 0 where
   pub some : 0 < after.of
   pub coarse : after.of ≤ greatest_common_multiple

@@ -1,4 +1,4 @@
--- How late overruns can make the servers of a load.
+-- A bound on how late overruns can make the servers of a load.
 use Rattle.std.specs.Prelude.{◌≡◌, ℕ, ◌+◌, ◌≤◌, ◌<◌, true, max, List, length}
 use Rattle.std.specs.List.{fold, range_with_len}
 use Rattle.cbs_load.specs.Loads.{LoadFile}
@@ -16,7 +16,7 @@ use Rattle.cbs_size.specs.ServerLoads.{most_charged, delay_of}
 abbrev pub greatest_delay : LoadFile → ℕ
 greatest_delay f = fold (λ most s. max most (delay_of f s)) 0 (range_with_len 0 (length f.plan.rates))
 
--- the servers of a load, and what they were given to do, the newest step first
+-- the servers of a load, and the steps that they make, the newest first
 abbrev pub history_of : LoadFile → List (Step LoadJob) → History LoadJob
 history_of f steps = record { setup = record { servers = terms_of f.modes f.plan.rates; backlog = f.backlog }; steps = steps }
 
@@ -24,13 +24,14 @@ history_of f steps = record { setup = record { servers = terms_of f.modes f.plan
 abbrev pub IsChargedWithin : LoadFile → World LoadJob → Type 0
 IsChargedWithin f w = (s : ℕ) → s < length w.accounts → (account w.accounts s).charges.most ≤ most_charged f.sources s
 
--- if a server is ready, its deadline has passed by less than n ticks
+-- if a server is ready, the clock is less than n ticks after its deadline
 abbrev pub AreLateByLess : ℕ → World LoadJob → Type 0
 AreLateByLess n w = (s : ℕ) → s < length w.accounts → is_ready (face_of loading (account w.accounts s)) ≡ true
     → w.now < (account w.accounts s).state.deadline + n
 
--- Whatever the servers of a load are given to do: if each advance was quiet, and none was charged more for one unit than its sources
--- may overrun, each unit begins less than n ticks after the deadline of its server.
+-- Whatever steps the servers of a load make: each unit begins less than n ticks after the deadline of its server. The
+-- premises are that each advance was quiet, and that no server was charged more for one unit than its sources may
+-- overrun.
 abbrev pub BoundsLateness : LoadFile → ℕ → Type 0
 BoundsLateness f n = (steps : List (Step LoadJob)) → AdvanceQuietly loading (history_of f steps).setup steps
     → IsChargedWithin f (world_after loading (history_of f steps)) → AreLateByLess n (world_after loading (history_of f steps))

@@ -1,4 +1,4 @@
-//! What sources ask for, all together.
+//! The demand of sources, all together.
 
 ghost use Rattle.std.specs.Prelude.{◌+◌, ◌*◌, ◌/◌, ◌≤◌, ◌<◌, length, All, MatchOption, IfSome};
 ghost use Rattle.cbs_rate.specs.Limits.{most_units};
@@ -10,17 +10,18 @@ use crate::divisor::greatest_common_divisor;
 use cbs_guarantee::Source;
 use cbs_rate::MAX_COMMON_MULTIPLE;
 
-/// What sources ask for at most, all together: a part of the time.
+/// The greatest demand of sources, all together, as a share of the time.
 #[derive(Clone, Copy, Debug, PartialEq, Eq)]
 pub struct Asked {
-    /// The ticks.
+    /// The ticks in every `of` ticks.
     pub ticks: u128,
-    /// In every so many ticks, 1 to 10^18.
+    /// The length of the span in ticks: 1 to 10^18.
     pub of: u64,
 }
 
 impl Asked {
-    /// Returns what is asked with one source more, or `None` if that cannot be summed exactly.
+    /// Returns the demand with one source more. Returns `None` if it cannot be summed exactly, since no common multiple
+    /// is within [`MAX_COMMON_MULTIPLE`].
     fn with(self, source: &Source) -> Option<Asked>
         requires some { 0 < self.of }
         requires units { source.now.units ≤ most_units }
@@ -45,8 +46,8 @@ impl Asked {
     }
 }
 
-/// Returns what the sources ask for at most, all together, or `None` if no common multiple of their periods is within
-/// [`MAX_COMMON_MULTIPLE`].
+/// Returns the greatest demand of the sources, all together. Returns `None` if no common multiple of their periods is
+/// within [`MAX_COMMON_MULTIPLE`].
 pub(crate) fn asked_by(sources: &[Source]) -> Option<Asked>
     requires few { length sources.now ≤ most_sources }
     requires units { All (λ source. source.units ≤ most_units) sources.now }

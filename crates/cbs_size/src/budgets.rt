@@ -21,8 +21,8 @@ fn without(plan: &Plan, server: u16) -> Plan
     others
 }
 
-/// Returns, for each server of a plan, the greatest budget that it could have at its period, with all others as they are.
-/// The only error is out of memory.
+/// Returns, for each server of a plan, the greatest budget that it could have at its period, if all others stay as they
+/// are. The only error is out of memory.
 pub fn greatest_budgets(alloc: Global, plan: &Plan) -> Result<Vec<u64>, AllocError>
     ensures greatest { IfOk result (λ budgets. AreGreatest plan.now (length plan.now.rates) budgets.items) }
     ensures lawful { OnOk result (IsPlan plan.now) }

@@ -1,4 +1,4 @@
-//! How late overruns can make the servers of a load.
+//! A bound on how late overruns can make the servers of a load.
 
 ghost use Rattle.std.specs.Prelude.{◌≡◌};
 ghost use Rattle.cbs_size.specs.Lateness.{greatest_delay, BoundsLateness};
@@ -6,8 +6,9 @@ ghost use Rattle.cbs_size.specs.Lateness.{greatest_delay, BoundsLateness};
 use crate::server_load::{all_charges, most_charged};
 use cbs_load::Load;
 
-/// Returns by how many ticks units that overrun can make a server of a load late, at most: the greatest of the delays of all
-/// servers by the others. The others delay a server by the most that each of them is charged for one unit, all together.
+/// Returns a bound on how late overruns can make a server of a load, in ticks. Each unit begins less than this many
+/// ticks after its server's deadline. The bound is the greatest of the delays of all servers by the others. The others
+/// delay a server by at most the sum of the greatest charges for one unit, one for each of them.
 pub fn greatest_delay(load: &Load) -> u128
     ensures value { result ≡ greatest_delay load.now }
     ensures bounds { BoundsLateness load.now result }

@@ -1,5 +1,5 @@
-//! Numbers that size a load: each server's greatest budget, what its sources ask for, and within how many ticks their jobs are
-//! finished.
+//! Numbers that size a load: the greatest budget of each server, the demand of its sources, and within how many ticks
+//! their jobs are finished.
 #![tactic(auto)]
 
 mod asked;

@@ -1,4 +1,4 @@
-//! What is told of the sources of each server of a load.
+//! The figures of the sources of each server of a load.
 
 ghost use Rattle.std.specs.Prelude.{◌≡◌, ◌≤◌, ◌<◌, length, All, IfOk, MatchOption};
 ghost use Rattle.cbs_rate.specs.Limits.{most_units};
@@ -12,23 +12,24 @@ use cbs_rate::Reservation;
 use cbs_simulate::SourceTerms;
 use std::alloc::{AllocError, Global};
 
-/// What is told of the sources of a server.
+/// The figures of the sources of a server.
 #[derive(Clone, Copy, Debug, PartialEq, Eq)]
 pub struct ServerLoad {
-    /// What they ask for at most, all together, if that can be summed exactly.
+    /// The greatest demand of the sources, all together, if it can be summed exactly.
     pub asked: Option<Asked>,
-    /// Within how many ticks after it came each of their jobs is finished, whatever is asked of the others, if that is promised.
+    /// Within how many ticks of its arrival each of their jobs is finished, whatever the other servers are asked for,
+    /// if that is promised.
     pub promised: Option<u64>,
 }
 
-/// Returns a number in 32 bits: one that is greater than 2^32 - 1 as that.
+/// Returns the number, or 2^32 - 1 if the number is greater.
 fn held(number: u64) -> u32
     ensures { result ≡ held number }
 {
     number.min(u64::from(u32::MAX)) as u32
 }
 
-/// Returns a source at its most, as its guarantee takes it.
+/// Returns a source at its greatest demand, in the form that its guarantee needs.
 fn at_most(terms: &SourceTerms) -> Source
     ensures { result ≡ at_most terms.now }
 {
@@ -39,7 +40,7 @@ fn at_most(terms: &SourceTerms) -> Source
     }
 }
 
-/// Returns the sources of a server, each at its most. The only error is out of memory.
+/// Returns the sources of a server, each at its greatest demand. The only error is out of memory.
 fn sources_of(
     alloc: Global,
     sources: &[SourceTerms],
@@ -59,7 +60,7 @@ fn sources_of(
     Ok(own)
 }
 
-/// Returns the most ticks that a unit of a server is charged: the greatest overrun of its sources.
+/// Returns the most ticks that a server is charged for one unit: the greatest overrun of its sources.
 pub(crate) fn most_charged(sources: &[SourceTerms], server: u16) -> u64
     ensures { result ≡ most_charged sources.now server }
 {
@@ -72,7 +73,7 @@ pub(crate) fn most_charged(sources: &[SourceTerms], server: u16) -> u64
     most
 }
 
-/// Returns the most that each server is charged for one unit, all together.
+/// Returns the sum of the most ticks that each server is charged for one unit.
 pub(crate) fn all_charges(sources: &[SourceTerms], servers: u16) -> u128
     ensures { result ≡ all_charges sources.now servers }
 {
@@ -83,8 +84,8 @@ pub(crate) fn all_charges(sources: &[SourceTerms], servers: u16) -> u128
     charges
 }
 
-/// Returns within how many ticks each job of a server's sources is finished, or `None` if that is not promised. The others delay
-/// the server by `delay` ticks at most.
+/// Returns within how many ticks each job of a server's sources is finished, or `None` if that is not promised. The
+/// other servers delay this one by at most `delay` ticks.
 fn promised(server: Reservation, sources: &[Source], delay: u128, backlog: u64) -> Option<u64>
     ensures { MatchOption result (IsNotPromised server sources.now delay backlog) (IsPromised server sources.now delay backlog) }
 {
@@ -97,8 +98,8 @@ fn promised(server: Reservation, sources: &[Source], delay: u128, backlog: u64) 
     }
 }
 
-/// Returns what is told of a server of a load, whose servers are charged so much for one unit, all together. The only error
-/// is out of memory.
+/// Returns the figures of a server of a load. `charges` is the sum of the most ticks that each server is charged for
+/// one unit. The only error is out of memory.
 fn server_load(
     alloc: Global,
     load: &Load,
@@ -119,7 +120,7 @@ fn server_load(
     })
 }
 
-/// Returns what is told of each server of a load, by number. The only error is out of memory.
+/// Returns the figures of each server of a load, by the server's number. The only error is out of memory.
 pub fn server_loads(alloc: Global, load: &Load) -> Result<Vec<ServerLoad>, AllocError>
     ensures { IfOk result (λ loads. AreServerLoads load.now (length load.now.plan.rates) loads.items) }
 {

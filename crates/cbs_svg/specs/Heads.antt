@@ -1,4 +1,4 @@
--- What stands around the rows: the head of a picture, its words, its legend, and the ticks in which nobody runs.
+-- The words around the rows: the heading of a picture, its summary, and a sentence for each server.
 use Rattle.std.specs.Prelude.{ℕ, ◌+◌, ◌-◌, ◌*◌, ◌/◌, ◌%◌, Bool, false, ◌&&◌, eqb, leb, ltb, max, if◌then◌else◌, List, [], ◌++◌, codes, count_by, decimal, length, sum_by, Option, Some, None}
 use Rattle.cbs_chart.specs.Counts.{counts_of, told}
 use Rattle.cbs_chart.specs.declared.jobs.ChartJob.{ChartJob}
@@ -8,7 +8,7 @@ use Rattle.cbs_chart.specs.declared.window.Window.{Window}
 use Rattle.cbs_rate.specs.declared.bandwidth.Bandwidth.{Bandwidth}
 use Rattle.cbs_svg.specs.Rows.{mode_text, terms_text, units_of}
 
--- the name of a file, and the ticks that are shown
+-- the heading: the name of a file, and the ticks that are shown
 unfoldable pub heading_text : List ℕ → Window → List ℕ
 heading_text file w = file ++ codes ", ticks " ++ decimal w.from ++ codes " to " ++ decimal w.to
 
@@ -16,31 +16,31 @@ heading_text file w = file ++ codes ", ticks " ++ decimal w.from ++ codes " to "
 abbrev pub servers_text : ℕ → List ℕ
 servers_text n = if eqb n 1 then codes "1 server" else decimal n ++ codes " servers"
 
--- tenths of a per cent that are reserved, a half upward
+-- the reserved share of the time in tenths of a per cent, rounded, a half upward
 abbrev pub tenths_of : Bandwidth → ℕ
 tenths_of b = (2000 * b.ticks + b.of) / max 1 (2 * b.of)
 
--- the units of all servers
+-- how many units of all servers ran in the window
 abbrev pub all_units : Window → List Drawn → ℕ
 all_units w servers = told (sum_by (λ d. units_of w d.chart) servers)
 
--- what part of the time is reserved, and how the ticks went
+-- how many servers there are, what share of the time is reserved, and how many units ran, and how many ticks were idle
 unfoldable pub figures_text : ℕ → Bandwidth → ℕ → ℕ → List ℕ
 figures_text servers b units idle =
     servers_text servers ++ codes " with " ++ decimal (tenths_of b / 10) ++ codes "." ++ decimal (tenths_of b % 10) ++ codes " % of the time reserved. "
     ++ decimal units ++ codes " units run, " ++ decimal idle ++ codes " ticks idle."
 
--- a window shows a run that ends at a tick whole
+-- the window shows a whole run, which ends at this tick
 abbrev pub is_whole : Window → ℕ → Bool
 is_whole w end = eqb w.from 0 && leb end w.to
 
--- the ticks of a run that are not shown, if there are some
+-- how many ticks of the run are before the window and after it, unless the window shows the whole run
 unfoldable pub hidden_text : Window → ℕ → List ℕ
 hidden_text w end =
     if is_whole w end then []
     else codes " Not shown: " ++ decimal w.from ++ codes " ticks before, " ++ decimal (end - w.to) ++ codes " after."
 
--- how many ticks a column has, if it has several
+-- how many ticks a column has, if it has more than one
 unfoldable pub column_text : ℕ → List ℕ
 column_text cell = if ltb 1 cell then codes " Each column is " ++ decimal cell ++ codes " ticks." else []
 
@@ -50,12 +50,12 @@ summary_text p cell =
     figures_text (length p.servers.items) p.reserved (all_units p.window p.servers.items) (counts_of p.window.from p.window.to p.idle.items).idle
     ++ hidden_text p.window p.end ++ column_text cell
 
--- a job took more ticks than it was to take
+-- a job that took this many ticks took more than it was to take
 abbrev pub exceeds : Option ℕ → ℕ → Bool
 exceeds None took = false
 exceeds (Some within) took = ltb within took
 
--- a job was finished in the window, and late
+-- the job was finished late in the window
 abbrev pub is_late_at : Window → ChartJob → Option ℕ → Bool
 is_late_at w job None = false
 is_late_at w job (Some finish) = ltb w.from finish && (leb finish w.to && exceeds job.within (finish - job.came))
@@ -63,17 +63,17 @@ is_late_at w job (Some finish) = ltb w.from finish && (leb finish w.to && exceed
 abbrev pub is_late : Window → ChartJob → Bool
 is_late w job = is_late_at w job job.finish
 
--- who a server is, and how many units of it ran
+-- a server's name, mode and reservation, and how many of its units ran
 unfoldable pub who_text : List ℕ → List ℕ → List ℕ → ℕ → List ℕ
 who_text name mode terms units = name ++ codes ", " ++ mode ++ codes ", " ++ terms ++ codes ": ran " ++ decimal units ++ codes " units; "
 
--- what came of its jobs
+-- how many of its jobs came, were refused, were finished, and were late
 unfoldable pub came_text : ℕ → ℕ → ℕ → ℕ → List ℕ
 came_text came refused finished late =
     decimal came ++ codes " jobs came, " ++ decimal refused ++ codes " refused, " ++ decimal finished ++ codes " finished, " ++ decimal late
     ++ codes " of those late.\n"
 
--- what a picture shows of a server, in a sentence
+-- the sentence that says what a picture shows of a server
 unfoldable pub sentence_text : Window → List ℕ → Drawn → List ℕ
 sentence_text w name d =
     who_text name (mode_text d.mode) (terms_text d.reservation) (units_of w d.chart)

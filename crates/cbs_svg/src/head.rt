@@ -1,4 +1,4 @@
-//! What stands around the rows: the words of a picture.
+//! The words of a picture that stand around its rows.
 
 ghost use Rattle.std.specs.Prelude.{◌≡◌, ◌+◌, ◌≤◌, ◌++◌, IfOk, OnOk, count_by, length, string_bytes};
 ghost use Rattle.cbs_svg.specs.Heads.{all_units, came_text, column_text, exceeds, figures_text, heading_text, hidden_text, is_late, is_late_at, is_whole, sentence_text, servers_text, summary_text, tenths_of, who_text};
@@ -9,7 +9,7 @@ use cbs_rate::Bandwidth;
 use std::alloc::{AllocError, Global};
 use std::fmt::Write;
 
-/// Returns the name of a file, and the ticks that are shown.
+/// Returns the heading: the name of a file, and the ticks that are shown.
 #[tactic(auto, unfolding(crate::specs::Heads::heading_text))]
 pub(crate) fn heading_text(alloc: Global, file: &str, window: Window) -> Result<String, AllocError>
     ensures { IfOk result (λ text. string_bytes text ≡ heading_text file.now window) }
@@ -29,7 +29,7 @@ fn append_servers(text: &mut String, count: usize) -> Result<(), AllocError>
     write!(text, "{count} servers")
 }
 
-/// Returns the tenths of a per cent that are reserved.
+/// Returns the reserved share of the time in tenths of a per cent, rounded, a half upward.
 fn tenths_of(reserved: Bandwidth) -> u128
     ensures { result ≡ tenths_of reserved }
 {
@@ -38,7 +38,7 @@ fn tenths_of(reserved: Bandwidth) -> u128
     (2000 * ticks + of) / (2 * of).max(1)
 }
 
-/// Returns the units of all servers.
+/// Returns how many units of all servers ran in a window.
 fn all_units(window: Window, servers: &[Drawn]) -> u64
     ensures { result ≡ all_units window servers.now }
 {
@@ -49,7 +49,8 @@ fn all_units(window: Window, servers: &[Drawn]) -> u64
     units
 }
 
-/// Appends what part of the time is reserved, and how the ticks went.
+/// Appends how many servers there are, what share of the time is reserved, how many units ran, and how many ticks were
+/// idle.
 #[tactic(auto, unfolding(crate::specs::Heads::figures_text))]
 fn append_figures(
     text: &mut String,
@@ -68,14 +69,14 @@ fn append_figures(
     write!(text, "{units} units run, {idle} ticks idle.")
 }
 
-/// Returns whether a window shows a run that ends at a tick whole.
+/// Returns whether a window shows a whole run, which ends at the tick `end`.
 fn is_whole(window: Window, end: u64) -> bool
     ensures { result ≡ is_whole window end }
 {
     window.from == 0 && end <= window.to
 }
 
-/// Appends the ticks of a run that are not shown, if there are some.
+/// Appends how many ticks of the run are before the window and after it, unless the window shows the whole run.
 #[tactic(auto, unfolding(crate::specs::Heads::hidden_text))]
 fn append_hidden(text: &mut String, window: Window, end: u64) -> Result<(), AllocError>
     ensures { OnOk result (string_bytes text.new ≡ string_bytes text.old ++ hidden_text window end) }
@@ -88,7 +89,7 @@ fn append_hidden(text: &mut String, window: Window, end: u64) -> Result<(), Allo
     write!(text, " Not shown: {before} ticks before, {after} after.")
 }
 
-/// Appends how many ticks a column has, if it has several.
+/// Appends how many ticks a column has, if it has more than one.
 #[tactic(auto, unfolding(crate::specs::Heads::column_text))]
 fn append_column(text: &mut String, cell: u64) -> Result<(), AllocError>
     ensures { OnOk result (string_bytes text.new ≡ string_bytes text.old ++ column_text cell) }
@@ -99,7 +100,7 @@ fn append_column(text: &mut String, cell: u64) -> Result<(), AllocError>
     write!(text, " Each column is {cell} ticks.")
 }
 
-/// Returns the line below the heading.
+/// Returns the line below the heading: the figures of the run, and what is not shown of it.
 #[tactic(auto, unfolding(crate::specs::Heads::summary_text))]
 pub(crate) fn summary_text(
     alloc: Global,
@@ -124,7 +125,7 @@ pub(crate) fn summary_text(
     Ok(text)
 }
 
-/// Returns whether a job took more ticks than it was to take.
+/// Returns whether a job that took `took` ticks took more than it was to take.
 fn exceeds(within: Option<u64>, took: u64) -> bool
     ensures { result ≡ exceeds within took }
 {
@@ -134,7 +135,7 @@ fn exceeds(within: Option<u64>, took: u64) -> bool
     }
 }
 
-/// Returns whether a job was finished in the window, and late.
+/// Returns whether a job was finished late in the window.
 fn is_late(window: Window, job: &ChartJob) -> bool
     ensures { result ≡ is_late window job.now }
 {
@@ -148,14 +149,14 @@ fn is_late(window: Window, job: &ChartJob) -> bool
     }
 }
 
-/// Returns how many jobs were finished in the window, and late.
+/// Returns how many jobs were finished late in the window.
 fn late_jobs(window: Window, jobs: &[ChartJob]) -> usize
     ensures { result ≡ count_by (is_late window) jobs.now }
 {
     jobs.iter().filter(|job| is_late(window, job)).count()
 }
 
-/// Appends who a server is, and how many units of it ran.
+/// Appends a server's name, mode and reservation, and how many of its units ran.
 #[tactic(auto, unfolding(crate::specs::Heads::who_text))]
 fn append_who(
     text: &mut String,
@@ -169,7 +170,7 @@ fn append_who(
     write!(text, "{name}, {mode}, {terms}: ran {units} units; ")
 }
 
-/// Appends what came of a server's jobs.
+/// Appends how many of a server's jobs came, were refused, were finished, and were late.
 #[tactic(auto, unfolding(crate::specs::Heads::came_text))]
 fn append_came(
     text: &mut String,
@@ -186,7 +187,7 @@ fn append_came(
     )
 }
 
-/// Appends what a picture shows of a server, in a sentence.
+/// Appends the sentence that says what a picture shows of a server.
 #[tactic(auto, unfolding(crate::specs::Heads::sentence_text))]
 pub(crate) fn append_sentence(
     alloc: Global,

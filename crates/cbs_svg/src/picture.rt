@@ -16,7 +16,7 @@ use cbs_shapes::{
 use std::alloc::{AllocError, Global};
 use std::fmt::Write;
 
-/// Returns how wide a server's words are.
+/// Returns the width of a server's words, at most 100,000.
 fn words_width(alloc: Global, servers: usize, drawn: &Drawn) -> Result<u64, AllocError>
     ensures value { IfOk result (λ width. width ≡ words_width servers drawn.now) }
     ensures small { IfOk result (λ width. width ≤ 100000) }
@@ -30,7 +30,7 @@ fn words_width(alloc: Global, servers: usize, drawn: &Drawn) -> Result<u64, Allo
     Ok((2400 + 870 * letters).max(4000 + 620 * (terms.len() as u64).min(40)))
 }
 
-/// Returns the left edge of the axis: room for the widest words.
+/// Returns the left edge of the axis, which leaves room for the widest words.
 fn left_of(alloc: Global, servers: &[Drawn]) -> Result<u64, AllocError>
     ensures value { IfOk result (λ left. left ≡ left_of (length servers.now) servers.now) }
     ensures small { IfOk result (λ left. left ≤ 100000) }
@@ -42,7 +42,7 @@ fn left_of(alloc: Global, servers: &[Drawn]) -> Result<u64, AllocError>
     Ok(left)
 }
 
-/// Appends the opening of the document.
+/// Appends the opening tag of the document.
 #[tactic(auto, unfolding(crate::specs::Pictures::opening_text))]
 fn append_opening(text: &mut String, left: u64, scale: u64) -> Result<(), AllocError>
     requires left { left ≤ 100000 }
@@ -61,7 +61,7 @@ fn append_opening(text: &mut String, left: u64, scale: u64) -> Result<(), AllocE
     writeln!(text, " role=\"img\" aria-labelledby=\"what how\">")
 }
 
-/// Appends the page.
+/// Appends the page: a rectangle behind everything.
 #[tactic(auto, unfolding(crate::specs::Pictures::page_text))]
 fn append_page(text: &mut String, left: u64, scale: u64) -> Result<(), AllocError>
     requires left { left ≤ 100000 }
@@ -76,7 +76,7 @@ fn append_page(text: &mut String, left: u64, scale: u64) -> Result<(), AllocErro
     )
 }
 
-/// Appends the title, as it is read aloud.
+/// Appends the title, which is read aloud.
 #[tactic(auto, unfolding(crate::specs::Pictures::title_text))]
 fn append_title(text: &mut String, heading: &str) -> Result<(), AllocError>
     ensures { OnOk result (string_bytes text.new ≡ string_bytes text.old ++ title_text heading.now) }
@@ -113,7 +113,7 @@ fn append_sentences(
     Ok(())
 }
 
-/// Appends what a picture shows, as it is read aloud.
+/// Appends the description of what a picture shows, which is read aloud.
 #[tactic(auto, unfolding(crate::specs::Pictures::description_text))]
 fn append_description(
     alloc: Global,
@@ -129,7 +129,7 @@ fn append_description(
     writeln!(text, "</desc>")
 }
 
-/// Appends title, description and style.
+/// Appends the opening tag, the title, the description, the style and the page.
 #[tactic(auto, unfolding(crate::specs::Pictures::words_text))]
 fn append_words(
     alloc: Global,
@@ -152,7 +152,7 @@ fn append_words(
     append_page(text, left, scale)
 }
 
-/// Appends what the course of a budget stands for, if it is drawn.
+/// Appends the legend of the course of a budget, if budgets are drawn.
 #[tactic(auto, unfolding(crate::specs::Pictures::budget_legend))]
 fn append_budget_legend(text: &mut String, layout: &Layout) -> Result<(), AllocError>
     ensures { OnOk result (string_bytes text.new ≡ string_bytes text.old ++ budget_legend layout.now) }
@@ -163,7 +163,7 @@ fn append_budget_legend(text: &mut String, layout: &Layout) -> Result<(), AllocE
     text.push_str(BUDGET_LEGEND)
 }
 
-/// Appends what the shapes stand for, tick by tick.
+/// Appends the legend of the shapes that are drawn tick by tick.
 #[tactic(auto, unfolding(crate::specs::Pictures::fine_legend))]
 fn append_fine_legend(text: &mut String, layout: &Layout) -> Result<(), AllocError>
     ensures { OnOk result (string_bytes text.new ≡ string_bytes text.old ++ fine_legend layout.now) }
@@ -172,7 +172,7 @@ fn append_fine_legend(text: &mut String, layout: &Layout) -> Result<(), AllocErr
     append_budget_legend(text, layout)
 }
 
-/// Appends what the shapes stand for.
+/// Appends the legend of the shapes.
 fn append_legend(text: &mut String, layout: &Layout) -> Result<(), AllocError>
     ensures { OnOk result (string_bytes text.new ≡ string_bytes text.old ++ legend_text layout.now) }
 {
@@ -182,7 +182,7 @@ fn append_legend(text: &mut String, layout: &Layout) -> Result<(), AllocError>
     append_fine_legend(text, layout)
 }
 
-/// Appends heading, summary and legend.
+/// Appends the heading, the summary and the legend.
 #[tactic(auto, unfolding(crate::specs::Pictures::top_text))]
 fn append_top(
     text: &mut String,
@@ -197,8 +197,8 @@ fn append_top(
     append_legend(text, layout)
 }
 
-/// Appends faint lines through all rows at the numbered ticks, the heading of the units, and the numbers once more if there are
-/// many rows.
+/// Appends faint lines through all rows at the numbered ticks, and the heading of the units. If there are many rows,
+/// appends the numbers once more above them.
 #[tactic(auto, unfolding(crate::specs::Pictures::grid_text))]
 fn append_grid(
     alloc: Global,
@@ -262,7 +262,7 @@ fn append_rows(
     Ok(())
 }
 
-/// Appends the ticks in which nobody runs, tick by tick.
+/// Appends the ticks in which nobody runs, drawn tick by tick.
 #[tactic(auto, unfolding(crate::specs::Pictures::idle_boxes))]
 fn append_idle_boxes(
     alloc: Global,
@@ -280,7 +280,7 @@ fn append_idle_boxes(
     append_path(text, "idle", &shape)
 }
 
-/// Appends the ticks in which nobody runs, in columns if there are many.
+/// Appends the ticks in which nobody runs, drawn in columns if there are many ticks.
 fn append_idle_shape(
     alloc: Global,
     text: &mut String,
@@ -329,7 +329,7 @@ fn append_idle(
     append_idle_shape(alloc, text, axis, layout, scale, idle)
 }
 
-/// Appends all rows, and what stands around them.
+/// Appends all rows, and the grid, idle line and scale around them.
 #[tactic(auto, unfolding(crate::specs::Pictures::body_text))]
 fn append_body(
     alloc: Global,
@@ -353,7 +353,7 @@ fn append_body(
     writeln!(text, "</svg>")
 }
 
-/// Returns the line of the scale below so many rows.
+/// Returns how far down the line of the scale stands, below this many rows.
 fn scale_of(servers: usize, layout: &Layout) -> u64
     requires { servers ≤ 64 }
     ensures value { result ≡ scale_of servers layout.now }
@@ -362,7 +362,7 @@ fn scale_of(servers: usize, layout: &Layout) -> u64
     12_400 + servers as u64 * layout.row()
 }
 
-/// Returns a picture on an axis.
+/// Returns the text of a picture on an axis.
 #[tactic(auto, unfolding(crate::specs::Pictures::drawn_text))]
 fn drawn_text(
     alloc: Global,

@@ -24,14 +24,14 @@ pub(crate) fn mode_text(mode: Mode) -> &'static str
     }
 }
 
-/// Returns the units that ran in a window.
+/// Returns how many units ran in a window.
 pub(crate) fn units_of(window: Window, chart: &ServerChart) -> u64
     ensures { result ≡ units_of window chart.now }
 {
     Counts::of(&chart.spans, window.from, window.to).runs
 }
 
-/// Returns where the texts beside a bar stand.
+/// Returns how far down the texts beside a bar stand.
 fn text_line(layout: &Layout) -> u64
     ensures { result ≡ text_line layout.now }
 {
@@ -42,7 +42,7 @@ fn text_line(layout: &Layout) -> u64
     bottom - 400
 }
 
-/// Returns a reservation in long.
+/// Returns a reservation in its long form.
 #[tactic(auto, unfolding(crate::specs::Rows::terms_text))]
 pub(crate) fn terms_text(alloc: Global, reservation: Reservation) -> Result<String, AllocError>
     ensures { IfOk result (λ text. string_bytes text ≡ terms_text reservation) }
@@ -52,7 +52,7 @@ pub(crate) fn terms_text(alloc: Global, reservation: Reservation) -> Result<Stri
     format!(in alloc; "{budget} in every {period}")
 }
 
-/// Returns a reservation and a mode in short.
+/// Returns a reservation and a mode in their short form.
 #[tactic(auto, unfolding(crate::specs::Rows::short_terms_text))]
 pub(crate) fn short_terms_text(
     alloc: Global,
@@ -67,7 +67,7 @@ pub(crate) fn short_terms_text(
     format!(in alloc; "{budget} in {period} {mode}")
 }
 
-/// Appends name, reservation and mode of a server.
+/// Appends the name, the reservation and the mode of a server.
 #[tactic(auto, unfolding(crate::specs::Rows::names_text))]
 fn append_names(
     alloc: Global,
@@ -96,7 +96,7 @@ fn append_names(
     append_label(text, "m", 1600, 5000, mode_text(place.mode))
 }
 
-/// Appends the units that ran.
+/// Appends how many units ran.
 #[tactic(auto, unfolding(crate::specs::Rows::units_text))]
 pub(crate) fn append_units(
     alloc: Global,
@@ -126,7 +126,7 @@ fn append_line(text: &mut String, axis: &Axis, layout: &Layout) -> Result<(), Al
     )
 }
 
-/// Appends all that a server does, tick by tick.
+/// Appends all stretches of what a server does, drawn tick by tick.
 #[tactic(auto, unfolding(crate::specs::Rows::spans_text))]
 fn append_spans(
     alloc: Global,
@@ -160,7 +160,7 @@ fn append_lates(
     Ok(())
 }
 
-/// Appends the marks of a server.
+/// Appends the marks of a server: refused and finished jobs, jobs that come, and deadlines.
 #[tactic(auto, unfolding(crate::specs::Rows::marks_text))]
 fn append_marks(
     alloc: Global,
@@ -177,7 +177,7 @@ fn append_marks(
     append_deadlines(alloc, text, axis, layout, &chart.deadlines)
 }
 
-/// Appends a row tick by tick.
+/// Appends a row that is drawn tick by tick.
 #[tactic(auto, unfolding(crate::specs::Rows::fine_text))]
 fn append_fine(
     alloc: Global,
@@ -208,7 +208,7 @@ fn append_fine(
     append_marks(alloc, text, axis, layout, chart)
 }
 
-/// Appends the shape of a layer's columns, that stand on a base line and are at most so high.
+/// Returns the shape of a layer's columns. They stand on the line `base`, and are at most `whole` high.
 #[tactic(auto, unfolding(crate::specs::Rows::layer_shape))]
 pub(crate) fn layer_shape(
     alloc: Global,
@@ -246,7 +246,7 @@ pub(crate) fn append_layer(
     append_path(text, class, &shape)
 }
 
-/// Appends the columns of charged ticks, if there are some.
+/// Appends the columns of charged ticks, if there are any.
 #[tactic(auto, unfolding(crate::specs::Rows::charged_text))]
 fn append_charged(
     alloc: Global,
@@ -276,7 +276,7 @@ fn append_charged(
     )
 }
 
-/// Returns how many units ran in which ticks.
+/// Returns the title of a server's units: its name, how many units ran, and in which ticks.
 #[tactic(auto, unfolding(crate::specs::Rows::units_title))]
 fn units_title(alloc: Global, name: &str, units: u64, window: Window) -> Result<String, AllocError>
     ensures { IfOk result (λ title. string_bytes title ≡ units_title name.now units window) }
@@ -286,7 +286,7 @@ fn units_title(alloc: Global, name: &str, units: u64, window: Window) -> Result<
     format!(in alloc; "{name}: {units} units in ticks {from} to {to}")
 }
 
-/// Appends what a server does, in columns.
+/// Appends what a server does, drawn in columns.
 #[tactic(auto, unfolding(crate::specs::Rows::bars_text))]
 fn append_bars(
     alloc: Global,
@@ -328,7 +328,7 @@ fn append_bars(
     append_titled(text, bar_class(place.mode, true), &shape, &title)
 }
 
-/// Appends a band over cells in which something goes on, if it does in one.
+/// Appends a band over the cells that stretches take, and nothing if there is no stretch.
 #[tactic(auto, unfolding(crate::specs::Rows::band_text))]
 fn append_band(
     alloc: Global,
@@ -349,7 +349,7 @@ fn append_band(
     append_layer(alloc, text, axis, base, whole, layer, "band", &counts)
 }
 
-/// Appends a row in columns: refused releases are above the bars, and late jobs below.
+/// Appends a row that is drawn in columns. Refused releases are above the bars, and late jobs are below them.
 #[tactic(auto, unfolding(crate::specs::Rows::dense_text))]
 fn append_dense(
     alloc: Global,
@@ -387,7 +387,7 @@ fn append_dense(
     )
 }
 
-/// Appends what is in a row, in columns or tick by tick.
+/// Appends the content of a row, drawn in columns or tick by tick.
 fn append_inside(
     alloc: Global,
     text: &mut String,
@@ -403,7 +403,7 @@ fn append_inside(
     append_fine(alloc, text, place, drawn)
 }
 
-/// Appends the row of a server, by its top.
+/// Appends the row of a server, whose top edge is at `top`.
 #[tactic(auto, unfolding(crate::specs::Rows::row_text))]
 pub(crate) fn append_row(
     alloc: Global,

@@ -14,7 +14,7 @@ pub(crate) const STEPS: [u64; 15] = [
     1, 2, 5, 10, 20, 50, 100, 200, 500, 1000, 2000, 5000, 10_000, 20_000, 50_000,
 ];
 
-/// Returns whether numbers of so many digits have room at steps of so many ticks.
+/// Returns whether numbers with this many digits have room if one stands every `step` ticks.
 fn has_room(axis: &Axis, digits: u64, step: u64) -> bool
     requires { digits ≤ 100 }
     ensures { result ≡ has_room axis.now digits step }
@@ -22,7 +22,7 @@ fn has_room(axis: &Axis, digits: u64, step: u64) -> bool
     700 * digits + 2000 <= step.saturating_mul(axis.width()) / axis.cell().max(1)
 }
 
-/// Returns how many digits the numbers of a window have at most.
+/// Returns the greatest number of digits that the numbers of a window have.
 fn digits_of(alloc: Global, window: Window) -> Result<u64, AllocError>
     ensures value { IfOk result (λ digits. digits ≡ digits_of window) }
     ensures few { IfOk result (λ digits. digits ≤ 20) }
@@ -31,7 +31,7 @@ fn digits_of(alloc: Global, window: Window) -> Result<u64, AllocError>
     Ok((label.len() as u64).min(20))
 }
 
-/// Returns the first of steps of ticks at which numbers of so many digits have room.
+/// Returns the first of these steps at which numbers with this many digits have room, if there is one.
 fn first_step(axis: &Axis, digits: u64, steps: &[u64]) -> Option<u64>
     requires { digits ≤ 100 }
     ensures { result ≡ find (has_room axis.now digits) steps.now }
@@ -42,7 +42,7 @@ fn first_step(axis: &Axis, digits: u64, steps: &[u64]) -> Option<u64>
         .find(|step| has_room(axis, digits, *step))
 }
 
-/// Returns the least step of ticks at which numbers of so many digits have room.
+/// Returns the least step, in ticks, at which numbers with this many digits have room.
 fn step_of(axis: &Axis, digits: u64) -> u64
     requires { digits ≤ 100 }
     ensures { result ≡ step_of axis.now digits }
@@ -50,7 +50,7 @@ fn step_of(axis: &Axis, digits: u64) -> u64
     first_step(axis, digits, &STEPS).unwrap_or(50_000)
 }
 
-/// Returns how many multiples of a step a window has, with its end.
+/// Returns how many multiples of a step a window has. Its end counts too.
 fn multiples(window: Window, step: u64) -> u64
     ensures { result ≡ multiples window step }
 {
@@ -60,14 +60,14 @@ fn multiples(window: Window, step: u64) -> u64
         .saturating_sub(window.from.div_ceil(step))
 }
 
-/// Returns a multiple of a step, by its place after the first one.
+/// Returns a multiple of a step, by its place after the first multiple.
 fn multiple(first: u64, step: u64, place: u64) -> u64
     ensures { result ≡ multiple first step place }
 {
     first.saturating_add(place).saturating_mul(step)
 }
 
-/// Returns so many multiples of a step.
+/// Returns this many multiples of a step, from the first one on.
 #[tactic(auto, unfolding(crate::specs::Scales::multiples_from))]
 fn multiples_from(alloc: Global, first: u64, step: u64, count: u64) -> Result<Vec<u64>, AllocError>
     ensures { IfOk result (λ ticks. ticks.items ≡ multiples_from first step count) }
@@ -79,7 +79,7 @@ fn multiples_from(alloc: Global, first: u64, step: u64, count: u64) -> Result<Ve
     Ok(ticks)
 }
 
-/// Returns the multiples of a step in a window, with its end.
+/// Returns the multiples of a step in a window. Its end counts too.
 fn numbered_ticks(alloc: Global, window: Window, step: u64) -> Result<Vec<u64>, AllocError>
     ensures { IfOk result (λ ticks. ticks.items ≡ numbered_ticks window step) }
 {
@@ -112,7 +112,7 @@ pub(crate) fn append_uprights(
     Ok(())
 }
 
-/// Appends a small mark at a tick.
+/// Appends a small mark at the tick of a place.
 fn append_small_mark(shape: &mut String, axis: &Axis, y: u64, place: u64) -> Result<(), AllocError>
     requires { y ≤ 1000000 }
     ensures { OnOk result (string_bytes shape.new ≡ string_bytes shape.old ++ small_mark axis.now y place) }
@@ -120,7 +120,7 @@ fn append_small_mark(shape: &mut String, axis: &Axis, y: u64, place: u64) -> Res
     append_upright(shape, axis.x(axis.tick(place)), y, y + 300)
 }
 
-/// Appends small marks at every tick, if cells are wide enough.
+/// Appends a small mark at every tick, if the cells are wide enough.
 #[tactic(auto, unfolding(crate::specs::Scales::small_marks))]
 fn append_small_marks(shape: &mut String, axis: &Axis, y: u64) -> Result<(), AllocError>
     requires { y ≤ 1000000 }
@@ -181,7 +181,7 @@ pub(crate) fn append_numbers(
     Ok(())
 }
 
-/// Appends the scale, by its line's place.
+/// Appends the scale, whose line is at `y`.
 #[tactic(auto, unfolding(crate::specs::Scales::scale_text))]
 pub(crate) fn append_scale(
     alloc: Global,

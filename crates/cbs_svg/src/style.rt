@@ -48,7 +48,7 @@ text{fill:#e8ebee}.m{fill:#a3adb8}
 <pattern id="hatch" width="500" height="500" patternUnits="userSpaceOnUse" patternTransform="rotate(45)"><path class="hatchline" d="M0 0v500"/></pattern>
 "##;
 
-/// What is drawn tick by tick.
+/// The legend of a picture that is drawn tick by tick.
 pub(crate) const LEGEND: &str = r##"<g class="legend">
 <g transform="translate(1600 7500)"><path class="s0" d="M0-700h600v1400h-600z"/><path class="s1" d="M600-700h600v1400h-600z"/><path class="t0" d="M1200-700h600v1400h-600z"/><path class="t1" d="M1800-700h600v1400h-600z"/><text class="m" x="3000" y="400">runs: soft, throttled</text></g>
 <g transform="translate(16600 7500)"><path class="wait" d="M0-700h2400v1400h-2400z"/><text class="m" x="3000" y="400">has a job, waits</text></g>
@@ -62,12 +62,12 @@ pub(crate) const LEGEND: &str = r##"<g class="legend">
 </g>
 "##;
 
-/// The course of budgets, if they are drawn.
+/// The legend of the course of budgets, if they are drawn.
 pub(crate) const BUDGET_LEGEND: &str =
     r##"<g class="legend" transform="translate(97000 7500)"><path class="budget" d="M0 650V-650H800L1600 650V-650H2400V650z"/><text class="m" x="3000" y="400">budget c</text></g>
 "##;
 
-/// What is drawn in columns.
+/// The legend of a picture that is drawn in columns.
 pub(crate) const COLUMN_LEGEND: &str = r##"<g class="legend">
 <g transform="translate(1600 7500)"><path class="s0" d="M0 700V300H600V-300H1200V700z"/><path class="t0" d="M1200 700V100H1800V400H2400V700z"/><text class="m" x="3000" y="400">runs (soft, throttled), in so many ticks of the column</text></g>
 <g transform="translate(35600 7500)"><path class="fee" d="M0-700h2400v1400h-2400z"/><text class="m" x="3000" y="400">charged</text></g>

@@ -1,4 +1,4 @@
--- What becomes of something by the entries of `server`, of which the first i are taken in.
+-- What the entries of `server` make of something, of which the first i are taken in.
 use Rattle.std.proofs.Common.{◌≡◌, ℕ, ◌+◌, ◌<◌, ◌≤◌, List, length, map, drop, get_or, Result, Ok, Err, refl, sym, ◌∙◌}
 use Rattle.std.proofs.lemmas.List.{drop_more}
 use Rattle.std.proofs.Math.ListN.{drop_of_length-le}
@@ -19,7 +19,7 @@ module _ {S V : Type 0} (view : V → Data) (take : S → Data → Result S File
       rw (drop_more vs i v lt, given) refl in
       sym one ∙ before
 
-  -- .. or has a fault
+  -- the next entry has a fault
   pub taken_ends : (i : ℕ) (so_far : S) (vs : List V) (v : V) (total : Result S FileFault) (e : FileFault) → i < length vs
       → at (Server i) (take so_far (view (get_or vs i v))) ≡ Err e
       → taken_in take i so_far (map view (drop i vs)) ≡ total → total ≡ Err e

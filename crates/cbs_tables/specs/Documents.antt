@@ -1,4 +1,4 @@
--- The top table of a TOML document, and faults with the place where they stand.
+-- The top table of a TOML document, and faults with their places.
 use Rattle.std.specs.Prelude.{ℕ, ◌+◌, if◌then◌else◌, List, [], ◌∷◌, Option, Some, None, Result, Ok, Err}
 use Rattle.std.specs.Str.{is_utf8}
 use Rattle.toml.specs.Data.{Data, Members}
@@ -10,21 +10,21 @@ use Rattle.cbs_tables.specs.declared.fault.Place.{Place}
 use Rattle.cbs_tables.specs.declared.fault.Place.TheVariants.{Top, Server}
 use Rattle.cbs_tables.specs.Fields.{◌>>=◌}
 
--- memory was refused while reading
+-- the fault that memory ran out while reading
 abbrev pub no_memory : FileFault
 no_memory = record { kind = OutOfMemory; place = Top }
 
--- the fault of this kind at its place; out of memory stands at the top
+-- the fault of this kind at this place. The place of out of memory is always the top
 abbrev pub faulty : Place → FileKind → FileFault
 faulty place OutOfMemory = no_memory
 faulty place kind = record { kind = kind; place = place }
 
--- a result whose fault stands at this place
+-- a result with this place for its fault
 abbrev pub at : {A : Type 0} → Place → Result A FileKind → Result A FileFault
 at place (Ok x) = Ok x
 at place (Err kind) = Err (faulty place kind)
 
--- the members of the document's top table
+-- the members of the document's top table, or the fault that there is no document
 abbrev pub or_not_toml : Option Members → Result Members FileKind
 or_not_toml (Some table) = Ok table
 or_not_toml None = Err NotToml
@@ -33,7 +33,8 @@ or_not_toml None = Err NotToml
 abbrev pub document : List ℕ → Result Members FileKind
 document bytes = if is_utf8 bytes then or_not_toml (parse_document bytes) else Err NotToml
 
--- what becomes of something by the entries of `server`, one after another, of which the first is server i; or the first fault
+-- what the entries of `server`, of which the first is server i, make of something, one after another; or the first
+-- fault
 unfoldable pub taken_in : {S : Type 0} → (S → Data → Result S FileKind) → ℕ → S → List Data → Result S FileFault
 taken_in take i so_far [] = Ok so_far
 taken_in take i so_far (entry ∷ entries) = do

@@ -1,7 +1,7 @@
--- What a file wants of memory, in bytes, by what each of its bytes is charged.
+-- The memory that a file needs, in bytes, as the sum of what each of its bytes is counted for.
 use Rattle.std.specs.Prelude.{ℕ, List, sum_by, ◌==◌, if◌then◌else◌}
 
--- the charge of a byte: of a dot, [, {, =, a comma, and of any other
+-- what a byte is counted for: a dot, [, {, =, a comma, and any other byte
 abbrev pub byte_wants : ℕ → ℕ
 byte_wants byte =
     if byte == 46 then 1400 else
@@ -10,10 +10,10 @@ byte_wants byte =
     if byte == 61 then 700 else
     if byte == 44 then 100 else 4
 
--- the charges of all bytes of a file
+-- the sum over all bytes of a file
 abbrev pub memory_wanted : List ℕ → ℕ
 memory_wanted bytes = sum_by byte_wants bytes
 
--- what a file may want where no bound is named: 2 GiB
+-- how much memory a file may need if no bound is given: 2 GiB
 abbrev pub usual_bound : ℕ
 usual_bound = 2147483648

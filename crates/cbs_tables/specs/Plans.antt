@@ -1,4 +1,4 @@
--- What tables of every kind spell of a plan: its bound, and the reservation and the mode of a server.
+-- The parts of a plan that tables of every kind spell: its bound, and the reservation and the mode of a server.
 use Rattle.std.specs.Prelude.{ℕ, ℤ, codes, bytes_eq, if◌then◌else◌, List, Option, Some, None, Result, Ok, Err}
 use Rattle.cbs_rate.specs.Limits.{greatest_denominator, longest_period}
 use Rattle.cbs_rate.specs.Bound.{Fraction}
@@ -9,7 +9,7 @@ use Rattle.cbs_tables.specs.declared.fault.FileKind.{FileKind}
 use Rattle.cbs_tables.specs.declared.fault.FileKind.TheVariants.{OutOfRange}
 use Rattle.cbs_tables.specs.Fields.{◌>>=◌, within}
 
--- two numbers N and D: D from 1 to 1000000, and N from 1 to D
+-- the bound of two numbers N and D: D is 1 to 1000000, and N is 1 to D
 abbrev pub bound_of : Option (ℤ × ℤ) → Result Fraction FileKind
 bound_of None = Err OutOfRange
 bound_of (Some (num_number, den_number)) = do
@@ -17,7 +17,7 @@ bound_of (Some (num_number, den_number)) = do
   num ← within 1 den num_number
   Ok (record { num = num; den = den })
 
--- a period of 1 to 1000000000 ticks, and a budget of 1 to the period
+-- the reservation of two numbers: the period is 1 to 1000000000 ticks, and the budget is 1 to the period
 abbrev pub reservation : ℤ → ℤ → Result Rate FileKind
 reservation budget_number period_number = do
   period ← within 1 longest_period period_number

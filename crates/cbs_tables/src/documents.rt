@@ -1,4 +1,4 @@
-//! The top table of a document, and where faults stand.
+//! The top table of a document, and the places of faults.
 
 ghost use Rattle.std.specs.Prelude.{◌≡◌};
 ghost use Rattle.toml.specs.View.{table_view};
@@ -10,7 +10,7 @@ use crate::fault::{FileFault, FileKind, Place};
 use std::alloc::Global;
 use toml::Table;
 
-/// The top table of a TOML document.
+/// Returns the top table of a TOML document. Refuses bytes that are no UTF-8 or no TOML.
 pub fn document(alloc: Global, bytes: &[u8]) -> Result<Table, FileKind>
     ensures { Gives OutOfMemory table_view result (document bytes.now) }
 {
@@ -21,7 +21,7 @@ pub fn document(alloc: Global, bytes: &[u8]) -> Result<Table, FileKind>
     }
 }
 
-/// The fault at its place; out of memory stands at the top.
+/// Returns the fault of this kind at this place. The place of out of memory is always the top.
 pub fn faulty(place: Place, kind: FileKind) -> FileFault
     ensures { result ≡ faulty place kind }
 {
@@ -34,7 +34,7 @@ pub fn faulty(place: Place, kind: FileKind) -> FileFault
     }
 }
 
-/// What was read of the table at this place.
+/// Returns what was read, with this place for its fault.
 pub fn at<T>(place: Place, read: Result<T, FileKind>) -> Result<T, FileFault>
     ensures { result ≡ at place read }
 {

@@ -1,4 +1,4 @@
-//! Why a file is refused, and where the fault stands.
+//! The faults of a file, and their places.
 
 ghost use Rattle.std.specs.Prelude.{◌≡◌};
 ghost use Rattle.cbs_tables.specs.Faults.{file_kind_number, file_kind_name};
@@ -8,7 +8,7 @@ use std::alloc::{AllocError, AllocFailed};
 use std::fmt;
 use thiserror::Error;
 
-/// What is wrong with a file.
+/// The kind of a file's fault.
 #[derive(Clone, Copy, Debug, PartialEq, Eq, Error)]
 pub enum FileKind {
     /// The bytes are no TOML document, or no UTF-8.
@@ -20,7 +20,7 @@ pub enum FileKind {
     /// A table lacks a key.
     #[error("a key of this table is missing")]
     MissingKey = 3,
-    /// A value is of another type than its key wants.
+    /// A value is of another type than its key needs.
     #[error("a value has the wrong type")]
     WrongType = 4,
     /// A value is not in its key's range.
@@ -35,14 +35,14 @@ pub enum FileKind {
 }
 
 impl FileKind {
-    /// The kind's number, from 1.
+    /// Returns the kind's number, from 1.
     pub fn number(self) -> u8
         ensures { result ≡ file_kind_number self }
     {
         self as u8
     }
 
-    /// The kind's name, as the program prints it.
+    /// Returns the kind's name, as the program prints it.
     pub fn name(self) -> &'static str
         ensures { result.now ≡ file_kind_name self }
     {
@@ -103,12 +103,12 @@ impl fmt::Display for Place {
     }
 }
 
-/// The first fault of a file. Out of memory stands at the top.
+/// The first fault of a file. The place of out of memory is always the top.
 #[derive(Clone, Copy, Debug, PartialEq, Eq, Error)]
 #[error("{kind}, at {place}")]
 pub struct FileFault {
-    /// What is wrong.
+    /// The kind of the fault.
     pub kind: FileKind,
-    /// The table in which it stands.
+    /// The table in which the fault stands.
     pub place: Place,
 }

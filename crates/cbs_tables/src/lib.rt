@@ -1,4 +1,5 @@
-//! The tables of a TOML document: the tests of their keys and values, what they spell of a plan, and faults with their place.
+//! The tables of a TOML document: tests of their keys and values, the parts of a plan that they spell, and faults with
+//! their places.
 #![tactic(auto)]
 
 mod documents;

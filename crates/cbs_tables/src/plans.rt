@@ -1,4 +1,4 @@
-//! What tables of every kind spell of a plan.
+//! The parts of a plan that tables of every kind spell.
 
 ghost use Rattle.std.specs.Prelude.{◌≡◌};
 ghost use Rattle.cbs_tables.specs.Plans.{bound_of, reservation, mode_of};
@@ -8,7 +8,7 @@ use crate::fields::natural;
 use cbs_rate::{Bound, Reservation};
 use cbs_rules::Mode;
 
-/// The bound N/D, within its limits.
+/// Returns the bound N/D. Refuses it unless it is within its limits.
 pub fn bound_of(pair: Option<(i64, i64)>) -> Result<Bound, FileKind>
     ensures { result ≡ bound_of pair }
 {
@@ -21,7 +21,7 @@ pub fn bound_of(pair: Option<(i64, i64)>) -> Result<Bound, FileKind>
     }
 }
 
-/// A budget in every period, within the limits of a reservation.
+/// Returns the reservation of a budget in every period. Refuses it unless both are within the limits of a reservation.
 pub fn reservation(budget: i64, period: i64) -> Result<Reservation, FileKind>
     ensures { result ≡ reservation budget period }
 {
@@ -33,7 +33,7 @@ pub fn reservation(budget: i64, period: i64) -> Result<Reservation, FileKind>
     }
 }
 
-/// The mode that a word names.
+/// Returns the mode that a word names. Refuses any other word as out of range.
 pub fn mode_of(word: &str) -> Result<Mode, FileKind>
     ensures { result ≡ mode_of word.now }
 {

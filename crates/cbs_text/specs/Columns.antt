@@ -1,8 +1,9 @@
--- Rows of cells as text in columns: the first column to the left, all others to the right, each as wide as its widest cell.
+-- Rows of cells as text in columns. The first column is aligned left, and all others right. Each is as wide as its
+-- widest cell.
 use Rattle.std.specs.Prelude.{ℕ, ◌+◌, ◌-◌, Bool, false, eqb, if◌then◌else◌, max, List, [], ◌∷◌, ◌++◌, codes, flat_map, get_or, length, map, replicate, slice_get, Option, Some, None, Vec}
 use Rattle.std.specs.List.{range_with_len}
 
--- the text of a cell, and whether it is marked as one to look at
+-- the text of a cell, and whether the cell is marked
 pub record CellText : Type 0 where
   pub text : List ℕ
   pub marked : Bool
@@ -11,7 +12,7 @@ pub record CellText : Type 0 where
 abbrev pub rows_of : {A : Type 0} → List (Vec CellText A) → List (List CellText)
 rows_of rows = map (λ row. row.items) rows
 
--- so many blanks
+-- this many blanks
 abbrev pub blanks : ℕ → List ℕ
 blanks n = replicate n 32
 
@@ -20,46 +21,46 @@ abbrev pub text_width : Option CellText → ℕ
 text_width None = 0
 text_width (Some c) = length c.text
 
--- how many bytes the cell of a row in a column has; none if the row ends before it
+-- how many bytes the cell of a row in a column has, or 0 if the row ends before the column
 abbrev pub width_in : ℕ → List CellText → ℕ
 width_in column row = text_width (slice_get row column)
 
--- the width of a column: that of its widest cell
+-- the width of a column: the width of its widest cell
 abbrev pub width_of : ℕ → List (List CellText) → ℕ
 width_of column [] = 0
 width_of column (row ∷ rows) = max (width_in column row) (width_of column rows)
 
--- a text in a column of a width: to the left in the first column, and to the right in all others
+-- a text in a column of this width: aligned left in the first column, and right in all others
 abbrev pub placed : ℕ → ℕ → List ℕ → List ℕ
 placed column width text =
     if eqb column 0 then text ++ blanks (width - length text)
     else blanks (width - length text) ++ text
 
--- the same of the last text of a row: no blank is after it
+-- the same for the last text of a row, without the blanks after it
 abbrev pub placed_last : ℕ → ℕ → List ℕ → List ℕ
 placed_last column width text = if eqb column 0 then text else blanks (width - length text) ++ text
 
--- what stands between a cell and the next: two blanks, or the mark and a blank
+-- the text between a cell and the next one: two blanks, or the mark and a blank
 abbrev pub gap_after : Bool → List ℕ
 gap_after marked = if marked then codes "! " else codes "  "
 
--- what stands after the last cell: the mark, if it is marked
+-- the text after the last cell: the mark, if the cell is marked
 abbrev pub end_after : Bool → List ℕ
 end_after marked = if marked then codes "!" else []
 
--- a cell with nothing in it
+-- an empty cell
 abbrev pub no_cell : CellText
 no_cell = record { text = []; marked = false }
 
--- a cell that is followed by another, with what stands between
+-- a cell that is followed by another, with the text between them
 abbrev pub inner_text : ℕ → ℕ → CellText → List ℕ
 inner_text column width c = placed column width c.text ++ gap_after c.marked
 
--- the last cell of a row, with what stands after it
+-- the last cell of a row, with the text after it
 abbrev pub last_text : ℕ → ℕ → CellText → List ℕ
 last_text column width c = placed_last column width c.text ++ end_after c.marked
 
--- the cell of a row in a column, and what stands after it
+-- the cell of a row in a column, with the text after it
 abbrev pub cell_text : List (List CellText) → List CellText → ℕ → List ℕ
 cell_text rows row column =
     if eqb (column + 1) (length row) then last_text column (width_of column rows) (get_or row column no_cell)

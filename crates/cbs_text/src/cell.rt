@@ -4,7 +4,7 @@ ghost use Rattle.std.specs.Prelude.{◌≡◌, false, string_bytes};
 
 use std::marker::Model;
 
-/// A cell of a table, which may be marked as one to look at.
+/// A cell of a table. It may be marked, so that a reader looks at it.
 #[derive(Drop)]
 pub struct Cell {
     text: String,
@@ -21,7 +21,7 @@ impl Model for Cell {
 }
 
 impl Cell {
-    /// Returns a cell with a text.
+    /// Returns a cell with a text, not marked.
     pub fn new(text: String) -> Cell
         ensures { result ≡ record { text = string_bytes text; marked = false } }
     {
@@ -31,7 +31,7 @@ impl Cell {
         }
     }
 
-    /// Returns the same cell, marked if it is to be looked at.
+    /// Returns the same cell, marked or not.
     pub fn marked_if(self, marked: bool) -> Cell
         ensures { result ≡ record self { marked = marked } }
     {
@@ -48,7 +48,7 @@ impl Cell {
         &self.text
     }
 
-    /// Returns whether it is marked.
+    /// Returns whether the cell is marked.
     pub fn is_marked(&self) -> bool
         ensures { result ≡ self.now.marked }
     {

@@ -6,7 +6,7 @@ ghost use Rattle.cbs_text.specs.Columns.{rows_of, blanks, placed, placed_last, w
 use crate::cell::Cell;
 use std::alloc::AllocError;
 
-/// Returns how many bytes the cell of a row in a column has, 0 if the row ends before it.
+/// Returns how many bytes the cell of a row in a column has, or 0 if the row ends before the column.
 fn width_in(row: &[Cell], column: usize) -> usize
     ensures { result ≡ width_in column row.now }
 {
@@ -16,7 +16,7 @@ fn width_in(row: &[Cell], column: usize) -> usize
     }
 }
 
-/// Returns the width of a column: that of its widest cell, in bytes.
+/// Returns the width of a column: the width of its widest cell, in bytes.
 fn width_of(rows: &[Vec<Cell>], column: usize) -> usize
     ensures { result ≡ width_of column (rows_of rows.now) }
 {
@@ -27,7 +27,7 @@ fn width_of(rows: &[Vec<Cell>], column: usize) -> usize
     width
 }
 
-/// Appends so many blanks.
+/// Appends this many blanks.
 fn append_blanks(text: &mut String, count: usize) -> Result<(), AllocError>
     ensures { OnOk result (string_bytes text.new ≡ string_bytes text.old ++ blanks count) }
 {
@@ -37,7 +37,7 @@ fn append_blanks(text: &mut String, count: usize) -> Result<(), AllocError>
     Ok(())
 }
 
-/// Appends a word in a column of a width, with the blanks after it.
+/// Appends a word in a column of this width, with the blanks after it.
 fn append_placed(
     text: &mut String,
     column: usize,
@@ -55,7 +55,7 @@ fn append_placed(
     text.push_str(word)
 }
 
-/// Appends a word in a column of a width, the last of its row.
+/// Appends a word in a column of this width, as the last one of its row.
 fn append_placed_last(
     text: &mut String,
     column: usize,
@@ -71,21 +71,21 @@ fn append_placed_last(
     text.push_str(word)
 }
 
-/// Returns what stands between a cell and the next.
+/// Returns the text between a cell and the next one: two blanks, or the mark and a blank.
 fn gap_after(marked: bool) -> &'static str
     ensures { result.now ≡ gap_after marked }
 {
     if marked { "! " } else { "  " }
 }
 
-/// Returns what stands after the last cell of a row.
+/// Returns the text after the last cell of a row: nothing, or the mark.
 fn end_after(marked: bool) -> &'static str
     ensures { result.now ≡ end_after marked }
 {
     if marked { "!" } else { "" }
 }
 
-/// Appends a cell that is followed by another, with what stands between.
+/// Appends a cell that is followed by another, with the text between them.
 fn append_inner(
     text: &mut String,
     column: usize,
@@ -98,7 +98,7 @@ fn append_inner(
     text.push_str(gap_after(cell.is_marked()))
 }
 
-/// Appends the last cell of a row, with what stands after it.
+/// Appends the last cell of a row, with the text after it.
 fn append_last(
     text: &mut String,
     column: usize,
@@ -111,7 +111,7 @@ fn append_last(
     text.push_str(end_after(cell.is_marked()))
 }
 
-/// Appends the cell of a row in a column, with what stands after it.
+/// Appends the cell of a row in a column, with the text after it.
 fn append_cell(
     text: &mut String,
     rows: &[Vec<Cell>],
@@ -140,8 +140,9 @@ fn append_row(text: &mut String, rows: &[Vec<Cell>], row: &[Cell]) -> Result<(),
     text.push_str("\n")
 }
 
-/// Appends rows of cells as lines: the first column to the left, all others to the right, each as wide as its widest cell. Two
-/// blanks are between. After a marked cell the first of them is a `!`. The only error is out of memory.
+/// Appends rows of cells as lines. The first column is aligned left, and all others right. Each is as wide as its
+/// widest cell. Two blanks are between two columns; after a marked cell the first of these is a `!`. The only error is
+/// out of memory.
 #[tactic(auto, unfolding(crate::specs::Columns::columns_text))]
 pub fn append_columns(text: &mut String, rows: &[Vec<Cell>]) -> Result<(), AllocError>
     ensures { OnOk result (string_bytes text.new ≡ string_bytes text.old ++ columns_text (rows_of rows.now)) }

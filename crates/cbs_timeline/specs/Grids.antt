@@ -1,4 +1,4 @@
--- Which ticks the columns of a timeline stand for.
+-- The ticks that the columns of a timeline stand for.
 use Rattle.std.specs.Prelude.{ℕ, ◌+◌, ◌-◌, ◌*◌, ◌/◌, ◌<◌, ◌≤◌, Bool, eqb, leb, if◌then◌else◌, max, min, List, [], ◌∷◌, decimal, length, string_bytes}
 use Rattle.std.specs.Int.{div_ceil}
 use Rattle.cbs_chart.specs.Counts.{told}
@@ -7,8 +7,8 @@ use Rattle.cbs_chart.specs.declared.picture.Drawn.{Drawn}
 use Rattle.cbs_chart.specs.declared.picture.Picture.{Picture}
 use Rattle.cbs_chart.specs.declared.window.Window.{Window}
 
--- how wide names are; how many columns a block has, and every how many of them a tick is numbered; the first tick, and the one after the last;
--- how many ticks a column has
+-- a grid: the width of names, the columns of a block, and the columns from one numbered tick to the next. Also the
+-- first tick, the tick after the last one, and the ticks of a column
 pub record GridSeen : Type 0 where
   pub width : ℕ
   pub plot : ℕ
@@ -32,19 +32,21 @@ abbrev pub width_of : List Drawn → ℕ
 width_of [] = 0
 width_of (d ∷ ds) = max (length (string_bytes d.name)) (width_of ds)
 
--- how many digits the numbers of a window have at most
+-- the greatest number of digits that the numbers of a window have
 abbrev pub digits_of : Window → ℕ
 digits_of w = min 20 (length (decimal w.to))
 
--- how many columns a block has: 60, or less by tens, so that a line with a name, two blanks and a number at its end has at most 80; but at least 10
+-- how many columns a block has: 60, or fewer by tens, but at least 10. A line has a name, two blanks, the columns and a
+-- number at its end. With fewer columns it has at most 80 letters, if the name has room
 abbrev pub plot_of : ℕ → ℕ → ℕ
 plot_of width digits = max 10 (min 60 ((78 - width - digits) / 10 * 10))
 
--- every how many columns a tick is numbered: ten, or the next multiple of ten that has room for the digits and a blank
+-- the number of columns from one numbered tick to the next: the least multiple of ten that has room for the digits and
+-- a blank
 abbrev pub step_of : ℕ → ℕ
 step_of digits = 10 * (1 + digits / 10)
 
--- how many ticks a column has: one of up to 240, else so many that one block shows all
+-- how many ticks a column has: one if there are at most 240 ticks, else so many that one block shows all
 abbrev pub cell_of : ℕ → ℕ → ℕ
 cell_of ticks plot = if leb ticks 240 then 1 else div_ceil ticks plot
 
@@ -59,15 +61,15 @@ grid_of p = record {
   cell = cell_of (ticks_of p.window) (plot_of (width_of p.servers.items) (digits_of p.window));
 }
 
--- each column is a tick
+-- each column is one tick
 abbrev pub is_fine : GridSeen → Bool
 is_fine g = eqb g.cell 1
 
--- the first tick of column i, as far as a clock goes
+-- the first tick of column i, at most 2^64 - 1
 abbrev pub tick_of : GridSeen → ℕ → ℕ
 tick_of g i = told (g.from + i * g.cell)
 
--- the tick after its last one
+-- the tick after the last one of column i
 abbrev pub end_of : GridSeen → ℕ → ℕ
 end_of g i = min g.to (tick_of g (i + 1))
 
@@ -75,7 +77,7 @@ end_of g i = min g.to (tick_of g (i + 1))
 abbrev pub columns_of : GridSeen → ℕ
 columns_of g = div_ceil (g.to - g.from) g.cell
 
--- .. and blocks
+-- how many blocks there are
 abbrev pub blocks_of : GridSeen → ℕ
 blocks_of g = div_ceil (columns_of g) g.plot
 

@@ -1,4 +1,4 @@
--- The sign of a column: what stands in the row of a server, and what stands above.
+-- The sign of a column in the row of a server, and the mark above it.
 use Rattle.std.specs.Prelude.{ℕ, ◌+◌, ◌-◌, ◌*◌, ◌/◌, ◌%◌, Bool, true, false, ◌&&◌, eqb, leb, ltb, if◌then◌else◌, List, Option, Some, None}
 use Rattle.std.specs.List.{find, list_any}
 use Rattle.cbs_chart.specs.Counts.{counts_of}
@@ -13,16 +13,16 @@ use Rattle.cbs_chart.specs.declared.stretch.Stretch.{Stretch}
 use Rattle.cbs_timeline.specs.Grids.{GridSeen, end_of, is_fine, tick_of}
 use Rattle.cbs_timeline.specs.declared.signs.TheConstants.{ALL, BLANK, BOTH, CHARGED, COMES, DEADLINE, FEWER, HELD, LATE, REFUSED, WAITS}
 
--- a unit that ends at tick t used the budget up: the budget falls to 0 there
+-- a unit that ends at tick t used up the budget: the budget is 0 at a corner there
 abbrev pub is_used_up : ℕ → List Corner → Bool
 is_used_up t corners = list_any (λ c. eqb c.tick t && eqb c.budget 0) corners
 
--- a unit of job j: the letter of its number, a capital if the unit used the budget up
+-- the letter of job j, by its number: a capital if the unit used up the budget
 abbrev pub letter_of : ℕ → Bool → ℕ
 letter_of j true = 65 + j % 26
 letter_of j false = 97 + j % 26
 
--- a tick of a stretch of a kind; whether a unit in it used the budget up
+-- the sign of a tick in a stretch of this kind, by whether a unit in the tick used up the budget
 abbrev pub kind_sign : Kind → Bool → ℕ
 kind_sign (kind.Runs j) used_up = letter_of j used_up
 kind_sign kind.Charged _ = CHARGED
@@ -30,36 +30,37 @@ kind_sign kind.Held _ = HELD
 kind_sign kind.Waits _ = WAITS
 kind_sign _ _ = BLANK
 
--- .. of the stretch that takes it, if one does
+-- the sign of a tick that this stretch takes, or a blank if none takes it
 abbrev pub stretch_sign : Option Stretch → Bool → ℕ
 stretch_sign None _ = BLANK
 stretch_sign (Some p) used_up = kind_sign p.kind used_up
 
--- what a server does in tick t
+-- the sign of what a server does in tick t
 abbrev pub tick_sign : ServerChart → ℕ → ℕ
 tick_sign c t = stretch_sign (find (takes t) c.spans.items) (is_used_up (next_tick t) c.corners.items)
 
--- what stands above a tick: whether a job comes, and whether it is a deadline of the server
+-- the mark above a tick, by whether a job comes at it and whether it is a deadline of the server
 abbrev pub mark_of : Bool → Bool → ℕ
 mark_of true true = BOTH
 mark_of true false = COMES
 mark_of false true = DEADLINE
 mark_of false false = BLANK
 
--- tick t is one of these
+-- tick t is among these ticks
 abbrev pub is_among : ℕ → List ℕ → Bool
 is_among t ts = list_any (λ u. eqb u t) ts
 
--- what stands above tick t: a refused job before all
+-- the mark above tick t. A refused job takes precedence
 abbrev pub tick_mark : ServerChart → ℕ → ℕ
 tick_mark c t =
     if list_any (takes t) c.refused.items then REFUSED else mark_of (is_among t c.arrivals.items) (is_among t c.deadlines.items)
 
--- so many of a column's ticks ran: all, or so many tenths of them, rounded down, or fewer than one
+-- the sign of a column, by how many of its ticks ran: all, a number of tenths, rounded down, or fewer than a tenth
 abbrev pub run_sign : ℕ → ℕ → ℕ
 run_sign runs ticks = if leb ticks runs then ALL else if ltb (runs * 10) ticks then FEWER else 48 + runs * 10 / ticks
 
--- what a server does in a column of so many ticks, by their counts: what it runs before all
+-- the sign of what a server does in a column with this many ticks, by their counts. Ticks in which it ran take
+-- precedence
 abbrev pub count_sign : ℕ → Counts → ℕ
 count_sign ticks n =
     if ltb 0 n.runs then run_sign n.runs ticks
@@ -67,7 +68,7 @@ count_sign ticks n =
     else if ltb 0 n.waits then WAITS
     else BLANK
 
--- what stands above a column, by whether a job is refused in it, one is late, and the server is charged
+-- the mark above a column, by how many of its ticks have a refused job, have a late job, and are charged
 abbrev pub count_mark : ℕ → ℕ → ℕ → ℕ
 count_mark refused late charged =
     if ltb 0 refused then REFUSED
@@ -75,13 +76,13 @@ count_mark refused late charged =
     else if ltb 0 charged then CHARGED
     else BLANK
 
--- what a server does in column i
+-- the sign of what a server does in column i
 abbrev pub column_sign : GridSeen → ServerChart → ℕ → ℕ
 column_sign g c i =
     if is_fine g then tick_sign c (tick_of g i)
     else count_sign (end_of g i - tick_of g i) (counts_of (tick_of g i) (end_of g i) c.spans.items)
 
--- what stands above column i
+-- the mark above column i
 abbrev pub column_mark : GridSeen → ServerChart → ℕ → ℕ
 column_mark g c i =
     if is_fine g then tick_mark c (tick_of g i)

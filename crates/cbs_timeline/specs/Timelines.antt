@@ -9,11 +9,11 @@ use Rattle.cbs_timeline.specs.Grids.{GridSeen, blocks_of, count_of, first_of, gr
 use Rattle.cbs_timeline.specs.Lines.{ruler_text, server_text}
 use Rattle.cbs_timeline.specs.declared.legend.TheConstants.{CHARGED_LEGEND, COLUMN_LEGEND, LEGEND}
 
--- how many ticks a column is, if it is several
+-- how many ticks a column has, if it has more than one
 unfoldable pub cell_text : GridSeen → List ℕ
 cell_text g = if is_fine g then [] else codes ", a column is " ++ decimal g.cell ++ codes " ticks"
 
--- the name of the file, and the ticks that are shown
+-- the heading: the name of the file, and the ticks that are shown
 unfoldable pub heading_text : GridSeen → List ℕ → List ℕ
 heading_text g file = file ++ codes ", ticks " ++ decimal g.from ++ codes " to " ++ decimal g.to ++ cell_text g ++ codes "\n"
 
@@ -33,11 +33,11 @@ blocks_text g servers = flat_map (block_text g servers) (range_with_len 0 (block
 abbrev pub is_charged : Window → Drawn → Bool
 is_charged w d = ltb 0 (counts_of w.from w.to d.chart.spans.items).charged
 
--- what the sign of a charged tick stands for, if there is one
+-- the legend of charged ticks, if there are any in the window
 unfoldable pub charged_legend : Window → List Drawn → List ℕ
 charged_legend w servers = if list_any (is_charged w) servers then CHARGED_LEGEND.now else []
 
--- what the signs stand for
+-- the legend of the signs
 unfoldable pub legend_text : GridSeen → Window → List Drawn → List ℕ
 legend_text g w servers = codes "\n" ++ (if is_fine g then LEGEND.now else COLUMN_LEGEND.now) ++ charged_legend w servers
 

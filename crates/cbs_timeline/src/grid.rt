@@ -1,4 +1,4 @@
-//! Which ticks the columns of a timeline stand for.
+//! The ticks that the columns of a timeline stand for.
 
 ghost use Rattle.std.specs.Prelude.{◌≡◌, ◌+◌, ◌-◌, ◌≤◌, ◌<◌, IfOk};
 ghost use Rattle.cbs_timeline.specs.Grids.{blocks_of, cell_of, columns_of, count_of, digits_of, end_of, first_of, grid_of, is_fine, plot_of, step_of, tick_of, width_of};
@@ -41,7 +41,7 @@ fn width_of(servers: &[Drawn]) -> u64
     width
 }
 
-/// Returns how many digits the numbers of a window have at most.
+/// Returns the greatest number of digits that the numbers of a window have.
 fn digits_of(alloc: Global, window: Window) -> Result<u64, AllocError>
     ensures value { IfOk result (λ digits. digits ≡ digits_of window) }
     ensures few { IfOk result (λ digits. digits ≤ 20) }
@@ -50,7 +50,7 @@ fn digits_of(alloc: Global, window: Window) -> Result<u64, AllocError>
     Ok((label.len() as u64).min(20))
 }
 
-/// Returns how many columns a block has.
+/// Returns how many columns a block has: 10 to 60.
 fn plot_of(width: u64, digits: u64) -> u64
     ensures value { result ≡ plot_of width digits }
     ensures wide { 10 ≤ result }
@@ -60,7 +60,7 @@ fn plot_of(width: u64, digits: u64) -> u64
     (room / 10 * 10).min(60).max(10)
 }
 
-/// Returns every how many columns a tick is numbered, by the digits of its number.
+/// Returns the number of columns from one numbered tick to the next, by the digits of the numbers: 10 to 30.
 fn step_of(digits: u64) -> u64
     requires { digits ≤ 20 }
     ensures value { result ≡ step_of digits }
@@ -70,7 +70,7 @@ fn step_of(digits: u64) -> u64
     10 * (1 + digits / 10)
 }
 
-/// Returns how many ticks a column has.
+/// Returns how many ticks a column has: 1 to 20,000.
 fn cell_of(ticks: u64, plot: u64) -> u64
     requires ticks { ticks ≤ 20000 }
     requires plot { 10 ≤ plot }
@@ -110,7 +110,7 @@ impl Grid {
         self.width
     }
 
-    /// Returns every how many columns a tick is numbered.
+    /// Returns the number of columns from one numbered tick to the next: 10 to 30.
     pub fn step(&self) -> u64
         ensures value { result ≡ self.now.step }
         ensures apart { 10 ≤ result }
@@ -140,14 +140,14 @@ impl Grid {
         self.cell
     }
 
-    /// Returns whether each column is a tick.
+    /// Returns whether each column is one tick.
     pub fn is_fine(&self) -> bool
         ensures { result ≡ is_fine self.now }
     {
         self.cell == 1
     }
 
-    /// Returns the first tick of a column, as far as a clock goes.
+    /// Returns the first tick of a column, or 2^64 - 1 if it would be greater.
     pub fn tick(&self, column: u64) -> u64
         requires { column ≤ 200000 }
         ensures { result ≡ tick_of self.now column }
@@ -164,7 +164,7 @@ impl Grid {
         self.tick(column + 1).min(self.to)
     }
 
-    /// Returns how many columns there are.
+    /// Returns how many columns there are: at most 20,000.
     fn columns(&self) -> u64
         ensures value { result ≡ columns_of self.now }
         ensures few { result ≤ 20000 }
@@ -172,7 +172,7 @@ impl Grid {
         self.to.saturating_sub(self.from).div_ceil(self.cell)
     }
 
-    /// Returns how many blocks there are.
+    /// Returns how many blocks there are: at most 2,000.
     pub fn blocks(&self) -> u64
         ensures value { result ≡ blocks_of self.now }
         ensures few { result ≤ 2000 }
@@ -189,7 +189,7 @@ impl Grid {
         block * self.plot
     }
 
-    /// Returns how many columns a block has.
+    /// Returns how many columns a block has: at most 60.
     pub fn count(&self, block: u64) -> u64
         requires { block ≤ 2000 }
         ensures value { result ≡ count_of self.now block }

@@ -8,7 +8,7 @@ use crate::signs::{column_mark, column_sign};
 use cbs_chart::{Drawn, ServerChart};
 use std::alloc::{AllocError, Global};
 
-/// Appends a word with blanks after it, up to a width.
+/// Appends a word, and blanks after it up to the width.
 #[tactic(auto, unfolding(crate::specs::Lines::padded))]
 pub(crate) fn append_padded(text: &mut String, width: u64, word: &str) -> Result<(), AllocError>
     ensures { OnOk result (string_bytes text.new ≡ string_bytes text.old ++ padded width word.now) }
@@ -20,7 +20,7 @@ pub(crate) fn append_padded(text: &mut String, width: u64, word: &str) -> Result
     Ok(())
 }
 
-/// Appends what stands before the columns: a name, and two blanks.
+/// Appends the label before the columns: a name up to the width, and two blanks.
 pub(crate) fn append_label(text: &mut String, width: u64, name: &str) -> Result<(), AllocError>
     ensures { OnOk result (string_bytes text.new ≡ string_bytes text.old ++ label_text width name.now) }
 {
@@ -28,7 +28,7 @@ pub(crate) fn append_label(text: &mut String, width: u64, name: &str) -> Result<
     text.push_str("  ")
 }
 
-/// Appends a line, without the white space at its end.
+/// Appends a line, without the white space at the line's end.
 pub(crate) fn append_line(text: &mut String, line: &str) -> Result<(), AllocError>
     ensures { OnOk result (string_bytes text.new ≡ string_bytes text.old ++ line_text line.now) }
 {
@@ -36,7 +36,7 @@ pub(crate) fn append_line(text: &mut String, line: &str) -> Result<(), AllocErro
     text.push_str("\n")
 }
 
-/// Appends the signs of what a server does in columns.
+/// Appends the signs of what a server does in these columns.
 #[tactic(auto, unfolding(crate::specs::Lines::signs_text))]
 fn append_signs(
     text: &mut String,
@@ -55,7 +55,7 @@ fn append_signs(
     Ok(())
 }
 
-/// Returns the marks above columns.
+/// Returns the marks above these columns.
 #[tactic(auto, unfolding(crate::specs::Lines::marks_text))]
 fn marks_text(
     alloc: Global,
@@ -75,7 +75,7 @@ fn marks_text(
     Ok(text)
 }
 
-/// Appends marks as a line, if there are some.
+/// Appends the marks as a line, if there are any.
 #[tactic(auto, unfolding(crate::specs::Lines::marks_line))]
 fn append_marks(alloc: Global, text: &mut String, width: u64, marks: &str) -> Result<(), AllocError>
     ensures { OnOk result (string_bytes text.new ≡ string_bytes text.old ++ marks_line width marks.now) }

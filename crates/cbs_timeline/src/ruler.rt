@@ -44,7 +44,7 @@ fn append_numbers(
     Ok(())
 }
 
-/// Returns the mark of a column's beginning.
+/// Returns the mark at the beginning of a column.
 fn ruler_sign(place: u64) -> char
     ensures value { result ≡ ruler_sign place }
     ensures ascii { result < 128 }
@@ -58,7 +58,7 @@ fn ruler_sign(place: u64) -> char
     BLANK
 }
 
-/// Appends the marks of so many columns, and of their end.
+/// Appends the marks of this many columns, and the mark of their end.
 #[tactic(auto, unfolding(crate::specs::Lines::ruler_marks))]
 fn append_ruler_marks(text: &mut String, count: u64) -> Result<(), AllocError>
     requires { count ≤ 60 }

@@ -1,4 +1,4 @@
-//! The sign of a column: what a server does in it, and what stands above.
+//! The sign of a column, for what a server does in it, and the mark above it.
 
 ghost use Rattle.std.specs.Prelude.{◌≡◌, ◌+◌, ◌<◌, ◌≤◌};
 ghost use Rattle.std.specs.List.{find, list_any};
@@ -16,9 +16,9 @@ pub(crate) const WAITS: char = '.';
 pub(crate) const HELD: char = '/';
 /// The server is charged for its last unit.
 pub(crate) const CHARGED: char = '$';
-/// It runs in all ticks of a column.
+/// The server runs in all ticks of a column.
 pub(crate) const ALL: char = '#';
-/// It runs in fewer than a tenth of them.
+/// The server runs in fewer than a tenth of the ticks of a column.
 pub(crate) const FEWER: char = '+';
 /// A job comes.
 pub(crate) const COMES: char = '^';
@@ -30,9 +30,9 @@ pub(crate) const BOTH: char = '*';
 pub(crate) const REFUSED: char = 'x';
 /// A job is late.
 pub(crate) const LATE: char = '!';
-/// Each tenth column of a block.
+/// The mark of each tenth column of a block.
 pub(crate) const TEN: char = '|';
-/// Each fifth.
+/// The mark of each fifth column of a block.
 pub(crate) const FIVE: char = '\'';
 
 /// Returns whether a stretch takes a tick.
@@ -42,7 +42,7 @@ fn takes(tick: u64, stretch: &Stretch) -> bool
     stretch.from <= tick && tick < stretch.to
 }
 
-/// Returns whether a unit that ends at a tick used the budget up.
+/// Returns whether a unit that ends at a tick used up the budget.
 fn is_used_up(tick: u64, corners: &[Corner]) -> bool
     ensures { result ≡ is_used_up tick corners.now }
 {
@@ -51,7 +51,7 @@ fn is_used_up(tick: u64, corners: &[Corner]) -> bool
         .any(|corner| corner.tick == tick && corner.budget == 0)
 }
 
-/// Returns the letter of a job, a capital if its unit used the budget up.
+/// Returns the letter of a job: a capital if its unit used up the budget.
 fn letter_of(job: u64, used_up: bool) -> char
     ensures value { result ≡ letter_of job used_up }
     ensures ascii { result < 128 }
@@ -61,7 +61,7 @@ fn letter_of(job: u64, used_up: bool) -> char
     (first + place) as char
 }
 
-/// Returns the sign of a tick of a stretch of a kind.
+/// Returns the sign of a tick in a stretch of this kind.
 fn kind_sign(kind: Kind, used_up: bool) -> char
     ensures value { result ≡ kind_sign kind used_up }
     ensures ascii { result < 128 }
@@ -85,7 +85,7 @@ fn stretch_at(tick: u64, stretches: &[Stretch]) -> Option<Stretch>
         .find(|stretch| takes(tick, stretch))
 }
 
-/// Returns the sign of a tick of a stretch, if one takes it.
+/// Returns the sign of a tick that this stretch takes, or a blank if none takes it.
 fn stretch_sign(stretch: Option<Stretch>, used_up: bool) -> char
     ensures value { result ≡ stretch_sign stretch used_up }
     ensures ascii { result < 128 }
@@ -105,7 +105,7 @@ fn tick_sign(chart: &ServerChart, tick: u64) -> char
     stretch_sign(stretch_at(tick, &chart.spans), used_up)
 }
 
-/// Returns the mark of a tick at which a job comes, or which is a deadline of the server.
+/// Returns the mark of a tick, by whether a job comes at it and whether it is a deadline of the server.
 fn mark_of(comes: bool, deadline: bool) -> char
     ensures value { result ≡ mark_of comes deadline }
     ensures ascii { result < 128 }
@@ -118,14 +118,14 @@ fn mark_of(comes: bool, deadline: bool) -> char
     }
 }
 
-/// Returns whether a tick is one of these.
+/// Returns whether a tick is among these ticks.
 fn is_among(tick: u64, ticks: &[u64]) -> bool
     ensures { result ≡ is_among tick ticks.now }
 {
     ticks.iter().any(|one| *one == tick)
 }
 
-/// Returns whether one of these stretches takes a tick.
+/// Returns whether one of the stretches takes a tick.
 fn is_taken(tick: u64, stretches: &[Stretch]) -> bool
     ensures { result ≡ list_any (takes tick) stretches.now }
 {
@@ -146,7 +146,7 @@ fn tick_mark(chart: &ServerChart, tick: u64) -> char
     )
 }
 
-/// Returns the sign of a column of which so many ticks ran.
+/// Returns the sign of a column with this many ticks, of which the server ran in `runs`.
 fn run_sign(runs: u64, ticks: u64) -> char
     requires { ticks ≤ 20000 }
     ensures value { result ≡ run_sign runs ticks }
@@ -162,7 +162,7 @@ fn run_sign(runs: u64, ticks: u64) -> char
     (b'0' + tenths as u8) as char
 }
 
-/// Returns the sign of a column of so many ticks, by their counts.
+/// Returns the sign of a column with this many ticks, by their counts.
 fn count_sign(ticks: u64, counts: &Counts) -> char
     requires { ticks ≤ 20000 }
     ensures value { result ≡ count_sign ticks counts.now }
@@ -180,7 +180,7 @@ fn count_sign(ticks: u64, counts: &Counts) -> char
     BLANK
 }
 
-/// Returns the mark above a column in which so many ticks are of a refused release, late and charged.
+/// Returns the mark above a column, by how many of its ticks have a refused release, have a late job, and are charged.
 fn count_mark(refused: u64, late: u64, charged: u64) -> char
     ensures value { result ≡ count_mark refused late charged }
     ensures ascii { result < 128 }

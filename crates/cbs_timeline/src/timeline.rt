@@ -12,7 +12,7 @@ use cbs_chart::{Counts, Drawn, Picture, Window};
 use std::alloc::{AllocError, Global};
 use std::fmt::Write;
 
-/// Appends how many ticks a column is, if it is several.
+/// Appends how many ticks a column has, if it has more than one.
 #[tactic(auto, unfolding(crate::specs::Timelines::cell_text))]
 fn append_cell(text: &mut String, grid: &Grid) -> Result<(), AllocError>
     ensures { OnOk result (string_bytes text.new ≡ string_bytes text.old ++ cell_text grid.now) }
@@ -24,7 +24,7 @@ fn append_cell(text: &mut String, grid: &Grid) -> Result<(), AllocError>
     write!(text, ", a column is {cell} ticks")
 }
 
-/// Appends the name of the file, and the ticks that are shown.
+/// Appends the heading: the name of the file, and the ticks that are shown.
 #[tactic(auto, unfolding(crate::specs::Timelines::heading_text))]
 fn append_heading(text: &mut String, grid: &Grid, file: &str) -> Result<(), AllocError>
     ensures { OnOk result (string_bytes text.new ≡ string_bytes text.old ++ heading_text grid.now file.now) }
@@ -105,7 +105,7 @@ fn is_any_charged(window: Window, servers: &[Drawn]) -> bool
     servers.iter().any(|server| is_charged(window, server))
 }
 
-/// Appends what the sign of a charged tick stands for, if there is one.
+/// Appends the legend of charged ticks, if there are any in the window.
 #[tactic(auto, unfolding(crate::specs::Timelines::charged_legend))]
 fn append_charged_legend(
     text: &mut String,
@@ -120,7 +120,7 @@ fn append_charged_legend(
     Ok(())
 }
 
-/// Appends what the signs stand for.
+/// Appends the legend of the signs.
 #[tactic(auto, unfolding(crate::specs::Timelines::legend_text))]
 fn append_legend(
     text: &mut String,
@@ -139,7 +139,8 @@ fn append_legend(
     append_charged_legend(text, window, servers)
 }
 
-/// Returns a picture as a timeline of text, in lines of at most 80 letters if the names have room. The only error is out of memory.
+/// Returns a picture as a timeline of text. Its lines have at most 80 letters, if the names have room. The only error
+/// is out of memory.
 #[tactic(auto, unfolding(crate::specs::Timelines::drawn_text))]
 pub fn timeline_text(alloc: Global, picture: &Picture) -> Result<String, AllocError>
     ensures { IfOk result (λ text. string_bytes text ≡ timeline_text picture.now) }

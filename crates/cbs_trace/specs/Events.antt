@@ -5,7 +5,7 @@ use Rattle.serde_json.specs.Written.{compact_text}
 use Rattle.cbs_chart.specs.Counts.{told}
 use Rattle.cbs_chart.specs.declared.jobs.ChartJob.{ChartJob}
 
--- members, and these put among them, by the order of the keys
+-- the members, and these put among them, in the order of their keys
 abbrev pub with_members : List (List ℕ × Data) → Members → Members
 with_members [] ms = ms
 with_members (m ∷ more) ms = with_members more (put m.0 m.1 ms)
@@ -18,12 +18,12 @@ object_of members = object (with_members members no_members)
 abbrev pub whole : ℕ → Data
 whole n = number (unsigned n)
 
--- a number, if there is one; one that is greater than 2^64 - 1 is told as that
+-- a number, if there is one, else null. A number greater than 2^64 - 1 is given as 2^64 - 1
 abbrev pub whole_if : Option ℕ → Data
 whole_if None = null
 whole_if (Some n) = whole (told n)
 
--- something that goes on from one tick up to another, on a thread
+-- the event of something that goes on from one tick up to another, on a thread
 unfoldable pub slice_data : List ℕ → List ℕ → ℕ → ℕ → ℕ → Data → Data
 slice_data name cat thread from to args = object_of (
     (codes "ph", string (codes "X"))
@@ -36,7 +36,7 @@ slice_data name cat thread from to args = object_of (
     ∷ (codes "args", args)
     ∷ [])
 
--- something that is at a tick, on a thread
+-- the event of something that happens at a tick, on a thread
 unfoldable pub instant_data : List ℕ → List ℕ → ℕ → ℕ → Data → Data
 instant_data name cat thread tick args = object_of (
     (codes "ph", string (codes "i"))
@@ -49,7 +49,7 @@ instant_data name cat thread tick args = object_of (
     ∷ (codes "args", args)
     ∷ [])
 
--- a budget from a tick on
+-- the event of a budget that holds from a tick on
 unfoldable pub budget_data : List ℕ → ℕ → ℕ → ℕ → Data
 budget_data name thread tick budget = object_of (
     (codes "ph", string (codes "C"))
@@ -61,7 +61,7 @@ budget_data name thread tick budget = object_of (
     ∷ (codes "args", object_of ((codes "c", whole budget) ∷ []))
     ∷ [])
 
--- what is said of a thread: the name of it, or of the whole process, or its place
+-- the event that describes a thread: by a name, by the name of the whole process, or by its place
 unfoldable pub about_data : List ℕ → ℕ → Data → Data
 about_data what thread args = object_of (
     (codes "ph", string (codes "M"))
@@ -78,11 +78,11 @@ named_args name = object_of ((codes "name", string name) ∷ [])
 unfoldable pub placed_args : ℕ → Data
 placed_args place = object_of ((codes "sort_index", whole place) ∷ [])
 
--- nothing more is said
+-- empty arguments
 abbrev pub no_args : Data
 no_args = object no_members
 
--- what is said of a job at each of its bars
+-- the arguments of a bar: the number of its job, and what is known of the job
 unfoldable pub job_args : ℕ → Option ChartJob → Data
 job_args j None = object_of ((codes "job", whole j) ∷ [])
 job_args j (Some job) = object_of (
@@ -94,15 +94,15 @@ job_args j (Some job) = object_of (
     ∷ (codes "finish", whole_if job.finish)
     ∷ [])
 
--- .. where it comes
+-- the arguments of the arrival of a job
 unfoldable pub came_args : ChartJob → Data
 came_args job = object_of ((codes "units", whole job.units) ∷ [])
 
--- .. and where it is finished: how many ticks it took, and how many of those too many
+-- the arguments of the end of a job: how many ticks it took, and how many ticks late it was
 unfoldable pub finished_args : ℕ → ℕ → Data
 finished_args took late = object_of ((codes "response", whole took) ∷ (codes "late", whole late) ∷ [])
 
--- a line of a trace: an event, and its tick
+-- a line of a trace: an event, with its tick
 pub record LineSeen : Type 0 where
   pub tick : ℕ
   pub text : List ℕ

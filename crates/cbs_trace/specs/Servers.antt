@@ -1,4 +1,4 @@
--- The events of one server: those of each kind after one another.
+-- The events of one server, kind by kind.
 use Rattle.std.specs.Prelude.{ℕ, ◌+◌, ◌-◌, ◌&&◌, eqb, leb, ltb, if◌then◌else◌, List, [], ◌∷◌, ◌++◌, codes, decimal, flat_map, get_or, length, map, string_bytes, Option, Some, None}
 use Rattle.std.specs.List.{find, range_with_len}
 use Rattle.cbs_chart.specs.declared.chart.ServerChart.{ServerChart}
@@ -11,7 +11,7 @@ use Rattle.cbs_chart.specs.declared.stretch.Stretch.{Stretch}
 use Rattle.cbs_chart.specs.declared.window.Window.{Window}
 use Rattle.cbs_trace.specs.Events.{LineSeen, budget_data, came_args, finished_args, instant_data, job_args, line_of, no_args, slice_data}
 
--- the job of a number
+-- the job with this number, if it is among the jobs
 abbrev pub job_numbered : ℕ → List ChartJob → Option ChartJob
 job_numbered j jobs = find (λ job. eqb job.number j) jobs
 
@@ -20,34 +20,34 @@ unfoldable pub bar_line : ℕ → List ChartJob → ℕ → Stretch → LineSeen
 bar_line thread jobs j p =
     line_of p.from (slice_data (codes "job " ++ decimal j) (codes "run") thread p.from p.to (job_args j (job_numbered j jobs)))
 
--- other ticks, by what goes on in them
+-- ticks that are no bar, by what goes on in them
 unfoldable pub other_line : ℕ → List ℕ → Stretch → LineSeen
 other_line thread what p = line_of p.from (slice_data what what thread p.from p.to no_args)
 
--- the slice of a stretch: a bar, charged ticks, or ticks in which the server is throttled with a job
+-- the slice of a stretch, if it has one: a bar, charged ticks, or ticks in which the server is throttled with a job
 abbrev pub slice_of : ℕ → List ChartJob → Kind → Stretch → List LineSeen
 slice_of thread jobs (kind.Runs j) p = bar_line thread jobs j p ∷ []
 slice_of thread jobs kind.Charged p = other_line thread (codes "charged") p ∷ []
 slice_of thread jobs kind.Held p = other_line thread (codes "throttled") p ∷ []
 slice_of thread jobs _ p = []
 
--- .. of all stretches
+-- the slices of all stretches
 unfoldable pub slices_of : ℕ → ServerChart → List LineSeen
 slices_of thread c = flat_map (λ p. slice_of thread c.jobs.items p.kind p) c.spans.items
 
--- by how many ticks a job that took so many was late
+-- by how many ticks a job that took so many was late, or 0 if it was not
 abbrev pub late_by : Option ℕ → ℕ → ℕ
 late_by None took = 0
 late_by (Some within) took = took - within
 
--- the end of a job that took so many ticks, and was late by so many
+-- the end of a job that took this many ticks, and was late by this many
 unfoldable pub end_line : ℕ → ChartJob → ℕ → ℕ → ℕ → LineSeen
 end_line thread job tick took late =
     line_of tick
     (instant_data (codes "job " ++ decimal job.number ++ codes " finished" ++ (if eqb late 0 then [] else codes ", late"))
     (if eqb late 0 then codes "completion" else codes "late") thread tick (finished_args took late))
 
--- .. if it is finished in the window
+-- the end of a job, if the job was finished in the window
 abbrev pub end_at : Window → ℕ → ChartJob → Option ℕ → List LineSeen
 end_at w thread job None = []
 end_at w thread job (Some finish) =
@@ -62,19 +62,19 @@ ends_of w thread jobs = flat_map (λ job. end_at w thread job job.finish) jobs
 unfoldable pub refused_line : ℕ → ℕ → LineSeen
 refused_line thread tick = line_of tick (instant_data (codes "refused") (codes "refused") thread tick no_args)
 
--- .. each of a stretch
+-- the refused releases of each tick of a stretch
 unfoldable pub refusals_in : ℕ → Stretch → List LineSeen
 refusals_in thread p = map (λ k. refused_line thread (p.from + k)) (range_with_len 0 (p.to - p.from))
 
 unfoldable pub refusals_of : ℕ → List Stretch → List LineSeen
 refusals_of thread ps = flat_map (refusals_in thread) ps
 
--- the coming of a job
+-- the arrival of a job
 unfoldable pub arrival_line : ℕ → ChartJob → LineSeen
 arrival_line thread job =
     line_of job.came (instant_data (codes "job " ++ decimal job.number ++ codes " comes") (codes "arrival") thread job.came (came_args job))
 
--- .. in the window
+-- the arrival of a job, if the job came in the window
 abbrev pub arrival_in : Window → ℕ → ChartJob → List LineSeen
 arrival_in w thread job = if leb w.from job.came && ltb job.came w.to then arrival_line thread job ∷ [] else []
 
@@ -96,7 +96,7 @@ budget_line name thread tick budget = line_of tick (budget_data name thread tick
 abbrev pub budget_before : ℕ → List Corner → ℕ → ℕ
 budget_before opening corners i = if eqb i 0 then opening else (get_or corners (i - 1) (record { tick = 0; budget = 0 })).budget
 
--- the budget from corner i on, if it is another than before
+-- the budget from a corner on, if it differs from the budget before
 abbrev pub change_between : List ℕ → ℕ → ℕ → Corner → List LineSeen
 change_between name thread before corner = if eqb corner.budget before then [] else budget_line name thread corner.tick corner.budget ∷ []
 
@@ -104,7 +104,7 @@ abbrev pub change_at : List ℕ → ℕ → ℕ → List Corner → ℕ → List
 change_at name thread opening corners i =
     change_between name thread (budget_before opening corners i) (get_or corners i (record { tick = 0; budget = 0 }))
 
--- the budget at the window's beginning, and each change after that
+-- each change of a budget in its course
 unfoldable pub changes_of : List ℕ → ℕ → ℕ → List Corner → List LineSeen
 changes_of name thread opening corners = flat_map (change_at name thread opening corners) (range_with_len 0 (length corners))
 

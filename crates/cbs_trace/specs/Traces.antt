@@ -13,7 +13,7 @@ use Rattle.cbs_trace.specs.Events.{LineSeen, about_data, named_args, placed_args
 use Rattle.cbs_trace.specs.Servers.{events_of}
 use Rattle.cbs_trace.specs.declared.trace.TheConstants.{OPENING}
 
--- what each server has, by its number, from a number on
+-- what f gives for each server, by numbers from n on, in order
 abbrev pub numbered : {X : Type 0} → (ℕ → Drawn → List X) → ℕ → List Drawn → List X
 numbered f n [] = []
 numbered f n (d ∷ ds) = f n d ++ numbered f (n + 1) ds
@@ -26,7 +26,7 @@ all_events w servers = numbered (events_of w) 1 servers
 abbrev pub tick_of : LineSeen → ℕ
 tick_of line = line.tick
 
--- the same events by their ticks; those of a tick in the order that they had
+-- the same events, sorted by their ticks. Events of the same tick keep their order
 pub record AreInOrder (events ordered : List LineSeen) : Type 0 where
   pub same : IsPermutation events ordered
   pub rising : IsSortedByKey tick_of nat_cmp ordered
@@ -37,21 +37,21 @@ abbrev pub mode_word : Mode → List ℕ
 mode_word mode.Soft = codes "soft"
 mode_word mode.Throttled = codes "throttled"
 
--- a line after another
+-- a line after another one
 abbrev pub next_text : List ℕ → List ℕ
 next_text text = codes ",\n" ++ text
 
--- who a server is
+-- the title of a server: its name, reservation and mode
 unfoldable pub title_text : List ℕ → Rate → Mode → List ℕ
 title_text name r mode = name ++ codes ", " ++ decimal r.budget ++ codes " in every " ++ decimal r.period ++ codes ", " ++ mode_word mode
 
--- what is said of a server: its name, and its place
+-- the description of a server: its title, and its place
 unfoldable pub server_text : ℕ → Drawn → List ℕ
 server_text place d =
     next_text (compact_text (about_data (codes "thread_name") (place + 1) (named_args (title_text (string_bytes d.name) d.reservation d.mode))))
     ++ next_text (compact_text (about_data (codes "thread_sort_index") (place + 1) (placed_args place)))
 
--- .. of all servers
+-- the descriptions of all servers
 unfoldable pub servers_text : List Drawn → List ℕ
 servers_text servers = numbered server_text 0 servers
 
@@ -59,7 +59,7 @@ servers_text servers = numbered server_text 0 servers
 unfoldable pub lines_text : List LineSeen → List ℕ
 lines_text lines = flat_map (λ line. next_text line.text) lines
 
--- the name of the file, as an event
+-- the event that gives the name of the file
 unfoldable pub process_text : List ℕ → List ℕ
 process_text file = compact_text (about_data (codes "process_name") 0 (named_args file))
 
@@ -67,11 +67,11 @@ process_text file = compact_text (about_data (codes "process_name") 0 (named_arg
 unfoldable pub opening_text : List ℕ → List ℕ
 opening_text file = OPENING.now ++ process_text file
 
--- a trace with these events in this order
+-- a trace with these events, in this order
 unfoldable pub trace_text : Picture → List LineSeen → List ℕ
 trace_text p ordered = opening_text (string_bytes p.file) ++ servers_text p.servers.items ++ lines_text ordered ++ codes "\n]}\n"
 
--- a text is the trace of a picture: exactly the events of its servers, in order
+-- the text is the trace of the picture: exactly the events of its servers, in order
 pub record IsTrace (p : Picture) (text : List ℕ) : Type 0 where
   pub ordered : List LineSeen
   pub order : AreInOrder (all_events p.window p.servers.items) ordered

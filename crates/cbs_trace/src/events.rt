@@ -10,14 +10,14 @@ use cbs_chart::ChartJob;
 use serde_json::{Value, json};
 use std::alloc::{AllocError, Global};
 
-/// Returns a number, or 2^64 - 1 if it is greater.
+/// Returns the number, or 2^64 - 1 if the number is greater.
 fn told(number: u128) -> u64
     ensures { result ≡ told number }
 {
     u64::try_from(number).unwrap_or(u64::MAX)
 }
 
-/// Returns a number if there is one, and else null.
+/// Returns the number as a JSON value, at most 2^64 - 1, or null if there is no number.
 fn whole_if(number: Option<u128>) -> Value
     ensures { view result ≡ whole_if number }
 {
@@ -27,7 +27,7 @@ fn whole_if(number: Option<u128>) -> Value
     }
 }
 
-/// Returns what is said of a job at each of its bars.
+/// Returns the arguments of a bar: the number of its job, and what is known of the job.
 #[tactic(auto, unfolding(crate::specs::Events::job_args))]
 pub(crate) fn job_args(
     alloc: Global,
@@ -49,7 +49,7 @@ pub(crate) fn job_args(
     })
 }
 
-/// Returns what is said of a job that comes.
+/// Returns the arguments of the arrival of a job.
 #[tactic(auto, unfolding(crate::specs::Events::came_args))]
 pub(crate) fn came_args(alloc: Global, job: &ChartJob) -> Result<Value, AllocError>
     ensures value { IfOk result (λ v. view v ≡ came_args job.now) }
@@ -58,7 +58,7 @@ pub(crate) fn came_args(alloc: Global, job: &ChartJob) -> Result<Value, AllocErr
     json!(in alloc; {"units": job.units})
 }
 
-/// Returns what is said of a job that is finished.
+/// Returns the arguments of the end of a job: how many ticks it took, and how many ticks late it was.
 #[tactic(auto, unfolding(crate::specs::Events::finished_args))]
 pub(crate) fn finished_args(alloc: Global, took: u64, late: u64) -> Result<Value, AllocError>
     ensures value { IfOk result (λ v. view v ≡ finished_args took late) }
@@ -67,7 +67,7 @@ pub(crate) fn finished_args(alloc: Global, took: u64, late: u64) -> Result<Value
     json!(in alloc; {"response": took, "late": late})
 }
 
-/// Returns the arguments of an event that says a name.
+/// Returns the arguments that give a name.
 #[tactic(auto, unfolding(crate::specs::Events::named_args))]
 pub(crate) fn named_args(alloc: Global, name: &str) -> Result<Value, AllocError>
     ensures value { IfOk result (λ v. view v ≡ named_args name.now) }
@@ -76,7 +76,7 @@ pub(crate) fn named_args(alloc: Global, name: &str) -> Result<Value, AllocError>
     json!(in alloc; {"name": name})
 }
 
-/// Returns the arguments of an event that says a place.
+/// Returns the arguments that give a place.
 #[tactic(auto, unfolding(crate::specs::Events::placed_args))]
 pub(crate) fn placed_args(alloc: Global, place: u64) -> Result<Value, AllocError>
     ensures value { IfOk result (λ v. view v ≡ placed_args place) }
@@ -85,7 +85,7 @@ pub(crate) fn placed_args(alloc: Global, place: u64) -> Result<Value, AllocError
     json!(in alloc; {"sort_index": place})
 }
 
-/// Returns the arguments of an event that says nothing more.
+/// Returns empty arguments.
 pub(crate) fn no_args(alloc: Global) -> Result<Value, AllocError>
     ensures value { IfOk result (λ v. view v ≡ no_args) }
     ensures plain { IfOk result (λ v. has_float (view v) ≡ false) }
@@ -134,7 +134,7 @@ pub(crate) fn slice_text(
     slice_value(alloc, name, cat, thread, from, to, args)?.to_string(alloc)
 }
 
-/// Returns the event of something at a tick, on a thread.
+/// Returns the event of something that happens at a tick, on a thread.
 #[tactic(auto, unfolding(crate::specs::Events::instant_data))]
 fn instant_value(
     alloc: Global,
@@ -158,7 +158,7 @@ fn instant_value(
     })
 }
 
-/// Returns the event of something at a tick, on a thread, as text.
+/// Returns the event of something that happens at a tick, on a thread, as text.
 pub(crate) fn instant_text(
     alloc: Global,
     name: &str,
@@ -173,7 +173,7 @@ pub(crate) fn instant_text(
     instant_value(alloc, name, cat, thread, tick, args)?.to_string(alloc)
 }
 
-/// Returns the event of a budget from a tick on.
+/// Returns the event of a budget that holds from a tick on.
 #[tactic(auto, unfolding(crate::specs::Events::budget_data))]
 fn budget_value(
     alloc: Global,
@@ -196,7 +196,7 @@ fn budget_value(
     })
 }
 
-/// Returns the event of a budget from a tick on, as text.
+/// Returns the event of a budget that holds from a tick on, as text.
 pub(crate) fn budget_text(
     alloc: Global,
     name: &str,
@@ -209,7 +209,7 @@ pub(crate) fn budget_text(
     budget_value(alloc, name, thread, tick, budget)?.to_string(alloc)
 }
 
-/// Returns the event that says something of a thread.
+/// Returns the event that describes a thread, such as by a name.
 #[tactic(auto, unfolding(crate::specs::Events::about_data))]
 fn about_value(alloc: Global, what: &str, thread: u64, args: Value) -> Result<Value, AllocError>
     ensures { IfOk result (λ v. view v ≡ about_data what.now thread (view args)) }
@@ -224,7 +224,7 @@ fn about_value(alloc: Global, what: &str, thread: u64, args: Value) -> Result<Va
     })
 }
 
-/// Returns the event that says something of a thread, as text.
+/// Returns the event that describes a thread, such as by a name, as text.
 pub(crate) fn about_text(
     alloc: Global,
     what: &str,

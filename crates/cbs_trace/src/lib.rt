@@ -1,4 +1,4 @@
-//! A picture of a run as a trace, for programs that show traces.
+//! A picture of a run as a trace, for programs that display traces.
 #![tactic(auto)]
 
 mod events;

@@ -8,7 +8,7 @@ ghost use Rattle.cbs_trace.specs.Traces.{tick_of};
 use std::alloc::AllocError;
 use std::marker::Model;
 
-/// A line of a trace: an event, and its tick.
+/// A line of a trace: an event, with its tick.
 #[derive(Drop)]
 pub(crate) struct Line {
     tick: u64,
@@ -47,7 +47,7 @@ impl Line {
     }
 }
 
-/// Sorts lines by their ticks. Those of a tick keep their order.
+/// Sorts lines by their ticks. Lines of the same tick keep their order. Refuses if out of memory.
 pub(crate) fn sort_lines(lines: &mut Vec<Line>) -> Result<(), AllocError>
     ensures same { IsPermutation lines.old.items lines.new.items }
     ensures rising { OnOk result (IsSortedByKey tick_of nat_cmp lines.new.items) }

@@ -1,4 +1,4 @@
-//! What comes, ends and is refused, as instants; and the budget.
+//! The instants of a server: jobs that come, are finished or are refused, and its deadlines. Also its budget.
 
 ghost use Rattle.std.specs.Prelude.{◌≡◌, ◌<◌, ◌++◌, IfOk, OnOk, length};
 ghost use Rattle.cbs_trace.specs.Servers.{arrival_in, arrival_line, arrivals_of, budget_before, budget_line, budgets_of, change_at, change_between, changes_of, deadline_line, deadlines_of, end_at, end_line, ends_of, late_by, refusals_in, refusals_of, refused_line};
@@ -8,7 +8,7 @@ use crate::line::Line;
 use cbs_chart::{ChartJob, Corner, ServerChart, Stretch, Window};
 use std::alloc::{AllocError, Global};
 
-/// Returns by how many ticks a job that took so many was late.
+/// Returns by how many ticks a job that took `took` ticks was late, or 0 if it was not.
 fn late_by(within: Option<u64>, took: u64) -> u64
     ensures { result ≡ late_by within took }
 {
@@ -18,7 +18,7 @@ fn late_by(within: Option<u64>, took: u64) -> u64
     }
 }
 
-/// Returns the line of the end of a job that took so many ticks, and was late by so many.
+/// Returns the line of the end of a job that took `took` ticks and was late by `late` ticks.
 #[tactic(auto, unfolding(crate::specs::Servers::end_line))]
 fn end_line(
     alloc: Global,
@@ -42,7 +42,7 @@ fn end_line(
     Ok(Line::new(tick, text))
 }
 
-/// Appends the end of a job, if it is finished in a window.
+/// Appends the end of a job, if the job was finished in the window.
 fn append_end(
     alloc: Global,
     lines: &mut Vec<Line>,
@@ -64,7 +64,7 @@ fn append_end(
     Ok(())
 }
 
-/// Appends the ends of jobs in a window.
+/// Appends the ends of those jobs that were finished in the window.
 #[tactic(auto, unfolding(crate::specs::Servers::ends_of))]
 pub(crate) fn append_ends(
     alloc: Global,
@@ -91,7 +91,7 @@ fn refused_line(alloc: Global, thread: u64, tick: u64) -> Result<Line, AllocErro
     Ok(Line::new(tick, text))
 }
 
-/// Appends each tick of a stretch in which releases are refused.
+/// Appends a line for each tick of a stretch in which releases are refused.
 #[tactic(auto, unfolding(crate::specs::Servers::refusals_in))]
 fn append_refusals_in(
     alloc: Global,
@@ -107,7 +107,7 @@ fn append_refusals_in(
     Ok(())
 }
 
-/// Appends the ticks in which releases are refused.
+/// Appends a line for each tick in which releases are refused.
 #[tactic(auto, unfolding(crate::specs::Servers::refusals_of))]
 pub(crate) fn append_refusals(
     alloc: Global,
@@ -123,7 +123,7 @@ pub(crate) fn append_refusals(
     Ok(())
 }
 
-/// Returns the line of the coming of a job.
+/// Returns the line of the arrival of a job.
 #[tactic(auto, unfolding(crate::specs::Servers::arrival_line))]
 fn arrival_line(alloc: Global, thread: u64, job: &ChartJob) -> Result<Line, AllocError>
     ensures { IfOk result (λ line. line ≡ arrival_line thread job.now) }
@@ -135,7 +135,7 @@ fn arrival_line(alloc: Global, thread: u64, job: &ChartJob) -> Result<Line, Allo
     Ok(Line::new(job.came, text))
 }
 
-/// Appends the coming of a job, if it is in a window.
+/// Appends the arrival of a job, if the job came in the window.
 fn append_arrival(
     alloc: Global,
     lines: &mut Vec<Line>,
@@ -151,7 +151,7 @@ fn append_arrival(
     Ok(())
 }
 
-/// Appends the coming of jobs in a window.
+/// Appends the arrivals of those jobs that came in the window.
 #[tactic(auto, unfolding(crate::specs::Servers::arrivals_of))]
 pub(crate) fn append_arrivals(
     alloc: Global,
@@ -178,7 +178,7 @@ fn deadline_line(alloc: Global, thread: u64, tick: u64) -> Result<Line, AllocErr
     Ok(Line::new(tick, text))
 }
 
-/// Appends deadlines.
+/// Appends a line for each deadline.
 #[tactic(auto, unfolding(crate::specs::Servers::deadlines_of))]
 pub(crate) fn append_deadlines(
     alloc: Global,
@@ -220,7 +220,7 @@ fn budget_before(opening: u64, corners: &[Corner], place: usize) -> u64
     corners[place - 1].budget
 }
 
-/// Appends the budget from a corner on, if it is another than before.
+/// Appends the budget from a corner on, if it differs from the budget before.
 fn append_change_between(
     alloc: Global,
     lines: &mut Vec<Line>,
@@ -239,7 +239,7 @@ fn append_change_between(
     Ok(())
 }
 
-/// Appends the budget from the corner of a place on, if it is another than before.
+/// Appends the budget from the corner at a place on, if it differs from the budget before.
 fn append_change(
     alloc: Global,
     lines: &mut Vec<Line>,
@@ -274,7 +274,7 @@ fn append_changes(
     Ok(())
 }
 
-/// Appends the budget at a window's beginning, and each change after that.
+/// Appends the budget at the window's first tick, and each change after it.
 #[tactic(auto, unfolding(crate::specs::Servers::budgets_of))]
 pub(crate) fn append_budgets(
     alloc: Global,

@@ -1,4 +1,4 @@
-//! The events of one server, and who it is.
+//! The events of one server, and its title.
 
 ghost use Rattle.std.specs.Prelude.{◌≡◌, ◌-◌, ◌<◌, ◌^◌, ◌++◌, IfOk, OnOk, string_bytes};
 ghost use Rattle.cbs_trace.specs.Servers.{events_of};
@@ -45,7 +45,7 @@ fn mode_word(mode: Mode) -> &'static str
     }
 }
 
-/// Returns who a server is.
+/// Returns the title of a server: its name, reservation and mode.
 #[tactic(auto, unfolding(crate::specs::Traces::title_text))]
 fn title_text(
     alloc: Global,
@@ -61,7 +61,7 @@ fn title_text(
     format!(in alloc; "{name}, {budget} in every {period}, {mode}")
 }
 
-/// Appends a line after another.
+/// Appends a line after another one.
 pub(crate) fn append_next(text: &mut String, line: &str) -> Result<(), AllocError>
     ensures { OnOk result (string_bytes text.new ≡ string_bytes text.old ++ next_text line.now) }
 {
@@ -69,7 +69,7 @@ pub(crate) fn append_next(text: &mut String, line: &str) -> Result<(), AllocErro
     text.push_str(line)
 }
 
-/// Appends what is said of a server.
+/// Appends the description of a server: its title, and its place.
 #[tactic(auto, unfolding(crate::specs::Traces::server_text))]
 pub(crate) fn append_server(
     alloc: Global,

@@ -1,4 +1,4 @@
-//! What a server does, as slices.
+//! The slices of a trace: what a server does.
 
 ghost use Rattle.std.specs.Prelude.{◌≡◌, ◌++◌, IfOk, OnOk};
 ghost use Rattle.cbs_trace.specs.Servers.{bar_line, job_numbered, other_line, slice_of, slices_of};
@@ -8,7 +8,7 @@ use crate::line::Line;
 use cbs_chart::{ChartJob, Kind, ServerChart, Stretch};
 use std::alloc::{AllocError, Global};
 
-/// Returns the job of a number.
+/// Returns the job with this number, or `None` if it is not among the jobs.
 fn job_numbered(number: u64, jobs: &[ChartJob]) -> Option<ChartJob>
     ensures { result ≡ job_numbered number jobs.now }
 {
@@ -32,7 +32,7 @@ fn bar_line(
     Ok(Line::new(span.from, text))
 }
 
-/// Returns the line of other ticks, by what goes on in them.
+/// Returns the line of ticks that are no bar, by what goes on in them.
 #[tactic(auto, unfolding(crate::specs::Servers::other_line))]
 fn other_line(alloc: Global, thread: u64, what: &str, span: &Stretch) -> Result<Line, AllocError>
     ensures { IfOk result (λ line. line ≡ other_line thread what.now span.now) }
@@ -42,7 +42,7 @@ fn other_line(alloc: Global, thread: u64, what: &str, span: &Stretch) -> Result<
     Ok(Line::new(span.from, text))
 }
 
-/// Appends the slice of a stretch, if it has one.
+/// Appends the slice of a stretch, if the stretch has one.
 fn append_slice(
     alloc: Global,
     lines: &mut Vec<Line>,

@@ -9,7 +9,7 @@ use crate::server::{append_events, append_next, append_server};
 use cbs_chart::{Drawn, Picture, Window};
 use std::alloc::{AllocError, Global};
 
-/// What stands before the events.
+/// The text before the events.
 pub(crate) const OPENING: &str =
     "{\"displayTimeUnit\":\"ns\",\"otherData\":{\"unit\":\"a tick is a microsecond\"},\"traceEvents\":[\n";
 
@@ -25,7 +25,7 @@ fn all_events(alloc: Global, window: Window, servers: &[Drawn]) -> Result<Vec<Li
     Ok(lines)
 }
 
-/// Returns the events of all servers, by their ticks.
+/// Returns the events of all servers, sorted by their ticks.
 fn ordered_events(alloc: Global, window: Window, servers: &[Drawn]) -> Result<Vec<Line>, AllocError>
     ensures { IfOk result (λ lines. AreInOrder (all_events window servers.now) lines.items) }
 {
@@ -34,7 +34,7 @@ fn ordered_events(alloc: Global, window: Window, servers: &[Drawn]) -> Result<Ve
     Ok(lines)
 }
 
-/// Appends what is said of all servers.
+/// Appends the descriptions of all servers.
 #[tactic(auto, unfolding(crate::specs::Traces::servers_text))]
 fn append_servers(alloc: Global, text: &mut String, servers: &[Drawn]) -> Result<(), AllocError>
     ensures { OnOk result (string_bytes text.new ≡ string_bytes text.old ++ servers_text servers.now) }
@@ -56,7 +56,7 @@ fn append_lines(text: &mut String, lines: &[Line]) -> Result<(), AllocError>
     Ok(())
 }
 
-/// Returns the name of the file, as an event.
+/// Returns the event that gives the name of the file, as text.
 #[tactic(auto, unfolding(crate::specs::Traces::process_text))]
 fn process_text(alloc: Global, file: &str) -> Result<String, AllocError>
     ensures { IfOk result (λ text. string_bytes text ≡ process_text file.now) }
@@ -75,7 +75,7 @@ fn append_opening(alloc: Global, text: &mut String, file: &str) -> Result<(), Al
     text.push_str(&process)
 }
 
-/// Returns a trace with these events in this order.
+/// Returns a trace with these events, in this order.
 #[tactic(auto, unfolding(crate::specs::Traces::trace_text))]
 fn trace_text(alloc: Global, picture: &Picture, lines: &[Line]) -> Result<String, AllocError>
     ensures { IfOk result (λ text. string_bytes text ≡ trace_text picture.now lines.now) }
@@ -88,7 +88,7 @@ fn trace_text(alloc: Global, picture: &Picture, lines: &[Line]) -> Result<String
     Ok(text)
 }
 
-/// Returns a picture as a trace, in the Trace Event Format: a tick is a microsecond. The only error is out of memory.
+/// Returns a picture as a trace, in the Trace Event Format. A tick is a microsecond. The only error is out of memory.
 pub fn trace_json(alloc: Global, picture: &Picture) -> Result<String, AllocError>
     ensures { IfOk result (λ text. IsTrace picture.now (string_bytes text)) }
 {

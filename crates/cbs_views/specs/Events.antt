@@ -1,4 +1,4 @@
--- What a step did, and to whom.
+-- The effect of a step, and its server.
 use Rattle.std.specs.Prelude.{ℕ, ◌-◌, Option, Some, None}
 use Rattle.cbs_steps.specs.declared.reply.Ran.{Ran}
 use Rattle.cbs_steps.specs.declared.reply.Ran.TheVariants as ran
@@ -12,7 +12,7 @@ server_of_unit (ran.Unit s q) = Some s
 server_of_unit (ran.Done c) = Some c.server
 server_of_unit _ = None
 
--- the server that the step is of: the one that a job came for, that ran, or that was charged
+-- the server of a step: the one that a job came for, that ran, or that was charged
 abbrev pub server_of : Event → Option ℕ
 server_of (event.Accepted job number promised) = Some job.server
 server_of (event.NotAccepted job error) = Some job.server
@@ -20,7 +20,7 @@ server_of (event.Ran r) = server_of_unit r
 server_of (event.Charged s n) = Some s
 server_of _ = None
 
--- the ticks that a run takes: one for a unit
+-- the ticks that a run takes: 1 if it ran a unit, else 0
 abbrev pub ticks_of_run : Ran → ℕ
 ticks_of_run (ran.Unit s q) = 1
 ticks_of_run (ran.Done c) = 1

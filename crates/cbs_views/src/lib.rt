@@ -1,4 +1,4 @@
-//! Steps as they are seen, without the jobs: what a view shows, whatever made the steps.
+//! Steps as a view sees them, without their jobs. A view shows the same, whatever made the steps.
 #![tactic(auto)]
 
 mod seen;

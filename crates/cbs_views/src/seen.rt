@@ -1,33 +1,33 @@
-//! Steps as they are seen.
+//! Steps as a view sees them.
 
 ghost use Rattle.std.specs.Prelude.{◌≡◌};
 ghost use Rattle.cbs_views.specs.Events.{server_of_unit, server_of, ticks_of_run, ticks_of, begun};
 
 use cbs_steps::{CoreError, Ran, ServerView};
 
-/// What is known of a job when it comes.
+/// A job as a view sees it when it comes.
 #[derive(Clone, Copy, Debug, PartialEq, Eq)]
 pub struct Arrival {
-    /// The server that is to run it.
+    /// The server that is to run the job.
     pub server: u16,
-    /// The tick at which it came: that of its release, or of its submit if nothing released it.
+    /// The tick at which the job came: the tick of its release, or of its submit if nothing released it.
     pub came: u64,
-    /// How many units it has.
+    /// How many units the job has.
     pub units: u32,
-    /// Within how many ticks of its coming it is to be finished, if that is wanted.
+    /// Within how many ticks of its arrival the job is to be finished, if that is wanted.
     pub within: Option<u64>,
 }
 
-/// What a step did.
+/// The effect of a step.
 #[derive(Clone, Copy, Debug, PartialEq, Eq)]
 pub enum Event {
     /// A job was accepted.
     Accepted {
         /// The job.
         job: Arrival,
-        /// Its number among the accepted jobs of its server, from 0.
+        /// The number of the job among the accepted jobs of its server, from 0.
         number: u64,
-        /// The tick by which all that the server has accepted is finished, as long as nobody is charged.
+        /// The tick by which all jobs that the server has accepted are finished, as long as nobody is charged.
         promised: Option<u128>,
     },
     /// A job was refused.
@@ -39,28 +39,28 @@ pub enum Event {
     },
     /// A unit was run, or none.
     Ran(Ran),
-    /// So many ticks passed.
+    /// This many ticks passed.
     Advanced(u64),
-    /// So many ticks were to pass, and did not.
+    /// This many ticks were to pass, but did not.
     NotAdvanced(u64, CoreError),
     /// A server was closed.
     Closed(u16),
-    /// A server was to be closed, and was not.
+    /// A server was to be closed, but was not.
     NotClosed(u16, CoreError),
-    /// A server was charged so many ticks, and they passed.
+    /// A server was charged this many ticks, and they passed.
     Charged {
         /// The server.
         server: u16,
         /// How many ticks.
         ticks: u64,
     },
-    /// A server was to be charged, and was not.
+    /// A server was to be charged, but was not.
     NotCharged {
         /// The server.
         server: u16,
         /// How many ticks.
         ticks: u64,
-        /// Why it was not.
+        /// Why the server was not charged.
         error: CoreError,
     },
 }
@@ -77,7 +77,7 @@ fn server_of_unit(ran: Ran) -> Option<u16>
     }
 }
 
-/// Returns the ticks that a run takes: one for a unit.
+/// Returns the ticks that a run takes: 1 if it ran a unit, else 0.
 #[inline]
 fn ticks_of_run(ran: Ran) -> u64
     ensures { result ≡ ticks_of_run ran }
@@ -89,8 +89,8 @@ fn ticks_of_run(ran: Ran) -> u64
 }
 
 impl Event {
-    /// Returns the server that the step is of: the one that a job came for, that ran, or that was charged. Returns `None` if
-    /// there is none.
+    /// Returns the server of the step: the one that a job came for, that ran, or that was charged. Returns `None` if
+    /// there is no such server.
     #[inline]
     pub fn server(&self) -> Option<u16>
         ensures { result ≡ server_of self.now }
@@ -125,14 +125,14 @@ impl Event {
     }
 }
 
-/// A step as it is seen.
+/// A step as a view sees it.
 #[derive(Clone, Copy, Debug, PartialEq, Eq)]
 pub struct Seen {
-    /// The clock after it, in ticks.
+    /// The clock after the step, in ticks.
     pub clock: u64,
-    /// What it did.
+    /// The effect of the step.
     pub event: Event,
-    /// What the server that the step is of shows after it, if there is one.
+    /// The view of the step's server after the step, if there is one.
     pub view: Option<ServerView>,
 }
 

@@ -1,4 +1,4 @@
--- What actions and forms are called.
+-- The names of actions and forms.
 use Rattle.std.specs.Prelude.{ℕ, List, codes}
 use Rattle.cbs_words.specs.declared.actions.Action.{Action}
 use Rattle.cbs_words.specs.declared.actions.Action.TheVariants as action

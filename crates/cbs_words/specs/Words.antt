@@ -9,7 +9,7 @@ use Rattle.cbs_words.specs.declared.actions.Asked.{Asked}
 abbrev pub file : Rule
 file = record (new_rule (codes "FILE")) { required = true }
 
--- a verb of this name, and its file
+-- the verb of this name, which takes a file
 abbrev pub on_file : Text → App
 on_file name = with_rule (new_app name) file
 
@@ -17,11 +17,11 @@ on_file name = with_rule (new_app name) file
 abbrev pub option : Text → Rule
 option name = record (new_rule name) { long = Some name; value_names = 1 }
 
--- .. of a verb
+-- a verb with one more option
 abbrev pub with_option : App → Text → App
 with_option verb name = with_rule verb (option name)
 
--- a verb of this name, its file, the form of what it writes, and the ticks that it shows
+-- the verb of this name, which takes a file, the form of its output, and the ticks to show
 abbrev pub in_a_form : Text → App
 in_a_form name = with_option (with_option (with_option (on_file name) (codes "as")) (codes "from")) (codes "to")
 
@@ -33,15 +33,15 @@ required a = record a { top = record a.top { subcommand_required = true } }
 abbrev pub with_version : App → App
 with_version a = record a { top = record a.top { has_version = true } }
 
--- the program with no verb yet, of which one is required
+-- the program with no verb yet; one verb is required
 abbrev pub bare_program : App
 bare_program = required (with_version (new_app (codes "cbsrun")))
 
--- the program with one verb more, of this name
+-- the program with one more verb, of this name
 abbrev pub with_verb : App → Text → App
 with_verb program name = with_subcommand program (on_file name).top
 
--- the program: four subcommands
+-- the program, which has four subcommands
 abbrev pub command_line : App
 command_line =
     let checking = with_verb bare_program (codes "check") in
@@ -49,17 +49,17 @@ command_line =
     let replaying = with_subcommand simulating (in_a_form (codes "replay")).top in
     with_verb replaying (codes "serve")
 
--- what the rows of a subcommand say of the form and of ticks
+-- the texts that the rows of a subcommand give for the form and the ticks
 abbrev pub said_in : List Row → Said
 said_in rows = record { form = first_of (codes "as") rows; from = first_of (codes "from") rows; to = first_of (codes "to") rows }
 
--- the subcommand that was found, with its rows, asks for the action, and for the file
+-- the subcommand that was found asks, with its rows, for the action and the file
 abbrev pub IsAsked : Option (Text × List Row) → Asked → Type 0
 IsAsked found asked =
     (rows : List Row) × (found ≡ Some (action_name asked.action, rows)) × AsksForm (said_in rows) asked.action
     × (first_of (codes "FILE") rows ≡ Some (string_bytes asked.file))
 
--- the subcommand that the words name asks for the action, and for the file
+-- the subcommand that the words name asks for the action and the file
 abbrev pub Names : List Text → Asked → Type 0
 Names words asked = IsAsked (subcommand_of command_line words) asked
 

@@ -1,60 +1,60 @@
-//! What a command line asks for.
+//! The actions that a command line can ask for.
 
 use cbs_chart::Window;
 
-/// What to do.
+/// What `replay` or `serve` does with a task file.
 #[derive(Clone, Copy, Debug, PartialEq, Eq)]
 pub enum Verb {
-    /// Runs the steps of the file, and writes a line for each.
+    /// A replay: the steps of the file are run, and a line is written for each.
     Replay,
-    /// Gives each server's submits to a client of its own, serves them all, and writes the results of
-    /// each server.
+    /// A service: each server's submits go to a client of its own, all clients are served, and the results of each
+    /// server are written.
     Serve,
 }
 
-/// How a report is written.
+/// The form in which a report is written.
 #[derive(Clone, Copy, Debug, PartialEq, Eq)]
 pub enum Form {
-    /// As text, for people.
+    /// Text, for people.
     Report,
-    /// As JSON, for programs.
+    /// JSON, for programs.
     Json,
 }
 
-/// How a run is drawn.
+/// The form in which a run is drawn.
 #[derive(Clone, Copy, Debug, PartialEq, Eq)]
 pub enum Drawing {
-    /// As a picture, in SVG.
+    /// A picture, in SVG.
     Svg,
-    /// As a timeline, in text.
+    /// A timeline, in text.
     Text,
-    /// As a trace, for Perfetto and Chrome.
+    /// A trace, for Perfetto and Chrome.
     Trace,
 }
 
-/// What a command line asks for.
+/// The action that a command line asks for.
 #[derive(Clone, Copy, Debug, PartialEq, Eq)]
 pub enum Action {
-    /// To tell what the servers of a file have and could have, and which jobs of a load are in time always.
+    /// The text on what the servers of a file have and could have, and which jobs of a load are always in time.
     Check,
-    /// To simulate a load, and to report in this form what came of it.
+    /// The simulation of a load, with a report in this form.
     Simulate(Form),
-    /// To simulate a load, and to write a line for each step.
+    /// The simulation of a load, with a line for each step.
     SimulateLines,
-    /// To simulate a load, and to draw these ticks of it.
+    /// The simulation of a load, with a drawing of these ticks.
     DrawLoad(Drawing, Window),
-    /// To make the steps of a task file, and to report in this form what came of them.
+    /// The replay of a task file, with a report in this form.
     Replay(Form),
-    /// To make the steps of a task file, and to draw these ticks of them.
+    /// The replay of a task file, with a drawing of these ticks.
     DrawTasks(Drawing, Window),
-    /// To do with a task file what the verb says.
+    /// The replay of a task file with a line for each step, or its service.
     Run(Verb),
 }
 
-/// What to do, and with which file.
+/// The request of a command line: an action, and a file.
 #[derive(Debug, Drop)]
 pub struct Asked {
-    /// What to do.
+    /// The action.
     pub action: Action,
     /// The name of the file.
     pub file: String,

@@ -1,4 +1,4 @@
-//! Why words ask for nothing.
+//! Why the words of a command line make no request.
 
 ghost use Rattle.std.specs.Prelude.{◌≡◌};
 ghost use Rattle.cbs_words.specs.Faults.{words_fault_number, words_fault_name};
@@ -6,19 +6,19 @@ ghost use Rattle.cbs_words.specs.declared.fault.WordsFault.TheVariants.{OutOfMem
 
 use std::alloc::AllocError;
 
-/// Why the words ask for nothing, with the text to print.
+/// The reason why the words make no request, with the text to print.
 #[derive(Debug, Drop)]
 pub enum WordsFault {
-    /// The words are wrong: the text says in what, and how they go.
+    /// The words are wrong. The text says what is wrong, and which words are right.
     Usage(String),
-    /// The words ask for help: the text is the help.
+    /// The words ask for the help or the version. The text is the one asked for.
     Help(String),
     /// There was no memory to read the words.
     OutOfMemory,
 }
 
 impl WordsFault {
-    /// The fault's number, from 1.
+    /// Returns the fault's number, from 1.
     pub fn number(&self) -> u8
         ensures { result ≡ words_fault_number self.now }
     {
@@ -29,7 +29,7 @@ impl WordsFault {
         }
     }
 
-    /// The fault's name.
+    /// Returns the fault's name.
     pub fn name(&self) -> &'static str
         ensures { result.now ≡ words_fault_name self.now }
     {

@@ -1,4 +1,4 @@
-//! The words of a command line: what they ask for.
+//! The words of a command line, and the request that they make.
 #![tactic(auto)]
 
 mod actions;

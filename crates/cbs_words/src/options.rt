@@ -1,4 +1,4 @@
-//! What the options of a command ask for.
+//! The options of a command, and what they ask for.
 
 ghost use Rattle.std.specs.Prelude.{◌≡◌, ℕ, codes, MatchOption, Some};
 ghost use Rattle.cbs_chart.specs.declared.window.Window.{Window as Ticks};
@@ -12,7 +12,8 @@ use cbs_chart::{MOST_TICKS, Window, WindowError};
 use std::alloc::{AllocError, Global};
 use std::fmt::Write;
 
-/// Returns the tick that an option says, or another one if it says nothing. Returns nothing if it says no whole number below 2^64.
+/// Returns the tick that an option gives, or `otherwise` if the option is not there. Returns `None` if its text is no
+/// whole number below 2^64.
 fn tick_of(said: Option<&str>, otherwise: u64) -> Option<u64>
     ensures { MatchOption result ((n : ℕ) → ¬ IsTick (text_of said.entry) otherwise n) (IsTick (text_of said.entry) otherwise) }
 {
@@ -22,7 +23,8 @@ fn tick_of(said: Option<&str>, otherwise: u64) -> Option<u64>
     }
 }
 
-/// Returns the ticks that the options `--from` and `--to` ask for, if they ask for some that can be shown at a time.
+/// Returns the ticks that the options `--from` and `--to` ask for. Returns `None` if they ask for no ticks, or for more
+/// than can be shown at a time.
 fn ticks_of(from: Option<&str>, to: Option<&str>) -> Option<Window>
     ensures { MatchOption result ((w : Ticks) → ¬ AsksTicks (text_of from.entry) (text_of to.entry) w) (AsksTicks (text_of from.entry) (text_of to.entry)) }
 {
@@ -31,7 +33,7 @@ fn ticks_of(from: Option<&str>, to: Option<&str>) -> Option<Window>
     Window::new(first, end).ok()
 }
 
-/// Returns the form of a report of this name, if there is one.
+/// Returns the form of a report with this name, or `None` if there is none.
 fn form_of(name: &str) -> Option<Form>
     ensures { MatchOption result ((form : Form) → ¬ (name.now ≡ form_name form)) (λ form. name.now ≡ form_name form) }
 {
@@ -42,7 +44,7 @@ fn form_of(name: &str) -> Option<Form>
     }
 }
 
-/// Returns the drawing of this name, if there is one.
+/// Returns the drawing with this name, or `None` if there is none.
 fn drawing_of(form: Option<&str>) -> Option<Drawing>
     ensures { MatchOption result ((d : Drawing) → ¬ (text_of form.entry ≡ Some (drawing_name d))) (λ d. text_of form.entry ≡ Some (drawing_name d)) }
 {
@@ -54,8 +56,8 @@ fn drawing_of(form: Option<&str>) -> Option<Drawing>
     }
 }
 
-/// Returns what `simulate` is asked for by the name of a form that shows no ticks, if there is one of that name. With no name it
-/// is the text.
+/// Returns the action of `simulate` for a form that shows no ticks, by the form's name. Without a name, this is the
+/// report as text. Returns `None` if no such form has this name.
 fn simulated_as(form: Option<&str>) -> Option<Action>
     ensures { MatchOption result ((action : Wanted) → ¬ AsksPlainly (codes "simulate") (text_of form.entry) action)
         (AsksPlainly (codes "simulate") (text_of form.entry)) }
@@ -67,8 +69,8 @@ fn simulated_as(form: Option<&str>) -> Option<Action>
     }
 }
 
-/// Returns what `replay` is asked for by the name of a form that shows no ticks, if there is one of that name. With no name it is
-/// the trace.
+/// Returns the action of `replay` for a form that shows no ticks, by the form's name. Without a name, this is the line
+/// for each step. Returns `None` if no such form has this name.
 fn replayed_as(form: Option<&str>) -> Option<Action>
     ensures { MatchOption result ((action : Wanted) → ¬ AsksPlainly (codes "replay") (text_of form.entry) action)
         (AsksPlainly (codes "replay") (text_of form.entry)) }
@@ -79,7 +81,7 @@ fn replayed_as(form: Option<&str>) -> Option<Action>
     }
 }
 
-/// Returns what `simulate` is asked for by its options, if they ask for something.
+/// Returns the action of `simulate` with these options, or `None` if they ask for none.
 fn simulated_with(form: Option<&str>, from: Option<&str>, to: Option<&str>) -> Option<Action>
     ensures { MatchOption result ((action : Wanted) → ¬ AsksFor (codes "simulate") (said form.entry from.entry to.entry) action)
         (AsksFor (codes "simulate") (said form.entry from.entry to.entry)) }
@@ -94,7 +96,7 @@ fn simulated_with(form: Option<&str>, from: Option<&str>, to: Option<&str>) -> O
     simulated_as(form)
 }
 
-/// Returns what `replay` is asked for by its options, if they ask for something.
+/// Returns the action of `replay` with these options, or `None` if they ask for none.
 fn replayed_with(form: Option<&str>, from: Option<&str>, to: Option<&str>) -> Option<Action>
     ensures { MatchOption result ((action : Wanted) → ¬ AsksFor (codes "replay") (said form.entry from.entry to.entry) action)
         (AsksFor (codes "replay") (said form.entry from.entry to.entry)) }
@@ -109,7 +111,7 @@ fn replayed_with(form: Option<&str>, from: Option<&str>, to: Option<&str>) -> Op
     replayed_as(form)
 }
 
-/// Returns the action of this name, with these options, if there is one.
+/// Returns the action of the command with this name and these options, or `None` if there is none.
 pub(crate) fn action_of(
     name: &str,
     form: Option<&str>,
@@ -128,7 +130,7 @@ pub(crate) fn action_of(
     }
 }
 
-/// Appends that an option says no tick.
+/// Appends that the text of an option is no tick.
 fn append_no_tick(text: &mut String, option: &str, said: Option<&str>) -> Result<(), AllocError> {
     let said = said.unwrap_or("");
     writeln!(
@@ -138,7 +140,7 @@ fn append_no_tick(text: &mut String, option: &str, said: Option<&str>) -> Result
     writeln!(text, "  [a whole number below 2^64 is wanted]")
 }
 
-/// Appends why two options ask for no ticks that can be shown at a time.
+/// Appends why the two options ask for no ticks that can be shown at a time.
 fn append_no_ticks(
     text: &mut String,
     from: Option<&str>,
@@ -163,7 +165,7 @@ fn append_no_ticks(
     }
 }
 
-/// Returns the fault of a command line whose options ask for nothing.
+/// Returns the fault of a command line whose options ask for no action.
 pub(crate) fn wrong_options(
     alloc: Global,
     verb: &str,

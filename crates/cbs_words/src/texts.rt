@@ -4,7 +4,7 @@ pub(crate) const ABOUT: &str =
     "Sizes, simulates, runs and draws Constant Bandwidth Servers under EDF: jobs on one thread, \
 each server with a budget of so many ticks in every period.";
 
-// The version, and below it the logic that the proofs were checked by: several kits have it.
+// The version, and below it the name of the logic that checked the proofs. Several kits have the same logic.
 pub(crate) const VERSION: &str = "0.1.0\nproved by rattle logic dac8208d650f15bf";
 
 pub(crate) const FILES: &str = "\

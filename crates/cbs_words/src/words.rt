@@ -16,7 +16,7 @@ use clap::error::ErrorKind;
 use clap::{Arg, ArgMatches, Command, Error};
 use std::alloc::{AllocError, Global};
 
-/// A verb of this name, and its file.
+/// Returns the verb of this name, which takes a file.
 fn on_file<'a>(alloc: Global, name: &'a str, about: &'a str) -> Result<Command<'a>, AllocError>
     ensures app { IfOk result (λ c. app_of c ≡ on_file name.now) }
     ensures local { IfOk result (λ c. (out-Command c).has_globals ≡ false) }
@@ -27,7 +27,7 @@ fn on_file<'a>(alloc: Global, name: &'a str, about: &'a str) -> Result<Command<'
     Command::new(alloc, name).about(about).arg(file)
 }
 
-/// Returns a verb with an option more, whose value is called so.
+/// Returns a verb with one more option, whose value is called so.
 fn with_option<'a>(
     alloc: Global,
     verb: Command<'a>,
@@ -42,7 +42,7 @@ fn with_option<'a>(
     verb.arg(option.value_name(value))
 }
 
-/// Returns a verb of this name, its file, the form of what it writes, one of these, and the ticks that it shows.
+/// Returns the verb of this name, which takes a file, the form of its output, and the ticks to show.
 fn in_a_form<'a>(
     alloc: Global,
     name: &'a str,
@@ -58,7 +58,7 @@ fn in_a_form<'a>(
     with_option(alloc, verb, "to", "TICK", TO)
 }
 
-/// The program with one verb more.
+/// Returns the program with one more verb.
 fn with_verb<'a>(
     alloc: Global,
     program: Command<'a>,
@@ -71,7 +71,7 @@ fn with_verb<'a>(
     program.subcommand(verb)
 }
 
-/// The program, with no verb yet.
+/// Returns the program, with no verb yet.
 fn bare_program<'a>(alloc: Global) -> Command<'a>
     ensures { app_of result ≡ bare_program }
 {
@@ -83,7 +83,7 @@ fn bare_program<'a>(alloc: Global) -> Command<'a>
         .subcommand_required(true)
 }
 
-/// The command line of the program: a verb, and its file.
+/// Returns the command line of the program: a verb, and its file.
 fn command_line<'a>(alloc: Global) -> Result<Command<'a>, AllocError>
     ensures { IfOk result (λ c. app_of c ≡ command_line) }
 {
@@ -95,7 +95,7 @@ fn command_line<'a>(alloc: Global) -> Result<Command<'a>, AllocError>
     with_verb(alloc, program, "serve", SERVE)
 }
 
-/// The fault of a command line that `clap` refused.
+/// Returns the fault of a command line that `clap` refused.
 fn refused(alloc: Global, error: &Error) -> Result<WordsFault, AllocError>
     ensures { kind_of error.now ≡ ErrorKind.OutOfMemory → IfOk result (λ w. w ≡ OutOfMemory) }
 {
@@ -107,13 +107,14 @@ fn refused(alloc: Global, error: &Error) -> Result<WordsFault, AllocError>
     })
 }
 
-/// The fault of a command line with no verb or no file. `clap` refuses those itself.
+/// Returns the fault of a command line with no verb or no file. `clap` itself refuses such a command line before this.
 fn incomplete(alloc: Global) -> Result<WordsFault, AllocError> {
     let text = String::from_str(alloc, "cbsrun: a verb and a file are wanted\n")?;
     Ok(WordsFault::Usage(text))
 }
 
-/// What the subcommand that `clap` found asks for.
+/// Returns the request of the subcommand that `clap` found. Refuses if its options ask for no action, or if out of
+/// memory.
 fn asked_in(alloc: Global, matches: &ArgMatches) -> Result<Asked, WordsFault>
     ensures ok { IfOk result (IsAsked (subcommand_rows_of matches.now)) }
     ensures refused { IfErr result (λ e. (asked : Asked) → IsAsked (subcommand_rows_of matches.now) asked → e ≡ OutOfMemory) }
@@ -134,7 +135,7 @@ fn asked_in(alloc: Global, matches: &ArgMatches) -> Result<Asked, WordsFault>
     Ok(Asked { action, file })
 }
 
-/// What the words ask for, the program's name first.
+/// Returns the request of the words. The program's name is the first word.
 fn asked_by(alloc: Global, words: &[String]) -> Result<Asked, WordsFault>
     ensures ok { IfOk result (Names (map string_bytes words.now)) }
     ensures refused { IfErr result (λ e. AreTaken (map string_bytes words.now) → e ≡ OutOfMemory) }
@@ -146,13 +147,13 @@ fn asked_by(alloc: Global, words: &[String]) -> Result<Asked, WordsFault>
     }
 }
 
-/// What the words of a command line ask for: first the program's name, then a verb and a file.
+/// Returns the request of the words of a command line: first the program's name, then a verb and a file.
 ///
-/// Refuses with [`WordsFault::Usage`] where the words are wrong, with [`WordsFault::Help`] where
-/// they ask for help, and with [`WordsFault::OutOfMemory`].
+/// Refuses with [`WordsFault::Usage`] if the words are wrong, and with [`WordsFault::OutOfMemory`] if out of memory.
+/// Refuses with [`WordsFault::Help`] if the words ask for the help or the version.
 pub fn read_words(alloc: Global, words: Vec<String>) -> Result<Asked, WordsFault>
     ensures ok { IfOk result (Names (map string_bytes words.items)) }
-    // Words that name a verb and a file are refused only for want of memory.
+    // Words that name a verb and a file are refused only if out of memory.
     ensures refused { IfErr result (λ e. AreTaken (map string_bytes words.items) → e ≡ OutOfMemory) }
 {
     asked_by(alloc, words.as_slice())

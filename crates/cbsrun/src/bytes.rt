@@ -1,4 +1,4 @@
-//! The bytes that the command line names, and why they could not be had.
+//! The bytes of the file that the command line names, and why they could not be read.
 
 ghost use Rattle.std.specs.Prelude.{◌-◌, ◌<◌, ◌^◌};
 
@@ -11,17 +11,17 @@ use std::{fs, io};
 /// The name of standard input.
 const STANDARD_INPUT: &str = "-";
 
-/// Why the bytes of a file could not be had.
+/// The reason why the bytes of a file could not be read.
 #[derive(Drop)]
 pub enum Unread {
     /// The file could not be opened.
     Unopened(io::Error),
-    /// The file was opened, and could not be read.
+    /// The file was opened, but could not be read.
     Opened(ReadError),
 }
 
 impl Unread {
-    /// Returns the read fault of this.
+    /// Returns the read fault that stands for this reason.
     pub fn fault(&self) -> ReadError {
         match self {
             Unread::Unopened(_) => ReadError::ReadFault,
@@ -31,8 +31,8 @@ impl Unread {
 }
 
 /// Returns the bytes of a file, or those of standard input if the name is `-`.
-// A read has a buffer of 64 KiB on the stack, which must be gone before the file is run: where the address
-// space is limited, a stack that grows late ends the program by a signal.
+// A read has a buffer of 64 KiB on the stack. It must be gone before the file is run. Otherwise, if the address space
+// is limited, a stack that grows late ends the program with a signal.
 #[inline(never)]
 pub fn bytes_of(rt: &HostRuntime, alloc: Global, name: &str) -> Result<Vec<u8>, Unread> {
     let read = if name == STANDARD_INPUT {
@@ -68,7 +68,7 @@ fn reason(
     Ok(text)
 }
 
-/// Writes why a file could not be read, after an empty line. If memory ran out, nothing is written.
+/// Writes an empty line, and why a file could not be read. If out of memory, writes nothing.
 pub fn write_reason<E: ByteOutput>(
     rt: &HostRuntime,
     alloc: Global,

@@ -25,7 +25,7 @@ use std::process::ExitCode;
 use std::thread::Threads;
 use std::time::Clock;
 
-/// The words of the command line.
+/// Returns the words of the command line.
 fn words_of(rt: &HostRuntime, alloc: Global) -> Result<Vec<String>, WordsFault> {
     match env::args(rt) {
         Ok(words) => Ok(words.collect(alloc)?),
@@ -37,13 +37,13 @@ fn words_of(rt: &HostRuntime, alloc: Global) -> Result<Vec<String>, WordsFault> 
     }
 }
 
-/// The fault of an environment whose bound on memory is no number.
+/// Returns the fault of an environment variable whose bound on memory is no number.
 fn no_bound(alloc: Global) -> Result<WordsFault, AllocError> {
     let text = String::from_str(alloc, "cbsrun: CBSRUN_MEMORY is no whole number of MiB\n")?;
     Ok(WordsFault::Usage(text))
 }
 
-/// How much memory the file may want, in bytes.
+/// Returns how much memory the file may need, in bytes.
 fn memory_of(rt: &HostRuntime, alloc: Global) -> Result<u64, WordsFault> {
     match env::var(rt, MEMORY_VARIABLE) {
         Ok(mebibytes) => match memory_bound(mebibytes.as_str()) {
@@ -56,13 +56,14 @@ fn memory_of(rt: &HostRuntime, alloc: Global) -> Result<u64, WordsFault> {
     }
 }
 
-/// What the command line asks for, and how much memory its file may want.
+/// Returns the request of the command line, and how much memory its file may need, in bytes.
 fn asked_of(rt: &HostRuntime, alloc: Global) -> Result<(Asked, u64), WordsFault> {
     let asked = read_words(alloc, words_of(rt, alloc)?)?;
     Ok((asked, memory_of(rt, alloc)?))
 }
 
-/// Does with the bytes of a file what the command line asks for, and returns the status. It serves on `threads`.
+/// Runs the command that the command line asks for on the bytes of a file, and returns the status. It serves on
+/// `threads`.
 fn answered<R: Threads + Clock + Sync, P: Progress, O: ByteOutput, E: ByteOutput>(
     threads: &R,
     alloc: Global,
@@ -94,12 +95,12 @@ fn answered<R: Threads + Clock + Sync, P: Progress, O: ByteOutput, E: ByteOutput
     }
 }
 
-/// Returns whether the environment allows colours: it does not if `NO_COLOR` is there and not empty.
+/// Returns whether the environment allows colours. It does not if `NO_COLOR` is set and not empty.
 fn may_have_colours(rt: &HostRuntime) -> bool {
     env::var(rt, "NO_COLOR").map_or(true, |value| value.is_empty())
 }
 
-/// Returns whether what is asked for is a text for people.
+/// Returns whether the output of an action is a text for people.
 fn is_for_people(action: Action) -> bool {
     matches!(
         action,
@@ -107,7 +108,7 @@ fn is_for_people(action: Action) -> bool {
     )
 }
 
-/// Writes why the words of the command line ask for nothing, and returns the status.
+/// Writes why the words of the command line make no request, and returns the status.
 fn status_of_words(rt: &HostRuntime, fault: WordsFault) -> u8 {
     let mut out = ToWrite::new(rt.stdout());
     let mut err = ToWrite::new(rt.stderr());
@@ -127,7 +128,7 @@ fn status_of_words(rt: &HostRuntime, fault: WordsFault) -> u8 {
     }
 }
 
-/// Does what the command line asks for, and returns the status. It serves on `threads`.
+/// Runs the command that the command line asks for, and returns the status. It serves on `threads`.
 fn status_of<R: Threads + Clock + Sync>(
     rt: &HostRuntime,
     threads: &R,
@@ -167,7 +168,8 @@ fn status_of<R: Threads + Clock + Sync>(
     }
 }
 
-/// The status of a program that reads its words, its environment, its file and its steps. It serves on `threads`.
+/// Runs the whole program: reads its words, its environment and its file, and runs the command. Returns the status. It
+/// serves on `threads`.
 fn status<R: Threads + Clock + Sync>(rt: &HostRuntime, threads: &R) -> u8 {
     match asked_of(rt, rt.alloc()) {
         Ok((asked, memory)) => status_of(rt, threads, &asked, memory),

@@ -1,22 +1,22 @@
-//! Colours for a terminal. What has a colour has a mark as well, so that nothing is said by the colour alone.
+//! Colours for a terminal. A text that has a colour also has a mark, so no information is in the colour alone.
 
 use std::alloc::{AllocError, Global};
 use std::io;
 use std::io::Write;
 
-/// How a piece of text is painted.
+/// The style in which a piece of text is painted.
 #[derive(Clone, Copy)]
 enum Style {
-    /// What is to be looked at.
+    /// The style of a text that needs attention.
     Alarm,
-    /// That all is well.
+    /// The style of a text that says that all is well.
     Well,
-    /// A heading.
+    /// The style of a heading.
     Heading,
 }
 
 impl Style {
-    /// Returns the escape sequence that begins it.
+    /// Returns the escape sequence that begins the style.
     fn begin(self) -> &'static str {
         match self {
             Style::Alarm => "\x1b[1;31m",
@@ -29,7 +29,7 @@ impl Style {
 /// The escape sequence that ends each style.
 const END: &str = "\x1b[0m";
 
-/// The first words of the lines that are painted, and how these words are.
+/// The first words of the lines that are painted, with their styles.
 const WORDS: [(&str, Style); 6] = [
     ("not in time:", Style::Alarm),
     ("in time:", Style::Well),
@@ -57,7 +57,7 @@ fn append(text: &mut String, style: Style, piece: &str) -> Result<(), AllocError
     text.push_str(END)
 }
 
-/// Appends a part of a line that ends at a mark: its last entry is painted, which begins after two blanks.
+/// Appends a part of a line that ends at a mark. Its last entry, which begins after two blanks, is painted.
 fn append_marked(text: &mut String, part: &str) -> Result<(), AllocError> {
     match part.rsplit_once("  ") {
         Some((before, entry)) => {
@@ -69,7 +69,7 @@ fn append_marked(text: &mut String, part: &str) -> Result<(), AllocError> {
     }
 }
 
-/// Appends a line of a table.
+/// Appends a line of a table, with its marked entries painted.
 fn append_row(text: &mut String, line: &str) -> Result<(), AllocError> {
     for part in line.split_inclusive('!') {
         if part.ends_with('!') {
@@ -81,7 +81,7 @@ fn append_row(text: &mut String, line: &str) -> Result<(), AllocError> {
     Ok(())
 }
 
-/// Appends a line that is painted.
+/// Appends a line, with its first words, a whole heading, or its marked entries painted.
 fn append_line(text: &mut String, line: &str) -> Result<(), AllocError> {
     for (word, style) in WORDS {
         if let Some(rest) = line.strip_prefix(word) {
@@ -97,7 +97,7 @@ fn append_line(text: &mut String, line: &str) -> Result<(), AllocError> {
     append_row(text, line)
 }
 
-/// Returns a text that is painted. Without the escape sequences it is the text.
+/// Returns a text that is painted. Without the escape sequences it is the same text.
 fn in_colours(alloc: Global, text: &str) -> Result<String, AllocError> {
     let mut colours = String::with_capacity(alloc, text.len())?;
     for line in text.split_inclusive('\n') {
@@ -112,7 +112,8 @@ fn in_colours(alloc: Global, text: &str) -> Result<String, AllocError> {
     Ok(colours)
 }
 
-/// A writer whose text is painted, if it may be: a piece that is no text, or for which there is no memory, stays as it is.
+/// A writer whose text is painted, if that is allowed. A piece that is no text, or for which there is no memory, is not
+/// painted.
 #[derive(Drop)]
 pub struct Painted<W> {
     writer: W,
@@ -121,7 +122,7 @@ pub struct Painted<W> {
 }
 
 impl<W> Painted<W> {
-    /// Returns such a writer.
+    /// Returns a writer that paints its text if `may` is true.
     pub fn new(writer: W, alloc: Global, may: bool) -> Painted<W> {
         Painted { writer, alloc, may }
     }

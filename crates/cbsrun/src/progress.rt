@@ -1,16 +1,17 @@
-//! How far a long run is, on a terminal.
+//! Reports on a terminal of how far a long run is.
 
 use cbs_run::Progress;
 use std::io::IsTerminal;
 use std::time::{Clock, Duration};
 
-/// After how many milliseconds a run is told of first.
+/// The milliseconds from the beginning of a run to the first report.
 const FIRST: u64 = 2000;
 
-/// After how many milliseconds it is told of again.
+/// The milliseconds from one report to the next.
 const AGAIN: u64 = 200;
 
-/// Tells on standard error how far a run is, if that is a terminal and the run takes longer than two seconds.
+/// A receiver that reports on standard error how far a run is. It does so only on a terminal, and for a run of more
+/// than two seconds.
 #[derive(Drop)]
 pub struct Teller<'a> {
     rt: &'a HostRuntime,
@@ -19,7 +20,7 @@ pub struct Teller<'a> {
 }
 
 impl<'a> Teller<'a> {
-    /// Returns one for a run that begins now.
+    /// Returns a receiver for a run that begins now.
     pub fn new(rt: &'a HostRuntime) -> Teller<'a> {
         let next = if rt.stderr().is_terminal() {
             rt.monotonic()
@@ -35,7 +36,7 @@ impl<'a> Teller<'a> {
         }
     }
 
-    /// Takes away what was told, if something was.
+    /// Removes the report from the terminal, if there is one.
     pub fn end(&mut self) {
         if self.told {
             let _written = eprint!(self.rt; "\r\x1b[K");

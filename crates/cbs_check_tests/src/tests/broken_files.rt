@@ -1,4 +1,4 @@
-//! Texts of faults of a whole file, of an entry, and of a server that the plan does not take.
+//! Explanations of faults of a whole file, of an entry, and of a server that the plan does not take.
 
 use crate::tests::faults::{SOURCE, TASKS, TOP, bytes_of, file_says, load_says, says, step_says};
 use cbs_file::read_file;

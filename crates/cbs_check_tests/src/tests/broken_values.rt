@@ -1,4 +1,4 @@
-//! Texts of faults of misspelt words, texts that are no TOML, and values that are not what is wanted.
+//! Explanations of misspelt words, of texts that are no TOML, and of values that a key may not have.
 
 use crate::tests::faults::{CONTROL, SOURCE, TOP, file_says, load_says, step_says};
 

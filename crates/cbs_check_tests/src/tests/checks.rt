@@ -1,5 +1,5 @@
-//! What is told of files, byte for byte. The two loads with comments are examples of this project, and their texts are an
-//! independent program's, as are all others here.
+//! Texts about files, byte for byte. The two loads with comments are examples of this project. All texts come from an
+//! independent program.
 
 use cbs_check::{check_load, check_plan};
 use cbs_load::read_load;
@@ -78,7 +78,7 @@ units = [1, 5]
 within = 20
 ";
 
-/// What is told of it.
+/// The text about the robot.
 const ROBOT_TEXT: &str = "\
 fits: 4/5 of the time is reserved, 1/5 is left under the bound 1/1
 
@@ -159,7 +159,7 @@ units = 12
 within = 80
 ";
 
-/// What is told of it.
+/// The text about the pipeline.
 const PIPELINE_TEXT: &str = "\
 fits: 5/6 of the time is reserved, 1/15 is left under the bound 9/10
 
@@ -182,7 +182,7 @@ note: uploads may ask for 5/4 of the time and has 1/10 reserved;
       no budget covers that
 ";
 
-/// Two sources on one server, of which one wants its jobs a tick too early.
+/// Two sources on one server. One of them wants its jobs a tick too early.
 const TWO: &str = "\
 load = 1
 bound = [1, 1]
@@ -205,7 +205,7 @@ units = 4
 within = 14
 ";
 
-/// What is told of it.
+/// The text about the two sources.
 const TWO_TEXT: &str = "\
 fits: 2/5 of the time is reserved, 3/5 is left under the bound 1/1
 
@@ -220,7 +220,7 @@ both           1     10  1/10    2/5      15      yes, by 15
 both           4     20   1/5    2/5      14    not promised
 ";
 
-/// Units that overrun: each server is delayed by what the others are charged.
+/// Servers whose units overrun. Each server is delayed by what the others are charged.
 const OVERRUNS: &str = "\
 load = 1
 bound = [1, 1]
@@ -260,7 +260,7 @@ units = 2
 within = 14
 ";
 
-/// What is told of it.
+/// The text about those servers.
 const OVERRUNS_TEXT: &str = "\
 fits: 3/4 of the time is reserved, 1/4 is left under the bound 1/1
 
@@ -280,7 +280,7 @@ third          2     20   1/10    1/4      14      yes, by 14
 Units that overrun make a server late by at most 6 ticks.
 ";
 
-/// Jobs that come a tick too close together.
+/// A source whose jobs come a tick too close together.
 const SHORT: &str = "\
 load = 1
 bound = [1, 1]
@@ -297,7 +297,7 @@ every = 19
 units = 6
 ";
 
-/// What is told of it.
+/// The text about that source.
 const SHORT_TEXT: &str = "\
 fits: 3/10 of the time is reserved, 7/10 is left under the bound 1/1
 
@@ -335,7 +335,7 @@ every = 999999999961
 units = 1
 ";
 
-/// What is told of it.
+/// The text about those sources.
 const FINE_TEXT: &str = "\
 fits: 1/1 of the time is reserved, 0/1 is left under the bound 1/1
 
@@ -353,7 +353,7 @@ note: what the sources of fine ask for is not summed:
       the ticks between their jobs share too few factors
 ";
 
-/// Two servers, of which one overruns: it delays the other.
+/// Two servers, of which the first overruns and delays the other.
 const LATE: &str = "\
 load = 1
 bound = [1, 1]
@@ -382,7 +382,7 @@ units = 1
 within = 8
 ";
 
-/// What is told of it.
+/// The text about those two servers.
 const LATE_TEXT: &str = "\
 fits: 1/2 of the time is reserved, 1/2 is left under the bound 1/1
 
@@ -400,7 +400,7 @@ second         1      8   1/8    1/4       8       yes, by 7
 Units that overrun make a server late by at most 3 ticks.
 ";
 
-/// A server alone, which overruns and asks for too much: nobody delays it.
+/// One server, which overruns and is asked for too much. Nobody delays it.
 const ALONE: &str = "\
 load = 1
 bound = [1, 1]
@@ -418,7 +418,7 @@ units = 1
 overrun = [0, 5]
 ";
 
-/// What is told of it.
+/// The text about that server.
 const ALONE_TEXT: &str = "\
 fits: 1/4 of the time is reserved, 3/4 is left under the bound 1/1
 
@@ -437,7 +437,7 @@ note: alone may ask for 1/2 of the time and has 1/4 reserved;
       2 in every 4 would cover it
 ";
 
-/// Two servers, of which one overruns by a tick.
+/// Two servers, one of which overruns by a tick.
 const A_TICK: &str = "\
 load = 1
 bound = [1, 1]
@@ -460,7 +460,7 @@ units = 1
 overrun = [0, 1]
 ";
 
-/// What is told of it.
+/// The text about those two servers.
 const A_TICK_TEXT: &str = "\
 fits: 1/2 of the time is reserved, 1/2 is left under the bound 1/1
 
@@ -477,7 +477,7 @@ other          1      8   1/8    1/4       4    not promised
 Units that overrun make a server late by at most 1 tick.
 ";
 
-/// Tests what is told of a load.
+/// Tests the text about a load.
 fn tells(rt: &impl Abort, alloc: Global, toml: &str, wanted: &str) {
     let load = read_load(alloc, toml.as_bytes()).ok().expect(rt, "a load");
     let text = check_load(alloc, &load).ok().expect(rt, "memory");
@@ -521,7 +521,7 @@ fn periods_that_share_no_factor(rt: HostRuntime) {
     tells(&rt, rt.alloc(), FINE, FINE_TEXT);
 }
 
-/// What is told of no server.
+/// The text about a plan with no server.
 const NONE_TEXT: &str = "\
 fits: 0/1 of the time is reserved, 9/10 is left under the bound 9/10
 
@@ -531,7 +531,7 @@ all                             0/1  0.0 %
 The periods come together every tick.
 ";
 
-/// What is told of two servers.
+/// The text about a plan of two servers.
 const PLAN_TEXT: &str = "\
 fits: 2/5 of the time is reserved, 3/5 is left under the bound 1/1
 

@@ -1,4 +1,4 @@
-//! Texts of faults: those of the commonest, and what the tests of other broken files share.
+//! Explanations of common faults, and what the tests of other broken files share.
 
 use cbs_explain::explain;
 use cbs_file::read_file;
@@ -7,7 +7,7 @@ use cbs_tables::FileFault;
 use std::alloc::Global;
 use std::process::Abort;
 
-/// What stands before the servers of a load.
+/// The text before the servers of a load.
 pub const TOP: &str = "load = 1\nbound = [1, 1]\nbacklog = 4\nuntil = 200\nseed = 7\n";
 
 /// Four servers.
@@ -26,7 +26,7 @@ pub const LOGGING: &str =
 /// A source.
 pub const SOURCE: &str = "[[source]]\nserver = \"control\"\nevery = 5\nunits = 1\n";
 
-/// The bytes of these texts, one after another.
+/// Returns the bytes of these texts, one after another.
 pub fn bytes_of(rt: &impl Abort, alloc: Global, texts: &[&str]) -> Vec<u8> {
     let mut bytes = Vec::new(alloc);
     for text in texts {
@@ -38,7 +38,7 @@ pub fn bytes_of(rt: &impl Abort, alloc: Global, texts: &[&str]) -> Vec<u8> {
     bytes
 }
 
-/// Whether the fault of these bytes has this text.
+/// Tests that the explanation of these bytes' fault is this text.
 pub fn says(
     rt: &impl Abort,
     alloc: Global,
@@ -51,14 +51,14 @@ pub fn says(
     assert_eq!(rt; text.as_str(), want);
 }
 
-/// Whether the fault of a load has this text.
+/// Tests that the explanation of a load's fault is this text.
 pub fn load_says(rt: &impl Abort, alloc: Global, texts: &[&str], want: &str) {
     let bytes = bytes_of(rt, alloc, texts);
     let fault = read_load(alloc, &bytes).err().expect(rt, "a fault");
     says(rt, alloc, "LOAD.toml", &bytes, fault, want);
 }
 
-/// Whether the fault of a task file has this text.
+/// Tests that the explanation of a task file's fault is this text.
 pub fn file_says(rt: &impl Abort, alloc: Global, texts: &[&str], want: &str) {
     let bytes = bytes_of(rt, alloc, texts);
     let fault = read_file(alloc, &bytes).err().expect(rt, "a fault");
@@ -178,7 +178,7 @@ fn no_such_server(rt: HostRuntime) {
     );
 }
 
-/// What stands before the steps of a task file.
+/// The text before the steps of a task file.
 pub const TASKS: &str =
     "format = 2\nbound = [1, 1]\nbacklog = 4\nring = 4\nserver = [\n{ budget = 2, period = 5, mode = \"soft\" },\n{ budget = 1, period = 4, mode = \"throttled\" },\n]\n";
 
@@ -270,7 +270,7 @@ fn over_the_bound(rt: HostRuntime) {
     );
 }
 
-/// A step with these keys in a task file with two servers.
+/// Tests the explanation of a step with these keys, in a task file with two servers.
 pub fn step_says(rt: &impl Abort, alloc: Global, step: &str, want: &str) {
     file_says(rt, alloc, &[TASKS, "[[step]]\n", step], want);
 }

@@ -1,4 +1,4 @@
-//! A picture by hand.
+//! A picture that is made by hand.
 
 use cbs_chart::{ChartJob, Corner, Drawn, Kind, Picture, ServerChart, Stretch, Window};
 use cbs_rate::{Bandwidth, Reservation};
@@ -43,7 +43,7 @@ fn chart(alloc: Global) -> Result<ServerChart, AllocError> {
     })
 }
 
-/// Returns the picture of that server, with a name, from one tick up to another.
+/// Returns the picture of that server, with this name, in a window.
 fn picture(
     alloc: Global,
     name: &str,
@@ -68,7 +68,7 @@ fn picture(
     })
 }
 
-/// Returns the picture of a server with a name, from one tick up to another.
+/// Returns the picture of a server with this name, for the ticks from `from` up to `to`.
 pub(crate) fn by_hand(rt: &impl Abort, alloc: Global, name: &str, from: u64, to: u64) -> Picture {
     let window = Window::new(from, to).ok().expect(rt, "a window");
     let reservation = Reservation::new(1, 10).ok().expect(rt, "a reservation");

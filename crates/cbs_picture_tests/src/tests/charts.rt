@@ -1,4 +1,4 @@
-//! The chart of a few steps by hand.
+//! The chart of a few steps that are made by hand.
 
 use cbs_chart::{ChartView, Counts, Kind, Stretch, Window, WindowError};
 use cbs_job::Completion;
@@ -7,7 +7,7 @@ use cbs_steps::{CoreError, Ran, ServerView};
 use cbs_views::{Arrival, Event, Seen, View};
 use std::test::Fail;
 
-/// Returns what a throttled server with 2 ticks in every 10 shows.
+/// Returns the view of a throttled server with 2 ticks in every 10.
 fn shows(budget: u64, deadline: u128, throttled: bool, accepted: u64, finished: u64) -> ServerView {
     ServerView {
         budget,
@@ -19,7 +19,7 @@ fn shows(budget: u64, deadline: u128, throttled: bool, accepted: u64, finished: 
     }
 }
 
-/// Returns a job of three units of server 0, that is to be finished within 8 ticks.
+/// Returns a job of three units for server 0, which is to be finished within 8 ticks.
 fn job(came: u64) -> Arrival {
     Arrival {
         server: 0,

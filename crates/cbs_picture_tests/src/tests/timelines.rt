@@ -1,6 +1,6 @@
 //! Whole timelines.
 //!
-//! What is said of the two loads was worked out by a program of its own, from another scheduler.
+//! The expected texts of the two loads come from an independent program with another scheduler.
 
 use crate::tests::by_hand::by_hand;
 use crate::tests::loads::{PIPELINE, ROBOT};
@@ -10,7 +10,7 @@ use cbs_timeline::timeline_text;
 use std::alloc::Global;
 use std::process::Abort;
 
-/// Requires that the timeline of a picture says this.
+/// Tests that the timeline of a picture is this text.
 fn says(rt: &impl Abort, alloc: Global, picture: &Picture, wanted: &str) {
     let text = timeline_text(alloc, picture).ok().expect(rt, "memory");
     assert_eq!(rt; text.as_str(), wanted);

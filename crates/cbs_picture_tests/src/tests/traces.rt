@@ -1,6 +1,6 @@
-//! Traces: one of a picture by hand, and that of a load.
+//! Traces: of a picture that is made by hand, and of a load.
 //!
-//! What is said of the load was worked out by a program of its own, from another scheduler.
+//! What is expected of the load comes from an independent program with another scheduler.
 
 use crate::tests::by_hand::by_hand;
 use crate::tests::loads::ROBOT;
@@ -23,7 +23,8 @@ fn a_trace_by_hand(rt: HostRuntime) {
     assert_eq!(rt; text.as_str(), BY_HAND);
 }
 
-/// The events of a load of 200 ticks, 716 of that program and two budgets that nothing changed yet, in as many lines and two around.
+/// Tests the events of a load of 200 ticks, with two lines around them. There are 716 events from that program, and two
+/// budgets that have not changed yet.
 #[test]
 fn a_trace_has_a_line_for_each_event(rt: HostRuntime) {
     let alloc = rt.alloc();

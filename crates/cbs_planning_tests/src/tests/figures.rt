@@ -1,4 +1,4 @@
-//! The figures of steps by hand.
+//! The figures of steps that are made by hand.
 
 use cbs_job::Completion;
 use cbs_rate::{Bound, Plan, Reservation};
@@ -8,7 +8,7 @@ use cbs_views::{Arrival, Event, Seen, View};
 use std::alloc::Global;
 use std::process::Abort;
 
-/// A plan of servers with these budgets and periods.
+/// Returns a plan of servers with these budgets and periods.
 fn plan_of(rt: &impl Abort, servers: &[(u64, u64)]) -> Plan {
     let mut plan = Plan::new(Bound::new(1, 1).ok().expect(rt, "bound"));
     for (budget, period) in servers {
@@ -20,7 +20,7 @@ fn plan_of(rt: &impl Abort, servers: &[(u64, u64)]) -> Plan {
     plan
 }
 
-/// What a server shows.
+/// Returns the view of a server.
 fn view(
     budget: u64,
     deadline: u128,
@@ -38,7 +38,7 @@ fn view(
     })
 }
 
-/// A job that comes.
+/// Returns a job that comes.
 fn job(server: u16, came: u64, units: u32, within: Option<u64>) -> Arrival {
     Arrival {
         server,
@@ -48,7 +48,7 @@ fn job(server: u16, came: u64, units: u32, within: Option<u64>) -> Arrival {
     }
 }
 
-/// A job that is accepted.
+/// Returns the event of a job that is accepted.
 fn accepted(job: Arrival, number: u64, promised: u128) -> Event {
     Event::Accepted {
         job,
@@ -57,12 +57,12 @@ fn accepted(job: Arrival, number: u64, promised: u128) -> Event {
     }
 }
 
-/// A unit that is not its job's last.
+/// Returns the event of a unit that is not its job's last.
 fn unit(server: u16, seq: u64) -> Event {
     Event::Ran(Ran::Unit { server, seq })
 }
 
-/// A unit that is its job's last.
+/// Returns the event of a unit that is its job's last.
 fn last(server: u16, seq: u64) -> Event {
     Event::Ran(Ran::Done(Completion {
         server,
@@ -71,12 +71,13 @@ fn last(server: u16, seq: u64) -> Event {
     }))
 }
 
-/// The figures of the server of this number.
+/// Returns the figures of the server with this number.
 fn at(rt: &impl Abort, figures: &[Figures], server: usize) -> Figures {
     *figures.get(server).expect(rt, "server")
 }
 
-/// The figures of the servers of a plan up to a tick, after these steps, and the ticks in which nobody ran.
+/// Returns the figures of a plan's servers up to the tick `now`, after these steps. Also returns in how many ticks
+/// nobody ran.
 fn figures_of(
     rt: &impl Abort,
     alloc: Global,

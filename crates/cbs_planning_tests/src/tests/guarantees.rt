@@ -1,4 +1,4 @@
-//! Rows by hand: what is promised of sources, and parts by first fit.
+//! Rows that were worked out by hand: what is promised for sources, and parts by first fit.
 
 use cbs_guarantee::{NotPromised, Part, Source, SplitError, guaranteed, split};
 use cbs_rate::{Bound, Reservation};
@@ -6,7 +6,7 @@ use std::alloc::Global;
 use std::fmt::Debug;
 use std::process::Abort;
 
-/// Ends the test with the label and both values, unless they are the same.
+/// Ends the test with the label and both values, unless the values are the same.
 fn same<T: Debug + Drop + PartialEq>(rt: &impl Abort, label: &str, answer: T, wanted: T) {
     assert!(rt; answer == wanted, "{label}: {answer:?}, not {wanted:?}");
 }
@@ -27,7 +27,8 @@ fn overrunning(units: u32, every: u64, overrun: u32) -> Source {
     }
 }
 
-/// A server with a budget in every period, its sources, the delay by the others, and its backlog.
+/// Tests what is promised for the sources of a server. The server has a budget in every period, a delay by the others,
+/// and a backlog.
 fn promises(
     rt: &impl Abort,
     label: &str,
@@ -153,7 +154,7 @@ fn limits(rt: HostRuntime) {
     );
 }
 
-/// The servers of each part, for reservations of so many ticks in every so many.
+/// Returns the servers of each part, for reservations with these budgets and periods.
 fn parts_of(
     rt: &impl Abort,
     alloc: Global,

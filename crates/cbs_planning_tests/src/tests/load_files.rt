@@ -1,4 +1,4 @@
-//! Load files: what a good one holds, and the fault of each faulty one.
+//! Load files: the content of a good one, and the fault of each faulty one.
 
 use cbs_core::Core;
 use cbs_load::{Load, read_load};
@@ -7,24 +7,24 @@ use cbs_simulate::{LoadJob, Moment, Range, SourceTerms, Watcher, simulate_plan};
 use std::alloc::{AllocError, Allocator, Global};
 use std::process::Abort;
 
-/// What stands before the servers.
+/// The text before the servers.
 const TOP: &str = "load = 1\nbound = [1, 1]\nbacklog = 4\nuntil = 200\n";
 
 /// A server.
 const CONTROL: &str = "[[server]]\nname = \"control\"\nmode = \"soft\"\nbudget = 1\nperiod = 5\n";
 
-/// Another.
+/// Another server.
 const LIDAR: &str =
     "[[server]]\nname = \"lidar-2\"\nmode = \"throttled\"\nbudget = 2\nperiod = 10\n";
 
-/// A source with nothing left out.
+/// A source with all keys.
 const FULL: &str =
     "[[source]]\nserver = \"lidar-2\"\nfirst = 3\nevery = [4, 12]\nunits = [1, 5]\njobs = 7\nwithin = 20\noverrun = [0, 2]\n";
 
-/// A source with all left out that may be.
+/// A source without the keys that may be left out.
 const BARE: &str = "[[source]]\nserver = \"control\"\nevery = 5\nunits = 1\n";
 
-/// The bytes of these texts, one after another.
+/// Returns the bytes of these texts, one after another.
 fn bytes_of(rt: &impl Abort, alloc: Global, texts: &[&str]) -> Vec<u8> {
     let mut bytes = Vec::new(alloc);
     for text in texts {
@@ -36,13 +36,13 @@ fn bytes_of(rt: &impl Abort, alloc: Global, texts: &[&str]) -> Vec<u8> {
     bytes
 }
 
-/// The load that these texts spell.
+/// Returns the load that these texts spell.
 fn load_of(rt: &impl Abort, alloc: Global, texts: &[&str]) -> Load {
     let bytes = bytes_of(rt, alloc, texts);
     read_load(alloc, &bytes).ok().expect(rt, "a load")
 }
 
-/// The range of numbers from `least` to `greatest`.
+/// Returns the range of numbers from `least` to `greatest`.
 fn range(rt: &impl Abort, least: u64, greatest: u64) -> Range {
     Range::new(least, greatest).expect(rt, "a range")
 }
@@ -322,7 +322,7 @@ units = 12
 within = 80
 ";
 
-/// Looks at nothing.
+/// A watcher that ignores all moments.
 #[derive(Drop)]
 struct Nobody;
 
@@ -339,7 +339,7 @@ impl Watcher<()> for Nobody {
     }
 }
 
-/// Simulates the load of a text, and looks at how many jobs each server accepted and finished.
+/// Simulates the load of a text, and tests how many jobs each server accepted and finished.
 fn comes_to(rt: &impl Abort, alloc: Global, text: &str, rows: [(u64, u64); 4]) {
     let load = load_of(rt, alloc, &[text]);
     let until = load.until();
@@ -369,7 +369,7 @@ fn comes_to(rt: &impl Abort, alloc: Global, text: &str, rows: [(u64, u64); 4]) {
     }
 }
 
-// The rows are another scheduler's, which draws by the same rule.
+// The rows come from another scheduler, which draws numbers by the same rule.
 #[test]
 fn loads_come_to_what_another_scheduler_found(rt: HostRuntime) {
     let alloc = rt.alloc();

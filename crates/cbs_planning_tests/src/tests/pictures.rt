@@ -4,7 +4,8 @@ use cbs_chart::{Kind, Stretch, Window};
 use cbs_file::read_file;
 use cbs_planning::{clock_of, shown_of, task_picture_of};
 
-/// Two servers: the first is throttled from tick 2 to 5 with a job, and from 7 to 10 with none; the second refuses a job at tick 3.
+/// Two servers. The first is throttled with a job from tick 2 to 5, and without one from 7 to 10. The second refuses a
+/// job at tick 3.
 const TASKS: &str = r#"
 format = 2
 bound = [3, 5]
@@ -31,7 +32,7 @@ step = [
 ]
 "#;
 
-/// Returns ticks in which one thing goes on.
+/// Returns a stretch of ticks in which one thing goes on.
 fn stretch(kind: Kind, from: u64, to: u64) -> Stretch {
     Stretch { kind, from, to }
 }

@@ -4,7 +4,7 @@ use cbs_file::read_file;
 use cbs_planning::task_report_of;
 use cbs_report::{Figures, Ranks};
 
-/// Two throttled servers. The first has to wait for its deadline, the second refuses a job after its close.
+/// Two throttled servers. The first has to wait for its deadline. The second refuses a job after its close.
 const THROTTLED: &str = r#"
 format = 2
 bound = [3, 5]
@@ -32,8 +32,8 @@ step = [
 ]
 "#;
 
-/// What comes of the first server: jobs of 4 units from tick 0 to 7, promised by 10, and of 1 from 10 to 11, promised by 15. It
-/// is throttled with a job from tick 2 to 5.
+/// The figures of the first server. It has a job of 4 units from tick 0 to 7, promised by 10. It has a job of 1 unit
+/// from 10 to 11, promised by 15. It is throttled with a job from tick 2 to 5.
 const FIRST: Figures = Figures {
     refused: 0,
     finished: 2,
@@ -60,7 +60,8 @@ const FIRST: Figures = Figures {
     early_least: Some(3),
 };
 
-/// .. of the second: a job of 1 unit from tick 2 to 3, promised by 12, and one that is refused.
+/// The figures of the second server. It has a job of 1 unit from tick 2 to 3, promised by 12, and a job that is
+/// refused.
 const SECOND: Figures = Figures {
     refused: 1,
     finished: 1,

@@ -1,4 +1,4 @@
-//! Small loads from their terms to what is shown, by hand.
+//! Small loads, from their terms to the moments that are shown, worked out by hand.
 
 ghost use Rattle.std.specs.Prelude.{◌≤◌, ◌<◌, All, length};
 ghost use Rattle.cbs_simulate.specs.Drawing.{IsLawful};
@@ -16,7 +16,7 @@ use rand_pcg::Pcg64;
 use std::alloc::{AllocError, Allocator, Global};
 use std::process::Abort;
 
-/// Keeps each moment.
+/// A watcher that keeps each moment.
 #[derive(Drop)]
 struct Moments {
     seen: Vec<Moment>,
@@ -36,7 +36,7 @@ impl Watcher<()> for Moments {
     }
 }
 
-/// A source that draws nothing.
+/// Returns the terms of a source that draws nothing.
 fn source(server: u16, first: u64, every: u64, units: u32, jobs: u64, overrun: u64) -> SourceTerms
     requires units { (0 < units) × (units ≤ 1000000) }
     requires every { (0 < every) × (every ≤ 1000000000000) }
@@ -53,7 +53,7 @@ fn source(server: u16, first: u64, every: u64, units: u32, jobs: u64, overrun: u
     }
 }
 
-/// What is shown of a load on soft servers with these budgets and periods.
+/// Returns the moments of a load on soft servers with these budgets and periods.
 fn shown(
     rt: &impl Abort,
     alloc: Global,
@@ -95,8 +95,9 @@ fn shown(
     moments.seen
 }
 
-// Control, 2 units in every 5 ticks, on a server with 2 in 5, and vision, 6 units in every 20, on one with 3 in 10. At 0
-// control runs until 2, vision until 5 and, after control again, from 7 to 10: so on in every 20 ticks.
+// Control has 2 units in every 5 ticks, on a server with 2 in 5. Vision has 6 units in every 20 ticks, on a server with
+// 3 in 10. From tick 0, control runs until 2, vision until 5, control again until 7, and vision until 10. This repeats
+// every 20 ticks.
 #[test]
 fn robot(rt: HostRuntime) {
     let alloc = rt.alloc();
@@ -125,7 +126,7 @@ fn robot(rt: HostRuntime) {
     assert_eq!(rt; count, done.len());
 }
 
-/// A job of two units at 0, each with 3 ticks beyond its first.
+/// A job of two units at tick 0. Each unit takes 3 ticks beyond its first.
 const LONG: Release = Release {
     tick: 0,
     source: 0,
@@ -134,7 +135,7 @@ const LONG: Release = Release {
     overrun: 3,
 };
 
-/// A job of one unit at 2, of one tick.
+/// A job of one unit at tick 2, which takes one tick.
 const SHORT: Release = Release {
     tick: 2,
     source: 1,
@@ -143,7 +144,7 @@ const SHORT: Release = Release {
     overrun: 0,
 };
 
-/// The first job of its server, which is accepted.
+/// Returns the moment at which a server accepts its first job.
 fn submitted(clock: u64, release: Release, promised: u128) -> Moment {
     let event = Event::Submitted {
         release,
@@ -153,7 +154,7 @@ fn submitted(clock: u64, release: Release, promised: u128) -> Moment {
     Moment { clock, event }
 }
 
-/// The last unit of the first job of a server.
+/// Returns the moment of the last unit of a server's first job.
 fn done(clock: u64, server: u16, output: u64) -> Moment {
     let completion = Completion {
         server,
@@ -173,14 +174,14 @@ fn charged(clock: u64, ticks: u64) -> Moment {
     }
 }
 
-/// A unit of the long job, not its last.
+/// The moment of a unit of the long job that is not its last.
 const FIRST_UNIT: Moment = Moment {
     clock: 1,
     event: Event::Ran(Ran::Unit { server: 0, seq: 0 }),
 };
 
-// Server 0 has 2 in 5, server 1 has 1 in 10. The first unit of the long job and its charge, at 4, leave the deadline 15. The
-// short job waits for that; its deadline is then 14, so it runs first.
+// Server 0 has 2 in 5, and server 1 has 1 in 10. After the first unit of the long job and its charge, at tick 4, the
+// deadline of its server is 15. The short job waits for that. Its deadline is then 14, so it runs first.
 #[test]
 fn overrun(rt: HostRuntime) {
     let alloc = rt.alloc();
@@ -202,7 +203,7 @@ fn overrun(rt: HostRuntime) {
     assert!(rt; moments.as_slice() == wanted.as_slice(), "{moments:?}");
 }
 
-// Up to 3 the charge is cut to two ticks, and the short job is submitted at the end.
+// Up to tick 3, the charge is cut to two ticks. The short job is submitted at the end.
 #[test]
 fn overrun_cut(rt: HostRuntime) {
     let alloc = rt.alloc();
@@ -217,7 +218,7 @@ fn overrun_cut(rt: HostRuntime) {
     assert!(rt; moments.as_slice() == wanted.as_slice(), "{moments:?}");
 }
 
-// PCG's published words for the state 42 and the stream 54, of which a range of all numbers draws each as it is.
+// PCG's published words for the state 42 and the stream 54. A range of all numbers draws each word as it is.
 const WORDS: [u64; 6] = [
     0x86b1_da1d_7206_2b68,
     0x1304_aa46_c985_3d39,
@@ -236,14 +237,14 @@ fn published_words(rt: HostRuntime) {
     }
 }
 
-/// Takes the next release, if one comes.
+/// Returns the next release and passes it, or returns `None` if there is none.
 fn take<R: Releases>(releases: &mut R) -> Option<Release> {
     let release = releases.first()?;
     releases.pass();
     Some(release)
 }
 
-// The same words, as a source at place 54 draws them with the seed 42: units, overrun, ticks to the next.
+// The same words, as a source at place 54 draws them with the seed 42: units, overrun, and ticks to the next job.
 #[test]
 fn drawn_releases(rt: HostRuntime) {
     let terms = SourceTerms {

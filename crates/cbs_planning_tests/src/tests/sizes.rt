@@ -1,11 +1,11 @@
-//! The numbers of a robot's load, by hand.
+//! The figures of a robot's load, worked out by hand.
 
 use cbs_load::read_load;
 use cbs_size::{
     Asked, ServerLoad, greatest_budgets, greatest_common_divisor, greatest_delay, server_loads,
 };
 
-/// Control, vision, a throttled lidar, and bursts of logging, which overrun.
+/// Control, vision, a throttled lidar, and bursts of logging whose units overrun.
 const ROBOT: &str = "\
 load = 1
 bound = [1, 1]

@@ -1,10 +1,10 @@
-//! Tables by hand.
+//! Tables that are made by hand.
 
 use cbs_text::{Cell, append_columns};
 use std::alloc::{AllocError, Global};
 use std::process::Abort;
 
-/// A row of cells, of which the ones with a `!` at their end are marked.
+/// Returns a row of cells. The cells with a `!` at their end are marked.
 fn row(rt: &impl Abort, alloc: Global, words: &[&str]) -> Vec<Cell> {
     let mut cells = Vec::new(alloc);
     for word in words {
@@ -47,7 +47,7 @@ end
     );
 }
 
-/// Returns a line with a name, and a number that is to be looked at.
+/// Returns a line with a name, and a number that is marked.
 fn line(alloc: Global) -> Result<String, AllocError> {
     let name = Cell::new(String::from_str(alloc, "jobs")?);
     let number = Cell::new(12u64.to_string(alloc)?).marked_if(true);

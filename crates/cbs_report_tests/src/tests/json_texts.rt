@@ -15,7 +15,7 @@ fn bound(rt: &impl Abort, num: u64, den: u64) -> Bound {
     Bound::new(num, den).ok().expect(rt, "a bound")
 }
 
-/// Returns what is told of a server with a budget in every period.
+/// Returns the report of a server with a budget in every period.
 fn server(
     rt: &impl Abort,
     alloc: Global,
@@ -37,7 +37,7 @@ fn server(
     }
 }
 
-/// Returns a line of these parts.
+/// Returns a line that is made of these parts.
 fn line_of(alloc: Global, parts: &[&str]) -> Result<String, AllocError> {
     let mut line = String::new(alloc);
     for part in parts {
@@ -47,7 +47,7 @@ fn line_of(alloc: Global, parts: &[&str]) -> Result<String, AllocError> {
     Ok(line)
 }
 
-/// Requires that a report as JSON is a line of these parts.
+/// Tests that a report as JSON is a line of these parts.
 fn says(rt: &impl Abort, alloc: Global, report: &RunReport, parts: &[&str]) {
     let text = report_json(alloc, report).ok().expect(rt, "memory");
     let wanted = line_of(alloc, parts).ok().expect(rt, "memory");
@@ -103,7 +103,7 @@ fn a_server_with_charges_and_one_with_no_job(rt: HostRuntime) {
     says(&rt, alloc, &report, &CHARGED);
 }
 
-/// What is said of it.
+/// The expected text of that report.
 const CHARGED: [&str; 12] = [
     r#"{"backlog":12,"bound":[9,10],"clock":100,"file":"a\tb.toml","in_time":false,"#,
     r#""jobs":{"finished":10,"late_finished":2,"late_unfinished":1,"refused":3,"released":18,"unfinished":5},"#,
@@ -138,7 +138,7 @@ fn control(rt: &impl Abort, alloc: Global) -> ServerReport {
     server(rt, alloc, "control", Mode::Soft, 1, 5, within, figures)
 }
 
-/// Returns the second.
+/// Returns the second server of the robot.
 fn vision(rt: &impl Abort, alloc: Global) -> ServerReport {
     let figures = Figures {
         finished: 10,
@@ -157,7 +157,7 @@ fn vision(rt: &impl Abort, alloc: Global) -> ServerReport {
     server(rt, alloc, "vision", Mode::Soft, 6, 20, within, figures)
 }
 
-/// Returns the third, which is throttled.
+/// Returns the third server of the robot, which is throttled.
 fn lidar(rt: &impl Abort, alloc: Global) -> ServerReport {
     let figures = Figures {
         finished: 10,
@@ -177,7 +177,7 @@ fn lidar(rt: &impl Abort, alloc: Global) -> ServerReport {
     server(rt, alloc, "lidar", Mode::Throttled, 2, 10, within, figures)
 }
 
-/// Returns the fourth, which is asked for too much.
+/// Returns the fourth server of the robot, which is asked for too much.
 fn logging(rt: &impl Abort, alloc: Global) -> ServerReport {
     let figures = Figures {
         refused: 1,
@@ -224,7 +224,7 @@ fn a_robot(rt: HostRuntime) {
     says(&rt, alloc, &report, &ROBOT);
 }
 
-/// What is said of it. A program of its own worked this out, from another scheduler.
+/// The expected text of the robot's report. It comes from an independent program with another scheduler.
 const ROBOT: [&str; 20] = [
     r#"{"backlog":4,"bound":[1,1],"clock":200,"file":"ROBOT.toml","in_time":false,"jobs":{"finished":81,"late_finished":9,"#,
     r#""late_unfinished":1,"refused":1,"released":84,"unfinished":2},"report":1,"reserved":[4,5],"seed":7,"#,
@@ -273,7 +273,7 @@ fn no_server(rt: HostRuntime) {
     assert_eq!(rt; text.as_str(), wanted.as_str());
 }
 
-/// What is said of it.
+/// The expected text of the report of no server.
 const NO_SERVER: [&str; 3] = [
     r#"{"backlog":1,"bound":[1,2],"clock":100,"file":"EMPTY.toml","in_time":true,"#,
     r#""jobs":{"finished":0,"late_finished":0,"late_unfinished":0,"refused":0,"released":0,"unfinished":0},"#,
@@ -314,7 +314,7 @@ fn sums_that_are_too_great(rt: HostRuntime) {
     }
 }
 
-/// What is said of it, among other things.
+/// Parts of the expected text of that report.
 const TOO_GREAT: [&str; 6] = [
     r#""seed":18446744073709551615,"#,
     r#""in_time":true,"#,

@@ -1,6 +1,6 @@
 //! Whole reports, and verdicts.
 //!
-//! The three loads and what is said of them were worked out by a program of its own, from another scheduler.
+//! The three loads and their expected texts come from an independent program with another scheduler.
 
 use crate::tests::{NOTHING, ranks};
 use cbs_print::{RunReport, ServerReport, report_text};
@@ -11,12 +11,12 @@ use cbs_simulate::Range;
 use std::alloc::{AllocError, Global};
 use std::process::Abort;
 
-/// Returns the bound of the whole time.
+/// Returns the bound that is the whole of the time.
 fn whole(rt: &impl Abort) -> Bound {
     Bound::new(1, 1).ok().expect(rt, "a bound")
 }
 
-/// Returns what is told of a soft server with a budget in every period.
+/// Returns the report of a soft server with a budget in every period.
 fn server(
     rt: &impl Abort,
     alloc: Global,
@@ -37,14 +37,14 @@ fn server(
     }
 }
 
-/// Requires that a report says this.
+/// Tests that a report is this text.
 fn says(rt: &impl Abort, alloc: Global, report: &RunReport, wanted: &str) {
     assert!(rt; report.servers.len() <= 64);
     let text = report_text(alloc, report).ok().expect(rt, "memory");
     assert_eq!(rt; text.as_str(), wanted);
 }
 
-/// Requires that the report of a run of these servers begins so.
+/// Tests that the report of a run of these servers begins with this text.
 fn begins(rt: &impl Abort, alloc: Global, servers: Vec<ServerReport>, wanted: &str) {
     assert!(rt; servers.len() <= 64);
     let report = RunReport {
@@ -81,7 +81,7 @@ fn control(rt: &impl Abort, alloc: Global) -> ServerReport {
     server(rt, alloc, "control", 1, 5, Some(Range::fixed(5)), figures)
 }
 
-/// Returns the second, as it ran beside a logging that is asked for too much.
+/// Returns the second server of the robot, as it ran beside a logging that is asked for too much.
 fn vision(rt: &impl Abort, alloc: Global) -> ServerReport {
     let figures = Figures {
         finished: 10,
@@ -99,7 +99,7 @@ fn vision(rt: &impl Abort, alloc: Global) -> ServerReport {
     server(rt, alloc, "vision", 6, 20, Some(Range::fixed(20)), figures)
 }
 
-/// Returns the third.
+/// Returns the third server of the robot.
 fn lidar(rt: &impl Abort, alloc: Global) -> ServerReport {
     let figures = Figures {
         finished: 10,
@@ -118,7 +118,7 @@ fn lidar(rt: &impl Abort, alloc: Global) -> ServerReport {
     server(rt, alloc, "lidar", 2, 10, Some(Range::fixed(20)), figures)
 }
 
-/// Returns the fourth, which is asked for too much.
+/// Returns the fourth server of the robot, which is asked for too much.
 fn logging(rt: &impl Abort, alloc: Global) -> ServerReport {
     let figures = Figures {
         refused: 1,
@@ -164,7 +164,7 @@ fn a_robot_that_is_not_in_time(rt: HostRuntime) {
     says(&rt, alloc, &report, ROBOT);
 }
 
-/// What is said of it.
+/// The expected text of the robot's report.
 const ROBOT: &str = "\
 not in time: logging: 10 of 23 jobs late, 1 of 24 refused
 
@@ -200,7 +200,7 @@ note: logging asked for 38.0 % of the time and has 10.0 % reserved
       4 in every 10 would cover it; 'cbsrun check' says what fits
 ";
 
-/// Returns the second, as it ran beside a logging that is asked for less.
+/// Returns the second server of the robot, as it ran beside a logging that is asked for less.
 fn calm_vision(rt: &impl Abort, alloc: Global) -> ServerReport {
     let figures = Figures {
         finished: 10,
@@ -218,7 +218,7 @@ fn calm_vision(rt: &impl Abort, alloc: Global) -> ServerReport {
     server(rt, alloc, "vision", 6, 20, Some(Range::fixed(20)), figures)
 }
 
-/// Returns the fourth, which is asked for less.
+/// Returns the fourth server of the robot, which is asked for less.
 fn calm_logging(rt: &impl Abort, alloc: Global) -> ServerReport {
     let figures = Figures {
         finished: 10,
@@ -260,7 +260,7 @@ fn a_robot_that_is_in_time(rt: HostRuntime) {
     says(&rt, alloc, &report, IN_TIME);
 }
 
-/// What is said of it.
+/// The expected text of that report.
 const IN_TIME: &str = "\
 in time: no job late, none refused, of 70
 
@@ -293,7 +293,8 @@ lidar        9   9.0
 logging      8  14.9
 ";
 
-// Of the pipeline only the means are known, and not the sums of response times and earliness. These sums have those means.
+// Of the pipeline, only the means are known, and not the sums of response times and earliness. These sums have those
+// means.
 /// Returns the first server of the pipeline.
 fn audio(rt: &impl Abort, alloc: Global) -> ServerReport {
     let figures = Figures {
@@ -312,7 +313,7 @@ fn audio(rt: &impl Abort, alloc: Global) -> ServerReport {
     server(rt, alloc, "audio", 2, 10, Some(Range::fixed(10)), figures)
 }
 
-/// Returns the second.
+/// Returns the second server of the pipeline.
 fn video(rt: &impl Abort, alloc: Global) -> ServerReport {
     let figures = Figures {
         finished: 25,
@@ -330,7 +331,7 @@ fn video(rt: &impl Abort, alloc: Global) -> ServerReport {
     server(rt, alloc, "video", 8, 24, Some(Range::fixed(24)), figures)
 }
 
-/// Returns the third, which is asked for too much.
+/// Returns the third server of the pipeline, which is asked for too much.
 fn uploads(rt: &impl Abort, alloc: Global) -> ServerReport {
     let figures = Figures {
         refused: 18,
@@ -352,7 +353,7 @@ fn uploads(rt: &impl Abort, alloc: Global) -> ServerReport {
     server(rt, alloc, "uploads", 3, 30, Some(Range::fixed(90)), figures)
 }
 
-/// Returns the fourth.
+/// Returns the fourth server of the pipeline.
 fn batch(rt: &impl Abort, alloc: Global) -> ServerReport {
     let figures = Figures {
         finished: 10,
@@ -395,7 +396,7 @@ fn a_pipeline(rt: HostRuntime) {
     says(&rt, alloc, &report, PIPELINE);
 }
 
-/// What is said of it.
+/// The expected text of the pipeline's report.
 const PIPELINE: &str = "\
 not in time: uploads: 22 of 31 jobs late, 18 of 49 refused
 
@@ -459,7 +460,7 @@ fn a_replay_with_no_time_and_no_finished_job(rt: HostRuntime) {
     says(&rt, alloc, &report, REPLAY);
 }
 
-/// What is said of it.
+/// The expected text of that report.
 const REPLAY: &str = "\
 in time: no job late, none refused, of 1
 
@@ -510,7 +511,7 @@ fn a_refused_job_in_no_time(rt: HostRuntime) {
     says(&rt, alloc, &report, FULL);
 }
 
-/// What is said of it.
+/// The expected text of that report.
 const FULL: &str = "\
 not in time: a: 1 of 2 refused
 
@@ -571,7 +572,7 @@ fn charges_have_a_table(rt: HostRuntime) {
     says(&rt, alloc, &report, CHARGES);
 }
 
-/// What is said of it.
+/// The expected text of that report.
 const CHARGES: &str = "\
 in time: no job late, none refused, of 10
 
@@ -632,7 +633,7 @@ fn verdicts_count_the_others(rt: HostRuntime) {
     begins(&rt, alloc, last.ok().expect(&rt, "memory"), one);
 }
 
-/// Returns what is said of a run of one server, "arm", with this reservation and these figures.
+/// Returns the text of the report of a run of one server, "arm", with this reservation and these figures.
 fn said(
     alloc: Global,
     bound: Bound,

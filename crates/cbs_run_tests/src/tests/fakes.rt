@@ -1,4 +1,4 @@
-//! Readers and writers over memory that fail where they are told to.
+//! Readers and writers in memory, which fail at a chosen call or size.
 
 ghost use Rattle.std.specs.Prelude.{Some, None, ◌≡◌, ◌<◌, ◌-◌};
 
@@ -10,7 +10,7 @@ use std::process::Abort;
 use std::thread::Threads;
 use std::time::Clock;
 
-/// A writer that takes at most `step` bytes a call and `room` in all, and then fails.
+/// A writer that takes at most `step` bytes a call and `room` bytes in all, and then fails.
 #[derive(Drop)]
 pub struct Memory {
     pub taken: Vec<u8>,
@@ -20,7 +20,7 @@ pub struct Memory {
 }
 
 impl Memory {
-    /// A writer with room for so many bytes, so many a call.
+    /// Returns a writer with room for `room` bytes, which takes at most `step` bytes a call.
     pub fn new(alloc: Global, room: usize, step: usize) -> Memory
         ensures { result.failed ≡ 0 }
     {
@@ -32,7 +32,7 @@ impl Memory {
         }
     }
 
-    /// A writer with room for everything.
+    /// Returns a writer with room for everything.
     pub fn ample(alloc: Global) -> Memory
         ensures { result.failed ≡ 0 }
     {
@@ -68,7 +68,7 @@ impl ByteOutput for Memory {
     }
 }
 
-/// A reader of so many letters, whose nth call fails.
+/// A reader of a number of letters, of which one chosen call fails.
 #[derive(Drop)]
 pub struct Letters {
     left: usize,
@@ -110,7 +110,7 @@ impl ByteInput for Letters {
     }
 }
 
-/// What a run of a file left: its status and its writers.
+/// The outcome of a run of a file: its status and its writers.
 #[derive(Drop)]
 pub struct Outcome {
     pub status: u8,
@@ -119,7 +119,7 @@ pub struct Outcome {
 }
 
 impl Outcome {
-    /// Ends the test where a run left another status, output or error output, and names the label.
+    /// Ends the test, and names the label, unless the run left this status, this output and this error output.
     pub fn leaves(&self, rt: &impl Abort, label: &str, status: u8, out: &str, err: &str) {
         let found = self.status;
         assert!(rt; found == status, "{label}: status {found}, not {status}");
@@ -131,7 +131,7 @@ impl Outcome {
     }
 }
 
-/// Does with a file what the verb says, into ample memory.
+/// Replays or serves a file, with ample memory for its output. Returns the outcome.
 pub fn ran<R: Threads + Clock + Sync>(rt: &R, alloc: Global, verb: Verb, file: &[u8]) -> Outcome {
     let mut out = Memory::ample(alloc);
     let mut err = Memory::ample(alloc);
@@ -139,7 +139,7 @@ pub fn ran<R: Threads + Clock + Sync>(rt: &R, alloc: Global, verb: Verb, file: &
     Outcome { status, out, err }
 }
 
-/// Replays a file into ample memory, and looks for what that leaves.
+/// Replays a file with ample memory for its output, and tests the outcome.
 pub fn replays<R: Abort + Threads + Clock + Sync>(
     rt: &R,
     alloc: Global,
@@ -152,7 +152,7 @@ pub fn replays<R: Abort + Threads + Clock + Sync>(
     ran(rt, alloc, Verb::Replay, file).leaves(rt, label, status, out, err);
 }
 
-/// Serves a file into ample memory, and looks for what that leaves.
+/// Serves a file with ample memory for its output, and tests the outcome.
 pub fn serves<R: Abort + Threads + Clock + Sync>(
     rt: &R,
     alloc: Global,

@@ -1,4 +1,4 @@
-//! Task files: faulty ones, other spellings, and what a good one holds.
+//! Task files: faulty ones, other spellings, and the content of a good one.
 
 use super::fakes::{ran, replays};
 use super::{FIRST, FIRST_LINES, same, says};
@@ -13,7 +13,7 @@ use std::time::Clock;
 
 const HEAD: &str = "format = 1\nmode = \"soft\"\nbound = [1, 1]\nbacklog = 4\nring = 4\n";
 
-/// The same of format 2.
+/// The same head in format 2.
 const HEAD_2: &str = "format = 2\nbound = [1, 1]\nbacklog = 4\nring = 4\n";
 
 const MODE_IN_FORMAT_2: &str =
@@ -36,7 +36,7 @@ const BOUND_IN_WORDS: &str =
 const MODE_TWICE: &str =
     "format = 1\nmode = \"soft\"\nbound = [1, 1]\nbacklog = 4\nring = 4\nmode = \"soft\"\n";
 
-/// What stands before `server`, the line of `server`, what stands behind it, and the fault.
+/// The text before `server`, the line of `server`, the text after it, and the fault.
 type Faulty = [&'static str; 4];
 
 const FAULTS_AT_TOP: [Faulty; 13] = [
@@ -129,7 +129,7 @@ const FAULTS_AT_STEPS: [(&str, &str); 10] = [
     ),
 ];
 
-/// Ends the test where a file is not refused with this fault.
+/// Ends the test unless the file is refused with this fault.
 fn refuses<R: Abort + Threads + Clock + Sync>(rt: &R, alloc: Global, file: &str, fault: &str) {
     let line = format!(in alloc; "cbsrun: file fault {fault}\n").expect(rt, "memory");
     replays(rt, alloc, file, file.as_bytes(), 3, "", line.as_str());
@@ -176,7 +176,7 @@ fn the_first_fault_is_told(rt: HostRuntime) {
     refuses(&rt, alloc, many.as_str(), "6 NotAdmitted at server 64");
 }
 
-/// Ends the test where a file is not told to have a fault, or something is put out.
+/// Ends the test unless the file is refused with a fault and nothing is written to the output.
 fn has_a_fault<R: Abort + Threads + Clock + Sync>(rt: &R, alloc: Global, file: &[u8]) {
     let outcome = ran(rt, alloc, Verb::Replay, file);
     let told = outcome.err.taken.starts_with(b"cbsrun: file fault ");
@@ -204,7 +204,7 @@ fn a_file_cut_short_has_a_fault(rt: HostRuntime) {
     );
 }
 
-/// The first example in tables with headers, in other bases, with comments and other quotes.
+/// The first example in tables with headers, with other bases, comments and other quotes.
 const IN_TABLES: &str = "\
 format = 0x1 # the format
 mode = 'soft'
@@ -230,8 +230,8 @@ op = \"run\"
 op = \"run\"
 ";
 
-/// The same file with its keys in another order, with underscores in numbers and an escape in a text,
-/// but for what stands between the parts: the first of the units.
+/// The same file with its keys in another order, with underscores in numbers and an escape in a text. The first of the
+/// units, which stands between the two parts, is left out.
 const BACKWARDS: [&str; 2] = [
     "step = [{ server = 0, job = \"\"\"sum\"\"\", units = [",
     ", 2, 3], op = \"submit\" },
@@ -273,7 +273,7 @@ fn a_bandwidth_just_within_the_bound_is_admitted(rt: HostRuntime) {
     replays(&rt, alloc, "within the bound", file.as_bytes(), 0, "", "");
 }
 
-/// The task file of a text without a fault.
+/// Returns the task file of a text without a fault.
 pub fn good_file(rt: &impl Abort, alloc: Global, text: &str) -> TaskFile {
     read_file(alloc, text.as_bytes())
         .ok()

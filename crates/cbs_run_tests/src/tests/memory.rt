@@ -1,4 +1,4 @@
-//! The bound on what a file may want of memory.
+//! The bound on the memory that a file may need.
 
 use super::fakes::{Memory, Outcome, replays};
 use super::{FIRST, FIRST_LINES, same};
@@ -9,7 +9,8 @@ use std::process::Abort;
 use std::thread::Threads;
 use std::time::Clock;
 
-/// Bytes, and what they want: 1400 for each dot, 750 for a `[`, 700 for a `=`, 500 for a `{`, 100 for a comma, 4 for another.
+/// Bytes, and how much memory they need. That is 1400 for a dot, 750 for a `[`, 700 for a `=`, 500 for a `{`, 100 for a
+/// comma, and 4 for any other.
 const WANTED: [(&str, u64); 6] = [
     ("ab\n", 12),
     ("a=1", 708),
@@ -19,7 +20,7 @@ const WANTED: [(&str, u64); 6] = [
     ("# a.b\n", 1420),
 ];
 
-/// What the first example wants: 16 times 700, 5 times 500, 4 times 750, 11 times 100, and 193 times 4.
+/// How much memory the first example needs: 16 times 700, 5 times 500, 4 times 750, 11 times 100, and 193 times 4.
 const FIRST_WANTS: u64 = 18_572;
 
 #[test]
@@ -29,7 +30,7 @@ fn bytes_want_the_sum_of_their_charges(rt: HostRuntime) {
     }
 }
 
-/// Looks that bytes want so much of memory, and not less.
+/// Tests that the bytes need this much memory, and not less.
 fn want(rt: &impl Abort, bytes: &str, wanted: u64) {
     let enough = wants_within(bytes.as_bytes(), wanted);
     let too_little = wants_within(bytes.as_bytes(), wanted.saturating_sub(1));
@@ -52,7 +53,7 @@ fn a_file_that_wants_more_than_the_bound_is_not_read(rt: HostRuntime) {
     enough.leaves(&rt, "enough", 0, FIRST_LINES, "");
 }
 
-/// Replays the first example where a file may want so much of memory.
+/// Replays the first example while a file may need `memory` bytes of memory. Returns the outcome.
 fn ran_within<R: Threads + Clock + Sync>(rt: &R, alloc: Global, memory: u64) -> Outcome {
     let mut out = Memory::ample(alloc);
     let mut err = Memory::ample(alloc);
@@ -61,16 +62,16 @@ fn ran_within<R: Threads + Clock + Sync>(rt: &R, alloc: Global, memory: u64) -> 
     Outcome { status, out, err }
 }
 
-/// How many dots a comment after the first example has, so that the file wants just less than the bound.
+/// How many dots a comment after the first example has, so that the file needs just less than the bound.
 ///
-/// The bound is 2147483648. The first example wants 18572 of it, and the `#` 4. So 2147465072 are left: 1533903
-/// times 1400, and 872.
+/// The bound is 2147483648. The first example needs 18572 of it, and the `#` needs 4. So 2147465072 are left, which are
+/// 1533903 times 1400, and 872.
 const DOTS: usize = 1_533_903;
 
-/// How many letters take the rest: 872 is 218 times 4.
+/// How many letters use the rest: 872 is 218 times 4.
 const LETTERS: usize = 218;
 
-/// Returns the first example with a comment after it that takes the rest of the bound.
+/// Returns the first example with a comment after it that uses the rest of the bound.
 fn longest(rt: &impl Abort, alloc: Global) -> Vec<u8> {
     let mut file = Vec::from_slice(alloc, FIRST.as_bytes()).expect(rt, "memory");
     for (byte, count) in [(b'#', 1), (b'.', DOTS), (b'x', LETTERS)] {
@@ -87,7 +88,7 @@ fn a_file_may_want_2_gib(rt: HostRuntime) {
     let mut file = longest(&rt, alloc);
     same(&rt, "at 2 GiB", read_file(alloc, &file).is_ok(), true);
     replays(&rt, alloc, "at 2 GiB", &file, 0, FIRST_LINES, "");
-    // A letter more wants 4 bytes more.
+    // One more letter needs 4 more bytes.
     file.push(b'x').ok().expect(&rt, "memory");
     let kind = read_file(alloc, &file).err().map(|fault| fault.kind);
     same(&rt, "past 2 GiB", kind, Some(FileKind::OutOfMemory));
@@ -107,7 +108,7 @@ fn a_bound_is_a_whole_number_of_mebibytes(rt: HostRuntime) {
     is_bound(&rt, "2 GiB", None);
 }
 
-/// Looks which bound a text is, if it is one.
+/// Tests which bound a text is, if it is one.
 fn is_bound(rt: &impl Abort, text: &str, bound: Option<u64>) {
     same(rt, text, memory_bound(text).ok(), bound);
 }

@@ -1,4 +1,4 @@
-//! Texts that are printed of a file: what `check` says of it, reports, and pictures.
+//! Texts that are printed of a file: by `check`, as reports, and as pictures.
 
 use super::fakes::{Memory, Outcome};
 use cbs_run::{
@@ -79,7 +79,7 @@ const LOAD_LINES: &str = "@0 submit 0 job 0 accepted c=1 d=2
 @4 advance 1
 ";
 
-/// Two units that take a tick more than their first, and a job that comes meanwhile and finds no place.
+/// Two units that each take one tick beyond their first, and a job that comes meanwhile and finds no place.
 const OVERRUN: &str = "load = 1
 bound = [1, 1]
 backlog = 1
@@ -150,7 +150,7 @@ error: `format` is 3, and has to be 1 or 2
   |          ^ 1 to 2
 ";
 
-/// What is asked of a file.
+/// The request for a file.
 #[derive(Clone, Copy)]
 enum Asked {
     Check,
@@ -161,7 +161,8 @@ enum Asked {
     DrawTasks(Drawing, Window),
 }
 
-/// Prints what is asked of a file, which may want so much memory, to a writer with room for so many bytes.
+/// Prints what is asked of a file. The file may need `memory` bytes of memory, and the writer has room for `room`
+/// bytes. Returns the outcome.
 fn printed(alloc: Global, asked: Asked, memory: u64, file: &str, room: usize) -> Outcome {
     let mut out = Memory::new(alloc, room, usize::MAX);
     let mut err = Memory::ample(alloc);
@@ -221,7 +222,7 @@ fn a_text_is_printed_whole(rt: HostRuntime) {
     }
 }
 
-/// Returns the ticks from one up to another.
+/// Returns the window of the ticks from `from` up to `to`.
 fn ticks(rt: &impl Abort, from: u64, to: u64) -> Window {
     Window::new(from, to).ok().expect(rt, "ticks")
 }

@@ -32,7 +32,7 @@ fn results_are_those_of_the_file_at_every_ring(rt: HostRuntime) {
     serves_often(&rt, alloc, 1024, results);
 }
 
-/// Serves the file of three servers fifty times, with rings of so many places.
+/// Serves the file of three servers fifty times, with rings of this many places, and tests the results.
 fn serves_often<R: Abort + Threads + Clock + Sync>(
     rt: &R,
     alloc: Global,
@@ -45,7 +45,7 @@ fn serves_often<R: Abort + Threads + Clock + Sync>(
     }
 }
 
-/// A file of one server with a tick in every 1000000000, and a job of so many ones.
+/// Returns a file of one server with 1 tick in every 1000000000, and a job of this many ones.
 fn of_ones(rt: &impl Abort, alloc: Global, ones: u32) -> String {
     let mut units = String::new(alloc);
     for _unit in 0..ones {
@@ -85,7 +85,7 @@ fn a_file_with_no_server_has_no_results(rt: HostRuntime) {
     serves(&rt, alloc, "no server", file.as_bytes(), 0, "", "");
 }
 
-/// Returns a file of as many servers as there may be, each with a job that adds up its server's number and 1000.
+/// Returns a file with the greatest number of servers. Each has a job that adds up its server's number and 1000.
 fn of_64_servers(rt: &impl Abort, alloc: Global) -> String {
     let mut servers = String::new(alloc);
     let mut steps = String::new(alloc);
@@ -103,7 +103,7 @@ fn of_64_servers(rt: &impl Abort, alloc: Global) -> String {
     )
 }
 
-/// Returns what is written of that file: server 0 has 1000, server 1 has 1001, and so on.
+/// Returns the results that are written for that file: server 0 has 1000, server 1 has 1001, and so on.
 fn results_of_64(rt: &impl Abort, alloc: Global) -> String {
     let mut lines = String::new(alloc);
     for server in 0..64u64 {

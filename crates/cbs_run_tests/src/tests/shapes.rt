@@ -1,4 +1,4 @@
-//! Long files of each shape, and what they hold.
+//! Long files of each shape, and their content.
 
 use super::files::good_file;
 use super::same;
@@ -47,7 +47,7 @@ const NONE: Held = Held {
     charges: 0,
 };
 
-/// A file that has a piece many times.
+/// A file that repeats a piece many times.
 struct Shape {
     name: &'static str,
     start: &'static str,
@@ -219,7 +219,7 @@ fn held_by(file: &TaskFile) -> Held {
     held
 }
 
-/// Reads the file of a shape, and looks at what it holds.
+/// Reads the file of a shape, and tests what it holds.
 fn is_read(rt: &impl Abort, alloc: Global, shape: &Shape) {
     let text = text_of(rt, alloc, shape);
     let file = good_file(rt, alloc, text.as_str());

@@ -12,8 +12,8 @@ use std::process::Abort;
 use std::thread::Threads;
 use std::time::Clock;
 
-/// Replays the first example into a writer with so much room, that takes so many bytes a call, and looks
-/// for the fault and for what is written.
+/// Replays the first example into a writer with this much room, which takes at most `step` bytes a call. Tests the
+/// fault, and what is written.
 fn writes(
     rt: &impl Abort,
     alloc: Global,
@@ -42,8 +42,8 @@ fn a_writer_that_fails_has_the_front(rt: HostRuntime) {
     writes(&rt, alloc, "all, a byte a call", usize::MAX, 1, lines, None);
 }
 
-/// The status of a replay of a file, where the output takes 20 bytes and the error output so many; and
-/// what they took.
+/// Replays a file. The output takes 20 bytes, and the error output takes `room` bytes. Returns the status, and what
+/// they took.
 fn into_small<R: Threads + Clock + Sync>(
     rt: &R,
     alloc: Global,
@@ -68,14 +68,14 @@ fn a_failing_output_has_its_status(rt: HostRuntime) {
     unsaid.leaves(&rt, "error output", 3, "", "");
 }
 
-/// Reads all of a text, and looks for it.
+/// Reads all of a text, and tests that it came whole.
 fn reads_text(rt: &impl Abort, alloc: Global, label: &str, text: &str) {
     let mut reader = FromRead::new(text.as_bytes());
     let bytes = read_all(alloc, &mut reader).ok().expect(rt, label);
     assert!(rt; bytes.as_slice() == text.as_bytes(), "{label}: other bytes");
 }
 
-/// Reads so many letters, where a call fails, and looks for how many came.
+/// Reads this many letters, while the call with the number `bad` fails, and tests how many came.
 fn reads(
     rt: &impl Abort,
     alloc: Global,
@@ -116,7 +116,7 @@ fn a_reader_gives_more_than_a_mebibyte(rt: HostRuntime) {
     reads(&rt, alloc, 1_572_864, 0, Ok(1_572_864));
 }
 
-/// Puts a text at the end of another.
+/// Adds a text after another.
 fn add(rt: &impl Abort, whole: &mut String, part: &str) {
     whole.push_str(part).expect(rt, "memory");
 }
@@ -154,7 +154,7 @@ fn a_library_writer_is_written_to(rt: HostRuntime) {
     is_named(&rt, (large.number(), large.name()), (3, "TooLarge"));
 }
 
-/// Looks for the number and the name of an error.
+/// Tests the number and the name of an error.
 fn is_named(rt: &impl Abort, named: (u8, &str), wanted: (u8, &str)) {
     same(rt, "error", named, wanted);
 }

@@ -1,4 +1,4 @@
-//! Traces of whole files, and what the lines say.
+//! Traces of whole files, and what their lines say.
 
 use super::fakes::replays;
 use std::alloc::Global;
@@ -14,7 +14,7 @@ const THROTTLED: &str = "format = 1\nmode = \"throttled\"\nbound = [1, 1]\nbackl
 
 const FORMAT_2: &str = "format = 2\nbound = [1, 1]\nbacklog = 4\nring = 4\n";
 
-/// A file, and the lines that it gives.
+/// A file, and the lines of its trace.
 #[derive(Clone, Copy)]
 struct Row {
     name: &'static str,
@@ -68,7 +68,7 @@ const TWO_SERVERS: Row = Row {
 ",
 };
 
-/// A job comes while the server's budget is just as much as the time to its deadline allows.
+/// A job comes when the server's budget is exactly as much as the time to its deadline allows.
 const ARRIVAL_AT_THE_LIMIT: &str = "
   { op = \"submit\", server = 0, job = \"sum\", units = [1] },
   { op = \"run\" },
@@ -386,12 +386,12 @@ const ROWS: [Row; 18] = [
     NO_SERVER,
 ];
 
-/// A task file of these parts.
+/// Returns a task file of these parts.
 fn file_of(rt: &impl Abort, alloc: Global, head: &str, server: &str, step: &str) -> String {
     format!(in alloc; "{head}server = [{server}]\nstep = [{step}]\n").expect(rt, "memory")
 }
 
-/// Ends the test where the file of a row gives other lines.
+/// Ends the test unless the file of a row gives its lines.
 fn gives<R: Abort + Threads + Clock + Sync>(rt: &R, alloc: Global, row: &Row) {
     let file = file_of(rt, alloc, row.head, row.server, row.step);
     replays(rt, alloc, row.name, file.as_bytes(), 0, row.lines, "");

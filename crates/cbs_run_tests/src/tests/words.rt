@@ -5,7 +5,7 @@ use cbs_run::{Action, Drawing, Form, Verb, Window, WordsFault, read_words};
 use std::alloc::Global;
 use std::process::Abort;
 
-/// The words of a command line.
+/// Returns the words of a command line.
 fn words(rt: &impl Abort, alloc: Global, line: &str) -> Vec<String> {
     let mut words = Vec::new(alloc);
     for word in line.split(' ') {
@@ -15,7 +15,7 @@ fn words(rt: &impl Abort, alloc: Global, line: &str) -> Vec<String> {
     words
 }
 
-/// Ends the test where a command line asks for something else.
+/// Ends the test unless a command line asks for this action and this file.
 fn asks(rt: &impl Abort, alloc: Global, line: &str, action: Action, file: &str) {
     let asked = read_words(alloc, words(rt, alloc, line))
         .ok()
@@ -28,7 +28,7 @@ fn asks(rt: &impl Abort, alloc: Global, line: &str, action: Action, file: &str) 
     );
 }
 
-/// The text of a command line's fault. Ends the test where the fault has another number or name.
+/// Returns the text of a command line's fault. Ends the test if the fault has another number or name.
 fn fault(rt: &impl Abort, alloc: Global, line: &str, number: u8, name: &str) -> String {
     let fault = read_words(alloc, words(rt, alloc, line))
         .err()
@@ -40,7 +40,7 @@ fn fault(rt: &impl Abort, alloc: Global, line: &str, number: u8, name: &str) -> 
     }
 }
 
-/// Ends the test where a command line's fault has another number or name, or no text.
+/// Ends the test unless a command line has a fault with this number and name, and a text.
 fn refuses(rt: &impl Abort, alloc: Global, line: &str, number: u8, name: &str) {
     let text = fault(rt, alloc, line, number, name);
     assert!(rt; !text.is_empty(), "{line}: no text");
@@ -139,7 +139,7 @@ For more information, try 'cbsrun replay --help'.
     same(&rt, "text", text.as_str(), wanted);
 }
 
-/// Ends the test where a command line asks for other ticks of a load, or for something else.
+/// Ends the test unless a command line asks for these ticks of a load.
 fn shows(rt: &impl Abort, alloc: Global, line: &str, from: u64, to: u64) {
     let ticks = Window::new(from, to).ok().expect(rt, line);
     asks(

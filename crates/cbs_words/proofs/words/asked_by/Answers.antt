@@ -18,7 +18,7 @@ is_one = refl
 found_is : (a : App) (words : List Text) (m : ArgMatches) → a ≡ command_line → HasMatchesOf a words m → subcommand_rows_of m ≡ subcommand_of command_line words
 found_is a words m is has = (has (ap is_simple is ∙ is_one)).1 ∙ ap (λ (b : App). subcommand_of b words) is
 
--- words that are taken name what is asked for
+-- words that are taken name a request
 taken_is : (r : Result Asked WordsFault) (words : List Text) (found : Option (Text × List Row)) → found ≡ subcommand_of command_line words
     → IfErr r (λ e. (asked : Asked) → IsAsked found asked → e ≡ OutOfMemory) → IfErr r (λ e. AreTaken words → e ≡ OutOfMemory)
 taken_is (Ok x) words found is h = tt

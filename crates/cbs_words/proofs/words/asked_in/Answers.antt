@@ -8,7 +8,7 @@ use Rattle.cbs_words.specs.Words.{said_in}
 use Rattle.cbs_words.specs.declared.actions.Action.{Action}
 use Rattle.cbs_words.proofs.words.asked_in.Goals as goal
 
--- the name and the rows that were asked for apart, together
+-- the name and the rows, which two calls returned, together
 both_are : {B : Type 0} (o : Option B) (name : B → Text) (rows : B → List Row) (t : Text) (rs : List Row) → Some t ≡ option_map name o
     → Some rs ≡ option_map (λ (p : Text × List Row). p.1) (option_map {U = Text × List Row} (λ b. (name b, rows b)) o)
     → option_map {U = Text × List Row} (λ b. (name b, rows b)) o ≡ Some (t, rs)
@@ -30,7 +30,7 @@ not_both o p q = absurd cc
 same_form : (a : Action) (r s : Said) → r ≡ s → AsksForm r a → AsksForm s a
 same_form a r s e asks = subst (λ (x : Said). AsksForm x a) e asks
 
--- three options are what the rows say of them
+-- three options are what the rows give for them
 said_is : (rows : List Row) (form from to : Option Text) → form ≡ first_of (codes "as") rows → from ≡ first_of (codes "from") rows
     → to ≡ first_of (codes "to") rows → record { form = form; from = from; to = to } ≡ said_in rows
 said_is rows form from to a b c = rw (a, b, c) refl

@@ -7,7 +7,7 @@ use Rattle.cbs_chart.proofs.jobs.Jobs.into_all.Given as goal
 abbrev pub decreases-loop-job : goal.decreases-loop-job
 decreases-loop-job l = deque_len l.waiting
 
--- what was taken, and what is still to be taken
+-- the jobs that were taken, and those that are still to be taken
 abbrev pub invariant-loop-job : goal.invariant-loop-job
 invariant-loop-job l =
     l.all.items ++ filter (came_before_end l.window) l.waiting.items ≡ l.fn.self.finished ++ filter (came_before_end l.window) l.fn.self.waiting
