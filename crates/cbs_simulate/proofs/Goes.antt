@@ -12,7 +12,7 @@ use Rattle.cbs_steps.specs.Promises.{promised}
 use Rattle.cbs_steps.specs.declared.reply.Ran.{Ran}
 use Rattle.cbs_steps.specs.declared.reply.Reply.TheVariants as reply
 use Rattle.cbs_steps.specs.declared.step.Step.TheVariants as step
-use Rattle.cbs_simulate.specs.Moves.{Move, submit, run, charge, idle_span, move_on, ran_in, owing_for, Simulation, next_of, coming_after, after_move}
+use Rattle.cbs_simulate.specs.Moves.{Move, submit, run, charge, idle_span, move_on, ran_in, owing_for, Simulation, next_of, coming_after}
 use Rattle.cbs_simulate.specs.Shown.{Sight, sight_of}
 use Rattle.cbs_simulate.specs.Simulating.{DoesMove, Stops, MakesMove, MakesNext, move_to, owing_told, stop_at}
 use Rattle.cbs_simulate.specs.declared.charge.Charge.{Charge}

@@ -4,11 +4,12 @@ pub mod Goes
 pub mod Loads
 pub mod Loop
 pub mod Merging
+pub mod FirstTurns
 pub mod MergedTurns
 pub mod MoveSteps
 pub mod Owing
 pub mod Simulations
 pub mod Sources
 pub mod Spans
-pub mod TurnLists
+pub mod Trees
 pub mod Uncharged

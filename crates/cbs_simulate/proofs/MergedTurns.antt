@@ -1,80 +1,140 @@
--- Several sources, and the turn on top of their heap.
-use Rattle.std.proofs.Common.{◌≡◌, ◌≢◌, ℕ, ◌+◌, ◌<◌, List, [], ◌∷◌, length, map, get_or, refl, sym, ◌∙◌, ap, arith, Option, Some}
-use Rattle.std.specs.Prelude.{slice_get, slice_set, drop, IsPermutation}
-use Rattle.std.specs.Option.{option_map}
-use Rattle.std.specs.declared.cmp.Reverse.{Reverse}
-use Rattle.std.proofs.lemmas.List.{length-map}
-use Rattle.std.proofs.lemmas.List.Sorted.{IsPermutation-map}
+-- Several sources, and the tree of their turns.
+use Rattle.std.proofs.Common.{◌≡◌, ◌≢◌, ℕ, ◌+◌, ◌*◌, ◌/◌, ◌<◌, List, [], ◌∷◌, length, map, get_or, refl, sym, subst, ◌∙◌, ap, arith, inl, inr, Option, Some, None}
+use Rattle.std.specs.Prelude.{slice_get, slice_set, drop, IfSome}
+use Rattle.std.proofs.lemmas.Bool.{cases_eq}
+use Rattle.std.proofs.lemmas.List.{length-map, length-set, get_or-set_same}
+use Rattle.std.proofs.lemmas.Option.{get_or_from_slice_get}
+use Rattle.cbs_rules.specs.Rules.{clock_end}
 use Rattle.cbs_lists.specs.Lists.{changed_at}
-use Rattle.cbs_lists.proofs.Lists.{length-changed_at}
+use Rattle.cbs_lists.proofs.Lists.{changed_elsewhere}
 use Rattle.cbs_simulate.specs.Merging.{merged}
 use Rattle.cbs_simulate.specs.Ordering.{all_ordered}
 use Rattle.cbs_simulate.specs.Releases.{IsInOrder}
-use Rattle.cbs_simulate.specs.Turns.{next_tick, AreTurns, AddsTurn}
+use Rattle.cbs_simulate.specs.Turns.{turn_of, node, next_of, IsTree, SetsLeaf, HasTurns}
 use Rattle.cbs_simulate.specs.declared.release.Release.{Release}
+use Rattle.cbs_simulate.specs.declared.turns.Turn.{Turn}
+use Rattle.cbs_simulate.proofs.FirstTurns.{IsFirstTurn, root_turn, turn_first, turn_next, no_source}
 use Rattle.cbs_simulate.proofs.Merging.{source_at, went_on, passed}
-use Rattle.cbs_simulate.proofs.TurnLists.{IsTop, turn_more, turn_taken, top_here, top_some, top_first, top_next}
 
-module _ {S : Type 0} (coming : S → List Release) (ordered : (it : S) → IsInOrder 0 (coming it)) where
-  -- a source that is seen at its place
-  next_at : (xs : List S) (i : ℕ) (y : S) (o : Option Release) → i < length xs → y ≡ get_or xs i y → o ≡ slice_get (coming y) 0
-      → option_map (λ r. r.tick) o ≡ next_tick (map coming xs) i
-  next_at xs i y o lt is e = ap (option_map (λ r. r.tick)) (e ∙ ap (λ rs. slice_get rs 0) (sym (source_at coming xs i y lt is)))
+-- a release that comes soon, if one comes
+comes_soon : (o : Option Release) (r : Release) → o ≡ Some r → IfSome o (λ r. r.tick < clock_end) → r.tick < clock_end
+comes_soon o r e h = subst (λ o. IfSome o (λ r. r.tick < clock_end)) e h
 
-  -- one more source has its turn among the sources so far
-  pub turn_next : (xs : List S) (ts us : List (ℕ × ℕ)) (n : ℕ) (y : S) (o : Option Release) → n < length xs → y ≡ get_or xs n y → o ≡ slice_get (coming y) 0
-      → AreTurns (λ i. i < n) (map coming xs) ts → AddsTurn n (option_map (λ r. r.tick) o) ts us → AreTurns (λ i. i < n + 1) (map coming xs) us
-  turn_next xs ts us n y o lt is e turns adds =
-      turn_more (map coming xs) ts us (λ i. i < n) (λ i. i < n + 1) n (option_map (λ r. r.tick) o) turns adds (next_at xs n y o lt is e)
-      (λ lt. absurd (omega arith)) (omega arith)
-      (λ j lt. omega arith) (λ j ne lt. omega arith)
+-- a leaf that is set, and one that stays, in a tree over the same places
+leaf_set : (new : List Turn) (i : ℕ) (o : Option Release) {h k j : ℕ} {p : Option Release} → h ≡ k → j ≡ i → p ≡ o → node new (h + i) ≡ turn_of i o
+    → node new (k + j) ≡ turn_of j p
+leaf_set new i o e same next is = rw (sym e, same, next) is
 
-  module _ (xs : List S) (x : Reverse (ℕ × ℕ)) (hs : List (Reverse (ℕ × ℕ)))
-      (turns : AreTurns (λ i. i < length (map coming xs)) (map coming xs) (map (λ t. t.0) hs)) (top : IsTop x hs) where
-    -- the source of the turn on top exists
-    pub top_place : x.0.1 < length xs
-    top_place = let lt = (top_here (map coming xs) x hs turns top).0 in omega (arith, length-map xs coming)
+leaf_kept : (old new : List Turn) (j : ℕ) {h k m : ℕ} {p q : Option Release} → h ≡ m → h ≡ k → p ≡ q → node new (h + j) ≡ node old (h + j)
+    → node old (k + j) ≡ turn_of j q → node new (m + j) ≡ turn_of j p
+leaf_kept old new j e f next stays is = rw (sym e, next) (stays ∙ rw f is)
 
-    module _ (y : S) (is : y ≡ get_or xs x.0.1 y) where
-      here : get_or (map coming xs) x.0.1 [] ≡ coming y
-      here = source_at coming xs x.0.1 y top_place is
+module _ {S : Type 0} (coming : S → List Release) (ordered : (it : S) → IsInOrder 0 (coming it)) (xs : List S) where
+  -- the leaf of one source more is set to its turn
+  pub turn_more : (n : ℕ) (old new : List Turn) (y : S) (o : Option Release) → n < length xs → y ≡ get_or xs n y → o ≡ slice_get (coming y) 0
+      → IfSome o (λ r. r.tick < clock_end) → HasTurns n (map coming xs) old → SetsLeaf n (turn_of n o) old new → HasTurns (n + 1) (map coming xs) new
+  turn_more n old new y o lt is e early has sets =
+      let size = has.size in
+      let half : length old / 2 ≡ length (map coming xs) = omega arith in
+      let next : next_of (map coming xs) n ≡ o = ap (λ rs. slice_get rs 0) (source_at coming xs n y lt is) ∙ sym e in
+      record {
+        size = sets.size ∙ has.size;
+        leaves = λ i most. elim (cases_eq i n) [
+          | inl here ↦ leaf_set new n o half here (ap (next_of (map coming xs)) here ∙ next) sets.leaf
+          | inr ne ↦ sets.others (length (map coming xs) + i) (omega arith) (λ e. ne (omega arith)) ∙ has.leaves i (omega arith)
+        ];
+        early = λ i r most some. elim (cases_eq i n) [
+          | inl here ↦ comes_soon o r (sym next ∙ subst (λ k. next_of (map coming xs) k ≡ Some r) here some) early
+          | inr ne ↦ has.early i r (omega arith) some
+        ];
+      }
 
-      -- the source has a release left
-      pub top_releases : 0 < length (coming y)
-      top_releases = let some = top_some (map coming xs) x hs turns top in rw here at some
+  module _ (nodes : List Turn) (tree : IsTree nodes) (has : HasTurns (length xs) (map coming xs) nodes) where
+    all : HasTurns (length (map coming xs)) (map coming xs) nodes
+    all = rw (length-map xs coming) has
 
-      -- this release is the first of all
-      pub top_shows : slice_get (coming y) 0 ≡ slice_get (merged (map coming xs)) 0
-      top_shows = ap (λ rs. slice_get rs 0) (sym here) ∙ top_next (map coming xs) x hs (all_ordered coming ordered xs) turns top
+    -- if there is no first turn, nothing comes
+    pub none_first : slice_get nodes 1 ≡ None → merged (map coming xs) ≡ []
+    none_first none = no_source (map coming xs) (few nodes none has.size)
+      where
+        few : (nodes : List Turn) {n : ℕ} → slice_get nodes 1 ≡ None → length nodes ≡ n * 2 → n ≡ 0
+        few [] none size = omega arith
+        few (a ∷ []) none size = omega arith
+        few (a ∷ b ∷ rest) none size = cc
 
-      module _ (z : S) (next : coming z ≡ drop 1 (coming y)) where
-        -- the others come after it
-        pub top_passed : (now : List S) → now ≡ xs → merged (map coming (slice_set xs x.0.1 z)) ≡ drop 1 (merged (map coming now))
-        top_passed now same = go (get_or (map coming xs) x.0.1 []) refl (top_some (map coming xs) x hs turns top)
+    module _ (turn : Turn) (some : slice_get nodes 1 ≡ Some turn) where
+      -- else it is that of a source
+      first_turn : IsFirstTurn (map coming xs) turn
+      first_turn =
+          let is : node nodes 1 ≡ turn = get_or_from_slice_get nodes 1 turn (turn_of 0 None) some in
+          rw is at (root_turn (map coming xs) nodes tree all (more nodes some has.size))
+        where
+          more : (nodes : List Turn) {n : ℕ} → slice_get nodes 1 ≡ Some turn → length nodes ≡ n * 2 → 0 < n
+          more [] some size = cc
+          more (a ∷ []) some size = cc
+          more (a ∷ b ∷ rest) some size = omega arith
+
+      pub first_place : turn.place < length xs
+      first_place = rw (length-map xs coming) at first_turn.within
+
+      module _ (y : S) (is : y ≡ get_or xs turn.place y) where
+        here : get_or (map coming xs) turn.place [] ≡ coming y
+        here = source_at coming xs turn.place y first_place is
+
+        -- whose next release is the next of all
+        pub first_shows : slice_get (coming y) 0 ≡ slice_get (merged (map coming xs)) 0
+        first_shows = ap (λ rs. slice_get rs 0) (sym here)
+            ∙ turn_next (map coming xs) nodes turn all (all_ordered coming ordered xs) first_turn
+
+        -- so it releases something if something comes
+        pub first_releases : 0 < length (merged (map coming xs)) → 0 < length (coming y)
+        first_releases some = go (coming y) (merged (map coming xs)) first_shows some
           where
-            go : (rs : List Release) → get_or (map coming xs) x.0.1 [] ≡ rs → 0 < length rs
-                → merged (map coming (slice_set xs x.0.1 z)) ≡ drop 1 (merged (map coming now))
-            go [] e some = absurd (omega arith)
-            go (r ∷ rs) e some =
-                let head : slice_get (get_or (map coming xs) x.0.1 []) 0 ≡ Some r = rw e refl in
-                passed coming xs now x.0.1 r y z same top_place (top_first (map coming xs) x hs r (all_ordered coming ordered xs) turns top head) is next
+            go : (rs qs : List Release) → slice_get rs 0 ≡ slice_get qs 0 → 0 < length qs → 0 < length rs
+            go rs [] e some = absurd (omega arith)
+            go [] (q ∷ qs) e some = cc
+            go (r ∷ rs) (q ∷ qs) e some = omega arith
 
-        -- the source's next turn is added to those of the others
-        pub top_turns : (gs : List (Reverse (ℕ × ℕ))) (us : List (ℕ × ℕ)) (w : S) (o : Option Release) → IsPermutation hs (x ∷ gs)
-            → w ≡ get_or (slice_set xs x.0.1 z) x.0.1 w
-            → o ≡ slice_get (coming w) 0 → AddsTurn x.0.1 (option_map (λ r. r.tick) o) (map (λ t. t.0) gs) us
-            → (let rss = map coming (slice_set xs x.0.1 z) in AreTurns (λ i. i < length rss) rss us)
-        top_turns gs us w o perm seen e adds =
-            let i = x.0.1 in
-            let new : List (List Release) = changed_at (drop 1) (map coming xs) i in
-            let is_new : map coming (slice_set xs i z) ≡ new = went_on coming xs i y z top_place is next in
-            let count : length new ≡ length (map coming xs) = length-changed_at (drop 1) (map coming xs) i in
-            let within : i < length (slice_set xs i z) = let lt = top_place in
-            omega (arith, ap length is_new, length-map (slice_set xs i z) coming, length-map xs coming) in
-            let tick : option_map (λ r. r.tick) o ≡ next_tick new i = rw is_new at (next_at (slice_set xs i z) i w o within seen e) in
-            let rest = turn_taken (map coming xs) (map (λ t. t.0) hs) (map (λ t. t.0) gs) (λ i. i < length (map coming xs)) x.0 turns
-            (IsPermutation-map (λ t. t.0) hs (x ∷ gs) perm) in
-            let lt = (top_here (map coming xs) x hs turns top).0 in
-            rw is_new (turn_more new (map (λ t. t.0) gs) us (λ j. (j < length (map coming xs)) × (j ≢ i)) (λ j. j < length new) i
-            (option_map (λ r. r.tick) o) rest adds tick
-            (λ p. p.1 refl) (omega arith) (λ j p. let l = p.0 in omega arith) (λ j ne l. (omega arith, ne)))
+        module _ (z : S) (next : coming z ≡ drop 1 (coming y)) where
+          -- after it come the others
+          pub first_passed : 0 < length (merged (map coming xs)) → (now : List S) → now ≡ xs
+              → merged (map coming (slice_set xs turn.place z)) ≡ drop 1 (merged (map coming now))
+          first_passed come now same = go (coming y) refl (first_releases come)
+            where
+              go : (rs : List Release) → coming y ≡ rs → 0 < length rs → merged (map coming (slice_set xs turn.place z)) ≡ drop 1 (merged (map coming now))
+              go [] e some = absurd (omega arith)
+              go (r ∷ rs) e some =
+                  let head : next_of (map coming xs) turn.place ≡ Some r = ap (λ rs. slice_get rs 0) (here ∙ e) in
+                  passed coming xs now turn.place r y z same first_place
+                  (turn_first (map coming xs) nodes turn all (all_ordered coming ordered xs) first_turn r head) is next
+
+          -- and its leaf is set to its new turn
+          pub first_set : (new : List Turn) (o : Option Release) → o ≡ slice_get (coming z) 0 → IfSome o (λ r. r.tick < clock_end)
+              → SetsLeaf turn.place (turn_of turn.place o) nodes new
+              → (let now = slice_set xs turn.place z in HasTurns (length now) (map coming now) new)
+          first_set new o e early sets =
+              let i = turn.place in
+              let rss : List (List Release) = map coming xs in
+              let count : length rss ≡ length xs = length-map xs coming in
+              let is_new : map coming (slice_set xs i z) ≡ changed_at (drop 1) rss i = went_on coming xs i y z first_place is next in
+              let now : length (slice_set xs i z) ≡ length xs = length-set xs i z in
+              let size = has.size in
+              let half : length nodes / 2 ≡ length xs = omega arith in
+              let all_places : length nodes / 2 ≡ length (map coming (slice_set xs i z)) = half ∙ sym now ∙ sym (length-map (slice_set xs i z) coming) in
+              let z_is : z ≡ get_or (slice_set xs i z) i z = sym (get_or-set_same xs i z z first_place) in
+              let head : next_of (map coming (slice_set xs i z)) i ≡ o =
+              ap (λ rs. slice_get rs 0) (source_at coming (slice_set xs i z) i z (rw now first_place) z_is) ∙ sym e in
+              let others : (j : ℕ) → j ≢ i → next_of (map coming (slice_set xs i z)) j ≡ next_of rss j =
+              λ j ne. rw is_new (ap (λ rs. slice_get rs 0) (changed_elsewhere (drop 1) rss i j [] ne)) in
+              record {
+                size = sets.size ∙ has.size ∙ ap (λ n. n * 2) (count ∙ sym now ∙ sym (length-map (slice_set xs i z) coming));
+                leaves = λ j lt. elim (cases_eq j i) [
+                  | inl same ↦ leaf_set new i o all_places same (ap (next_of (map coming (slice_set xs i z))) same ∙ head) sets.leaf
+                  | inr ne ↦ leaf_kept nodes new j all_places (half ∙ sym count) (others j ne)
+                      (sets.others (length nodes / 2 + j) (omega arith) (λ e. ne (omega arith))) (has.leaves j (omega arith))
+                ];
+                early = λ j r lt some. elim (cases_eq j i) [
+                  | inl same ↦ comes_soon o r (sym head ∙ subst (λ k. next_of (map coming (slice_set xs i z)) k ≡ Some r) same some) early
+                  | inr ne ↦ has.early j r (omega arith) (sym (others j ne) ∙ some)
+                ];
+              }

@@ -1,49 +1,48 @@
--- When each of several sources has its next release.
-use Rattle.std.specs.Prelude.{◌≡◌, ℕ, ◌≤◌, ◌<◌, eqb, if◌then◌else◌, List, [], ◌∷◌, length, slice_get, get_or, map, Option, Some, None, All, Contains}
-use Rattle.std.specs.Prelude.{IsPermutation}
-use Rattle.std.specs.BinaryHeap.{IsHeap, heap_items}
-use Rattle.std.specs.List.{sum_by}
-use Rattle.std.specs.Option.{option_map}
-use Rattle.std.specs.Ordering.{nat_cmp, ordering_then}
-use Rattle.std.specs.declared.cmp.Ordering.{Ordering}
-use Rattle.std.specs.declared.cmp.Reverse.{Reverse}
-use Rattle.std.specs.declared.collections.binary_heap.BinaryHeap.{BinaryHeap}
+-- When each of several sources releases next, and which of them releases first.
+use Rattle.std.specs.Prelude.{◌≡◌, ℕ, ◌+◌, ◌*◌, ◌/◌, ◌≤◌, ◌<◌, ◌≢◌, Bool, ◌&&◌, ◌||◌, eqb, ltb, if◌then◌else◌, List, [], length, slice_get, get_or, Option, Some, None}
+use Rattle.cbs_rules.specs.Rules.{clock_end}
 use Rattle.cbs_simulate.specs.declared.release.Release.{Release}
+use Rattle.cbs_simulate.specs.declared.turns.Turn.{Turn}
 
--- a turn is a tick and the place of a source with its next release at that tick. The earlier turn goes first, and at
--- one tick the lower place
-abbrev pub turn_cmp : Reverse (ℕ × ℕ) → Reverse (ℕ × ℕ) → Ordering
-turn_cmp x y = ordering_then (nat_cmp y.0.0 x.0.0) (nat_cmp y.0.1 x.0.1)
+-- the tick of a source that releases nothing more, later than any release
+abbrev pub never : ℕ
+never = 18446744073709551615
 
--- the tick of the next release of the source at a place, if one is left
-abbrev pub next_tick : List (List Release) → ℕ → Option ℕ
-next_tick rss i = option_map (λ r. r.tick) (slice_get (get_or rss i []) 0)
+-- the turn of the source at a place, by the release that comes next from it
+abbrev pub turn_of : ℕ → Option Release → Turn
+turn_of place None = record { tick = never; place = place }
+turn_of place (Some r) = record { tick = r.tick; place = place }
 
--- 1 for a turn of the place, and 0 for another
-abbrev pub count_of : ℕ → ℕ × ℕ → ℕ
-count_of i t = if eqb t.1 i then 1 else 0
+-- one turn comes before another: at an earlier tick, or at the same tick from a lower place
+abbrev pub is_before : Turn → Turn → Bool
+is_before a b = ltb a.tick b.tick || (eqb a.tick b.tick && ltb a.place b.place)
 
--- how many turns of the place are among them
-abbrev pub turns_of : ℕ → List (ℕ × ℕ) → ℕ
-turns_of i ts = sum_by (count_of i) ts
+-- the first of two turns
+abbrev pub first_of : Turn → Turn → Turn
+first_of a b = if is_before b a then b else a
 
--- these are the turns of the sources at the places with the property P, one for each source with a release left
-pub record AreTurns (P : ℕ → Type 0) (rss : List (List Release)) (ts : List (ℕ × ℕ)) : Type 0 where
-  pub each : All (λ t. P t.1 × (next_tick rss t.1 ≡ Some t.0)) ts
-  pub all : (i tick : ℕ) → P i → next_tick rss i ≡ Some tick → Contains ts (tick, i)
-  pub once : (i : ℕ) → turns_of i ts ≤ 1
+-- a node of a tree of turns
+abbrev pub node : List Turn → ℕ → Turn
+node nodes k = get_or nodes k (turn_of 0 None)
 
--- the turn of the place at the tick is added, if there is a tick
-abbrev pub AddsTurn : ℕ → Option ℕ → List (ℕ × ℕ) → List (ℕ × ℕ) → Type 0
-AddsTurn i None ts us = us ≡ ts
-AddsTurn i (Some tick) ts us = IsPermutation ((tick, i) ∷ ts) us
+-- a tree of turns has an even number of nodes, and the leaves are the second half of them. Nodes 2 k and 2 k + 1 lie below
+-- node k, which has the first of their turns. So node 1 has the first of all turns
+pub record IsTree (nodes : List Turn) : Type 0 where
+  pub even : length nodes ≡ length nodes / 2 * 2
+  pub first : (k : ℕ) → 0 < k → k < length nodes / 2 → node nodes k ≡ first_of (node nodes (2 * k)) (node nodes (2 * k + 1))
 
-module _ {A : Type 0} where
-  -- the turns in a heap
-  abbrev pub turns_in : BinaryHeap (Reverse (ℕ × ℕ)) A → List (ℕ × ℕ)
-  turns_in h = map (λ t. t.0) (heap_items h)
+-- the leaf of a place becomes this turn, and the other leaves stay
+pub record SetsLeaf (place : ℕ) (turn : Turn) (old new : List Turn) : Type 0 where
+  pub size : length new ≡ length old
+  pub leaf : node new (length old / 2 + place) ≡ turn
+  pub others : (k : ℕ) → length old / 2 ≤ k → k ≢ length old / 2 + place → node new k ≡ node old k
 
-  -- a heap has the turns of all sources, the first turn on top
-  pub record HasTurns (rss : List (List Release)) (h : BinaryHeap (Reverse (ℕ × ℕ)) A) : Type 0 where
-    pub turns : AreTurns (λ i. i < length rss) rss (turns_in h)
-    pub order : IsHeap turn_cmp (heap_items h)
+-- the release that comes next from the source at a place
+abbrev pub next_of : List (List Release) → ℕ → Option Release
+next_of rss place = slice_get (get_or rss place []) 0
+
+-- the leaves of the first so many places are the turns of the sources, each of which releases before the clock's end
+pub record HasTurns (count : ℕ) (rss : List (List Release)) (nodes : List Turn) : Type 0 where
+  pub size : length nodes ≡ length rss * 2
+  pub leaves : (i : ℕ) → i < count → node nodes (length rss + i) ≡ turn_of i (next_of rss i)
+  pub early : (i : ℕ) (r : Release) → i < count → next_of rss i ≡ Some r → r.tick < clock_end

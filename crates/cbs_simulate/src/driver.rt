@@ -122,8 +122,8 @@ fn show_next<A: Allocator, C, S: Watcher<C>>(
 fn stop_of<R: Releases>(releases: &R, until: u64) -> u64
     ensures { result ≡ stop_at until (R.coming releases.now) }
 {
-    match releases.first() {
-        Some(release) => release.tick.min(until),
+    match releases.next_tick() {
+        Some(tick) => tick.min(until),
         None => until,
     }
 }

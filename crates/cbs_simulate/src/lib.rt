@@ -14,6 +14,7 @@ mod release;
 mod releases;
 mod source;
 mod terms;
+mod turns;
 mod watcher;
 
 pub use alone::simulate_plan;

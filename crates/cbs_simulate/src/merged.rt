@@ -1,25 +1,19 @@
 //! The releases of several sources.
 
-ghost use Rattle.std.specs.Prelude.{◌≡◌, ◌+◌, ◌≤◌, ◌<◌, IsOk, IfOk, OnOk, Some, None};
-ghost use Rattle.std.specs.BinaryHeap.{KeepsHeap, heap_items, heap_len, heap_capacity};
-ghost use Rattle.std.specs.Option.{option_map};
-ghost use Rattle.cbs_simulate.specs.Turns.{turn_cmp, turns_in, AddsTurn};
+ghost use Rattle.std.specs.Prelude.{◌≡◌, IfOk};
 
 use crate::release::Release;
 use crate::releases::Releases;
+use crate::turns::Turns;
 use std::alloc::{AllocError, Allocator, Global};
-use std::cmp::Reverse;
-use std::collections::BinaryHeap;
 use std::marker::Model;
 
-/// The releases of several sources, in the order of their ticks. At one tick they come in the order of their sources.
+/// The releases of several sources, by their ticks, and at one tick by the places of their sources.
 ///
-/// The next release is known at once. Passing it takes time that grows with the logarithm of the number of sources.
+/// The next release is known at once; to go on to the one after it takes time that grows with the logarithm of the sources.
 pub struct Merged<S: Releases + Drop, A: Allocator = Global> {
     sources: Vec<S, A>,
-    // The turns: for each source with a release left, the tick of its next one, and its place. The first turn is on
-    // top.
-    turns: BinaryHeap<Reverse<(u64, usize)>, A>,
+    turns: Turns<A>,
 }
 
 impl<S: Releases + Drop, A: Allocator> Drop for Merged<S, A> {
@@ -32,41 +26,24 @@ impl<S: Releases + Drop, A: Allocator> Drop for Merged<S, A> {
 }
 
 impl<S: Releases + Drop, A: Allocator> Model for Merged<S, A> {
-    ghost use Rattle.std.specs.Prelude.{List, map};
+    ghost use Rattle.std.specs.Prelude.{List, length, map};
     ghost use Rattle.cbs_simulate.specs.Turns.{HasTurns};
 
     ghost Value = { List S };
 
     ghost view = { λ m. m.sources.items };
 
-    ghost invariant = { λ m. HasTurns (map S.coming m.sources.items) m.turns };
-}
-
-/// Adds the turn of the source at a place, if the source has a release left.
-fn add_turn<A: Allocator>(
-    turns: &mut BinaryHeap<Reverse<(u64, usize)>, A>,
-    place: usize,
-    next: Option<Release>,
-) -> Result<(), AllocError>
-    ensures adds { OnOk result (AddsTurn place (option_map (λ r. r.tick) next) (turns_in turns.old) (turns_in turns.new)) }
-    ensures order { OnOk result (KeepsHeap turn_cmp (heap_items turns.old) (heap_items turns.new)) }
-    ensures succeeds { heap_len turns.old < heap_capacity turns.old → IsOk result }
-{
-    if let Some(release) = next {
-        turns.push(Reverse((release.tick, place)))?;
-    }
-    Ok(())
+    ghost invariant = { λ m. HasTurns (length m.sources.items) (map S.coming m.sources.items) m.turns };
 }
 
 impl<S: Releases + Drop, A: Allocator> Merged<S, A> {
-    /// Returns the merged releases of these sources. All memory is taken here, and none later. The only error is out of
-    /// memory.
+    /// Returns the releases of these sources. Memory is taken here, and not later.
     pub fn new(alloc: A, sources: Vec<S, A>) -> Result<Merged<S, A>, AllocError>
         ensures { IfOk result (λ merged. merged ≡ sources.items) }
     {
-        let mut turns = BinaryHeap::with_capacity(alloc, sources.len())?;
+        let mut turns = Turns::new(alloc, sources.len())?;
         for (place, source) in sources.iter().enumerate() {
-            add_turn(&mut turns, place, source.first())?;
+            turns.set(place, source.first());
         }
         Ok(Merged { sources, turns })
     }
@@ -83,19 +60,24 @@ impl<S: Releases + Drop, A: Allocator> Releases for Merged<S, A> {
 
     #[inline(always)]
     fn first(&self) -> Option<Release> {
-        match self.turns.peek() {
-            Some(&Reverse((_, place))) => self.sources[place].first(),
-            None => None,
-        }
+        let turn = self.turns.first()?;
+        self.sources[turn.place].first()
+    }
+
+    #[inline(always)]
+    fn next_tick(&self) -> Option<u64> {
+        let turn = self.turns.first()?;
+        self.sources[turn.place].next_tick()
     }
 
     #[inline(always)]
     fn pass(&mut self) {
-        let Some(Reverse((_, place))) = self.turns.pop() else {
+        let Some(turn) = self.turns.first() else {
             return;
         };
-        self.sources[place].pass();
-        // There is room, since a turn was taken out.
-        let _added = add_turn(&mut self.turns, place, self.sources[place].first());
+        let source = &mut self.sources[turn.place];
+        source.pass();
+        let next = source.first();
+        self.turns.set(turn.place, next);
     }
 }

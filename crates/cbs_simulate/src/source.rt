@@ -85,16 +85,20 @@ impl Releases for Source {
     ghost ordered = { ordered_source };
 
     fn first(&self) -> Option<Release> {
-        if self.left == 0 || self.tick >= self.until {
-            return None;
-        }
         Some(Release {
-            tick: self.tick,
+            tick: self.next_tick()?,
             source: self.place,
             server: self.terms.server,
             units: self.units,
             overrun: self.overrun,
         })
+    }
+
+    fn next_tick(&self) -> Option<u64> {
+        if self.left == 0 || self.tick >= self.until {
+            return None;
+        }
+        Some(self.tick)
     }
 
     fn pass(&mut self) {

@@ -1,6 +1,6 @@
 use Rattle.std.proofs.Common.{◌≡◌, refl}
 use Rattle.cbs_simulate.specs.Loading.{loading, job_of}
-use Rattle.cbs_simulate.proofs.AloneLaws.{alone, sees_some, sees_none}
+use Rattle.cbs_simulate.proofs.AloneLaws.{alone, sees_some}
 use Rattle.cbs_simulate.proofs.alone.simulate_plan.Goals as goal
 
 pub simulate-requires-clause-order : goal.simulate-requires-clause-order

@@ -1,4 +1,4 @@
-use Rattle.std.proofs.Common.{◌≡◌, ◌≤◌, arith, sym, ◌∙◌, slice_get, Some}
+use Rattle.std.proofs.Common.{◌≡◌, ◌≤◌, arith, sym, slice_get, Some}
 use Rattle.cbs_steps.specs.History.{world_after}
 use Rattle.cbs_simulate.specs.Loading.{loading, job_of}
 use Rattle.cbs_simulate.specs.Simulating.{stop_at}
