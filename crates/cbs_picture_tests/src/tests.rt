@@ -8,7 +8,6 @@ use std::process::Abort;
 
 mod by_hand;
 mod charts;
-mod loads;
 mod timelines;
 mod traces;
 
