@@ -114,9 +114,12 @@ impl Server {
         }
         let reservation = self.state.reservation();
         let owed = u128::from(units) + u128::from(self.state.overrun());
-        let budgets = owed
-            .saturating_sub(u128::from(self.state.budget()))
-            .div_ceil(u128::from(reservation.budget()));
+        let beyond = owed.saturating_sub(u128::from(self.state.budget()));
+        // Most jobs need no more than the budget, and a division takes long.
+        if beyond == 0 {
+            return Some(self.deadline());
+        }
+        let budgets = beyond.div_ceil(u128::from(reservation.budget()));
         Some(self.deadline() + budgets * u128::from(reservation.period()))
     }
 
