@@ -1,0 +1,61 @@
+"""What the scripts in Python share. They stand beside it, so that Python finds it by its name:
+
+    sys.dont_write_bytecode = True  # leaves no __pycache__
+    from shared import ROOT
+"""
+import os
+import subprocess
+
+ROOT = os.path.dirname(os.path.dirname(os.path.realpath(__file__)))
+CBSRUN = os.path.join(ROOT, "crates", "cbsrun", "out", "cbsrun")
+TRIALS = os.path.join(ROOT, "crates", "trials", "out", "trials")
+
+
+def build_cbsrun():
+    """Proves and builds CBSRUN, if it is not there or a source is newer."""
+    subprocess.run([os.path.join(ROOT, "cbsrun"), "--help"], stdout=subprocess.DEVNULL, check=True)
+
+
+def build_trials():
+    """Proves and builds TRIALS, if it is not there or a source is newer."""
+    subprocess.run([os.path.join(ROOT, "scripts", "program"), "trials"], stdout=subprocess.DEVNULL, check=True)
+
+
+def build_library():
+    """Builds the library for C, as scripts/library does, and gives its folder."""
+    return output([os.path.join(ROOT, "scripts", "library")]).strip()
+
+
+def compile_c(library, source, program, *flags):
+    """Compiles a program in C, and links it with the library of that folder."""
+    output(["cc", "-std=c99", "-O2", *flags, f"-I{library}/include", source, f"{library}/lib/libcbs.a", "-lpthread", "-o", program])
+
+
+def output(words, **options):
+    """The output of a program that ended well."""
+    return subprocess.run(words, stdout=subprocess.PIPE, text=True, check=True, **options).stdout
+
+
+def run_within(seconds, words, **options):
+    """Status, output and error output of a program. If it takes longer, subprocess.TimeoutExpired."""
+    done = subprocess.run(words, capture_output=True, timeout=seconds, check=False, **options)
+    return done.returncode, done.stdout, done.stderr
+
+
+def task_head(servers, backlog=4096, ring=4):
+    """The keys of a task file above its steps. Of each server, budget, period and mode are given."""
+    tables = ", ".join(f'{{ budget = {budget}, period = {period}, mode = "{mode}" }}' for budget, period, mode in servers)
+    return f"format = 2\nbound = [1, 1]\nbacklog = {backlog}\nring = {ring}\nserver = [{tables}]\n"
+
+
+def task_file(servers, steps, **keys):
+    """A task file with these servers and the lines of these steps."""
+    return task_head(servers, **keys) + "step = [\n" + "".join(steps) + "]\n"
+
+
+def submit(server, kind, units):
+    """The line of a step that submits a job. Its units are a list, or the text of one."""
+    return f'  {{ op = "submit", server = {server}, job = "{kind}", units = {units} }},\n'
+
+
+RUN = '  { op = "run" },\n'
