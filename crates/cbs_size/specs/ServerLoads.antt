@@ -1,5 +1,5 @@
 -- The demand of the sources of each server of a load, and within how many ticks their jobs are finished.
-use Rattle.std.specs.Prelude.{◌≡◌, ℕ, ◌-◌, ◌<◌, eqb, if◌then◌else◌, min, max, List, length, map, get_or, MatchOption, None}
+use Rattle.std.specs.Prelude.{◌≡◌, ℕ, ◌+◌, ◌-◌, ◌<◌, eqb, if◌then◌else◌, min, max, List, length, map, get_or, MatchOption, None}
 use Rattle.std.specs.List.{sum, filter, fold, range_with_len}
 use Rattle.cbs_rate.specs.Limits.{greatest_number}
 use Rattle.cbs_rate.specs.Rate.{Rate}
@@ -37,17 +37,26 @@ all_charges sources n = sum (map (most_charged sources) (range_with_len 0 n))
 abbrev pub delay_of : LoadFile → ℕ → ℕ
 delay_of f s = all_charges f.sources (length f.plan.rates) - most_charged f.sources s
 
+-- by how many ticks a charge may pass a release for server s, which is submitted after it: the greatest overrun of the
+-- sources of the others
+abbrev pub most_passed : List SourceTerms → ℕ → ℕ
+most_passed sources s = fold (λ most t. if eqb t.server s then most else max most t.overrun.greatest) 0 sources
+
+-- by how many ticks the others may delay the jobs of server s, counted from their releases
+abbrev pub delay_from_release : LoadFile → ℕ → ℕ
+delay_from_release f s = delay_of f s + most_passed f.sources s
+
 -- for some reason, nothing is promised for the sources
 abbrev pub IsNotPromised : Rate → List Source → ℕ → ℕ → Type 0
 IsNotPromised server sources delay backlog = (why : NotPromised) × IsReason server sources delay backlog why
 
 -- The figures of server s. `asked` is the demand of its sources, if that can be summed. `promised` is within how many
--- ticks each of their jobs is finished, if that is promised.
+-- ticks of its release each of their jobs is finished, if that is promised.
 pub record IsServerLoad (f : LoadFile) (s : ℕ) (l : ServerLoad) : Type 0 where
   pub asked : MatchOption l.asked (AreTooFine (sources_of s f.sources)) (IsAsked (sources_of s f.sources))
   pub promised : MatchOption l.promised
-      (IsNotPromised (rate_at f.plan.rates s) (sources_of s f.sources) (delay_of f s) f.backlog)
-      (IsPromised (rate_at f.plan.rates s) (sources_of s f.sources) (delay_of f s) f.backlog)
+      (IsNotPromised (rate_at f.plan.rates s) (sources_of s f.sources) (delay_from_release f s) f.backlog)
+      (IsPromised (rate_at f.plan.rates s) (sources_of s f.sources) (delay_from_release f s) f.backlog)
 
 -- what stands for a server that does not exist
 abbrev pub no_load : ServerLoad

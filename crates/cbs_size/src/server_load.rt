@@ -1,9 +1,9 @@
 //! The figures of the sources of each server of a load.
 
-ghost use Rattle.std.specs.Prelude.{◌≡◌, ◌≤◌, ◌<◌, length, All, IfOk, MatchOption};
+ghost use Rattle.std.specs.Prelude.{◌≡◌, ◌+◌, ◌≤◌, ◌<◌, length, All, IfOk, MatchOption};
 ghost use Rattle.cbs_rate.specs.Limits.{most_units};
 ghost use Rattle.cbs_guarantee.specs.Sources.{IsPromised};
-ghost use Rattle.cbs_size.specs.ServerLoads.{held, at_most, sources_of, most_charged, all_charges, IsNotPromised, IsServerLoad, AreServerLoads};
+ghost use Rattle.cbs_size.specs.ServerLoads.{held, at_most, sources_of, most_charged, all_charges, most_passed, IsNotPromised, IsServerLoad, AreServerLoads};
 
 use crate::asked::{Asked, asked_by};
 use cbs_guarantee::{MAX_DELAY, Source, guaranteed};
@@ -17,8 +17,9 @@ use std::alloc::{AllocError, Global};
 pub struct ServerLoad {
     /// The greatest demand of the sources, all together, if it can be summed exactly.
     pub asked: Option<Asked>,
-    /// Within how many ticks of its arrival each of their jobs is finished, whatever the other servers are asked for,
-    /// if that is promised.
+    /// Within how many ticks of its release each of their jobs is finished, whatever the other servers are asked for,
+    /// if that is promised. A charge of another server may pass a release, so that its job is submitted later: these
+    /// ticks count, too.
     pub promised: Option<u64>,
 }
 
@@ -84,15 +85,35 @@ pub(crate) fn all_charges(sources: &[SourceTerms], servers: u16) -> u128
     charges
 }
 
-/// Returns within how many ticks each job of a server's sources is finished, or `None` if that is not promised. The
-/// other servers delay this one by at most `delay` ticks.
-fn promised(server: Reservation, sources: &[Source], delay: u128, backlog: u64) -> Option<u64>
-    ensures { MatchOption result (IsNotPromised server sources.now delay backlog) (IsPromised server sources.now delay backlog) }
+/// Returns the most ticks by which a charge of another server may pass a release for this one: the greatest overrun of
+/// the other servers' sources.
+fn most_passed(sources: &[SourceTerms], server: u16) -> u64
+    ensures { result ≡ most_passed sources.now server }
 {
-    if delay > u128::from(MAX_DELAY) {
+    let mut most = 0;
+    for terms in sources {
+        if terms.server != server {
+            most = most.max(terms.overrun.greatest());
+        }
+    }
+    most
+}
+
+/// Returns within how many ticks of its release each job of a server's sources is finished, or `None` if that is not
+/// promised. The other servers delay this one by at most `charged` ticks, and a release by at most `passed`.
+fn promised(
+    server: Reservation,
+    sources: &[Source],
+    charged: u128,
+    passed: u64,
+    backlog: u64,
+) -> Option<u64>
+    ensures { MatchOption result (IsNotPromised server sources.now (charged + passed) backlog) (IsPromised server sources.now (charged + passed) backlog) }
+{
+    if charged > u128::from(MAX_DELAY) || passed > MAX_DELAY {
         return None;
     }
-    match guaranteed(server, sources, delay as u64, backlog) {
+    match guaranteed(server, sources, charged as u64 + passed, backlog) {
         Ok(within) => Some(within),
         Err(_) => None,
     }
@@ -113,10 +134,11 @@ fn server_load(
     let sources = load.sources();
     let reservation = load.plan().get(server).unwrap();
     let own = sources_of(alloc, sources, server)?;
-    let delay = charges.saturating_sub(u128::from(most_charged(sources, server)));
+    let charged = charges.saturating_sub(u128::from(most_charged(sources, server)));
+    let passed = most_passed(sources, server);
     Ok(ServerLoad {
         asked: asked_by(&own),
-        promised: promised(reservation, &own, delay, load.backlog()),
+        promised: promised(reservation, &own, charged, passed, load.backlog()),
     })
 }
 

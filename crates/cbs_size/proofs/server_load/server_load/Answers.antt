@@ -14,10 +14,11 @@ returns c =
         is,
         c.deref-2.ensures.value,
         c.in_ok-own.ensures.value,
-        c.saturating_sub-delay.ensures,
+        c.saturating_sub-charged.ensures,
         c.requires.charges,
         c.from.ensures,
         c.most_charged.ensures,
+        c.most_passed-passed.ensures,
         c.sources-sources.ensures.value,
         c.backlog.ensures.value,
       ) at c.promised.ensures;
