@@ -90,13 +90,13 @@ pub(crate) fn all_charges(sources: &[SourceTerms], servers: u16) -> u128
 fn most_passed(sources: &[SourceTerms], server: u16) -> u64
     ensures { result ≡ most_passed sources.now server }
 {
-    let mut most = 0;
+    let mut passed = 0;
     for terms in sources {
         if terms.server != server {
-            most = most.max(terms.overrun.greatest());
+            passed = passed.max(terms.overrun.greatest());
         }
     }
-    most
+    passed
 }
 
 /// Returns within how many ticks of its release each job of a server's sources is finished, or `None` if that is not

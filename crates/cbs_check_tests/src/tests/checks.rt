@@ -1,5 +1,5 @@
 //! Texts about files, byte for byte. The two loads with comments are examples of this project. All texts come from an
-//! independent program.
+//! independent program, but for what is promised beside overruns of others, which is worked out by hand.
 
 use cbs_check::{check_load, check_plan};
 use cbs_load::read_load;
@@ -93,7 +93,7 @@ both           1     10  1/10    2/5      15      yes, by 15
 both           4     20   1/5    2/5      14    not promised
 ";
 
-/// Servers whose units overrun. Each server is delayed by what the others are charged.
+/// Servers whose units overrun. Each server is delayed by what the others are charged, and its releases by one charge.
 const OVERRUNS: &str = "\
 load = 1
 bound = [1, 1]
@@ -106,10 +106,10 @@ budget = 2
 period = 5
 [[source]]
 server = \"alone\"
-every = 20
+every = 40
 units = 3
 overrun = 1
-within = 20
+within = 30
 [[server]]
 name = \"other\"
 mode = \"throttled\"
@@ -130,7 +130,7 @@ period = 4
 server = \"third\"
 every = 20
 units = 2
-within = 14
+within = 20
 ";
 
 /// The text about those servers.
@@ -146,9 +146,9 @@ all                                  3/4  75.0 %
 The periods come together every 20 ticks.
 
 SOURCE OF  units  every   asks  share  within  in time always
-alone          3     20   3/20    2/5      20      yes, by 20
+alone          3     40   3/40    2/5      30      yes, by 25
 other          1    100  1/100   1/10      60    not promised
-third          2     20   1/10    1/4      14      yes, by 14
+third          2     20   1/10    1/4      20      yes, by 19
 
 Units that overrun make a server late by at most 6 ticks.
 ";
@@ -252,7 +252,7 @@ period = 4
 server = \"second\"
 every = 8
 units = 1
-within = 8
+within = 12
 ";
 
 /// The text about those two servers.
@@ -268,7 +268,7 @@ The periods come together every 4 ticks.
 
 SOURCE OF  units  every  asks  share  within  in time always
 first          1     20  1/20    1/4      20      yes, by 16
-second         1      8   1/8    1/4       8       yes, by 7
+second         1      8   1/8    1/4      12      yes, by 10
 
 Units that overrun make a server late by at most 3 ticks.
 ";

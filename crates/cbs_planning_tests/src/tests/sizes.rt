@@ -57,14 +57,14 @@ fn numbers_of_a_robot(rt: HostRuntime) {
         .expect(&rt, "memory");
     assert!(rt; budgets[..] == [3, 14, 5]);
     let loads = server_loads(alloc, &load).ok().expect(&rt, "memory");
-    // the others are charged 7 ticks
+    // the others are charged 7 ticks, and a charge passes a release by 7
     let control = ServerLoad {
         asked: Some(Asked { ticks: 1, of: 12 }),
-        promised: Some(12),
+        promised: Some(19),
     };
     let vision = ServerLoad {
         asked: Some(Asked { ticks: 30, of: 120 }),
-        promised: Some(47),
+        promised: Some(54),
     };
     let logging = ServerLoad {
         asked: Some(Asked { ticks: 5, of: 4 }),

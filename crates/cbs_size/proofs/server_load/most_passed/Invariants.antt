@@ -3,4 +3,4 @@ use Rattle.cbs_size.specs.ServerLoads.{most_passed}
 use Rattle.cbs_size.proofs.server_load.most_passed.Given as goal
 
 abbrev pub invariant-loop-terms : goal.invariant-loop-terms
-invariant-loop-terms l = l.most ≡ most_passed (take l.terms-index l.sources) l.server
+invariant-loop-terms l = l.passed ≡ most_passed (take l.terms-index l.sources) l.server
