@@ -23,43 +23,45 @@ abbrev pub whole_if : Option ℕ → Data
 whole_if None = null
 whole_if (Some n) = whole (told n)
 
--- the event of something that goes on from one tick up to another, on a thread
-unfoldable pub slice_data : List ℕ → List ℕ → ℕ → ℕ → ℕ → Data → Data
-slice_data name cat thread from to args = object_of (
-    (codes "ph", string (codes "X"))
+-- the members, with a thread and a tick
+abbrev pub with_place : ℕ → ℕ → Members → Members
+with_place thread tick ms = with_members ((codes "pid", whole 1) ∷ (codes "tid", whole thread) ∷ (codes "ts", whole tick) ∷ []) ms
+
+-- the members that all events on a thread have: the phase, the name, the category, and the place
+unfoldable pub on_thread : List ℕ → List ℕ → List ℕ → ℕ → ℕ → Members
+on_thread phase name cat thread tick =
+    with_place thread tick (with_members (
+    (codes "ph", string phase)
     ∷ (codes "name", string name)
     ∷ (codes "cat", string cat)
-    ∷ (codes "pid", whole 1)
-    ∷ (codes "tid", whole thread)
-    ∷ (codes "ts", whole from)
-    ∷ (codes "dur", whole (to - from))
+    ∷ []) no_members)
+
+-- the event of something that goes on from one tick up to another, on a thread
+unfoldable pub slice_data : List ℕ → List ℕ → ℕ → ℕ → ℕ → Data → Data
+slice_data name cat thread from to args =
+    object (with_members (
+    (codes "dur", whole (to - from))
     ∷ (codes "args", args)
-    ∷ [])
+    ∷ []) (on_thread (codes "X") name cat thread from))
 
 -- the event of something that happens at a tick, on a thread
 unfoldable pub instant_data : List ℕ → List ℕ → ℕ → ℕ → Data → Data
-instant_data name cat thread tick args = object_of (
-    (codes "ph", string (codes "i"))
-    ∷ (codes "name", string name)
-    ∷ (codes "cat", string cat)
-    ∷ (codes "pid", whole 1)
-    ∷ (codes "tid", whole thread)
-    ∷ (codes "ts", whole tick)
-    ∷ (codes "s", string (codes "t"))
+instant_data name cat thread tick args =
+    object (with_members (
+    (codes "s", string (codes "t"))
     ∷ (codes "args", args)
-    ∷ [])
+    ∷ []) (on_thread (codes "i") name cat thread tick))
+
+-- the arguments that give a budget
+unfoldable pub budget_args : ℕ → Data
+budget_args budget = object_of ((codes "c", whole budget) ∷ [])
 
 -- the event of a budget that holds from a tick on
 unfoldable pub budget_data : List ℕ → ℕ → ℕ → ℕ → Data
-budget_data name thread tick budget = object_of (
-    (codes "ph", string (codes "C"))
-    ∷ (codes "name", string (codes "budget of " ++ name))
-    ∷ (codes "cat", string (codes "budget"))
-    ∷ (codes "pid", whole 1)
-    ∷ (codes "tid", whole thread)
-    ∷ (codes "ts", whole tick)
-    ∷ (codes "args", object_of ((codes "c", whole budget) ∷ []))
-    ∷ [])
+budget_data name thread tick budget =
+    object (with_members (
+    (codes "args", budget_args budget)
+    ∷ []) (on_thread (codes "C") (codes "budget of " ++ name) (codes "budget") thread tick))
 
 -- the event that describes a thread: by a name, by the name of the whole process, or by its place
 unfoldable pub about_data : List ℕ → ℕ → Data → Data

@@ -1,13 +1,14 @@
 //! The events of a trace, as JSON objects.
 
-ghost use Rattle.std.specs.Prelude.{◌≡◌, false, IfOk, string_bytes};
-ghost use Rattle.serde_json.specs.View.{view};
+ghost use Rattle.std.specs.Prelude.{◌≡◌, false, IfOk, OnOk, string_bytes};
+ghost use Rattle.serde_json.specs.Data.{string, put as with_member};
+ghost use Rattle.serde_json.specs.View.{view, members_view};
 ghost use Rattle.serde_json.specs.Written.{compact_text, has_float};
 ghost use Rattle.cbs_chart.specs.Counts.{told};
-ghost use Rattle.cbs_trace.specs.Events.{about_data, budget_data, came_args, finished_args, instant_data, job_args, named_args, no_args, placed_args, slice_data, whole_if};
+ghost use Rattle.cbs_trace.specs.Events.{about_data, budget_args, budget_data, came_args, finished_args, instant_data, job_args, named_args, no_args, on_thread, placed_args, slice_data, whole_if, with_place};
 
 use cbs_chart::ChartJob;
-use serde_json::{Value, json};
+use serde_json::{Map, Value, json, put};
 use std::alloc::{AllocError, Global};
 
 /// Returns the number, or 2^64 - 1 if the number is greater.
@@ -93,6 +94,53 @@ pub(crate) fn no_args(alloc: Global) -> Result<Value, AllocError>
     json!(in alloc; {})
 }
 
+/// Puts a text among members.
+fn put_text(
+    alloc: Global,
+    members: &mut Map<String, Value>,
+    key: &str,
+    text: &str,
+) -> Result<(), AllocError>
+    ensures { OnOk result (members_view members.new.entries ≡ with_member key.now (string text.now) (members_view members.old.entries)) }
+{
+    let text = String::from_str(alloc, text)?;
+    put(members, alloc, key, Value::String(text))
+}
+
+/// Puts a thread and a tick among members.
+fn put_place(
+    alloc: Global,
+    members: &mut Map<String, Value>,
+    thread: u64,
+    tick: u64,
+) -> Result<(), AllocError>
+    ensures { OnOk result (members_view members.new.entries ≡ with_place thread tick (members_view members.old.entries)) }
+{
+    put(members, alloc, "pid", Value::from(1u64))?;
+    put(members, alloc, "tid", Value::from(thread))?;
+    put(members, alloc, "ts", Value::from(tick))
+}
+
+/// Returns the members that all events on a thread have: the phase, the name, the category, and the place.
+#[tactic(auto, unfolding(crate::specs::Events::on_thread))]
+fn on_thread(
+    alloc: Global,
+    phase: &str,
+    name: &str,
+    cat: &str,
+    thread: u64,
+    tick: u64,
+) -> Result<Map<String, Value>, AllocError>
+    ensures { IfOk result (λ members. members_view members.entries ≡ on_thread phase.now name.now cat.now thread tick) }
+{
+    let mut members = Map::new(alloc);
+    put_text(alloc, &mut members, "ph", phase)?;
+    put_text(alloc, &mut members, "name", name)?;
+    put_text(alloc, &mut members, "cat", cat)?;
+    put_place(alloc, &mut members, thread, tick)?;
+    Ok(members)
+}
+
 /// Returns the event of something that goes on from one tick up to another, on a thread.
 #[tactic(auto, unfolding(crate::specs::Events::slice_data))]
 fn slice_value(
@@ -106,16 +154,15 @@ fn slice_value(
 ) -> Result<Value, AllocError>
     ensures { IfOk result (λ v. view v ≡ slice_data name.now cat.now thread from to (view args)) }
 {
-    json!(in alloc; {
-        "ph": "X",
-        "name": name,
-        "cat": cat,
-        "pid": 1u64,
-        "tid": thread,
-        "ts": from,
-        "dur": to.saturating_sub(from),
-        "args": args
-    })
+    let mut members = on_thread(alloc, "X", name, cat, thread, from)?;
+    put(
+        &mut members,
+        alloc,
+        "dur",
+        Value::from(to.saturating_sub(from)),
+    )?;
+    put(&mut members, alloc, "args", args)?;
+    Ok(Value::Object(members))
 }
 
 /// Returns the event of something that goes on from one tick up to another, on a thread, as text.
@@ -146,16 +193,10 @@ fn instant_value(
 ) -> Result<Value, AllocError>
     ensures { IfOk result (λ v. view v ≡ instant_data name.now cat.now thread tick (view args)) }
 {
-    json!(in alloc; {
-        "ph": "i",
-        "name": name,
-        "cat": cat,
-        "pid": 1u64,
-        "tid": thread,
-        "ts": tick,
-        "s": "t",
-        "args": args
-    })
+    let mut members = on_thread(alloc, "i", name, cat, thread, tick)?;
+    put_text(alloc, &mut members, "s", "t")?;
+    put(&mut members, alloc, "args", args)?;
+    Ok(Value::Object(members))
 }
 
 /// Returns the event of something that happens at a tick, on a thread, as text.
@@ -173,6 +214,14 @@ pub(crate) fn instant_text(
     instant_value(alloc, name, cat, thread, tick, args)?.to_string(alloc)
 }
 
+/// Returns the arguments that give a budget.
+#[tactic(auto, unfolding(crate::specs::Events::budget_args))]
+fn budget_args(alloc: Global, budget: u64) -> Result<Value, AllocError>
+    ensures { IfOk result (λ v. view v ≡ budget_args budget) }
+{
+    json!(in alloc; {"c": budget})
+}
+
 /// Returns the event of a budget that holds from a tick on.
 #[tactic(auto, unfolding(crate::specs::Events::budget_data))]
 fn budget_value(
@@ -185,15 +234,10 @@ fn budget_value(
     ensures { IfOk result (λ v. view v ≡ budget_data name.now thread tick budget) }
 {
     let name = format!(in alloc; "budget of {name}")?;
-    json!(in alloc; {
-        "ph": "C",
-        "name": &name,
-        "cat": "budget",
-        "pid": 1u64,
-        "tid": thread,
-        "ts": tick,
-        "args": {"c": budget}
-    })
+    let args = budget_args(alloc, budget)?;
+    let mut members = on_thread(alloc, "C", &name, "budget", thread, tick)?;
+    put(&mut members, alloc, "args", args)?;
+    Ok(Value::Object(members))
 }
 
 /// Returns the event of a budget that holds from a tick on, as text.
