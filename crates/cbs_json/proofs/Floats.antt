@@ -6,7 +6,7 @@ use Rattle.cbs_report.specs.declared.figures.Figures.{Figures}
 use Rattle.cbs_report.specs.declared.figures.Ranks.{Ranks}
 use Rattle.cbs_print.specs.declared.report.RunReport.{RunReport}
 use Rattle.cbs_print.specs.declared.report.ServerReport.{ServerReport}
-use Rattle.cbs_json.specs.Json.{pair_data, jobs_data, within_data, units_data, ranks_data, early_data, charges_data, server_data, servers_data, ticks_data, seed_data, report_data}
+use Rattle.cbs_json.specs.Json.{pair_data, jobs_data, within_data, units_data, ranks_data, early_data, charges_data, server_terms, with_jobs, with_time, server_data, servers_data, ticks_data, seed_data, report_terms, with_shares, with_servers, report_data}
 
 pair_plain : (a b : ℕ) → has_float (pair_data a b) ≡ false
 unfolding pair_data
@@ -40,7 +40,7 @@ unfolding charges_data
 charges_plain f = refl
 
 server_plain : (s : ServerReport) → has_float (server_data s) ≡ false
-unfolding server_data
+unfolding server_data server_terms with_jobs with_time
 server_plain s = rw (
   charges_plain s.figures,
   early_plain s.figures s.figures.early_least,
@@ -64,7 +64,7 @@ unfolding ticks_data
 ticks_plain r = refl
 
 pub report_plain : (r : RunReport) → has_float (report_data r) ≡ false
-unfolding report_data
+unfolding report_data report_terms with_servers with_shares
 report_plain r = rw (
   pair_plain r.bound.num r.bound.den,
   jobs_plain r.servers.items,

@@ -78,23 +78,37 @@ early_data f (Some least) =
 unfoldable pub charges_data : Figures → Data
 charges_data f = object_of ((codes "all", whole f.charged) ∷ (codes "greatest", whole f.greatest_charge) ∷ [])
 
--- the object of a server
-unfoldable pub server_data : ServerReport → Data
-server_data s = object_of (
+-- the members that say what a server is
+unfoldable pub server_terms : ServerReport → Members
+server_terms s = with_members (
     (codes "name", string (string_bytes s.name))
     ∷ (codes "mode", string (mode_word s.mode))
     ∷ (codes "budget", whole s.reservation.budget)
     ∷ (codes "period", whole s.reservation.period)
-    ∷ (codes "jobs", jobs_data (s ∷ []))
+    ∷ []) no_members
+
+-- the members, with what became of the jobs of a server
+unfoldable pub with_jobs : ServerReport → Members → Members
+with_jobs s ms = with_members (
+    (codes "jobs", jobs_data (s ∷ []))
     ∷ (codes "within_ticks", within_data s.within)
-    ∷ (codes "units", units_data s.figures)
     ∷ (codes "response_ticks", ranks_data s.figures s.figures.responses)
     ∷ (codes "early_ticks", early_data s.figures s.figures.early_least)
-    ∷ (codes "exhaustions", whole s.figures.used_up)
-    ∷ (codes "throttled_with_job_ticks", whole s.figures.throttled)
-    ∷ (codes "charged_ticks", charges_data s.figures)
-    ∷ (codes "greatest_backlog", whole s.figures.greatest_backlog)
-    ∷ [])
+    ∷ []) ms
+
+-- the members, with how the time of a server went
+unfoldable pub with_time : Figures → Members → Members
+with_time f ms = with_members (
+    (codes "units", units_data f)
+    ∷ (codes "exhaustions", whole f.used_up)
+    ∷ (codes "throttled_with_job_ticks", whole f.throttled)
+    ∷ (codes "charged_ticks", charges_data f)
+    ∷ (codes "greatest_backlog", whole f.greatest_backlog)
+    ∷ []) ms
+
+-- the object of a server
+unfoldable pub server_data : ServerReport → Data
+server_data s = object (with_time s.figures (with_jobs s (server_terms s)))
 
 -- the objects of the servers, in their order
 abbrev pub servers_data : List ServerReport → Items
@@ -117,22 +131,36 @@ unfoldable pub seed_data : Option ℕ → Data
 seed_data None = null
 seed_data (Some seed) = whole seed
 
--- the whole report
-unfoldable pub report_data : RunReport → Data
-report_data r = object_of (
+-- the members that say what a report is about
+unfoldable pub report_terms : RunReport → Members
+report_terms r = with_members (
     (codes "report", whole 1)
     ∷ (codes "file", string (string_bytes r.file))
     ∷ (codes "unit", string (codes "tick"))
     ∷ (codes "clock", whole r.clock)
     ∷ (codes "seed", seed_data r.seed)
-    ∷ (codes "in_time", boolean (all_in_time r.servers.items))
-    ∷ (codes "ticks", ticks_data r)
+    ∷ (codes "backlog", whole r.backlog)
+    ∷ []) no_members
+
+-- the members, with the shares of the time
+unfoldable pub with_shares : RunReport → Members → Members
+with_shares r ms = with_members (
+    (codes "ticks", ticks_data r)
     ∷ (codes "bound", pair_data r.bound.num r.bound.den)
     ∷ (codes "reserved", pair_data r.reserved.ticks r.reserved.of)
-    ∷ (codes "backlog", whole r.backlog)
-    ∷ (codes "jobs", jobs_data r.servers.items)
-    ∷ (codes "servers", array (servers_data r.servers.items))
-    ∷ [])
+    ∷ []) ms
+
+-- the members, with what is said of the servers
+unfoldable pub with_servers : List ServerReport → Members → Members
+with_servers servers ms = with_members (
+    (codes "in_time", boolean (all_in_time servers))
+    ∷ (codes "jobs", jobs_data servers)
+    ∷ (codes "servers", array (servers_data servers))
+    ∷ []) ms
+
+-- the whole report
+unfoldable pub report_data : RunReport → Data
+report_data r = object (with_servers r.servers.items (with_shares r (report_terms r)))
 
 -- the whole report as text: one line
 abbrev pub report_json : RunReport → List ℕ

@@ -1,15 +1,15 @@
 //! The object of one server.
 
-ghost use Rattle.std.specs.Prelude.{◌≡◌, [], ◌∷◌, IfOk};
-ghost use Rattle.serde_json.specs.View.{view};
-ghost use Rattle.cbs_json.specs.Json.{pair_data, mode_word, jobs_data, within_data, units_data, ranks_data, early_data, charges_data, server_data};
+ghost use Rattle.std.specs.Prelude.{◌≡◌, [], ◌∷◌, IfOk, OnOk};
+ghost use Rattle.serde_json.specs.View.{view, members_view};
+ghost use Rattle.cbs_json.specs.Json.{pair_data, mode_word, jobs_data, within_data, units_data, ranks_data, early_data, charges_data, server_terms, with_jobs, with_time, server_data};
 
 use crate::sums::{Sum, told};
 use cbs_print::ServerReport;
 use cbs_report::Figures;
 use cbs_rules::Mode;
 use cbs_simulate::Range;
-use serde_json::{Value, json};
+use serde_json::{Map, Value, json, put};
 use std::alloc::{AllocError, Global};
 
 /// Returns an array of two numbers.
@@ -103,25 +103,88 @@ fn charges_value(alloc: Global, figures: &Figures) -> Result<Value, AllocError>
     json!(in alloc; {"all": figures.charged, "greatest": figures.greatest_charge})
 }
 
+/// Returns the members that say what a server is.
+#[tactic(auto, unfolding(crate::specs::Json::server_terms))]
+fn server_terms(alloc: Global, server: &ServerReport) -> Result<Map<String, Value>, AllocError>
+    ensures { IfOk result (λ members. members_view members.entries ≡ server_terms server.now) }
+{
+    let name = Value::try_from_str(alloc, &server.name)?;
+    let mode = Value::try_from_str(alloc, mode_word(server.mode))?;
+    let mut members = Map::new(alloc);
+    put(&mut members, alloc, "name", name)?;
+    put(&mut members, alloc, "mode", mode)?;
+    put(
+        &mut members,
+        alloc,
+        "budget",
+        Value::from(server.reservation.budget()),
+    )?;
+    put(
+        &mut members,
+        alloc,
+        "period",
+        Value::from(server.reservation.period()),
+    )?;
+    Ok(members)
+}
+
+/// Puts what became of the jobs of a server among members.
+#[tactic(auto, unfolding(crate::specs::Json::with_jobs))]
+fn put_jobs(
+    alloc: Global,
+    members: &mut Map<String, Value>,
+    server: &ServerReport,
+) -> Result<(), AllocError>
+    ensures { OnOk result (members_view members.new.entries ≡ with_jobs server.now (members_view members.old.entries)) }
+{
+    let figures = &server.figures;
+    let jobs = jobs_value(alloc, std::slice::from_ref(server))?;
+    put(members, alloc, "jobs", jobs)?;
+    put(
+        members,
+        alloc,
+        "within_ticks",
+        within_value(alloc, server.within)?,
+    )?;
+    put(
+        members,
+        alloc,
+        "response_ticks",
+        ranks_value(alloc, figures)?,
+    )?;
+    put(members, alloc, "early_ticks", early_value(alloc, figures)?)
+}
+
+/// Puts how the time of a server went among members.
+#[tactic(auto, unfolding(crate::specs::Json::with_time))]
+fn put_time(
+    alloc: Global,
+    members: &mut Map<String, Value>,
+    figures: &Figures,
+) -> Result<(), AllocError>
+    ensures { OnOk result (members_view members.new.entries ≡ with_time figures.now (members_view members.old.entries)) }
+{
+    put(members, alloc, "units", units_value(alloc, figures)?)?;
+    put(members, alloc, "exhaustions", Value::from(figures.used_up))?;
+    let throttled = Value::from(figures.throttled);
+    put(members, alloc, "throttled_with_job_ticks", throttled)?;
+    put(
+        members,
+        alloc,
+        "charged_ticks",
+        charges_value(alloc, figures)?,
+    )?;
+    let backlog = Value::from(figures.greatest_backlog);
+    put(members, alloc, "greatest_backlog", backlog)
+}
+
 /// Returns the object of a server.
 #[tactic(auto, unfolding(crate::specs::Json::server_data))]
 pub(crate) fn server_value(alloc: Global, server: &ServerReport) -> Result<Value, AllocError>
     ensures { IfOk result (λ v. view v ≡ server_data server.now) }
 {
-    let figures = &server.figures;
-    json!(in alloc; {
-        "name": &server.name,
-        "mode": mode_word(server.mode),
-        "budget": server.reservation.budget(),
-        "period": server.reservation.period(),
-        "jobs": jobs_value(alloc, std::slice::from_ref(server))?,
-        "within_ticks": within_value(alloc, server.within)?,
-        "units": units_value(alloc, figures)?,
-        "response_ticks": ranks_value(alloc, figures)?,
-        "early_ticks": early_value(alloc, figures)?,
-        "exhaustions": figures.used_up,
-        "throttled_with_job_ticks": figures.throttled,
-        "charged_ticks": charges_value(alloc, figures)?,
-        "greatest_backlog": figures.greatest_backlog
-    })
+    let mut members = server_terms(alloc, server)?;
+    put_jobs(alloc, &mut members, server)?;
+    put_time(alloc, &mut members, &server.figures)?;
+    Ok(Value::Object(members))
 }
