@@ -10,6 +10,7 @@ use Rattle.cbs_tables.specs.Fields.{◌>>=◌, only_keys, present, integer, pair
 use Rattle.cbs_tables.specs.Plans.{bound_of}
 use Rattle.cbs_load.specs.Loads.{most_sources}
 use Rattle.cbs_load.specs.declared.top.TypedValues.{TypedValues}
+use Rattle.cbs_load.specs.declared.top.Values.{Values}
 use Rattle.cbs_load.specs.declared.top.TopTable.{TopTable}
 
 -- the kind of the load file, which is 1
@@ -22,6 +23,31 @@ kind_at table = do
 -- the keys of the top table
 abbrev pub top_keys : List (List ℕ)
 top_keys = codes "load" ∷ codes "bound" ∷ codes "backlog" ∷ codes "until" ∷ codes "seed" ∷ codes "server" ∷ codes "source" ∷ []
+
+-- the values of those keys that the top table must have, beside its kind
+pub record TopValues : Type 0 where
+  pub bound : Data
+  pub backlog : Data
+  pub until : Data
+  pub server : Data
+  pub source : Data
+
+-- the values at the keys. The table must have each key
+unfoldable pub values_at_keys : Members → Result TopValues FileKind
+values_at_keys table = do
+  bound_value ← present (codes "bound") table
+  backlog_value ← present (codes "backlog") table
+  until_value ← present (codes "until") table
+  server_value ← present (codes "server") table
+  source_value ← present (codes "source") table
+  Ok (record { bound = bound_value; backlog = backlog_value; until = until_value; server = server_value; source = source_value })
+
+-- the values of the top table. First comes the test for a key that the table may not have, then the test for a key that
+-- it lacks
+abbrev pub top_values : Members → Result TopValues FileKind
+top_values table = do
+  _ ← only_keys top_keys table
+  values_at_keys table
 
 -- the values of the keys, each of its type
 pub record TypedData : Type 0 where
@@ -36,19 +62,14 @@ pub record TypedData : Type 0 where
 -- values
 unfoldable pub typed_values : Members → Result TypedData FileKind
 typed_values table = do
-  _ ← only_keys top_keys table
-  bound_value ← present (codes "bound") table
-  backlog_value ← present (codes "backlog") table
-  until_value ← present (codes "until") table
-  server_value ← present (codes "server") table
-  source_value ← present (codes "source") table
-  bound_values ← items bound_value
+  values ← top_values table
+  bound_values ← items values.bound
   bound_pair ← pair bound_values
-  backlog_number ← integer backlog_value
-  until_number ← integer until_value
+  backlog_number ← integer values.backlog
+  until_number ← integer values.until
   seed_number ← of_some integer (get_member (codes "seed") table)
-  servers ← items server_value
-  sources ← items source_value
+  servers ← items values.server
+  sources ← items values.source
   Ok (record { bound = bound_pair; backlog = backlog_number; until = until_number; seed = seed_number; servers = servers; sources = sources })
 
 -- what the top table spells
@@ -78,6 +99,16 @@ top_table table = do
   spelled_by found
 
 -- the values, as the code holds them
+abbrev pub values_view : Values → TopValues
+values_view v = record {
+  bound = view v.bound.now;
+  backlog = view v.backlog.now;
+  until = view v.until.now;
+  server = view v.server.now;
+  source = view v.source.now;
+}
+
+-- the values of each type, as the code holds them
 abbrev pub typed_view : TypedValues → TypedData
 typed_view n = record {
   bound = n.bound;

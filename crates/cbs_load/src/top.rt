@@ -6,7 +6,7 @@ ghost use Rattle.cbs_rate.specs.Limits.{most_backlog};
 ghost use Rattle.cbs_rules.specs.Rules.{clock_end};
 ghost use Rattle.cbs_tables.specs.Fields.{seen};
 ghost use Rattle.cbs_load.specs.Loads.{most_sources};
-ghost use Rattle.cbs_load.specs.TopTables.{kind_at, typed_values, spelled_by, top_table, typed_view, top_view};
+ghost use Rattle.cbs_load.specs.TopTables.{kind_at, top_values, typed_values, values_at_keys, spelled_by, top_table, values_view, typed_view, top_view};
 
 use cbs_core::MAX_BACKLOG;
 use cbs_rate::Bound;
@@ -22,6 +22,16 @@ pub const MAX_SOURCES: usize = 65_536;
 
 /// The greatest seed: the greatest integer of TOML.
 const MAX_SEED: u64 = 9_223_372_036_854_775_807;
+
+/// The values of those keys of the top table that it must have, beside its kind.
+#[derive(Clone, Copy)]
+struct Values<'a> {
+    bound: &'a Value,
+    backlog: &'a Value,
+    until: &'a Value,
+    server: &'a Value,
+    source: &'a Value,
+}
 
 /// The values of the keys of the top table, each of its type.
 #[derive(Clone, Copy)]
@@ -52,26 +62,48 @@ fn kind_at(table: &Table) -> Result<u64, FileKind>
     within(1, 1, integer(present(table, "load")?)?)
 }
 
-/// Returns the values of all keys, or the first fault over all of them.
-#[tactic(auto, unfolding(crate::specs::TopTables::typed_values))]
-fn typed_values(table: &Table) -> Result<TypedValues<'_>, FileKind>
-    ensures { seen typed_view result ≡ typed_values (table_view table.now) }
+/// Returns the values of those keys that must be there.
+#[tactic(auto, unfolding(crate::specs::TopTables::values_at_keys))]
+fn values_at_keys(table: &Table) -> Result<Values<'_>, FileKind>
+    ensures { seen values_view result ≡ values_at_keys (table_view table.now) }
 {
-    let keys = [
-        "load", "bound", "backlog", "until", "seed", "server", "source",
-    ];
-    only_keys(table, &keys)?;
     let bound = present(table, "bound")?;
     let backlog = present(table, "backlog")?;
     let until = present(table, "until")?;
     let server = present(table, "server")?;
     let source = present(table, "source")?;
-    let bound = pair(items(bound)?)?;
-    let backlog = integer(backlog)?;
-    let until = integer(until)?;
+    Ok(Values {
+        bound,
+        backlog,
+        until,
+        server,
+        source,
+    })
+}
+
+/// Returns the values of those keys that must be there. First tests that the table has no unknown keys.
+fn top_values(table: &Table) -> Result<Values<'_>, FileKind>
+    ensures { seen values_view result ≡ top_values (table_view table.now) }
+{
+    let keys = [
+        "load", "bound", "backlog", "until", "seed", "server", "source",
+    ];
+    only_keys(table, &keys)?;
+    values_at_keys(table)
+}
+
+/// Returns the values of all keys, or the first fault over all of them.
+#[tactic(auto, unfolding(crate::specs::TopTables::typed_values))]
+fn typed_values(table: &Table) -> Result<TypedValues<'_>, FileKind>
+    ensures { seen typed_view result ≡ typed_values (table_view table.now) }
+{
+    let values = top_values(table)?;
+    let bound = pair(items(values.bound)?)?;
+    let backlog = integer(values.backlog)?;
+    let until = integer(values.until)?;
     let seed = optional_integer(optional(table, "seed"))?;
-    let servers = items(server)?;
-    let sources = items(source)?;
+    let servers = items(values.server)?;
+    let sources = items(values.source)?;
     Ok(TypedValues {
         bound,
         backlog,
