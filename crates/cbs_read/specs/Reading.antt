@@ -1,17 +1,24 @@
 -- How the result of a reader relates to what the grammar gives.
-use Rattle.std.specs.Prelude.{◌≡◌, ℕ, ◌<◌, List, [], ◌∷◌, length, Option, Some, None, option_map, Result, MatchResult, IfOk, String, Vec}
+use Rattle.std.specs.Prelude.{◌≡◌, ℕ, ◌==◌, ◌<◌, ◌||◌, true, List, [], ◌∷◌, length, Option, Some, None, option_map, Result, MatchResult, IfOk, String, Vec}
 use Rattle.std.specs.Borrow.{Bor}
 use Rattle.std.specs.BTreeMap.{BTreeMap}
 use Rattle.std.specs.declared.alloc.Global.{Global}
-use Rattle.toml_parser.specs.Lexical.{Read}
+use Rattle.toml_parser.specs.Lexical.{Read, first, skip_blank}
 use Rattle.toml_parser.specs.Strings.{Key}
+use Rattle.toml_parser.specs.declared.error.ParseError.{ParseError}
+use Rattle.toml_parser.specs.declared.error.ParseError.TheVariants as error
 use Rattle.toml.specs.Data.{Data, table, Items, no_items, push_item, Members, no_members, member}
 use Rattle.toml.specs.Parse.{lines}
 use Rattle.toml.specs.Tables.{Nodes, no_nodes, node, value, open_array, insert, close, put, key_value, Document, define}
 use Rattle.toml.specs.View.{array_view, table_view}
 use Rattle.toml.specs.declared.value.Value.{Value}
 use Rattle.cbs_read.specs.declared.stop.Stop.{Stop}
-use Rattle.cbs_read.specs.declared.stop.Stop.TheVariants.{NotToml}
+use Rattle.cbs_read.specs.declared.stop.Stop.TheVariants.{NotToml, OutOfMemory}
+
+-- why reading stops at an error of the tokens
+abbrev pub stop_of : ParseError → Stop
+stop_of error.OutOfMemory = OutOfMemory
+stop_of (error.At _ _ _) = NotToml
 
 -- the map of a table
 abbrev pub Table : Type 0
@@ -39,6 +46,10 @@ nodes_of (member k d ms) = node k (value d) (nodes_of ms)
 -- into those nodes
 abbrev pub IsPlace : (Nodes → Document) → Type 0
 IsPlace at = (ns : Nodes) (key : Key) (d : Data) → define (at ns) (key, key_value d) ≡ option_map at (put key d ns)
+
+-- no pair comes next: only blanks and comments are left, or a header comes
+abbrev pub EndsPairs : List ℕ → Type 0
+EndsPairs text = (length (skip_blank text) == 0 || first (skip_blank text) == 91) ≡ true
 
 -- the lines of a text, up to some other line, are the pairs of a table, and go to a place; or the grammar refuses
 abbrev pub ReadsPairs : ℕ → (Nodes → Document) → List ℕ → Result (Table × Bor (List ℕ)) Stop → Type 0

@@ -3,7 +3,7 @@
 ghost use Rattle.std.specs.Prelude.{◌≡◌, ℕ, [], ◌<◌, ◌≤◌, length, string_bytes, IfOk};
 ghost use Rattle.toml.specs.Parse as spec;
 ghost use Rattle.toml.specs.Tables.{Nodes, Document, array_table};
-ghost use Rattle.cbs_read.specs.Reading.{IsPlace, Reads, ReadsPairs, Shortens};
+ghost use Rattle.cbs_read.specs.Reading.{EndsPairs, IsPlace, Reads, ReadsPairs, Shortens};
 
 use crate::stop::Stop;
 use crate::tokens::{dotted, key_equals, simple};
@@ -25,6 +25,7 @@ pub fn ends_line(s: &str) -> bool
 pub fn pairs(alloc: Global, s: &str) -> Result<(Table, &str), Stop>
     ensures value { (n : ℕ) (at : Nodes → Document) → IsPlace at → length s.now < n → ReadsPairs n at s.now result }
     ensures within { IfOk result (λ p. length p.1.now ≤ length s.now) }
+    ensures ends { IfOk result (λ p. EndsPairs p.1.now) }
 {
     let mut found = BTreeMap::new(alloc);
     let mut rest = s;

@@ -5,7 +5,7 @@ ghost use Rattle.toml.specs.Parse as spec;
 ghost use Rattle.toml_parser.specs.Reading.{key_view};
 ghost use Rattle.toml_parser.specs.Strings.{key};
 ghost use Rattle.toml_parser.specs.declared.error.ParseError.TheVariants.{OutOfMemory};
-ghost use Rattle.cbs_read.specs.Reading.{Reads, Shortens};
+ghost use Rattle.cbs_read.specs.Reading.{Reads, Shortens, stop_of};
 ghost use Rattle.cbs_read.specs.declared.stop.Stop.TheVariants.{NotToml, Unusual};
 
 use crate::stop::Stop;
@@ -16,7 +16,8 @@ use toml_parser::{Key, ParseError, Scalar, dotted_key, quoted, starts_string, un
 
 /// Returns why reading stops at an error of the tokens.
 fn stop(error: ParseError) -> Stop
-    ensures { result ≡ NotToml → error ≡ OutOfMemory → ⊥ }
+    ensures value { result ≡ stop_of error }
+    ensures memory { result ≡ NotToml → error ≡ OutOfMemory → ⊥ }
 {
     match error {
         ParseError::OutOfMemory => Stop::OutOfMemory,

@@ -1,11 +1,12 @@
 //! Values, arrays and inline tables.
-ghost use Rattle.std.specs.Prelude.{◌≡◌, ℕ, ◌<◌, ◌≤◌, length, IfOk};
+ghost use Rattle.std.specs.Prelude.{◌≡◌, ℕ, ◌<◌, ◌≤◌, length, IfOk, IfErr};
 ghost use Rattle.toml.specs.Data.{no_items};
 ghost use Rattle.toml.specs.View.{view, array_view, table_view};
 ghost use Rattle.toml.specs.Tables.{no_nodes, put};
 ghost use Rattle.toml.specs.Parse as spec;
 ghost use Rattle.toml_parser.specs.Reading.{key_view};
 ghost use Rattle.cbs_read.specs.Reading.{Gives, Reads, Shortens, nodes_of};
+ghost use Rattle.cbs_read.specs.declared.stop.Stop.TheVariants.{NotToml};
 
 use crate::stop::Stop;
 use crate::tokens::{atom, key_equals, simple};
@@ -98,6 +99,7 @@ pub fn put(table: &mut Table, key: Key, value: Value) -> Result<(), Stop>
 pub fn after_element(s: &str, closing: u8) -> Result<&str, Stop>
     ensures value { Gives (λ rest. rest.now) result (spec.after_element closing s.now) }
     ensures within { IfOk result (λ rest. length rest.now ≤ length s.now) }
+    ensures refusal { IfErr result (λ e. e ≡ NotToml) }
 {
     let rest = skip_blank(s, true);
     if first(rest) == b',' {

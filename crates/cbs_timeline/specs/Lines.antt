@@ -5,8 +5,7 @@ use Rattle.std.specs.Str.{trim_end}
 use Rattle.cbs_chart.specs.declared.chart.ServerChart.{ServerChart}
 use Rattle.cbs_chart.specs.declared.picture.Drawn.{Drawn}
 use Rattle.cbs_timeline.specs.Grids.{GridSeen, tick_of}
-use Rattle.cbs_timeline.specs.Signs.{column_mark, column_sign}
-use Rattle.cbs_timeline.specs.declared.signs.TheConstants.{BLANK, FIVE, TEN}
+use Rattle.cbs_timeline.specs.Signs.{blank, column_mark, column_sign}
 
 -- a text, and blanks after it up to the width
 unfoldable pub padded : ℕ → List ℕ → List ℕ
@@ -27,9 +26,17 @@ number_text g first k = padded g.step (decimal (tick_of g (first + k * g.step)))
 unfoldable pub numbers_text : GridSeen → ℕ → ℕ → List ℕ
 numbers_text g first count = flat_map (number_text g first) (range_with_len 0 (count / g.step + 1))
 
+-- '|': each tenth column of a block
+abbrev pub tenth : ℕ
+tenth = 124
+
+-- ''': each fifth column of a block
+abbrev pub fifth : ℕ
+fifth = 39
+
 -- the mark at the beginning of a column: each tenth and each fifth column has one
 abbrev pub ruler_sign : ℕ → ℕ
-ruler_sign k = if eqb (k % 10) 0 then TEN else if eqb (k % 5) 0 then FIVE else BLANK
+ruler_sign k = if eqb (k % 10) 0 then tenth else if eqb (k % 5) 0 then fifth else blank
 
 unfoldable pub ruler_marks : ℕ → List ℕ
 ruler_marks count = map ruler_sign (range_with_len 0 (count + 1))

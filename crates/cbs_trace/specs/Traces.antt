@@ -11,7 +11,6 @@ use Rattle.cbs_rules.specs.declared.mode.Mode.{Mode}
 use Rattle.cbs_rules.specs.declared.mode.Mode.TheVariants as mode
 use Rattle.cbs_trace.specs.Events.{LineSeen, about_data, named_args, placed_args}
 use Rattle.cbs_trace.specs.Servers.{events_of}
-use Rattle.cbs_trace.specs.declared.trace.TheConstants.{OPENING}
 
 -- what f gives for each server, by numbers from n on, in order
 abbrev pub numbered : {X : Type 0} → (ℕ → Drawn → List X) → ℕ → List Drawn → List X
@@ -63,9 +62,13 @@ lines_text lines = flat_map (λ line. next_text line.text) lines
 unfoldable pub process_text : List ℕ → List ℕ
 process_text file = compact_text (about_data (codes "process_name") 0 (named_args file))
 
+-- the text before the events
+abbrev pub opening : List ℕ
+opening = codes "{\"displayTimeUnit\":\"ns\",\"otherData\":{\"unit\":\"a tick is a microsecond\"},\"traceEvents\":[\n"
+
 -- the opening of the document, with the name of the file
 unfoldable pub opening_text : List ℕ → List ℕ
-opening_text file = OPENING.now ++ process_text file
+opening_text file = opening ++ process_text file
 
 -- a trace with these events, in this order
 unfoldable pub trace_text : Picture → List LineSeen → List ℕ

@@ -1,5 +1,7 @@
 -- The faults of the words.
 use Rattle.std.specs.Prelude.{ℕ, List, codes}
+use Rattle.clap.specs.declared.error.kind.ErrorKind.{ErrorKind}
+use Rattle.clap.specs.declared.error.kind.ErrorKind.TheVariants as kind
 use Rattle.cbs_words.specs.declared.fault.WordsFault.{WordsFault}
 use Rattle.cbs_words.specs.declared.fault.WordsFault.TheVariants.{Usage, Help, OutOfMemory}
 
@@ -14,3 +16,10 @@ abbrev pub words_fault_name : WordsFault → List ℕ
 words_fault_name (Usage text) = codes "Usage"
 words_fault_name (Help text) = codes "Help"
 words_fault_name OutOfMemory = codes "OutOfMemory"
+
+-- the number of the fault that a refusal of `clap` becomes: help and the version are asked for, other words are wrong
+abbrev pub number_of : ErrorKind → ℕ
+number_of kind.OutOfMemory = 3
+number_of kind.DisplayHelp = 2
+number_of kind.DisplayVersion = 2
+number_of _ = 1

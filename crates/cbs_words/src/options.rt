@@ -1,8 +1,9 @@
 //! The options of a command, and what they ask for.
 
-ghost use Rattle.std.specs.Prelude.{◌≡◌, ℕ, codes, MatchOption, Some};
+ghost use Rattle.std.specs.Prelude.{◌≡◌, ℕ, codes, IfOk, MatchOption, Some};
 ghost use Rattle.cbs_chart.specs.declared.window.Window.{Window as Ticks};
 ghost use Rattle.cbs_words.specs.Actions.{drawing_name, form_name};
+ghost use Rattle.cbs_words.specs.Faults.{words_fault_number};
 ghost use Rattle.cbs_words.specs.Options.{AsksFor, AsksPlainly, AsksTicks, IsTick, said, text_of};
 ghost use Rattle.cbs_words.specs.declared.actions.Action.{Action as Wanted};
 
@@ -172,7 +173,9 @@ pub(crate) fn wrong_options(
     form: Option<&str>,
     from: Option<&str>,
     to: Option<&str>,
-) -> Result<WordsFault, AllocError> {
+) -> Result<WordsFault, AllocError>
+    ensures { IfOk result (λ w. words_fault_number w ≡ 1) }
+{
     let mut text = String::new(alloc);
     if drawing_of(form).is_some() {
         append_no_ticks(&mut text, from, to)?;

@@ -1,8 +1,9 @@
 //! The words of a command line, as `clap` sees them.
 
-ghost use Rattle.std.specs.Prelude.{◌≡◌, codes, IfOk, IfErr, false, map, string_bytes};
+ghost use Rattle.std.specs.Prelude.{◌≡◌, ◌≢◌, codes, IfOk, IfErr, false, map, string_bytes};
 ghost use Rattle.clap.specs.Words.{app_of, kind_of, subcommand_rows_of, with_subcommand};
 ghost use Rattle.clap.specs.declared.builder.command.Command.TheViews.{out-Command};
+ghost use Rattle.cbs_words.specs.Faults.{number_of, words_fault_number};
 ghost use Rattle.cbs_words.specs.Words.{command_line, on_file, in_a_form, with_option, bare_program, IsAsked, Names, AreTaken};
 ghost use Rattle.cbs_words.specs.declared.fault.WordsFault.TheVariants.{OutOfMemory};
 
@@ -97,7 +98,8 @@ fn command_line<'a>(alloc: Global) -> Result<Command<'a>, AllocError>
 
 /// Returns the fault of a command line that `clap` refused.
 fn refused(alloc: Global, error: &Error) -> Result<WordsFault, AllocError>
-    ensures { kind_of error.now ≡ ErrorKind.OutOfMemory → IfOk result (λ w. w ≡ OutOfMemory) }
+    ensures memory { kind_of error.now ≡ ErrorKind.OutOfMemory → IfOk result (λ w. w ≡ OutOfMemory) }
+    ensures kind { IfOk result (λ w. words_fault_number w ≡ number_of (kind_of error.now)) }
 {
     let text = error.to_string(alloc)?;
     Ok(match error.kind() {
@@ -108,7 +110,9 @@ fn refused(alloc: Global, error: &Error) -> Result<WordsFault, AllocError>
 }
 
 /// Returns the fault of a command line with no verb or no file. `clap` itself refuses such a command line before this.
-fn incomplete(alloc: Global) -> Result<WordsFault, AllocError> {
+fn incomplete(alloc: Global) -> Result<WordsFault, AllocError>
+    ensures { IfOk result (λ w. words_fault_number w ≡ 1) }
+{
     let text = String::from_str(alloc, "cbsrun: a verb and a file are wanted\n")?;
     Ok(WordsFault::Usage(text))
 }
@@ -118,6 +122,7 @@ fn incomplete(alloc: Global) -> Result<WordsFault, AllocError> {
 fn asked_in(alloc: Global, matches: &ArgMatches) -> Result<Asked, WordsFault>
     ensures ok { IfOk result (IsAsked (subcommand_rows_of matches.now)) }
     ensures refused { IfErr result (λ e. (asked : Asked) → IsAsked (subcommand_rows_of matches.now) asked → e ≡ OutOfMemory) }
+    ensures no_help { IfErr result (λ e. words_fault_number e ≢ 2) }
 {
     let Some((name, inner)) = matches.subcommand() else {
         return Err(incomplete(alloc)?);

@@ -36,5 +36,5 @@ returns-in-Ok-clause-refused c =
 
 pub returns-in_ok-refused-in-Err-clause-refused : goal.returns-in_ok-refused-in-Err-clause-refused
 returns-in_ok-refused-in-Err-clause-refused c = λ taken.
-    c.in_ok-refused-in-Err.ensures (c.in-Err.ensures.passes (ap (λ (a : App). takes a (map string_bytes c.args.words.now))
+    c.in_ok-refused-in-Err.ensures.memory (c.in-Err.ensures.passes (ap (λ (a : App). takes a (map string_bytes c.args.words.now))
     c.in_ok-command.ensures ∙ taken.taken))
