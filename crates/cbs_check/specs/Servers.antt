@@ -5,8 +5,9 @@ use Rattle.cbs_rate.specs.Plan.{share, common_multiple}
 use Rattle.cbs_rate.specs.Rate.{Rate}
 use Rattle.cbs_guarantee.specs.Parts.{rate_at}
 use Rattle.cbs_rules.specs.declared.mode.Mode.{Mode}
-use Rattle.cbs_rules.specs.declared.mode.Mode.TheVariants.{Soft, Throttled}
+use Rattle.cbs_rules.specs.declared.mode.Mode.TheVariants.{Soft}
 use Rattle.cbs_text.specs.Columns.{CellText}
+use Rattle.cbs_text.specs.Modes.{mode_word}
 use Rattle.cbs_check.specs.Fractions.{fraction_text, percent_text}
 
 -- a cell that is marked if the condition holds
@@ -16,11 +17,6 @@ marked_if marked text = record { text = text; marked = marked }
 -- a cell that is not marked
 abbrev pub plain : List ℕ → CellText
 plain text = marked_if false text
-
--- the word for a mode
-abbrev pub mode_word : Mode → List ℕ
-mode_word Soft = codes "soft"
-mode_word Throttled = codes "throttled"
 
 -- the name and the mode of server s
 abbrev pub name_at : List (List ℕ) → ℕ → List ℕ

@@ -2,23 +2,13 @@
 
 ghost use Rattle.std.specs.Prelude.{◌≡◌, ◌++◌, [], ◌∷◌, length, map, IfOk, OnOk, string_bytes};
 ghost use Rattle.cbs_text.specs.Columns.{columns_text, rows_of};
-ghost use Rattle.cbs_check.specs.Servers.{mode_word, server_row, servers_heading, total_row, servers_table};
+ghost use Rattle.cbs_check.specs.Servers.{server_row, servers_heading, total_row, servers_table};
 
 use crate::cells::{push_fraction, push_number, push_percent, push_word};
 use cbs_rate::{Plan, Reservation};
 use cbs_rules::{Mode, Modes};
-use cbs_text::{Cell, append_columns};
+use cbs_text::{Cell, append_columns, mode_word};
 use std::alloc::{AllocError, Global};
-
-/// Returns the word for a mode.
-fn mode_word(mode: Mode) -> &'static str
-    ensures { result.now ≡ mode_word mode }
-{
-    match mode {
-        Mode::Soft => "soft",
-        Mode::Throttled => "throttled",
-    }
-}
 
 /// Returns the heading of the table.
 fn heading(alloc: Global) -> Result<Vec<Cell>, AllocError>

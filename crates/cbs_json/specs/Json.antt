@@ -4,8 +4,7 @@ use Rattle.std.specs.List.{list_all}
 use Rattle.serde_json.specs.Data.{Data, null, boolean, number, unsigned, string, array, object, Items, no_items, item, Members, no_members, put}
 use Rattle.serde_json.specs.View.{items_of}
 use Rattle.serde_json.specs.Written.{compact_text}
-use Rattle.cbs_rules.specs.declared.mode.Mode.{Mode}
-use Rattle.cbs_rules.specs.declared.mode.Mode.TheVariants.{Soft, Throttled}
+use Rattle.cbs_text.specs.Modes.{mode_word}
 use Rattle.cbs_simulate.specs.Bounds.{Bounds}
 use Rattle.cbs_report.specs.Figures.{told}
 use Rattle.cbs_report.specs.declared.figures.Figures.{Figures}
@@ -30,11 +29,6 @@ whole n = number (unsigned n)
 -- two numbers: a part and its whole, or a sum and a count
 unfoldable pub pair_data : ℕ → ℕ → Data
 pair_data a b = array (item (whole a) (item (whole b) no_items))
-
--- the word for a mode
-abbrev pub mode_word : Mode → List ℕ
-mode_word Soft = codes "soft"
-mode_word Throttled = codes "throttled"
 
 -- how many jobs of the servers came, were refused, are finished, and are late
 unfoldable pub jobs_data : List ServerReport → Data

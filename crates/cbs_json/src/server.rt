@@ -2,13 +2,13 @@
 
 ghost use Rattle.std.specs.Prelude.{◌≡◌, [], ◌∷◌, IfOk, OnOk};
 ghost use Rattle.serde_json.specs.View.{view, members_view};
-ghost use Rattle.cbs_json.specs.Json.{pair_data, mode_word, jobs_data, within_data, units_data, ranks_data, early_data, charges_data, server_terms, with_jobs, with_time, server_data};
+ghost use Rattle.cbs_json.specs.Json.{pair_data, jobs_data, within_data, units_data, ranks_data, early_data, charges_data, server_terms, with_jobs, with_time, server_data};
 
 use crate::sums::{Sum, told};
 use cbs_print::ServerReport;
 use cbs_report::Figures;
-use cbs_rules::Mode;
 use cbs_simulate::Range;
+use cbs_text::mode_word;
 use serde_json::{Map, Value, json, put};
 use std::alloc::{AllocError, Global};
 
@@ -18,16 +18,6 @@ pub(crate) fn pair_value(alloc: Global, first: u64, second: u64) -> Result<Value
     ensures { IfOk result (λ v. view v ≡ pair_data first second) }
 {
     json!(in alloc; [first, second])
-}
-
-/// Returns the word for a mode.
-fn mode_word(mode: Mode) -> &'static str
-    ensures { result.now ≡ mode_word mode }
-{
-    match mode {
-        Mode::Soft => "soft",
-        Mode::Throttled => "throttled",
-    }
 }
 
 /// Returns how many jobs of the servers came, were refused, are finished, and are late.

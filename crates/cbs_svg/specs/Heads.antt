@@ -6,7 +6,8 @@ use Rattle.cbs_chart.specs.declared.picture.Drawn.{Drawn}
 use Rattle.cbs_chart.specs.declared.picture.Picture.{Picture}
 use Rattle.cbs_chart.specs.declared.window.Window.{Window}
 use Rattle.cbs_rate.specs.declared.bandwidth.Bandwidth.{Bandwidth}
-use Rattle.cbs_svg.specs.Rows.{mode_text, terms_text, units_of}
+use Rattle.cbs_text.specs.Modes.{mode_word}
+use Rattle.cbs_svg.specs.Rows.{terms_text, units_of}
 
 -- the heading: the name of a file, and the ticks that are shown
 unfoldable pub heading_text : List ℕ → Window → List ℕ
@@ -76,6 +77,6 @@ came_text came refused finished late =
 -- the sentence that says what a picture shows of a server
 unfoldable pub sentence_text : Window → List ℕ → Drawn → List ℕ
 sentence_text w name d =
-    who_text name (mode_text d.mode) (terms_text d.reservation) (units_of w d.chart)
+    who_text name (mode_word d.mode) (terms_text d.reservation) (units_of w d.chart)
     ++ came_text (told (length d.chart.arrivals.items + d.chart.refusals)) d.chart.refusals (length d.chart.completions.items)
     (count_by (is_late w) d.chart.jobs.items)

@@ -8,7 +8,6 @@ use Rattle.cbs_chart.specs.declared.stretch.Stretch.{Stretch}
 use Rattle.cbs_chart.specs.declared.window.Window.{Window}
 use Rattle.cbs_rate.specs.Rate.{Rate}
 use Rattle.cbs_rules.specs.declared.mode.Mode.{Mode}
-use Rattle.cbs_rules.specs.declared.mode.Mode.TheVariants as mode
 use Rattle.cbs_shapes.specs.Axes.{AxisSeen, right_of}
 use Rattle.cbs_shapes.specs.Columns.{cell_counts, columns_shape, heights_of}
 use Rattle.cbs_shapes.specs.Layouts.{LayoutSeen}
@@ -17,11 +16,7 @@ use Rattle.cbs_shapes.specs.Shapes.{label_text, path_text, titled_text}
 use Rattle.cbs_shapes.specs.Spans.{bar_class, late_text, pale_path, span_text}
 use Rattle.cbs_shapes.specs.declared.columns.Layer.{Layer}
 use Rattle.cbs_shapes.specs.declared.columns.Layer.TheVariants as layer
-
--- the word for a mode
-abbrev pub mode_text : Mode → List ℕ
-mode_text mode.Soft = codes "soft"
-mode_text mode.Throttled = codes "throttled"
+use Rattle.cbs_text.specs.Modes.{mode_word}
 
 -- how many units ran in a window
 abbrev pub units_of : Window → ServerChart → ℕ
@@ -36,14 +31,14 @@ unfoldable pub terms_text : Rate → List ℕ
 terms_text r = decimal r.budget ++ codes " in every " ++ decimal r.period
 
 unfoldable pub short_terms_text : Rate → Mode → List ℕ
-short_terms_text r mode = decimal r.budget ++ codes " in " ++ decimal r.period ++ codes " " ++ mode_text mode
+short_terms_text r mode = decimal r.budget ++ codes " in " ++ decimal r.period ++ codes " " ++ mode_word mode
 
 -- the name, the reservation and the mode of a server
 unfoldable pub names_text : AxisSeen → LayoutSeen → List ℕ → Rate → Mode → List ℕ
 names_text a l name r mode =
     if l.compact
     then label_text (codes "k") 1600 (text_line l) name ++ label_text (codes "m r") (a.left - 1200) (text_line l) (short_terms_text r mode)
-    else label_text (codes "n") 1600 2100 name ++ label_text (codes "m") 1600 3600 (terms_text r) ++ label_text (codes "m") 1600 5000 (mode_text mode)
+    else label_text (codes "n") 1600 2100 name ++ label_text (codes "m") 1600 3600 (terms_text r) ++ label_text (codes "m") 1600 5000 (mode_word mode)
 
 -- how many units ran
 unfoldable pub units_text : AxisSeen → LayoutSeen → ℕ → List ℕ

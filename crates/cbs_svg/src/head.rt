@@ -3,9 +3,10 @@
 ghost use Rattle.std.specs.Prelude.{◌≡◌, ◌+◌, ◌≤◌, ◌++◌, IfOk, OnOk, count_by, length, string_bytes};
 ghost use Rattle.cbs_svg.specs.Heads.{all_units, came_text, column_text, exceeds, figures_text, heading_text, hidden_text, is_late, is_late_at, is_whole, sentence_text, servers_text, summary_text, tenths_of, who_text};
 
-use crate::row::{mode_text, terms_text, units_of};
+use crate::row::{terms_text, units_of};
 use cbs_chart::{ChartJob, Counts, Drawn, Picture, Window};
 use cbs_rate::Bandwidth;
+use cbs_text::mode_word;
 use std::alloc::{AllocError, Global};
 use std::fmt::Write;
 
@@ -203,7 +204,7 @@ pub(crate) fn append_sentence(
     append_who(
         text,
         name,
-        mode_text(drawn.mode),
+        mode_word(drawn.mode),
         &terms,
         units_of(window, chart),
     )?;

@@ -1,7 +1,7 @@
 //! The row of a server.
 
 ghost use Rattle.std.specs.Prelude.{◌≡◌, ◌≤◌, ◌++◌, IfOk, OnOk, string_bytes};
-ghost use Rattle.cbs_svg.specs.Rows.{band_text, bars_text, charged_text, dense_text, fine_text, inside_text, lates_text, layer_shape, layer_text, line_text, marks_text, mode_text, names_text, row_text, short_terms_text, spans_text, terms_text, text_line, units_of, units_text, units_title};
+ghost use Rattle.cbs_svg.specs.Rows.{band_text, bars_text, charged_text, dense_text, fine_text, inside_text, lates_text, layer_shape, layer_text, line_text, marks_text, names_text, row_text, short_terms_text, spans_text, terms_text, text_line, units_of, units_text, units_title};
 
 use cbs_chart::{Counts, Drawn, ServerChart, Stretch, Window};
 use cbs_rate::Reservation;
@@ -11,18 +11,9 @@ use cbs_shapes::{
     append_deadlines, append_label, append_late, append_pale, append_path, append_refused,
     append_span, append_titled, bar_class, cell_counts, heights_of,
 };
+use cbs_text::mode_word;
 use std::alloc::{AllocError, Global};
 use std::fmt::Write;
-
-/// Returns the word for a mode.
-pub(crate) fn mode_text(mode: Mode) -> &'static str
-    ensures { result.now ≡ mode_text mode }
-{
-    match mode {
-        Mode::Soft => "soft",
-        Mode::Throttled => "throttled",
-    }
-}
 
 /// Returns how many units ran in a window.
 pub(crate) fn units_of(window: Window, chart: &ServerChart) -> u64
@@ -63,7 +54,7 @@ pub(crate) fn short_terms_text(
 {
     let budget = reservation.budget();
     let period = reservation.period();
-    let mode = mode_text(mode);
+    let mode = mode_word(mode);
     format!(in alloc; "{budget} in {period} {mode}")
 }
 
@@ -93,7 +84,7 @@ fn append_names(
     append_label(text, "n", 1600, 2100, place.name)?;
     let terms = terms_text(alloc, reservation)?;
     append_label(text, "m", 1600, 3600, &terms)?;
-    append_label(text, "m", 1600, 5000, mode_text(place.mode))
+    append_label(text, "m", 1600, 5000, mode_word(place.mode))
 }
 
 /// Appends how many units ran.

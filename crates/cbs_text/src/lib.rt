@@ -1,8 +1,10 @@
-//! Text in columns.
+//! Texts that several outputs share: rows of cells in columns, and the words for modes.
 #![tactic(auto)]
 
 mod cell;
 mod columns;
+mod modes;
 
 pub use cell::Cell;
 pub use columns::append_columns;
+pub use modes::mode_word;

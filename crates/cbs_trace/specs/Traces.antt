@@ -8,7 +8,7 @@ use Rattle.cbs_chart.specs.declared.picture.Picture.{Picture}
 use Rattle.cbs_chart.specs.declared.window.Window.{Window}
 use Rattle.cbs_rate.specs.Rate.{Rate}
 use Rattle.cbs_rules.specs.declared.mode.Mode.{Mode}
-use Rattle.cbs_rules.specs.declared.mode.Mode.TheVariants as mode
+use Rattle.cbs_text.specs.Modes.{mode_word}
 use Rattle.cbs_trace.specs.Events.{LineSeen, about_data, named_args, placed_args}
 use Rattle.cbs_trace.specs.Servers.{events_of}
 
@@ -30,11 +30,6 @@ pub record AreInOrder (events ordered : List LineSeen) : Type 0 where
   pub same : IsPermutation events ordered
   pub rising : IsSortedByKey tick_of nat_cmp ordered
   pub stable : IsStableByKey tick_of nat_cmp events ordered
-
--- the word for a mode
-abbrev pub mode_word : Mode → List ℕ
-mode_word mode.Soft = codes "soft"
-mode_word mode.Throttled = codes "throttled"
 
 -- a line after another one
 abbrev pub next_text : List ℕ → List ℕ

@@ -2,7 +2,7 @@
 
 ghost use Rattle.std.specs.Prelude.{◌≡◌, ◌-◌, ◌<◌, ◌^◌, ◌++◌, IfOk, OnOk, string_bytes};
 ghost use Rattle.cbs_trace.specs.Servers.{events_of};
-ghost use Rattle.cbs_trace.specs.Traces.{mode_word, next_text, server_text, title_text};
+ghost use Rattle.cbs_trace.specs.Traces.{next_text, server_text, title_text};
 
 use crate::events::{about_text, named_args, placed_args};
 use crate::line::Line;
@@ -13,6 +13,7 @@ use crate::slices::append_slices;
 use cbs_chart::{Drawn, Window};
 use cbs_rate::Reservation;
 use cbs_rules::Mode;
+use cbs_text::mode_word;
 use std::alloc::{AllocError, Global};
 
 /// Appends all events of a server.
@@ -33,16 +34,6 @@ pub(crate) fn append_events(
     append_arrivals(alloc, lines, window, thread, &chart.jobs)?;
     append_deadlines(alloc, lines, thread, &chart.deadlines)?;
     append_budgets(alloc, lines, window, &drawn.name, thread, chart)
-}
-
-/// Returns the word for a mode.
-fn mode_word(mode: Mode) -> &'static str
-    ensures { result.now ≡ mode_word mode }
-{
-    match mode {
-        Mode::Soft => "soft",
-        Mode::Throttled => "throttled",
-    }
 }
 
 /// Returns the title of a server: its name, reservation and mode.
