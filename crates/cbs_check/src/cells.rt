@@ -5,8 +5,7 @@ ghost use Rattle.cbs_check.specs.Fractions.{fraction_text, percent_text};
 ghost use Rattle.cbs_check.specs.Servers.{plain, marked_if};
 
 use crate::fractions::{append_fraction, append_percent};
-use crate::numbers::append_pair;
-use cbs_text::Cell;
+use cbs_text::{Cell, append_pair};
 use std::alloc::{AllocError, Global};
 
 /// Adds a cell with a word to a row.

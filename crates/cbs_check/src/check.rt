@@ -6,13 +6,13 @@ ghost use Rattle.cbs_check.specs.Checks.{left_over, fits_text, periods_text, pla
 use crate::fractions::append_fraction;
 use crate::lateness::append_lateness;
 use crate::notes::append_notes;
-use crate::numbers::append_pair;
 use crate::servers::append_servers;
 use crate::sources::append_sources;
 use cbs_load::Load;
 use cbs_rate::Plan;
 use cbs_rules::Modes;
 use cbs_size::{greatest_budgets, server_loads};
+use cbs_text::append_pair;
 use std::alloc::{AllocError, Global};
 
 /// Returns what is left under the bound, in ticks. They are ticks of a span: the bound's denominator times the least

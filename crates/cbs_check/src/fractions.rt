@@ -3,8 +3,8 @@
 ghost use Rattle.std.specs.Prelude.{◌≡◌, ◌++◌, ◌<◌, OnOk, string_bytes};
 ghost use Rattle.cbs_check.specs.Fractions.{greatest_divisor, fraction_text, percent_text};
 
-use crate::numbers::append_pair;
 use cbs_size::greatest_common_divisor;
+use cbs_text::append_pair;
 use std::alloc::AllocError;
 
 /// Returns the greatest number that divides both.

@@ -3,10 +3,10 @@
 ghost use Rattle.std.specs.Prelude.{◌≡◌, ◌++◌, OnOk, string_bytes};
 ghost use Rattle.cbs_check.specs.Lateness.{late_by_text, is_overrunning, lateness_text};
 
-use crate::numbers::append_pair;
 use cbs_load::Load;
 use cbs_simulate::SourceTerms;
 use cbs_size::greatest_delay;
+use cbs_text::append_pair;
 use std::alloc::AllocError;
 
 /// Returns whether units of a source may overrun.

@@ -6,7 +6,6 @@ mod check;
 mod fractions;
 mod lateness;
 mod notes;
-mod numbers;
 mod servers;
 mod sources;
 

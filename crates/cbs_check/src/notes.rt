@@ -5,10 +5,10 @@ ghost use Rattle.cbs_size.specs.ServerLoads.{AreServerLoads};
 ghost use Rattle.cbs_check.specs.Notes.{IsSummed, cover_text, too_much_text, note_text, notes_text, set_off};
 
 use crate::fractions::append_fraction;
-use crate::numbers::append_pair;
 use cbs_load::Load;
 use cbs_rate::Reservation;
 use cbs_size::{Asked, ServerLoad};
+use cbs_text::append_pair;
 use std::alloc::{AllocError, Global};
 
 /// Appends the budget that covers the demand, or that no budget covers it. A budget is at most the period. The only

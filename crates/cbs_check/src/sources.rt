@@ -6,12 +6,11 @@ ghost use Rattle.cbs_check.specs.Servers.{plain};
 ghost use Rattle.cbs_check.specs.Sources.{range_text, number_text, is_within, promise_text, in_time_text, is_asking_too_much, source_row, sources_heading, sources_table, sources_text};
 
 use crate::cells::{push_fraction, push_number, push_word};
-use crate::numbers::append_pair;
 use cbs_load::Load;
 use cbs_rate::Reservation;
 use cbs_simulate::{Range, SourceTerms};
 use cbs_size::ServerLoad;
-use cbs_text::{Cell, append_columns};
+use cbs_text::{Cell, append_columns, append_pair};
 use std::alloc::{AllocError, Global};
 
 /// Adds a cell with a range of numbers to a row.

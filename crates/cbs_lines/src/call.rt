@@ -4,9 +4,9 @@ ghost use Rattle.std.specs.Prelude.{◌≡◌, ◌++◌, OnOk, string_bytes};
 ghost use Rattle.cbs_lines.specs.Lines.{call_text};
 ghost use Rattle.cbs_lines.specs.StepTexts.{call_of};
 
-use crate::numbers::append_pair;
 use cbs_core::Step;
 use cbs_job::FileJob;
+use cbs_text::append_pair;
 use std::alloc::AllocError;
 
 /// The call of a step, without its job.

@@ -4,7 +4,6 @@
 mod call;
 mod line;
 mod load_lines;
-mod numbers;
 mod output;
 mod pending;
 mod run_error;
@@ -12,7 +11,6 @@ mod steps;
 mod trace;
 
 pub use load_lines::write_load_lines;
-pub use numbers::append_pair;
 pub use output::{ByteOutput, ToWrite, write_pieces, write_text};
 pub use run_error::RunError;
 pub use trace::replay;

@@ -4,9 +4,9 @@ ghost use Rattle.std.specs.Prelude.{◌≡◌, ◌++◌, OnOk, string_bytes};
 ghost use Rattle.cbs_lines.specs.Lines.{error_text, ran_text, reply_text, state_text, line_text, shown_server};
 
 use crate::call::Call;
-use crate::numbers::append_pair;
 use cbs_core::{CoreError, Ran, Reply, ServerView};
 use cbs_job::FileJob;
+use cbs_text::append_pair;
 use std::alloc::AllocError;
 
 /// Appends an error to a text. The only error is out of memory.

@@ -8,13 +8,13 @@ ghost use Rattle.cbs_lines.specs.Writers.{Leaves, StopsWriting};
 
 use crate::call::Call;
 use crate::line::{append_error, append_ran, append_state};
-use crate::numbers::append_pair;
 use crate::output::ByteOutput;
 use crate::pending::Pending;
 use crate::run_error::RunError;
 use cbs_core::{CoreError, ServerView};
 use cbs_load::Load;
 use cbs_planning::show_load;
+use cbs_text::append_pair;
 use cbs_views::{Event, Seen, View};
 use std::alloc::{AllocError, Global};
 

@@ -6,7 +6,7 @@ ghost use Rattle.cbs_run.specs.ResultLines.{server_line, kept_lines};
 
 use cbs_house::House;
 use cbs_job::FileJob;
-use cbs_lines::append_pair;
+use cbs_text::append_pair;
 use std::alloc::{AllocError, Global};
 
 /// Appends the line of a server with these results. The only error is out of memory.

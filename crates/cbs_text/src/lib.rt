@@ -1,10 +1,12 @@
-//! Texts that several outputs share: rows of cells in columns, and the words for modes.
+//! Texts that several outputs share: rows of cells in columns, numbers, and the words for modes.
 #![tactic(auto)]
 
 mod cell;
 mod columns;
 mod modes;
+mod numbers;
 
 pub use cell::Cell;
 pub use columns::append_columns;
 pub use modes::mode_word;
+pub use numbers::append_pair;

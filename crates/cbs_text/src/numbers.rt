@@ -1,4 +1,4 @@
-//! Numbers in a text.
+//! Numbers as text.
 
 ghost use Rattle.std.specs.Prelude.{◌≡◌, ◌++◌, OnOk, string_bytes};
 
@@ -6,11 +6,7 @@ use itoa::{Buffer, Integer};
 use std::alloc::AllocError;
 
 /// Appends a word and a number in decimal. The only error is out of memory.
-pub(crate) fn append_pair<N: Integer>(
-    text: &mut String,
-    word: &str,
-    number: N,
-) -> Result<(), AllocError>
+pub fn append_pair<N: Integer>(text: &mut String, word: &str, number: N) -> Result<(), AllocError>
     ensures { OnOk result (string_bytes text.new ≡ string_bytes text.old ++ word.now ++ N.text number) }
 {
     text.push_str(word)?;
