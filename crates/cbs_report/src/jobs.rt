@@ -44,7 +44,7 @@ impl<A: Allocator> Model for JobTally<A> {
 }
 
 /// Returns whether a number of ticks is greater than the wanted one. Without a wanted number, returns `false`.
-fn exceeds(ticks: u64, within: Option<u64>) -> bool
+pub fn exceeds(ticks: u64, within: Option<u64>) -> bool
     ensures { result ≡ exceeds ticks within }
 {
     match within {

@@ -13,4 +13,5 @@ mod sums;
 mod tally;
 
 pub use figures::{Figures, Ranks};
+pub use jobs::exceeds;
 pub use report::Report;

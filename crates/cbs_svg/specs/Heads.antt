@@ -6,6 +6,7 @@ use Rattle.cbs_chart.specs.declared.picture.Drawn.{Drawn}
 use Rattle.cbs_chart.specs.declared.picture.Picture.{Picture}
 use Rattle.cbs_chart.specs.declared.window.Window.{Window}
 use Rattle.cbs_rate.specs.declared.bandwidth.Bandwidth.{Bandwidth}
+use Rattle.cbs_report.specs.Figures.{exceeds}
 use Rattle.cbs_text.specs.Modes.{mode_word}
 use Rattle.cbs_svg.specs.Rows.{terms_text, units_of}
 
@@ -51,15 +52,10 @@ summary_text p cell =
     figures_text (length p.servers.items) p.reserved (all_units p.window p.servers.items) (counts_of p.window.from p.window.to p.idle.items).idle
     ++ hidden_text p.window p.end ++ column_text cell
 
--- a job that took this many ticks took more than it was to take
-abbrev pub exceeds : Option ℕ → ℕ → Bool
-exceeds None took = false
-exceeds (Some within) took = ltb within took
-
 -- the job was finished late in the window
 abbrev pub is_late_at : Window → ChartJob → Option ℕ → Bool
 is_late_at w job None = false
-is_late_at w job (Some finish) = ltb w.from finish && (leb finish w.to && exceeds job.within (finish - job.came))
+is_late_at w job (Some finish) = ltb w.from finish && (leb finish w.to && exceeds (finish - job.came) job.within)
 
 abbrev pub is_late : Window → ChartJob → Bool
 is_late w job = is_late_at w job job.finish

@@ -1,19 +1,16 @@
 -- The scale of ticks.
-use Rattle.std.specs.Prelude.{ℕ, ◌+◌, ◌-◌, ◌*◌, ◌/◌, Bool, leb, max, min, if◌then◌else◌, List, [], ◌∷◌, ◌++◌, codes, decimal, flat_map, length, map, unwrap_or}
+use Rattle.std.specs.Prelude.{ℕ, ◌+◌, ◌-◌, ◌*◌, ◌/◌, Bool, leb, max, if◌then◌else◌, List, [], ◌∷◌, ◌++◌, codes, decimal, flat_map, map, unwrap_or}
 use Rattle.std.specs.Int.{div_ceil}
 use Rattle.std.specs.List.{find, range_with_len}
 use Rattle.cbs_chart.specs.Counts.{told}
 use Rattle.cbs_chart.specs.declared.window.Window.{Window}
 use Rattle.cbs_shapes.specs.Axes.{AxisSeen, right_of, x_at}
 use Rattle.cbs_shapes.specs.Shapes.{label_text, upright_text}
+use Rattle.cbs_text.specs.Numbers.{digits_of}
 
 -- numbers with this many digits have room if one stands every `step` ticks
 abbrev pub has_room : AxisSeen → ℕ → ℕ → Bool
 has_room a digits step = leb (700 * digits + 2000) (told (step * a.width) / max 1 a.cell)
-
--- the greatest number of digits that the numbers of a window have
-abbrev pub digits_of : Window → ℕ
-digits_of w = min 20 (length (decimal w.to))
 
 -- the steps at which ticks are numbered
 abbrev pub steps : List ℕ
@@ -41,7 +38,7 @@ numbered_ticks w step = multiples_from (div_ceil w.from (max 1 step)) step (mult
 
 -- the ticks of a window that are numbered
 abbrev pub ticks_numbered : AxisSeen → Window → List ℕ
-ticks_numbered a w = numbered_ticks w (step_of a (digits_of w))
+ticks_numbered a w = numbered_ticks w (step_of a (digits_of w.to))
 
 -- upright lines at ticks
 unfoldable pub uprights_text : AxisSeen → ℕ → ℕ → List ℕ → List ℕ

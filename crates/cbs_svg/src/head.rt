@@ -1,11 +1,12 @@
 //! The words of a picture that stand around its rows.
 
 ghost use Rattle.std.specs.Prelude.{◌≡◌, ◌+◌, ◌≤◌, ◌++◌, IfOk, OnOk, count_by, length, string_bytes};
-ghost use Rattle.cbs_svg.specs.Heads.{all_units, came_text, column_text, exceeds, figures_text, heading_text, hidden_text, is_late, is_late_at, is_whole, sentence_text, servers_text, summary_text, tenths_of, who_text};
+ghost use Rattle.cbs_svg.specs.Heads.{all_units, came_text, column_text, figures_text, heading_text, hidden_text, is_late, is_late_at, is_whole, sentence_text, servers_text, summary_text, tenths_of, who_text};
 
 use crate::row::{terms_text, units_of};
 use cbs_chart::{ChartJob, Counts, Drawn, Picture, Window};
 use cbs_rate::Bandwidth;
+use cbs_report::exceeds;
 use cbs_text::mode_word;
 use std::alloc::{AllocError, Global};
 use std::fmt::Write;
@@ -126,16 +127,6 @@ pub(crate) fn summary_text(
     Ok(text)
 }
 
-/// Returns whether a job that took `took` ticks took more than it was to take.
-fn exceeds(within: Option<u64>, took: u64) -> bool
-    ensures { result ≡ exceeds within took }
-{
-    match within {
-        Some(within) => within < took,
-        None => false,
-    }
-}
-
 /// Returns whether a job was finished late in the window.
 fn is_late(window: Window, job: &ChartJob) -> bool
     ensures { result ≡ is_late window job.now }
@@ -144,7 +135,7 @@ fn is_late(window: Window, job: &ChartJob) -> bool
         Some(finish) => {
             window.from < finish
                 && finish <= window.to
-                && exceeds(job.within, finish.saturating_sub(job.came))
+                && exceeds(finish.saturating_sub(job.came), job.within)
         }
         None => false,
     }

@@ -2,10 +2,11 @@
 
 ghost use Rattle.std.specs.Prelude.{◌≡◌, ◌≤◌, ◌++◌, IfOk, OnOk, string_bytes};
 ghost use Rattle.std.specs.List.{find};
-ghost use Rattle.cbs_svg.specs.Scales.{axis_text, digits_of, has_room, multiple, multiples, multiples_from, number_text, numbered_ticks, numbers_text, scale_text, small_mark, small_marks, step_of, ticks_numbered, uprights_text};
+ghost use Rattle.cbs_svg.specs.Scales.{axis_text, has_room, multiple, multiples, multiples_from, number_text, numbered_ticks, numbers_text, scale_text, small_mark, small_marks, step_of, ticks_numbered, uprights_text};
 
 use cbs_chart::Window;
 use cbs_shapes::{Axis, append_label, append_upright};
+use cbs_text::digits_of;
 use std::alloc::{AllocError, Global};
 use std::fmt::Write;
 
@@ -20,15 +21,6 @@ fn has_room(axis: &Axis, digits: u64, step: u64) -> bool
     ensures { result ≡ has_room axis.now digits step }
 {
     700 * digits + 2000 <= step.saturating_mul(axis.width()) / axis.cell().max(1)
-}
-
-/// Returns the greatest number of digits that the numbers of a window have.
-fn digits_of(alloc: Global, window: Window) -> Result<u64, AllocError>
-    ensures value { IfOk result (λ digits. digits ≡ digits_of window) }
-    ensures few { IfOk result (λ digits. digits ≤ 20) }
-{
-    let label = window.to.to_string(alloc)?;
-    Ok((label.len() as u64).min(20))
 }
 
 /// Returns the first of these steps at which numbers with this many digits have room, if there is one.
@@ -91,7 +83,7 @@ fn numbered_ticks(alloc: Global, window: Window, step: u64) -> Result<Vec<u64>, 
 pub(crate) fn ticks_of(alloc: Global, axis: &Axis, window: Window) -> Result<Vec<u64>, AllocError>
     ensures { IfOk result (λ ticks. ticks.items ≡ ticks_numbered axis.now window) }
 {
-    let digits = digits_of(alloc, window)?;
+    let digits = digits_of(alloc, window.to)?;
     numbered_ticks(alloc, window, step_of(axis, digits))
 }
 

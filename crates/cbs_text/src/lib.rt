@@ -9,4 +9,4 @@ mod numbers;
 pub use cell::Cell;
 pub use columns::append_columns;
 pub use modes::mode_word;
-pub use numbers::append_pair;
+pub use numbers::{append_pair, digits_of};

@@ -1,11 +1,11 @@
 -- The ticks that the columns of a timeline stand for.
-use Rattle.std.specs.Prelude.{ℕ, ◌+◌, ◌-◌, ◌*◌, ◌/◌, ◌<◌, ◌≤◌, Bool, eqb, leb, if◌then◌else◌, max, min, List, [], ◌∷◌, decimal, length, string_bytes}
+use Rattle.std.specs.Prelude.{ℕ, ◌+◌, ◌-◌, ◌*◌, ◌/◌, ◌<◌, ◌≤◌, Bool, eqb, leb, if◌then◌else◌, max, min, List, [], ◌∷◌, length, string_bytes}
 use Rattle.std.specs.Int.{div_ceil}
 use Rattle.cbs_chart.specs.Counts.{told}
 use Rattle.cbs_chart.specs.Windows.{ticks_of}
 use Rattle.cbs_chart.specs.declared.picture.Drawn.{Drawn}
 use Rattle.cbs_chart.specs.declared.picture.Picture.{Picture}
-use Rattle.cbs_chart.specs.declared.window.Window.{Window}
+use Rattle.cbs_text.specs.Numbers.{digits_of}
 
 -- a grid: the width of names, the columns of a block, and the columns from one numbered tick to the next. Also the
 -- first tick, the tick after the last one, and the ticks of a column
@@ -32,10 +32,6 @@ abbrev pub width_of : List Drawn → ℕ
 width_of [] = 0
 width_of (d ∷ ds) = max (length (string_bytes d.name)) (width_of ds)
 
--- the greatest number of digits that the numbers of a window have
-abbrev pub digits_of : Window → ℕ
-digits_of w = min 20 (length (decimal w.to))
-
 -- how many columns a block has: 60, or fewer by tens, but at least 10. A line has a name, two blanks, the columns and a
 -- number at its end. With fewer columns it has at most 80 letters, if the name has room
 abbrev pub plot_of : ℕ → ℕ → ℕ
@@ -54,11 +50,11 @@ cell_of ticks plot = if leb ticks 240 then 1 else div_ceil ticks plot
 abbrev pub grid_of : Picture → GridSeen
 grid_of p = record {
   width = width_of p.servers.items;
-  plot = plot_of (width_of p.servers.items) (digits_of p.window);
-  step = step_of (digits_of p.window);
+  plot = plot_of (width_of p.servers.items) (digits_of p.window.to);
+  step = step_of (digits_of p.window.to);
   from = p.window.from;
   to = p.window.to;
-  cell = cell_of (ticks_of p.window) (plot_of (width_of p.servers.items) (digits_of p.window));
+  cell = cell_of (ticks_of p.window) (plot_of (width_of p.servers.items) (digits_of p.window.to));
 }
 
 -- each column is one tick

@@ -1,9 +1,10 @@
 //! The ticks that the columns of a timeline stand for.
 
 ghost use Rattle.std.specs.Prelude.{◌≡◌, ◌+◌, ◌-◌, ◌≤◌, ◌<◌, IfOk};
-ghost use Rattle.cbs_timeline.specs.Grids.{blocks_of, cell_of, columns_of, count_of, digits_of, end_of, first_of, grid_of, is_fine, plot_of, step_of, tick_of, width_of};
+ghost use Rattle.cbs_timeline.specs.Grids.{blocks_of, cell_of, columns_of, count_of, end_of, first_of, grid_of, is_fine, plot_of, step_of, tick_of, width_of};
 
-use cbs_chart::{Drawn, Picture, Window};
+use cbs_chart::{Drawn, Picture};
+use cbs_text::digits_of;
 use std::alloc::{AllocError, Global};
 use std::marker::Model;
 
@@ -39,15 +40,6 @@ fn width_of(servers: &[Drawn]) -> u64
         width = (server.name.len() as u64).max(width);
     }
     width
-}
-
-/// Returns the greatest number of digits that the numbers of a window have.
-fn digits_of(alloc: Global, window: Window) -> Result<u64, AllocError>
-    ensures value { IfOk result (λ digits. digits ≡ digits_of window) }
-    ensures few { IfOk result (λ digits. digits ≤ 20) }
-{
-    let label = window.to.to_string(alloc)?;
-    Ok((label.len() as u64).min(20))
 }
 
 /// Returns how many columns a block has: 10 to 60.
@@ -91,7 +83,7 @@ impl Grid {
     {
         let window = picture.window;
         let width = width_of(&picture.servers);
-        let digits = digits_of(alloc, window)?;
+        let digits = digits_of(alloc, window.to)?;
         let plot = plot_of(width, digits);
         Ok(Grid {
             width,
