@@ -5,7 +5,6 @@ ghost use Rattle.cbs_job.specs.FileJobs.{of_files};
 ghost use Rattle.cbs_core.specs.Agreement.{Agrees, TellsOf};
 ghost use Rattle.cbs_steps.specs.History.{History, ◌⊕◌, reply_in};
 ghost use Rattle.cbs_steps.specs.Laws.{account_in, completion_in, completion_of, Completes};
-ghost use Rattle.cbs_steps.specs.Replies.{is_lack};
 ghost use Rattle.cbs_lines.specs.Writers.{Leaves, StopsWriting};
 ghost use Rattle.cbs_lines.specs.FileLaws.{CompletesAll, KeepsLaws};
 ghost use Rattle.cbs_lines.specs.StepTexts.{StepText, text_after, texts_after, start_of, texts_of, WritesSteps, StopsAtStep};
@@ -14,9 +13,10 @@ use crate::call::{Call, call_of};
 use crate::output::ByteOutput;
 use crate::pending::Pending;
 use crate::run_error::RunError;
-use cbs_core::{Core, CoreError, Reply, Step};
+use cbs_core::{Core, Reply, Step};
 use cbs_file::{Parts, TaskFile};
 use cbs_job::FileJob;
+use cbs_planning::lacks_memory;
 use std::alloc::{AllocError, Global};
 
 /// A view of steps, which writes a text for each step.
@@ -34,16 +34,6 @@ pub trait StepView {
         core: &Core<FileJob>,
     ) -> Result<(), AllocError>
         ensures { OnOk result (TellsOf of_files core.now (λ w. string_bytes text.new ≡ text_of call reply.now w)) };
-}
-
-/// Returns whether a submit was refused because of memory.
-fn lacks_memory(reply: &Reply<FileJob>) -> bool
-    ensures { result ≡ is_lack reply.now }
-{
-    match reply {
-        Reply::NotAccepted(refused) => matches!(refused.error, CoreError::OutOfMemory),
-        _ => false,
-    }
 }
 
 /// Makes one step, and writes its text into `text`, in place of its old content. The only error is out of memory. After

@@ -20,4 +20,4 @@ pub use showing::{Stopped, show_load};
 pub use shown::{NothingShown, shown_of};
 pub use task_picture::{clock_of, task_picture_of};
 pub use task_report::task_report_of;
-pub use task_steps::show_steps;
+pub use task_steps::{lacks_memory, show_steps};

@@ -46,7 +46,7 @@ fn asked_of(step: &Step<FileJob>) -> Asked
 }
 
 /// Returns whether a submit was refused because of memory.
-fn lacks_memory(reply: &Reply<FileJob>) -> bool
+pub fn lacks_memory(reply: &Reply<FileJob>) -> bool
     ensures { result ≡ is_lack reply.now }
 {
     match reply {
