@@ -1,5 +1,6 @@
 -- The jobs of one server, from its steps. The steps stand with the newest first.
-use Rattle.std.specs.Prelude.{ℕ, ◌+◌, Bool, ◌&&◌, ltb, if◌then◌else◌, min, List, [], ◌∷◌, ◌++◌, drop, filter, slice_get, unwrap_or, Option, Some, None}
+use Rattle.std.specs.Prelude.{ℕ, ◌+◌, Bool, ◌&&◌, eqb, ltb, if◌then◌else◌, min, List, [], ◌∷◌, ◌++◌, drop, filter, slice_get, unwrap_or, Option, Some, None}
+use Rattle.std.specs.List.{find}
 use Rattle.cbs_steps.specs.declared.reply.Ran.{Ran}
 use Rattle.cbs_steps.specs.declared.reply.Ran.TheVariants as ran
 use Rattle.cbs_views.specs.declared.seen.Arrival.{Arrival}
@@ -14,6 +15,10 @@ use Rattle.cbs_chart.specs.declared.window.Window.{Window}
 -- the job that was accepted
 abbrev pub job_of : Arrival → ℕ → Option ℕ → ChartJob
 job_of job number promised = record { number = number; came = job.came; units = job.units; within = job.within; promised = promised; finish = None }
+
+-- the job with this number, if it is among the jobs
+abbrev pub job_numbered : ℕ → List ChartJob → Option ChartJob
+job_numbered j jobs = find (λ job. eqb job.number j) jobs
 
 -- the job, finished at a tick
 abbrev pub finished_at : ℕ → ChartJob → ChartJob

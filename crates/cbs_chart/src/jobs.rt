@@ -2,7 +2,7 @@
 
 ghost use Rattle.std.specs.Prelude.{◌≡◌, ◌++◌, ◌∷◌, [], IfOk, OnOk, slice_get};
 ghost use Rattle.cbs_views.specs.declared.seen.Event.{Event};
-ghost use Rattle.cbs_chart.specs.Jobs.{all_jobs, is_shown, job_of, jobs_after, jobs_without, late_stretch, no_jobs};
+ghost use Rattle.cbs_chart.specs.Jobs.{all_jobs, is_shown, job_numbered, job_of, jobs_after, jobs_without, late_stretch, no_jobs};
 
 use crate::stretch::{Kind, Stretch};
 use crate::window::Window;
@@ -27,6 +27,13 @@ pub struct ChartJob {
     pub promised: Option<u128>,
     /// The tick at which the job was finished, if it was.
     pub finish: Option<u64>,
+}
+
+/// Returns the job with this number, or `None` if it is not among the jobs.
+pub fn job_numbered(number: u64, jobs: &[ChartJob]) -> Option<ChartJob>
+    ensures { result ≡ job_numbered number jobs.now }
+{
+    jobs.iter().copied().find(|job| job.number == number)
 }
 
 /// The jobs of one server that a window shows, and the jobs that wait.

@@ -18,7 +18,7 @@ mod window;
 pub use chart::{Chart, ServerChart};
 pub use counts::Counts;
 pub use course::Corner;
-pub use jobs::ChartJob;
+pub use jobs::{ChartJob, job_numbered};
 pub use picture::{Drawn, Picture};
 pub use stretch::{Kind, Stretch};
 pub use view::ChartView;

@@ -1,6 +1,6 @@
 -- What a server does, drawn tick by tick.
-use Rattle.std.specs.Prelude.{ℕ, ◌+◌, ◌-◌, ◌/◌, ◌%◌, Bool, true, false, eqb, leb, ltb, not, ◌&&◌, if◌then◌else◌, max, List, [], ◌++◌, codes, decimal, find, flat_map, length, Option, Some, None}
-use Rattle.std.specs.List.{find}
+use Rattle.std.specs.Prelude.{ℕ, ◌+◌, ◌-◌, ◌/◌, ◌%◌, Bool, true, false, eqb, leb, ltb, not, ◌&&◌, if◌then◌else◌, max, List, [], ◌++◌, codes, decimal, flat_map, length, Option, Some, None}
+use Rattle.cbs_chart.specs.Jobs.{job_numbered}
 use Rattle.cbs_chart.specs.declared.jobs.ChartJob.{ChartJob}
 use Rattle.cbs_chart.specs.declared.stretch.Kind.{Kind}
 use Rattle.cbs_chart.specs.declared.stretch.Kind.TheVariants as kind
@@ -42,10 +42,6 @@ finish_text job (Some finish) = codes ", finished at " ++ decimal finish ++ late
 abbrev pub job_text : Option ChartJob → List ℕ
 job_text None = []
 job_text (Some job) = codes "; came at " ++ decimal job.came ++ finish_text job job.finish
-
--- the job with this number, if it is among the jobs
-abbrev pub job_numbered : ℕ → List ChartJob → Option ChartJob
-job_numbered j jobs = find (λ job. eqb job.number j) jobs
 
 -- the title of a bar
 unfoldable pub bar_title : List ℕ → ℕ → Stretch → List ChartJob → List ℕ

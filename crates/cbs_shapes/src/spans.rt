@@ -2,14 +2,14 @@
 
 ghost use Rattle.std.specs.Prelude.{◌≡◌, ◌++◌, codes, decimal, IfOk, OnOk, flat_map, string_bytes};
 ghost use Rattle.cbs_shapes.specs.Shapes.{stretch_text};
-ghost use Rattle.cbs_shapes.specs.Spans.{bar_class, bar_text, bar_title, finish_text, is_pale, job_numbered, job_text, late_by_text, late_text, number_text, other_text, pale_path, pale_text, span_text, stretch_title};
+ghost use Rattle.cbs_shapes.specs.Spans.{bar_class, bar_text, bar_title, finish_text, is_pale, job_text, late_by_text, late_text, number_text, other_text, pale_path, pale_text, span_text, stretch_title};
 
 use crate::axis::Axis;
 use crate::layout::Layout;
 use crate::shapes::{
     append_box, append_label, append_path, append_stretch, append_titled, width_of,
 };
-use cbs_chart::{ChartJob, Kind, Stretch};
+use cbs_chart::{ChartJob, Kind, Stretch, job_numbered};
 use cbs_rules::Mode;
 use std::alloc::{AllocError, Global};
 use std::fmt::Write;
@@ -120,13 +120,6 @@ fn append_job(title: &mut String, job: Option<ChartJob>) -> Result<(), AllocErro
     let came = job.came;
     write!(title, "; came at {came}")?;
     append_finish(title, &job, job.finish)
-}
-
-/// Returns the job with this number, or `None` if it is not among the jobs.
-fn job_numbered(number: u64, jobs: &[ChartJob]) -> Option<ChartJob>
-    ensures { result ≡ job_numbered number jobs.now }
-{
-    jobs.iter().copied().find(|job| job.number == number)
 }
 
 /// Returns the title of a bar.

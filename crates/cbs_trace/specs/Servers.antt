@@ -1,8 +1,9 @@
 -- The events of one server, kind by kind.
 use Rattle.std.specs.Prelude.{ℕ, ◌+◌, ◌-◌, ◌&&◌, eqb, leb, ltb, if◌then◌else◌, List, [], ◌∷◌, ◌++◌, codes, decimal, flat_map, get_or, length, map, string_bytes, Option, Some, None}
-use Rattle.std.specs.List.{find, range_with_len}
+use Rattle.std.specs.List.{range_with_len}
 use Rattle.cbs_chart.specs.declared.chart.ServerChart.{ServerChart}
 use Rattle.cbs_chart.specs.declared.course.Corner.{Corner}
+use Rattle.cbs_chart.specs.Jobs.{job_numbered}
 use Rattle.cbs_chart.specs.declared.jobs.ChartJob.{ChartJob}
 use Rattle.cbs_chart.specs.declared.picture.Drawn.{Drawn}
 use Rattle.cbs_chart.specs.declared.stretch.Kind.{Kind}
@@ -10,10 +11,6 @@ use Rattle.cbs_chart.specs.declared.stretch.Kind.TheVariants as kind
 use Rattle.cbs_chart.specs.declared.stretch.Stretch.{Stretch}
 use Rattle.cbs_chart.specs.declared.window.Window.{Window}
 use Rattle.cbs_trace.specs.Events.{LineSeen, budget_data, came_args, finished_args, instant_data, job_args, line_of, no_args, slice_data}
-
--- the job with this number, if it is among the jobs
-abbrev pub job_numbered : ℕ → List ChartJob → Option ChartJob
-job_numbered j jobs = find (λ job. eqb job.number j) jobs
 
 -- a bar of job j, with what is known of the job
 unfoldable pub bar_line : ℕ → List ChartJob → ℕ → Stretch → LineSeen

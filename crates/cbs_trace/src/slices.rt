@@ -1,19 +1,12 @@
 //! The slices of a trace: what a server does.
 
 ghost use Rattle.std.specs.Prelude.{◌≡◌, ◌++◌, IfOk, OnOk};
-ghost use Rattle.cbs_trace.specs.Servers.{bar_line, job_numbered, other_line, slice_of, slices_of};
+ghost use Rattle.cbs_trace.specs.Servers.{bar_line, other_line, slice_of, slices_of};
 
 use crate::events::{job_args, no_args, slice_text};
 use crate::line::Line;
-use cbs_chart::{ChartJob, Kind, ServerChart, Stretch};
+use cbs_chart::{ChartJob, Kind, ServerChart, Stretch, job_numbered};
 use std::alloc::{AllocError, Global};
-
-/// Returns the job with this number, or `None` if it is not among the jobs.
-fn job_numbered(number: u64, jobs: &[ChartJob]) -> Option<ChartJob>
-    ensures { result ≡ job_numbered number jobs.now }
-{
-    jobs.iter().copied().find(|job| job.number == number)
-}
 
 /// Returns the line of a bar of a job, with what is known of the job.
 #[tactic(auto, unfolding(crate::specs::Servers::bar_line))]
