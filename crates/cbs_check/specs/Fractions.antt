@@ -1,5 +1,6 @@
 -- Shares of the time as text: as a shortened fraction, and in per cent.
 use Rattle.std.specs.Prelude.{ℕ, zero, suc, ◌+◌, ◌*◌, ◌/◌, ◌%◌, ◌&&◌, true, false, eqb, List, ◌++◌, codes, decimal}
+use Rattle.cbs_text.specs.Numbers.{tenths_text}
 
 -- the greatest of the numbers up to n that divides both, or 0 if none does
 abbrev pub divisor_up_to : ℕ → ℕ → ℕ → ℕ
@@ -13,10 +14,6 @@ greatest_divisor a b = divisor_up_to a b b
 -- a part of a whole as a shortened fraction
 unfoldable pub fraction_text : ℕ → ℕ → List ℕ
 fraction_text part whole = decimal (part / greatest_divisor part whole) ++ codes "/" ++ decimal (whole / greatest_divisor part whole)
-
--- a number of tenths, with one decimal
-abbrev pub tenths_text : ℕ → List ℕ
-tenths_text tenths = decimal (tenths / 10) ++ codes "." ++ decimal (tenths % 10)
 
 -- a part of a whole in per cent, with one decimal, rounded, a half upward
 unfoldable pub percent_text : ℕ → ℕ → List ℕ

@@ -1,22 +1,14 @@
 -- The table of the servers, as cells.
-use Rattle.std.specs.Prelude.{ℕ, Bool, false, List, [], ◌∷◌, ◌++◌, codes, decimal, get_or, length, map}
+use Rattle.std.specs.Prelude.{ℕ, List, [], ◌∷◌, ◌++◌, codes, decimal, get_or, length, map}
 use Rattle.std.specs.List.{sum_by, range_with_len}
 use Rattle.cbs_rate.specs.Plan.{share, common_multiple}
 use Rattle.cbs_rate.specs.Rate.{Rate}
 use Rattle.cbs_guarantee.specs.Parts.{rate_at}
 use Rattle.cbs_rules.specs.declared.mode.Mode.{Mode}
 use Rattle.cbs_rules.specs.declared.mode.Mode.TheVariants.{Soft}
-use Rattle.cbs_text.specs.Columns.{CellText}
+use Rattle.cbs_text.specs.Columns.{CellText, plain}
 use Rattle.cbs_text.specs.Modes.{mode_word}
 use Rattle.cbs_check.specs.Fractions.{fraction_text, percent_text}
-
--- a cell that is marked if the condition holds
-abbrev pub marked_if : Bool → List ℕ → CellText
-marked_if marked text = record { text = text; marked = marked }
-
--- a cell that is not marked
-abbrev pub plain : List ℕ → CellText
-plain text = marked_if false text
 
 -- the name and the mode of server s
 abbrev pub name_at : List (List ℕ) → ℕ → List ℕ

@@ -6,18 +6,14 @@ use Rattle.cbs_simulate.specs.Bounds.{Bounds}
 use Rattle.cbs_simulate.specs.declared.terms.SourceTerms.{SourceTerms}
 use Rattle.cbs_size.specs.ServerLoads.{no_load}
 use Rattle.cbs_size.specs.declared.server_load.ServerLoad.{ServerLoad}
-use Rattle.cbs_text.specs.Columns.{CellText, columns_text}
+use Rattle.cbs_text.specs.Columns.{CellText, columns_text, plain, marked_if}
+use Rattle.cbs_text.specs.Numbers.{number_text}
 use Rattle.cbs_check.specs.Fractions.{fraction_text}
-use Rattle.cbs_check.specs.Servers.{plain, marked_if, name_at}
+use Rattle.cbs_check.specs.Servers.{name_at}
 
 -- a range of numbers; a range of one number is written as that number
 abbrev pub range_text : Bounds → List ℕ
 range_text r = if eqb r.least r.greatest then decimal r.least else decimal r.least ++ codes ".." ++ decimal r.greatest
-
--- a number, or - if there is none
-abbrev pub number_text : Option ℕ → List ℕ
-number_text None = codes "-"
-number_text (Some n) = decimal n
 
 -- a time is at most the wanted one, if a time is wanted
 abbrev pub is_within : ℕ → Option ℕ → Bool

@@ -1,8 +1,8 @@
 //! Cells of the tables. The only error of each call is out of memory.
 
 ghost use Rattle.std.specs.Prelude.{◌≡◌, ◌++◌, [], ◌∷◌, ◌<◌, decimal, OnOk, string_bytes};
+ghost use Rattle.cbs_text.specs.Columns.{plain, marked_if};
 ghost use Rattle.cbs_check.specs.Fractions.{fraction_text, percent_text};
-ghost use Rattle.cbs_check.specs.Servers.{plain, marked_if};
 
 use crate::fractions::{append_fraction, append_percent};
 use cbs_text::{Cell, append_pair};

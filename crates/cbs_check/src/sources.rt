@@ -1,9 +1,9 @@
 //! The table of the sources.
 
 ghost use Rattle.std.specs.Prelude.{◌≡◌, ◌++◌, [], ◌∷◌, ◌<◌, length, IfOk, OnOk, string_bytes};
-ghost use Rattle.cbs_text.specs.Columns.{rows_of};
-ghost use Rattle.cbs_check.specs.Servers.{plain};
-ghost use Rattle.cbs_check.specs.Sources.{range_text, number_text, is_within, promise_text, in_time_text, is_asking_too_much, source_row, sources_heading, sources_table, sources_text};
+ghost use Rattle.cbs_text.specs.Columns.{plain, rows_of};
+ghost use Rattle.cbs_text.specs.Numbers.{number_text};
+ghost use Rattle.cbs_check.specs.Sources.{range_text, is_within, promise_text, in_time_text, is_asking_too_much, source_row, sources_heading, sources_table, sources_text};
 
 use crate::cells::{push_fraction, push_number, push_word};
 use cbs_load::Load;

@@ -8,7 +8,7 @@ use Rattle.cbs_steps.specs.Laws.{account_in, completions_of, replies_after, Comp
 use Rattle.cbs_steps.specs.Punctual.{IsPunctual}
 use Rattle.cbs_steps.specs.declared.step.Step.{Step}
 use Rattle.cbs_file.specs.TaskFiles.{File}
-use Rattle.cbs_lines.specs.StepTexts.{start_of}
+use Rattle.cbs_planning.specs.Tasks.{start_of_tasks}
 
 -- the completions of server s among the replies to these steps after M go on from its finished jobs, without gap or
 -- repeat. Each has the whole result of the job with its number
@@ -18,6 +18,6 @@ CompletesAll M steps s = Completes of_files (account_in of_files M s) (account_i
 -- The completions of each server are so over all steps of the file. After a close of a server no submit to it is
 -- accepted. The laws on time hold.
 pub record KeepsLaws (f : File) : Type 0 where
-  pub completions : (s : ℕ) → CompletesAll (start_of f) f.steps s
-  pub closes : (s : ℕ) → NoneAfterClose s (account_in of_files (start_of f) s).closed f.steps (replies_after of_files (start_of f) f.steps)
-  pub punctual : IsPunctual of_files (start_of f ⊕⊕ f.steps)
+  pub completions : (s : ℕ) → CompletesAll (start_of_tasks f) f.steps s
+  pub closes : (s : ℕ) → NoneAfterClose s (account_in of_files (start_of_tasks f) s).closed f.steps (replies_after of_files (start_of_tasks f) f.steps)
+  pub punctual : IsPunctual of_files (start_of_tasks f ⊕⊕ f.steps)

@@ -5,12 +5,12 @@ use Rattle.cbs_job.specs.declared.file.FileJob.{FileJob}
 use Rattle.cbs_core.specs.Agreement.{Agrees}
 use Rattle.cbs_core.specs.Held.{CoreHeld}
 use Rattle.cbs_steps.specs.History.{World, History, ◌⊕◌, world_after, reply_in}
-use Rattle.cbs_steps.specs.Setups.{terms_of}
 use Rattle.cbs_steps.specs.declared.reply.Reply.{Reply}
 use Rattle.cbs_steps.specs.declared.step.Step.{Step}
 use Rattle.cbs_steps.specs.declared.step.Step.TheVariants as step
 use Rattle.cbs_steps.specs.Continuations.{◌⊕⊕◌}
 use Rattle.cbs_file.specs.TaskFiles.{File}
+use Rattle.cbs_planning.specs.Tasks.{start_of_tasks}
 use Rattle.cbs_lines.specs.Writers.{Writer, Writes}
 use Rattle.cbs_lines.specs.Writes.{AppendsFront}
 use Rattle.cbs_lines.specs.declared.call.Call.{Call}
@@ -37,13 +37,9 @@ unfoldable pub texts_after : StepText → History FileJob → List (Step FileJob
 texts_after text M [] = []
 texts_after text M (x ∷ xs) = text_after text M x ++ texts_after text (M ⊕ x) xs
 
--- the history of an executor with the file's servers, modes and backlog, before its first step
-abbrev pub start_of : File → History FileJob
-start_of f = record { setup = record { servers = terms_of f.modes f.plan.rates; backlog = f.backlog }; steps = [] }
-
 -- the texts of all steps of a file
 abbrev pub texts_of : StepText → File → List ℕ
-texts_of text f = texts_after text (start_of f) f.steps
+texts_of text f = texts_after text (start_of_tasks f) f.steps
 
 -- the texts of the first steps were written, up to some step. They are a prefix of all texts, and no call failed
 pub record WritesSteps (text : StepText) (M : History FileJob) (steps : List (Step FileJob)) (old new : Writer) : Type 0 where

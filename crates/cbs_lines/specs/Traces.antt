@@ -8,7 +8,8 @@ use Rattle.cbs_steps.specs.declared.error.CoreError.{CoreError}
 use Rattle.cbs_steps.specs.declared.view.ServerView.{ServerView}
 use Rattle.cbs_file.specs.TaskFiles.{File}
 use Rattle.cbs_lines.specs.Lines.{line_text, shown_server}
-use Rattle.cbs_lines.specs.StepTexts.{StepText, start_of, texts_of, WritesSteps}
+use Rattle.cbs_planning.specs.Tasks.{start_of_tasks}
+use Rattle.cbs_lines.specs.StepTexts.{StepText, texts_of, WritesSteps}
 use Rattle.cbs_lines.specs.Writers.{Writer, StopsWriting}
 use Rattle.cbs_lines.specs.declared.run_error.RunError.{RunError}
 
@@ -33,4 +34,4 @@ trace f = texts_of line_of f
 -- how a replay stops. If memory ran out, the lines of the first steps were written, up to some step. If a write failed,
 -- a prefix of the trace was written. There is no other cause
 abbrev pub TraceStops : File → RunError → Writer → Writer → Type 0
-TraceStops f = StopsWriting (trace f) (WritesSteps line_of (start_of f) f.steps)
+TraceStops f = StopsWriting (trace f) (WritesSteps line_of (start_of_tasks f) f.steps)

@@ -7,7 +7,8 @@ ghost use Rattle.cbs_steps.specs.History.{History, ◌⊕◌, reply_in};
 ghost use Rattle.cbs_steps.specs.Laws.{account_in, completion_in, completion_of, Completes};
 ghost use Rattle.cbs_lines.specs.Writers.{Leaves, StopsWriting};
 ghost use Rattle.cbs_lines.specs.FileLaws.{CompletesAll, KeepsLaws};
-ghost use Rattle.cbs_lines.specs.StepTexts.{StepText, text_after, texts_after, start_of, texts_of, WritesSteps, StopsAtStep};
+ghost use Rattle.cbs_planning.specs.Tasks.{start_of_tasks};
+ghost use Rattle.cbs_lines.specs.StepTexts.{StepText, text_after, texts_after, texts_of, WritesSteps, StopsAtStep};
 
 use crate::call::{Call, call_of};
 use crate::output::ByteOutput;
@@ -104,7 +105,7 @@ pub fn write_file_steps<V: StepView, O: ByteOutput>(
     out: &mut O,
 ) -> Result<(), RunError>
     requires { O.failed out.old < 2 ^ 64 - 1 }
-    ensures written { Leaves (texts_of V.text_of file) (StopsWriting (texts_of V.text_of file) (WritesSteps V.text_of (start_of file) file.steps)) result
+    ensures written { Leaves (texts_of V.text_of file) (StopsWriting (texts_of V.text_of file) (WritesSteps V.text_of (start_of_tasks file) file.steps)) result
         (record { written = O.written out.old; failed = O.failed out.old }) (record { written = O.written out.new; failed = O.failed out.new }) }
     ensures laws { OnOk result (KeepsLaws file) }
 {

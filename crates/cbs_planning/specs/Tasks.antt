@@ -100,7 +100,7 @@ clock_after M xs = (world_after of_files (M ⊕⊕ xs)).now
 abbrev pub setup_of : File → ModedPlan
 setup_of f = record { plan = f.plan; modes = f.modes }
 
--- a task file before its first step
+-- the history of an executor with a task file's servers, modes and backlog, before its first step
 abbrev pub start_of_tasks : File → History FileJob
 start_of_tasks f = start_with (setup_of f) f.backlog
 

@@ -1,9 +1,6 @@
 -- Shares and means as text.
-use Rattle.std.specs.Prelude.{ℕ, ◌+◌, ◌*◌, ◌/◌, ◌%◌, eqb, if◌then◌else◌, List, ◌++◌, codes, decimal}
-
--- a number of tenths, with one decimal
-abbrev pub tenths_text : ℕ → List ℕ
-tenths_text tenths = decimal (tenths / 10) ++ codes "." ++ decimal (tenths % 10)
+use Rattle.std.specs.Prelude.{ℕ, ◌+◌, ◌*◌, ◌/◌, eqb, if◌then◌else◌, List, ◌++◌, codes}
+use Rattle.cbs_text.specs.Numbers.{tenths_text}
 
 -- how many tenths of a per cent a part is of a whole, rounded, a half upward
 abbrev pub percent_tenths : ℕ → ℕ → ℕ

@@ -1,6 +1,7 @@
 -- The tables of a report, as cells.
-use Rattle.std.specs.Prelude.{ℕ, ◌*◌, Bool, false, ◌&&◌, eqb, ltb, not, if◌then◌else◌, List, [], ◌∷◌, ◌++◌, codes, decimal, map, Option, Some, None, string_bytes}
-use Rattle.cbs_text.specs.Columns.{CellText}
+use Rattle.std.specs.Prelude.{ℕ, ◌*◌, Bool, ◌&&◌, eqb, ltb, not, if◌then◌else◌, List, [], ◌∷◌, ◌++◌, codes, decimal, map, Option, Some, None, string_bytes}
+use Rattle.cbs_text.specs.Columns.{CellText, plain, marked_if}
+use Rattle.cbs_text.specs.Numbers.{number_text}
 use Rattle.cbs_report.specs.declared.figures.Figures.{Figures}
 use Rattle.cbs_report.specs.declared.figures.Ranks.{Ranks}
 use Rattle.cbs_simulate.specs.Bounds.{Bounds}
@@ -8,14 +9,6 @@ use Rattle.cbs_print.specs.Numbers.{percent_text, mean_text}
 use Rattle.cbs_print.specs.Reports.{released, late, is_in_time, sum_of}
 use Rattle.cbs_print.specs.declared.report.RunReport.{RunReport}
 use Rattle.cbs_print.specs.declared.report.ServerReport.{ServerReport}
-
--- a cell that is not marked
-abbrev pub plain : List ℕ → CellText
-plain text = record { text = text; marked = false }
-
--- a cell that is marked if the condition holds
-abbrev pub marked_if : Bool → List ℕ → CellText
-marked_if marked text = record { text = text; marked = marked }
 
 -- the number of jobs that are late, if a time is wanted
 abbrev pub late_cell : Figures → Option Bounds → CellText
@@ -91,11 +84,6 @@ response_heading = map plain (codes "RESPONSE" ∷ codes "least" ∷ codes "mean
 
 unfoldable pub response_table : List ServerReport → List (List CellText)
 response_table servers = response_heading ∷ map response_row servers
-
--- a number, or - if there is none
-abbrev pub number_text : Option ℕ → List ℕ
-number_text None = codes "-"
-number_text (Some n) = decimal n
 
 -- a row of the table EARLY: how many ticks earlier than promised the server's jobs were finished
 abbrev pub early_row : ServerReport → List CellText

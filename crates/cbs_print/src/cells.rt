@@ -1,7 +1,7 @@
 //! Cells of the tables.
 
 ghost use Rattle.std.specs.Prelude.{◌≡◌, [], ◌∷◌, ◌++◌, IfOk, IfSome, OnOk, map};
-ghost use Rattle.cbs_print.specs.Tables.{plain, marked_if};
+ghost use Rattle.cbs_text.specs.Columns.{plain, marked_if};
 
 use cbs_text::Cell;
 use std::alloc::{AllocError, Global};

@@ -1,8 +1,9 @@
 //! The tables of a report.
 
 ghost use Rattle.std.specs.Prelude.{◌≡◌, ◌≤◌, [], ◌∷◌, ◌++◌, IfOk, OnOk, codes, length, replicate};
-ghost use Rattle.cbs_text.specs.Columns.{rows_of};
-ghost use Rattle.cbs_print.specs.Tables.{plain, late_cell, jobs_row, jobs_total, jobs_table, ticks_row, ticks_total, ticks_table, within_text, rank_cells, response_row, response_table, number_text, early_row, early_table, charges_row, charges_total, charges_table};
+ghost use Rattle.cbs_text.specs.Columns.{plain, rows_of};
+ghost use Rattle.cbs_text.specs.Numbers.{number_text};
+ghost use Rattle.cbs_print.specs.Tables.{late_cell, jobs_row, jobs_total, jobs_table, ticks_row, ticks_total, ticks_table, within_text, rank_cells, response_row, response_table, early_row, early_table, charges_row, charges_total, charges_table};
 
 use crate::cells::{add, add_marked, words};
 use crate::numbers::{Mean, Percent};

@@ -24,7 +24,7 @@ use Rattle.cbs_core.proofs.Laws.{new_count, terms_count}
 use Rattle.cbs_file.specs.TaskFiles.{File, IsFile}
 use Rattle.cbs_run.specs.ResultLines.{jobs_for, results_by_server}
 use Rattle.cbs_run.specs.ServingStops.{HouseStops}
-use Rattle.cbs_lines.specs.StepTexts.{start_of}
+use Rattle.cbs_planning.specs.Tasks.{start_of_tasks}
 
 module _ {X Y : Type 0} where
   -- what is the same for each element is the same for all
@@ -52,14 +52,14 @@ module _ {W A : Type 0} {g : Ghosts W} where
 
 module _ {A : Type 0} {g : Ghosts FileJob} (f : File) where
   -- a house that served has the servers that it was opened with
-  pub served_count : (a b : House FileJob A g) → Agrees of_files (core_of a) (start_of f) → ServesOn of_files a b → IsFile f
+  pub served_count : (a b : House FileJob A g) → Agrees of_files (core_of a) (start_of_tasks f) → ServesOn of_files a b → IsFile f
       → length (core_of b).faces ≡ length f.plan.rates
   served_count a b agrees on lawful =
       sym b.housed.ring_count ∙ (ap length (serves_rings of_files a b on)
-      ∙ (a.housed.ring_count ∙ (new_count of_files (core_of a) (start_of f).setup agrees ∙ terms_count f.modes f.plan.rates lawful.moded)))
+      ∙ (a.housed.ring_count ∙ (new_count of_files (core_of a) (start_of_tasks f).setup agrees ∙ terms_count f.modes f.plan.rates lawful.moded)))
 
   -- why a house that serves the file stops
-  pub stops_short : (a b : House FileJob A g) (fs : List (Feed FileJob A g)) (e : HouseError) → Agrees of_files (core_of a) (start_of f)
+  pub stops_short : (a b : House FileJob A g) (fs : List (Feed FileJob A g)) (e : HouseError) → Agrees of_files (core_of a) (start_of_tasks f)
       → ServesOn of_files a b → Stops e b fs → HouseStops f e
   stops_short a b fs house.OutOfMemory agrees on s = tt
   stops_short a b fs house.ClockEnd agrees on s =
@@ -67,8 +67,8 @@ module _ {A : Type 0} {g : Ghosts FileJob} (f : File) where
         steps = m.steps;
         core =
             core_of b;
-        allowed = m.each (start_of f) agrees;
-        agrees = m.made.steps (start_of f) agrees;
+        allowed = m.each (start_of_tasks f) agrees;
+        agrees = m.made.steps (start_of_tasks f) agrees;
         comes = s;
       }
   stops_short a b fs house.Stalled agrees on s =
@@ -76,8 +76,8 @@ module _ {A : Type 0} {g : Ghosts FileJob} (f : File) where
         steps = m.steps;
         core =
             core_of b;
-        allowed = m.each (start_of f) agrees;
-        agrees = m.made.steps (start_of f) agrees;
+        allowed = m.each (start_of_tasks f) agrees;
+        agrees = m.made.steps (start_of_tasks f) agrees;
         comes = s.drained;
       }
   stops_short a b fs house.BadBacklog agrees on s = s

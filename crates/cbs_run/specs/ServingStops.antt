@@ -11,7 +11,7 @@ use Rattle.cbs_clients.specs.declared.error.HouseError.{HouseError}
 use Rattle.cbs_clients.specs.declared.error.HouseError.TheVariants as house
 use Rattle.cbs_file.specs.TaskFiles.{File}
 use Rattle.cbs_run.specs.ResultLines.{result_lines}
-use Rattle.cbs_lines.specs.StepTexts.{start_of}
+use Rattle.cbs_planning.specs.Tasks.{start_of_tasks}
 use Rattle.cbs_lines.specs.Writers.{Writer, IsUntouched, FailsToWrite}
 use Rattle.cbs_lines.specs.declared.run_error.RunError.{RunError}
 use Rattle.cbs_lines.specs.declared.run_error.RunError.TheVariants as run
@@ -20,8 +20,8 @@ use Rattle.cbs_lines.specs.declared.run_error.RunError.TheVariants as run
 pub record ComesTo (f : File) (state : CoreHeld FileJob → Type 0) : Type 0 where
   pub steps : List (Step FileJob)
   pub core : CoreHeld FileJob
-  pub allowed : EachAllowed (MayServe of_files) (start_of f) steps
-  pub agrees : Agrees of_files core (start_of f ⊕⊕ steps)
+  pub allowed : EachAllowed (MayServe of_files) (start_of_tasks f) steps
+  pub agrees : Agrees of_files core (start_of_tasks f ⊕⊕ steps)
   pub comes : state core
 
 -- why a house that serves the file stops. If out of memory, nothing is said

@@ -12,7 +12,7 @@ ghost use Rattle.cbs_job.specs.FileJobs.{of_files};
 ghost use Rattle.cbs_file.specs.TaskFiles.{IsFile};
 ghost use Rattle.cbs_run.specs.ResultLines.{jobs_for, result_lines, results_by_server};
 ghost use Rattle.cbs_run.specs.ServingStops.{HouseStops, ServeStops, fault_of};
-ghost use Rattle.cbs_lines.specs.StepTexts.{start_of};
+ghost use Rattle.cbs_planning.specs.Tasks.{start_of_tasks};
 ghost use Rattle.cbs_lines.specs.Writers.{Leaves};
 
 use crate::jobs_by_server::jobs_by_server;
@@ -47,7 +47,7 @@ fn open_file(
     alloc: Global,
     file: TaskFile,
 ) -> Result<(House<FileJob>, Vec<Feed<FileJob>>), HouseError>
-    ensures core { IfOk result (λ opened. Agrees of_files (core_of opened.0) (start_of file)) }
+    ensures core { IfOk result (λ opened. Agrees of_files (core_of opened.0) (start_of_tasks file)) }
     ensures servers { IfOk result (λ opened. map (λ f. server_of (client_of f)) opened.1.items ≡ range_with_len 0 (length file.plan.rates)) }
     ensures rings { IfOk result (λ opened. All (λ f. IsUnused file.ring (client_of f)) opened.1.items) }
     ensures jobs { IfOk result (λ opened. map unsent_jobs opened.1.items ≡ map (λ s. jobs_for s file.steps) (range_with_len 0 (length file.plan.rates))) }

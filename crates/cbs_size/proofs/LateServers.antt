@@ -16,7 +16,8 @@ use Rattle.cbs_steps.specs.History.{account, world_after}
 use Rattle.cbs_steps.specs.Setups.{terms_of}
 use Rattle.cbs_steps.proofs.OnTime.{reservation, rates_after}
 use Rattle.cbs_steps.proofs.Punctual.{plan_punctual}
-use Rattle.cbs_size.specs.Lateness.{greatest_delay, history_of, BoundsLateness}
+use Rattle.cbs_guarantee.specs.Guarantees.{history_of}
+use Rattle.cbs_size.specs.Lateness.{greatest_delay, BoundsLateness}
 use Rattle.cbs_size.specs.ServerLoads.{most_charged, delay_of}
 
 -- the greatest number is no less than the first
@@ -79,7 +80,7 @@ as_many (m ∷ modes) (r ∷ rates) e = let rest = as_many modes rates (omega ar
 
 pub bounded : (f : LoadFile) → IsPlan f.plan → length f.modes ≡ length f.plan.rates → BoundsLateness f (greatest_delay f)
 bounded f ok same steps quiet within s lt ready =
-    let N = history_of f steps in
+    let N = history_of f.modes f.plan.rates f.backlog steps in
     let w = world_after loading N in
     let d = (account w.accounts s).state.deadline in
     let charge : Account LoadJob → ℕ = λ a. if ltb d a.state.deadline then a.charges.most else 0 in

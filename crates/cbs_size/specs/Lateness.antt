@@ -1,24 +1,20 @@
 -- A bound on how late overruns can make the servers of a load.
 use Rattle.std.specs.Prelude.{◌≡◌, ℕ, ◌+◌, ◌≤◌, ◌<◌, true, max, List, length}
 use Rattle.std.specs.List.{fold, range_with_len}
+use Rattle.cbs_guarantee.specs.Guarantees.{history_of}
 use Rattle.cbs_load.specs.Loads.{LoadFile}
 use Rattle.cbs_simulate.specs.Loading.{loading}
 use Rattle.cbs_simulate.specs.declared.load_job.LoadJob.{LoadJob}
 use Rattle.cbs_steps.specs.Accounts.{face_of}
 use Rattle.cbs_steps.specs.Faces.{is_ready}
-use Rattle.cbs_steps.specs.History.{World, History, account, world_after}
+use Rattle.cbs_steps.specs.History.{World, account, world_after}
 use Rattle.cbs_steps.specs.Quiet.{AdvanceQuietly}
-use Rattle.cbs_steps.specs.Setups.{terms_of}
 use Rattle.cbs_steps.specs.declared.step.Step.{Step}
 use Rattle.cbs_size.specs.ServerLoads.{most_charged, delay_of}
 
 -- the greatest of the delays of all servers by the others; 0 if there is no server
 abbrev pub greatest_delay : LoadFile → ℕ
 greatest_delay f = fold (λ most s. max most (delay_of f s)) 0 (range_with_len 0 (length f.plan.rates))
-
--- the servers of a load, and the steps that they make, the newest first
-abbrev pub history_of : LoadFile → List (Step LoadJob) → History LoadJob
-history_of f steps = record { setup = record { servers = terms_of f.modes f.plan.rates; backlog = f.backlog }; steps = steps }
 
 -- no server was charged more for one unit than its sources may overrun
 abbrev pub IsChargedWithin : LoadFile → World LoadJob → Type 0
@@ -33,5 +29,5 @@ AreLateByLess n w = (s : ℕ) → s < length w.accounts → is_ready (face_of lo
 -- premises are that each advance was quiet, and that no server was charged more for one unit than its sources may
 -- overrun.
 abbrev pub BoundsLateness : LoadFile → ℕ → Type 0
-BoundsLateness f n = (steps : List (Step LoadJob)) → AdvanceQuietly loading (history_of f steps).setup steps
-    → IsChargedWithin f (world_after loading (history_of f steps)) → AreLateByLess n (world_after loading (history_of f steps))
+BoundsLateness f n = (steps : List (Step LoadJob)) → let N = history_of f.modes f.plan.rates f.backlog steps in
+    AdvanceQuietly loading N.setup steps → IsChargedWithin f (world_after loading N) → AreLateByLess n (world_after loading N)

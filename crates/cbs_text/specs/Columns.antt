@@ -8,6 +8,14 @@ pub record CellText : Type 0 where
   pub text : List ℕ
   pub marked : Bool
 
+-- a cell that is marked if the condition holds
+abbrev pub marked_if : Bool → List ℕ → CellText
+marked_if marked text = record { text = text; marked = marked }
+
+-- a cell that is not marked
+abbrev pub plain : List ℕ → CellText
+plain text = marked_if false text
+
 -- the cells of rows
 abbrev pub rows_of : {A : Type 0} → List (Vec CellText A) → List (List CellText)
 rows_of rows = map (λ row. row.items) rows

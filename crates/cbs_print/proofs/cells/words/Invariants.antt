@@ -1,5 +1,5 @@
 use Rattle.std.proofs.Common.{◌≡◌, map, take}
-use Rattle.cbs_print.specs.Tables.{plain}
+use Rattle.cbs_text.specs.Columns.{plain}
 use Rattle.cbs_print.proofs.cells.words.Given as goal
 
 abbrev pub invariant-loop-word : goal.invariant-loop-word

@@ -1,5 +1,5 @@
 use Rattle.std.proofs.Common.{◌≡◌, ◌++◌, codes, replicate}
-use Rattle.cbs_print.specs.Tables.{plain}
+use Rattle.cbs_text.specs.Columns.{plain}
 use Rattle.cbs_print.proofs.tables.add_no_ranks.Given as goal
 
 abbrev pub invariant-loop-rank : goal.invariant-loop-rank
