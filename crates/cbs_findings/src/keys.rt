@@ -2,14 +2,12 @@
 
 use cbs_core::MAX_BACKLOG;
 use cbs_job::MAX_UNITS;
+use cbs_load::MAX_SOURCES;
 use cbs_rate::{MAX_PERIOD, MAX_RING};
 use cbs_rules::LIMIT;
 
 /// The longest advance of a step in a file of format 1, in ticks.
 const OLD_ADVANCE: u64 = 1_000_000_000;
-
-/// The greatest number of sources of a load.
-const MAX_SOURCES: u64 = 65_536;
 
 /// The greatest integer of TOML.
 const MAX_INTEGER: u64 = 9_223_372_036_854_775_807;
@@ -119,7 +117,7 @@ static LOAD: [Key; 7] = [
     key!("until", Want::Number(1, LIMIT)),
     optional_key!("seed", Want::Number(0, MAX_INTEGER)),
     key!("server", Want::Tables(MAX_INTEGER)),
-    key!("source", Want::Tables(MAX_SOURCES)),
+    key!("source", Want::Tables(MAX_SOURCES as u64)),
 ];
 
 static PLAIN_SERVER: [Key; 2] = [

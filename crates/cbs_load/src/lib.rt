@@ -10,3 +10,4 @@ mod top;
 
 pub use file::{is_load_within, read_load, read_load_within};
 pub use load::Load;
+pub use top::MAX_SOURCES;

@@ -1,12 +1,11 @@
 //! Sums over the steps of one server.
 
 ghost use Rattle.std.specs.Prelude.{◌≡◌, [], ◌≤◌, ◌^◌};
-ghost use Rattle.cbs_views.specs.Events.{ticks_of_run};
 ghost use Rattle.cbs_report.specs.Figures.{is_used_up};
 ghost use Rattle.cbs_report.specs.Tallies.{sums_of, sums_with, sums_after};
 
 use cbs_steps::{Ran, ServerView};
-use cbs_views::Event;
+use cbs_views::{Event, ticks_of_run};
 
 /// Sums over the steps of one server.
 #[derive(Clone, Copy, Debug, PartialEq, Eq)]
@@ -23,16 +22,6 @@ pub struct Sums {
     pub charged: u64,
     /// The greatest charge, in ticks.
     pub greatest_charge: u64,
-}
-
-/// Returns how many units a run ran: one or none.
-fn units_of(ran: Ran) -> u64
-    ensures { result ≡ ticks_of_run ran }
-{
-    match ran {
-        Ran::Unit { .. } | Ran::Done(_) => 1,
-        Ran::Idle | Ran::ClockEnd => 0,
-    }
 }
 
 /// Returns whether a server that shows this view after a unit has used up its budget.
@@ -65,7 +54,7 @@ impl Sums {
     fn add_run(&mut self, budget: u64, ran: Ran, view: Option<ServerView>)
         ensures { self.new ≡ sums_with budget ran view self.old }
     {
-        let units = units_of(ran);
+        let units = ticks_of_run(ran);
         self.run = self.run.saturating_add(units);
         if is_used_up(budget, view) {
             self.used_up = self.used_up.saturating_add(units);

@@ -4,5 +4,5 @@
 mod seen;
 mod view;
 
-pub use seen::{Arrival, Event, Seen};
+pub use seen::{Arrival, Event, Seen, ticks_of_run};
 pub use view::View;

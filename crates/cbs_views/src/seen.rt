@@ -79,7 +79,7 @@ fn server_of_unit(ran: Ran) -> Option<u16>
 
 /// Returns the ticks that a run takes: 1 if it ran a unit, else 0.
 #[inline]
-fn ticks_of_run(ran: Ran) -> u64
+pub fn ticks_of_run(ran: Ran) -> u64
     ensures { result ≡ ticks_of_run ran }
 {
     match ran {
