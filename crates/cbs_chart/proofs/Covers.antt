@@ -75,12 +75,6 @@ both_last true y = refl
 both_last false true = refl
 both_last false false = refl
 
-one_each : (x y z : Bool) → ((x || (y || false)) || (z || false)) ≡ ((x || (y || false)) || z)
-one_each true y z = refl
-one_each false true z = refl
-one_each false false true = refl
-one_each false false false = refl
-
 joined_last : (x a b m : Bool) → m ≡ (a || b) → (x || (m || false)) ≡ ((x || (a || false)) || b)
 joined_last true a b m e = refl
 joined_last false true b m e = rw e refl

@@ -72,11 +72,6 @@ wait_more c k n f ahead =
           rw (e, u) refl
     ]
 
--- the server is still ahead
-pub ahead_after : (c n : ℕ) (f : Face) → IsAhead c f → IsAhead (c + n) (passed c n f)
-ahead_after c zero f ahead = grind (arith, nat_tests)
-ahead_after c (suc n) f ahead = grind (arith, nat_tests)
-
 -- one tick more
 wait_one : (c i : ℕ) (f : Face) → IsAhead c f → one_if (is_waiting (passed c i f)) + wait c i f ≡ wait c (i + 1) f
 wait_one c i f ahead =

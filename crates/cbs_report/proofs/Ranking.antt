@@ -10,7 +10,7 @@ use Rattle.std.proofs.lemmas.List.Sums.{sum_by-cons}
 use Rattle.std.proofs.lemmas.Nat.{mul-le}
 use Rattle.std.proofs.lemmas.List.Elements.{Contains-get_or}
 use Rattle.cbs_report.specs.declared.figures.Ranks.{Ranks}
-use Rattle.cbs_report.specs.Percentiles.{at_most, below, IsPercentile, IsLeast, AreRanks}
+use Rattle.cbs_report.specs.Percentiles.{at_most, below, IsPercentile, AreRanks}
 
 -- the numbers after the first rise, too
 rising_tail : (n : ℕ) (ns : List ℕ) → IsNonDecreasing (n ∷ ns) → IsNonDecreasing ns
@@ -88,14 +88,6 @@ same_percentile percent n ns ms perm p =
       reached = rw (sym count, sym high) p.reached;
       least = rw (sym count, sym low) p.least;
     }
-
--- the first of rising numbers is the least of them
-pub least_first : (ns : List ℕ) (n : ℕ) → IsNonDecreasing ns → 0 < length ns → n ≡ slice_index_or ns 0 0 → IsLeast ns n
-least_first [] n rising some is = absurd (omega arith)
-least_first (m ∷ ms) n rising some is = rw is (record {
-  among = Contains-get_or (m ∷ ms) 0 0 (omega arith);
-  least = λ i d lt. rising 0 i d (omega arith) lt;
-})
 
 -- the ranks of numbers that were sorted
 pub same_ranks : (ns ms : List ℕ) (r : Ranks) → IsPermutation ns ms → AreRanks ms r → AreRanks ns r

@@ -1,6 +1,6 @@
 -- One step more in the tallies of all servers.
 use Rattle.std.proofs.Common.{◌≡◌, ℕ, zero, suc, ◌<◌, take, true, false, eqb, List, [], ◌∷◌, length, map, Some, None, arith, refl, sym, ap, ◌∙◌, inl, inr, subst}
-use Rattle.std.specs.Prelude.{◌+◌, ◌≤◌, ◌++◌, set, get_or, slice_get, Result, Ok, Err, OnOk}
+use Rattle.std.specs.Prelude.{◌+◌, ◌++◌, set, get_or, slice_get, Result, Ok, Err, OnOk}
 use Rattle.std.proofs.lemmas.Bool.{cases_Bool}
 use Rattle.std.proofs.Math.Seq.{map-set_same}
 use Rattle.std.proofs.lemmas.List.{length-map, map-append, take_more, get_or-set_same, get_or-set_other}
@@ -132,10 +132,6 @@ adds_at old k o x y lt is step same =
       others = λ t ne. get_or-set_other old k t y no_kept ne;
       budgets = map-set_same (λ t. t.budget) old k y no_kept (same ∙ budget);
     }
-
--- if there is no such server, nothing changes
-pub adds_none : (old : List Kept) (k : ℕ) (o : Seen) → length old ≤ k → AddsStep k o old old
-adds_none old k o le = record { here = λ within own was. absurd (omega arith); others = λ t ne. refl; budgets = refl }
 
 -- two facts of one result, together
 pub ok_both : {T E A B C : Type 0} (r : Result T E) → OnOk r A → OnOk r B → (A → B → C) → OnOk r C
