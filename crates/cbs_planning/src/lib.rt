@@ -2,10 +2,10 @@
 #![tactic(auto)]
 
 mod drawn;
-mod pictured;
+mod load_picture;
+mod load_report;
+mod load_steps;
 mod progress;
-mod reported;
-mod showing;
 mod shown;
 mod task_picture;
 mod task_report;
@@ -13,10 +13,10 @@ mod task_steps;
 mod watched;
 mod within;
 
-pub use pictured::picture_of;
+pub use load_picture::picture_of;
+pub use load_report::report_of;
+pub use load_steps::{Stopped, show_load};
 pub use progress::{NoProgress, Progress};
-pub use reported::report_of;
-pub use showing::{Stopped, show_load};
 pub use shown::{NothingShown, shown_of};
 pub use task_picture::{clock_of, task_picture_of};
 pub use task_report::task_report_of;

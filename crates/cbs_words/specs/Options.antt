@@ -54,9 +54,9 @@ SaysNoTicks s = (s.from ≡ None) × (s.to ≡ None)
 -- Which form without ticks an action has. For simulate that is a report, as text if no form is named, or the lines by
 -- their name. For replay that is the lines, by their name or if no form is named, or a report by its name.
 abbrev pub AsksPlain : Option Text → Action → Type 0
-AsksPlain name (action.Simulate form) = MatchOption name (form ≡ Report) (λ n. n ≡ form_name form)
-AsksPlain name action.SimulateLines = MatchOption name ⊥ (λ n. n ≡ codes "lines")
-AsksPlain name (action.Replay form) = MatchOption name ⊥ (λ n. n ≡ form_name form)
+AsksPlain name (action.ReportLoad form) = MatchOption name (form ≡ Report) (λ n. n ≡ form_name form)
+AsksPlain name action.WriteLoadLines = MatchOption name ⊥ (λ n. n ≡ codes "lines")
+AsksPlain name (action.ReportTasks form) = MatchOption name ⊥ (λ n. n ≡ form_name form)
 AsksPlain name (action.Run Replay) = MatchOption name ⊤ (λ n. n ≡ codes "lines")
 AsksPlain name _ = ⊥
 
@@ -67,9 +67,9 @@ AsksForm s (action.DrawTasks drawing ticks) = (s.form ≡ Some (drawing_name dra
 AsksForm s (action.Run Serve) = ⊤
 AsksForm s action.Check = ⊤
 AsksForm s (action.Run Replay) = AsksPlain s.form (action.Run Replay) × SaysNoTicks s
-AsksForm s (action.Simulate form) = AsksPlain s.form (action.Simulate form) × SaysNoTicks s
-AsksForm s action.SimulateLines = AsksPlain s.form action.SimulateLines × SaysNoTicks s
-AsksForm s (action.Replay form) = AsksPlain s.form (action.Replay form) × SaysNoTicks s
+AsksForm s (action.ReportLoad form) = AsksPlain s.form (action.ReportLoad form) × SaysNoTicks s
+AsksForm s action.WriteLoadLines = AsksPlain s.form action.WriteLoadLines × SaysNoTicks s
+AsksForm s (action.ReportTasks form) = AsksPlain s.form (action.ReportTasks form) × SaysNoTicks s
 
 -- the verb, with a form that shows no ticks, asks for the action
 abbrev pub AsksPlainly : Text → Option Text → Action → Type 0

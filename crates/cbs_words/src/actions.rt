@@ -38,13 +38,13 @@ pub enum Action {
     /// The text on what the servers of a file have and could have, and which jobs of a load are always in time.
     Check,
     /// The simulation of a load, with a report in this form.
-    Simulate(Form),
+    ReportLoad(Form),
     /// The simulation of a load, with a line for each step.
-    SimulateLines,
+    WriteLoadLines,
     /// The simulation of a load, with a drawing of these ticks.
     DrawLoad(Drawing, Window),
     /// The replay of a task file, with a report in this form.
-    Replay(Form),
+    ReportTasks(Form),
     /// The replay of a task file, with a drawing of these ticks.
     DrawTasks(Drawing, Window),
     /// The replay of a task file with a line for each step, or its service.

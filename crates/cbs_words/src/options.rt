@@ -64,9 +64,9 @@ fn simulated_as(form: Option<&str>) -> Option<Action>
         (AsksPlainly (codes "simulate") (text_of form.entry)) }
 {
     match form {
-        None => Some(Action::Simulate(Form::Report)),
-        Some("lines") => Some(Action::SimulateLines),
-        Some(name) => form_of(name).map(Action::Simulate),
+        None => Some(Action::ReportLoad(Form::Report)),
+        Some("lines") => Some(Action::WriteLoadLines),
+        Some(name) => form_of(name).map(Action::ReportLoad),
     }
 }
 
@@ -78,7 +78,7 @@ fn replayed_as(form: Option<&str>) -> Option<Action>
 {
     match form {
         None | Some("lines") => Some(Action::Run(Verb::Replay)),
-        Some(name) => form_of(name).map(Action::Replay),
+        Some(name) => form_of(name).map(Action::ReportTasks),
     }
 }
 

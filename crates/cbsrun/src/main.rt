@@ -80,14 +80,16 @@ fn answered<R: Threads + Clock + Sync, P: Progress, O: ByteOutput, E: ByteOutput
     let name = asked.file.as_str();
     match asked.action {
         Action::Check => check_bytes_within(alloc, memory, name, bytes, out, err),
-        Action::Simulate(form) => {
+        Action::ReportLoad(form) => {
             simulate_bytes_within(alloc, memory, form, name, bytes, progress, out, err)
         }
-        Action::SimulateLines => simulate_lines_within(alloc, memory, name, bytes, out, err),
+        Action::WriteLoadLines => simulate_lines_within(alloc, memory, name, bytes, out, err),
         Action::DrawLoad(drawing, ticks) => draw_load_within(
             alloc, memory, drawing, ticks, name, bytes, progress, out, err,
         ),
-        Action::Replay(form) => report_bytes_within(alloc, memory, form, name, bytes, out, err),
+        Action::ReportTasks(form) => report_bytes_within(
+            alloc, memory, form, name, bytes, out, err,
+        ),
         Action::DrawTasks(drawing, ticks) => {
             draw_tasks_within(alloc, memory, drawing, ticks, name, bytes, out, err)
         }
@@ -104,7 +106,7 @@ fn may_have_colours(rt: &HostRuntime) -> bool {
 fn is_for_people(action: Action) -> bool {
     matches!(
         action,
-        Action::Check | Action::Simulate(Form::Report) | Action::Replay(Form::Report)
+        Action::Check | Action::ReportLoad(Form::Report) | Action::ReportTasks(Form::Report)
     )
 }
 

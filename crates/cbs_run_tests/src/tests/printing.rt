@@ -154,9 +154,9 @@ error: `format` is 3, and has to be 1 or 2
 #[derive(Clone, Copy)]
 enum Asked {
     Check,
-    Simulate(Form),
-    SimulateLines,
-    Replay(Form),
+    ReportLoad(Form),
+    WriteLoadLines,
+    ReportTasks(Form),
     DrawLoad(Drawing, Window),
     DrawTasks(Drawing, Window),
 }
@@ -170,7 +170,7 @@ fn printed(alloc: Global, asked: Asked, memory: u64, file: &str, room: usize) ->
     let name = "a.toml";
     let status = match asked {
         Asked::Check => check_bytes_within(alloc, memory, name, bytes, &mut out, &mut err),
-        Asked::Simulate(form) => {
+        Asked::ReportLoad(form) => {
             simulate_bytes_within(
                 alloc,
                 memory,
@@ -182,10 +182,10 @@ fn printed(alloc: Global, asked: Asked, memory: u64, file: &str, room: usize) ->
                 &mut err,
             )
         }
-        Asked::SimulateLines => {
+        Asked::WriteLoadLines => {
             simulate_lines_within(alloc, memory, name, bytes, &mut out, &mut err)
         }
-        Asked::Replay(form) => {
+        Asked::ReportTasks(form) => {
             report_bytes_within(alloc, memory, form, name, bytes, &mut out, &mut err)
         }
         Asked::DrawLoad(drawing, ticks) => draw_load_within(
@@ -212,11 +212,11 @@ fn a_text_is_printed_whole(rt: HostRuntime) {
     for (asked, file, text) in &[
         (Asked::Check, TASKS, TASKS_CHECKED),
         (Asked::Check, LOAD, LOAD_CHECKED),
-        (Asked::Simulate(Form::Report), LOAD, LOAD_REPORTED),
-        (Asked::SimulateLines, LOAD, LOAD_LINES),
-        (Asked::SimulateLines, OVERRUN, OVERRUN_LINES),
-        (Asked::Replay(Form::Report), TASKS, TASKS_REPORTED),
-        (Asked::Replay(Form::Json), TASKS, TASKS_AS_JSON),
+        (Asked::ReportLoad(Form::Report), LOAD, LOAD_REPORTED),
+        (Asked::WriteLoadLines, LOAD, LOAD_LINES),
+        (Asked::WriteLoadLines, OVERRUN, OVERRUN_LINES),
+        (Asked::ReportTasks(Form::Report), TASKS, TASKS_REPORTED),
+        (Asked::ReportTasks(Form::Json), TASKS, TASKS_AS_JSON),
     ] {
         printed(alloc, *asked, MEMORY, file, usize::MAX).leaves(&rt, text, 0, text, "");
     }
@@ -286,9 +286,9 @@ fn a_writer_that_fails_has_a_prefix(rt: HostRuntime) {
     let fault = "cbsrun: run fault 2 WriteFault\n";
     for (asked, file, prefix) in &[
         (Asked::Check, LOAD, "fits:"),
-        (Asked::Simulate(Form::Json), LOAD, "{\"bac"),
-        (Asked::SimulateLines, LOAD, "@0 su"),
-        (Asked::Replay(Form::Report), TASKS, "in ti"),
+        (Asked::ReportLoad(Form::Json), LOAD, "{\"bac"),
+        (Asked::WriteLoadLines, LOAD, "@0 su"),
+        (Asked::ReportTasks(Form::Report), TASKS, "in ti"),
         (Asked::DrawLoad(Drawing::Svg, some), LOAD, "<svg "),
         (Asked::DrawTasks(Drawing::Trace, some), TASKS, "{\"dis"),
     ] {
@@ -303,9 +303,17 @@ fn a_fault_is_explained_if_there_is_memory(rt: HostRuntime) {
     let no_memory = "cbsrun: file fault 7 OutOfMemory at top\n";
     for (asked, file, explained) in &[
         (Asked::Check, "load = 2\n", LOAD_EXPLAINED),
-        (Asked::Simulate(Form::Report), "load = 2\n", LOAD_EXPLAINED),
-        (Asked::SimulateLines, "load = 2\n", LOAD_EXPLAINED),
-        (Asked::Replay(Form::Report), "format = 3\n", TASKS_EXPLAINED),
+        (
+            Asked::ReportLoad(Form::Report),
+            "load = 2\n",
+            LOAD_EXPLAINED,
+        ),
+        (Asked::WriteLoadLines, "load = 2\n", LOAD_EXPLAINED),
+        (
+            Asked::ReportTasks(Form::Report),
+            "format = 3\n",
+            TASKS_EXPLAINED,
+        ),
         (
             Asked::DrawLoad(Drawing::Text, some),
             "load = 2\n",

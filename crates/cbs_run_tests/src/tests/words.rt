@@ -51,7 +51,7 @@ fn a_verb_and_a_file_are_wanted(rt: HostRuntime) {
     let alloc = rt.alloc();
     for (line, action) in &[
         ("cbsrun check a.toml", Action::Check),
-        ("cbsrun simulate a.toml", Action::Simulate(Form::Report)),
+        ("cbsrun simulate a.toml", Action::ReportLoad(Form::Report)),
         ("cbsrun replay a.toml", Action::Run(Verb::Replay)),
         ("cbsrun serve a.toml", Action::Run(Verb::Serve)),
     ] {
@@ -97,21 +97,21 @@ fn a_form_stands_before_or_after_the_file(rt: HostRuntime) {
     for (line, action) in &[
         (
             "cbsrun simulate --as report a.toml",
-            Action::Simulate(Form::Report),
+            Action::ReportLoad(Form::Report),
         ),
         (
             "cbsrun simulate a.toml --as json",
-            Action::Simulate(Form::Json),
+            Action::ReportLoad(Form::Json),
         ),
-        ("cbsrun simulate --as lines a.toml", Action::SimulateLines),
+        ("cbsrun simulate --as lines a.toml", Action::WriteLoadLines),
         ("cbsrun replay --as=lines a.toml", trace),
         (
             "cbsrun replay a.toml --as=report",
-            Action::Replay(Form::Report),
+            Action::ReportTasks(Form::Report),
         ),
         (
             "cbsrun replay --as json -- a.toml",
-            Action::Replay(Form::Json),
+            Action::ReportTasks(Form::Json),
         ),
     ] {
         asks(&rt, alloc, line, *action, "a.toml");

@@ -6,8 +6,8 @@ ghost use Rattle.cbs_report.specs.Reports.{AreAllFigures};
 ghost use Rattle.cbs_report.specs.Tallies.{ticks_idle};
 ghost use Rattle.cbs_planning.specs.Loads.{AreThrottled, IsReportOf, seen_in, within_of};
 
+use crate::load_steps::show_load;
 use crate::progress::{Progress, Telling};
-use crate::showing::show_load;
 use crate::within::within_of;
 use cbs_load::Load;
 use cbs_print::{RunReport, ServerReport};

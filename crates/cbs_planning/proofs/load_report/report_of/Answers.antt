@@ -2,7 +2,7 @@ use Rattle.std.proofs.Common.{◌≡◌, ◌<◌, ◌+◌, ◌∙◌, ◌∷◌,
 use Rattle.std.specs.Prelude.{slice_get}
 use Rattle.cbs_planning.specs.Loads.{IsServerReport, seen_in}
 use Rattle.cbs_planning.proofs.Servers.{each_is, each_more, figure_count, server_is, some_at}
-use Rattle.cbs_planning.proofs.reported.report_of.Goals as goal
+use Rattle.cbs_planning.proofs.load_report.report_of.Goals as goal
 
 pub loop-server-preserved : goal.loop-server-preserved
 loop-server-preserved g c =

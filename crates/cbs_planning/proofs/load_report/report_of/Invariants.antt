@@ -1,7 +1,7 @@
 use Rattle.std.proofs.Common.{◌≡◌, length}
 use Rattle.cbs_planning.specs.Loads.{IsServerReport}
 use Rattle.cbs_planning.proofs.Servers.{EachFrom}
-use Rattle.cbs_planning.proofs.reported.report_of.Given as goal
+use Rattle.cbs_planning.proofs.load_report.report_of.Given as goal
 
 -- the reports of the first servers
 abbrev pub invariant-loop-server : goal.invariant-loop-server

@@ -5,7 +5,7 @@ use Rattle.cbs_simulate.specs.declared.terms.SourceTerms.{SourceTerms}
 use Rattle.cbs_planning.specs.Loads.{withins}
 use Rattle.cbs_planning.proofs.Runs.{simulation, same_seen, saw_none, saw_some}
 use Rattle.cbs_planning.proofs.ThrottledTicks.{whole_if_made, whole_of, throttled_is}
-use Rattle.cbs_planning.proofs.showing.show_load.Goals as goal
+use Rattle.cbs_planning.proofs.load_steps.show_load.Goals as goal
 
 pub returns-in-Ok-simulate_plan-clause-seen : goal.returns-in-Ok-simulate_plan-clause-seen
 returns-in-Ok-simulate_plan-clause-seen g c = λ first was.

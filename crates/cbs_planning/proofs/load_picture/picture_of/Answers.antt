@@ -1,5 +1,5 @@
 use Rattle.std.proofs.lemmas.Result.{IfOk-weaker}
-use Rattle.cbs_planning.proofs.pictured.picture_of.Goals as goal
+use Rattle.cbs_planning.proofs.load_picture.picture_of.Goals as goal
 
 pub returns-clause-picture : goal.returns-clause-picture
 returns-clause-picture g c =

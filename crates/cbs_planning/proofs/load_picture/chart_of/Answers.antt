@@ -3,7 +3,7 @@ use Rattle.std.proofs.lemmas.Result.{IfOk-weaker}
 use Rattle.cbs_chart.specs.Charts.{Kept, kept_seen, new_kept}
 use Rattle.cbs_planning.specs.Loads.{seen_in}
 use Rattle.cbs_planning.proofs.Drawings.{chart_is, kept_window}
-use Rattle.cbs_planning.proofs.pictured.chart_of.Goals as goal
+use Rattle.cbs_planning.proofs.load_picture.chart_of.Goals as goal
 
 pub returns-clause-window : goal.returns-clause-window
 returns-clause-window g c =

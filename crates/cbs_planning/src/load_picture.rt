@@ -6,8 +6,8 @@ ghost use Rattle.cbs_planning.specs.Loads.{seen_in};
 ghost use Rattle.cbs_planning.specs.Pictures.{IsPictureOf};
 
 use crate::drawn::picture_of_chart;
+use crate::load_steps::show_load;
 use crate::progress::{Progress, Telling};
-use crate::showing::show_load;
 use cbs_chart::{Chart, ChartView, Picture, Window};
 use cbs_load::Load;
 use std::alloc::{AllocError, Global};

@@ -3,8 +3,8 @@ use Rattle.cbs_rate.specs.Rate.{Rate}
 use Rattle.cbs_report.specs.Tallies.{HasSeen, budgets}
 use Rattle.cbs_planning.specs.Loads.{seen_in}
 use Rattle.cbs_planning.proofs.Runs.{same_figures}
-use Rattle.cbs_planning.proofs.reported.simulated.Given as given
-use Rattle.cbs_planning.proofs.reported.simulated.Goals as goal
+use Rattle.cbs_planning.proofs.load_report.simulated.Given as given
+use Rattle.cbs_planning.proofs.load_report.simulated.Goals as goal
 
 -- the report has seen the steps of the load
 abbrev has_seen : (g : given.Over) (c : goal.In_ok-figures g) → HasSeen c.in_ok-report.report c.in-Ok.told.view (seen_in c.args.load.now)
