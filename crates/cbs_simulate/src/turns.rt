@@ -1,7 +1,7 @@
 //! When each of several sources releases next, and which of them releases first.
 
 ghost use Rattle.std.specs.Prelude.{◌≡◌, ◌/◌, ◌*◌, ◌<◌, length, replicate, slice_get, None, IfOk};
-ghost use Rattle.cbs_simulate.specs.Turns.{turn_of, is_before, IsTree, SetsLeaf};
+ghost use Rattle.cbs_simulate.specs.Turns.{turn_of, is_before, first_of, IsTree, SetsLeaf};
 
 use crate::release::Release;
 use std::alloc::{AllocError, Allocator, Global};
@@ -36,6 +36,14 @@ impl Turn {
     {
         // With no branches: which turn comes first follows no pattern, and a processor would often guess wrongly.
         (self.tick < other.tick) | ((self.tick == other.tick) & (self.place < other.place))
+    }
+
+    /// Returns the first of two turns.
+    #[inline(always)]
+    fn or_earlier(self, other: Turn) -> Turn
+        ensures { result ≡ first_of self other }
+    {
+        if other.is_before(&self) { other } else { self }
     }
 }
 
@@ -87,18 +95,11 @@ impl<A: Allocator> Turns<A> {
         requires { place < length self.old / 2 }
         ensures { SetsLeaf place (turn_of place next) self.old self.new }
     {
-        let mut turn = Turn::of(place, next);
         let mut node = self.nodes.len() / 2 + place;
-        self.nodes[node] = turn;
+        self.nodes[node] = Turn::of(place, next);
         while node > 1 {
-            let above = node / 2;
-            // The other node below that one.
-            let other = self.nodes[4 * above + 1 - node];
-            if other.is_before(&turn) {
-                turn = other;
-            }
-            self.nodes[above] = turn;
-            node = above;
+            node /= 2;
+            self.nodes[node] = self.nodes[2 * node].or_earlier(self.nodes[2 * node + 1]);
         }
     }
 }

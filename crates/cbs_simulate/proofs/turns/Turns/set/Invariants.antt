@@ -1,5 +1,5 @@
-use Rattle.std.proofs.Common.{◌≡◌, ◌/◌, ◌<◌, length}
-use Rattle.cbs_simulate.specs.Turns.{turn_of, node, SetsLeaf}
+use Rattle.std.proofs.Common.{◌/◌, ◌<◌, length}
+use Rattle.cbs_simulate.specs.Turns.{turn_of, SetsLeaf}
 use Rattle.cbs_simulate.proofs.Trees.{IsTreeBut}
 use Rattle.cbs_simulate.proofs.turns.Turns.set.Given as goal
 
@@ -8,7 +8,6 @@ abbrev pub invariant-loop-node : goal.invariant-loop-node
 invariant-loop-node g l = record {
   some : 0 < l.node;
   within : l.node < length l.self-inside.nodes.items;
-  turn : node l.self-inside.nodes.items l.node ≡ l.turn;
   sets : SetsLeaf l.fn.place (turn_of l.fn.place l.fn.next) l.fn.self l.self-inside.nodes.items;
   tree : IsTreeBut (l.node / 2) l.self-inside.nodes.items;
 }
