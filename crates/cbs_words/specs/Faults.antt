@@ -1,5 +1,6 @@
 -- The faults of the words.
-use Rattle.std.specs.Prelude.{ℕ, List, codes}
+use Rattle.std.specs.Prelude.{◌≡◌, ◌⊎◌, ℕ, List, [], ◌∷◌, codes}
+use Rattle.clap.specs.Words.{Kinds}
 use Rattle.clap.specs.declared.error.kind.ErrorKind.{ErrorKind}
 use Rattle.clap.specs.declared.error.kind.ErrorKind.TheVariants as kind
 use Rattle.cbs_words.specs.declared.fault.WordsFault.{WordsFault}
@@ -23,3 +24,14 @@ number_of kind.OutOfMemory = 3
 number_of kind.DisplayHelp = 2
 number_of kind.DisplayVersion = 2
 number_of _ = 1
+
+-- a fault has the number of one of these kinds
+abbrev pub HasNumberOf : Kinds → WordsFault → Type 0
+HasNumberOf [] w = ⊥
+HasNumberOf (k ∷ ks) w = (words_fault_number w ≡ number_of k) ⊎ HasNumberOf ks w
+
+-- a fault tells what `clap` refuses at words whose error has one of these kinds. If `clap` takes the words, which is no
+-- kind, their options are wrong
+abbrev pub TellsOfKinds : Kinds → WordsFault → Type 0
+TellsOfKinds [] w = words_fault_number w ≡ 1
+TellsOfKinds (k ∷ ks) w = HasNumberOf (k ∷ ks) w

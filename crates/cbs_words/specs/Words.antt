@@ -1,9 +1,12 @@
 -- The command line as `clap` sees it.
-use Rattle.std.specs.Prelude.{◌≡◌, List, codes, true, Option, Some, string_bytes}
-use Rattle.clap.specs.Words.{App, Row, Rule, Text, first_of, new_app, new_rule, subcommand_of, takes, with_rule, with_subcommand}
+use Rattle.std.specs.Prelude.{◌≡◌, ◌⊎◌, List, codes, true, Option, Some, string_bytes}
+use Rattle.clap.specs.Words.{App, Row, Rule, Text, fault_of, first_of, new_app, new_rule, subcommand_of, takes, with_rule, with_subcommand}
 use Rattle.cbs_words.specs.Actions.{action_name}
 use Rattle.cbs_words.specs.Options.{Said, AsksForm}
+use Rattle.cbs_words.specs.Faults.{TellsOfKinds}
 use Rattle.cbs_words.specs.declared.actions.Asked.{Asked}
+use Rattle.cbs_words.specs.declared.fault.WordsFault.{WordsFault}
+use Rattle.cbs_words.specs.declared.fault.WordsFault.TheVariants.{OutOfMemory}
 
 -- one file, which is required
 abbrev pub file : Rule
@@ -68,3 +71,7 @@ pub record AreTaken (words : List Text) : Type 0 where
   pub taken : takes command_line words ≡ true
   pub asked : Asked
   pub named : Names words asked
+
+-- a fault tells why the words are refused: out of memory, or by the kinds of error that `clap` has for them
+abbrev pub TellsOf : List Text → WordsFault → Type 0
+TellsOf words w = (w ≡ OutOfMemory) ⊎ TellsOfKinds (fault_of command_line words) w

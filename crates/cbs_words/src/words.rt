@@ -4,7 +4,7 @@ ghost use Rattle.std.specs.Prelude.{◌≡◌, ◌≢◌, codes, IfOk, IfErr, fa
 ghost use Rattle.clap.specs.Words.{app_of, kind_of, subcommand_rows_of, with_subcommand};
 ghost use Rattle.clap.specs.declared.builder.command.Command.TheViews.{out-Command};
 ghost use Rattle.cbs_words.specs.Faults.{number_of, words_fault_number};
-ghost use Rattle.cbs_words.specs.Words.{command_line, on_file, in_a_form, with_option, bare_program, IsAsked, Names, AreTaken};
+ghost use Rattle.cbs_words.specs.Words.{command_line, on_file, in_a_form, with_option, bare_program, IsAsked, Names, AreTaken, TellsOf};
 ghost use Rattle.cbs_words.specs.declared.fault.WordsFault.TheVariants.{OutOfMemory};
 
 use crate::actions::Asked;
@@ -144,6 +144,7 @@ fn asked_in(alloc: Global, matches: &ArgMatches) -> Result<Asked, WordsFault>
 fn asked_by(alloc: Global, words: &[String]) -> Result<Asked, WordsFault>
     ensures ok { IfOk result (Names (map string_bytes words.now)) }
     ensures refused { IfErr result (λ e. AreTaken (map string_bytes words.now) → e ≡ OutOfMemory) }
+    ensures told { IfErr result (TellsOf (map string_bytes words.now)) }
 {
     let command = command_line(alloc)?;
     match command.try_get_matches_from(words) {
@@ -160,6 +161,8 @@ pub fn read_words(alloc: Global, words: Vec<String>) -> Result<Asked, WordsFault
     ensures ok { IfOk result (Names (map string_bytes words.items)) }
     // Words that name a verb and a file are refused only if out of memory.
     ensures refused { IfErr result (λ e. AreTaken (map string_bytes words.items) → e ≡ OutOfMemory) }
+    // Others are told as what `clap` has for them: the help or the version, or wrong words.
+    ensures told { IfErr result (TellsOf (map string_bytes words.items)) }
 {
     asked_by(alloc, words.as_slice())
 }
