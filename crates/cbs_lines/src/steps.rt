@@ -14,7 +14,7 @@ use crate::call::{Call, call_of};
 use crate::output::ByteOutput;
 use crate::pending::Pending;
 use crate::run_error::RunError;
-use cbs_core::{Core, Reply, Step};
+use cbs_core::{Core, CoreError, Reply, Step};
 use cbs_file::{Parts, TaskFile};
 use cbs_job::FileJob;
 use cbs_planning::lacks_memory;
