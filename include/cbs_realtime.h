@@ -8,14 +8,14 @@
  *
  * In each tick the loop polls each server once, and does at most one unit. A unit that takes longer is charged to its server,
  * never rounded down. While nobody is ready ticks pass, and the loop sleeps until the next deadline of somebody who waits, or
- * until a client rings; so throttled servers wait in real time. The house's clock is never ahead of the real one; if it has
- * fallen behind, ticks follow each other at once.
+ * until a client rings; so throttled servers wait in real time. The house's clock is ahead of the real one by less than a
+ * tick. If it is late, ticks follow each other at once.
  *
  * Include this header first, or define _POSIX_C_SOURCE as 200809L before. It wants gcc or clang, in C99 or C++17. */
 #ifndef CBS_REALTIME_H
 #define CBS_REALTIME_H
 
-#if !defined(_POSIX_C_SOURCE) && !defined(_GNU_SOURCE)
+#if defined(__STRICT_ANSI__) && !defined(_POSIX_C_SOURCE) && !defined(_GNU_SOURCE)
 #define _POSIX_C_SOURCE 200809L
 #endif
 #include "cbs.h"

@@ -25,7 +25,9 @@ fn chart_of<P: Progress>(
 {
     let view = ChartView::new(alloc, window, load.plan())?;
     let telling = Telling::new(view, load.until());
-    let Ok(told) = show_load(alloc, load, telling, progress) else {
+    let shown = show_load(alloc, load, telling, progress);
+    progress.end();
+    let Ok(told) = shown else {
         return Err(AllocError);
     };
     told.view.into_chart(alloc, load.until())

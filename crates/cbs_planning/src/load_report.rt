@@ -27,7 +27,9 @@ fn simulated<P: Progress>(
 {
     let report = Report::new(alloc, load.plan())?;
     let telling = Telling::new(report, load.until());
-    let Ok(told) = show_load(alloc, load, telling, progress) else {
+    let shown = show_load(alloc, load, telling, progress);
+    progress.end();
+    let Ok(told) = shown else {
         return Err(AllocError);
     };
     let idle = told.view.idle();

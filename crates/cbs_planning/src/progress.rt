@@ -12,6 +12,9 @@ const STEPS: u32 = 65_536;
 pub trait Progress {
     /// Receives the clock, and the tick at which the simulation ends.
     fn tell(&mut self, clock: u64, until: u64);
+
+    /// Receives that no further report comes. Nothing of the output is written before.
+    fn end(&mut self);
 }
 
 /// A receiver that ignores all reports.
@@ -20,6 +23,8 @@ pub struct NoProgress;
 
 impl Progress for NoProgress {
     fn tell(&mut self, _clock: u64, _until: u64) {}
+
+    fn end(&mut self) {}
 }
 
 /// A view that also reports how far the simulation is that it sees.

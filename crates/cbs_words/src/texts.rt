@@ -60,12 +60,12 @@ Guaranteed, for soft and throttled servers, whatever the clients ask for:
   - No server takes more than its share: its deadline pays for what it gets, by a
     period for each budget.
   - No server is ever late, and each job is finished by a tick that is known when it
-    is accepted, as long as nobody is charged and no advance comes where somebody is
+    is accepted, as long as nobody is charged and no advance comes while somebody is
     ready before its last tick. serve and simulate make no such advance, and charge
     only what a source has as overrun; check counts these charges.
 Not guaranteed:
   - Time. A tick is one unit of one job, however long that takes.
-  - That an advance takes nobody's time. One where somebody is ready does.
+  - That an advance takes nobody's time. One while somebody is ready does.
 
 A file that may want more than 2048 MiB of memory while it is read is refused, with
 status 3. CBSRUN_MEMORY, in the environment, is another bound, in MiB.

@@ -147,7 +147,7 @@ fn status_of<R: Threads + Clock + Sync>(
     match bytes_of(rt, alloc, name) {
         Ok(bytes) => {
             let mut teller = Teller::new(rt);
-            let status = answered(
+            answered(
                 threads,
                 alloc,
                 memory,
@@ -156,9 +156,7 @@ fn status_of<R: Threads + Clock + Sync>(
                 &mut teller,
                 &mut out,
                 &mut err,
-            );
-            teller.end();
-            status
+            )
         }
         Err(unread) => {
             let _written = write_read_fault(&mut err, unread.fault());

@@ -35,13 +35,6 @@ impl<'a> Teller<'a> {
             told: false,
         }
     }
-
-    /// Removes the report from the terminal, if there is one.
-    pub fn end(&mut self) {
-        if self.told {
-            let _written = eprint!(self.rt; "\r\x1b[K");
-        }
-    }
 }
 
 impl Progress for Teller<'_> {
@@ -56,5 +49,12 @@ impl Progress for Teller<'_> {
         let _written = eprint!(self.rt; "\rcbsrun: at tick {clock} of {until}, {percent} %");
         self.told = true;
         self.next = now.checked_add(Duration::from_millis(AGAIN));
+    }
+
+    /// Removes the report from the terminal, if there is one.
+    fn end(&mut self) {
+        if self.told {
+            let _written = eprint!(self.rt; "\r\x1b[K");
+        }
     }
 }
