@@ -1,5 +1,5 @@
 -- What a command that prints a text of a file leaves on its writers, by its status.
-use Rattle.std.specs.Prelude.{◌≡◌, ◌⊎◌, ℕ, List, ◌++◌, Result, Ok, Err}
+use Rattle.std.specs.Prelude.{◌≡◌, ◌⊎◌, ℕ, List, [], ◌∷◌, ◌++◌, Result, Ok, Err}
 use Rattle.cbs_run.specs.FaultLines.{file_line, run_line}
 use Rattle.cbs_lines.specs.Writers.{Writer, IsUntouched, Writes, FailsToWrite, TriesToWrite}
 use Rattle.cbs_lines.specs.declared.run_error.RunError.{RunError}
@@ -21,9 +21,14 @@ abbrev pub Prints : (List ℕ → Type 0) → Result (Unit {0}) RunError → Wri
 Prints is (Ok x) old new = (text : List ℕ) × is text × Writes old new text
 Prints is (Err error) old new = StopsPrinting is IsUntouched error old new
 
--- the line of a fault was written, with some text below it; or a call failed, and a prefix of both was written
+-- what stands below the line of a fault: nothing, or an empty line and then a text
+abbrev pub StandsBelow : List ℕ → Type 0
+StandsBelow [] = Unit {0}
+StandsBelow (byte ∷ text) = byte ≡ 10
+
+-- the line of a fault was written, and what stands below it; or a call failed, and a prefix of both was written
 abbrev pub Explains : FileFault → Writer → Writer → Type 0
-Explains fault old new = (below : List ℕ) × TriesToWrite old new (file_line fault ++ below)
+Explains fault old new = (below : List ℕ) × StandsBelow below × TriesToWrite old new (file_line fault ++ below)
 
 -- a command that prints a text of the file which the bytes spell by `read` ended with this status, and left out and err
 -- so
