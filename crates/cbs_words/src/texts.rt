@@ -93,16 +93,17 @@ pub(crate) const SERVE: &str =
 and writes the results of each server";
 
 pub(crate) const REPORTS: &str =
-    "What is written: report, figures of each server as text, json, the same \
-for programs, text, a timeline, svg, a picture, trace, for ui.perfetto.dev, \
-or lines, one for each step [default: report]";
+    "What is written: report (figures of each server), json (the same for programs), \
+text (a timeline), svg (a picture), trace (for ui.perfetto.dev) or lines (one for \
+each step) [default: report]";
 
 pub(crate) const TRACES: &str =
-    "What is written: lines, one for each step, report, figures of each server as \
-text, json, the same for programs, text, a timeline, svg, a picture, or trace, \
-for ui.perfetto.dev [default: lines]";
+    "What is written: lines (one for each step), report (figures of each server), \
+json (the same for programs), text (a timeline), svg (a picture) or trace (for \
+ui.perfetto.dev) [default: lines]";
 
-pub(crate) const FROM: &str = "The first tick that a picture shows [default: 0]";
+pub(crate) const FROM: &str =
+    "The first tick that a picture, a timeline or a trace shows [default: 0]";
 
 pub(crate) const TO: &str =
     "The tick after the last one that it shows: at most 20000 later [default: the end, \
