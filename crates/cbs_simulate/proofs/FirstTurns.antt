@@ -1,12 +1,15 @@
 -- The first release of several sources, by the first turn.
-use Rattle.std.proofs.Common.{◌≡◌, ◌≢◌, ℕ, zero, suc, ◌+◌, ◌/◌, ◌≤◌, ◌<◌, List, [], ◌∷◌, length, get_or, refl, subst, ◌∙◌, ap, arith, inl, inr, Option, Some, None}
+use Rattle.std.proofs.Common.{◌≡◌, ◌≢◌, ℕ, zero, suc, ◌+◌, ◌/◌, ◌≤◌, ◌<◌, true, ltb, List, [], ◌∷◌, length, get_or, refl, subst, ◌∙◌, ap, arith, inl, inr, Option, Some, None}
+use Rattle.std.specs.Option.{option_map}
 use Rattle.std.specs.Prelude.{slice_get}
 use Rattle.std.specs.List.{AllByRecursion}
 use Rattle.std.proofs.lemmas.Bool.{cases_lt}
+use Rattle.std.proofs.lemmas.Bool.Decides.{nat_tests}
+use Rattle.cbs_rules.specs.Rules.{clock_end}
 use Rattle.cbs_simulate.specs.Merging.{merged, IsFirst}
 use Rattle.cbs_simulate.specs.Ordering.{order_merged}
 use Rattle.cbs_simulate.specs.Releases.{IsInOrder}
-use Rattle.cbs_simulate.specs.Turns.{never, turn_of, node, next_of, IsTree, HasTurns}
+use Rattle.cbs_simulate.specs.Turns.{never, turn_of, due_of, node, next_of, IsTree, HasTurns}
 use Rattle.cbs_simulate.specs.declared.release.Release.{Release}
 use Rattle.cbs_simulate.specs.declared.turns.Turn.{Turn}
 use Rattle.cbs_simulate.proofs.Merging.{first_here, first_there}
@@ -53,6 +56,14 @@ first_least (rs ∷ rss) (suc i) r each lt head least =
 turn_place : (i : ℕ) (o : Option Release) → (turn_of i o).place ≡ i
 turn_place i None = refl
 turn_place i (Some r) = refl
+
+-- the tick of a turn, which is that of the release that it is of
+due_is : (i : ℕ) (o : Option Release) → ((r : Release) → o ≡ Some r → r.tick < clock_end) → due_of (turn_of i o) ≡ option_map (λ r. r.tick) o
+due_is i None early = refl
+due_is i (Some r) early =
+    let soon = early r refl in
+    let is : ltb r.tick never ≡ true = grind (arith, nat_tests) in
+    rw is refl
 
 -- a turn, that of its source, is the first of all turns
 pub record IsFirstTurn (rss : List (List Release)) (turn : Turn) : Type 0 where
@@ -108,6 +119,10 @@ module _ (rss : List (List Release)) where
         go : (o : Option Release) → next_of rss turn.place ≡ o → next_of rss turn.place ≡ slice_get (merged rss) 0
         go None e = e ∙ rw (turn_none e) refl
         go (Some r) e = e ∙ rw (turn_first r e).first refl
+
+    -- and its tick is that of what comes next of all
+    pub turn_due : due_of turn ≡ option_map (λ r. r.tick) (slice_get (merged rss) 0)
+    turn_due = ap due_of first.its ∙ due_is turn.place (next_of rss turn.place) (λ r. has.early turn.place r first.within) ∙ ap (option_map (λ r. r.tick)) turn_next
 
 -- with no source nothing comes
 pub no_source : (rss : List (List Release)) → length rss ≡ 0 → merged rss ≡ []

@@ -1,5 +1,6 @@
 -- Several sources, and the tree of their turns.
 use Rattle.std.proofs.Common.{◌≡◌, ◌≢◌, ℕ, ◌+◌, ◌*◌, ◌/◌, ◌<◌, List, [], ◌∷◌, length, map, get_or, refl, sym, subst, ◌∙◌, ap, arith, inl, inr, Option, Some, None}
+use Rattle.std.specs.Option.{option_map}
 use Rattle.std.specs.Prelude.{slice_get, slice_set, drop, IfSome}
 use Rattle.std.proofs.lemmas.Bool.{cases_eq}
 use Rattle.std.proofs.lemmas.List.{length-map, length-set, get_or-set_same}
@@ -10,10 +11,10 @@ use Rattle.cbs_lists.proofs.Lists.{changed_elsewhere}
 use Rattle.cbs_simulate.specs.Merging.{merged}
 use Rattle.cbs_simulate.specs.Ordering.{all_ordered}
 use Rattle.cbs_simulate.specs.Releases.{IsInOrder}
-use Rattle.cbs_simulate.specs.Turns.{turn_of, node, next_of, IsTree, SetsLeaf, HasTurns}
+use Rattle.cbs_simulate.specs.Turns.{turn_of, due_of, node, next_of, IsTree, SetsLeaf, HasTurns}
 use Rattle.cbs_simulate.specs.declared.release.Release.{Release}
 use Rattle.cbs_simulate.specs.declared.turns.Turn.{Turn}
-use Rattle.cbs_simulate.proofs.FirstTurns.{IsFirstTurn, root_turn, turn_first, turn_next, no_source}
+use Rattle.cbs_simulate.proofs.FirstTurns.{IsFirstTurn, root_turn, turn_first, turn_next, turn_due, no_source}
 use Rattle.cbs_simulate.proofs.Merging.{source_at, went_on, passed}
 
 -- a release that comes soon, if one comes
@@ -76,6 +77,10 @@ module _ {S : Type 0} (coming : S → List Release) (ordered : (it : S) → IsIn
 
       pub first_place : turn.place < length xs
       first_place = rw (length-map xs coming) at first_turn.within
+
+      -- whose tick is that of the next release of all
+      pub first_due : due_of turn ≡ option_map (λ r. r.tick) (slice_get (merged (map coming xs)) 0)
+      first_due = turn_due (map coming xs) nodes turn all (all_ordered coming ordered xs) first_turn
 
       module _ (y : S) (is : y ≡ get_or xs turn.place y) where
         here : get_or (map coming xs) turn.place [] ≡ coming y

@@ -1,9 +1,29 @@
 -- A tree of turns: its root has the first of them, and each node the turn of a leaf.
-use Rattle.std.proofs.Common.{◌≡◌, ◌≢◌, ℕ, zero, suc, ◌+◌, ◌-◌, ◌*◌, ◌/◌, ◌≤◌, ◌<◌, true, false, eqb, ltb, List, length, refl, sym, arith, inl, inr}
+use Rattle.std.proofs.Common.{◌≡◌, ◌≢◌, ℕ, zero, suc, ◌+◌, ◌-◌, ◌*◌, ◌/◌, ◌^◌, ◌≤◌, ◌<◌, true, false, eqb, ltb, List, length, refl, sym, arith, inl, inr}
 use Rattle.std.proofs.lemmas.Bool.{cases_Bool, cases_eq, cases_lt}
 use Rattle.std.proofs.lemmas.Bool.Decides.{nat_tests}
 use Rattle.cbs_simulate.specs.Turns.{is_before, first_of, node, IsTree}
 use Rattle.cbs_simulate.specs.declared.turns.Turn.{Turn}
+
+-- the turn of the lower number comes first
+pub rank_before : (a b : Turn) → a.place < 2 ^ 64 → b.place < 2 ^ 64 → ltb (a.tick * 2 ^ 64 + a.place) (b.tick * 2 ^ 64 + b.place) ≡ is_before a b
+rank_before a b pa pb = elim (cases_lt a.tick b.tick) [
+  | inl lt ↦
+      let t : ltb a.tick b.tick ≡ true = grind (arith, nat_tests) in
+      let r : ltb (a.tick * 2 ^ 64 + a.place) (b.tick * 2 ^ 64 + b.place) ≡ true = grind (arith, nat_tests) in
+      rw (t, r) refl
+  | inr ge ↦
+      let f : ltb a.tick b.tick ≡ false = grind (arith, nat_tests) in
+      elim (cases_eq a.tick b.tick) [
+        | inl same ↦
+            let e : eqb a.tick b.tick ≡ true = grind (arith, nat_tests) in
+            rw (f, e) (grind (arith, nat_tests))
+        | inr ne ↦
+            let e : eqb a.tick b.tick ≡ false = grind (arith, nat_tests) in
+            let r : ltb (a.tick * 2 ^ 64 + a.place) (b.tick * 2 ^ 64 + b.place) ≡ false = grind (arith, nat_tests) in
+            rw (f, e, r) refl
+      ]
+]
 
 -- a turn is not after another: it is not later, and of two at one tick its place is not higher
 pub record IsNotAfter (a b : Turn) : Type 0 where

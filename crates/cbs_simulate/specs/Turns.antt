@@ -13,6 +13,10 @@ abbrev pub turn_of : ℕ → Option Release → Turn
 turn_of place None = record { tick = never; place = place }
 turn_of place (Some r) = record { tick = r.tick; place = place }
 
+-- the tick of the release that a turn is of, if it is of one
+abbrev pub due_of : Turn → Option ℕ
+due_of turn = if ltb turn.tick never then Some turn.tick else None
+
 -- one turn comes before another: at an earlier tick, or at the same tick from a lower place
 abbrev pub is_before : Turn → Turn → Bool
 is_before a b = ltb a.tick b.tick || (eqb a.tick b.tick && ltb a.place b.place)

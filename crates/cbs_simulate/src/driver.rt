@@ -36,11 +36,32 @@ fn show<A: Allocator, C, S: Watcher<C>>(
     ensures failed { OnErr result ((first : (S × C)) (seen : List Sight) → S.saw first (watcher.old, lent.old) seen
         → S.failed first (watcher.new, lent.new) (record { moment = record { clock = core.now.clock; event = event }; faces = core.now.faces } ∷ seen)) }
 {
-    let moment = Moment {
-        clock: core.now(),
-        event,
-    };
-    watcher.see(lent, moment, core)
+    let clock = core.now();
+    // The most frequent events are shown on paths of their own, so that the view tests once what they are.
+    match event {
+        Event::Ran(Ran::Unit { server, seq }) => {
+            let event = Event::Ran(Ran::Unit { server, seq });
+            watcher.see(lent, Moment { clock, event }, core)
+        }
+        Event::Ran(Ran::Done(done)) => {
+            let event = Event::Ran(Ran::Done(done));
+            watcher.see(lent, Moment { clock, event }, core)
+        }
+        Event::Submitted {
+            release,
+            answer: Ok(number),
+            promised,
+        } => {
+            let answer = Ok(number);
+            let event = Event::Submitted {
+                release,
+                answer,
+                promised,
+            };
+            watcher.see(lent, Moment { clock, event }, core)
+        }
+        event => watcher.see(lent, Moment { clock, event }, core),
+    }
 }
 
 /// Submits the next release, and shows it to the watcher.
@@ -107,14 +128,7 @@ fn show_next<A: Allocator, C, S: Watcher<C>>(
         → StopsAt loading job_of S.saw S.failed sim (move_to loading job_of stop sim) core.new (watcher.old, lent.old) (watcher.new, lent.new)) }
 {
     let (event, owing) = moves::go_on(core, stop);
-    // Most moves are units that end no job. They are shown on a path of their own, so that the view tests once what
-    // they are.
-    match event {
-        Event::Ran(Ran::Unit { server, seq }) => {
-            show(core, Event::Ran(Ran::Unit { server, seq }), watcher, lent)?;
-        }
-        _ => show(core, event, watcher, lent)?,
-    }
+    show(core, event, watcher, lent)?;
     Ok(owing)
 }
 

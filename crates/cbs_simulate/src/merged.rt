@@ -67,7 +67,7 @@ impl<S: Releases + Drop, A: Allocator> Releases for Merged<S, A> {
     #[inline(always)]
     fn next_tick(&self) -> Option<u64> {
         let turn = self.turns.first()?;
-        self.sources[turn.place].next_tick()
+        turn.due()
     }
 
     #[inline(always)]

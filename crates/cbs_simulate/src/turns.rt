@@ -1,7 +1,7 @@
 //! When each of several sources releases next, and which of them releases first.
 
-ghost use Rattle.std.specs.Prelude.{◌≡◌, ◌/◌, ◌*◌, ◌<◌, length, replicate, slice_get, None, IfOk};
-ghost use Rattle.cbs_simulate.specs.Turns.{turn_of, is_before, first_of, IsTree, SetsLeaf};
+ghost use Rattle.std.specs.Prelude.{◌≡◌, ◌+◌, ◌*◌, ◌/◌, ◌^◌, ◌<◌, length, replicate, slice_get, None, IfOk};
+ghost use Rattle.cbs_simulate.specs.Turns.{turn_of, due_of, is_before, first_of, IsTree, SetsLeaf};
 
 use crate::release::Release;
 use std::alloc::{AllocError, Allocator, Global};
@@ -29,13 +29,32 @@ impl Turn {
         Turn { tick, place }
     }
 
+    /// Returns the tick of the release that comes next, or `None` if the source releases nothing more.
+    #[inline(always)]
+    pub fn due(&self) -> Option<u64>
+        ensures { result ≡ due_of self.now }
+    {
+        (self.tick < u64::MAX).then_some(self.tick)
+    }
+
+    /// Returns the turn as one number. Of two turns, that of the lower number comes first.
+    #[inline(always)]
+    fn rank(&self) -> u128
+        ensures value { result ≡ self.now.tick * 2 ^ 64 + self.now.place }
+        ensures place { self.now.place < 2 ^ 64 }
+    {
+        u128::from(self.tick) * (1 << 64) + self.place as u128
+    }
+
     /// Returns whether the turn comes before another.
     #[inline(always)]
+    #[tactic(auto, using(crate::proofs::Trees::rank_before))]
     fn is_before(&self, other: &Turn) -> bool
         ensures { result ≡ is_before self.now other.now }
     {
-        // With no branches: which turn comes first follows no pattern, and a processor would often guess wrongly.
-        (self.tick < other.tick) | ((self.tick == other.tick) & (self.place < other.place))
+        // One comparison and no branch: which turn comes first follows no pattern, and a processor would often guess
+        // wrongly.
+        self.rank() < other.rank()
     }
 
     /// Returns the first of two turns.
@@ -91,15 +110,18 @@ impl<A: Allocator> Turns<A> {
     }
 
     /// Sets the turn of the source at a place, which must be there, by the release that comes next from it.
+    #[inline(always)]
     pub fn set(&mut self, place: usize, next: Option<Release>)
         requires { place < length self.old / 2 }
         ensures { SetsLeaf place (turn_of place next) self.old self.new }
     {
-        let mut node = self.nodes.len() / 2 + place;
-        self.nodes[node] = Turn::of(place, next);
-        while node > 1 {
+        let nodes = self.nodes.as_mut_slice();
+        let leaf = nodes.len() / 2 + place;
+        nodes[leaf] = Turn::of(place, next);
+        let mut node = leaf / 2;
+        while node > 0 {
+            nodes[node] = nodes[2 * node].or_earlier(nodes[2 * node + 1]);
             node /= 2;
-            self.nodes[node] = self.nodes[2 * node].or_earlier(self.nodes[2 * node + 1]);
         }
     }
 }

@@ -1,8 +1,8 @@
-use Rattle.std.proofs.Common.{◌≡◌, [], map, sym, ◌∙◌, ap, arith}
+use Rattle.std.proofs.Common.{◌≡◌, [], map, sym, ◌∙◌, ap}
 use Rattle.std.specs.Prelude.{slice_get}
 use Rattle.std.specs.Option.{option_map}
 use Rattle.cbs_simulate.specs.Merging.{merged}
-use Rattle.cbs_simulate.proofs.MergedTurns.{none_first, first_place, first_shows}
+use Rattle.cbs_simulate.proofs.MergedTurns.{none_first, first_due}
 use Rattle.cbs_simulate.proofs.merged.MergedReleases.next_tick.Goals as goal
 
 pub returns-in_err-turn : goal.returns-in_err-turn
@@ -13,16 +13,9 @@ returns-in_err-turn g c =
     (sym c.first.ensures.first ∙ c.in_err-turn.was) in
     c.from_residual.ensures ∙ sym (ap (λ rs. option_map (λ r. r.tick) (slice_get rs 0)) none) ∙ ap (λ xs. option_map (λ r. r.tick) (slice_get (merged (map coming xs)) 0)) c.self.view_is
 
-pub index-requires : goal.index-requires
-index-requires g c =
-    let lt = first_place g.S.Releases.coming g.S.Releases.ordered c.self.inside.sources.items c.self.inside.turns c.first.ensures.tree c.self.invariant
-    c.in_ok-turn.turn (sym c.first.ensures.first ∙ c.in_ok-turn.was) in
-    let same = c.self.inside.sources.ok.0 in
-    omega arith
-
 pub returns : goal.returns
 returns g c =
     let coming = g.S.Releases.coming in
-    c.next_tick.ensures ∙ ap (option_map (λ r. r.tick)) (first_shows coming g.S.Releases.ordered c.self.inside.sources.items c.self.inside.turns c.first.ensures.tree c.self.invariant
-    c.in_ok-turn.turn (sym c.first.ensures.first ∙ c.in_ok-turn.was) c.index.result.now c.index.ensures)
+    c.due.ensures ∙ first_due coming g.S.Releases.ordered c.self.inside.sources.items c.self.inside.turns c.first.ensures.tree c.self.invariant
+    c.in_ok-turn.turn (sym c.first.ensures.first ∙ c.in_ok-turn.was)
     ∙ ap (λ xs. option_map (λ r. r.tick) (slice_get (merged (map coming xs)) 0)) c.self.view_is
