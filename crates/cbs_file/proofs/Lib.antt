@@ -1,4 +1,5 @@
 pub mod Documents
 pub mod OtherSteps
+pub mod PlainSteps
 pub mod ReadApart
 pub mod StepsRead

@@ -1,9 +1,10 @@
 -- The steps of a file, as they were read entry by entry.
-use Rattle.std.specs.Prelude.{◌≡◌, ℕ, codes, List, length, Option, Some, None, Result, Ok, Err, MatchResult, All}
+use Rattle.std.specs.Prelude.{◌≡◌, ℕ, codes, List, [], ◌∷◌, ◌++◌, length, Option, Some, None, Result, Ok, Err, MatchResult, All}
 use Rattle.std.specs.Borrow.{Bor}
 use Rattle.std.specs.Ordering.{nat_cmp, match_ordering}
 use Rattle.std.specs.Cmp.Lexicographic.{slice_cmp}
-use Rattle.toml.specs.Data.{Data, array, Items, Members, no_members, member, get_member}
+use Rattle.toml.specs.Data.{Data, array, table, Items, Members, no_members, member, get_member}
+use Rattle.toml.specs.Parse.{val}
 use Rattle.toml.specs.Tables.{Nodes, close, Document as Lines}
 use Rattle.toml.specs.View.{table_view}
 use Rattle.toml_parser.specs.Lexical.{Read}
@@ -20,6 +21,7 @@ use Rattle.cbs_file.specs.declared.stream.Document.{Document}
 use Rattle.cbs_file.specs.declared.steps.StepsRead.{StepsRead}
 use Rattle.cbs_file.specs.declared.terms.Terms.{Terms}
 use Rattle.cbs_file.specs.Entries.{step_entry}
+use Rattle.cbs_file.specs.Plain.{PutsLines}
 use Rattle.cbs_file.specs.TaskFiles.{IsFileStep}
 
 -- the steps, or the first fault, which stands at the entry after them
@@ -31,6 +33,18 @@ outcome steps (Some kind) = Err (faulty (AtStep (length steps)) kind)
 abbrev pub Spells : Terms → StepsRead → List Data → Type 0
 Spells t r entries = (each_from 0 (λ i entry. at (AtStep i) (step_entry t.format t.servers entry)) entries ≡ outcome r.steps.items r.fault)
     × All (IsFileStep t.servers) r.steps.items
+
+-- the entry at the start of a text was taken as one more, and `rest` is the text after it
+pub record TakesEntry (t : Terms) (old new : StepsRead) (text rest : List ℕ) : Type 0 where
+  pub entry : Data
+  pub read : val 79 text ≡ Some (entry, rest)
+  pub took : (entries : List Data) → Spells t old entries → Spells t new (entries ++ entry ∷ [])
+
+-- the lines at the start of a text are the pairs of one more table, which was taken, and `rest` is the text after it
+pub record TakesSection (t : Terms) (old new : StepsRead) (text rest : List ℕ) : Type 0 where
+  pub pairs : Nodes
+  pub placed : PutsLines text pairs rest
+  pub took : (entries : List Data) → Spells t old entries → Spells t new (entries ++ table (close pairs) ∷ [])
 
 -- the items that the grammar gives spell what was read, or the grammar refuses
 abbrev pub ReadsSteps : Terms → Result (StepsRead × Bor (List ℕ)) Stop → Read Items → Type 0

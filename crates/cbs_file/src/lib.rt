@@ -5,6 +5,7 @@
 mod entries;
 mod file;
 mod format;
+mod plain;
 mod steps;
 mod stream;
 mod task_file;

@@ -1,16 +1,19 @@
 //! The steps of a task file, read entry by entry. Each entry is freed after its step was taken.
 
-ghost use Rattle.std.specs.Prelude.{◌≡◌, ◌<◌, ◌≤◌, ℕ, codes, length, List, ◌++◌, ◌∷◌, [], OnOk, IfErr};
+ghost use Rattle.std.specs.Prelude.{◌≡◌, ◌<◌, ◌≤◌, ℕ, codes, length, List, ◌++◌, ◌∷◌, [], None, Ok, IfOk, OnOk, IfErr};
 ghost use Rattle.toml.specs.Data.{Data, no_items};
 ghost use Rattle.toml.specs.Parse as spec;
-ghost use Rattle.toml.specs.Tables.{Nodes, no_nodes};
+ghost use Rattle.toml.specs.Tables.{Nodes, no_nodes, Document};
 ghost use Rattle.toml.specs.View.{view};
-ghost use Rattle.cbs_read.specs.Reading.{Shortens, growing};
-ghost use Rattle.cbs_read.specs.declared.stop.Stop.TheVariants.{OutOfMemory};
-ghost use Rattle.cbs_file.specs.Streams.{Spells, ReadsSteps, ReadsStepTables};
+ghost use Rattle.cbs_read.specs.Reading.{IsPlace, Shortens, growing};
+ghost use Rattle.cbs_read.specs.declared.stop.Stop.TheVariants.{NotToml, OutOfMemory};
+ghost use Rattle.cbs_file.specs.Entries.{step_entry};
+ghost use Rattle.cbs_file.specs.Streams.{Spells, TakesEntry, TakesSection, ReadsSteps, ReadsStepTables};
+ghost use Rattle.cbs_file.specs.TaskFiles.{IsFileStep};
 ghost use Rattle.cbs_file.specs.declared.terms.Terms.{Terms};
 
 use crate::entries::step_entry;
+use crate::plain::{Layout, plain_step};
 use crate::terms::Terms;
 use cbs_core::Step;
 use cbs_job::FileJob;
@@ -38,29 +41,80 @@ impl StepsRead {
         }
     }
 
-    /// Takes one more entry.
-    fn take(&mut self, alloc: Global, terms: Terms, entry: &Value) -> Result<(), Stop>
-        ensures took { OnOk result ((entries : List Data) → Spells terms self.old entries → Spells terms self.new (entries ++ view entry.now ∷ [])) }
+    /// Takes one more step, unless a fault was found before it.
+    fn keep(&mut self, step: Step<FileJob>) -> Result<(), Stop>
+        ensures kept { OnOk result ((terms : Terms) (entries : List Data) (entry : Data) → step_entry terms.format terms.servers entry ≡ Ok step → IsFileStep terms.servers step
+            → Spells terms self.old entries → Spells terms self.new (entries ++ entry ∷ [])) }
         ensures memory { IfErr result (λ e. e ≡ OutOfMemory) }
     {
         if self.fault.is_some() {
             return Ok(());
         }
+        let Ok(()) = self.steps.push(step) else {
+            return Err(Stop::OutOfMemory);
+        };
+        Ok(())
+    }
+
+    /// Takes one more entry.
+    fn take(&mut self, alloc: Global, terms: Terms, entry: &Value) -> Result<(), Stop>
+        ensures took { OnOk result ((entries : List Data) → Spells terms self.old entries → Spells terms self.new (entries ++ view entry.now ∷ [])) }
+        ensures memory { IfErr result (λ e. e ≡ OutOfMemory) }
+    {
         match step_entry(alloc, terms.format, terms.servers, entry) {
-            Ok(step) => {
-                let Ok(()) = self.steps.push(step) else {
-                    return Err(Stop::OutOfMemory);
-                };
-            }
+            Ok(step) => self.keep(step)?,
             Err(kind) => {
                 if kind == FileKind::OutOfMemory {
                     return Err(Stop::OutOfMemory);
                 }
-                self.fault = Some(kind);
+                if self.fault.is_none() {
+                    self.fault = Some(kind);
+                }
             }
         }
         Ok(())
     }
+}
+
+/// Reads one more entry of an array, and returns the text after it. A step in its plain spelling is taken with no table.
+fn read_entry<'s>(
+    found: &mut StepsRead,
+    alloc: Global,
+    terms: Terms,
+    s: &'s str,
+) -> Result<&'s str, Stop>
+    ensures read { IfOk result (λ rest. TakesEntry terms found.old found.new s.now rest.now) }
+    ensures refusal { IfErr result (λ e. e ≡ NotToml → spec.val 79 s.now ≡ None) }
+    ensures shorter { IfOk result (λ rest. length rest.now < length s.now) }
+{
+    if let Some((step, rest)) = plain_step(alloc, terms, Layout::Inline, s) {
+        found.keep(step)?;
+        return Ok(rest);
+    }
+    let (entry, rest) = value(alloc, s, 79)?;
+    take(found, alloc, terms, entry)?;
+    Ok(rest)
+}
+
+/// Reads one more table, on the lines after its header, and returns the text after it. A step in its plain spelling is
+/// taken with no table.
+fn read_section<'s>(
+    found: &mut StepsRead,
+    alloc: Global,
+    terms: Terms,
+    s: &'s str,
+) -> Result<&'s str, Stop>
+    ensures read { IfOk result (λ rest. TakesSection terms found.old found.new s.now rest.now) }
+    ensures refusal { IfErr result (λ e. e ≡ NotToml → (n : ℕ) (at : Nodes → Document) → IsPlace at → length s.now < n → spec.lines n (at no_nodes) s.now ≡ None) }
+    ensures within { IfOk result (λ rest. length rest.now ≤ length s.now) }
+{
+    if let Some((step, rest)) = plain_step(alloc, terms, Layout::Lines, s) {
+        found.keep(step)?;
+        return Ok(rest);
+    }
+    let (table, rest) = pairs(alloc, s)?;
+    take(found, alloc, terms, Value::Table(table))?;
+    Ok(rest)
 }
 
 /// Takes one more entry, and frees it.
@@ -83,8 +137,7 @@ pub fn step_array(alloc: Global, terms: Terms, s: &str) -> Result<(StepsRead, &s
         if first(start) == b']' {
             return Ok((found, skip(start, 1)));
         }
-        let (entry, after) = value(alloc, start, 79)?;
-        take(&mut found, alloc, terms, entry)?;
+        let after = read_entry(&mut found, alloc, terms, start)?;
         rest = after_element(after, b']')?;
     }
 }
@@ -97,8 +150,7 @@ pub fn step_tables(alloc: Global, terms: Terms, s: &str) -> Result<StepsRead, St
     let mut found = StepsRead::new(alloc);
     let mut rest = s;
     'tables: loop {
-        let (table, after) = pairs(alloc, rest)?;
-        take(&mut found, alloc, terms, Value::Table(table))?;
+        let after = read_section(&mut found, alloc, terms, rest)?;
         let start = skip_blank(after, true);
         if start.is_empty() {
             return Ok(found);

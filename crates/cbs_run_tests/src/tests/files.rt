@@ -245,11 +245,26 @@ format = 1
 ",
 ];
 
+/// The same file with its steps last, two of them in their plain spelling and two in others.
+const MIXED: &str = "format = 1
+mode = \"soft\"
+bound = [1, 1]
+backlog = 4096
+ring = 10
+server = [{ budget = 2, period = 5 }]
+step = [
+  { job = 'sum', units = [0x1, 2, +3,], op = \"submit\", server = 0 }, # with a comment
+  {op=\"run\"}, { \"op\" = 'run' },
+  { op = \"run\", },
+]
+";
+
 #[test]
 fn other_spellings_are_the_same_file(rt: HostRuntime) {
     let alloc = rt.alloc();
     let in_tables = IN_TABLES.as_bytes();
     replays(&rt, alloc, "in tables", in_tables, 0, FIRST_LINES, "");
+    replays(&rt, alloc, "mixed", MIXED.as_bytes(), 0, FIRST_LINES, "");
 
     let [before, behind] = BACKWARDS;
     let file = format!(in alloc; "{before}1{behind}").expect(&rt, "memory");
