@@ -24,6 +24,8 @@ use std::alloc::Allocator;
 /// Refuses a backlog outside 1 to [`MAX_BACKLOG`](cbs_core::MAX_BACKLOG) with [`CoreError::BadBacklog`]. Refuses with
 /// [`CoreError::OutOfMemory`] if out of memory, or if the watcher fails. The watcher has then seen the first moves, up
 /// to some move.
+// Not inlined, so that the loop over all moves is a function of its own, with the registers for itself.
+#[inline(never)]
 pub fn simulate_plan<A: Allocator + Clone, R: Releases, C, S: Watcher<C>>(
     alloc: A,
     plan: &Plan,

@@ -84,6 +84,7 @@ impl Releases for Source {
 
     ghost ordered = { ordered_source };
 
+    #[inline(always)]
     fn first(&self) -> Option<Release> {
         Some(Release {
             tick: self.next_tick()?,
@@ -94,6 +95,7 @@ impl Releases for Source {
         })
     }
 
+    #[inline(always)]
     fn next_tick(&self) -> Option<u64> {
         if self.left == 0 || self.tick >= self.until {
             return None;
@@ -101,6 +103,7 @@ impl Releases for Source {
         Some(self.tick)
     }
 
+    #[inline(always)]
     fn pass(&mut self) {
         self.left -= 1;
         self.tick += self.terms.every.draw(&mut self.draws);
