@@ -149,7 +149,9 @@ impl<W: Work, A: Allocator> Core<W, A> {
     /// - [`CoreError::OutOfMemory`] if an allocation is refused.
     ///
     /// A refusal hands the job back and changes nothing, except that room for the job may have been made.
+    // Always inlined, here and below: a caller that submits a job of one unit has two calls a tick, this and `run`.
     #[tactic(auto, using(cbs_lists::proofs::Lists::counted, crate::proofs::Cores::budgets_kept))]
+    #[inline(always)]
     pub fn submit(&mut self, server: u16, task: Task<W>) -> Result<u64, SubmitRefused<W>>
         ensures tries { Tries W.meaning self.old self.new (Step.Submit server task) (submitted result) }
         ensures room { 0 < room_of self.old.rooms server → is_lack (submitted result) ≡ false }
@@ -178,6 +180,7 @@ impl<W: Work, A: Allocator> Core<W, A> {
     /// The server must be there and open, its backlog not full, and room made. A [`make_room`](Core::make_room) that
     /// returns `Ok` leaves such room.
     #[tactic(auto, using(cbs_lists::proofs::Lists::counted, crate::proofs::Cores::budgets_kept))]
+    #[inline(always)]
     pub fn submit_reserved(&mut self, server: u16, task: Task<W>) -> u64
         requires { HasRoom self.old server }
         ensures makes { Makes W.meaning self.old self.new (Step.Submit server task) (Reply.Accepted result) }

@@ -143,6 +143,7 @@ impl<A: Allocator> Servers<A> {
 
     /// Accepts a job for a server at tick `now`. Returns the job's number.
     #[tactic(auto, using(cbs_lists::proofs::Lists::written))]
+    #[inline(always)]
     pub fn accept(&mut self, server: u16, now: u64) -> u64
         requires within { server < length self.old }
         requires clock { now ≤ LIMIT }

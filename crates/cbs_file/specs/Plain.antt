@@ -3,7 +3,7 @@ use Rattle.std.specs.Prelude.{◌≡◌, ℕ, suc, pos, nat_le, map, ◌+◌, �
 use Rattle.toml.specs.Data.{Data, table, string, integer, Items}
 use Rattle.toml.specs.Parse.{read_map, val, key_equals, after_element, members, ends_line, lines}
 use Rattle.toml.specs.Tables.{Nodes, no_nodes, node, value, close, Document}
-use Rattle.cbs_read.specs.Reading.{IsPlace}
+use Rattle.cbs_read.specs.Reading.{IsPlace, EndsPairs}
 use Rattle.cbs_file.specs.declared.plain.Layout.{Layout}
 use Rattle.cbs_file.specs.declared.plain.Layout.TheVariants.{Inline, Lines}
 use Rattle.std.specs.Char.{is_ascii_digit}
@@ -72,6 +72,7 @@ pub record EndsTable (text rest : List ℕ) : Type 0 where
 -- after a value the line ends, and no other pair comes
 pub record EndsLines (text rest : List ℕ) : Type 0 where
   pub ends : EndsLine text
+  pub pairs : EndsPairs text
   pub after : rest ≡ text
 
 abbrev pub Ends : Layout → List ℕ → List ℕ → Type 0

@@ -18,7 +18,7 @@ use std::alloc::Global;
 use toml_parser::text::{byte_at, first, skip, skip_blank, skip_ws};
 
 /// How the pairs of a table are set apart.
-#[derive(Clone, Copy, Debug, PartialEq, Eq)]
+#[derive(Clone, Copy)]
 pub enum Layout {
     /// They stand between braces, with commas between.
     Inline,
