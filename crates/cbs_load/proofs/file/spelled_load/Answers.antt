@@ -1,4 +1,5 @@
-use Rattle.std.proofs.Common.{◌≡◌, [], Ok, map, string_bytes, sym, ◌∙◌, refl}
+use Rattle.std.proofs.Common.{◌≡◌, [], Ok, map, string_bytes, sym, ◌∙◌, refl, arith}
+use Rattle.std.proofs.lemmas.Grind.{common_steps}
 use Rattle.toml.specs.View.{view, table_view}
 use Rattle.cbs_rules.specs.Setups.{no_servers}
 use Rattle.cbs_tables.specs.declared.fault.Place.TheVariants.{Top, Source as AtSource}
@@ -9,6 +10,23 @@ use Rattle.cbs_load.specs.Sources.{source_entry}
 use Rattle.cbs_load.specs.Spelling.{Named, load, admitted_entry}
 use Rattle.cbs_load.specs.TopTables.{top_table, top_view}
 use Rattle.cbs_load.proofs.file.spelled_load.Goals as goal
+
+-- found without these, but only by the last of several tactics
+pub returns-in_err-table : goal.returns-in_err-table
+unfolding load
+returns-in_err-table c = grind (arith, common_steps)
+
+pub returns-in-Err : goal.returns-in-Err
+unfolding load
+returns-in-Err c = grind (arith, common_steps)
+
+pub returns-in_err-names : goal.returns-in_err-names
+unfolding load
+returns-in_err-names c = grind (arith, common_steps)
+
+pub returns-in_err-sources : goal.returns-in_err-sources
+unfolding load
+returns-in_err-sources c = grind (arith, common_steps)
 
 pub returns : goal.returns
 unfolding load
