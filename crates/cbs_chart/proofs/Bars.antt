@@ -1,5 +1,6 @@
 -- Bars cover exactly the ticks of units.
-use Rattle.std.proofs.Common.{◌≡◌, ◌∙◌, ℕ, ◌<◌, ◌≤◌, Bool, true, false, ◌&&◌, ◌||◌, eqb, ltb, cond, List, [], ◌∷◌, length, Option, Some, None, arith, refl, sym, ap, subst, inl, inr}
+use Rattle.std.proofs.Common.{◌≡◌, ◌∙◌, ℕ, ◌<◌, ◌≤◌, Bool, true, false, ◌&&◌, ◌||◌, eqb, ltb, cond, List, []}
+use Rattle.std.proofs.Common.{◌∷◌, length, Option, Some, None, arith, refl, sym, ap, subst, inl, inr}
 use Rattle.std.specs.Prelude.{set}
 use Rattle.std.proofs.lemmas.Bool.{cases_Bool}
 use Rattle.std.proofs.lemmas.Bool.Decides.{nat_tests}
@@ -11,7 +12,8 @@ use Rattle.cbs_views.specs.Events.{server_of, begun}
 use Rattle.cbs_views.specs.declared.seen.Event.{Event}
 use Rattle.cbs_views.specs.declared.seen.Event.TheVariants as event
 use Rattle.cbs_views.specs.declared.seen.Seen.{Seen}
-use Rattle.cbs_chart.specs.Charts.{IsChart, IsServerChart, Kept, idle_seen, kept_seen, kept_with, new_kept, new_row, no_row, ran, rate_at, row_after, row_at, row_seen, runs_unit_of, took}
+use Rattle.cbs_chart.specs.Charts.{IsChart, IsServerChart, Kept, idle_seen, kept_seen, kept_with, new_kept}
+use Rattle.cbs_chart.specs.Charts.{new_row, no_row, ran, rate_at, row_after, row_at, row_seen, runs_unit_of, took}
 use Rattle.cbs_chart.specs.Courses.{course_until}
 use Rattle.cbs_chart.specs.Deadlines.{deadlines_until}
 use Rattle.cbs_chart.specs.Jobs.{all_jobs}

@@ -42,7 +42,8 @@ told_none a n e = omega arith
 -- a stretch that takes no tick of the cell changes no count
 counts_same : (from to : ℕ) (ps : List Stretch) (k : Kind) → counts_with k 0 (counts_of from to ps) ≡ counts_of from to ps
 counts_same from to ps k =
-    same_counts (counts_with k 0 (counts_of from to ps)) (counts_of from to ps) (told_none _ _ (none_if _)) (told_none _ _ (none_if _)) (told_none _ _ (none_if _))
+    same_counts (counts_with k 0 (counts_of from to ps)) (counts_of from to ps) (told_none _ _ (none_if _)) (told_none _ _ (none_if _))
+    (told_none _ _ (none_if _))
     (told_none _ _ (none_if _)) (told_none _ _ (none_if _)) (told_none _ _ (none_if _)) (told_none _ _ (none_if _))
 
 -- the counts of the first stretches, with the next one

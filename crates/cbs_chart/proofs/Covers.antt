@@ -1,5 +1,6 @@
 -- Which ticks stretches cover, as they are joined.
-use Rattle.std.proofs.Common.{◌≡◌, ◌∙◌, ℕ, ◌+◌, ◌<◌, ◌≤◌, Bool, true, false, ◌&&◌, ◌||◌, leb, ltb, List, [], ◌∷◌, ◌++◌, length, map, take, Option, Some, None, arith, refl, sym, ap, inl, inr}
+use Rattle.std.proofs.Common.{◌≡◌, ◌∙◌, ℕ, ◌+◌, ◌<◌, ◌≤◌, Bool, true, false, ◌&&◌, ◌||◌, leb, ltb, List, []}
+use Rattle.std.proofs.Common.{◌∷◌, ◌++◌, length, map, take, Option, Some, None, arith, refl, sym, ap, inl, inr}
 use Rattle.std.specs.Prelude.{get_or, max, min}
 use Rattle.std.specs.List.{list_any}
 use Rattle.std.proofs.lemmas.Bool.{cases_Bool}
@@ -85,7 +86,8 @@ joined_last false false false m e = rw e refl
 covered_joined : (k : Kind) (t : ℕ) (p : Stretch) (done : List Stretch) (last : Option Stretch)
     → is_covered k t (all_of (joined_with p done last)) ≡ (is_covered k t (all_of (record { done = done; last = last })) || shows k t p)
 covered_joined k t p done None =
-    list_any-append (shows k t) done (p ∷ []) ∙ (no_more (is_covered k t done) (shows k t p) ∙ ap (λ x. x || shows k t p) (sym (list_any-append (shows k t) done [])))
+    list_any-append (shows k t) done (p ∷ []) ∙ (no_more (is_covered k t done) (shows k t p)
+    ∙ ap (λ x. x || shows k t p) (sym (list_any-append (shows k t) done [])))
 covered_joined k t p done (Some q) = elim (cases_Bool (joins q p)) [
   | inl y ↦
       rw y (list_any-append (shows k t) done (record { kind = q.kind; from = q.from; to = max q.to p.to } ∷ [])

@@ -1,5 +1,6 @@
 -- What is collected of all servers, and what a picture shows of them.
-use Rattle.std.specs.Prelude.{◌≡◌, ℕ, ◌<◌, ◌≤◌, Bool, false, ◌&&◌, eqb, leb, ltb, if◌then◌else◌, List, [], ◌∷◌, length, map, get_or, set, slice_get, is_none, Option, Some, None}
+use Rattle.std.specs.Prelude.{◌≡◌, ℕ, ◌<◌, ◌≤◌, Bool, false, ◌&&◌, eqb, leb, ltb, if◌then◌else◌, List, []}
+use Rattle.std.specs.Prelude.{◌∷◌, length, map, get_or, set, slice_get, is_none, Option, Some, None}
 use Rattle.std.specs.List.{list_any}
 use Rattle.cbs_rate.specs.Rate.{Rate}
 use Rattle.cbs_report.specs.Figures.{steps_of}

@@ -18,7 +18,8 @@ use Rattle.cbs_check.specs.Sources.{source_row, row_of}
 use Rattle.cbs_check.proofs.Rows.{flat_more}
 
 -- the row of a server, by its parts
-pub row_is : (names : List (List ℕ)) (modes : List Mode) (rates : List Rate) (budgets : List ℕ) (s : ℕ) (name : List ℕ) (mode : Mode) (rate : Rate) (greatest : ℕ)
+pub row_is : (names : List (List ℕ)) (modes : List Mode) (rates : List Rate) (budgets : List ℕ) (s : ℕ) (name : List ℕ) (mode : Mode) (rate : Rate)
+    (greatest : ℕ)
     → get_or names s [] ≡ name → get_or modes s Soft ≡ mode → rate_at rates s ≡ rate → get_or budgets s 0 ≡ greatest
     → row_at names modes rates budgets s ≡ server_row name mode rate greatest
 row_is names modes rates budgets s name mode rate greatest e f g h = rw (e, f, g, h) refl
@@ -41,7 +42,8 @@ note_more names rates loads s old new name rate load wrote so_far e f g =
     wrote ∙ rw (so_far, ← (note_is names rates loads s name rate load e f g)) (sym (flat_more (note_at names rates loads) s))
 
 -- the row of a source, by its parts
-pub source_row_is : (names : List (List ℕ)) (rates : List Rate) (loads : List ServerLoad) (sources : List SourceTerms) (i : ℕ) (t : SourceTerms) (name : List ℕ) (rate : Rate)
+pub source_row_is : (names : List (List ℕ)) (rates : List Rate) (loads : List ServerLoad) (sources : List SourceTerms) (i : ℕ) (t : SourceTerms)
+    (name : List ℕ) (rate : Rate)
     (load : ServerLoad) → t ≡ get_or sources i t → get_or names t.server [] ≡ name → rate_at rates t.server ≡ rate → get_or loads t.server no_load ≡ load
     → source_row name rate load.promised t ≡ row_of names rates loads (get_or sources i t)
 source_row_is names rates loads sources i t name rate load is e f g = rw (← is, e, f, g) refl

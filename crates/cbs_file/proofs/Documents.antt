@@ -12,15 +12,18 @@ use Rattle.cbs_read.specs.declared.stop.Stop.TheVariants.{NotToml}
 use Rattle.cbs_file.specs.declared.stream.Document.{Document as Doc}
 use Rattle.cbs_file.specs.Streams.{insert_member, ReadsDocument}
 
+-- a choice by the order of two keys, as nodes
 match_nodes : (o : Ordering) (a b c : Members) → nodes_of (match_ordering o a b c) ≡ match_ordering o (nodes_of a) (nodes_of b) (nodes_of c)
 match_nodes Less a b c = refl
 match_nodes Equal a b c = refl
 match_nodes Greater a b c = refl
 
+-- one more member is one more node
 pub nodes_of-insert_member : (k : List ℕ) (d : Data) (ms : Members) → nodes_of (insert_member k d ms) ≡ insert k (value d) (nodes_of ms)
 nodes_of-insert_member k d no_members = refl
 nodes_of-insert_member k d (member l e ms) = match_nodes (slice_cmp nat_cmp k l) _ _ _ ∙ rw (nodes_of-insert_member k d ms)
 
+-- such a choice, as complete tables
 match_closed : (o : Ordering) (a b c : Nodes) → close (match_ordering o a b c) ≡ match_ordering o (close a) (close b) (close c)
 match_closed Less a b c = refl
 match_closed Equal a b c = refl
@@ -31,6 +34,7 @@ pub close-insert : (k : List ℕ) (x : Node) (ns : Nodes) → close (insert k x 
 close-insert k x no_nodes = refl
 close-insert k x (node l y ns) = match_closed (slice_cmp nat_cmp k l) _ _ _ ∙ rw (close-insert k x ns) refl
 
+-- if nothing is found as a value, nothing is found as a node
 none_at : (o : Ordering) (y : Node) (a : Option Data) (b : Option Node) → match_ordering o a (Some (close_node y)) a ≡ None → (a ≡ None → b ≡ None)
     → cond (is_eq o) (Some y) b ≡ None
 none_at Less y a b none ih = ih none

@@ -1,3 +1,4 @@
+pub mod Arrays
 pub mod Documents
 pub mod OtherSteps
 pub mod PlainSteps

@@ -1,5 +1,6 @@
 -- The top table of a document with other steps.
-use Rattle.std.proofs.Common.{◌≡◌, ℕ, false, ◌&&◌, List, codes, Option, Some, None, Result, Ok, Err, Ordering, Less, Equal, Greater, nat_cmp, is_eq, bytes_eq, refl, ap, sym, ◌∙◌}
+use Rattle.std.proofs.Common.{◌≡◌, ℕ, false, ◌&&◌, List, codes, Option, Some, None, Result, Ok, Err, Ordering}
+use Rattle.std.proofs.Common.{Less, Equal, Greater, nat_cmp, is_eq, bytes_eq, refl, ap, sym, ◌∙◌}
 use Rattle.std.proofs.lemmas.Bool.{true≢false}
 use Rattle.std.proofs.lemmas.Option.{none-some}
 use Rattle.std.proofs.lemmas.Cmp.{nat_list_cmp_total}
@@ -14,11 +15,14 @@ use Rattle.cbs_tables.specs.Fields.{◌>>=◌, seen, has_only, only_keys, of_som
 use Rattle.cbs_tables.specs.Plans.{mode_of, bound_of}
 use Rattle.cbs_file.specs.declared.format.Format.{Format}
 use Rattle.cbs_file.specs.declared.format.Format.TheVariants.{One, Two}
-use Rattle.cbs_file.specs.TopTables.{TopValues, TypedData, TopData, format_at, keys_of, mode_at, values_at_keys, top_values, typed_values, spelled_by, top_table}
+use Rattle.cbs_file.specs.TopTables.{TopValues, TypedData, TopData, format_at, keys_of, mode_at}
+use Rattle.cbs_file.specs.TopTables.{values_at_keys, top_values, typed_values, spelled_by, top_table}
 use Rattle.cbs_file.specs.Streams.{insert_member}
 
+-- which keys a table has does not depend on the value at one of them
 only_at : (o : Ordering) (keys : List (List ℕ)) (s l : List ℕ) (d e x : Data) (a b : Members) (ms : Members) → has_only keys a ≡ has_only keys b
-    → has_only keys (match_ordering o (member s d (member l x ms)) (member l d ms) (member l x a)) ≡ has_only keys (match_ordering o (member s e (member l x ms)) (member l e ms) (member l x b))
+    → has_only keys (match_ordering o (member s d (member l x ms)) (member l d ms) (member l x a))
+    ≡ has_only keys (match_ordering o (member s e (member l x ms)) (member l e ms) (member l x b))
 only_at Less keys s l d e x a b ms h = refl
 only_at Equal keys s l d e x a b ms h = refl
 only_at Greater keys s l d e x a b ms h = ap (λ t. list_any (λ k. bytes_eq k l) keys && t) h
@@ -28,12 +32,15 @@ pub only_insert : (keys : List (List ℕ)) (s : List ℕ) (d e : Data) (ms : Mem
 only_insert keys s d e no_members = refl
 only_insert keys s d e (member l x ms) = only_at (slice_cmp nat_cmp s l) keys s l d e x _ _ ms (only_insert keys s d e ms)
 
+-- what is found at another key is not the value at this one
 skip_at : (o : Ordering) (d : Data) (a : Option Data) → is_eq o ≡ false → match_ordering o a (Some d) a ≡ a
 skip_at Less d a h = refl
 skip_at Equal d a h = absurd (true≢false h)
 skip_at Greater d a h = refl
 
-other_at : (o : Ordering) (k s l : List ℕ) (d x : Data) (a ms : Members) → is_eq (slice_cmp nat_cmp k s) ≡ false → match_ordering o (get_member s ms) (Some x) (get_member s ms) ≡ None
+-- one more member changes nothing at another key
+other_at : (o : Ordering) (k s l : List ℕ) (d x : Data) (a ms : Members) → is_eq (slice_cmp nat_cmp k s) ≡ false
+    → match_ordering o (get_member s ms) (Some x) (get_member s ms) ≡ None
     → (get_member s ms ≡ None → get_member k a ≡ get_member k ms)
     → get_member k (match_ordering o (member s d (member l x ms)) (member l d ms) (member l x a)) ≡ get_member k (member l x ms)
 other_at Less k s l d x a ms other none ih = skip_at (slice_cmp nat_cmp k s) d _ other
@@ -41,16 +48,19 @@ other_at Equal k s l d x a ms other none ih = absurd (none-some x (sym none))
 other_at Greater k s l d x a ms other none ih = rw (ih none)
 
 -- another key holds what it held
-pub get_other : (k s : List ℕ) (d : Data) (ms : Members) → is_eq (slice_cmp nat_cmp k s) ≡ false → get_member s ms ≡ None → get_member k (insert_member s d ms) ≡ get_member k ms
+pub get_other : (k s : List ℕ) (d : Data) (ms : Members) → is_eq (slice_cmp nat_cmp k s) ≡ false → get_member s ms ≡ None
+    → get_member k (insert_member s d ms) ≡ get_member k ms
 get_other k s d no_members other none = skip_at (slice_cmp nat_cmp k s) d None other
 get_other k s d (member l x ms) other none = other_at (slice_cmp nat_cmp s l) k s l d x _ ms other none (λ n. get_other k s d ms other n)
 
+-- it is what is found at its own key
 same_at : (o : Ordering) (s l : List ℕ) (d x : Data) (a ms : Members) → slice_cmp nat_cmp s l ≡ o → get_member s a ≡ Some d
     → get_member s (match_ordering o (member s d (member l x ms)) (member l d ms) (member l x a)) ≡ Some d
 same_at Less s l d x a ms is ih = rw (tied_itself nat_list_cmp_total s)
 same_at Equal s l d x a ms is ih = rw is
 same_at Greater s l d x a ms is ih = rw is ih
 
+-- the value at a key is the last that was put there
 pub get_same : (s : List ℕ) (d : Data) (ms : Members) → get_member s (insert_member s d ms) ≡ Some d
 get_same s d no_members = rw (tied_itself nat_list_cmp_total s)
 get_same s d (member l x ms) = same_at (slice_cmp nat_cmp s l) s l d x _ ms refl (get_same s d ms)
@@ -85,7 +95,8 @@ only_step : (format : Format) (d e : Data) (ms : Members)
 only_step format d e ms = rw (only_insert (keys_of format) (codes "step") d e ms) refl
 
 -- the mode stands elsewhere
-mode_step : (format : Format) (d : Data) (ms : Members) → get_member (codes "step") ms ≡ None → mode_at format (insert_member (codes "step") d ms) ≡ mode_at format ms
+mode_step : (format : Format) (d : Data) (ms : Members) → get_member (codes "step") ms ≡ None
+    → mode_at format (insert_member (codes "step") d ms) ≡ mode_at format ms
 mode_step One d ms none = rw (get_other (codes "mode") (codes "step") d ms refl none) refl
 mode_step Two d ms none = refl
 
@@ -143,6 +154,7 @@ as_read : {A : Type 0} (r : Result A FileKind) → seen (λ v. v) r ≡ r
 as_read (Ok v) = refl
 as_read (Err kind) = refl
 
+-- two documents that differ in their steps have the same values beside
 both_step : (format : Format) (ds es : Items) (v : TopValues)
     → spelled_in format (with_step (array ds) v) ≡ seen (with_steps (list_of ds)) (spelled_in format (with_step (array es) v))
 both_step format ds es v =

@@ -1,5 +1,6 @@
 -- Tables that are read pair by pair, and the steps that they spell.
-use Rattle.std.proofs.Common.{◌≡◌, ℕ, pos, ◌+◌, ◌-◌, ◌*◌, ◌/◌, ◌%◌, ◌^◌, ◌≤◌, ◌<◌, ◌==◌, true, false, List, [], ◌∷◌, ◌++◌, codes, length, map, drop, Some, is_some, Ok, refl, ap, sym, ◌∙◌, arith, inl, inr}
+use Rattle.std.proofs.Common.{◌≡◌, ℕ, pos, ◌+◌, ◌-◌, ◌*◌, ◌/◌, ◌%◌, ◌^◌, ◌≤◌, ◌<◌, ◌==◌, true, false, List}
+use Rattle.std.proofs.Common.{[], ◌∷◌, ◌++◌, codes, length, map, drop, Some, is_some, Ok, refl, ap, sym, ◌∙◌, arith, inl, inr}
 use Rattle.std.proofs.lemmas.Bool.{cases_Bool}
 use Rattle.std.proofs.lemmas.Bool.Decides.{nat_tests}
 use Rattle.std.proofs.lemmas.Fmt.{decimal_step, decimal_digit, decimal_nonempty}
@@ -33,7 +34,9 @@ use Rattle.cbs_file.specs.declared.plain.Layout.TheVariants.{Inline, Lines}
 use Rattle.cbs_file.specs.Entries.{job_of, step_entry, submit_entry, submit_fields, run_entry, advance_entry, close_entry}
 use Rattle.cbs_file.specs.Formats.{longest_advance}
 use Rattle.cbs_file.proofs.StepsRead.{list_of-push}
-use Rattle.cbs_file.specs.Plain.{StartsPair, EndsLine, OpensTable, OpensLines, Opens, FollowsComma, FollowsLine, Follows, EndsTable, Ends, ReadsInline, ReadsLines, Reads, IsTable, under, IsValue, op_pair, EndsNumber, AreUnits, SpellsStep}
+use Rattle.cbs_file.specs.Plain.{StartsPair, EndsLine, OpensTable, OpensLines, Opens, FollowsComma}
+use Rattle.cbs_file.specs.Plain.{FollowsLine, Follows, EndsTable, Ends, ReadsInline, ReadsLines, Reads}
+use Rattle.cbs_file.specs.Plain.{IsTable, under, IsValue, op_pair, EndsNumber, AreUnits, SpellsStep}
 
 -- before `=` no bare key goes on
 bare_stops : (u : List ℕ) → (first (skip_ws u) == 61) ≡ true → is_bare (first u) ≡ false
@@ -59,6 +62,7 @@ simple_bare (c ∷ cs) u bare some stops =
     let split : split_while is_bare ((c ∷ cs) ++ u) ≡ (c ∷ cs, u) = split_run (c ∷ cs) u (prefix_len-run is_bare (c ∷ cs) u bare stops) in
     rw (quote, apostrophe, here) (ap (λ p. Some p) (rw here at split))
 
+-- a pair whose key is bare, from its key on
 pub named_pair : (w u : List ℕ) → list_all is_bare w ≡ true → 0 < length w → (first (skip_ws u) == 61) ≡ true
     → key_equals (w ++ u) ≡ Some (([], w), skip_ws (drop 1 (skip_ws u)))
 unfolding key_equals key_after
@@ -71,10 +75,12 @@ bare_open : (w u : List ℕ) → list_all is_bare w ≡ true → 0 < length w �
 bare_open [] u bare some = absurd (omega arith)
 bare_open (c ∷ cs) u bare some = grind (arith, nat_tests)
 
+-- nor with one of a header
 bare_header : (w u : List ℕ) → list_all is_bare w ≡ true → 0 < length w → (first (w ++ u) == 91) ≡ false
 bare_header [] u bare some = absurd (omega arith)
 bare_header (c ∷ cs) u bare some = grind (arith, nat_tests)
 
+-- a text that begins with a bare key and `=` begins with a pair
 pub starts_pair : (s w u rest at : List ℕ) → s ≡ w ++ u → list_all is_bare w ≡ true → 0 < length w → rest ≡ skip_ws u → (first rest == 61) ≡ true
     → at ≡ skip_ws (drop 1 rest) → length at < length s → StartsPair s w at
 starts_pair s w u rest at is bare some rest_is equals at_is shorter =
@@ -103,7 +109,8 @@ first_inline text key at after d ns opens read less edit =
     }
 
 -- one more
-next_inline : (text key before at after : List ℕ) (d : Data) (ms ns : Nodes) → ReadsInline text ms before → FollowsComma before key at → val 78 at ≡ Some (d, after)
+next_inline : (text key before at after : List ℕ) (d : Data) (ms ns : Nodes) → ReadsInline text ms before → FollowsComma before key at
+    → val 78 at ≡ Some (d, after)
     → length after < length at → put ([], key) d ms ≡ Some ns → ReadsInline text ns after
 next_inline text key before at after d ms ns reads follows read less edit =
     let room = reads.room in
@@ -125,12 +132,14 @@ inline_read text after rest ns reads ends =
     reads.goes_on ends.next ends.element ∙ ap (read_map table) (members_end (val 78) reads.left ns ends.next (omega arith) ends.brace) ∙ rw (ends.after) refl
 
 -- a line of a pair
-pair_line : (n : ℕ) (at : Nodes → Document) (ms ns : Nodes) (text key value_at after : List ℕ) (d : Data) → IsPlace at → 0 < n → StartsPair (skip_blank text) key value_at
+pair_line : (n : ℕ) (at : Nodes → Document) (ms ns : Nodes) (text key value_at after : List ℕ) (d : Data) → IsPlace at → 0 < n
+    → StartsPair (skip_blank text) key value_at
     → val 80 value_at ≡ Some (d, after) → EndsLine after → put ([], key) d ms ≡ Some ns → lines n (at ms) text ≡ lines (n - 1) (at ns) after
 pair_line n at ms ns text key value_at after d place some pair read ends edit =
     let shorter = pair.shorter in
     let more : (length (skip_blank text) == 0) ≡ false = grind (arith, nat_tests) in
-    lines_more n (at ms) (at ns) text (([], key), key_value d) after some more (line_pair (skip_blank text) value_at after ([], key) d pair.no_header pair.named read ends)
+    lines_more n (at ms) (at ns) text (([], key), key_value d) after some more
+    (line_pair (skip_blank text) value_at after ([], key) d pair.no_header pair.named read ends)
     (pair_placed at place ms ns ([], key) d edit)
 
 -- the first pair on a line
@@ -140,7 +149,12 @@ first_line text key at after d ns opens read less edit =
     let shorter = opens.shorter in
     record {
       shorter = omega arith;
-      goes_on = λ ends n place is_place room. (n - 1, omega arith, pair_line n place no_nodes ns text key at after d is_place (omega arith) opens.pair read ends edit);
+      goes_on = λ ends n place is_place room. (
+        n - 1,
+        omega arith,
+        pair_line n place no_nodes ns text key at after d is_place (omega arith)
+            opens.pair read ends edit,
+      );
     }
 
 -- one more
@@ -157,12 +171,14 @@ next_line text key before at after d ms ns reads follows read less edit =
     }
 
 -- a table by its layout: its first pair, one more, and the whole
-first_read : (layout : Layout) (text key at after : List ℕ) (d : Data) (ns : Nodes) → Opens layout text key at → IsValue layout at d after → length after < length at
+first_read : (layout : Layout) (text key at after : List ℕ) (d : Data) (ns : Nodes) → Opens layout text key at → IsValue layout at d after
+    → length after < length at
     → put ([], key) d no_nodes ≡ Some ns → Reads layout text ns after
 first_read Inline text key at after d ns opens read less edit = first_inline text key at after d ns opens read less edit
 first_read Lines text key at after d ns opens read less edit = first_line text key at after d ns opens read less edit
 
-next_read : (layout : Layout) (text key before at after : List ℕ) (d : Data) (ms ns : Nodes) → Reads layout text ms before → Follows layout before key at → IsValue layout at d after
+next_read : (layout : Layout) (text key before at after : List ℕ) (d : Data) (ms ns : Nodes) → Reads layout text ms before
+    → Follows layout before key at → IsValue layout at d after
     → length after < length at → put ([], key) d ms ≡ Some ns → Reads layout text ns after
 next_read Inline text key before at after d ms ns reads follows read less edit = next_inline text key before at after d ms ns reads follows read less edit
 next_read Lines text key before at after d ms ns reads follows read less edit = next_line text key before at after d ms ns reads follows read less edit
@@ -197,7 +213,8 @@ pub one_digit : (s rest : List ℕ) (d : ℕ) → d ≤ 9 → first s ≡ 48 + d
 one_digit s rest d most is after = with_first s (omega arith) ∙ rw (is, decimal_digit d (omega arith), after) refl
 
 -- one more digit
-pub more_digits : (s rest next : List ℕ) (n d : ℕ) → s ≡ decimal n ++ rest → 0 < n → n < 10 ^ 17 → d ≤ 9 → first rest ≡ 48 + d → next ≡ drop 1 rest → s ≡ decimal (n * 10 + d) ++ next
+pub more_digits : (s rest next : List ℕ) (n d : ℕ) → s ≡ decimal n ++ rest → 0 < n → n < 10 ^ 17 → d ≤ 9 → first rest ≡ 48 + d → next ≡ drop 1 rest
+    → s ≡ decimal (n * 10 + d) ++ next
 more_digits s rest next n d so_far some small most is after =
     let tens : (n * 10 + d) / 10 ≡ n = omega arith in
     let ones : (n * 10 + d) % 10 ≡ d = omega arith in
@@ -210,7 +227,8 @@ pub number_read : (depth n : ℕ) (s rest : List ℕ) → s ≡ decimal n ++ res
 unfolding atom
 number_read depth n s rest is small ends =
     let word = IsWord-pos n (omega arith) in
-    let whole : unquoted (decimal n ++ rest) ≡ Some (Integer (pos n), rest) = unquoted-word (decimal n) rest (Integer (pos n)) word.some word.all ends word.value in
+    let whole : unquoted (decimal n ++ rest) ≡ Some (Integer (pos n), rest) =
+    unquoted-word (decimal n) rest (Integer (pos n)) word.some word.all ends word.value in
     let here : is_word (first (decimal n ++ rest)) ≡ true = front_word (decimal n) rest word.some word.all in
     let no_array : (first (decimal n ++ rest) == 91) ≡ false = grind (arith, nat_tests) in
     let no_table : (first (decimal n ++ rest) == 123) ≡ false = grind (arith, nat_tests) in
@@ -218,6 +236,7 @@ number_read depth n s rest is small ends =
     let no_apostrophe : (first (decimal n ++ rest) == 39) ≡ false = grind (arith, nat_tests) in
     rw is (val_atom depth (decimal n ++ rest) no_array no_table ∙ rw (no_quote, no_apostrophe, whole) refl)
 
+-- a number has a digit
 pub number_shortens : (n : ℕ) (s rest : List ℕ) → s ≡ decimal n ++ rest → n < 10 ^ 18 → length rest < length s
 number_shortens n s rest is small =
     let some = decimal_nonempty n (omega arith) in
@@ -225,24 +244,25 @@ number_shortens n s rest is small =
     omega arith
 
 -- a text that is a value
-word_value : (layout : Layout) (s rest word : List ℕ) → (first s == 91) ≡ false → (first s == 123) ≡ false → atom s ≡ Some (string word, rest) → IsValue layout s (string word) rest
+word_value : (layout : Layout) (s rest word : List ℕ) → (first s == 91) ≡ false → (first s == 123) ≡ false → atom s ≡ Some (string word, rest)
+    → IsValue layout s (string word) rest
 word_value Inline s rest word no_array no_table read = val_atom 78 s no_array no_table ∙ read
 word_value Lines s rest word no_array no_table read = val_atom 80 s no_array no_table ∙ read
 
--- the words of the operations
-run_word : (rest : List ℕ) → atom (codes "\"run\"" ++ rest) ≡ Some (string (codes "run"), rest)
+-- the words of the operations, each read whatever follows it
+pub run_word : (rest : List ℕ) → atom (codes "\"run\"" ++ rest) ≡ Some (string (codes "run"), rest)
 unfolding toml_on_literals
 run_word rest = refl
 
-advance_word : (rest : List ℕ) → atom (codes "\"advance\"" ++ rest) ≡ Some (string (codes "advance"), rest)
+pub advance_word : (rest : List ℕ) → atom (codes "\"advance\"" ++ rest) ≡ Some (string (codes "advance"), rest)
 unfolding toml_on_literals
 advance_word rest = refl
 
-close_word : (rest : List ℕ) → atom (codes "\"close\"" ++ rest) ≡ Some (string (codes "close"), rest)
+pub close_word : (rest : List ℕ) → atom (codes "\"close\"" ++ rest) ≡ Some (string (codes "close"), rest)
 unfolding toml_on_literals
 close_word rest = refl
 
-submit_word : (rest : List ℕ) → atom (codes "\"submit\"" ++ rest) ≡ Some (string (codes "submit"), rest)
+pub submit_word : (rest : List ℕ) → atom (codes "\"submit\"" ++ rest) ≡ Some (string (codes "submit"), rest)
 unfolding toml_on_literals
 submit_word rest = refl
 
@@ -251,11 +271,13 @@ pub put_op : (d : Data) → put ([], codes "op") d no_nodes ≡ Some (node (code
 unfolding toml_on_literals
 put_op d = refl
 
-put_ticks : (d e : Data) → put ([], codes "ticks") e (node (codes "op") (value d) no_nodes) ≡ Some (node (codes "op") (value d) (node (codes "ticks") (value e) no_nodes))
+put_ticks : (d e : Data) → put ([], codes "ticks") e (node (codes "op") (value d) no_nodes)
+    ≡ Some (node (codes "op") (value d) (node (codes "ticks") (value e) no_nodes))
 unfolding toml_on_literals
 put_ticks d e = refl
 
-put_server : (d e : Data) → put ([], codes "server") e (node (codes "op") (value d) no_nodes) ≡ Some (node (codes "op") (value d) (node (codes "server") (value e) no_nodes))
+put_server : (d e : Data) → put ([], codes "server") e (node (codes "op") (value d) no_nodes)
+    ≡ Some (node (codes "op") (value d) (node (codes "server") (value e) no_nodes))
 unfolding toml_on_literals
 put_server d e = refl
 
@@ -265,7 +287,8 @@ unfolding step_entry run_entry
 run_spells t = refl
 
 advance_spells : (t : Terms) (ticks : ℕ) → ticks ≤ longest_advance t.format
-    → step_entry t.format t.servers (table (close (node (codes "op") (value (string (codes "advance"))) (node (codes "ticks") (value (integer (pos ticks))) no_nodes)))) ≡ Ok (step.Advance ticks)
+    → step_entry t.format t.servers (table (close (node (codes "op") (value (string (codes "advance")))
+    (node (codes "ticks") (value (integer (pos ticks))) no_nodes)))) ≡ Ok (step.Advance ticks)
 unfolding step_entry advance_entry
 advance_spells t ticks most =
     let some : nat_le 0 ticks ≡ true = grind (arith, nat_tests) in
@@ -273,7 +296,8 @@ advance_spells t ticks most =
     rw (some, fits) refl
 
 close_spells : (t : Terms) (server : ℕ) → server < t.servers
-    → step_entry t.format t.servers (table (close (node (codes "op") (value (string (codes "close"))) (node (codes "server") (value (integer (pos server))) no_nodes)))) ≡ Ok (step.Close server)
+    → step_entry t.format t.servers (table (close (node (codes "op") (value (string (codes "close")))
+    (node (codes "server") (value (integer (pos server))) no_nodes)))) ≡ Ok (step.Close server)
 unfolding step_entry close_entry
 close_spells t server few =
     let fits : nat_lt server t.servers ≡ true = grind (arith, nat_tests) in
@@ -283,6 +307,7 @@ close_spells t server few =
 pub no_units : (us : List ℕ) → us ≡ [] → AreUnits us no_items
 no_units us none = rw none (record { items = refl; most = refl })
 
+-- one more number that fits is one more unit
 pub more_units : (us vs : List ℕ) (ds : Items) (n : ℕ) → AreUnits us ds → n ≤ greatest_number → vs ≡ us ++ n ∷ [] → AreUnits vs (push_item ds (integer (pos n)))
 more_units us vs ds n are most is =
     let here : nat_le n greatest_number ≡ true = grind (arith, nat_tests) in
@@ -296,7 +321,9 @@ units_integers : (us : List ℕ) → list_all (λ d. is_some (as_integer d)) (ma
 units_integers [] = refl
 units_integers (u ∷ us) = units_integers us
 
-each_units : (i : ℕ) (us : List ℕ) → list_all (λ n. nat_le n greatest_number) us ≡ true → each_from i (λ _. number 0 greatest_number) (map (λ n. integer (pos n)) us) ≡ Ok us
+-- numbers that fit are read as they are
+each_units : (i : ℕ) (us : List ℕ) → list_all (λ n. nat_le n greatest_number) us ≡ true
+    → each_from i (λ _. number 0 greatest_number) (map (λ n. integer (pos n)) us) ≡ Ok us
 unfolding each_from
 each_units i [] all = refl
 each_units i (u ∷ us) all = elim (cases_Bool (nat_le u greatest_number)) [
@@ -312,7 +339,8 @@ submit_pairs server kind ds =
     node (codes "job") (value (string kind)) (node (codes "op") (value (string (codes "submit")))
     (node (codes "server") (value (integer (pos server))) (node (codes "units") (value (array ds)) no_nodes)))
 
-submit_spells : (t : Terms) (server : ℕ) (kind units : List ℕ) (ds : Items) (job : FileJob) → server < t.servers → AreUnits units ds → 0 < length units → length units ≤ most_units
+submit_spells : (t : Terms) (server : ℕ) (kind units : List ℕ) (ds : Items) (job : FileJob) → server < t.servers → AreUnits units ds
+    → 0 < length units → length units ≤ most_units
     → job_of kind units ≡ Ok job → step_entry t.format t.servers (table (close (submit_pairs server kind ds))) ≡ Ok (step.Submit server job)
 unfolding step_entry submit_entry submit_fields
 submit_spells t server kind units ds job few are some most is =
@@ -350,32 +378,22 @@ pub peak_kind : (layout : Layout) (s rest : List ℕ) → s ≡ codes "\"peak\""
 peak_kind layout s rest is = rw is (word_value layout (codes "\"peak\"" ++ rest) rest (codes "peak") refl refl (peak_word rest))
 
 -- an array of units
-pub units_read : (layout : Layout) (s inner rest : List ℕ) (ds : Items) → (first s == 91) ≡ true → inner ≡ drop 1 s → items (val (under layout)) (length s) no_items inner ≡ Some (ds, rest)
+pub units_read : (layout : Layout) (s inner rest : List ℕ) (ds : Items) → (first s == 91) ≡ true → inner ≡ drop 1 s
+    → items (val (under layout)) (length s) no_items inner ≡ Some (ds, rest)
     → IsValue layout s (array ds) rest
 units_read layout s inner rest ds opens is read = val_array (under layout) s opens ∙ rw (← is, read) refl
 
--- an operation whose word was read
-op_read : (layout : Layout) (text at op word : List ℕ) → Opens layout text (codes "op") at → IsValue layout at (string word) op → length op < length at → Reads layout text (op_pair word) op
-op_read layout text at op word opens read less = first_read layout text (codes "op") at op (string word) (op_pair word) opens read less (put_op (string word))
-
--- the words of operations, each at the start of a text
-pub run_read : (layout : Layout) (text at op : List ℕ) → Opens layout text (codes "op") at → at ≡ codes "\"run\"" ++ op → Reads layout text (op_pair (codes "run")) op
-run_read layout text at op opens is =
-    op_read layout text at op (codes "run") opens (rw is (word_value layout (codes "\"run\"" ++ op) op (codes "run") refl refl (run_word op))) (rw is (omega arith))
-
-pub submit_read : (layout : Layout) (text at op : List ℕ) → Opens layout text (codes "op") at → at ≡ codes "\"submit\"" ++ op → Reads layout text (op_pair (codes "submit")) op
-submit_read layout text at op opens is =
-    op_read layout text at op (codes "submit") opens (rw is (word_value layout (codes "\"submit\"" ++ op) op (codes "submit") refl refl (submit_word op))) (rw is (omega arith))
-
-pub advance_read : (layout : Layout) (text at op : List ℕ) → Opens layout text (codes "op") at → at ≡ codes "\"advance\"" ++ op → Reads layout text (op_pair (codes "advance")) op
-advance_read layout text at op opens is =
-    op_read layout text at op (codes "advance") opens (rw is (word_value layout (codes "\"advance\"" ++ op) op (codes "advance") refl refl (advance_word op))) (rw is (omega arith))
-
-pub close_read : (layout : Layout) (text at op : List ℕ) → Opens layout text (codes "op") at → at ≡ codes "\"close\"" ++ op → Reads layout text (op_pair (codes "close")) op
-close_read layout text at op opens is =
-    op_read layout text at op (codes "close") opens (rw is (word_value layout (codes "\"close\"" ++ op) op (codes "close") refl refl (close_word op))) (rw is (omega arith))
+-- the word of an operation was read, which `quoted` spells
+pub op_read : (layout : Layout) (text at op quoted word : List ℕ) → Opens layout text (codes "op") at → at ≡ quoted ++ op → 0 < length quoted
+    → (first (quoted ++ op) == 91) ≡ false → (first (quoted ++ op) == 123) ≡ false → atom (quoted ++ op) ≡ Some (string word, op)
+    → Reads layout text (op_pair word) op
+op_read layout text at op quoted word opens is some no_array no_table read =
+    let count : length at ≡ length quoted + length op = ap length is ∙ length-append quoted op in
+    let value_is : IsValue layout at (string word) op = rw is (word_value layout (quoted ++ op) op word no_array no_table read) in
+    first_read layout text (codes "op") at op (string word) (op_pair word) opens value_is (omega arith) (put_op (string word))
 
 module _ (layout : Layout) (t : Terms) (text : List ℕ) where
+  -- the steps, each from the pairs that were read
   pub run_step : (after rest : List ℕ) → Reads layout text (op_pair (codes "run")) after → Ends layout after rest → SpellsStep layout t text step.Run rest
   run_step after rest reads ends = record {
     pairs = op_pair (codes "run");
@@ -390,7 +408,8 @@ module _ (layout : Layout) (t : Terms) (text : List ℕ) where
       → SpellsStep layout t text (step.Advance ticks) rest
   advance_step op at after rest ticks reads follows read less most ends =
       let word = string (codes "advance") in
-      let all = next_read layout text (codes "ticks") op at after (integer (pos ticks)) (op_pair (codes "advance")) _ reads follows read less (put_ticks word (integer (pos ticks))) in
+      let all = next_read layout text (codes "ticks") op at after (integer (pos ticks)) (op_pair (codes "advance")) _ reads follows read less
+      (put_ticks word (integer (pos ticks))) in
       record {
         pairs = _;
         read = table_read layout text after rest _ all ends;
@@ -404,7 +423,8 @@ module _ (layout : Layout) (t : Terms) (text : List ℕ) where
       → SpellsStep layout t text (step.Close server) rest
   close_step op at after rest server reads follows read less few ends =
       let word = string (codes "close") in
-      let all = next_read layout text (codes "server") op at after (integer (pos server)) (op_pair (codes "close")) _ reads follows read less (put_server word (integer (pos server))) in
+      let all = next_read layout text (codes "server") op at after (integer (pos server)) (op_pair (codes "close")) _ reads follows read less
+      (put_server word (integer (pos server))) in
       record {
         pairs = _;
         read = table_read layout text after rest _ all ends;
@@ -413,7 +433,8 @@ module _ (layout : Layout) (t : Terms) (text : List ℕ) where
         shorter = table_shortens layout text after rest _ all ends;
       }
 
-  pub submit_step : (op at_server after_server at_job after_job at_units after_units rest : List ℕ) (server : ℕ) (kind units : List ℕ) (ds : Items) (job : FileJob)
+  pub submit_step : (op at_server after_server at_job after_job at_units after_units rest : List ℕ) (server : ℕ) (kind units : List ℕ) (ds : Items)
+      (job : FileJob)
       → Reads layout text (op_pair (codes "submit")) op
       → Follows layout op (codes "server") at_server → IsValue layout at_server (integer (pos server)) after_server → length after_server < length at_server
       → Follows layout after_server (codes "job") at_job → IsValue layout at_job (string kind) after_job → length after_job < length at_job
@@ -425,9 +446,12 @@ module _ (layout : Layout) (t : Terms) (text : List ℕ) where
       job_follows job_read job_less units_follow units_are units_less ends few are some most is =
       let d = string (codes "submit") in
       let e = integer (pos server) in
-      let two = next_read layout text (codes "server") op at_server after_server e (op_pair (codes "submit")) _ reads server_follows server_read server_less (put_server d e) in
-      let three = next_read layout text (codes "job") after_server at_job after_job (string kind) _ _ two job_follows job_read job_less (put_job d e (string kind)) in
-      let all = next_read layout text (codes "units") after_job at_units after_units (array ds) _ (submit_pairs server kind ds) three units_follow units_are units_less (put_units d e (string kind) (array ds)) in
+      let two = next_read layout text (codes "server") op at_server after_server e (op_pair (codes "submit")) _ reads server_follows server_read
+      server_less (put_server d e) in
+      let three = next_read layout text (codes "job") after_server at_job after_job (string kind) _ _ two job_follows job_read job_less
+      (put_job d e (string kind)) in
+      let all = next_read layout text (codes "units") after_job at_units after_units (array ds) _ (submit_pairs server kind ds) three units_follow
+      units_are units_less (put_units d e (string kind) (array ds)) in
       record {
         pairs = submit_pairs server kind ds;
         read = table_read layout text after_units rest (submit_pairs server kind ds) all ends;

@@ -1,5 +1,6 @@
 -- The file that a document spells whose steps were read apart.
-use Rattle.std.proofs.Common.{◌≡◌, ℕ, List, [], ◌∷◌, codes, true, Some, None, Ok, Err, length, Ordering, Less, Equal, Greater, String, Global, string_bytes, refl, ◌∙◌}
+use Rattle.std.proofs.Common.{◌≡◌, ℕ, List, [], ◌∷◌, codes, true, Some, None, Ok, Err, length, Ordering, Less}
+use Rattle.std.proofs.Common.{Equal, Greater, String, Global, string_bytes, refl, ◌∙◌}
 use Rattle.std.specs.Str.{is_utf8}
 use Rattle.std.specs.BTreeMap.{insert_entry}
 use Rattle.std.specs.String.{string_cmp}
@@ -24,12 +25,16 @@ use Rattle.cbs_file.specs.TopTables.{TopData, top_table}
 use Rattle.cbs_file.specs.Streams.{insert_member}
 use Rattle.cbs_file.proofs.OtherSteps.{top_steps}
 
-match_members : (o : Ordering) (a b c : List Entry) → members_view (match_ordering o a b c) ≡ match_ordering o (members_view a) (members_view b) (members_view c)
+-- a choice by the order of two keys, as entries
+match_members : (o : Ordering) (a b c : List Entry) → members_view (match_ordering o a b c)
+    ≡ match_ordering o (members_view a) (members_view b) (members_view c)
 match_members Less a b c = refl
 match_members Equal a b c = refl
 match_members Greater a b c = refl
 
-pub members_view-insert_entry : (es : List Entry) (k : String Global) (v : Value) → members_view (insert_entry string_cmp es k v) ≡ insert_member (string_bytes k) (view v) (members_view es)
+-- one more entry is one more member
+pub members_view-insert_entry : (es : List Entry) (k : String Global) (v : Value)
+    → members_view (insert_entry string_cmp es k v) ≡ insert_member (string_bytes k) (view v) (members_view es)
 members_view-insert_entry [] k v = refl
 members_view-insert_entry (e ∷ es) k v = match_members (string_cmp k e.0) _ _ _ ∙ rw (members_view-insert_entry es k v)
 
@@ -53,7 +58,8 @@ module _ (bytes : List ℕ) (ds : Items) (ms : Members) (utf8 : is_utf8 bytes �
 
     module _ (setup : ModedPlan) (taken : taken_in (admitted_entry top.mode) 0 (no_servers top.bound) top.servers ≡ Ok setup) where
       -- a fault of a step
-      pub steps_fault : (fault : FileFault) → each_from 0 (λ i entry. at (AtStep i) (step_entry top.format (length setup.plan.rates) entry)) (list_of ds) ≡ Err fault
+      pub steps_fault : (fault : FileFault) → each_from 0 (λ i entry. at (AtStep i) (step_entry top.format (length setup.plan.rates) entry))
+          (list_of ds) ≡ Err fault
           → file bytes ≡ Err fault
       unfolding file
       steps_fault fault bad = rw (utf8, parsed, top_steps ds no_items ms none, good, taken, bad) refl

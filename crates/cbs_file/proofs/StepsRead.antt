@@ -1,5 +1,6 @@
 -- One more entry of the steps.
-use Rattle.std.proofs.Common.{◌≡◌, ◌∙◌, ℕ, suc, ◌+◌, List, [], ◌∷◌, ◌++◌, length, Option, Some, None, is_some, true, false, Result, Ok, Err, IfOk, refl, ap, sym, arith, add-zero}
+use Rattle.std.proofs.Common.{◌≡◌, ◌∙◌, ℕ, suc, ◌+◌, List, [], ◌∷◌, ◌++◌, length, Option, Some, None, is_some}
+use Rattle.std.proofs.Common.{true, false, Result, Ok, Err, IfOk, refl, ap, sym, arith, add-zero}
 use Rattle.std.proofs.lemmas.Bool.{true≢false, false≢true}
 use Rattle.toml.specs.Data.{Data, Items, no_items, item, push_item}
 use Rattle.cbs_steps.specs.declared.step.Step.{Step}
@@ -22,12 +23,15 @@ use Rattle.std.proofs.lemmas.List.Elements.{All-nil}
 use Rattle.cbs_file.specs.TaskFiles.{IsFileStep}
 use Rattle.cbs_file.specs.Streams.{outcome, ReadsSteps}
 
+-- one more item is one more of the list
 pub list_of-push : (ds : Items) (d : Data) → list_of (push_item ds d) ≡ list_of ds ++ d ∷ []
 list_of-push no_items d = refl
 list_of-push (item e ds) d = ap (λ t. e ∷ t) (list_of-push ds d)
 
+-- three results in a row, in either grouping
 regroup : {E B : Type 0} (r : Result B E) (s : Result (List B) E) (t : Result B E)
-    → (r >>= (λ a. (s >>= (λ vs. t >>= (λ v. Ok (vs ++ v ∷ [])))) >>= (λ vs. Ok (a ∷ vs)))) ≡ ((r >>= (λ a. s >>= (λ vs. Ok (a ∷ vs)))) >>= (λ vs. t >>= (λ v. Ok (vs ++ v ∷ []))))
+    → (r >>= (λ a. (s >>= (λ vs. t >>= (λ v. Ok (vs ++ v ∷ [])))) >>= (λ vs. Ok (a ∷ vs))))
+    ≡ ((r >>= (λ a. s >>= (λ vs. Ok (a ∷ vs)))) >>= (λ vs. t >>= (λ v. Ok (vs ++ v ∷ []))))
 regroup (Err e) s t = refl
 regroup (Ok a) (Err e) t = refl
 regroup (Ok a) (Ok vs) (Err e) = refl
@@ -42,7 +46,9 @@ each_more i f (y ∷ ys) x =
     let n : i + 1 + length ys ≡ i + suc (length ys) = omega arith in
     rw (each_more (i + 1) f ys x, n) (regroup (f i y) (each_from (i + 1) f ys) (f (i + suc (length ys)) x))
 
-len_step : {E B : Type 0} (r : Result B E) (s : Result (List B) E) (n : ℕ) → IfOk s (λ vs. length vs ≡ n) → IfOk (r >>= (λ a. s >>= (λ vs. Ok (a ∷ vs)))) (λ vs. length vs ≡ suc n)
+-- one more step is one more
+len_step : {E B : Type 0} (r : Result B E) (s : Result (List B) E) (n : ℕ) → IfOk s (λ vs. length vs ≡ n)
+    → IfOk (r >>= (λ a. s >>= (λ vs. Ok (a ∷ vs)))) (λ vs. length vs ≡ suc n)
 len_step (Err e) s n h = tt
 len_step (Ok a) (Err e) n h = tt
 len_step (Ok a) (Ok vs) n h = ap suc h
@@ -63,12 +69,16 @@ pub after_fault : (t : Terms) (steps : List (Step FileJob)) (fault : Option File
 after_fault t steps None ds d some h = absurd (false≢true some)
 after_fault t steps (Some kind) ds d some h = each_more 0 (entry_at t) ds d ∙ rw h refl
 
-pub one_more : (t : Terms) (steps : List (Step FileJob)) (step : Step FileJob) (fault : Option FileKind) (ds : List Data) (d : Data) → is_some fault ≡ false → step_entry t.format t.servers d ≡ Ok step
+-- a step after others, with no fault so far, is taken
+pub one_more : (t : Terms) (steps : List (Step FileJob)) (step : Step FileJob) (fault : Option FileKind) (ds : List Data) (d : Data)
+    → is_some fault ≡ false → step_entry t.format t.servers d ≡ Ok step
     → each_from 0 (entry_at t) ds ≡ outcome steps fault → each_from 0 (entry_at t) (ds ++ d ∷ []) ≡ outcome (steps ++ step ∷ []) fault
 one_more t steps step (Some kind) ds d none given h = absurd (true≢false none)
 one_more t steps step None ds d none given h = each_more 0 (entry_at t) ds d ∙ rw (h, given) refl
 
-pub first_fault : (t : Terms) (steps : List (Step FileJob)) (kind : FileKind) (fault : Option FileKind) (ds : List Data) (d : Data) → is_some fault ≡ false → step_entry t.format t.servers d ≡ Err kind
+-- a fault after steps with no fault is the first
+pub first_fault : (t : Terms) (steps : List (Step FileJob)) (kind : FileKind) (fault : Option FileKind) (ds : List Data) (d : Data)
+    → is_some fault ≡ false → step_entry t.format t.servers d ≡ Err kind
     → each_from 0 (entry_at t) ds ≡ outcome steps fault → each_from 0 (entry_at t) (ds ++ d ∷ []) ≡ outcome steps (Some kind)
 first_fault t steps kind (Some other) ds d none given h = absurd (true≢false none)
 first_fault t steps kind None ds d none given h =

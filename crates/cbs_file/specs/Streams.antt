@@ -60,7 +60,8 @@ insert_member k x (member l d ms) = match_ordering (slice_cmp nat_cmp k l) (memb
 -- was read
 abbrev pub ReadsStepTables : Terms → Nodes → Result StepsRead Stop → Option Lines → Type 0
 ReadsStepTables t root r expected = MatchResult r
-    (λ found. (ds : Items) × (doc : Lines) × (expected ≡ Some doc) × (close doc.0 ≡ insert_member (codes "step") (array ds) (close root)) × Spells t found (list_of ds))
+    (λ found. (ds : Items) × (doc : Lines) × (expected ≡ Some doc) × (close doc.0 ≡ insert_member (codes "step") (array ds) (close root))
+    × Spells t found (list_of ds))
     (λ e. e ≡ NotToml → expected ≡ None)
 
 -- the expected members are the table of the document that was read, with the steps at their key if the steps were read
@@ -68,7 +69,8 @@ ReadsStepTables t root r expected = MatchResult r
 abbrev pub IsDocument : Document → Option StepsRead → Option Members → Type 0
 IsDocument doc None expected = expected ≡ Some (table_view doc.table)
 IsDocument doc (Some r) expected =
-    (ds : Items) × (expected ≡ Some (insert_member (codes "step") (array ds) (table_view doc.table))) × (get_member (codes "step") (table_view doc.table) ≡ None)
+    (ds : Items) × (expected ≡ Some (insert_member (codes "step") (array ds) (table_view doc.table)))
+    × (get_member (codes "step") (table_view doc.table) ≡ None)
     × Spells doc.terms r (list_of ds)
 
 -- what was read is the document that the grammar gives, or the grammar refuses

@@ -3,6 +3,7 @@ use Rattle.std.proofs.Common.{◌≡◌, ℕ, ◌*◌, ◌/◌, arith}
 use Rattle.std.specs.Int.{IsGcd}
 use Rattle.std.proofs.Math.Nat.{mul-div_cancel'}
 
+-- two numbers with a common divisor are to each other as what is left of them
 turned : (g a b x y : ℕ) → g * x ≡ a → g * y ≡ b → x * b ≡ a * y
 turned g a b x y e f = rw (← e, ← f) (omega arith)
 

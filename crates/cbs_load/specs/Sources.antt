@@ -65,7 +65,16 @@ source_fields entry = do
   jobs_number ← of_some integer (get_member (codes "jobs") table)
   within_number ← of_some integer (get_member (codes "within") table)
   overrun_numbers ← of_some two_numbers (get_member (codes "overrun") table)
-  Ok (record { server = server_name; first = first_number; every = every_numbers; units = units_numbers; jobs = jobs_number; within = within_number; overrun = overrun_numbers })
+  Ok (record {
+    server = server_name;
+    first = first_number;
+    every = every_numbers;
+    units = units_numbers;
+    jobs = jobs_number;
+    within =
+        within_number;
+    overrun = overrun_numbers;
+  })
 
 -- The source that the values spell, or the fault that one is out of range. If they are left out, `first` and `overrun`
 -- are 0, the number of `jobs` has no limit, and `within` is the server's period.

@@ -32,7 +32,8 @@ simulation modes plan backlog coming = record {
 pub same_seen : (f : LoadFile) (within : List (Option ℕ)) (modes : List Mode) (plan : Planned) (backlog until : ℕ) (coming : List Release)
     → within ≡ withins f → modes ≡ f.modes → plan ≡ f.plan → backlog ≡ f.backlog → until ≡ f.until
     → coming ≡ merged (released_by_all 0 f.sources f.until f.seed)
-    → map (seen_of within) (shown loading job_of (simulation modes plan backlog coming) (moves_of loading job_of until (simulation modes plan backlog coming)) [])
+    → map (seen_of within) (shown loading job_of (simulation modes plan backlog coming)
+    (moves_of loading job_of until (simulation modes plan backlog coming)) [])
     ≡ seen_in f
 same_seen f within modes plan backlog until coming a b c d e g = rw (a, b, c, d, e, g) refl
 
@@ -41,7 +42,8 @@ pub same_figures : (bs cs : List ℕ) (m n : ℕ) (seen : List Seen) (fs : List 
 same_figures bs cs m n seen fs b e h = rw (← b, ← e) h
 
 -- a view that saw no step
-pub saw_none : {S : Type 0} (saw failed : S → S → List Seen → Type 0) (first now : S) (steps : List Seen) → saw first now [] → SawSome saw failed first now steps
+pub saw_none : {S : Type 0} (saw failed : S → S → List Seen → Type 0) (first now : S) (steps : List Seen) → saw first now []
+    → SawSome saw failed first now steps
 saw_none saw failed first now steps was = record { later = steps; done = []; all = append-nil steps; seen = inl was }
 
 -- a view of the first moves of a simulation, up to some move, saw the first steps, up to some step

@@ -57,7 +57,8 @@ figures_at rates now seen fs s r all reservation figures =
 -- the figures of one server of a load make its report
 pub server_is : (f : LoadFile) (s : ℕ) (r : ServerReport) (fs : List Figures)
     → AreAllFigures (map (λ rate. rate.budget) f.plan.rates) f.until (seen_in f) fs
-    → Some (string_bytes r.name) ≡ slice_get f.names s → Some r.mode ≡ slice_get f.modes s → Some r.reservation ≡ slice_get f.plan.rates s → r.within ≡ within_of s f.sources
+    → Some (string_bytes r.name) ≡ slice_get f.names s → Some r.mode ≡ slice_get f.modes s → Some r.reservation ≡ slice_get f.plan.rates s
+    → r.within ≡ within_of s f.sources
     → slice_get fs s ≡ Some r.figures → AreThrottled f → s < length f.plan.rates → IsServerReport f s r
 server_is f s r fs all name mode reservation within figures waits there =
     let own = figures_at f.plan.rates f.until (seen_in f) fs s r all reservation figures in

@@ -58,7 +58,8 @@ picture_by name xs ys ms ns p q c picture a m e h = rw (← a, ← m, ← e) h
 
 -- the picture of its steps is that of the file
 pub file_picture : (name : List ℕ) (f : File) (s : ModedPlan) (backlog ring : ℕ) (steps : List (Step FileJob)) (w : Window) (called : List (List ℕ))
-    (moded : List Mode) (plan : Planned) (c : Chart) (p : Picture) → file_of s backlog ring steps ≡ f → c.window ≡ w → c.end ≡ clock_after (start_with s backlog) steps
+    (moded : List Mode) (plan : Planned) (c : Chart) (p : Picture) → file_of s backlog ring steps ≡ f → c.window ≡ w
+    → c.end ≡ clock_after (start_with s backlog) steps
     → IsChart s.plan.rates (clock_after (start_with s backlog) steps) (seen_from (start_with s backlog) steps []) c
     → called ≡ map name_of (range_with_len 0 (length s.plan.rates)) → moded ≡ s.modes → plan ≡ s.plan → IsChartPicture name called moded plan c p
     → IsTaskPicture name f w p

@@ -1,5 +1,6 @@
 -- The throttled ticks that are computed from a server's own steps are the ticks at which it waits.
-use Rattle.std.proofs.Common.{◌≡◌, ℕ, zero, suc, ◌+◌, ◌-◌, ◌≤◌, ◌<◌, Bool, true, false, not, ◌&&◌, leb, ltb, List, [], ◌∷◌, length, map, arith, refl, ap, sym, subst, ◌∙◌, inl, inr, Option, Some, None}
+use Rattle.std.proofs.Common.{◌≡◌, ℕ, zero, suc, ◌+◌, ◌-◌, ◌≤◌, ◌<◌, Bool, true, false, not, ◌&&◌, leb, ltb}
+use Rattle.std.proofs.Common.{List, [], ◌∷◌, length, map, arith, refl, ap, sym, subst, ◌∙◌, inl, inr, Option, Some, None}
 use Rattle.std.proofs.lemmas.Bool.Decides.{nat_tests}
 use Rattle.std.proofs.lemmas.List.{length-map}
 use Rattle.cbs_core.specs.Held.{CoreHeld}
@@ -79,7 +80,8 @@ module _ (s : ℕ) (within : List (Option ℕ)) where
   -- what a move leaves of server s
   leaves : (sim : Simulation LoadJob) (m : Move) → IsGranted loading job_of sim m → s < length (world_after loading sim.history).accounts
       → IsAhead (clock_of loading job_of sim) (shows (world_after loading sim.history) s)
-      → Leaves s (world_after loading sim.history) (world_after loading (after_move loading job_of sim m).history) (seen_of within (sight_of loading job_of sim m))
+      → Leaves s (world_after loading sim.history) (world_after loading (after_move loading job_of sim m).history)
+      (seen_of within (sight_of loading job_of sim m))
       (is_charge_of s m)
   leaves sim (submit r) granted lt ahead =
       let w = world_after loading sim.history in
@@ -129,9 +131,11 @@ module _ (s : ℕ) (within : List (Option ℕ)) where
         let before : throttled w.now own ≡ count = ap (λ c. throttled c own) (sym z) ∙ e in
         record {
           so_far = λ n.
-              let view : waited o.view o.clock (v.now + n) ≡ wait v.now n (shows v s) = ap (λ x. waited x o.clock (v.now + n)) h.view ∙ waited_is v.now n (shows v s) in
+              let view : waited o.view o.clock (v.now + n) ≡ wait v.now n (shows v s) =
+              ap (λ x. waited x o.clock (v.now + n)) h.view ∙ waited_is v.now n (shows v s) in
               let from : throttled (begun o) own ≡ count = ap (λ c. throttled c own) h.begun ∙ before in
-              let total : waited o.view o.clock (v.now + n) + throttled (begun o) own ≡ count + count_ticks (waits_in sim m s) w.now k + wait v.now n (shows v s) =
+              let total : waited o.view o.clock (v.now + n) + throttled (begun o) own
+              ≡ count + count_ticks (waits_in sim m s) w.now k + wait v.now n (shows v s) =
               omega (arith, view, from, none) in
               rw h.own total;
           ahead = ahead;
@@ -194,7 +198,8 @@ module _ (s : ℕ) (within : List (Option ℕ)) where
       let l = leaves sim m granted.0 there old.ahead in
       let k = l.ticks in
       let clock : d ≡ c + k = l.clock in
-      let rest = reckoned until next ms (sight_of loading job_of sim m ∷ seen) (count + count_ticks (waits_in sim m s) c k) lt (after_it sim m seen count old l) granted.1 end in
+      let rest = reckoned until next ms (sight_of loading job_of sim m ∷ seen) (count + count_ticks (waits_in sim m s) c k) lt
+      (after_it sim m seen count old l) granted.1 end in
       let le = rest.0 in
       let split : until - c ≡ k + (until - d) = omega arith in
       let all = ap (count_ticks (waits_at sim (m ∷ ms) s) c) split ∙ count_split (waits_at sim (m ∷ ms) s) c k (until - d) in

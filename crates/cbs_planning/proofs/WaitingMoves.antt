@@ -1,5 +1,6 @@
 -- What each move of a simulation does to a server that may wait.
-use Rattle.std.proofs.Common.{◌≡◌, ℕ, zero, suc, ◌+◌, ◌-◌, ◌≤◌, ◌<◌, Bool, true, false, not, ◌&&◌, eqb, leb, ltb, List, [], ◌∷◌, length, map, get_or, arith, refl, ap, sym, subst, ◌∙◌, inl, inr, ◌⊎◌, Option, Some, None}
+use Rattle.std.proofs.Common.{◌≡◌, ℕ, zero, suc, ◌+◌, ◌-◌, ◌≤◌, ◌<◌, Bool, true, false, not, ◌&&◌, eqb, leb}
+use Rattle.std.proofs.Common.{ltb, List, [], ◌∷◌, length, map, get_or, arith, refl, ap, sym, subst, ◌∙◌, inl, inr, ◌⊎◌, Option, Some, None}
 use Rattle.std.specs.Prelude.{if◌then◌else◌, Result, Ok, Err}
 use Rattle.std.proofs.Math.ListN.{get_or-map}
 use Rattle.std.proofs.lemmas.Bool.{cases_Bool}
@@ -13,7 +14,8 @@ use Rattle.cbs_simulate.specs.Loading.{loading, job_of}
 use Rattle.cbs_simulate.specs.declared.event.Event.TheVariants as happening
 use Rattle.cbs_simulate.specs.declared.load_job.LoadJob.{LoadJob}
 use Rattle.cbs_simulate.specs.declared.release.Release.{Release}
-use Rattle.cbs_steps.specs.Accounts.{Account, need, finished, face_of, no_account, account_with_job, account_with_unit, account_with_charge, account_with_replenishment, account_let_go}
+use Rattle.cbs_steps.specs.Accounts.{Account, need, finished, face_of, no_account, account_with_job}
+use Rattle.cbs_steps.specs.Accounts.{account_with_unit, account_with_charge, account_with_replenishment, account_let_go}
 use Rattle.cbs_steps.specs.Faces.{view_of, is_ready, with_replenishment}
 use Rattle.cbs_steps.specs.History.{World, account, faces, chosen, ticks, let_go, after_submit, after_run, after_advance, after_charging, run_reply, unit_reply}
 use Rattle.cbs_steps.specs.OnTime.{IsAhead}
@@ -60,7 +62,8 @@ module _ (s : ℕ) where
   seen_as e v = record { clock = v.now; event = e; view = view_seen (faces loading v) e }
 
   -- the view of a server that exists
-  view_there : (accounts : List (Account LoadJob)) (i : ℕ) → i < length accounts → view_at (map (face_of loading) accounts) (Some i) ≡ Some (view_of (face_of loading (account accounts i)))
+  view_there : (accounts : List (Account LoadJob)) (i : ℕ) → i < length accounts
+      → view_at (map (face_of loading) accounts) (Some i) ≡ Some (view_of (face_of loading (account accounts i)))
   view_there [] i lt = absurd (omega arith)
   view_there (a ∷ accounts) zero lt = refl
   view_there (a ∷ accounts) (suc i) lt = view_there accounts i (omega arith)
@@ -84,7 +87,8 @@ module _ (s : ℕ) where
   shown_loose w = ap (face_of loading) (get_or-map account_let_go w.accounts s no_account)
 
   -- a change of another server does not change server s
-  shown_changed : (f : Account LoadJob → Account LoadJob) (w : World LoadJob) (t : ℕ) → eqb t s ≡ false → shows (record w { accounts = changed_at f w.accounts t }) s ≡ shows w s
+  shown_changed : (f : Account LoadJob → Account LoadJob) (w : World LoadJob) (t : ℕ) → eqb t s ≡ false
+      → shows (record w { accounts = changed_at f w.accounts t }) s ≡ shows w s
   shown_changed f w t other =
       ap (face_of loading) (changed_elsewhere f w.accounts t s no_account (λ e. let g : s ≡ t = e in grind (arith, nat_tests)))
 
@@ -215,7 +219,8 @@ module _ (s : ℕ) where
   of_submit within r (Err e) p = (refl, refl)
 
   -- what a step of a server leaves, if it takes no tick
-  at_once : (w v : World LoadJob) (t : ℕ) (e : Event) → v.now ≡ w.now → server_of e ≡ Some t → ticks_of e ≡ 0 → s < length v.accounts → IsAhead v.now (shows v s)
+  at_once : (w v : World LoadJob) (t : ℕ) (e : Event) → v.now ≡ w.now → server_of e ≡ Some t → ticks_of e ≡ 0 → s < length v.accounts
+      → IsAhead v.now (shows v s)
       → (eqb t s ≡ false → shows v s ≡ shows w s) → Leaves w v (seen_as e v) false
   at_once w v t e now of takes there ahead same = elim (cases_Bool (eqb t s)) [
     | inl own ↦ record {

@@ -1,5 +1,6 @@
 -- The elements that pass a test, from the first one on, and the pieces of those that pass.
-use Rattle.std.proofs.Common.{◌≡◌, ◌∙◌, ℕ, zero, suc, ◌+◌, ◌<◌, ◌≤◌, Bool, true, false, not, cond, ltb, List, [], ◌∷◌, ◌++◌, length, get_or, drop, Some, None, refl, sym, ap, add-one, arith}
+use Rattle.std.proofs.Common.{◌≡◌, ◌∙◌, ℕ, zero, suc, ◌+◌, ◌<◌, ◌≤◌, Bool, true, false, not, cond, ltb, List}
+use Rattle.std.proofs.Common.{[], ◌∷◌, ◌++◌, length, get_or, drop, Some, None, refl, sym, ap, add-one, arith}
 use Rattle.std.specs.Prelude.{filter, flat_map, position}
 use Rattle.std.specs.List.{position_or_len}
 use Rattle.std.proofs.Math.Seq.{drop-cons}
@@ -25,6 +26,7 @@ filter_from_position p xs i d is =
     ∙ (ap (λ b. cond b (get_or xs i d ∷ filter p (drop (suc i) xs)) (filter p (drop (suc i) xs))) found.1
     ∙ ap (λ n. get_or xs i d ∷ filter p (drop n xs)) (sym (add-one i))))
 
+-- a place that is none is past all places
 past_all : (a n : ℕ) → cond (ltb a n) (Some a) None ≡ None → n ≤ a
 past_all a n is = grind (arith, nat_tests)
 
@@ -33,10 +35,12 @@ none_more : {X : Type 0} (x : X) (rest : List X) (m n : ℕ) (b : Bool) → (m �
 none_more x rest m n true before h = absurd (omega arith)
 none_more x rest m n false before h = before (omega arith)
 
+-- if the first place that passes is past all, nothing passes
 none_passes : {X : Type 0} (p : X → Bool) (xs : List X) → length xs ≤ position_or_len p xs → filter p xs ≡ []
 none_passes p [] h = refl
 none_passes p (x ∷ xs) h = none_more x (filter p xs) (length xs) (position_or_len p xs) (p x) (none_passes p xs) h
 
+-- if no place passes, nothing is left
 pub filter_from_no_position : {X : Type 0} (p : X → Bool) (xs : List X) → position p xs ≡ None → filter p xs ≡ []
 filter_from_no_position p xs is = none_passes p xs (past_all (position_or_len p xs) (length xs) is)
 
@@ -45,6 +49,7 @@ piece_more : {X : Type 0} (f : X → List ℕ) (x : X) (rest : List X) (b : Bool
 piece_more f x rest true = refl
 piece_more f x rest false = refl
 
+-- pieces of what passes, and pieces of all of which some are empty, are one text
 pub filtered_pieces : {X : Type 0} (p : X → Bool) (f : X → List ℕ) (xs : List X) → flat_map f (filter p xs) ≡ flat_map (λ x. cond (p x) (f x) []) xs
 filtered_pieces p f [] = refl
 filtered_pieces p f (x ∷ xs) = piece_more f x (filter p xs) (p x) ∙ ap (λ t. cond (p x) (f x) [] ++ t) (filtered_pieces p f xs)

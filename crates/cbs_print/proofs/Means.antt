@@ -20,6 +20,7 @@ tenths_are total count h =
 pub whole_is : (total count : ℕ) → 0 < count → total / count + (20 * (total % count) + count) / (2 * count) / 10 ≡ mean_tenths total count / 10
 whole_is total count h = omega (arith, tenths_are total count h)
 
+-- the tenth of a mean, from what is left of the division
 pub tenth_is : (total count : ℕ) → 0 < count → (20 * (total % count) + count) / (2 * count) % 10 ≡ mean_tenths total count % 10
 tenth_is total count h = omega (arith, tenths_are total count h)
 
@@ -29,6 +30,8 @@ pub percent_is : (part whole : ℕ) → 0 < whole
 unfolding percent_text
 percent_is part whole h = let some : eqb whole 0 ≡ false = grind (arith, nat_tests) in rw some (simp append_assoc)
 
-pub mean_is : (total count : ℕ) → 0 < count → decimal (mean_tenths total count / 10) ++ (codes "." ++ decimal (mean_tenths total count % 10)) ≡ mean_text total count
+-- the text of a mean: its whole part, a point and its tenth
+pub mean_is : (total count : ℕ) → 0 < count → decimal (mean_tenths total count / 10) ++ (codes "." ++ decimal (mean_tenths total count % 10))
+    ≡ mean_text total count
 unfolding mean_text
 mean_is total count h = let some : eqb count 0 ≡ false = grind (arith, nat_tests) in rw some (simp append_assoc)

@@ -6,6 +6,7 @@ use Rattle.cbs_print.specs.Verdicts.{is_wrong, not_in_time}
 use Rattle.cbs_print.specs.declared.report.ServerReport.{ServerReport}
 use Rattle.cbs_print.proofs.Filters.{filtered_pieces}
 
+-- if there is a note, a blank line stands before the notes
 some_notes : (clock : ℕ) (wrong : List ServerReport) → 0 < length wrong → notes_text clock wrong ≡ codes "\n" ++ flat_map (note_text clock) wrong
 some_notes clock [] h = absurd (omega arith)
 some_notes clock (s ∷ wrong) h = refl

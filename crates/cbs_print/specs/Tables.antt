@@ -50,7 +50,8 @@ ticks_row clock s =
     ∷ plain (decimal s.figures.run) ∷ plain (decimal s.figures.used_up) ∷ plain (decimal s.figures.throttled) ∷ []
 
 abbrev pub ticks_heading : List CellText
-ticks_heading = map plain (codes "TICKS" ∷ codes "budget" ∷ codes "reserved" ∷ codes "asked" ∷ codes "got" ∷ codes "run" ∷ codes "used up" ∷ codes "throttled" ∷ [])
+ticks_heading = map plain (codes "TICKS" ∷ codes "budget" ∷ codes "reserved" ∷ codes "asked" ∷ codes "got" ∷ codes "run" ∷ codes "used up" ∷
+    codes "throttled" ∷ [])
 
 abbrev pub ticks_total : RunReport → List CellText
 ticks_total r =
@@ -80,7 +81,8 @@ abbrev pub response_row : ServerReport → List CellText
 response_row s = plain (string_bytes s.name) ∷ rank_cells s.figures s.figures.responses ++ plain (within_text s.within) ∷ []
 
 abbrev pub response_heading : List CellText
-response_heading = map plain (codes "RESPONSE" ∷ codes "least" ∷ codes "mean" ∷ codes "median" ∷ codes "95 %" ∷ codes "99 %" ∷ codes "greatest" ∷ codes "within" ∷ [])
+response_heading = map plain (codes "RESPONSE" ∷ codes "least" ∷ codes "mean" ∷ codes "median" ∷ codes "95 %" ∷ codes "99 %" ∷ codes "greatest" ∷
+    codes "within" ∷ [])
 
 unfoldable pub response_table : List ServerReport → List (List CellText)
 response_table servers = response_heading ∷ map response_row servers

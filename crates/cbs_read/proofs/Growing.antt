@@ -22,12 +22,16 @@ module _ (key : List ℕ) (root : Nodes) (done : Items) where
       (written ns (put k d ns))
 
   -- a header with the key begins another table
-  pub next_table : (last : Nodes) → define (growing key root done last) (([], key), array_table) ≡ Some (growing key root (push_item done (table (close last))) no_nodes)
+  pub next_table : (last : Nodes) → define (growing key root done last) (([], key), array_table)
+      ≡ Some (growing key root (push_item done (table (close last))) no_nodes)
   unfolding define along_header
   next_table last =
       let x = open_array done last in
       let y = open_array (push_item done (table (close last))) no_nodes in
-      rw (at_key_ok key array_table (insert key x root) (replace key y (insert key x root)) x y (get_node-insert key x root) refl refl, replace-insert key x y root) refl
+      rw (
+        at_key_ok key array_table (insert key x root) (replace key y (insert key x root)) x y (get_node-insert key x root) refl refl,
+        replace-insert key x y root,
+      ) refl
 
 -- a header with a new key begins an array
 pub first_table : (key : List ℕ) (root : Nodes) (path : List (List ℕ)) → get_node key root ≡ None

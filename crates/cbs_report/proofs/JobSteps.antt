@@ -8,7 +8,8 @@ use Rattle.cbs_steps.specs.declared.view.ServerView.{ServerView}
 use Rattle.cbs_views.specs.declared.seen.Event.{Event}
 use Rattle.cbs_views.specs.declared.seen.Event.TheVariants as event
 use Rattle.cbs_views.specs.declared.seen.Seen.{Seen}
-use Rattle.cbs_report.specs.Figures.{told, told_sum, waiting, greatest_backlog, Finish, finished, response, responses, exceeds, one_if, late_among, early_by, earliness, sum_of, least_of, lesser, with_first}
+use Rattle.cbs_report.specs.Figures.{told, told_sum, waiting, greatest_backlog, Finish, finished, response}
+use Rattle.cbs_report.specs.Figures.{responses, exceeds, one_if, late_among, early_by, earliness, sum_of, least_of, lesser, with_first}
 use Rattle.cbs_report.specs.Tallies.{Jobs, jobs_of, jobs_after, jobs_without, early_of, early_with}
 use Rattle.cbs_report.specs.declared.job.AcceptedJob.{AcceptedJob}
 use Rattle.cbs_report.proofs.SumSteps.{told_more, told_sum_more}

@@ -1,5 +1,6 @@
 -- Percentiles of numbers in ascending order.
-use Rattle.std.proofs.Common.{◌≡◌, ℕ, zero, suc, ◌-◌, ◌*◌, ◌≤◌, ◌<◌, leb, ltb, List, [], ◌∷◌, length, arith, refl, sym, ◌∙◌, if◌then◌else◌, sum_by, ap, Option, Some, None}
+use Rattle.std.proofs.Common.{◌≡◌, ℕ, zero, suc, ◌-◌, ◌*◌, ◌≤◌, ◌<◌, leb, ltb, List, [], ◌∷◌, length, arith}
+use Rattle.std.proofs.Common.{refl, sym, ◌∙◌, if◌then◌else◌, sum_by, ap, Option, Some, None}
 use Rattle.std.specs.Prelude.{IsPermutation, MatchOption, slice_index_or}
 use Rattle.std.specs.Int.{div_ceil}
 use Rattle.std.specs.List.Sorted.{IsNonDecreasing}

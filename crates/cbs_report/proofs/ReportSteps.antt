@@ -1,5 +1,6 @@
 -- One step more in the tallies of all servers.
-use Rattle.std.proofs.Common.{◌≡◌, ℕ, zero, suc, ◌<◌, take, true, false, eqb, List, [], ◌∷◌, length, map, Some, None, arith, refl, sym, ap, ◌∙◌, inl, inr, subst}
+use Rattle.std.proofs.Common.{◌≡◌, ℕ, zero, suc, ◌<◌, take, true, false, eqb, List, [], ◌∷◌, length, map}
+use Rattle.std.proofs.Common.{Some, None, arith, refl, sym, ap, ◌∙◌, inl, inr, subst}
 use Rattle.std.specs.Prelude.{◌+◌, ◌++◌, set, get_or, slice_get, Result, Ok, Err, OnOk}
 use Rattle.std.proofs.lemmas.Bool.{cases_Bool}
 use Rattle.std.proofs.Math.Seq.{map-set_same}
@@ -13,7 +14,8 @@ use Rattle.cbs_views.specs.declared.seen.Seen.{Seen}
 use Rattle.cbs_report.specs.Figures.{is_server, steps_of, told, total}
 use Rattle.cbs_report.proofs.JobSteps.{jobs_seen}
 use Rattle.cbs_report.proofs.SumSteps.{sums_seen, held_seen}
-use Rattle.cbs_report.specs.Tallies.{sums_of, sums_after, held_of, held_with, jobs_of, jobs_after, passed, Kept, kept_at, kept_of, no_kept, AreKept, AddsStep, HasSeen, Reported, ticks_idle}
+use Rattle.cbs_report.specs.Tallies.{sums_of, sums_after, held_of, held_with, jobs_of, jobs_after, passed}
+use Rattle.cbs_report.specs.Tallies.{Kept, kept_at, kept_of, no_kept, AreKept, AddsStep, HasSeen, Reported, ticks_idle}
 
 -- all that is kept of one server, with one step more
 pub kept_step : (k n : Kept) (budget : ℕ) (o : Seen) (own : List Seen) → k ≡ kept_of budget own → n.budget ≡ k.budget

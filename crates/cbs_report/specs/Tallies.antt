@@ -1,6 +1,7 @@
 -- What a report keeps of the steps of one server, and how one more step changes it. The steps stand with the newest
 -- first. For the code alone.
-use Rattle.std.specs.Prelude.{◌≡◌, ◌≢◌, ℕ, ◌+◌, ◌-◌, ◌<◌, ◌&&◌, ltb, max, min, if◌then◌else◌, List, [], ◌∷◌, ◌++◌, length, drop, get_or, map, slice_get, Option, Some, None}
+use Rattle.std.specs.Prelude.{◌≡◌, ◌≢◌, ℕ, ◌+◌, ◌-◌, ◌<◌, ◌&&◌, ltb, max, min, if◌then◌else◌, List, [], ◌∷◌}
+use Rattle.std.specs.Prelude.{◌++◌, length, drop, get_or, map, slice_get, Option, Some, None}
 use Rattle.cbs_steps.specs.declared.reply.Ran.{Ran}
 use Rattle.cbs_steps.specs.declared.reply.Ran.TheVariants as ran
 use Rattle.cbs_steps.specs.declared.view.ServerView.{ServerView}
@@ -8,7 +9,8 @@ use Rattle.cbs_views.specs.Events.{begun, ticks_of_run}
 use Rattle.cbs_views.specs.declared.seen.Event.{Event}
 use Rattle.cbs_views.specs.declared.seen.Event.TheVariants as event
 use Rattle.cbs_views.specs.declared.seen.Seen.{Seen}
-use Rattle.cbs_report.specs.Figures.{AreFigures, steps_of, told, told_sum, total, greatest, refusals, units_asked, units_run, is_used_up, units_exhausting, ticks_charged, throttled}
+use Rattle.cbs_report.specs.Figures.{AreFigures, steps_of, told, told_sum, total, greatest, refusals}
+use Rattle.cbs_report.specs.Figures.{units_asked, units_run, is_used_up, units_exhausting, ticks_charged, throttled}
 use Rattle.cbs_report.specs.Figures.{accepted_job, waiting, greatest_backlog, finished, responses, exceeds, one_if, late, earliness, sum_of, least_of, lesser}
 use Rattle.cbs_report.specs.declared.early.Early.{Early}
 use Rattle.cbs_report.specs.declared.figures.Figures.{Figures}

@@ -39,4 +39,5 @@ lines_are f s (suc n) = ap (λ t. server_line s (f s) ++ t) (lines_are f (s + 1)
 pub result_lines_are : (f : File) (results : ℕ → List ℕ) → map results (range_with_len 0 (length f.plan.rates)) ≡ results_by_server f
     → kept_lines results (length f.plan.rates) ≡ result_lines f
 result_lines_are f results are =
-    sym (lines_are results 0 (length f.plan.rates)) ∙ (ap (lines_from 0) are ∙ lines_are (λ s. map (whole of_files) (jobs_for s f.steps)) 0 (length f.plan.rates))
+    sym (lines_are results 0 (length f.plan.rates)) ∙ (ap (lines_from 0) are
+    ∙ lines_are (λ s. map (whole of_files) (jobs_for s f.steps)) 0 (length f.plan.rates))

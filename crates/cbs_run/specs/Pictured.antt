@@ -48,7 +48,8 @@ end_of f = f.until
 
 -- the line of a run that has none of the ticks to show: the first of these ticks, and the end of the run
 unfoldable pub nothing_shown_line : ℕ → ℕ → List ℕ
-nothing_shown_line from end = codes "error: there is no tick to show from " ++ (decimal from ++ (codes " on: the run ends at tick " ++ (decimal end ++ codes "\n")))
+nothing_shown_line from end = codes "error: there is no tick to show from " ++
+    (decimal from ++ (codes " on: the run ends at tick " ++ (decimal end ++ codes "\n")))
 
 -- what drawing a file left on the output, by its result: at Ok a whole text
 abbrev pub Draws : {F : Type 0} → (List ℕ → Result F FileFault) → (F → List ℕ → Type 0) → (F → ℕ) → Window → List ℕ → Result (Unit {0}) Undrawn

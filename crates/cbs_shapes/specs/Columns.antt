@@ -1,5 +1,6 @@
 -- What a server does, drawn in columns by counts of ticks in cells.
-use Rattle.std.specs.Prelude.{ℕ, ◌+◌, ◌-◌, ◌*◌, ◌/◌, min, max, eqb, if◌then◌else◌, List, [], ◌++◌, codes, decimal, flat_map, get_or, length, map, slice_get, unwrap_or}
+use Rattle.std.specs.Prelude.{ℕ, ◌+◌, ◌-◌, ◌*◌, ◌/◌, min, max, eqb, if◌then◌else◌, List, [], ◌++◌, codes}
+use Rattle.std.specs.Prelude.{decimal, flat_map, get_or, length, map, slice_get, unwrap_or}
 use Rattle.std.specs.List.{range_with_len}
 use Rattle.cbs_chart.specs.Counts.{counts_of}
 use Rattle.cbs_chart.specs.declared.counts.Counts.{Counts}

@@ -1,5 +1,6 @@
 -- What a server does, drawn tick by tick.
-use Rattle.std.specs.Prelude.{ℕ, ◌+◌, ◌-◌, ◌/◌, ◌%◌, Bool, true, false, eqb, leb, ltb, not, ◌&&◌, if◌then◌else◌, max, List, [], ◌++◌, codes, decimal, flat_map, length, Option, Some, None}
+use Rattle.std.specs.Prelude.{ℕ, ◌+◌, ◌-◌, ◌/◌, ◌%◌, Bool, true, false, eqb, leb, ltb, not, ◌&&◌}
+use Rattle.std.specs.Prelude.{if◌then◌else◌, max, List, [], ◌++◌, codes, decimal, flat_map, length, Option, Some, None}
 use Rattle.cbs_chart.specs.Jobs.{job_numbered}
 use Rattle.cbs_chart.specs.declared.jobs.ChartJob.{ChartJob}
 use Rattle.cbs_chart.specs.declared.stretch.Kind.{Kind}

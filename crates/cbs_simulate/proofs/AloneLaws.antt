@@ -59,9 +59,20 @@ module _ {W : Type 0} (work : Meaning W) (job : Release → W) where
   -- a new core that stopped stopped after the first moves, up to some move
   pub sees_some : (until : ℕ) → until ≤ clock_end → {S : Type 0} (saw failed : S → S → List Sight → Type 0) (ts : List Terms) (backlog : ℕ)
       (coming : List Release) (new : CoreHeld W) (w v : S) → IsInOrder 0 coming
-      → (let sim : Simulation W = record { history = record { setup = record { servers = ts; backlog = backlog }; steps = [] }; coming = coming; owing = None } in
+      → (let sim : Simulation W = record {
+        history = record { setup = record { servers = ts; backlog = backlog }; steps = [] };
+        coming =
+            coming;
+        owing = None;
+      } in
       Stops work job until saw failed sim new w v → SeesSome work job until saw failed sim w v)
   sees_some until ends saw failed ts backlog coming new w v order h =
       let sim : Simulation W = record { history = record { setup = record { servers = ts; backlog = backlog }; steps = [] }; coming = coming; owing = None } in
       let going : IsGoing work job until ends 0 sim = record { early = omega arith; waited = omega arith; order = order; owed = λ lt c e. cc } in
-      record { done = h.moves; left = moves_of work job until (after_moves work job sim h.moves); all = first_moves work job until ends 0 sim h.moves going h.each; seen = h.seen }
+      record {
+        done = h.moves;
+        left = moves_of work job until (after_moves work job sim h.moves);
+        all =
+            first_moves work job until ends 0 sim h.moves going h.each;
+        seen = h.seen;
+      }

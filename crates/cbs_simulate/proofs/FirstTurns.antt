@@ -1,5 +1,6 @@
 -- The first release of several sources, by the first turn.
-use Rattle.std.proofs.Common.{◌≡◌, ◌≢◌, ℕ, zero, suc, ◌+◌, ◌/◌, ◌≤◌, ◌<◌, true, ltb, List, [], ◌∷◌, length, get_or, refl, subst, ◌∙◌, ap, arith, inl, inr, Option, Some, None}
+use Rattle.std.proofs.Common.{◌≡◌, ◌≢◌, ℕ, zero, suc, ◌+◌, ◌/◌, ◌≤◌, ◌<◌, true, ltb, List, [], ◌∷◌, length}
+use Rattle.std.proofs.Common.{get_or, refl, subst, ◌∙◌, ap, arith, inl, inr, Option, Some, None}
 use Rattle.std.specs.Option.{option_map}
 use Rattle.std.specs.Prelude.{slice_get}
 use Rattle.std.specs.List.{AllByRecursion}
@@ -87,7 +88,8 @@ module _ (rss : List (List Release)) where
         before = λ j lt. rw (has.leaves j lt) at (root_first nodes tree (length rss + j) (length rss + j) (omega arith) (omega arith) (omega arith));
       }
 
-  module _ (nodes : List Turn) (turn : Turn) (has : HasTurns (length rss) rss nodes) (order : AllByRecursion (IsInOrder 0) rss) (first : IsFirstTurn rss turn) where
+  module _ (nodes : List Turn) (turn : Turn) (has : HasTurns (length rss) rss nodes) (order : AllByRecursion (IsInOrder 0) rss)
+      (first : IsFirstTurn rss turn) where
     -- so its release is the first of all
     pub turn_first : (r : Release) → next_of rss turn.place ≡ Some r → IsFirst rss turn.place r
     turn_first r head =
@@ -122,7 +124,8 @@ module _ (rss : List (List Release)) where
 
     -- and its tick is that of what comes next of all
     pub turn_due : due_of turn ≡ option_map (λ r. r.tick) (slice_get (merged rss) 0)
-    turn_due = ap due_of first.its ∙ due_is turn.place (next_of rss turn.place) (λ r. has.early turn.place r first.within) ∙ ap (option_map (λ r. r.tick)) turn_next
+    turn_due = ap due_of first.its ∙ due_is turn.place (next_of rss turn.place) (λ r. has.early turn.place r first.within)
+        ∙ ap (option_map (λ r. r.tick)) turn_next
 
 -- with no source nothing comes
 pub no_source : (rss : List (List Release)) → length rss ≡ 0 → merged rss ≡ []

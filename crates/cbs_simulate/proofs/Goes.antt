@@ -64,7 +64,8 @@ module _ {W : Type 0} (work : Meaning W) (job : Release → W) where
   -- a move that a core made, and that a watcher saw
   pub sees : {S : Type 0} (saw : S → S → List Sight → Type 0) (sim : Simulation W) (m : Move) (new : CoreHeld W) (e : Event) (o : Option Charge) (w v : S)
       → DoesMove work job sim m new e o
-      → ((first : S) (seen : List Sight) → saw first w seen → saw first v (record { moment = record { clock = new.clock; event = e }; faces = new.faces } ∷ seen))
+      → ((first : S) (seen : List Sight) → saw first w seen → saw first v
+      (record { moment = record { clock = new.clock; event = e }; faces = new.faces } ∷ seen))
       → MakesMove work job saw sim m new o w v
   sees saw sim m new e o w v moves sight =
       record { state = moves.state; owed = moves.owed; seen = λ first seen was. rw (sight_is sim m new e o moves) at (sight first seen was) }
@@ -76,10 +77,17 @@ module _ {W : Type 0} (work : Meaning W) (job : Release → W) where
 
   pub stops_after : {S : Type 0} (saw failed : S → S → List Sight → Type 0) (until : ℕ) (sim : Simulation W) (m : Move) (new : CoreHeld W) (e : Event)
       (o : Option Charge) (w v : S) → next_of work job until sim ≡ Some m → DoesMove work job sim m new e o
-      → ((first : S) (seen : List Sight) → saw first w seen → failed first v (record { moment = record { clock = new.clock; event = e }; faces = new.faces } ∷ seen))
+      → ((first : S) (seen : List Sight) → saw first w seen → failed first v
+      (record { moment = record { clock = new.clock; event = e }; faces = new.faces } ∷ seen))
       → Stops work job until saw failed sim new w v
   stops_after saw failed until sim m new e o w v next moves fails =
-      record { moves = m ∷ []; each = (next, tt); state = moves.state; seen = λ first seen was. inr (rw (sight_is sim m new e o moves) at (fails first seen was)) }
+      record {
+        moves = m ∷ [];
+        each = (next, tt);
+        state = moves.state;
+        seen =
+            λ first seen was. inr (rw (sight_is sim m new e o moves) at (fails first seen was));
+      }
 
   -- a core that agrees differs from this one only in its room for jobs
   pub same_but_room : (M : History W) (old new : CoreHeld W) (rooms : List ℕ) → new ≡ record old { rooms = rooms } → Agrees work old M → Agrees work new M

@@ -1,5 +1,6 @@
 -- A simulation under way: the moves made so far, and one more.
-use Rattle.std.proofs.Common.{append_assoc, ◌≡◌, ℕ, ◌+◌, ◌-◌, ◌≤◌, ◌<◌, List, [], ◌∷◌, ◌++◌, length, arith, refl, sym, subst, ◌∙◌, ap, inl, inr, Option, Some, None}
+use Rattle.std.proofs.Common.{append_assoc, ◌≡◌, ℕ, ◌+◌, ◌-◌, ◌≤◌, ◌<◌, List, [], ◌∷◌, ◌++◌, length, arith}
+use Rattle.std.proofs.Common.{refl, sym, subst, ◌∙◌, ap, inl, inr, Option, Some, None}
 use Rattle.std.proofs.lemmas.Bool.{cases_lt}
 use Rattle.cbs_job.specs.Work.{Meaning}
 use Rattle.cbs_rules.specs.Rules.{clock_end}

@@ -1,5 +1,6 @@
 -- A tree of turns: its root has the first of them, and each node the turn of a leaf.
-use Rattle.std.proofs.Common.{◌≡◌, ◌≢◌, ℕ, zero, suc, ◌+◌, ◌-◌, ◌*◌, ◌/◌, ◌^◌, ◌≤◌, ◌<◌, true, false, eqb, ltb, List, length, set, refl, sym, ap, ◌∙◌, arith, inl, inr}
+use Rattle.std.proofs.Common.{◌≡◌, ◌≢◌, ℕ, zero, suc, ◌+◌, ◌-◌, ◌*◌, ◌/◌, ◌^◌, ◌≤◌, ◌<◌, true, false, eqb}
+use Rattle.std.proofs.Common.{ltb, List, length, set, refl, sym, ap, ◌∙◌, arith, inl, inr}
 use Rattle.std.proofs.lemmas.Bool.{cases_Bool, cases_eq, cases_lt}
 use Rattle.std.proofs.lemmas.Bool.Decides.{nat_tests}
 use Rattle.std.proofs.lemmas.List.{get_or-set_same, get_or-set_other, length-set}
@@ -202,7 +203,8 @@ goes_up nodes j turn some within but is =
       first = λ k above lt ne.
           let lt_old : k < length nodes / 2 = rw size at lt in
           let left : node (set nodes (j / 2) turn) (2 * k) ≡ node nodes (2 * k) = get_or-set_other nodes (j / 2) (2 * k) turn _ (λ e. ne (omega (arith, e))) in
-          let right : node (set nodes (j / 2) turn) (2 * k + 1) ≡ node nodes (2 * k + 1) = get_or-set_other nodes (j / 2) (2 * k + 1) turn _ (λ e. ne (omega (arith, e))) in
+          let right : node (set nodes (j / 2) turn) (2 * k + 1) ≡ node nodes (2 * k + 1) =
+          get_or-set_other nodes (j / 2) (2 * k + 1) turn _ (λ e. ne (omega (arith, e))) in
           rw (left, right) (elim (cases_eq k (j / 2)) [
             | inl here ↦ rw here (get_or-set_same nodes (j / 2) turn _ (omega arith) ∙ is ∙ of_both nodes j some)
             | inr other ↦ get_or-set_other nodes (j / 2) k turn _ other ∙ but.first k above lt_old other

@@ -21,7 +21,8 @@ ordered_released place t until (suc k) tick g =
     let o = drawn t.overrun u.1 in
     let e = drawn t.every o.1 in
     let rest = released place t until k (tick + e.0) e.1 in
-    one_ordered until (release_of place t tick u.0 o.0) rest (order_from tick (tick + e.0) rest (omega arith) (ordered_released place t until k (tick + e.0) e.1))
+    one_ordered until (release_of place t tick u.0 o.0) rest (order_from tick (tick + e.0) rest (omega arith)
+    (ordered_released place t until k (tick + e.0) e.1))
 
 -- the releases that a source has left are at its next tick or later, in order
 ordered_pending : (k : ℕ) (c : Cursor) → IsInOrder c.tick (pending_from k c)

@@ -1,5 +1,6 @@
 -- When each of several sources releases next, and which of them releases first.
-use Rattle.std.specs.Prelude.{◌≡◌, ℕ, ◌+◌, ◌-◌, ◌*◌, ◌/◌, ◌≤◌, ◌<◌, ◌≢◌, Bool, ◌&&◌, ◌||◌, eqb, ltb, if◌then◌else◌, List, [], length, slice_get, get_or, Option, Some, None}
+use Rattle.std.specs.Prelude.{◌≡◌, ℕ, ◌+◌, ◌-◌, ◌*◌, ◌/◌, ◌≤◌, ◌<◌, ◌≢◌, Bool, ◌&&◌, ◌||◌, eqb, ltb}
+use Rattle.std.specs.Prelude.{if◌then◌else◌, List, [], length, slice_get, get_or, Option, Some, None}
 use Rattle.cbs_rules.specs.Rules.{clock_end}
 use Rattle.cbs_simulate.specs.declared.release.Release.{Release}
 use Rattle.cbs_simulate.specs.declared.turns.Turn.{Turn}

@@ -4,6 +4,7 @@ use Rattle.std.specs.Int.{◌∣◌}
 use Rattle.std.proofs.lemmas.Nat.{div-add-mod'}
 use native.Mathlib.Nat.{dvd-add_iff_right, dvd-mul_left_of_dvd}
 
+-- what divides the multiples of two numbers divides that of the rest of their division
 pub scaled_mod : (d k a b : ℕ) → d ∣ k * a → d ∣ k * b → d ∣ k * (a % b)
 scaled_mod d k a b of_a of_b =
     let parts = div-add-mod' a b in

@@ -22,6 +22,7 @@ each_more P n xs x d count each here s lt = elim (cases_lt s n) [
       rw (is, e) here
 ]
 
+-- one more server, with the greatest budget that fits
 pub greatest_more : (plan : Planned) (n : ℕ) (budgets : List ℕ) (budget : ℕ) → AreGreatest plan n budgets → IsGreatestFor plan n budget
     → AreGreatest plan (n + 1) (budgets ++ budget ∷ [])
 greatest_more plan n budgets budget old here = record {
@@ -36,6 +37,7 @@ greatest_for plan others s budget period r is here e greatest =
     let read = get_or_from_slice_get plan.rates s r (record { budget = 0; period = 0 }) here in
     rw read (rw (is, e) at greatest)
 
+-- one more server, with its sources
 pub loads_more : (f : LoadFile) (n : ℕ) (loads : List ServerLoad) (load : ServerLoad) → AreServerLoads f n loads → IsServerLoad f n load
     → AreServerLoads f (n + 1) (loads ++ load ∷ [])
 loads_more f n loads load old here = record {

@@ -151,12 +151,14 @@ pub summed_step : (sources : List Source) (i : ℕ) (d : Source) (before after :
 summed_step sources i d before after lt old joined =
     rw (take_more sources i d lt) (summed_more (take i sources) (get_or sources i d) before after old joined)
 
+-- one more source adds at most as many ticks as it may ask for
 pub small_step : (i : ℕ) (before after : Asked) (source : Source) → before.ticks ≤ i * (1000000 * before.of) → IsJoined before source after
     → after.ticks ≤ before.ticks * (after.of / before.of) + 1000000 * after.of → after.ticks ≤ (i + 1) * (1000000 * after.of)
 small_step i before after source old joined h =
     let d = mul-div_cancel' before.of {m = after.of} joined.of in
     small_more i before.ticks before.of after.ticks after.of (after.of / before.of) 1000000 old (omega arith) h
 
+-- three factors in another order
 scaled_bound : (k u o n c : ℕ) → o * n ≡ c → k * (u * o) * n ≡ k * (u * c)
 scaled_bound k u o n c e = rw (← e) (omega arith)
 
@@ -167,6 +169,7 @@ before_small ticks of common d small =
     let times = mul-le ticks (common / of) (65536 * (1000000 * of)) (common / of) small (omega arith) in
     omega arith
 
+-- at most a million units, once in so many ticks, are at most a million in each
 pub more_small : (units every common : ℕ) → every ∣ common → 0 < every → units ≤ 1000000 → units * (common / every) ≤ 1000000 * common
 more_small units every common d some few =
     let e = mul-div_cancel' every {m = common} d in

@@ -78,6 +78,7 @@ as_many [] (r ∷ rates) e = e
 as_many (m ∷ modes) [] e = absurd (omega arith)
 as_many (m ∷ modes) (r ∷ rates) e = let rest = as_many modes rates (omega arith) in omega arith
 
+-- no server is later than the greatest delay
 pub bounded : (f : LoadFile) → IsPlan f.plan → length f.modes ≡ length f.plan.rates → BoundsLateness f (greatest_delay f)
 bounded f ok same steps quiet within s lt ready =
     let N = history_of f.modes f.plan.rates f.backlog steps in

@@ -1,5 +1,6 @@
 -- A plan admits all of its first servers except one, one after the other.
-use Rattle.std.proofs.Common.{◌≡◌, ℕ, zero, suc, ◌+◌, ◌*◌, ◌/◌, ◌%◌, ◌≤◌, ◌<◌, ◌≢◌, List, [], ◌∷◌, ◌++◌, length, take, get_or, arith, refl, ap, Option, Some, None, Result, Ok, Err}
+use Rattle.std.proofs.Common.{◌≡◌, ℕ, zero, suc, ◌+◌, ◌*◌, ◌/◌, ◌%◌, ◌≤◌, ◌<◌, ◌≢◌, List, [], ◌∷◌, ◌++◌}
+use Rattle.std.proofs.Common.{length, take, get_or, arith, refl, ap, Option, Some, None, Result, Ok, Err}
 use Rattle.std.specs.Prelude.{slice_get}
 use Rattle.std.specs.List.{remove, sum_by, AllByRecursion}
 use Rattle.std.specs.Result.{IsOk}
@@ -39,6 +40,7 @@ sum_remove-le f (x ∷ xs) (suc s) =
     let rest = sum_remove-le f xs s in
     omega arith
 
+-- a list gets no longer if one is removed
 length_remove-le : {X : Type 0} (xs : List X) (s : ℕ) → length (remove xs s) ≤ length xs
 length_remove-le [] zero = omega arith
 length_remove-le [] (suc s) = omega arith
@@ -57,6 +59,7 @@ same_suc [] (suc t) = refl
 same_suc (x ∷ xs) zero = refl
 same_suc (x ∷ xs) (suc t) = ap (λ ys. x ∷ ys) (same_suc xs t)
 
+-- the last of the elements so far is removed
 pub remove_same : {X : Type 0} (xs : List X) (t : ℕ) → remove (take (t + 1) xs) t ≡ remove (take t xs) t
 remove_same xs t = let e : t + 1 ≡ suc t = omega arith in rw e (same_suc xs t)
 
@@ -71,6 +74,7 @@ more_suc (x ∷ xs) (suc t) zero d lt ne =
     rw e at more
 more_suc (x ∷ xs) (suc t) (suc s) d lt ne = ap (λ ys. x ∷ ys) (more_suc xs t s d (omega arith) (λ e. ne (ap suc e)))
 
+-- one more element after the removed one stays
 pub remove_more : {X : Type 0} (xs : List X) (t s : ℕ) (d : X) → t < length xs → s ≢ t
     → remove (take (t + 1) xs) s ≡ remove (take t xs) s ++ get_or xs t d ∷ []
 remove_more xs t s d lt ne = let e : t + 1 ≡ suc t = omega arith in rw e (more_suc xs t s d lt ne)
@@ -122,7 +126,8 @@ takes_next plan t s d ok lt ne =
     omega (arith, (common_multiple-least (remove front s) lawful).least m least.some common, ok.coarse) in
     let fewer : sum_by (share m) (remove front s) ≤ sum_by (share m) plan.rates =
     omega (arith, sum_remove-le (share m) front s, sum_by-take-le (share m) plan.rates (t + 1)) in
-    let whole = (fits_common plan.bound.num plan.bound.den plan.rates ok.lawful).0 (leb-true (plan.bound.den * total_share plan.rates) (plan.bound.num * all_periods plan.rates) ok.fits) in
+    let whole = (fits_common plan.bound.num plan.bound.den plan.rates ok.lawful).0
+    (leb-true (plan.bound.den * total_share plan.rates) (plan.bound.num * all_periods plan.rates) ok.fits) in
     let times = mul-le-mul_left plan.bound.den fewer in
     let fitting = fits_over plan.bound.num plan.bound.den m (remove front s) lawful least.some common (omega arith) in
     let is = remove_more plan.rates t s d lt ne in
@@ -151,6 +156,7 @@ others_more plan others after t s r lt ne here is more =
     let e = remove_more plan.rates t s no_rate lt ne in
     rw (more, is, e, read) refl
 
+-- the others of the plan, up to the server itself
 pub others_same : (plan others : Planned) (t s : ℕ) → t ≡ s → others ≡ front_without plan t s → others ≡ front_without plan (t + 1) s
 others_same plan others t s e is = rw (e, remove_same plan.rates s) (rw e at is)
 

@@ -1,6 +1,7 @@
 -- Rows of cells as text in columns. The first column is aligned left, and all others right. Each is as wide as its
 -- widest cell.
-use Rattle.std.specs.Prelude.{ℕ, ◌+◌, ◌-◌, Bool, false, eqb, if◌then◌else◌, max, List, [], ◌∷◌, ◌++◌, codes, flat_map, get_or, length, map, replicate, slice_get, Option, Some, None, Vec}
+use Rattle.std.specs.Prelude.{ℕ, ◌+◌, ◌-◌, Bool, false, eqb, if◌then◌else◌, max, List, [], ◌∷◌, ◌++◌, codes}
+use Rattle.std.specs.Prelude.{flat_map, get_or, length, map, replicate, slice_get, Option, Some, None, Vec}
 use Rattle.std.specs.List.{range_with_len}
 
 -- the text of a cell, and whether the cell is marked

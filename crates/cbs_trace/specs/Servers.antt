@@ -1,5 +1,6 @@
 -- The events of one server, kind by kind.
-use Rattle.std.specs.Prelude.{ℕ, ◌+◌, ◌-◌, ◌&&◌, eqb, leb, ltb, if◌then◌else◌, List, [], ◌∷◌, ◌++◌, codes, decimal, flat_map, get_or, length, map, string_bytes, Option, Some, None}
+use Rattle.std.specs.Prelude.{ℕ, ◌+◌, ◌-◌, ◌&&◌, eqb, leb, ltb, if◌then◌else◌, List, [], ◌∷◌, ◌++◌, codes}
+use Rattle.std.specs.Prelude.{decimal, flat_map, get_or, length, map, string_bytes, Option, Some, None}
 use Rattle.std.specs.List.{range_with_len}
 use Rattle.cbs_chart.specs.declared.chart.ServerChart.{ServerChart}
 use Rattle.cbs_chart.specs.declared.course.Corner.{Corner}

@@ -28,7 +28,8 @@ returns-in-Err-setup_of c bytes utf8 h =
     let seen_table : table_view c.insert.new.self ≡ insert_member (codes "step") (array no_items) ms =
     ap members_view c.in-Ok-insert.ensures.entries ∙ members_view-insert_entry c.args.document.table.entries c.in-Ok.key (Array c.new.result)
     ∙ rw (c.in-Ok.ensures.ok, view-Array c.new.result, c.new.ensures.items) refl in
-    let good : top_table (insert_member (codes "step") (array no_items) ms) ≡ Ok (top_view c.in-Ok-top_table.top) = rw seen_table at (sym c.in-Ok-top_table.ensures.value) in
+    let good : top_table (insert_member (codes "step") (array no_items) ms) ≡ Ok (top_view c.in-Ok-top_table.top) =
+    rw seen_table at (sym c.in-Ok-top_table.ensures.value) in
     let bad : taken_in (admitted_entry c.in-Ok-top_table.top.mode) 0 (no_servers c.in-Ok-top_table.top.bound) (map view c.in-Ok-top_table.top.servers.now.items)
     ≡ Err c.in-Err-setup_of.fault = rw (← c.deref.ensures.value) (sym c.in-Err-setup_of.ensures) in
     inr (setup_fault bytes ds ms utf8 parsed none (top_view c.in-Ok-top_table.top) good c.in-Err-setup_of.fault bad)
@@ -40,8 +41,10 @@ returns-in-Some c bytes utf8 h =
     let seen_table : table_view c.insert.new.self ≡ insert_member (codes "step") (array no_items) ms =
     ap members_view c.in-Ok-insert.ensures.entries ∙ members_view-insert_entry c.args.document.table.entries c.in-Ok.key (Array c.new.result)
     ∙ rw (c.in-Ok.ensures.ok, view-Array c.new.result, c.new.ensures.items) refl in
-    let good : top_table (insert_member (codes "step") (array no_items) ms) ≡ Ok (top_view c.in-Ok-top_table.top) = rw seen_table at (sym c.in-Ok-top_table.ensures.value) in
-    let taken : taken_in (admitted_entry c.in-Ok-top_table.top.mode) 0 (no_servers c.in-Ok-top_table.top.bound) (map view c.in-Ok-top_table.top.servers.now.items)
+    let good : top_table (insert_member (codes "step") (array no_items) ms) ≡ Ok (top_view c.in-Ok-top_table.top) =
+    rw seen_table at (sym c.in-Ok-top_table.ensures.value) in
+    let taken : taken_in (admitted_entry c.in-Ok-top_table.top.mode) 0 (no_servers c.in-Ok-top_table.top.bound)
+    (map view c.in-Ok-top_table.top.servers.now.items)
     ≡ Ok c.in-Ok-setup_of.setup = rw (← c.deref.ensures.value) (sym c.in-Ok-setup_of.ensures) in
     let set = c.are_of.ensures c.if-not-are_of.false in
     let same : c.in-Ok-top_table.top.format ≡ c.args.document.terms.format = set.0 in
@@ -58,8 +61,10 @@ returns c bytes utf8 h =
     let seen_table : table_view c.insert.new.self ≡ insert_member (codes "step") (array no_items) ms =
     ap members_view c.in-Ok-insert.ensures.entries ∙ members_view-insert_entry c.args.document.table.entries c.in-Ok.key (Array c.new.result)
     ∙ rw (c.in-Ok.ensures.ok, view-Array c.new.result, c.new.ensures.items) refl in
-    let good : top_table (insert_member (codes "step") (array no_items) ms) ≡ Ok (top_view c.in-Ok-top_table.top) = rw seen_table at (sym c.in-Ok-top_table.ensures.value) in
-    let taken : taken_in (admitted_entry c.in-Ok-top_table.top.mode) 0 (no_servers c.in-Ok-top_table.top.bound) (map view c.in-Ok-top_table.top.servers.now.items)
+    let good : top_table (insert_member (codes "step") (array no_items) ms) ≡ Ok (top_view c.in-Ok-top_table.top) =
+    rw seen_table at (sym c.in-Ok-top_table.ensures.value) in
+    let taken : taken_in (admitted_entry c.in-Ok-top_table.top.mode) 0 (no_servers c.in-Ok-top_table.top.bound)
+    (map view c.in-Ok-top_table.top.servers.now.items)
     ≡ Ok c.in-Ok-setup_of.setup = rw (← c.deref.ensures.value) (sym c.in-Ok-setup_of.ensures) in
     let set = c.are_of.ensures c.if-not-are_of.false in
     let same : c.in-Ok-top_table.top.format ≡ c.args.document.terms.format = set.0 in

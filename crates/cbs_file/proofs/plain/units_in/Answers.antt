@@ -37,7 +37,8 @@ items-preserved c =
             m - 1,
             push_item ds d,
             omega arith,
-            loop ∙ items_more (val depth) m ds l.rest.now d _ _ (omega arith) other (rw start_is at (c.in_ok-number.ensures.value depth)) c.in-Ok-after_element.ensures.value,
+            loop ∙ items_more (val depth) m ds l.rest.now d _ _ (omega arith) other (rw start_is at (c.in_ok-number.ensures.value depth))
+                c.in-Ok-after_element.ensures.value,
             more_units l.units.items c.push.new.self.items ds c.in_ok-number.number are most c.in-Ok.ensures.items,
           ),
     )

@@ -12,6 +12,7 @@ returns c =
     let within = c.skip_ws-rest.ensures.within in
     let less = c.skip.ensures.shorter in
     let at_within = c.skip_ws.ensures.within in
-    let whole : length c.args.s.now ≡ length c.args.key.now + length c.in_ok-named.named.now = ap length is ∙ length-append c.args.key.now c.in_ok-named.named.now in
+    let whole : length c.args.s.now ≡ length c.args.key.now + length c.in_ok-named.named.now =
+    ap length is ∙ length-append c.args.key.now c.in_ok-named.named.now in
     starts_pair c.args.s.now c.args.key.now c.in_ok-named.named.now c.skip_ws-rest.result.now c.skip_ws.result.now is c.requires.bare c.requires.some
     c.skip_ws-rest.ensures.rest equals (c.skip_ws.ensures.rest ∙ ap skip_ws c.skip.ensures.rest) (omega arith)

@@ -49,6 +49,12 @@ items-preserved c =
       λ n h.
           let (m, ds, room, loop, spells) = l.invariant.2 n h in
           let taken = c.in_ok-after.ensures.read in
-          let d = taken.entry in
-          (m - 1, push_item ds d, omega arith, loop ∙ items_more (val 79) m ds l.rest.now d _ _ (omega arith) other (rw start_is at taken.read) c.in_ok-rest.ensures.value, rw (list_of-push ds d) (taken.took (list_of ds) spells)),
+          let d = taken.entry in (
+            m - 1,
+            push_item ds d,
+            omega arith,
+            loop ∙ items_more (val 79) m ds l.rest.now d _ _ (omega arith) other (rw start_is at taken.read)
+                c.in_ok-rest.ensures.value,
+            rw (list_of-push ds d) (taken.took (list_of ds) spells),
+          ),
     )

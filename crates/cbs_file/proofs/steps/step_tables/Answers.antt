@@ -78,11 +78,18 @@ tables-preserved c =
           let last = taken.pairs in
           let (k, space, lines_are) = taken.placed m at place room in
           let more = push_item done (table (close last)) in
-          let took : Spells c.args.terms c.read_section.new.found (list_of more) = rw (list_of-push done (table (close last))) (taken.took (list_of done) spells) in
+          let took : Spells c.args.terms c.read_section.new.found (list_of more) =
+          rw (list_of-push done (table (close last))) (taken.took (list_of done) spells) in
           let start = skip_blank c.in_ok-after.after.now in
           let start_is = c.skip_blank-start.ensures.rest in
           let other : (length start == 0) ≡ false = grind (arith, common_steps) in
           let same : string_bytes c.in_ok-next.next ≡ step = search rules in
-          let header : line start ≡ Some ((([], step), array_table), c.in_ok-next.body.now) = rw (← same) (rw start_is at c.in_ok-next.ensures.value) in
-          (k - 1, more, omega arith, loop ∙ lines_are ∙ lines_more k (at last) _ c.in_ok-after.after.now _ _ (omega arith) other header (next_table step root done last), took),
+          let header : line start ≡ Some ((([], step), array_table), c.in_ok-next.body.now) = rw (← same) (rw start_is at c.in_ok-next.ensures.value) in (
+            k - 1,
+            more,
+            omega arith,
+            loop ∙ lines_are ∙ lines_more k (at last) _ c.in_ok-after.after.now _ _ (omega arith) other header
+                (next_table step root done last),
+            took,
+          ),
     )

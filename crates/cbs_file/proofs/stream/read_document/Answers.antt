@@ -49,7 +49,8 @@ returns-in_err-key-clause-value c =
     let other : (length start == 0) ≡ false = grind (arith, common_steps) in
     let pair : (first start == 91) ≡ false = grind (arith, common_steps) in
     document_err c.from_residual.result _ c.in_err-key.field-0.0 _ c.from_residual.ensures.1 (λ y p. p) λ refused.
-    document_none c.args.s.now (loop ∙ lines_bad m doc l.rest.now (omega arith) other (line_no_key start pair (rw start_is at (c.in_err-key.ensures.value refused))))
+    document_none c.args.s.now (loop ∙ lines_bad m doc l.rest.now (omega arith) other
+    (line_no_key start pair (rw start_is at (c.in_err-key.ensures.value refused))))
 
 pub returns-in_err-value-clause-value : goal.returns-in_err-value-clause-value
 returns-in_err-value-clause-value c =
@@ -65,7 +66,8 @@ returns-in_err-value-clause-value c =
     let key : Key = key_view c.in_ok-key.key in
     let read_key : key_equals start ≡ Some (key, c.in_ok-key.at_value.now) = rw start_is at c.in_ok-key.ensures.value in
     document_err c.from_residual-in_err-value.result _ c.in_err-value.field-0.0 _ c.from_residual-in_err-value.ensures.1 (λ y p. p) λ refused.
-    document_none c.args.s.now (loop ∙ lines_bad m doc l.rest.now (omega arith) other (line_no_value start _ key pair read_key (c.in_err-value.ensures.value refused)))
+    document_none c.args.s.now (loop ∙ lines_bad m doc l.rest.now (omega arith) other
+    (line_no_value start _ key pair read_key (c.in_err-value.ensures.value refused)))
 
 pub returns-then-not-ends_line-2-clause-value : goal.returns-then-not-ends_line-2-clause-value
 returns-then-not-ends_line-2-clause-value c e =
@@ -82,7 +84,8 @@ returns-then-not-ends_line-2-clause-value c e =
     let read_key : key_equals start ≡ Some (key, c.in_ok-key.at_value.now) = rw start_is at c.in_ok-key.ensures.value in
     let after = c.in_ok-value.after.now in
     let end : ends_line (skip_ws after) ≡ false = rw (← c.skip_ws-in-lines.ensures.rest, ← c.ends_line-in-lines.ensures) c.if-not-ends_line-2.true in
-    document_none c.args.s.now (loop ∙ lines_bad m doc l.rest.now (omega arith) other (line_no_end start _ after key _ pair read_key c.in_ok-value.ensures.value end))
+    document_none c.args.s.now (loop ∙ lines_bad m doc l.rest.now (omega arith) other
+    (line_no_end start _ after key _ pair read_key c.in_ok-value.ensures.value end))
 
 pub returns-in_err-put-clause-value : goal.returns-in_err-put-clause-value
 returns-in_err-put-clause-value c =
@@ -101,7 +104,8 @@ returns-in_err-put-clause-value c =
     let end : ends_line (skip_ws after) ≡ true = rw (← c.skip_ws-in-lines.ensures.rest, ← c.ends_line-in-lines.ensures) c.if-not-ends_line-2.false in
     let read = line_pair start _ after key _ pair read_key c.in_ok-value.ensures.value end in
     document_err c.from_residual-in_err-put.result _ c.in_err-put.field-0.0 _ c.from_residual-in_err-put.ensures.1 (λ y p. p) λ refused.
-    document_none c.args.s.now (loop ∙ lines_refused m doc l.rest.now _ _ (omega arith) other read (define_again (nodes_of (table_view l.table)) key _ (c.in_err-put.ensures refused)))
+    document_none c.args.s.now (loop ∙ lines_refused m doc l.rest.now _ _ (omega arith) other read
+    (define_again (nodes_of (table_view l.table)) key _ (c.in_err-put.ensures refused)))
 
 pub lines-preserved : goal.lines-preserved
 lines-preserved c =
@@ -121,8 +125,14 @@ lines-preserved c =
     let read = line_pair start _ after key _ pair read_key c.in_ok-value.ensures.value end in
     let shorter = c.in_ok-key.ensures.shorter in
     let shorter_again = c.in_ok-value.ensures.shorter in
-    let before = c.skip_blank-start.ensures.within in
-    (search rules, omega (arith, l.invariant.1), m - 1, omega arith, loop ∙ lines_more m doc _ l.rest.now _ _ (omega arith) other read (define_pair (nodes_of (table_view l.table)) _ key _ c.in_ok-put.ensures))
+    let before = c.skip_blank-start.ensures.within in (
+      search rules,
+      omega (arith, l.invariant.1),
+      m - 1,
+      omega arith,
+      loop
+          ∙ lines_more m doc _ l.rest.now _ _ (omega arith) other read (define_pair (nodes_of (table_view l.table)) _ key _ c.in_ok-put.ensures),
+    )
 
 pub returns-in_err-read-clause-value : goal.returns-in_err-read-clause-value
 returns-in_err-read-clause-value c =
@@ -140,7 +150,8 @@ returns-in_err-read-clause-value c =
     let text = c.in_ok-key.at_value.now in
     let opens : (first text == 91) ≡ true = grind (arith, common_steps) in
     document_err c.from_residual-in_err-read.result _ c.in_err-read.field-0.0 _ c.from_residual-in_err-read.ensures.1 (λ y p. p) λ refused.
-    let none : val 80 text ≡ None = val_open_array 80 text (omega arith) opens ∙ rw (← c.skip.ensures.rest, c.in_err-read.ensures.value (length text) c.skip.ensures.shorter refused) in
+    let none : val 80 text ≡ None = val_open_array 80 text (omega arith) opens
+    ∙ rw (← c.skip.ensures.rest, c.in_err-read.ensures.value (length text) c.skip.ensures.shorter refused) in
     document_none c.args.s.now (loop ∙ lines_bad m doc l.rest.now (omega arith) other (line_no_value start _ key pair read_key none))
 
 pub returns-then-not-ends_line-clause-value : goal.returns-then-not-ends_line-clause-value
@@ -186,7 +197,8 @@ returns-then-first-eq91-2-clause-value c =
     let end : ends_line (skip_ws after) ≡ true = rw (← c.skip_ws.ensures.rest, ← c.ends_line.ensures) c.if-not-ends_line.false in
     let read = line_pair start _ after step _ pair read_key read_steps end in
     let ms = table_view l.table in
-    let none : get_member (codes "step") ms ≡ None = is_none (codes "step") ms (sym (has_key (codes "step") l.table.entries) ∙ (sym c.contains_key.ensures ∙ c.if-contains_key.false)) in
+    let none : get_member (codes "step") ms ≡ None = is_none (codes "step") ms
+    (sym (has_key (codes "step") l.table.entries) ∙ (sym c.contains_key.ensures ∙ c.if-contains_key.false)) in
     let defined = define_pair (nodes_of ms) _ step (array ds) (put_new (codes "step") (array ds) ms none) in
     let next : Document = (nodes_of (insert_member (codes "step") (array ds) ms), []) in
     let shorter = c.in_ok-key.ensures.shorter in
@@ -195,7 +207,8 @@ returns-then-first-eq91-2-clause-value c =
     let before = c.skip_blank-start.ensures.within in
     let blank_is = c.skip_blank.ensures.rest in
     let over : length (skip_blank after) ≡ 0 = grind (arith, common_steps) in
-    let ended = loop ∙ lines_more m doc next l.rest.now _ after (omega arith) other read (rw (nodes_of-insert_member (codes "step") (array ds) ms) defined) ∙ lines_end (m - 1) next after (omega arith) over in
+    let ended = loop ∙ lines_more m doc next l.rest.now _ after (omega arith) other read
+    (rw (nodes_of-insert_member (codes "step") (array ds) ms) defined) ∙ lines_end (m - 1) next after (omega arith) over in
     (ds, document_some c.args.s.now next ended ∙ ap Some (close-nodes_of (insert_member (codes "step") (array ds) ms)), none, spells)
 
 pub returns-then-first-eq91-2-clause-named : goal.returns-then-first-eq91-2-clause-named

@@ -2,16 +2,15 @@ use Rattle.std.proofs.Common.{◌≡◌, ℕ, ◌<◌, ◌≤◌, List, length}
 use denote.Text.{Utf8}
 use denote.Shadow.{shadow}
 use Rattle.toml.specs.Tables.{Nodes, close}
-use Rattle.toml.specs.Parse.{lines}
 use Rattle.toml.specs.View.{table_view}
+use Rattle.cbs_file.proofs.Arrays.{ReadsUpTo}
 use Rattle.cbs_file.proofs.stream.read_tables.Given as goal
 
 abbrev pub invariant-arrays : goal.invariant-arrays
 invariant-arrays l =
     shadow (Utf8 l.rest) × (length l.rest ≤ length l.fn.s)
     × ((n : ℕ) (root : Nodes) (path : List (List ℕ)) → close root ≡ table_view l.fn.table → length l.fn.s < n
-    → (m : ℕ) × (now : Nodes) × (last : List (List ℕ)) × (length l.rest < m) × (close now ≡ table_view l.table)
-    × (lines n (root, path) l.fn.s ≡ lines m (now, last) l.rest))
+    → (m : ℕ) × (now : Nodes) × (last : List (List ℕ)) × ReadsUpTo n (root, path) l.fn.s m now last l.rest (table_view l.table))
 
 abbrev pub decreases-arrays : goal.decreases-arrays
 decreases-arrays l = length l.rest

@@ -11,7 +11,8 @@ pub returns-then-is_taken-clause-servers : goal.returns-then-is_taken-clause-ser
 returns-then-is_taken-clause-servers c =
     let spelled : server_entry (view c.args.entry.now) ≡ Ok (server_view c.in-Ok.server) = sym c.in-Ok.ensures in
     let name = c.in-Ok.server.name.now in
-    let same : list_any (λ n. bytes_eq (string_bytes n) name) c.args.names.now.items ≡ true = rw c.deref.ensures.value at (sym c.is_taken.ensures ∙ c.if-is_taken.true) in
+    let same : list_any (λ n. bytes_eq (string_bytes n) name) c.args.names.now.items ≡ true =
+    rw c.deref.ensures.value at (sym c.is_taken.ensures ∙ c.if-is_taken.true) in
     let taken = list_any-mapped (λ n. bytes_eq n name) string_bytes c.args.names.now.items ∙ same in
     inr (rw (spelled, taken) refl)
 
@@ -19,7 +20,8 @@ pub returns-in-Err-admit-clause-servers : goal.returns-in-Err-admit-clause-serve
 returns-in-Err-admit-clause-servers c =
     let spelled : server_entry (view c.args.entry.now) ≡ Ok (server_view c.in-Ok.server) = sym c.in-Ok.ensures in
     let name = c.in-Ok.server.name.now in
-    let same : list_any (λ n. bytes_eq (string_bytes n) name) c.args.names.now.items ≡ false = rw c.deref.ensures.value at (sym c.is_taken.ensures ∙ c.if-is_taken.false) in
+    let same : list_any (λ n. bytes_eq (string_bytes n) name) c.args.names.now.items ≡ false =
+    rw c.deref.ensures.value at (sym c.is_taken.ensures ∙ c.if-is_taken.false) in
     let free = list_any-mapped (λ n. bytes_eq n name) string_bytes c.args.names.now.items ∙ same in
     inr (rw (spelled, free, c.in-Err-admit.ensures.answer) refl)
 
@@ -27,7 +29,8 @@ pub returns-clause-servers : goal.returns-clause-servers
 returns-clause-servers c =
     let spelled : server_entry (view c.args.entry.now) ≡ Ok (server_view c.in-Ok.server) = sym c.in-Ok.ensures in
     let name = c.in-Ok.server.name.now in
-    let same : list_any (λ n. bytes_eq (string_bytes n) name) c.args.names.now.items ≡ false = rw c.deref.ensures.value at (sym c.is_taken.ensures ∙ c.if-is_taken.false) in
+    let same : list_any (λ n. bytes_eq (string_bytes n) name) c.args.names.now.items ≡ false =
+    rw c.deref.ensures.value at (sym c.is_taken.ensures ∙ c.if-is_taken.false) in
     let free = list_any-mapped (λ n. bytes_eq n name) string_bytes c.args.names.now.items ∙ same in
     let none : admit_refusal c.args.setup.now.plan c.in-Ok.server.reservation ≡ None = c.in-Ok-admit.ensures.answer.0 in
     let names : map string_bytes c.push.new.self.items ≡ map string_bytes c.args.names.now.items ++ name ∷ [] =

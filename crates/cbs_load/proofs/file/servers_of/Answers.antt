@@ -33,7 +33,8 @@ loop-i-preserved c =
     let took = gives_ok no_memory (λ _. next) (at (Server i) c.admit_entry.result) _ c.in_ok-at.field-0 given (sym c.at.ensures ∙ c.in_ok-at.was) in
     let is = at_ok (Server i) c.admit_entry.result c.in_ok-at.field-0 (sym c.at.ensures ∙ c.in_ok-at.was) in
     record {
-      so_far = taken_on view admitted_entry i so_far next c.args.entries.now v _ c.loop-i-test.true (rw (← c.index-entries-i.is) took) c.loop-i.invariant.so_far;
+      so_far = taken_on view admitted_entry i so_far next c.args.entries.now v _ c.loop-i-test.true (rw (← c.index-entries-i.is) took)
+          c.loop-i.invariant.so_far;
       named = rw is at c.admit_entry.ensures.named;
     }
 

@@ -30,7 +30,8 @@ loop-i-preserved c =
     let names = map string_bytes c.args.names.now in
     let rates = c.args.plan.now.rates in
     let f = λ (i : ℕ) (v : Value). at (AtSource i) (source_entry names rates (view v)) in
-    let is : c.source_entry.result ≡ Ok c.in_ok-source.source = at_ok (AtSource i) c.source_entry.result c.in_ok-source.source (sym c.at.ensures ∙ c.in_ok-source.was) in
+    let is : c.source_entry.result ≡ Ok c.in_ok-source.source = at_ok (AtSource i) c.source_entry.result c.in_ok-source.source
+    (sym c.at.ensures ∙ c.in_ok-source.was) in
     let next = rw c.source_entry.ensures.value at (sym c.at.ensures ∙ c.in_ok-source.was) in
     let lawful : IsSource (length c.args.names.now) c.in_ok-source.source = rw is at c.source_entry.ensures.lawful in
     rw c.in-Ok.ensures.items (record {

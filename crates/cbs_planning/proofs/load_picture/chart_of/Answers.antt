@@ -19,5 +19,6 @@ returns-clause-chart g c =
     let kept : c.in-Ok.told.view ≡ kept_seen (new_kept c.args.window f.plan.rates) (seen_in f) =
     c.in-Ok.ensures.seen (c.new-telling.result, c.args.progress.now) refl
     ∙ ap (λ (k : Kept). kept_seen k (seen_in f)) (c.new-telling.ensures ∙ c.in_ok-view.ensures ∙ ap (λ p. new_kept c.args.window p.rates) c.plan.ensures) in
-    IfOk-weaker c.into_chart.result _ _ (λ chart h. chart_is c.args.window f.plan.rates _ f.until (seen_in f) c.in-Ok.told.view chart kept c.until-2.ensures.value h)
+    IfOk-weaker c.into_chart.result _ _ (λ chart h. chart_is c.args.window f.plan.rates _ f.until (seen_in f) c.in-Ok.told.view chart kept
+    c.until-2.ensures.value h)
     c.into_chart.ensures.chart

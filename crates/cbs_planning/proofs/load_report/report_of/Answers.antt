@@ -12,7 +12,13 @@ loop-server-preserved g c =
     let fs = c.in_ok-figures.figures.items in
     let all = c.in_ok-figures.ensures.figures in
     let lt : l.server < length fs =
-    omega (arith, figure_count f.plan.rates f.until (seen_in f) fs all, c.len-server-end.ensures.value, c.loop-server-test.true, ap (λ p. length p.rates) c.plan.ensures) in
+    omega (
+      arith,
+      figure_count f.plan.rates f.until (seen_in f) fs all,
+      c.len-server-end.ensures.value,
+      c.loop-server-test.true,
+      ap (λ p. length p.rates) c.plan.ensures,
+    ) in
     let at : slice_get fs l.server ≡ Some c.index-figures.result.now =
     some_at fs l.server c.index-figures.result.now lt (rw c.from.ensures at c.index-figures.ensures) in
     let told = c.in_ok-server_report.ensures in

@@ -13,4 +13,5 @@ loop-server-preserved c =
     rw c.in_ok-push.ensures.items
     (map-append string_bytes l.names.items (c.in_ok-format.field-0 ∷ [])
     ∙ (ap (λ ns. ns ++ string_bytes c.in_ok-format.field-0 ∷ []) l.invariant
-    ∙ (ap (λ n. map name_of (range_with_len 0 l.server-counter) ++ n ∷ []) one ∙ sym (map-range_with_len_more name_of 0 l.server-counter l.server-counter (omega arith)))))
+    ∙ (ap (λ n. map name_of (range_with_len 0 l.server-counter) ++ n ∷ []) one
+    ∙ sym (map-range_with_len_more name_of 0 l.server-counter l.server-counter (omega arith)))))

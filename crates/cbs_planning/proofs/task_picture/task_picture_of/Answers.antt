@@ -21,7 +21,9 @@ returns-clause-picture c =
     let count : c.len.result ≡ length s.plan.rates = c.len.ensures.value ∙ ap (λ (p : Planned). length p.rates) c.plan.ensures.value in
     let names : map string_bytes c.deref.result.now ≡ map name_of (range_with_len 0 (length s.plan.rates)) =
     ap (map string_bytes) c.deref.ensures.value ∙ (c.in_ok-names.ensures ∙ ap (λ n. map name_of (range_with_len 0 n)) count) in
-    IfOk-weaker c.picture_of_chart.result _ _ (λ p h. file_picture c.args.file.now c.args.tasks s c.into_parts-setup.result.backlog c.into_parts-setup.result.ring
-    c.into_parts-setup.result.steps.items c.args.window (map string_bytes c.deref.result.now) c.modes.result.now c.plan-2.result.now c.in_ok-chart.chart p c.into_parts-setup.ensures.value
+    IfOk-weaker c.picture_of_chart.result _ _ (λ p h. file_picture c.args.file.now c.args.tasks s c.into_parts-setup.result.backlog
+    c.into_parts-setup.result.ring
+    c.into_parts-setup.result.steps.items c.args.window (map string_bytes c.deref.result.now) c.modes.result.now c.plan-2.result.now
+    c.in_ok-chart.chart p c.into_parts-setup.ensures.value
     c.in_ok-chart.ensures.window c.in_ok-chart.ensures.end c.in_ok-chart.ensures.chart names
     c.modes.ensures.value c.plan-2.ensures.value h) c.picture_of_chart.ensures.picture

@@ -34,7 +34,8 @@ loop-server-preserved c =
     (says.reservation ∙ ap (λ (g : File). slice_get g.plan.rates l.server) is) says.within (rw says.figures at) in
     record {
       count = ap length c.in_ok-push.ensures.items ∙ (length-append l.servers.items (r ∷ []) ∙ ap (λ n. n + 1) l.invariant.count);
-      each = rw c.in_ok-push.ensures.items (each_more (IsTaskServerReport f) 0 l.server l.servers.items r l.invariant.each (omega (arith, l.invariant.count)) one);
+      each = rw c.in_ok-push.ensures.items (each_more (IsTaskServerReport f) 0 l.server l.servers.items r l.invariant.each
+          (omega (arith, l.invariant.count)) one);
     }
 
 pub returns-clause-few : goal.returns-clause-few

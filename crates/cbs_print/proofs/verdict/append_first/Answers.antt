@@ -10,7 +10,8 @@ returns-in-Some c =
     let next = c.in-Some.place + 1 in
     let others = not_in_time (drop next servers) in
     let is : not_in_time servers ≡ c.index-servers-place.result ∷ others =
-    filter_from_position is_wrong servers c.in-Some.place c.index-servers-place.result (sym c.in-Some.ensures) ∙ ap (λ s. s ∷ others) (sym c.index-servers-place.is) in
+    filter_from_position is_wrong servers c.in-Some.place c.index-servers-place.result (sym c.in-Some.ensures)
+    ∙ ap (λ s. s ∷ others) (sym c.index-servers-place.is) in
     let counted : c.count_wrong.result ≡ length others =
     c.count_wrong.ensures ∙ ap (λ ss. length (not_in_time ss)) (between_to_end servers next (length servers) (omega arith)) in
     rw is (rw counted at c.append_server.ensures)

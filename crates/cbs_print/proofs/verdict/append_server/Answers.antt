@@ -11,5 +11,6 @@ pub returns : goal.returns
 returns c =
     let wrong = wrong_text c.args.server.now.figures in
     let others = others_text c.args.others in
-    IfOk-equal c.append_others.result _ _ _ c.append_others.ensures (ap (λ t. t ++ others) (c.in_ok-append_wrong.ensures ∙ ap (λ t. t ++ wrong) c.in_ok-write.ensures.bytes)
+    IfOk-equal c.append_others.result _ _ _ c.append_others.ensures (ap (λ t. t ++ others)
+    (c.in_ok-append_wrong.ensures ∙ ap (λ t. t ++ wrong) c.in_ok-write.ensures.bytes)
     ∙ joined _ _ wrong others)

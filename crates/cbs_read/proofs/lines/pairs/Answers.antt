@@ -71,7 +71,8 @@ returns-in_err-put-clause-value c n at place h =
     let end : ends_line (skip_ws after) ≡ true = rw (← c.skip_ws.ensures.rest, ← c.ends_line.ensures) c.if-not-ends_line.false in
     let read = line_pair start _ after key _ pair read_key c.in_ok-member.ensures.value end in
     stops_by _ _ c.from_residual-in_err-put.result c.in_err-put.field-0.0 _ c.from_residual-in_err-put.ensures.1 (λ y p. p) λ refused.
-    loop ∙ lines_refused m doc l.rest.now _ _ (omega arith) other read (pair_refused at place (nodes_of (table_view l.found)) key _ (c.in_err-put.ensures refused))
+    loop ∙ lines_refused m doc l.rest.now _ _ (omega arith) other read
+    (pair_refused at place (nodes_of (table_view l.found)) key _ (c.in_err-put.ensures refused))
 
 pub lines-preserved : goal.lines-preserved
 lines-preserved c =

@@ -43,7 +43,8 @@ array-returns-in_err-rest-clause-value c c' n h =
     let other : (first (skip_blank l.rest.now) == 93) ≡ false = grind (arith, common_steps) in
     let (m, room, loop) = l.invariant.2 n h in
     gives_err _ c'.from_residual-in_err-rest.result _ c'.in_err-rest.field-0.0 _ c'.from_residual-in_err-rest.ensures.1 (λ y p. p) λ refused.
-    loop ∙ items_bad_end (val c'.args.depth) m _ l.rest.now _ _ (omega arith) other (rw start_is at c'.in_ok-item.ensures.value) (c'.in_err-rest.ensures.value refused)
+    loop ∙ items_bad_end (val c'.args.depth) m _ l.rest.now _ _ (omega arith) other (rw start_is at c'.in_ok-item.ensures.value)
+    (c'.in_err-rest.ensures.value refused)
 
 pub array-items-preserved : goal.array-items-preserved
 array-items-preserved c c' =
@@ -56,8 +57,13 @@ array-items-preserved c c' =
       search rules,
       omega (arith, l.invariant.1),
       λ n h.
-          let (m, room, loop) = l.invariant.2 n h in
-          (m - 1, omega arith, loop ∙ items_more (val c'.args.depth) m _ l.rest.now _ _ _ (omega arith) other (rw start_is at c'.in_ok-item.ensures.value) c'.in_ok-rest.ensures.value ∙ rw (c'.in-Ok.ensures.items, items_view-push c'.items.found.items c'.in_ok-item.item)),
+          let (m, room, loop) = l.invariant.2 n h in (
+            m - 1,
+            omega arith,
+            loop ∙ items_more (val c'.args.depth) m _ l.rest.now _ _ _ (omega arith) other
+                (rw start_is at c'.in_ok-item.ensures.value) c'.in_ok-rest.ensures.value
+                ∙ rw (c'.in-Ok.ensures.items, items_view-push c'.items.found.items c'.in_ok-item.item),
+          ),
     )
 
 pub inline_table-members-init : goal.inline_table-members-init
@@ -68,7 +74,8 @@ inline_table-returns-then-first-eq125-clause-value c c' n h =
     let l = c'.members in
     let (m, room, loop) = l.invariant.2 n h in
     let closing : (first (skip_blank l.rest.now) == 125) ≡ true = grind (arith, common_steps) in
-    loop ∙ members_end (val c'.args.depth) m _ l.rest.now (omega arith) closing ∙ rw (c'.skip.ensures.rest, c'.skip_blank-start.ensures.rest, close-nodes_of (table_view l.found))
+    loop ∙ members_end (val c'.args.depth) m _ l.rest.now (omega arith) closing
+    ∙ rw (c'.skip.ensures.rest, c'.skip_blank-start.ensures.rest, close-nodes_of (table_view l.found))
 
 pub inline_table-returns-in_err-key-clause-value : goal.inline_table-returns-in_err-key-clause-value
 inline_table-returns-in_err-key-clause-value c c' n h =
@@ -77,7 +84,8 @@ inline_table-returns-in_err-key-clause-value c c' n h =
     let other : (first (skip_blank l.rest.now) == 125) ≡ false = grind (arith, common_steps) in
     let (m, room, loop) = l.invariant.2 n h in
     gives_err _ c'.from_residual.result _ c'.in_err-key.field-0.0 _ c'.from_residual.ensures.1 (λ y p. p) λ refused.
-    loop ∙ members_bad (val c'.args.depth) m _ l.rest.now (omega arith) other (keyval_no_key (val c'.args.depth) _ (rw start_is at (c'.in_err-key.ensures.value refused)))
+    loop ∙ members_bad (val c'.args.depth) m _ l.rest.now (omega arith) other
+    (keyval_no_key (val c'.args.depth) _ (rw start_is at (c'.in_err-key.ensures.value refused)))
 
 pub inline_table-returns-in_err-member-clause-value : goal.inline_table-returns-in_err-member-clause-value
 inline_table-returns-in_err-member-clause-value c c' n h =
@@ -85,10 +93,12 @@ inline_table-returns-in_err-member-clause-value c c' n h =
     let start_is = c'.skip_blank-start.ensures.rest in
     let other : (first (skip_blank l.rest.now) == 125) ≡ false = grind (arith, common_steps) in
     let key : Key = key_view c'.in_ok-key.key in
-    let read_key : key_equals (skip_blank l.rest.now) ≡ Some (key, c'.in_ok-key.at_value.now) = rw c'.skip_blank-start.ensures.rest at c'.in_ok-key.ensures.value in
+    let read_key : key_equals (skip_blank l.rest.now) ≡ Some (key, c'.in_ok-key.at_value.now) =
+    rw c'.skip_blank-start.ensures.rest at c'.in_ok-key.ensures.value in
     let (m, room, loop) = l.invariant.2 n h in
     gives_err _ c'.from_residual-in_err-member.result _ c'.in_err-member.field-0.0 _ c'.from_residual-in_err-member.ensures.1 (λ y p. p) λ refused.
-    loop ∙ members_bad (val c'.args.depth) m _ l.rest.now (omega arith) other (keyval_no_value (val c'.args.depth) _ _ key read_key (c'.in_err-member.ensures.value refused))
+    loop ∙ members_bad (val c'.args.depth) m _ l.rest.now (omega arith) other
+    (keyval_no_value (val c'.args.depth) _ _ key read_key (c'.in_err-member.ensures.value refused))
 
 pub inline_table-returns-in_err-put-clause-value : goal.inline_table-returns-in_err-put-clause-value
 inline_table-returns-in_err-put-clause-value c c' n h =
@@ -96,7 +106,8 @@ inline_table-returns-in_err-put-clause-value c c' n h =
     let start_is = c'.skip_blank-start.ensures.rest in
     let other : (first (skip_blank l.rest.now) == 125) ≡ false = grind (arith, common_steps) in
     let key : Key = key_view c'.in_ok-key.key in
-    let read_key : key_equals (skip_blank l.rest.now) ≡ Some (key, c'.in_ok-key.at_value.now) = rw c'.skip_blank-start.ensures.rest at c'.in_ok-key.ensures.value in
+    let read_key : key_equals (skip_blank l.rest.now) ≡ Some (key, c'.in_ok-key.at_value.now) =
+    rw c'.skip_blank-start.ensures.rest at c'.in_ok-key.ensures.value in
     let read = keyval_ok (val c'.args.depth) (skip_blank l.rest.now) _ _ key _ read_key c'.in_ok-member.ensures.value in
     let (m, room, loop) = l.invariant.2 n h in
     gives_err _ c'.from_residual-in_err-put.result _ c'.in_err-put.field-0.0 _ c'.from_residual-in_err-put.ensures.1 (λ y p. p) λ refused.
@@ -108,7 +119,8 @@ inline_table-returns-in_err-rest-clause-value c c' n h =
     let start_is = c'.skip_blank-start.ensures.rest in
     let other : (first (skip_blank l.rest.now) == 125) ≡ false = grind (arith, common_steps) in
     let key : Key = key_view c'.in_ok-key.key in
-    let read_key : key_equals (skip_blank l.rest.now) ≡ Some (key, c'.in_ok-key.at_value.now) = rw c'.skip_blank-start.ensures.rest at c'.in_ok-key.ensures.value in
+    let read_key : key_equals (skip_blank l.rest.now) ≡ Some (key, c'.in_ok-key.at_value.now) =
+    rw c'.skip_blank-start.ensures.rest at c'.in_ok-key.ensures.value in
     let read = keyval_ok (val c'.args.depth) (skip_blank l.rest.now) _ _ key _ read_key c'.in_ok-member.ensures.value in
     let (m, room, loop) = l.invariant.2 n h in
     gives_err _ c'.from_residual-in_err-rest.result _ c'.in_err-rest.field-0.0 _ c'.from_residual-in_err-rest.ensures.1 (λ y p. p) λ refused.
@@ -121,7 +133,8 @@ inline_table-members-preserved c c' =
     let start_is = c'.skip_blank-start.ensures.rest in
     let other : (first (skip_blank l.rest.now) == 125) ≡ false = grind (arith, common_steps) in
     let key : Key = key_view c'.in_ok-key.key in
-    let read_key : key_equals (skip_blank l.rest.now) ≡ Some (key, c'.in_ok-key.at_value.now) = rw c'.skip_blank-start.ensures.rest at c'.in_ok-key.ensures.value in
+    let read_key : key_equals (skip_blank l.rest.now) ≡ Some (key, c'.in_ok-key.at_value.now) =
+    rw c'.skip_blank-start.ensures.rest at c'.in_ok-key.ensures.value in
     let read = keyval_ok (val c'.args.depth) (skip_blank l.rest.now) _ _ key _ read_key c'.in_ok-member.ensures.value in
     let shorter = c'.in_ok-key.ensures.shorter in
     let shorter_again = c'.in_ok-member.ensures.shorter in
@@ -130,8 +143,12 @@ inline_table-members-preserved c c' =
       search rules,
       omega (arith, l.invariant.1),
       λ n h.
-          let (m, room, loop) = l.invariant.2 n h in
-          (m - 1, omega arith, loop ∙ members_more (val c'.args.depth) m _ _ l.rest.now key _ _ _ (omega arith) other read c'.in_ok-put.ensures c'.in_ok-rest.ensures.value),
+          let (m, room, loop) = l.invariant.2 n h in (
+            m - 1,
+            omega arith,
+            loop ∙ members_more (val c'.args.depth) m _ _ l.rest.now key _ _ _ (omega arith) other read c'.in_ok-put.ensures
+                c'.in_ok-rest.ensures.value,
+          ),
     )
 
 pub value-returns-then-byte-ne123-clause-value : goal.value-returns-then-byte-ne123-clause-value
@@ -163,14 +180,21 @@ value-returns-in_err-members-clause-value c c' =
     let a : (first s == 91) ≡ false = grind (arith, common_steps) in
     let b : (first s == 123) ≡ true = grind (arith, common_steps) in
     gives_err _ c'.from_residual-in_err-members.result _ c'.in_err-members.field-0.0 _ c'.from_residual-in_err-members.ensures.1 (λ y p. p) λ refused.
-    val_open_table c'.args.depth s some a b ∙ rw (← c'.skip-else-byte-eq91.ensures.rest, c'.in_err-members.ensures.value (length s) c'.skip-else-byte-eq91.ensures.shorter refused)
+    val_open_table c'.args.depth s some a b ∙ rw (
+      ← c'.skip-else-byte-eq91.ensures.rest,
+      c'.in_err-members.ensures.value (length s) c'.skip-else-byte-eq91.ensures.shorter refused,
+    )
 
 pub value-returns-in_ok-items-clause-value : goal.value-returns-in_ok-items-clause-value
 value-returns-in_ok-items-clause-value c c' =
     let s = c'.args.s.now in
     let some : 0 < c'.args.depth = omega arith in
     let a : (first s == 91) ≡ true = grind (arith, common_steps) in
-    val_open_array c'.args.depth s some a ∙ rw (← c'.skip.ensures.rest, c'.in_ok-items.ensures.value (length s) c'.skip.ensures.shorter, view-Array c'.in_ok-items.items)
+    val_open_array c'.args.depth s some a ∙ rw (
+      ← c'.skip.ensures.rest,
+      c'.in_ok-items.ensures.value (length s) c'.skip.ensures.shorter,
+      view-Array c'.in_ok-items.items,
+    )
 
 pub value-returns-in_ok-members-clause-value : goal.value-returns-in_ok-members-clause-value
 value-returns-in_ok-members-clause-value c c' =
@@ -178,4 +202,8 @@ value-returns-in_ok-members-clause-value c c' =
     let some : 0 < c'.args.depth = omega arith in
     let a : (first s == 91) ≡ false = grind (arith, common_steps) in
     let b : (first s == 123) ≡ true = grind (arith, common_steps) in
-    val_open_table c'.args.depth s some a b ∙ rw (← c'.skip-else-byte-eq91.ensures.rest, c'.in_ok-members.ensures.value (length s) c'.skip-else-byte-eq91.ensures.shorter, view-Table c'.in_ok-members.members)
+    val_open_table c'.args.depth s some a b ∙ rw (
+      ← c'.skip-else-byte-eq91.ensures.rest,
+      c'.in_ok-members.ensures.value (length s) c'.skip-else-byte-eq91.ensures.shorter,
+      view-Table c'.in_ok-members.members,
+    )

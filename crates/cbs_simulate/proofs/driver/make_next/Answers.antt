@@ -14,7 +14,8 @@ returns-then-now-stop-clause-moved g c = λ t M agrees.
     let before = c.if-now-stop.true in
     let early : (world_after loading M).now < stop_at c.args.until coming = omega arith in
     let next = before_stop loading job_of c.args.until M coming early in
-    rw c.in-None.is (makes_next loading job_of c.args.until M g.S.Watcher.saw c.args.stop.now coming c.show_next.new.core _ _ _ (rw is next) (c.in_ok-owing-in-None.ensures.makes (record { history = M; coming = coming; owing = None }) agrees))
+    rw c.in-None.is (makes_next loading job_of c.args.until M g.S.Watcher.saw c.args.stop.now coming c.show_next.new.core _ _ _ (rw is next)
+    (c.in_ok-owing-in-None.ensures.makes (record { history = M; coming = coming; owing = None }) agrees))
 
 pub returns-then-now-until-clause-moved : goal.returns-then-now-until-clause-moved
 returns-then-now-until-clause-moved g c = λ t M agrees.

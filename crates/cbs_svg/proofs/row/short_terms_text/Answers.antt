@@ -4,4 +4,5 @@ use Rattle.cbs_svg.proofs.row.short_terms_text.Goals as goal
 
 pub returns : goal.returns
 unfolding short_terms_text
-returns c = simp append_assoc (simp (append_assoc, c.budget-budget.ensures.value, c.period-period.ensures.value, c.mode_word-mode.ensures) at c.format.ensures.ok)
+returns c = simp append_assoc (simp (append_assoc, c.budget-budget.ensures.value, c.period-period.ensures.value, c.mode_word-mode.ensures) at
+    c.format.ensures.ok)

@@ -11,5 +11,6 @@ pub returns : goal.returns
 unfolding process_text
 returns c =
     let about = λ (d : Data). compact_text (about_data (codes "process_name") 0 d) in
-    IfOk-weaker c.about_text.result (λ text. string_bytes text ≡ about (view c.in_ok-args.args)) (λ text. string_bytes text ≡ about (named_args c.args.file.now))
+    IfOk-weaker c.about_text.result (λ text. string_bytes text ≡ about (view c.in_ok-args.args))
+    (λ text. string_bytes text ≡ about (named_args c.args.file.now))
     (λ text is. is ∙ ap about c.in_ok-args.ensures.value) c.about_text.ensures

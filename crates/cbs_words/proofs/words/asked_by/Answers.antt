@@ -1,7 +1,8 @@
 use Rattle.std.proofs.Common.{◌≡◌, ◌≢◌, ◌⊎◌, ◌∙◌, ap, subst, true, refl, map, List, [], ◌∷◌, Option, Result, Ok, Err, inl, inr, string_bytes}
 use Rattle.std.specs.Prelude.{IfOk, IfErr}
 use Rattle.clap.specs.Simple.{HasMatchesOf}
-use Rattle.clap.specs.Words.{App, Row, Text, HasKind, IsAmong, Kinds, fault_of, is_simple, is_simple_and_free, kind_of, subcommand_of, subcommand_rows_of, takes}
+use Rattle.clap.specs.Words.{App, Row, Text, HasKind, IsAmong, Kinds, fault_of, is_simple, is_simple_and_free}
+use Rattle.clap.specs.Words.{kind_of, subcommand_of, subcommand_rows_of, takes}
 use Rattle.clap.specs.declared.error.Error.{Error}
 use Rattle.clap.specs.declared.error.kind.ErrorKind.{ErrorKind}
 use Rattle.clap.specs.declared.error.kind.ErrorKind.TheVariants as kind
@@ -80,5 +81,6 @@ returns-in-Ok-clause-told c =
 
 pub returns-in_ok-refused-in-Err-clause-told : goal.returns-in_ok-refused-in-Err-clause-told
 returns-in_ok-refused-in-Err-clause-told c =
-    kind_told _ c.in-Err.error _ (of_command (λ kinds. HasKind kinds c.in-Err.error) _ (map string_bytes c.args.words.now) c.in_ok-command.ensures c.in-Err.ensures.kinds)
+    kind_told _ c.in-Err.error _ (of_command (λ kinds. HasKind kinds c.in-Err.error) _ (map string_bytes c.args.words.now) c.in_ok-command.ensures
+    c.in-Err.ensures.kinds)
     c.in_ok-refused-in-Err.ensures.memory c.in_ok-refused-in-Err.ensures.kind

@@ -11,7 +11,8 @@ pub loop-row-preserved : goal.loop-row-preserved
 loop-row-preserved c =
     let l = c.loop-row in
     let i = l.invariant in
-    let more = charts_more c.self.inside.window c.args.end l.yielded l.servers.items c.in-Some.row c.in_ok-into_chart.field-0 i.charts c.in_ok-into_chart.ensures in
+    let more = charts_more c.self.inside.window c.args.end l.yielded l.servers.items c.in-Some.row c.in_ok-into_chart.field-0 i.charts
+    c.in_ok-into_chart.ensures in
     record {
       count = omega (arith, ap length c.in-Some.ensures.steps.0, c.in-Some.ensures.steps.1, i.count);
       all = i.all ∙ ap (λ xs. l.yielded ++ xs) c.in-Some.ensures.steps.0 ∙ sym (append_assoc l.yielded (c.in-Some.row ∷ []) (into_iter_items c.next.new.self));

@@ -22,6 +22,7 @@ index-requires g c =
 pub returns-clause-next : goal.returns-clause-next
 returns-clause-next g c =
     let coming = g.S.Releases.coming in
-    c.first-2.ensures.next ∙ ap (λ o. o) (first_shows coming g.S.Releases.ordered c.self.inside.sources.items c.self.inside.turns c.first.ensures.tree c.self.invariant
+    c.first-2.ensures.next ∙ ap (λ o. o) (first_shows coming g.S.Releases.ordered c.self.inside.sources.items c.self.inside.turns
+    c.first.ensures.tree c.self.invariant
     c.in_ok-turn.turn (sym c.first.ensures.first ∙ c.in_ok-turn.was) c.index.result.now c.index.ensures)
     ∙ ap (λ xs. slice_get (merged (map coming xs)) 0) c.self.view_is

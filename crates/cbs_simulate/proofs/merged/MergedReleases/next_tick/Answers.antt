@@ -11,7 +11,8 @@ returns-in_err-turn g c =
     let none : merged (map coming c.self.inside.sources.items) ≡ [] =
     none_first coming g.S.Releases.ordered c.self.inside.sources.items c.self.inside.turns c.first.ensures.tree c.self.invariant
     (sym c.first.ensures.first ∙ c.in_err-turn.was) in
-    c.from_residual.ensures ∙ sym (ap (λ rs. option_map (λ r. r.tick) (slice_get rs 0)) none) ∙ ap (λ xs. option_map (λ r. r.tick) (slice_get (merged (map coming xs)) 0)) c.self.view_is
+    c.from_residual.ensures ∙ sym (ap (λ rs. option_map (λ r. r.tick) (slice_get rs 0)) none)
+    ∙ ap (λ xs. option_map (λ r. r.tick) (slice_get (merged (map coming xs)) 0)) c.self.view_is
 
 pub returns : goal.returns
 returns g c =

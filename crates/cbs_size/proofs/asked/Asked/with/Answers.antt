@@ -13,7 +13,8 @@ nonzero_div-common c =
 
 pub returns-then-common-from-clause-joined : goal.returns-then-common-from-clause-joined
 returns-then-common-from-clause-joined c = λ m some of_m every_m.
-    let d = multiple_dvd c.from-of.result c.from-every.result c.greatest_common_divisor.result (omega arith) (omega arith) c.greatest_common_divisor.ensures.greatest
+    let d = multiple_dvd c.from-of.result c.from-every.result c.greatest_common_divisor.result (omega arith) (omega arith)
+    c.greatest_common_divisor.ensures.greatest
     c.greatest_common_divisor.ensures.scaled m (rw c.from-of.ensures of_m) (rw c.from-every.ensures every_m) in
     let le = le_of_dvd some d in
     omega arith

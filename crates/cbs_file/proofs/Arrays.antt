@@ -1,0 +1,58 @@
+-- A document whose first lines were read, with what may follow them: its end, or one more array of tables.
+use Rattle.std.proofs.Common.{◌≡◌, ℕ, ◌-◌, ◌<◌, ◌==◌, false, List, [], ◌∷◌, length, Option, Some, None, option_map, ap, ◌∙◌, refl, arith}
+use Rattle.toml_parser.specs.Lexical.{skip_blank}
+use Rattle.toml.specs.Data.{Data, Items, Members, array, no_items, table, push_item, get_member}
+use Rattle.toml.specs.Parse.{line, lines}
+use Rattle.toml.specs.Tables.{Nodes, Document, no_nodes, open_array, insert, get_node, close, array_table}
+use Rattle.toml.proofs.Turns.{lines_end, lines_more, lines_bad}
+use Rattle.cbs_read.specs.Reading.{growing}
+use Rattle.cbs_read.proofs.Growing.{first_table}
+use Rattle.cbs_file.specs.Streams.{insert_member}
+use Rattle.cbs_file.proofs.Documents.{close-insert, closed_none}
+
+-- the members of a document, if the grammar gives one
+abbrev pub closed : Option Document → Option Members
+closed = option_map (λ doc. close doc.0)
+
+-- the lines of a document were read up to the text `rest`, and give these members
+pub record ReadsUpTo (n : ℕ) (doc : Document) (s : List ℕ) (m : ℕ) (now : Nodes) (last : List (List ℕ)) (rest : List ℕ) (members : Members) : Type 0 where
+  pub so_far : lines n doc s ≡ lines m (now, last) rest
+  pub same : close now ≡ members
+  pub room : length rest < m
+
+module _ {n m : ℕ} {doc : Document} {now : Nodes} {last : List (List ℕ)} {s rest : List ℕ} {members : Members} (far : ReadsUpTo n doc s m now last rest members) where
+  -- at its end, the document has these members
+  pub at_end : length (skip_blank rest) ≡ 0 → closed (lines n doc s) ≡ Some members
+  at_end over = let room = far.room in ap closed far.so_far ∙ rw (lines_end m (now, last) rest (omega arith) over) (ap Some far.same)
+
+  module _ (more : (length (skip_blank rest) == 0) ≡ false) where
+    -- if the next line is refused, so is the document
+    pub refused_line : line (skip_blank rest) ≡ None → closed (lines n doc s) ≡ None
+    refused_line bad = let room = far.room in ap closed far.so_far ∙ rw (lines_bad m (now, last) rest (omega arith) more bad) refl
+
+    module _ (key body : List ℕ) (header : line (skip_blank rest) ≡ Some ((([], key), array_table), body)) (free : get_member key members ≡ None) where
+      -- no other value stands at the key, so an array of tables begins there
+      pub no_node : get_node key now ≡ None
+      no_node = closed_none key now (rw far.same free)
+
+      begun : lines m (now, last) rest ≡ lines (m - 1) (growing key now no_items no_nodes) body
+      begun = let room = far.room in lines_more m (now, last) _ rest _ _ (omega arith) more header (first_table key now last no_node)
+
+      -- if its tables are refused, so is the document
+      pub refused_tables : lines (m - 1) (growing key now no_items no_nodes) body ≡ None → closed (lines n doc s) ≡ None
+      refused_tables bad = ap closed far.so_far ∙ rw (begun, bad) refl
+
+      -- if its tables are the last lines, the document has them beside its other members
+      pub last_tables : (ds : Items) (whole : Document) → lines (m - 1) (growing key now no_items no_nodes) body ≡ Some whole
+          → close whole.0 ≡ insert_member key (array ds) (close now) → closed (lines n doc s) ≡ Some (insert_member key (array ds) members)
+      last_tables ds whole read is = ap closed far.so_far ∙ rw (begun, read) (ap Some (rw (← far.same) is))
+
+      module _ (k : ℕ) (done : Items) (latest : Nodes) (after : List ℕ) where
+        -- or else the document goes on after them
+        pub next_lines : lines (m - 1) (growing key now no_items no_nodes) body ≡ lines k (growing key now done latest) after
+            → lines n doc s ≡ lines k (insert key (open_array done latest) now, key ∷ []) after
+        next_lines read = far.so_far ∙ begun ∙ read
+
+        -- with the array as one more member
+        pub next_members : (d : Data) → d ≡ array (push_item done (table (close latest))) → close (insert key (open_array done latest) now) ≡ insert_member key d members
+        next_members d is = close-insert key (open_array done latest) now ∙ rw (far.same, is) refl
