@@ -1,10 +1,8 @@
 -- A tree of turns: its root has the first of them, and each node the turn of a leaf.
-use Rattle.std.proofs.Common.{◌≡◌, ◌≢◌, ℕ, zero, suc, ◌+◌, ◌-◌, ◌*◌, ◌/◌, ◌^◌, ◌≤◌, ◌<◌, true, false, eqb}
-use Rattle.std.proofs.Common.{ltb, List, length, set, refl, sym, ap, ◌∙◌, arith, inl, inr}
+use Rattle.std.proofs.Common.{◌≡◌, ◌≢◌, ℕ, zero, suc, ◌+◌, ◌-◌, ◌*◌, ◌/◌, ◌^◌, ◌≤◌, ◌<◌, true, false, eqb, ltb, List, length, refl, sym, arith, inl, inr}
 use Rattle.std.proofs.lemmas.Bool.{cases_Bool, cases_eq, cases_lt}
 use Rattle.std.proofs.lemmas.Bool.Decides.{nat_tests}
-use Rattle.std.proofs.lemmas.List.{get_or-set_same, get_or-set_other, length-set}
-use Rattle.cbs_simulate.specs.Turns.{is_before, first_of, node, beside, IsTree}
+use Rattle.cbs_simulate.specs.Turns.{is_before, first_of, node, IsTree}
 use Rattle.cbs_simulate.specs.declared.turns.Turn.{Turn}
 
 -- the turn of the lower number comes first
@@ -146,67 +144,3 @@ module _ (nodes : List Turn) (tree : IsTree nodes) where
 pub record IsTreeBut (out : ℕ) (nodes : List Turn) : Type 0 where
   pub even : length nodes ≡ length nodes / 2 * 2
   pub first : (k : ℕ) → 0 < k → k < length nodes / 2 → k ≢ out → node nodes k ≡ first_of (node nodes (2 * k)) (node nodes (2 * k + 1))
-
--- which of two turns is the first does not depend on their order
-first_swapped : (a b : Turn) → first_of a b ≡ first_of b a
-first_swapped a b = elim (cases_lt a.tick b.tick) [
-  | inl lt ↦
-      let t : is_before a b ≡ true = grind (arith, nat_tests) in
-      let f : is_before b a ≡ false = grind (arith, nat_tests) in
-      rw (t, f) refl
-  | inr ge ↦ elim (cases_lt b.tick a.tick) [
-    | inl lt ↦
-        let t : is_before b a ≡ true = grind (arith, nat_tests) in
-        let f : is_before a b ≡ false = grind (arith, nat_tests) in
-        rw (t, f) refl
-    | inr same ↦ elim (cases_lt a.place b.place) [
-      | inl lt ↦
-          let t : is_before a b ≡ true = grind (arith, nat_tests) in
-          let f : is_before b a ≡ false = grind (arith, nat_tests) in
-          rw (t, f) refl
-      | inr more ↦ elim (cases_lt b.place a.place) [
-        | inl lt ↦
-            let t : is_before b a ≡ true = grind (arith, nat_tests) in
-            let f : is_before a b ≡ false = grind (arith, nat_tests) in
-            rw (t, f) refl
-        | inr less ↦
-            let ticks : a.tick ≡ b.tick = omega arith in
-            let places : a.place ≡ b.place = omega arith in
-            let one : a ≡ b = ap (λ t. record { tick = t; place = a.place }) ticks ∙ ap (λ p. record { tick = b.tick; place = p }) places in
-            rw one refl
-      ]
-    ]
-  ]
-]
-
--- the first of a node and the one beside it is that of the two below the same node
-pub of_both : (nodes : List Turn) (j : ℕ) → 1 < j
-    → first_of (node nodes j) (node nodes (beside j)) ≡ first_of (node nodes (2 * (j / 2))) (node nodes (2 * (j / 2) + 1))
-of_both nodes j some = elim (cases_eq j (2 * (j / 2))) [
-  | inl left ↦
-      let other : beside j ≡ 2 * (j / 2) + 1 = omega arith in
-      rw (other, ← left) refl
-  | inr right ↦
-      let here : j ≡ 2 * (j / 2) + 1 = omega arith in
-      let other : beside j ≡ 2 * (j / 2) = omega arith in
-      rw (other, ← here) (first_swapped (node nodes j) (node nodes (2 * (j / 2))))
-]
-
--- the first of two turns goes up to the node above both: what is left out of the tree then is one node further up
-pub goes_up : (nodes : List Turn) (j : ℕ) (turn : Turn) → 1 < j → j < length nodes → IsTreeBut (j / 2) nodes
-    → turn ≡ first_of (node nodes j) (node nodes (beside j)) → IsTreeBut (j / 2 / 2) (set nodes (j / 2) turn)
-goes_up nodes j turn some within but is =
-    let even = but.even in
-    let size : length (set nodes (j / 2) turn) ≡ length nodes = length-set nodes (j / 2) turn in
-    record {
-      even = rw size even;
-      first = λ k above lt ne.
-          let lt_old : k < length nodes / 2 = rw size at lt in
-          let left : node (set nodes (j / 2) turn) (2 * k) ≡ node nodes (2 * k) = get_or-set_other nodes (j / 2) (2 * k) turn _ (λ e. ne (omega (arith, e))) in
-          let right : node (set nodes (j / 2) turn) (2 * k + 1) ≡ node nodes (2 * k + 1) =
-          get_or-set_other nodes (j / 2) (2 * k + 1) turn _ (λ e. ne (omega (arith, e))) in
-          rw (left, right) (elim (cases_eq k (j / 2)) [
-            | inl here ↦ rw here (get_or-set_same nodes (j / 2) turn _ (omega arith) ∙ is ∙ of_both nodes j some)
-            | inr other ↦ get_or-set_other nodes (j / 2) k turn _ other ∙ but.first k above lt_old other
-          ]);
-    }

@@ -1,6 +1,6 @@
 -- When each of several sources releases next, and which of them releases first.
-use Rattle.std.specs.Prelude.{◌≡◌, ℕ, ◌+◌, ◌-◌, ◌*◌, ◌/◌, ◌≤◌, ◌<◌, ◌≢◌, Bool, ◌&&◌, ◌||◌, eqb, ltb}
-use Rattle.std.specs.Prelude.{if◌then◌else◌, List, [], length, slice_get, get_or, Option, Some, None}
+use Rattle.std.specs.Prelude.{◌≡◌, ℕ, ◌+◌, ◌*◌, ◌/◌, ◌≤◌, ◌<◌, ◌≢◌, Bool, ◌&&◌, ◌||◌, eqb, ltb, if◌then◌else◌}
+use Rattle.std.specs.Prelude.{List, [], length, slice_get, get_or, Option, Some, None}
 use Rattle.cbs_rules.specs.Rules.{clock_end}
 use Rattle.cbs_simulate.specs.declared.release.Release.{Release}
 use Rattle.cbs_simulate.specs.declared.turns.Turn.{Turn}
@@ -29,10 +29,6 @@ first_of a b = if is_before b a then b else a
 -- a node of a tree of turns
 abbrev pub node : List Turn → ℕ → Turn
 node nodes k = get_or nodes k (turn_of 0 None)
-
--- the other of nodes 2 k and 2 k + 1
-abbrev pub beside : ℕ → ℕ
-beside j = j / 2 * 4 + 1 - j
 
 -- a tree of turns has an even number of nodes, and the leaves are the second half of them. Nodes 2 k and 2 k + 1 lie below
 -- node k, which has the first of their turns. So node 1 has the first of all turns

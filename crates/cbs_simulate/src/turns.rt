@@ -1,7 +1,7 @@
 //! When each of several sources releases next, and which of them releases first.
 
 ghost use Rattle.std.specs.Prelude.{◌≡◌, ◌+◌, ◌*◌, ◌/◌, ◌^◌, ◌<◌, length, replicate, slice_get, None, IfOk};
-ghost use Rattle.cbs_simulate.specs.Turns.{turn_of, due_of, is_before, first_of, beside, IsTree, SetsLeaf};
+ghost use Rattle.cbs_simulate.specs.Turns.{turn_of, due_of, is_before, first_of, IsTree, SetsLeaf};
 
 use crate::release::Release;
 use std::alloc::{AllocError, Allocator, Global};
@@ -66,15 +66,6 @@ impl Turn {
     }
 }
 
-/// Returns the number of the other node below the same node.
-#[inline(always)]
-fn beside(node: usize) -> usize
-    requires { 1 < node }
-    ensures { result ≡ beside node }
-{
-    node - node % 2 * 2 + 1
-}
-
 /// The turns of several sources, in a tree that has the first of them at its root.
 ///
 /// The first is known at once, and to set one takes time that grows with the logarithm of the sources.
@@ -125,14 +116,12 @@ impl<A: Allocator> Turns<A> {
         ensures { SetsLeaf place (turn_of place next) self.old self.new }
     {
         let nodes = self.nodes.as_mut_slice();
-        let mut node = nodes.len() / 2 + place;
-        // The first turn so far is kept at hand: read back from the tree, it would wait for its own write.
-        let mut first = Turn::of(place, next);
-        nodes[node] = first;
-        while node > 1 {
-            first = first.or_earlier(nodes[beside(node)]);
+        let leaf = nodes.len() / 2 + place;
+        nodes[leaf] = Turn::of(place, next);
+        let mut node = leaf / 2;
+        while node > 0 {
+            nodes[node] = nodes[2 * node].or_earlier(nodes[2 * node + 1]);
             node /= 2;
-            nodes[node] = first;
         }
     }
 }
