@@ -1,11 +1,11 @@
 //! The events of a trace, as JSON objects.
 
-ghost use Rattle.std.specs.Prelude.{◌≡◌, false, IfOk, OnOk, string_bytes};
+ghost use Rattle.std.specs.Prelude.{◌≡◌, false, IfOk, OnOk, [], ◌∷◌, codes, string_bytes};
 ghost use Rattle.serde_json.specs.Data.{string, put as with_member};
 ghost use Rattle.serde_json.specs.View.{view, members_view};
 ghost use Rattle.serde_json.specs.Written.{compact_text, has_float};
 ghost use Rattle.cbs_chart.specs.Counts.{told};
-ghost use Rattle.cbs_trace.specs.Events.{about_data, budget_args, budget_data, came_args, finished_args, instant_data, job_args, named_args, no_args, on_thread, placed_args, slice_data, whole_if, with_place};
+ghost use Rattle.cbs_trace.specs.Events.{about_data, budget_args, budget_data, came_args, finished_args, instant_data, job_args, named_args, no_args, on_thread, placed_args, slice_data, whole, whole_if, with_members, with_place};
 
 use cbs_chart::ChartJob;
 use serde_json::{Map, Value, json, put};
@@ -28,6 +28,43 @@ fn whole_if(number: Option<u128>) -> Value
     }
 }
 
+/// Puts among members when a job came, and of how many units it is.
+fn put_work(
+    alloc: Global,
+    members: &mut Map<String, Value>,
+    job: &ChartJob,
+) -> Result<(), AllocError>
+    ensures { OnOk result (members_view members.new.entries ≡ with_members ((codes "arrival", whole job.now.came) ∷ (codes "units", whole job.now.units) ∷ []) (members_view members.old.entries)) }
+{
+    put(members, alloc, "arrival", Value::from(job.came))?;
+    put(members, alloc, "units", Value::from(job.units))
+}
+
+/// Puts a number among members, or null if there is no number.
+fn put_if(
+    alloc: Global,
+    members: &mut Map<String, Value>,
+    key: &str,
+    number: Option<u128>,
+) -> Result<(), AllocError>
+    ensures { OnOk result (members_view members.new.entries ≡ with_member key.now (whole_if number) (members_view members.old.entries)) }
+{
+    put(members, alloc, key, whole_if(number))
+}
+
+/// Puts among members within how many ticks a job is wanted, by when it was promised, and when it was finished.
+fn put_times(
+    alloc: Global,
+    members: &mut Map<String, Value>,
+    job: &ChartJob,
+) -> Result<(), AllocError>
+    ensures { OnOk result (members_view members.new.entries ≡ with_members ((codes "within", whole_if job.now.within) ∷ (codes "promised", whole_if job.now.promised) ∷ (codes "finish", whole_if job.now.finish) ∷ []) (members_view members.old.entries)) }
+{
+    put_if(alloc, members, "within", job.within.map(u128::from))?;
+    put_if(alloc, members, "promised", job.promised)?;
+    put_if(alloc, members, "finish", job.finish.map(u128::from))
+}
+
 /// Returns the arguments of a bar: the number of its job, and what is known of the job.
 #[tactic(auto, unfolding(crate::specs::Events::job_args))]
 pub(crate) fn job_args(
@@ -37,17 +74,14 @@ pub(crate) fn job_args(
 ) -> Result<Value, AllocError>
     ensures { IfOk result (λ v. view v ≡ job_args number job) }
 {
+    let mut members = Map::new(alloc);
+    put(&mut members, alloc, "job", Value::from(number))?;
     let Some(job) = job else {
-        return json!(in alloc; {"job": number});
+        return Ok(Value::Object(members));
     };
-    json!(in alloc; {
-        "job": number,
-        "arrival": job.came,
-        "units": job.units,
-        "within": whole_if(job.within.map(u128::from)),
-        "promised": whole_if(job.promised),
-        "finish": whole_if(job.finish.map(u128::from))
-    })
+    put_work(alloc, &mut members, &job)?;
+    put_times(alloc, &mut members, &job)?;
+    Ok(Value::Object(members))
 }
 
 /// Returns the arguments of the arrival of a job.
@@ -258,14 +292,12 @@ pub(crate) fn budget_text(
 fn about_value(alloc: Global, what: &str, thread: u64, args: Value) -> Result<Value, AllocError>
     ensures { IfOk result (λ v. view v ≡ about_data what.now thread (view args)) }
 {
-    json!(in alloc; {
-        "ph": "M",
-        "pid": 1u64,
-        "tid": thread,
-        "ts": 0u64,
-        "name": what,
-        "args": args
-    })
+    let mut members = Map::new(alloc);
+    put_text(alloc, &mut members, "ph", "M")?;
+    put_place(alloc, &mut members, thread, 0)?;
+    put_text(alloc, &mut members, "name", what)?;
+    put(&mut members, alloc, "args", args)?;
+    Ok(Value::Object(members))
 }
 
 /// Returns the event that describes a thread, such as by a name, as text.

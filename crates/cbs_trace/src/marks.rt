@@ -1,11 +1,15 @@
 //! The instants of a server: jobs that come, are finished or are refused, and its deadlines. Also its budget.
 
-ghost use Rattle.std.specs.Prelude.{◌≡◌, ◌<◌, ◌++◌, IfOk, OnOk, length};
+ghost use Rattle.std.specs.Prelude.{◌≡◌, ◌<◌, ◌++◌, false, IfOk, OnOk, codes, decimal, length};
+ghost use Rattle.serde_json.specs.View.{view};
+ghost use Rattle.serde_json.specs.Written.{has_float};
+ghost use Rattle.cbs_trace.specs.Events.{instant_data, line_of};
 ghost use Rattle.cbs_trace.specs.Servers.{arrival_in, arrival_line, arrivals_of, budget_before, budget_line, budgets_of, change_at, change_between, changes_of, deadline_line, deadlines_of, end_at, end_line, ends_of, late_by, refusals_in, refusals_of, refused_line};
 
 use crate::events::{budget_text, came_args, finished_args, instant_text, no_args};
 use crate::line::Line;
 use cbs_chart::{ChartJob, Corner, ServerChart, Stretch, Window};
+use serde_json::Value;
 use std::alloc::{AllocError, Global};
 
 /// Returns by how many ticks a job that took `took` ticks was late, or 0 if it was not.
@@ -16,6 +20,24 @@ fn late_by(within: Option<u64>, took: u64) -> u64
         Some(within) => took.saturating_sub(within),
         None => 0,
     }
+}
+
+/// Returns the line of the end of a job, by what is said of the end, and by its category.
+fn named_end(
+    alloc: Global,
+    thread: u64,
+    number: u64,
+    tick: u64,
+    how: &str,
+    cat: &str,
+    args: Value,
+) -> Result<Line, AllocError>
+    requires { has_float (view args) ≡ false }
+    ensures { IfOk result (λ line. line ≡ line_of tick (instant_data (codes "job " ++ decimal number ++ codes " finished" ++ how.now) cat.now thread tick (view args))) }
+{
+    let name = format!(in alloc; "job {number} finished{how}")?;
+    let text = instant_text(alloc, &name, cat, thread, tick, args)?;
+    Ok(Line::new(tick, text))
 }
 
 /// Returns the line of the end of a job that took `took` ticks and was late by `late` ticks.
@@ -32,14 +54,11 @@ fn end_line(
 {
     let number = job.number;
     let args = finished_args(alloc, took, late)?;
-    let text = if late == 0 {
-        let name = format!(in alloc; "job {number} finished")?;
-        instant_text(alloc, &name, "completion", thread, tick, args)?
+    if late == 0 {
+        named_end(alloc, thread, number, tick, "", "completion", args)
     } else {
-        let name = format!(in alloc; "job {number} finished, late")?;
-        instant_text(alloc, &name, "late", thread, tick, args)?
-    };
-    Ok(Line::new(tick, text))
+        named_end(alloc, thread, number, tick, ", late", "late", args)
+    }
 }
 
 /// Appends the end of a job, if the job was finished in the window.

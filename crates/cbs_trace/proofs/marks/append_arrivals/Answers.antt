@@ -1,0 +1,8 @@
+use Rattle.cbs_trace.specs.Servers.{arrival_in}
+use Rattle.cbs_trace.proofs.Growing.{piece_taken}
+use Rattle.cbs_trace.proofs.marks.append_arrivals.Goals as goal
+
+pub loop-job-preserved : goal.loop-job-preserved
+loop-job-preserved c =
+    piece_taken (arrival_in c.args.window c.args.thread) _ _ _ c.args.jobs.now c.loop-job.job-index _ c.loop-job-test.true c.in_ok-append_arrival.ensures
+    c.loop-job.invariant

@@ -1,0 +1,8 @@
+use Rattle.cbs_trace.specs.Servers.{refusals_in}
+use Rattle.cbs_trace.proofs.Growing.{piece_taken}
+use Rattle.cbs_trace.proofs.marks.append_refusals.Goals as goal
+
+pub loop-stretch-preserved : goal.loop-stretch-preserved
+loop-stretch-preserved c =
+    piece_taken (refusals_in c.args.thread) _ _ _ c.args.refused.now c.loop-stretch.stretch-index _ c.loop-stretch-test.true
+    c.in_ok-append_refusals_in.ensures c.loop-stretch.invariant

@@ -1,0 +1,9 @@
+use Rattle.cbs_chart.specs.declared.stretch.Stretch.{Stretch}
+use Rattle.cbs_trace.specs.Servers.{slice_of}
+use Rattle.cbs_trace.proofs.Growing.{piece_taken}
+use Rattle.cbs_trace.proofs.slices.append_slices.Goals as goal
+
+pub loop-span-preserved : goal.loop-span-preserved
+loop-span-preserved c =
+    piece_taken (λ (p : Stretch). slice_of c.args.thread c.args.chart.now.jobs.items p.kind p) _ _ _ _ c.loop-span.span-index _ c.loop-span-test.true
+    (rw c.deref.ensures.value at c.in_ok-append_slice.ensures) c.loop-span.invariant
