@@ -1,4 +1,4 @@
-use Rattle.std.proofs.Common.{rules}
+use Rattle.std.proofs.Common.{◌∙◌, refl, sym, arith, rules}
 use Rattle.cbs_steps.specs.Continuations.{MayDrain}
 use Rattle.cbs_clients.proofs.Moves.{by_nothing, by_both, by_none, serves_drain, serves_on_time}
 use Rattle.cbs_clients.proofs.HouseInvariant.{none_held}
@@ -49,3 +49,29 @@ returns-clause-on_time g c = λ never.
     let a = c.args.self.now in
     let b = c.loop-self.self in
     serves_on_time work may a b never a.housed.history (serves_drain work may a b 0 c.loop-self.invariant)
+
+pub returns-then-now-eq-LIMIT-clause-moves : goal.returns-then-now-eq-LIMIT-clause-moves
+returns-then-now-eq-LIMIT-clause-moves g c = c.loop-self.invariant
+
+pub returns-then-now-eq-LIMIT-clause-end : goal.returns-then-now-eq-LIMIT-clause-end
+returns-then-now-eq-LIMIT-clause-end g c = (refl, (sym c.now.ensures.clock ∙ c.if-now-eq-LIMIT.true, c.is_busy.ensures.some c.loop-self-test.true))
+
+pub returns-clause-moves : goal.returns-clause-moves
+returns-clause-moves g c = c.loop-self.invariant
+
+pub returns-clause-ok : goal.returns-clause-ok
+returns-clause-ok g c = c.is_busy.ensures.none c.loop-self-test.false
+
+pub go_on-requires-clause-busy : goal.go_on-requires-clause-busy
+go_on-requires-clause-busy g c = c.is_busy.ensures.some c.loop-self-test.true
+
+pub go_on-requires-clause-early : goal.go_on-requires-clause-early
+go_on-requires-clause-early g c =
+    let clock = c.now.ensures.clock in let most = c.now.ensures.most in omega (arith, clock, most, c.if-now-eq-LIMIT.false)
+
+pub loop-self-smaller : goal.loop-self-smaller
+loop-self-smaller g c =
+    let clock = c.now.ensures.clock in
+    let most = c.now.ensures.most in
+    let later = c.go_on.ensures.later in
+    omega (arith, clock, most, later, c.if-now-eq-LIMIT.false)

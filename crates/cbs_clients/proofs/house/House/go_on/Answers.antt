@@ -69,3 +69,23 @@ returns-in-Some-clause-later g c =
     later_by work old.core c.advance.new.self.core (Advance c.in-Some.span) old.housed.history made.steps
     (λ M agrees. advance_later work M.setup.backlog (world_after work M) c.in-Some.span (c.in-Some.ensures M agrees)
     (rw agrees.world.clock at c.requires.early))
+
+pub returns-in-None-clause-rings : goal.returns-in-None-clause-rings
+returns-in-None-clause-rings g c = c.run_metered.ensures.made.rings
+
+pub returns-in-None-clause-collects : goal.returns-in-None-clause-collects
+returns-in-None-clause-collects g c = c.run_metered.ensures.collects
+
+pub returns-in-None-clause-job : goal.returns-in-None-clause-job
+returns-in-None-clause-job g c = c.run_metered.ensures.job
+
+pub returns-in-Some-clause-rings : goal.returns-in-Some-clause-rings
+returns-in-Some-clause-rings g c = c.advance.ensures.rings
+
+pub returns-in-Some-clause-collects : goal.returns-in-Some-clause-collects
+returns-in-Some-clause-collects g c = c.advance.ensures.results
+
+pub unwrap-requires : goal.unwrap-requires
+unwrap-requires g c =
+    span_granted g.W.Work.meaning c.args.self.now.core c.advance.result c.in-Some.span c.args.self.now.housed.history c.requires.early c.advance.ensures.end
+    c.in-Some.ensures

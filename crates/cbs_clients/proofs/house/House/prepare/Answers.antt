@@ -1,5 +1,5 @@
-use Rattle.std.proofs.Common.{◌<◌, length, refl, inl, arith, rules}
-use Rattle.cbs_clients.proofs.HouseInvariant.{same_shelf}
+use Rattle.std.proofs.Common.{◌<◌, [], length, refl, inl, arith, rules}
+use Rattle.cbs_clients.proofs.HouseInvariant.{housed_all, same_shelf}
 use Rattle.cbs_clients.proofs.MadeSteps.{made_room}
 use Rattle.cbs_clients.specs.Houses.{core_of}
 use Rattle.cbs_clients.proofs.RingLooks.{no_look, seen_within}
@@ -48,3 +48,50 @@ returns-in-Err-reserve-clause-some g c =
 pub returns-in-Ok-reserve-clause-made : goal.returns-in-Ok-reserve-clause-made
 returns-in-Ok-reserve-clause-made g c =
     made_room g.W.Work.meaning _ _ (no_look c.args.self.now.rings) c.make_room.ensures.state c.reserve.ensures.same.0
+
+pub returns-in-Err-Closed-clause-core : goal.returns-in-Err-Closed-clause-core
+returns-in-Err-Closed-clause-core g c = c.make_room.ensures.same
+
+pub returns-in-Err-Closed-clause-results : goal.returns-in-Err-Closed-clause-results
+returns-in-Err-Closed-clause-results g c = λ s. refl
+
+pub returns-in-Err-BacklogFull-clause-core : goal.returns-in-Err-BacklogFull-clause-core
+returns-in-Err-BacklogFull-clause-core g c = c.make_room.ensures.same
+
+pub returns-in-Err-BacklogFull-clause-results : goal.returns-in-Err-BacklogFull-clause-results
+returns-in-Err-BacklogFull-clause-results g c = λ s. refl
+
+pub returns-in-Err-reserve-clause-core : goal.returns-in-Err-reserve-clause-core
+returns-in-Err-reserve-clause-core g c = c.make_room.ensures.same
+
+pub returns-in-Err-reserve-clause-results : goal.returns-in-Err-reserve-clause-results
+returns-in-Err-reserve-clause-results g c = λ s. (c.reserve.ensures.same.0 s).results
+
+pub returns-in-Ok-reserve-clause-core : goal.returns-in-Ok-reserve-clause-core
+returns-in-Ok-reserve-clause-core g c = c.make_room.ensures.same
+
+pub returns-in-Ok-reserve-clause-results : goal.returns-in-Ok-reserve-clause-results
+returns-in-Ok-reserve-clause-results g c = λ s. (c.reserve.ensures.same.0 s).results
+
+pub returns-in-Ok-reserve-clause-none : goal.returns-in-Ok-reserve-clause-none
+returns-in-Ok-reserve-clause-none g c = record { room = c.in-Ok.ensures.room; spare = c.in-Ok-reserve.ensures.room; next = c.requires }
+
+pub invariant_of-self : goal.invariant_of-self
+invariant_of-self g c =
+    let a = c.args.self.now in
+    let same = c.make_room.ensures.same in
+    record {
+      housed = housed_all g.W.Work.meaning a.core c.make_room.new.self a.rings a.rings a.collector a.collector a.housed refl refl (rw same refl) []
+          c.make_room.ensures.state (λ s. rw same (record { jobs = refl; accepted = refl; finished = refl; closed = refl })) (λ s. refl)
+          (λ s. same_shelf _);
+    }
+
+pub invariant_of-self-2 : goal.invariant_of-self-2
+invariant_of-self-2 g c =
+    let a = c.args.self.now in
+    let same = c.make_room.ensures.same in
+    record {
+      housed = housed_all g.W.Work.meaning a.core c.make_room.new.self a.rings a.rings a.collector c.reserve.new.self a.housed refl
+          c.reserve.ensures.same.1 (rw same refl) [] c.make_room.ensures.state
+          (λ s. rw same (record { jobs = refl; accepted = refl; finished = refl; closed = refl })) (λ s. refl) c.reserve.ensures.same.0;
+    }

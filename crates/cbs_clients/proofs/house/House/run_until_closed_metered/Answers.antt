@@ -3,6 +3,7 @@ use Rattle.std.specs.Prelude.{IfErr}
 use Rattle.std.proofs.lemmas.Bool.{false≢true}
 use Rattle.cbs_clients.specs.Houses.{core_of}
 use Rattle.cbs_clients.specs.UntilClosed.{moves_on, turn_stop, IsDue, RunStops}
+use Rattle.cbs_clients.proofs.HouseInvariant.{none_held}
 use Rattle.cbs_clients.proofs.Moves.{serves_on_time}
 use Rattle.cbs_clients.proofs.Runs.{run_none, run_then, result_behind, run_begins, run_goes_on, run_stopped, less_left, left_of, fewer_turns}
 use Rattle.cbs_clients.proofs.house.House.run_until_closed_metered.Goals as goal
@@ -115,3 +116,43 @@ turns-preserved g c =
       unclosed = c.in_ok-move_on.ensures.unclosed;
       few = c.in_ok-move_on.ensures.few.1;
     }
+
+pub returns-then-idle-most-clause-steps : goal.returns-then-idle-most-clause-steps
+returns-then-idle-most-clause-steps g c = c.turns.invariant.run.steps
+
+pub returns-then-idle-most-clause-told : goal.returns-then-idle-most-clause-told
+returns-then-idle-most-clause-told g c = c.turns.invariant.run.told
+
+pub returns-then-idle-most-clause-rings : goal.returns-then-idle-most-clause-rings
+returns-then-idle-most-clause-rings g c = c.turns.invariant.run.steps.moves.1.made.rings
+
+pub returns-then-idle-most-clause-ends : goal.returns-then-idle-most-clause-ends
+returns-then-idle-most-clause-ends g c =
+    let most = c.max-most.ensures in
+    (rw (← most) (rw c.if-idle-most.true at c.turns.invariant.on), λ over. false≢true (sym c.turns-test.true ∙ c.is_over_with.ensures.over.1 over))
+
+pub returns-then-idle-most-clause-stops : goal.returns-then-idle-most-clause-stops
+returns-then-idle-most-clause-stops g c =
+    let most = c.max-most.ensures in
+    c.is_over_with.ensures.waits c.turns-test.true (c.turns.invariant.idle (omega (arith, most, c.if-idle-most.true)))
+
+pub returns-clause-steps : goal.returns-clause-steps
+returns-clause-steps g c = c.turns.invariant.run.steps
+
+pub returns-clause-told : goal.returns-clause-told
+returns-clause-told g c = c.turns.invariant.run.told
+
+pub returns-clause-rings : goal.returns-clause-rings
+returns-clause-rings g c = c.turns.invariant.run.steps.moves.1.made.rings
+
+pub returns-clause-ends : goal.returns-clause-ends
+returns-clause-ends g c =
+    let most = c.max-most.ensures in ((c.turns.idle, rw (← most) c.turns.invariant.on), c.is_over_with.ensures.over.0 c.turns-test.false)
+
+pub returns-clause-finished : goal.returns-clause-finished
+returns-clause-finished g c =
+    none_held g.W.Work.meaning c.turns.self c.turns.self.housed (c.is_over_with.ensures.over.0 c.turns-test.false).drained
+
+pub returns-in_err-move_on-clause-rings : goal.returns-in_err-move_on-clause-rings
+returns-in_err-move_on-clause-rings g c =
+    (returns-in_err-move_on-clause-steps g c).moves.1.made.rings

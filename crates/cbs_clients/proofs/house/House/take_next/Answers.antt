@@ -62,3 +62,12 @@ returns-in-End-clause-polled g c =
           c.close_open.ensures.makes.state c.close_open.ensures.makes.on_time,
       accepts,
     )
+
+pub returns-in-Job-clause-rings : goal.returns-in-Job-clause-rings
+returns-in-Job-clause-rings g c = c.in-Job.ensures.rings
+
+pub returns-in-End-clause-rings : goal.returns-in-End-clause-rings
+returns-in-End-clause-rings g c = c.in-End.ensures.rings
+
+pub returns-in-End-clause-results : goal.returns-in-End-clause-results
+returns-in-End-clause-results g c = λ s. refl
