@@ -1,4 +1,6 @@
-use Rattle.cbs_trace.specs.Servers.{arrival_in}
+use Rattle.std.proofs.Common.{arith}
+use Rattle.std.proofs.lemmas.Grind.{common_steps}
+use Rattle.cbs_trace.specs.Servers.{arrival_in, arrivals_of}
 use Rattle.cbs_trace.proofs.Growing.{piece_taken}
 use Rattle.cbs_trace.proofs.marks.append_arrivals.Goals as goal
 
@@ -6,3 +8,7 @@ pub loop-job-preserved : goal.loop-job-preserved
 loop-job-preserved c =
     piece_taken (arrival_in c.args.window c.args.thread) _ _ _ c.args.jobs.now c.loop-job.job-index _ c.loop-job-test.true c.in_ok-append_arrival.ensures
     c.loop-job.invariant
+
+pub returns : goal.returns
+unfolding arrivals_of
+returns c = grind (arith, common_steps)

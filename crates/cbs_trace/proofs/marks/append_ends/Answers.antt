@@ -1,5 +1,7 @@
+use Rattle.std.proofs.Common.{arith}
+use Rattle.std.proofs.lemmas.Grind.{common_steps}
 use Rattle.cbs_chart.specs.declared.jobs.ChartJob.{ChartJob}
-use Rattle.cbs_trace.specs.Servers.{end_at}
+use Rattle.cbs_trace.specs.Servers.{end_at, ends_of}
 use Rattle.cbs_trace.proofs.Growing.{piece_taken}
 use Rattle.cbs_trace.proofs.marks.append_ends.Goals as goal
 
@@ -7,3 +9,7 @@ pub loop-job-preserved : goal.loop-job-preserved
 loop-job-preserved c =
     piece_taken (λ (job : ChartJob). end_at c.args.window c.args.thread job job.finish) _ _ _ c.args.jobs.now c.loop-job.job-index _ c.loop-job-test.true
     c.in_ok-append_end.ensures c.loop-job.invariant
+
+pub returns : goal.returns
+unfolding ends_of
+returns c = grind (arith, common_steps)

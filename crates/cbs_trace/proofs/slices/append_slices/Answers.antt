@@ -1,5 +1,7 @@
+use Rattle.std.proofs.Common.{arith}
+use Rattle.std.proofs.lemmas.Grind.{common_steps}
 use Rattle.cbs_chart.specs.declared.stretch.Stretch.{Stretch}
-use Rattle.cbs_trace.specs.Servers.{slice_of}
+use Rattle.cbs_trace.specs.Servers.{slice_of, slices_of}
 use Rattle.cbs_trace.proofs.Growing.{piece_taken}
 use Rattle.cbs_trace.proofs.slices.append_slices.Goals as goal
 
@@ -7,3 +9,7 @@ pub loop-span-preserved : goal.loop-span-preserved
 loop-span-preserved c =
     piece_taken (λ (p : Stretch). slice_of c.args.thread c.args.chart.now.jobs.items p.kind p) _ _ _ _ c.loop-span.span-index _ c.loop-span-test.true
     (rw c.deref.ensures.value at c.in_ok-append_slice.ensures) c.loop-span.invariant
+
+pub returns : goal.returns
+unfolding slices_of
+returns c = grind (arith, common_steps)
