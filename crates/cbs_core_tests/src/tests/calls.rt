@@ -9,7 +9,7 @@ use linked_list_allocator::LocalHeap;
 use std::alloc::Global;
 use std::process::Abort;
 
-const CASES: [Case; 3] = [
+static CASES: [Case; 3] = [
     Case {
         name: "a refused job comes back",
         servers: &[(Mode::Soft, 2, 5)],
@@ -72,7 +72,7 @@ const CLOSED: ServerView = ServerView {
 };
 
 /// Each call but a run, on a server that has room for a job.
-const WITH_ROOM: [Row; 11] = [
+static WITH_ROOM: [Row; 11] = [
     Row::MakeRoom(1, Err(CoreError::NoSuchServer)),
     Row::Ready(None),
     Row::Submit(0, &[4], 0),
@@ -99,7 +99,7 @@ fn each_call_on_a_core_with_one_server(rt: HostRuntime) {
 }
 
 /// Backlogs, and why a core with such a backlog is refused, if it is.
-const BACKLOGS: [(u64, Option<CoreError>); 4] = [
+static BACKLOGS: [(u64, Option<CoreError>); 4] = [
     (0, Some(CoreError::BadBacklog)),
     (1, None),
     (4096, None),

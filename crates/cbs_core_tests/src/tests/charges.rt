@@ -5,7 +5,7 @@ use super::rows::{Case, Row, plays, plays_all};
 use cbs_core::{CoreError, Ran};
 use cbs_rules::Mode;
 
-const PAID: [Case; 6] = [
+static PAID: [Case; 6] = [
     Case {
         name: "a charge below the budget is taken from it",
         servers: &[(Mode::Soft, 4, 9), (Mode::Throttled, 4, 9)],
@@ -151,7 +151,7 @@ fn a_server_pays_for_its_charges(rt: HostRuntime) {
     plays_all(&rt, rt.alloc(), &PAID);
 }
 
-const PARTS: [Case; 4] = [
+static PARTS: [Case; 4] = [
     Case {
         name: "two charges of a soft server are one of both",
         servers: &[(Mode::Soft, 2, 5)],
@@ -244,7 +244,7 @@ fn a_unit_is_charged_in_parts(rt: HostRuntime) {
     plays_all(&rt, rt.alloc(), &PARTS);
 }
 
-const CHOSEN: [Case; 4] = [
+static CHOSEN: [Case; 4] = [
     Case {
         name: "who runs next is chosen by the deadlines that charges leave",
         servers: &[(Mode::Soft, 2, 5), (Mode::Throttled, 2, 5)],
@@ -346,7 +346,7 @@ const CHOSEN: [Case; 4] = [
 ];
 
 /// A job of one unit that is done at tick 3 beside a busy server.
-const DONE_AT_3: [Row; 6] = [
+static DONE_AT_3: [Row; 6] = [
     Row::Submit(0, &[1, 1, 1, 1], 0),
     Row::Submit(1, &[1], 0),
     Row::Unit(0),
@@ -356,7 +356,7 @@ const DONE_AT_3: [Row; 6] = [
 ];
 
 /// The unit is charged before the server's next job comes: 2 * 4 is as much as (8 - 4) * 2.
-const CHARGED_BEFORE: [Row; 4] = [
+static CHARGED_BEFORE: [Row; 4] = [
     Row::Charge(1, 1, Ok(())),
     Row::State(1, 2, 8, false),
     Row::Submit(1, &[1, 1], 1),
@@ -364,7 +364,7 @@ const CHARGED_BEFORE: [Row; 4] = [
 ];
 
 /// The unit is charged after the next job has come, which renews the server: 1 * 4 is more than (4 - 3) * 2.
-const CHARGED_AFTER: [Row; 4] = [
+static CHARGED_AFTER: [Row; 4] = [
     Row::Submit(1, &[1, 1], 1),
     Row::State(1, 2, 7, false),
     Row::Charge(1, 1, Ok(())),
@@ -372,7 +372,7 @@ const CHARGED_AFTER: [Row; 4] = [
 ];
 
 /// The most charged for one unit is the same both ways.
-const CHARGED_ONCE: [Row; 2] = [Row::Charges(1, Ok((1, 1))), Row::Now(4)];
+static CHARGED_ONCE: [Row; 2] = [Row::Charges(1, Ok((1, 1))), Row::Now(4)];
 
 #[test]
 fn a_late_charge_is_paid_from_the_renewed_budget(rt: HostRuntime) {
@@ -393,7 +393,7 @@ fn charges_change_who_runs_and_when(rt: HostRuntime) {
     plays_all(&rt, rt.alloc(), &CHOSEN);
 }
 
-const REFUSED: [Case; 3] = [
+static REFUSED: [Case; 3] = [
     Case {
         name: "where nobody ran",
         servers: &[(Mode::Soft, 2, 5), (Mode::Throttled, 2, 5)],

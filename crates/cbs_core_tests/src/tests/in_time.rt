@@ -31,7 +31,7 @@ fn plays_in_time(rt: &impl Abort, alloc: Global, case: &Case) {
     }
 }
 
-const CASES: [Case; 4] = [
+static CASES: [Case; 4] = [
     Case {
         name: "two soft servers take every tick",
         servers: &[(Mode::Soft, 2, 5), (Mode::Soft, 3, 5)],
@@ -112,7 +112,7 @@ fn nobody_is_late(rt: HostRuntime) {
 }
 
 /// The deadline of a server with a job passes without a unit.
-const NOT_QUIET: [Row; 3] = [
+static NOT_QUIET: [Row; 3] = [
     Row::Submit(0, &[1, 1], 0),
     Row::Advance(20, Ok(())),
     Row::State(0, 1, 10, false),

@@ -9,13 +9,12 @@ use std::process::Abort;
 fn answers<W: Work>(rt: &impl Abort, work: W, units: u32, refusal: Option<TaskError>) {
     match Task::new(work) {
         Ok(task) => {
-            same(rt, "task", (units, None), (units, refusal));
-            same(rt, "left of the task", task.left(), units);
+            same(rt, "task", (task.left(), None), (units, refusal));
             same(rt, "left once started", task.start().left(), units);
         }
         Err(refused) => {
-            same(rt, "task", (units, Some(refused.error)), (units, refusal));
-            same(rt, "left once refused", refused.work.left(), units);
+            let seen = (refused.work.left(), Some(refused.error));
+            same(rt, "left once refused", seen, (units, refusal));
         }
     }
 }
@@ -32,16 +31,19 @@ fn peak(rt: &impl Abort, alloc: Global, numbers: &[u32]) -> PeakJob {
     PeakJob::new(Vec::from_slice(alloc, numbers).expect(rt, "memory"))
 }
 
+/// Numbers of units, and why a task of so many is refused, if it is.
+static UNITS: [(usize, Option<TaskError>); 4] = [
+    (0, Some(TaskError::EmptyJob)),
+    (1, None),
+    (1_000_000, None),
+    (1_000_001, Some(TaskError::TooLong)),
+];
+
 #[test]
 fn takes_one_to_a_million_units(rt: HostRuntime) {
     let alloc = rt.alloc();
     let numbers = vec![in alloc; 7; 1_000_001].expect(&rt, "memory");
-    for &(units, refusal) in &[
-        (0, Some(TaskError::EmptyJob)),
-        (1, None),
-        (1_000_000, None),
-        (1_000_001, Some(TaskError::TooLong)),
-    ] {
+    for &(units, refusal) in &UNITS {
         assert!(rt; units <= numbers.len());
         all_answer(&rt, alloc, &numbers[..units], units as u32, refusal);
     }
@@ -70,9 +72,9 @@ fn comes_to<W: Work>(rt: &impl Abort, work: W, outputs: &[u64]) {
     let mut running = task.start();
     let mut units = outputs.len();
     for &output in outputs {
-        same(rt, "output", (units, running.output()), (units, output));
         units = units.saturating_sub(1);
-        same(rt, "left", running.left() as usize, units);
+        let seen = (running.output(), running.left() as usize);
+        same(rt, "output, left", seen, (output, units));
         if running.left() > 0 {
             running.step();
         }
@@ -81,7 +83,7 @@ fn comes_to<W: Work>(rt: &impl Abort, work: W, outputs: &[u64]) {
 }
 
 /// Numbers, and the outputs of a sum and of a peak of them before each unit and at the end.
-const OUTPUTS: [(&[u32], &[u64], &[u64]); 3] = [
+static OUTPUTS: [(&[u32], &[u64], &[u64]); 3] = [
     (&[4, 9, 2], &[0, 4, 13, 15], &[0, 4, 9, 9]),
     (
         &[4_294_967_295, 4_294_967_295],
@@ -106,22 +108,26 @@ fn each_unit_takes_a_number_in(rt: HostRuntime) {
     }
 }
 
-/// Checks the number and the name of an error.
-fn is_named(rt: &impl Abort, error: TaskError, number: u8, name: &str) {
-    same(rt, name, (error.number(), error.name()), (number, name));
-}
-
-#[test]
-fn errors_have_numbers_and_names(rt: HostRuntime) {
-    is_named(&rt, TaskError::EmptyJob, 1, "EmptyJob");
-    is_named(&rt, TaskError::TooLong, 2, "TooLong");
-}
+/// The number, the name and the text of each error.
+static ERRORS: [(TaskError, u8, &str, &str); 2] = [
+    (
+        TaskError::EmptyJob,
+        1,
+        "EmptyJob",
+        "the job is empty: a job has at least 1 unit",
+    ),
+    (
+        TaskError::TooLong,
+        2,
+        "TooLong",
+        "the job is too long: a job has at most 1000000 units",
+    ),
+];
 
 #[test]
 fn errors_say_what_is_wrong(rt: HostRuntime) {
-    let alloc = rt.alloc();
-    let text = "the job is empty: a job has at least 1 unit";
-    says(&rt, alloc, &TaskError::EmptyJob, text);
-    let text = "the job is too long: a job has at most 1000000 units";
-    says(&rt, alloc, &TaskError::TooLong, text);
+    for &(error, number, name, text) in &ERRORS {
+        same(&rt, name, (error.number(), error.name()), (number, name));
+        says(&rt, rt.alloc(), &error, text);
+    }
 }

@@ -52,7 +52,7 @@ fn jobs_of_any_kind_run_in_any_memory(rt: HostRuntime) {
 }
 
 /// What a core of two servers does without memory, with room for one job.
-const WITHOUT_MEMORY: [Row; 15] = [
+static WITHOUT_MEMORY: [Row; 15] = [
     Row::Close(0, Ok(())),
     Row::Run(Ran::Idle),
     Row::Submit(1, &[1, 2, 3], 0),
@@ -72,7 +72,7 @@ const WITHOUT_MEMORY: [Row; 15] = [
 ];
 
 /// A refusal of room for lack of memory.
-const REFUSED: [Row; 1] = [Row::MakeRoom(1, Err(CoreError::OutOfMemory))];
+static REFUSED: [Row; 1] = [Row::MakeRoom(1, Err(CoreError::OutOfMemory))];
 
 #[test]
 fn room_is_enough_for_the_next_job(rt: HostRuntime) {

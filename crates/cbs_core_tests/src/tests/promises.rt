@@ -3,7 +3,7 @@
 use super::rows::{Case, Row, plays_all};
 use cbs_rules::Mode;
 
-const CASES: [Case; 5] = [
+static CASES: [Case; 5] = [
     Case {
         name: "nothing is promised where nothing is owed",
         servers: &[(Mode::Soft, 2, 5)],

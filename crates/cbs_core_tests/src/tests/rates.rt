@@ -9,51 +9,86 @@ fn reserved(rt: &impl Abort, budget: u64, period: u64) -> Reservation {
     Reservation::new(budget, period).expect(rt, "a reservation")
 }
 
-/// Admits each of `asked`, a budget and a period, in turn to a new plan, and checks the result.
-fn admits(
-    rt: &impl Abort,
+/// Reservations that are asked for in turn in a new plan, each a budget, a period and the answer.
+#[derive(Clone, Copy)]
+struct Admission {
     bound: (u64, u64),
-    asked: &[(u64, u64, Result<u16, AdmitError>)],
+    asked: &'static [(u64, u64, Result<u16, AdmitError>)],
+    /// How many are admitted.
     len: usize,
+}
+
+static ADMISSIONS: [Admission; 4] = [
+    Admission {
+        bound: (1, 1),
+        // the least common multiple of the first two periods is 999999997000000002
+        asked: &[
+            (1, 999_999_999, Ok(0)),
+            (1, 999_999_998, Ok(1)),
+            (1, 999_999_997, Err(AdmitError::PeriodsTooFine)),
+        ],
+        len: 2,
+    },
+    Admission {
+        bound: (1, 1),
+        asked: &[
+            (1, 3, Ok(0)),
+            (1, 3, Ok(1)),
+            (1, 3, Ok(2)),
+            (1, 1_000_000_000, Err(AdmitError::OverBound)),
+        ],
+        len: 3,
+    },
+    Admission {
+        bound: (1, 3),
+        asked: &[(333_333_333, 1_000_000_000, Ok(0))],
+        len: 1,
+    },
+    Admission {
+        bound: (1, 3),
+        asked: &[
+            (333_333_334, 1_000_000_000, Err(AdmitError::OverBound)),
+            (1, 3, Ok(0)),
+            (1, 1_000_000_000, Err(AdmitError::OverBound)),
+        ],
+        len: 1,
+    },
+];
+
+/// Asks a plan for a reservation, and checks the answer.
+fn asks(
+    rt: &impl Abort,
+    plan: &mut Plan,
+    (budget, period): (u64, u64),
+    answer: Result<u16, AdmitError>,
 ) {
-    let mut plan = Plan::new(Bound::new(bound.0, bound.1).expect(rt, "a bound"));
-    assert!(rt; plan.is_empty());
-    for &(budget, period, answer) in asked {
-        let reservation = reserved(rt, budget, period);
-        let admitted = (budget, period, plan.admit(reservation));
-        same(rt, "admit", admitted, (budget, period, answer));
-        if let Ok(server) = answer {
-            same(rt, "get", plan.get(server), Some(reservation));
-        }
+    let reservation = reserved(rt, budget, period);
+    let admitted = (budget, period, plan.admit(reservation));
+    same(rt, "admit", admitted, (budget, period, answer));
+    if let Ok(server) = answer {
+        same(rt, "get", plan.get(server), Some(reservation));
     }
-    same(rt, "len", plan.len(), len);
-    same(rt, "is_empty", plan.is_empty(), len == 0);
+}
+
+/// Asks a new plan for the reservations of an admission, and checks each answer and the plan behind them.
+fn admits(rt: &impl Abort, admission: &Admission) {
+    let (num, den) = admission.bound;
+    let mut plan = Plan::new(Bound::new(num, den).expect(rt, "a bound"));
+    assert!(rt; plan.is_empty());
+    for &(budget, period, answer) in admission.asked {
+        asks(rt, &mut plan, (budget, period), answer);
+    }
+    let len = admission.len;
+    let held = (plan.len(), plan.is_empty());
+    same(rt, "len, is_empty", held, (len, len == 0));
     same(rt, "get beyond the servers", plan.get(64), None);
 }
 
 #[test]
 fn admits_exactly_up_to_the_limits(rt: HostRuntime) {
-    // the least common multiple of the first two periods is 999999997000000002
-    let fine = [
-        (1, 999_999_999, Ok(0)),
-        (1, 999_999_998, Ok(1)),
-        (1, 999_999_997, Err(AdmitError::PeriodsTooFine)),
-    ];
-    admits(&rt, (1, 1), &fine, 2);
-    let thirds = [
-        (1, 3, Ok(0)),
-        (1, 3, Ok(1)),
-        (1, 3, Ok(2)),
-        (1, 1_000_000_000, Err(AdmitError::OverBound)),
-    ];
-    admits(&rt, (1, 1), &thirds, 3);
-    admits(&rt, (1, 3), &[(333_333_333, 1_000_000_000, Ok(0))], 1);
-    let third = [
-        (333_333_334, 1_000_000_000, Err(AdmitError::OverBound)),
-        (1, 3, Ok(0)),
-        (1, 1_000_000_000, Err(AdmitError::OverBound)),
-    ];
-    admits(&rt, (1, 3), &third, 1);
+    for admission in &ADMISSIONS {
+        admits(&rt, admission);
+    }
 }
 
 #[test]
@@ -68,34 +103,53 @@ fn refuses_the_sixty_fifth_server(rt: HostRuntime) {
     same(&rt, "len", plan.len(), 64);
 }
 
-/// Checks for each period the greatest budget that a plan of these servers, each a budget and a period, still admits.
-fn leaves(rt: &impl Abort, servers: &[(u64, u64)], rows: &[(u64, u64)]) {
+/// Servers, each a budget and a period, and for each further period the greatest budget that a plan of them still
+/// admits.
+static LEFT: [(&[(u64, u64)], &[(u64, u64)]); 4] = [
+    (&[], &[(0, 0), (1, 0), (10, 9), (1_000_000_001, 0)]),
+    // half of the processor is reserved, and two fifths are left
+    (
+        &[(1, 5), (6, 20)],
+        &[
+            (2, 0),
+            (5, 2),
+            (7, 2),
+            (10, 4),
+            (1_000_000_000, 400_000_000),
+        ],
+    ),
+    // the common multiple would be too great
+    (
+        &[(1, 999_999_999), (1, 999_999_998)],
+        &[(999_999_997, 0), (999_999_998, 899_999_996)],
+    ),
+    (&[(1, 1000); 64], &[(1000, 0)]),
+];
+
+/// Returns a plan of these servers on nine tenths of a processor.
+fn nine_tenths(rt: &impl Abort, servers: &[(u64, u64)]) -> Plan {
     let mut plan = Plan::new(Bound::new(9, 10).expect(rt, "a bound"));
     for &(budget, period) in servers {
-        assert!(rt; plan.admit(reserved(rt, budget, period)).is_ok());
+        let admitted = plan.admit(reserved(rt, budget, period));
+        same(rt, "admitted", admitted.is_ok(), true);
     }
-    for &(period, budget) in rows {
-        let left = (period, plan.greatest_budget(period));
-        same(rt, "greatest budget", left, (period, budget));
-    }
+    plan
 }
 
 #[test]
 fn tells_the_greatest_budget(rt: HostRuntime) {
-    leaves(&rt, &[], &[(0, 0), (1, 0), (10, 9), (1_000_000_001, 0)]);
-    // half of the processor is reserved, and two fifths are left
-    let rows = [
-        (2, 0),
-        (5, 2),
-        (7, 2),
-        (10, 4),
-        (1_000_000_000, 400_000_000),
-    ];
-    leaves(&rt, &[(1, 5), (6, 20)], &rows);
-    // the common multiple would be too great
-    let fine = [(1, 999_999_999), (1, 999_999_998)];
-    leaves(&rt, &fine, &[(999_999_997, 0), (999_999_998, 899_999_996)]);
-    leaves(&rt, &[(1, 1000); 64], &[(1000, 0)]);
+    for &(servers, rows) in &LEFT {
+        leaves(&rt, servers, rows);
+    }
+}
+
+/// Checks for each period the greatest budget that a plan of these servers still admits.
+fn leaves(rt: &impl Abort, servers: &[(u64, u64)], rows: &[(u64, u64)]) {
+    let plan = nine_tenths(rt, servers);
+    for &(period, budget) in rows {
+        let left = (period, plan.greatest_budget(period));
+        same(rt, "greatest budget", left, (period, budget));
+    }
 }
 
 /// Checks that a reservation of `budget` in every `period` is refused by this error.
@@ -134,49 +188,68 @@ fn compares_bandwidths_exactly(rt: HostRuntime) {
     assert!(rt; third.at_most(&third));
 }
 
-/// Checks the number and the name of an error.
-fn is_named(rt: &impl Abort, error: RateError, number: u8, name: &str) {
-    same(rt, name, (error.number(), error.name()), (number, name));
-}
-
-/// Checks the number and the name of an error of an admission.
-fn refusal_is_named(rt: &impl Abort, error: AdmitError, number: u8, name: &str) {
-    same(rt, name, (error.number(), error.name()), (number, name));
-}
-
-#[test]
-fn errors_have_numbers_and_names(rt: HostRuntime) {
-    is_named(&rt, RateError::ZeroBudget, 1, "ZeroBudget");
-    is_named(&rt, RateError::PeriodTooLong, 2, "PeriodTooLong");
-    is_named(&rt, RateError::BudgetOverPeriod, 3, "BudgetOverPeriod");
-    is_named(&rt, RateError::BadBound, 4, "BadBound");
-    refusal_is_named(&rt, AdmitError::TooManyServers, 1, "TooManyServers");
-    refusal_is_named(&rt, AdmitError::PeriodsTooFine, 2, "PeriodsTooFine");
-    refusal_is_named(&rt, AdmitError::OverBound, 3, "OverBound");
-}
+/// The number, the name and the text of each error.
+static ERRORS: [(RateError, u8, &str, &str); 4] = [
+    (
+        RateError::ZeroBudget,
+        1,
+        "ZeroBudget",
+        "the budget is 0: a reservation needs a budget of at least 1 tick",
+    ),
+    (
+        RateError::PeriodTooLong,
+        2,
+        "PeriodTooLong",
+        "the period is longer than 1000000000 ticks",
+    ),
+    (
+        RateError::BudgetOverPeriod,
+        3,
+        "BudgetOverPeriod",
+        "the budget is larger than the period",
+    ),
+    (
+        RateError::BadBound,
+        4,
+        "BadBound",
+        "a bound N/D needs 1 <= N <= D <= 1000000",
+    ),
+];
 
 #[test]
 fn errors_say_what_is_wrong(rt: HostRuntime) {
-    let alloc = rt.alloc();
-    let text = "the budget is 0: a reservation needs a budget of at least 1 tick";
-    says(&rt, alloc, &RateError::ZeroBudget, text);
-    let text = "the period is longer than 1000000000 ticks";
-    says(&rt, alloc, &RateError::PeriodTooLong, text);
-    let text = "the budget is larger than the period";
-    says(&rt, alloc, &RateError::BudgetOverPeriod, text);
-    let text = "a bound N/D needs 1 <= N <= D <= 1000000";
-    says(&rt, alloc, &RateError::BadBound, text);
+    for &(error, number, name, text) in &ERRORS {
+        same(&rt, name, (error.number(), error.name()), (number, name));
+        says(&rt, rt.alloc(), &error, text);
+    }
 }
+
+/// The number, the name and the text of each refusal of a server.
+static REFUSALS: [(AdmitError, u8, &str, &str); 3] = [
+    (
+        AdmitError::TooManyServers,
+        1,
+        "TooManyServers",
+        "the plan has 64 servers already, and takes no more",
+    ),
+    (
+        AdmitError::PeriodsTooFine,
+        2,
+        "PeriodsTooFine",
+        "the least common multiple of all periods would pass 10^18: choose periods that share more factors",
+    ),
+    (
+        AdmitError::OverBound,
+        3,
+        "OverBound",
+        "the total bandwidth would pass the plan's bound: a smaller budget or a longer period may fit",
+    ),
+];
 
 #[test]
 fn refused_admissions_say_what_is_wrong(rt: HostRuntime) {
-    let alloc = rt.alloc();
-    let text = "the plan has 64 servers already, and takes no more";
-    says(&rt, alloc, &AdmitError::TooManyServers, text);
-    let text =
-        "the least common multiple of all periods would pass 10^18: choose periods that share more factors";
-    says(&rt, alloc, &AdmitError::PeriodsTooFine, text);
-    let text =
-        "the total bandwidth would pass the plan's bound: a smaller budget or a longer period may fit";
-    says(&rt, alloc, &AdmitError::OverBound, text);
+    for &(error, number, name, text) in &REFUSALS {
+        same(&rt, name, (error.number(), error.name()), (number, name));
+        says(&rt, rt.alloc(), &error, text);
+    }
 }

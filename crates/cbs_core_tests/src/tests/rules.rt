@@ -35,92 +35,120 @@ fn shows(rt: &impl Abort, at: (&str, usize), server: &ServerState, wanted: (u64,
     same_at(rt, at, "state", state, wanted);
 }
 
-/// Takes a new server with `budget` ticks in every `period` through the events of `life`. Checks after each the budget,
-/// the deadline and the flag 'throttled'.
-fn lives(
-    rt: &impl Abort,
+/// The events of a new server. After each stand its budget, its deadline and its flag 'throttled'.
+#[derive(Clone, Copy)]
+struct Life {
+    name: &'static str,
     mode: Mode,
-    (budget, period): (u64, u64),
-    life: &[(Event, u64, u128, bool)],
-) {
+    /// The budget and the period.
+    rate: (u64, u64),
+    events: &'static [(Event, u64, u128, bool)],
+}
+
+/// Takes a new server through the events of a life, and checks its state at first and after each.
+fn lives(rt: &impl Abort, life: &Life) {
+    let (budget, period) = life.rate;
     let reservation = Reservation::new(budget, period).expect(rt, "a reservation");
     let mut server = ServerState::fresh(reservation);
     shows(rt, ("a new server", 0), &server, (0, 0, false));
-    for (place, &(event, budget, deadline, throttled)) in life.iter().enumerate() {
-        happens(rt, mode, &mut server, event);
-        shows(rt, ("event", place), &server, (budget, deadline, throttled));
+    for (place, &(event, budget, deadline, throttled)) in life.events.iter().enumerate() {
+        happens(rt, life.mode, &mut server, event);
+        shows(
+            rt,
+            (life.name, place),
+            &server,
+            (budget, deadline, throttled),
+        );
     }
 }
 
-#[test]
-fn a_soft_server_follows_its_rules(rt: HostRuntime) {
-    let two_in_four = [
-        (Event::Arrive(0), 2, 4, false),
-        (Event::Consume, 1, 4, false),
-        (Event::Replenish(1), 1, 4, false),
-        // 1 * 4 is as much as (4 - 2) * 2
-        (Event::Arrive(2), 2, 6, false),
-        (Event::Consume, 1, 6, false),
-        (Event::Consume, 2, 10, false),
-        (Event::Replenish(20), 2, 10, false),
-        (Event::Arrive(20), 2, 24, false),
-        (Event::Consume, 1, 24, false),
-        // 1 * 4 is less than (24 - 21) * 2
-        (Event::Arrive(21), 1, 24, false),
-        (Event::Arrive(24), 2, 28, false),
-    ];
-    lives(&rt, Mode::Soft, (2, 4), &two_in_four);
-    let longest_period = [
-        (Event::Arrive(0), 1, 1_000_000_000, false),
-        (Event::Consume, 1, 2_000_000_000, false),
-        (Event::Consume, 1, 3_000_000_000, false),
-        (Event::Consume, 1, 4_000_000_000, false),
-        (Event::Arrive(1_000_000_000), 1, 4_000_000_000, false),
-        // at the end of the clock
-        (
-            Event::Arrive(1_000_000_000_000),
-            1,
-            1_001_000_000_000,
-            false,
-        ),
-    ];
-    lives(&rt, Mode::Soft, (1, 1_000_000_000), &longest_period);
-}
+static LIVES: [Life; 4] = [
+    Life {
+        name: "a soft server with 2 ticks in every 4",
+        mode: Mode::Soft,
+        rate: (2, 4),
+        events: &[
+            (Event::Arrive(0), 2, 4, false),
+            (Event::Consume, 1, 4, false),
+            (Event::Replenish(1), 1, 4, false),
+            // 1 * 4 is as much as (4 - 2) * 2
+            (Event::Arrive(2), 2, 6, false),
+            (Event::Consume, 1, 6, false),
+            (Event::Consume, 2, 10, false),
+            (Event::Replenish(20), 2, 10, false),
+            (Event::Arrive(20), 2, 24, false),
+            (Event::Consume, 1, 24, false),
+            // 1 * 4 is less than (24 - 21) * 2
+            (Event::Arrive(21), 1, 24, false),
+            (Event::Arrive(24), 2, 28, false),
+        ],
+    },
+    Life {
+        name: "a soft server with the longest period",
+        mode: Mode::Soft,
+        rate: (1, 1_000_000_000),
+        events: &[
+            (Event::Arrive(0), 1, 1_000_000_000, false),
+            (Event::Consume, 1, 2_000_000_000, false),
+            (Event::Consume, 1, 3_000_000_000, false),
+            (Event::Consume, 1, 4_000_000_000, false),
+            (Event::Arrive(1_000_000_000), 1, 4_000_000_000, false),
+            // at the end of the clock
+            (
+                Event::Arrive(1_000_000_000_000),
+                1,
+                1_001_000_000_000,
+                false,
+            ),
+        ],
+    },
+    Life {
+        name: "a throttled server with 2 ticks in every 4",
+        mode: Mode::Throttled,
+        rate: (2, 4),
+        events: &[
+            (Event::Arrive(0), 2, 4, false),
+            (Event::Consume, 1, 4, false),
+            // 1 * 4 is no more than (4 - 2) * 2
+            (Event::Arrive(2), 1, 4, false),
+            // 1 * 4 is more than (4 - 3) * 2
+            (Event::Arrive(3), 2, 7, false),
+            (Event::Consume, 1, 7, false),
+            (Event::Consume, 0, 7, true),
+            (Event::Replenish(6), 0, 7, true),
+            (Event::Replenish(7), 2, 11, false),
+            (Event::Replenish(11), 2, 11, false),
+            (Event::Arrive(11), 2, 15, false),
+            (Event::Consume, 1, 15, false),
+            (Event::Consume, 0, 15, true),
+            // only one period, however late the replenishment is
+            (Event::Replenish(40), 2, 19, false),
+            (Event::Replenish(41), 2, 19, false),
+            (Event::Consume, 1, 19, false),
+            (Event::Consume, 0, 19, true),
+            (Event::Replenish(43), 2, 23, false),
+        ],
+    },
+    Life {
+        name: "a throttled server with a tick in every 4",
+        mode: Mode::Throttled,
+        rate: (1, 4),
+        events: &[
+            (Event::Arrive(0), 1, 4, false),
+            (Event::Consume, 0, 4, true),
+            (Event::Replenish(4), 1, 8, false),
+            // 1 * 4 is no more than (8 - 4) * 1
+            (Event::Arrive(4), 1, 8, false),
+            (Event::Arrive(5), 1, 9, false),
+        ],
+    },
+];
 
 #[test]
-fn a_throttled_server_follows_its_rules(rt: HostRuntime) {
-    let two_in_four = [
-        (Event::Arrive(0), 2, 4, false),
-        (Event::Consume, 1, 4, false),
-        // 1 * 4 is no more than (4 - 2) * 2
-        (Event::Arrive(2), 1, 4, false),
-        // 1 * 4 is more than (4 - 3) * 2
-        (Event::Arrive(3), 2, 7, false),
-        (Event::Consume, 1, 7, false),
-        (Event::Consume, 0, 7, true),
-        (Event::Replenish(6), 0, 7, true),
-        (Event::Replenish(7), 2, 11, false),
-        (Event::Replenish(11), 2, 11, false),
-        (Event::Arrive(11), 2, 15, false),
-        (Event::Consume, 1, 15, false),
-        (Event::Consume, 0, 15, true),
-        // only one period, however late the replenishment is
-        (Event::Replenish(40), 2, 19, false),
-        (Event::Replenish(41), 2, 19, false),
-        (Event::Consume, 1, 19, false),
-        (Event::Consume, 0, 19, true),
-        (Event::Replenish(43), 2, 23, false),
-    ];
-    lives(&rt, Mode::Throttled, (2, 4), &two_in_four);
-    let one_in_four = [
-        (Event::Arrive(0), 1, 4, false),
-        (Event::Consume, 0, 4, true),
-        (Event::Replenish(4), 1, 8, false),
-        // 1 * 4 is no more than (8 - 4) * 1
-        (Event::Arrive(4), 1, 8, false),
-        (Event::Arrive(5), 1, 9, false),
-    ];
-    lives(&rt, Mode::Throttled, (1, 4), &one_in_four);
+fn each_server_follows_its_rules(rt: HostRuntime) {
+    for life in &LIVES {
+        lives(&rt, life);
+    }
 }
 
 #[test]

@@ -7,7 +7,7 @@ use cbs_rules::Mode;
 use std::alloc::Global;
 use std::process::Abort;
 
-const CASES: [Case; 4] = [
+static CASES: [Case; 4] = [
     Case {
         name: "the idle span ends where somebody is ready",
         servers: &[(Mode::Soft, 2, 5), (Mode::Soft, 2, 5)],
@@ -127,7 +127,7 @@ fn who_runs_is_as_by_hand(rt: HostRuntime) {
 }
 
 /// A throttled server with 2 ticks in every 5, with one unit of its job left and no budget.
-const EXHAUSTED: [Row; 11] = [
+static EXHAUSTED: [Row; 11] = [
     Row::Submit(0, &[1, 2, 3], 0),
     Row::Unit(0),
     Row::State(0, 1, 5, false),
@@ -141,9 +141,9 @@ const EXHAUSTED: [Row; 11] = [
     Row::IdleSpan(Some(3)),
 ];
 
-const JUMP: [Row; 1] = [Row::Advance(7, Ok(()))];
+static JUMP: [Row; 1] = [Row::Advance(7, Ok(()))];
 
-const TICKS: [Row; 7] = [Row::Advance(1, Ok(())); 7];
+static TICKS: [Row; 7] = [Row::Advance(1, Ok(())); 7];
 
 /// The server's view at tick 9.
 const AT_9: ServerView = ServerView {
@@ -156,7 +156,7 @@ const AT_9: ServerView = ServerView {
 };
 
 /// The server goes on with its next deadline.
-const REPLENISHED: [Row; 5] = [
+static REPLENISHED: [Row; 5] = [
     Row::View(0, Ok(AT_9)),
     Row::Now(9),
     Row::Done(0, 0, 6),
