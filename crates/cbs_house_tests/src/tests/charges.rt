@@ -14,7 +14,7 @@ use std::process::Abort;
 /// A unit of the first job of server 0, not its last.
 const UNIT: Row = Row::Run(Ran::Unit { server: 0, seq: 0 });
 
-const CASES: [Case; 3] = [
+static CASES: [Case; 3] = [
     Case {
         name: "a soft server is charged",
         mode: Mode::Soft,
@@ -137,7 +137,7 @@ fn two_servers(rt: &impl Abort, alloc: Global) -> House<SumJob> {
 /// A unit of the throttled server's job, not its last.
 const UNIT_OF_1: Row = Row::Run(Ran::Unit { server: 1, seq: 0 });
 
-const OF_TWO: [Row; 29] = [
+static OF_TWO: [Row; 29] = [
     Row::Poll(0, Poll::Took(0)),
     Row::Poll(1, Poll::Took(0)),
     UNIT,

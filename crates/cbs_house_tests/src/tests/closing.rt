@@ -5,6 +5,7 @@ ghost use Rattle.std.specs.Thread.{IsSync};
 ghost use Rattle.cbs_clients.specs.Houses.{rings_of};
 
 use super::calls::{ends, gave, sends, stands_at};
+use super::leaving::sends_and_leaves;
 use super::rows::{Opened, Row};
 use super::{plan_of, same, same_at, sum_of};
 use cbs_house::{Client, House, HouseError, SendError, Sink, open_house};
@@ -156,7 +157,7 @@ const LAST: [Row; 3] = [
 /// All completions that the sink is given.
 const ALL_TOLD: [(u16, u64, u64); 4] = [(0, 0, 5), (0, 1, 7), (0, 2, 9), (0, 3, 11)];
 
-const CASES: [Closing; 6] = [
+static CASES: [Closing; 6] = [
     Closing {
         name: "a soft house of a client that ends at once takes no time",
         mode: Mode::Soft,
@@ -291,13 +292,30 @@ fn sends_ten(alloc: Global, clients: &mut [Client<SumJob>]) -> bool {
     true
 }
 
+/// What clients do that start late.
+#[derive(Clone, Copy)]
+pub enum Late {
+    /// That of server 0 sends ten jobs, and each ends.
+    SendTen,
+    /// Each fills its ring, and is dropped.
+    Leave,
+}
+
+/// Lets the clients do so. Returns whether all jobs were sent.
+fn starts(alloc: Global, late: Late, clients: &mut Vec<Client<SumJob>>) -> bool {
+    match late {
+        Late::SendTen => sends_ten(alloc, clients),
+        Late::Leave => sends_and_leaves(alloc, clients),
+    }
+}
+
 /// Runs the house and its clients at once. The clients start when the house has long been running.
-fn runs_with_late_clients<R: Threads + Clock + Sync + Abort>(
+pub fn runs_with_late_clients<R: Threads + Clock + Sync + Abort, S: Sink + Send>(
     rt: &R,
     alloc: Global,
     house: &mut House<SumJob>,
-    clients: &mut [Client<SumJob>],
-    seen: &mut Seen,
+    (late, clients): (Late, &mut Vec<Client<SumJob>>),
+    sink: &mut S,
 ) {
     let (sent, run) = join_mut(
         rt,
@@ -305,25 +323,48 @@ fn runs_with_late_clients<R: Threads + Clock + Sync + Abort>(
             requires { IsSync R.row }
         {
             sleep(rt, Duration::from_micros(20_000));
-            sends_ten(alloc, clients)
+            starts(alloc, late, clients)
         },
-        &mut || -> Result<(), HouseError> { house.run_until_closed(rt, seen, PATIENCE) },
+        &mut || -> Result<(), HouseError> { house.run_until_closed(rt, sink, PATIENCE) },
     );
     assert!(rt; sent);
     same(rt, "run_until_closed", run, Ok(()));
 }
 
+/// The completions of the jobs 0 to 9 of server 0.
+static TOLD_TEN: [(u16, u64, u64); 10] = [
+    (0, 0, 0),
+    (0, 1, 1),
+    (0, 2, 2),
+    (0, 3, 3),
+    (0, 4, 4),
+    (0, 5, 5),
+    (0, 6, 6),
+    (0, 7, 7),
+    (0, 8, 8),
+    (0, 9, 9),
+];
+
+/// Opens a house whose servers have this mode, and runs it and its late clients.
+fn finishes_late_clients<R: Threads + Clock + Sync + Abort>(rt: &R, alloc: Global, mode: Mode) {
+    let (mut house, mut clients) = two_clients(rt, alloc, mode);
+    let mut seen = Seen::nothing(alloc);
+    runs_with_late_clients(
+        rt,
+        alloc,
+        &mut house,
+        (Late::SendTen, &mut clients),
+        &mut seen,
+    );
+    gave(rt, &house, 0, &[0, 1, 2, 3, 4, 5, 6, 7, 8, 9]);
+    gave(rt, &house, 1, &[]);
+    was_told(rt, ("late clients", 0), &seen, &TOLD_TEN);
+}
+
 #[test]
 fn late_clients_that_send_more_than_fits_are_finished(rt: HostRuntime) {
-    let alloc = rt.alloc();
     for mode in [Mode::Soft, Mode::Throttled] {
-        let (mut house, mut clients) = two_clients(&rt, alloc, mode);
-        let mut seen = Seen::nothing(alloc);
-        runs_with_late_clients(&rt, alloc, &mut house, &mut clients, &mut seen);
-        gave(&rt, &house, 0, &[0, 1, 2, 3, 4, 5, 6, 7, 8, 9]);
-        gave(&rt, &house, 1, &[]);
-        let told = [0, 1, 2, 3, 4, 5, 6, 7, 8, 9].map(|number| (0, number, number));
-        was_told(&rt, ("late clients", 0), &seen, &told);
+        finishes_late_clients(&rt, rt.alloc(), mode);
     }
 }
 
@@ -335,7 +376,7 @@ fn sends_two(rt: &impl Abort, alloc: Global, client: &mut Client<SumJob>) {
 }
 
 /// The completions that a sink is given of two clients' jobs.
-const OF_TWO: [(u16, u64, u64); 4] = [(0, 0, 0), (0, 1, 1), (1, 0, 10), (1, 1, 11)];
+static OF_TWO: [(u16, u64, u64); 4] = [(0, 0, 0), (0, 1, 1), (1, 0, 10), (1, 1, 11)];
 
 #[test]
 fn a_sink_is_told_in_the_order_of_the_completions(rt: HostRuntime) {

@@ -34,17 +34,39 @@ fn plays<A: Allocator + Clone>(
     }
 }
 
-/// Does the same while this heap is full.
+/// Calls of a collector in a heap, in rows.
+#[derive(Clone, Copy)]
+struct Phase {
+    name: &'static str,
+    /// Whether the heap is full meanwhile.
+    full: bool,
+    rows: &'static [Row],
+}
+
+/// Makes the calls of these phases of a new collector for one server, and checks each result. All its memory is that of
+/// a heap.
+fn plays_in_heap(rt: &impl Abort, alloc: Global, phases: &[Phase]) {
+    let heap = LocalHeap::new(alloc, 1 << 12).expect(rt, "a heap");
+    let mut collector = Collector::new(&heap, 1).ok().expect(rt, "a collector");
+    for phase in phases {
+        if phase.full {
+            plays_full(rt, alloc, &heap, &mut collector, phase);
+        } else {
+            plays(rt, phase.name, &mut collector, phase.rows);
+        }
+    }
+}
+
+/// Makes the calls of a phase while this heap is full, and checks each result.
 fn plays_full(
     rt: &impl Abort,
     alloc: Global,
     heap: &LocalHeap,
-    name: &str,
     collector: &mut Collector<&LocalHeap>,
-    rows: &[Row],
+    phase: &Phase,
 ) {
     let ballast = filled(rt, alloc, heap);
-    plays(rt, name, collector, rows);
+    plays(rt, phase.name, collector, phase.rows);
     drop(ballast);
 }
 
@@ -102,14 +124,23 @@ const NEXT: [Row; 11] = [
     Row::Results(9, None),
 ];
 
+/// Once there is room, no memory can be had, and none is needed.
+static ONLY_NEXT: [Phase; 2] = [
+    Phase {
+        name: "there is room",
+        full: false,
+        rows: &ROOM,
+    },
+    Phase {
+        name: "only the next is taken",
+        full: true,
+        rows: &NEXT,
+    },
+];
+
 #[test]
 fn only_the_next_completion_is_taken(rt: HostRuntime) {
-    let heap = LocalHeap::new(rt.alloc(), 1 << 12).expect(&rt, "a heap");
-    let mut collector = Collector::new(&heap, 1).expect(&rt, "a collector");
-    plays(&rt, "there is room", &mut collector, &ROOM);
-    // From here on no memory can be had, and none is needed.
-    let name = "only the next is taken";
-    plays_full(&rt, rt.alloc(), &heap, name, &mut collector, &NEXT);
+    plays_in_heap(&rt, rt.alloc(), &ONLY_NEXT);
 }
 
 /// Returns a collector for so many servers.
@@ -120,7 +151,7 @@ fn collector_of(rt: &impl Abort, alloc: Global, servers: u16) -> Collector {
 }
 
 /// A completion of the second of two servers is announced.
-const SECOND: [Row; 10] = [
+static SECOND: [Row; 10] = [
     Row::MakeRoom(1, Ok(())),
     Row::Expect(1, Ok(())),
     Row::Take(0, 0, 3, Err(CollectError::Early)),
@@ -134,7 +165,7 @@ const SECOND: [Row; 10] = [
 ];
 
 /// There is no server.
-const NONE: [Row; 1] = [Row::Take(0, 0, 1, Err(CollectError::Stranger))];
+static NONE: [Row; 1] = [Row::Take(0, 0, 1, Err(CollectError::Stranger))];
 
 #[test]
 fn each_server_has_its_own_results(rt: HostRuntime) {
@@ -179,16 +210,31 @@ const BEHIND: [Row; 11] = [
     Row::Take(0, 4, 1, Err(CollectError::Early)),
 ];
 
+static NUMBERED_ON: [Phase; 4] = [
+    Phase {
+        name: "four are announced",
+        full: false,
+        rows: &FOUR,
+    },
+    Phase {
+        name: "no memory is found",
+        full: true,
+        rows: &REFUSED,
+    },
+    Phase {
+        name: "memory is found",
+        full: false,
+        rows: &HANDED,
+    },
+    // The three announced completions have their places.
+    Phase {
+        name: "one was handed out",
+        full: true,
+        rows: &BEHIND,
+    },
+];
+
 #[test]
 fn completions_are_numbered_on_behind_results_handed_out(rt: HostRuntime) {
-    let alloc = rt.alloc();
-    let heap = LocalHeap::new(alloc, 1 << 12).expect(&rt, "a heap");
-    let mut collector = Collector::new(&heap, 1).expect(&rt, "a collector");
-    plays(&rt, "four are announced", &mut collector, &FOUR);
-    let name = "no memory is found";
-    plays_full(&rt, alloc, &heap, name, &mut collector, &REFUSED);
-    plays(&rt, "memory is found", &mut collector, &HANDED);
-    // The three announced completions have their places.
-    let name = "one was handed out";
-    plays_full(&rt, alloc, &heap, name, &mut collector, &BEHIND);
+    plays_in_heap(&rt, rt.alloc(), &NUMBERED_ON);
 }

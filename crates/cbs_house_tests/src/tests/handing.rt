@@ -2,7 +2,7 @@
 
 use super::calls::{drains, polls, runs, sends};
 use super::polling::one_client;
-use super::rows::{Case, Opened, Row, hands_out, plays_all, plays_full};
+use super::rows::{Case, Phase, Row, hands_out, plays_all, plays_in_heap};
 use super::sum_of;
 use cbs_core::{Ran, ServerView};
 use cbs_house::{Client, House, HouseError, Poll};
@@ -22,7 +22,7 @@ const CLOSED: ServerView = ServerView {
     finished: 3,
 };
 
-const CASES: [Case; 1] = [Case {
+static CASES: [Case; 1] = [Case {
     name: "results are handed out once and in order",
     mode: Mode::Soft,
     rate: (2, 5),
@@ -88,17 +88,32 @@ const FINISHED: [Row; 3] = [
     Row::TakeResults(0, Ok(&[3, 3, 3])),
 ];
 
+static PHASES: [Phase; 4] = [
+    Phase {
+        name: "jobs are held",
+        full: false,
+        rows: &HELD,
+    },
+    Phase {
+        name: "no memory is found",
+        full: true,
+        rows: &REFUSED,
+    },
+    Phase {
+        name: "memory is found",
+        full: false,
+        rows: &HANDED,
+    },
+    Phase {
+        name: "jobs held keep their places",
+        full: true,
+        rows: &FINISHED,
+    },
+];
+
 #[test]
 fn jobs_held_keep_the_places_of_their_results(rt: HostRuntime) {
-    let alloc = rt.alloc();
-    let heap = LocalHeap::new(alloc, 1 << 14).expect(&rt, "a heap");
-    let mut opened = Opened::new(&rt, &heap, Mode::Soft, (2, 5), (4, 4));
-    opened.plays(&rt, alloc, "jobs are held", &HELD);
-    let name = "no memory is found";
-    plays_full(&rt, alloc, &heap, &mut opened, name, &REFUSED);
-    opened.plays(&rt, alloc, "memory is found", &HANDED);
-    let name = "jobs held keep their places";
-    plays_full(&rt, alloc, &heap, &mut opened, name, &FINISHED);
+    plays_in_heap(&rt, rt.alloc(), Mode::Soft, &PHASES);
 }
 
 /// Sends a job of one unit, with this number, and takes it.

@@ -1,20 +1,18 @@
 //! Tests of clients and houses that are dropped.
 
-ghost use Rattle.std.specs.Thread.{IsSync};
-
 use super::calls::gave;
-use super::closing::{two_clients, unit_of};
+use super::closing::{Late, runs_with_late_clients, two_clients, unit_of};
 use super::polling::one_client;
 use super::rows::{Opened, Row, does_all};
 use super::{same, sum_of, sums_of};
 use cbs_core::ServerView;
-use cbs_house::{Client, Feed, House, HouseError, NoSink, Poll, SendError};
+use cbs_house::{Client, Feed, NoSink, Poll, SendError};
 use cbs_job::SumJob;
 use cbs_rules::Mode;
 use std::alloc::Global;
 use std::process::Abort;
-use std::thread::{Threads, join_mut, sleep};
-use std::time::{Clock, Duration};
+use std::thread::Threads;
+use std::time::Clock;
 
 /// A client that is dropped: the calls of the client and its house before, and the calls of the house after.
 #[derive(Clone, Copy)]
@@ -47,7 +45,7 @@ const CLOSED_WITH_5_AND_7: [Row; 6] = [
     Row::Results(0, Ok(&[5, 7])),
 ];
 
-const CASES: [Leaving; 6] = [
+static CASES: [Leaving; 6] = [
     Leaving {
         name: "the server of a dropped client closes after all that the client sent",
         mode: Mode::Soft,
@@ -144,19 +142,21 @@ fn each_dropped_client_ends_once(rt: HostRuntime) {
     }
 }
 
+/// Behind a feed that was dropped with two jobs unsent.
+static UNSENT: [Row; 4] = [
+    Row::Poll(0, Poll::Took(0)),
+    Row::Poll(0, Poll::Closed),
+    Row::Drain(Ok(())),
+    Row::Results(0, Ok(&[5])),
+];
+
 #[test]
 fn a_dropped_feed_ends_with_jobs_unsent(rt: HostRuntime) {
     let alloc = rt.alloc();
     let (mut house, mut client) = one_client(&rt, alloc, Mode::Soft, (2, 5), (4, 4));
     sends_5(&rt, alloc, &mut client);
     drop(Feed::new(client, sums_of(&rt, alloc, &[&[7], &[9]])));
-    let rows = [
-        Row::Poll(0, Poll::Took(0)),
-        Row::Poll(0, Poll::Closed),
-        Row::Drain(Ok(())),
-        Row::Results(0, Ok(&[5])),
-    ];
-    does_all(&rt, "a dropped feed", &mut house, &rows);
+    does_all(&rt, "a dropped feed", &mut house, &UNSENT);
 }
 
 /// Sends a job of one unit, which is the client's first.
@@ -185,30 +185,8 @@ fn a_client_sees_that_its_house_is_gone(rt: HostRuntime) {
     same(&rt, "end", client.end(), Err(SendError::Ended));
 }
 
-/// Runs the house and its clients at once. The clients are dropped, one after the other, when the house has long been
-/// running.
-fn runs_until_all_left<R: Threads + Clock + Sync + Abort>(
-    rt: &R,
-    alloc: Global,
-    house: &mut House<SumJob>,
-    clients: &mut Vec<Client<SumJob>>,
-) {
-    let (sent, run) = join_mut(
-        rt,
-        &mut || -> bool
-            requires { IsSync R.row }
-        {
-            sleep(rt, Duration::from_micros(20_000));
-            sends_and_leaves(alloc, clients)
-        },
-        &mut || -> Result<(), HouseError> { house.run_until_closed(rt, &mut NoSink, 1_000_000) },
-    );
-    assert!(rt; sent);
-    same(rt, "run_until_closed", run, Ok(()));
-}
-
 /// Lets each client fill its ring, and drops it. Returns whether all jobs were sent.
-fn sends_and_leaves(alloc: Global, clients: &mut Vec<Client<SumJob>>) -> bool {
+pub fn sends_and_leaves(alloc: Global, clients: &mut Vec<Client<SumJob>>) -> bool {
     let mut all_sent = true;
     while let Some(mut client) = clients.pop() {
         all_sent &= sends_unit(alloc, &mut client, 5) && sends_unit(alloc, &mut client, 7);
@@ -224,13 +202,23 @@ fn sends_unit(alloc: Global, client: &mut Client<SumJob>, number: u32) -> bool {
     }
 }
 
+/// Opens a house whose servers have this mode. Runs it, and lets its clients leave when it has long been running.
+fn closes_at_last<R: Threads + Clock + Sync + Abort>(rt: &R, alloc: Global, mode: Mode) {
+    let (mut house, mut clients) = two_clients(rt, alloc, mode);
+    runs_with_late_clients(
+        rt,
+        alloc,
+        &mut house,
+        (Late::Leave, &mut clients),
+        &mut NoSink,
+    );
+    gave(rt, &house, 0, &[5, 7]);
+    gave(rt, &house, 1, &[5, 7]);
+}
+
 #[test]
 fn a_house_closes_when_its_clients_leave(rt: HostRuntime) {
-    let alloc = rt.alloc();
     for mode in [Mode::Soft, Mode::Throttled] {
-        let (mut house, mut clients) = two_clients(&rt, alloc, mode);
-        runs_until_all_left(&rt, alloc, &mut house, &mut clients);
-        gave(&rt, &house, 0, &[5, 7]);
-        gave(&rt, &house, 1, &[5, 7]);
+        closes_at_last(&rt, rt.alloc(), mode);
     }
 }

@@ -1,10 +1,9 @@
 //! Tests of calls that are out of memory.
 
-use super::rows::{Opened, Row, plays_full};
+use super::rows::{Phase, Row, plays_in_heap};
 use cbs_core::Ran;
 use cbs_house::Poll;
 use cbs_rules::Mode;
-use linked_list_allocator::LocalHeap;
 
 /// A job of three units stays in the ring, since memory for it is refused.
 const REFUSED: [Row; 2] = [Row::Send(&[1, 2, 3], 0), Row::Poll(0, Poll::OutOfMemory)];
@@ -36,15 +35,30 @@ const WITH_MEMORY: [Row; 4] = [
     Row::Results(0, Ok(&[6, 4])),
 ];
 
+static PHASES: [Phase; 4] = [
+    Phase {
+        name: "no memory is found for a job",
+        full: true,
+        rows: &REFUSED,
+    },
+    Phase {
+        name: "a job is taken",
+        full: false,
+        rows: &TAKEN,
+    },
+    Phase {
+        name: "no memory is found",
+        full: true,
+        rows: &WITHOUT_MEMORY,
+    },
+    Phase {
+        name: "memory is found",
+        full: false,
+        rows: &WITH_MEMORY,
+    },
+];
+
 #[test]
 fn what_is_taken_is_done_without_memory(rt: HostRuntime) {
-    let alloc = rt.alloc();
-    let heap = LocalHeap::new(alloc, 1 << 14).expect(&rt, "a heap");
-    let mut opened = Opened::new(&rt, &heap, Mode::Throttled, (2, 5), (4, 4));
-    let name = "no memory is found for a job";
-    plays_full(&rt, alloc, &heap, &mut opened, name, &REFUSED);
-    opened.plays(&rt, alloc, "a job is taken", &TAKEN);
-    let name = "no memory is found";
-    plays_full(&rt, alloc, &heap, &mut opened, name, &WITHOUT_MEMORY);
-    opened.plays(&rt, alloc, "memory is found", &WITH_MEMORY);
+    plays_in_heap(&rt, rt.alloc(), Mode::Throttled, &PHASES);
 }

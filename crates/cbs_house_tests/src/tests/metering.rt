@@ -26,7 +26,7 @@ use std::thread::Threads;
 use std::time::{Clock, Duration};
 
 /// A meter that returns two ticks after the first for each unit. It counts its calls of `begin` and of `beyond`.
-#[derive(Clone, Copy, Debug, PartialEq, Eq)]
+#[derive(Drop)]
 struct TwoBeyond {
     begun: u64,
     asked: u64,
@@ -57,7 +57,7 @@ fn one_job(rt: &impl Abort, alloc: Global) -> (House<SumJob>, Client<SumJob>)
 }
 
 /// The state after three units of three ticks each: after these 9 ticks the last budget has 1 left.
-const LONG: [Row; 4] = [
+static LONG: [Row; 4] = [
     Row::Now(9),
     Row::State(0, 1, 25, false),
     Row::Charges(0, Ok((6, 2))),
@@ -65,7 +65,7 @@ const LONG: [Row; 4] = [
 ];
 
 /// The state after three units of one tick each.
-const SHORT: [Row; 4] = [
+static SHORT: [Row; 4] = [
     Row::Now(3),
     Row::State(0, 1, 10, false),
     Row::Charges(0, Ok((0, 0))),
@@ -145,15 +145,11 @@ fn units_are_charged_what_a_meter_tells(rt: HostRuntime) {
     let alloc = rt.alloc();
     let mut meter = TwoBeyond::NEW;
     runs(&rt, alloc, &mut meter, &LONG);
-    let four_runs = TwoBeyond { begun: 4, asked: 3 };
-    same(&rt, "told and asked", meter, four_runs);
+    // Four runs, of which the last finds no unit.
+    same(&rt, "begun, asked", (meter.begun, meter.asked), (4, 3));
     turns(&rt, alloc, &mut meter, &LONG);
     drains(&rt, alloc, &mut meter, &LONG);
-    let ten_runs = TwoBeyond {
-        begun: 10,
-        asked: 9,
-    };
-    same(&rt, "told and asked", meter, ten_runs);
+    same(&rt, "begun, asked", (meter.begun, meter.asked), (10, 9));
 }
 
 #[test]
@@ -177,23 +173,27 @@ fn no_meter_charges_nothing(rt: HostRuntime) {
     serves(&rt, alloc, &mut NoMeter, &SHORT);
 }
 
+/// The job is taken two ticks before the clock's end.
+static BEFORE_THE_END: [Row; 2] = [Row::Advance(LIMIT - 2, Ok(())), Row::Poll(0, Poll::Took(0))];
+
+/// A unit of the job was charged the last tick.
+static AT_THE_END: [Row; 3] = [
+    Row::Now(LIMIT),
+    Row::Charges(0, Ok((1, 1))),
+    Row::Run(Ran::ClockEnd),
+];
+
 #[test]
 fn a_unit_is_charged_what_the_clock_can_hold(rt: HostRuntime) {
     let (mut house, client) = one_job(&rt, rt.alloc());
-    let before = [Row::Advance(LIMIT - 2, Ok(())), Row::Poll(0, Poll::Took(0))];
-    does_all(&rt, "before", &mut house, &before);
+    does_all(&rt, "before", &mut house, &BEFORE_THE_END);
     let ran = house.run_metered(&mut TwoBeyond::NEW);
     same(&rt, "run_metered", ran, Ran::Unit { server: 0, seq: 0 });
-    let after = [
-        Row::Now(LIMIT),
-        Row::Charges(0, Ok((1, 1))),
-        Row::Run(Ran::ClockEnd),
-    ];
-    does_all(&rt, "after", &mut house, &after);
+    does_all(&rt, "after", &mut house, &AT_THE_END);
     drop(client);
 }
 
-/// A clock that is later by `step` nanoseconds each time that it is read.
+/// A clock that is later by `step` nanoseconds each time that it is read, and by what a unit adds.
 #[derive(Drop)]
 struct Steady {
     now: AtomicU64,
@@ -212,7 +212,7 @@ impl Clock for Steady {
 }
 
 /// The nanoseconds that each unit takes, and the ticks of 10 microseconds after its first.
-const TOOK: [(u64, u64); 7] = [
+static TOOK: [(u64, u64); 7] = [
     (0, 0),
     (1, 0),
     (10_000, 0),
@@ -260,27 +260,11 @@ fn a_unit_that_takes_no_time_is_charged_nothing(rt: HostRuntime) {
     same(&rt, "a tick of no length is refused", none, true);
 }
 
-/// A clock that stands, unless a unit moves it.
-#[derive(Drop)]
-struct Wall {
-    nanos: AtomicU64,
-}
-
-impl Clock for Wall {
-    fn monotonic(&self) -> io::Result<Duration> {
-        Ok(Duration::from_nanos(self.nanos.load(Ordering::SeqCst)))
-    }
-
-    fn since_1970(&self) -> io::Result<Duration> {
-        Ok(Duration::ZERO)
-    }
-}
-
 /// A job whose units each take 25 microseconds of a clock.
 #[derive(Drop)]
 struct SlowJob<'a> {
     units: u32,
-    wall: &'a Wall,
+    clock: &'a Steady,
 }
 
 impl<'a> Work for SlowJob<'a> {
@@ -294,7 +278,7 @@ impl<'a> Work for SlowJob<'a> {
 
     fn step(&mut self) {
         self.units -= 1;
-        self.wall.nanos.fetch_add(25_000, Ordering::SeqCst);
+        self.clock.now.fetch_add(25_000, Ordering::SeqCst);
     }
 
     fn output(&self) -> u64 {
@@ -303,19 +287,19 @@ impl<'a> Work for SlowJob<'a> {
 }
 
 /// Returns a house of a soft server with 2 ticks in every 5. Its client sent a job of two such units, and is gone.
-fn slow_house<'a>(rt: &impl Abort, alloc: Global, wall: &'a Wall) -> House<SlowJob<'a>> {
+fn slow_house<'a>(rt: &impl Abort, alloc: Global, clock: &'a Steady) -> House<SlowJob<'a>> {
     let plan = plan_of(rt, &[(2, 5)]);
     let modes = Modes::uniform(Mode::Soft, plan.len() as u16);
     let opened = open_house(alloc, plan, modes, 4, 4);
     let (house, mut clients) = opened.ok().expect(rt, "a house");
     let mut client = clients.pop().expect(rt, "a client");
-    sends_slow(rt, &mut client, wall);
+    sends_slow(rt, &mut client, clock);
     house
 }
 
 /// Sends a job of two such units.
-fn sends_slow<'a>(rt: &impl Abort, client: &mut Client<SlowJob<'a>>, wall: &'a Wall) {
-    let task = Task::new(SlowJob { units: 2, wall }).ok();
+fn sends_slow<'a>(rt: &impl Abort, client: &mut Client<SlowJob<'a>>, clock: &'a Steady) {
+    let task = Task::new(SlowJob { units: 2, clock }).ok();
     let sent = client.send(task.expect(rt, "a task"));
     same(rt, "send", sent.is_ok(), true);
 }
@@ -328,11 +312,12 @@ fn turns_until<W: Work, M: Meter>(rt: &impl Abort, house: &mut House<W>, meter: 
 
 #[test]
 fn a_clock_meter_takes_the_time_of_the_unit(rt: HostRuntime) {
-    let wall = Wall {
-        nanos: AtomicU64::new(7),
+    let clock = Steady {
+        now: AtomicU64::new(7),
+        step: 0,
     };
-    let mut house = slow_house(&rt, rt.alloc(), &wall);
-    let mut meter = ClockMeter::new(&wall, Duration::from_micros(10)).expect(&rt, "a meter");
+    let mut house = slow_house(&rt, rt.alloc(), &clock);
+    let mut meter = ClockMeter::new(&clock, Duration::from_micros(10)).expect(&rt, "a meter");
     // One turn each: a unit of 25 microseconds takes three ticks.
     turns_until(&rt, &mut house, &mut meter, 3);
     turns_until(&rt, &mut house, &mut meter, 6);

@@ -97,7 +97,7 @@ impl Gate for Counted {
 /// For how many idle turns a house waits, and then how often it slept, its longest sleep, and the sum of all, in
 /// microseconds. It yields in the first 64 turns, and sleeps in each 128th turn after those. Each sleep is 20
 /// microseconds longer than the one before, up to 2000.
-const WAITS: [(u64, (u64, u64, u64)); 8] = [
+static WAITS: [(u64, (u64, u64, u64)); 8] = [
     (0, (0, 0, 0)),
     (1, (0, 0, 0)),
     (191, (0, 0, 0)),
@@ -193,7 +193,7 @@ fn is_refused_memory<A: Allocator>(rt: &impl Abort, house: &mut House<SumJob, A>
 
 /// After how many tries a client gives up at a full ring, and how it slept meanwhile. After each try but the last it
 /// rests as a house does after an idle turn.
-const TRIES: [(u64, (u64, u64, u64)); 4] = [
+static TRIES: [(u64, (u64, u64, u64)); 4] = [
     (0, (0, 0, 0)),
     (1, (0, 0, 0)),
     (192, (0, 0, 0)),

@@ -4,13 +4,12 @@ ghost use Rattle.cbs_clients.specs.Houses.{rings_of};
 ghost use Rattle.cbs_clients.specs.Clients.{IsOpened};
 
 use super::calls::{polls, sends};
-use super::rows::{Case, Opened, Row, does_all, plays_all, plays_full};
+use super::rows::{Case, Phase, Row, does_all, plays_all, plays_in_heap};
 use super::{plan_of, same, sum_of};
 use cbs_core::{Ran, ServerView};
 use cbs_house::{Client, House, HouseError, Poll, SendError, open_house};
 use cbs_job::SumJob;
 use cbs_rules::{LIMIT, Mode, Modes};
-use linked_list_allocator::LocalHeap;
 use std::alloc::{Allocator, Global};
 use std::process::Abort;
 
@@ -79,20 +78,31 @@ const DRAINED: [Row; 10] = [
     Row::Now(5),
 ];
 
+/// Only the polls that take a message need memory.
+static PHASES: [Phase; 3] = [
+    Phase {
+        name: "messages are sent",
+        full: true,
+        rows: &SENT,
+    },
+    Phase {
+        name: "messages are taken in order",
+        full: false,
+        rows: &TAKEN,
+    },
+    Phase {
+        name: "what was taken is done",
+        full: true,
+        rows: &DRAINED,
+    },
+];
+
 #[test]
 fn messages_are_taken_in_order(rt: HostRuntime) {
-    let alloc = rt.alloc();
-    let heap = LocalHeap::new(alloc, 1 << 14).expect(&rt, "a heap");
-    let mut opened = Opened::new(&rt, &heap, Mode::Soft, (2, 5), (4, 4));
-    // Only the polls that take a message need memory.
-    let name = "messages are sent";
-    plays_full(&rt, alloc, &heap, &mut opened, name, &SENT);
-    opened.plays(&rt, alloc, "messages are taken in order", &TAKEN);
-    let name = "what was taken is done";
-    plays_full(&rt, alloc, &heap, &mut opened, name, &DRAINED);
+    plays_in_heap(&rt, rt.alloc(), Mode::Soft, &PHASES);
 }
 
-const CASES: [Case; 4] = [
+static CASES: [Case; 4] = [
     Case {
         name: "a client sees the free slots of its ring",
         mode: Mode::Soft,
@@ -181,13 +191,19 @@ fn is_refused(rt: &impl Abort, alloc: Global, backlog: u64, ring: u64, error: Ho
     same(rt, "refused", refused, Some(error));
 }
 
+/// A backlog and a number of slots of a ring, and the error by which a house with them is refused.
+static LIMITS: [(u64, u64, HouseError); 4] = [
+    (0, 0, HouseError::BadBacklog),
+    (4097, 4, HouseError::BadBacklog),
+    (4, 0, HouseError::BadRing),
+    (4, 1025, HouseError::BadRing),
+];
+
 #[test]
 fn limits_are_tested_in_their_order(rt: HostRuntime) {
-    let alloc = rt.alloc();
-    is_refused(&rt, alloc, 0, 0, HouseError::BadBacklog);
-    is_refused(&rt, alloc, 4097, 4, HouseError::BadBacklog);
-    is_refused(&rt, alloc, 4, 0, HouseError::BadRing);
-    is_refused(&rt, alloc, 4, 1025, HouseError::BadRing);
+    for &(backlog, ring, error) in &LIMITS {
+        is_refused(&rt, rt.alloc(), backlog, ring, error);
+    }
 }
 
 /// Returns a house of one throttled server with a tick in every 1000000000. A job of these ones was sent to it, and
@@ -216,7 +232,7 @@ const WAITED: ServerView = ServerView {
 };
 
 /// A job of three units is finished.
-const REPLENISHED: [Row; 5] = [
+static REPLENISHED: [Row; 5] = [
     Row::Drain(Ok(())),
     Row::Now(2_000_000_001),
     Row::Results(0, Ok(&[3])),
@@ -242,7 +258,7 @@ const UNFINISHED: ServerView = ServerView {
 };
 
 /// A job of 1001 units is not finished.
-const ENDED: [Row; 5] = [
+static ENDED: [Row; 5] = [
     Row::Drain(Err(HouseError::ClockEnd)),
     Row::Now(1_000_000_000_000),
     Row::Results(0, Ok(&[])),

@@ -139,12 +139,8 @@ fn a_gate_that_holds_all_back_stalls(rt: HostRuntime) {
     let (mut house, mut feeds) = opened(&rt, alloc, &[(2, 5)], 4, &[&[&[1], &[2]]]);
     rounds(&rt, &mut house, &mut feeds, 10, &Shut, (0, 0));
     assert!(rt; feeds.len() == 1);
-    same(
-        &rt,
-        "standing(house, feeds, 0)",
-        standing(&mut house, &mut feeds, 0),
-        0,
-    );
+    let standing = standing(&mut house, &mut feeds, 0);
+    same(&rt, "standing", standing, 0);
     gave(&rt, &house, 0, &[]);
     serves(&rt, &mut house, &mut feeds, &Shut, Err(HouseError::Stalled));
     gave(&rt, &house, 0, &[]);
@@ -163,17 +159,17 @@ fn served_feeds_may_be_served_again(rt: HostRuntime) {
     one_feed(&rt, &feeds, (0, true));
 }
 
+/// The reservations of three servers, each a budget and a period.
+static OF_THREE_RATES: [(u64, u64); 3] = [(2, 5), (1, 10), (1, 4)];
+
+/// Their jobs: the numbers that each job adds up.
+static OF_THREE: [&[&[u32]]; 3] = [&[&[1, 2, 3], &[9]], &[], &[&[10], &[20, 30]]];
+
 #[test]
 fn every_ring_gives_the_same_results(rt: HostRuntime) {
     let alloc = rt.alloc();
     for ring in [1, 2, 1024] {
-        let (mut house, mut feeds) = opened(
-            &rt,
-            alloc,
-            &[(2, 5), (1, 10), (1, 4)],
-            ring,
-            &[&[&[1, 2, 3], &[9]], &[], &[&[10], &[20, 30]]],
-        );
+        let (mut house, mut feeds) = opened(&rt, alloc, &OF_THREE_RATES, ring, &OF_THREE);
         serves(&rt, &mut house, &mut feeds, &OpenGate, Ok(()));
         gave(&rt, &house, 0, &[6, 9]);
         gave(&rt, &house, 1, &[]);
@@ -207,12 +203,18 @@ fn is_refused(rt: &impl Abort, alloc: Global, backlog: u64, ring: u64, wanted: H
     }
 }
 
+/// A backlog and a number of slots of a ring, and the error by which feeds with them are refused.
+static LIMITS: [(u64, u64, HouseError); 5] = [
+    (0, 4, HouseError::BadBacklog),
+    (4097, 4, HouseError::BadBacklog),
+    (4, 0, HouseError::BadRing),
+    (4, 1025, HouseError::BadRing),
+    (0, 0, HouseError::BadBacklog),
+];
+
 #[test]
 fn feeds_are_refused_with_their_jobs(rt: HostRuntime) {
-    let alloc = rt.alloc();
-    is_refused(&rt, alloc, 0, 4, HouseError::BadBacklog);
-    is_refused(&rt, alloc, 4097, 4, HouseError::BadBacklog);
-    is_refused(&rt, alloc, 4, 0, HouseError::BadRing);
-    is_refused(&rt, alloc, 4, 1025, HouseError::BadRing);
-    is_refused(&rt, alloc, 0, 0, HouseError::BadBacklog);
+    for &(backlog, ring, wanted) in &LIMITS {
+        is_refused(&rt, rt.alloc(), backlog, ring, wanted);
+    }
 }

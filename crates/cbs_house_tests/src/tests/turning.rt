@@ -30,7 +30,7 @@ const ENDED: [Row; 5] = [
     Row::Results(0, Ok(&[])),
 ];
 
-const CASES: [Case; 7] = [
+static CASES: [Case; 7] = [
     Case {
         name: "a soft house waits for a client that starts late",
         mode: Mode::Soft,

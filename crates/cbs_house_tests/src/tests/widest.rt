@@ -12,7 +12,7 @@ use std::alloc::Global;
 use std::process::Abort;
 
 /// The reservations of 64 servers, each with one tick in every 64.
-const RATES: [(u64, u64); 64] = [(1, 64); 64];
+static RATES: [(u64, u64); 64] = [(1, 64); 64];
 
 /// Returns a house, and for each server a feed of two jobs. The first job adds up the server's number and 1000. The
 /// second has the server's number alone.
