@@ -4,40 +4,57 @@ use super::says;
 use cbs_file::FileKind;
 use cbs_run::{ReadError, RunError};
 
+/// The text of each fault of a file.
+static OF_FILES: [(FileKind, &str); 7] = [
+    (FileKind::NotToml, "this is no TOML document"),
+    (
+        FileKind::UnknownKey,
+        "a key is not one of this table's keys",
+    ),
+    (FileKind::MissingKey, "a key of this table is missing"),
+    (FileKind::WrongType, "a value has the wrong type"),
+    (FileKind::OutOfRange, "a value is out of range"),
+    (
+        FileKind::NotAdmitted,
+        "the plan does not take this server: too many, too fine periods, or over the bound",
+    ),
+    (FileKind::OutOfMemory, "out of memory"),
+];
+
 #[test]
 fn files_say_what_is_wrong(rt: HostRuntime) {
-    let alloc = rt.alloc();
-    let text = "this is no TOML document";
-    says(&rt, alloc, &FileKind::NotToml, text);
-    let text = "a key is not one of this table's keys";
-    says(&rt, alloc, &FileKind::UnknownKey, text);
-    let text = "a key of this table is missing";
-    says(&rt, alloc, &FileKind::MissingKey, text);
-    let text = "a value has the wrong type";
-    says(&rt, alloc, &FileKind::WrongType, text);
-    let text = "a value is out of range";
-    says(&rt, alloc, &FileKind::OutOfRange, text);
-    let text = "the plan does not take this server: too many, too fine periods, or over the bound";
-    says(&rt, alloc, &FileKind::NotAdmitted, text);
-    let text = "out of memory";
-    says(&rt, alloc, &FileKind::OutOfMemory, text);
+    for (kind, text) in &OF_FILES {
+        says(&rt, rt.alloc(), kind, text);
+    }
 }
+
+/// The text of each error of a read.
+static OF_READS: [(ReadError, &str); 3] = [
+    (ReadError::OutOfMemory, "out of memory while reading"),
+    (ReadError::ReadFault, "a read failed"),
+    (ReadError::TooLarge, "there are more than 16777216 bytes"),
+];
+
+/// The text of each error of a run.
+static OF_RUNS: [(RunError, &str); 4] = [
+    (RunError::OutOfMemory, "out of memory while running"),
+    (RunError::WriteFault, "the output could not be written"),
+    (
+        RunError::ClockEnd,
+        "the clock came to its end with a job unfinished",
+    ),
+    (
+        RunError::Stalled,
+        "the clients did not send all in the rounds that they are given",
+    ),
+];
 
 #[test]
 fn reads_and_runs_say_what_is_wrong(rt: HostRuntime) {
-    let alloc = rt.alloc();
-    let text = "out of memory while reading";
-    says(&rt, alloc, &ReadError::OutOfMemory, text);
-    let text = "a read failed";
-    says(&rt, alloc, &ReadError::ReadFault, text);
-    let text = "there are more than 16777216 bytes";
-    says(&rt, alloc, &ReadError::TooLarge, text);
-    let text = "out of memory while running";
-    says(&rt, alloc, &RunError::OutOfMemory, text);
-    let text = "the output could not be written";
-    says(&rt, alloc, &RunError::WriteFault, text);
-    let text = "the clock came to its end with a job unfinished";
-    says(&rt, alloc, &RunError::ClockEnd, text);
-    let text = "the clients did not send all in the rounds that they are given";
-    says(&rt, alloc, &RunError::Stalled, text);
+    for (error, text) in &OF_READS {
+        says(&rt, rt.alloc(), error, text);
+    }
+    for (error, text) in &OF_RUNS {
+        says(&rt, rt.alloc(), error, text);
+    }
 }

@@ -2,6 +2,7 @@
 
 ghost use Rattle.std.specs.Prelude.{Some, None, ◌≡◌, ◌<◌, ◌-◌};
 
+use super::same;
 use cbs_run::{ByteInput, ByteOutput, Verb, run_bytes};
 use std::alloc::Global;
 use std::io;
@@ -121,13 +122,12 @@ pub struct Outcome {
 impl Outcome {
     /// Ends the test, and names the label, unless the run left this status, this output and this error output.
     pub fn leaves(&self, rt: &impl Abort, label: &str, status: u8, out: &str, err: &str) {
-        let found = self.status;
-        assert!(rt; found == status, "{label}: status {found}, not {status}");
-        assert!(rt; self.out.holds(out.as_bytes()), "{label}: another output");
-        assert!(rt;
+        let wrote = (
+            self.out.holds(out.as_bytes()),
             self.err.holds(err.as_bytes()),
-            "{label}: another error output"
         );
+        // The label, then the status and whether the output and the error output are those.
+        same(rt, label, (self.status, wrote), (status, (true, true)));
     }
 }
 

@@ -39,7 +39,7 @@ const MODE_TWICE: &str =
 /// The text before `server`, the line of `server`, the text after it, and the fault.
 type Faulty = [&'static str; 4];
 
-const FAULTS_AT_TOP: [Faulty; 13] = [
+static FAULTS_AT_TOP: [Faulty; 13] = [
     ["", "", "", "3 MissingKey at top"],
     ["format = 1\n", "mode = \"so", "", "1 NotToml at top"],
     ["format = 3", "", "", "5 OutOfRange at top"],
@@ -56,7 +56,7 @@ const FAULTS_AT_TOP: [Faulty; 13] = [
 ];
 
 /// The entries of `server`, and the fault.
-const FAULTS_AT_SERVERS: [(&str, &str, &str); 9] = [
+static FAULTS_AT_SERVERS: [(&str, &str, &str); 9] = [
     (HEAD, "{ budget = 2 }", "3 MissingKey at server 0"),
     (
         HEAD,
@@ -101,7 +101,7 @@ const FAULTS_AT_SERVERS: [(&str, &str, &str); 9] = [
 ];
 
 /// The entries of `step`, and the fault.
-const FAULTS_AT_STEPS: [(&str, &str); 10] = [
+static FAULTS_AT_STEPS: [(&str, &str); 10] = [
     ("1", "4 WrongType at step 0"),
     (
         "{ op = \"advance\", ticks = 1000000001 }",
@@ -232,7 +232,7 @@ op = \"run\"
 
 /// The same file with its keys in another order, with underscores in numbers and an escape in a text. The first of the
 /// units, which stands between the two parts, is left out.
-const BACKWARDS: [&str; 2] = [
+static BACKWARDS: [&str; 2] = [
     "step = [{ server = 0, job = \"\"\"sum\"\"\", units = [",
     ", 2, 3], op = \"submit\" },
   { op = \"run\" }, { op = \"run\" }, { op = \"\\u0072un\" }]

@@ -11,7 +11,7 @@ use std::time::Clock;
 
 /// Bytes, and how much memory they need. That is 1400 for a dot, 750 for a `[`, 700 for a `=`, 500 for a `{`, 100 for a
 /// comma, and 4 for any other.
-const WANTED: [(&str, u64); 6] = [
+static WANTED: [(&str, u64); 6] = [
     ("ab\n", 12),
     ("a=1", 708),
     ("[a.b]", 2162),
@@ -96,19 +96,21 @@ fn a_file_may_want_2_gib(rt: HostRuntime) {
     replays(&rt, alloc, "past 2 GiB", &file, 3, "", line);
 }
 
+/// Texts, and the bound that each is, if it is one.
+static BOUNDS: [(&str, Option<u64>); 8] = [
+    ("0", Some(0)),
+    ("1", Some(1_048_576)),
+    ("2048", Some(2_147_483_648)),
+    ("18446744073709551615", Some(u64::MAX)),
+    ("18446744073709551616", None),
+    ("", None),
+    ("-1", None),
+    ("2 GiB", None),
+];
+
 #[test]
 fn a_bound_is_a_whole_number_of_mebibytes(rt: HostRuntime) {
-    is_bound(&rt, "0", Some(0));
-    is_bound(&rt, "1", Some(1_048_576));
-    is_bound(&rt, "2048", Some(2_147_483_648));
-    is_bound(&rt, "18446744073709551615", Some(u64::MAX));
-    is_bound(&rt, "18446744073709551616", None);
-    is_bound(&rt, "", None);
-    is_bound(&rt, "-1", None);
-    is_bound(&rt, "2 GiB", None);
-}
-
-/// Tests which bound a text is, if it is one.
-fn is_bound(rt: &impl Abort, text: &str, bound: Option<u64>) {
-    same(rt, text, memory_bound(text).ok(), bound);
+    for &(text, bound) in &BOUNDS {
+        same(&rt, text, memory_bound(text).ok(), bound);
+    }
 }

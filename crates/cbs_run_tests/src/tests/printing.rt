@@ -1,6 +1,7 @@
 //! Texts that are printed of a file: by `check`, as reports, and as pictures.
 
 use super::fakes::{Memory, Outcome};
+use super::same;
 use cbs_run::{
     Drawing, Form, NoProgress, Window, check_bytes_within, draw_load_within, draw_tasks_within,
     report_bytes_within, simulate_bytes_within, simulate_lines_within,
@@ -227,32 +228,47 @@ fn ticks(rt: &impl Abort, from: u64, to: u64) -> Window {
     Window::new(from, to).ok().expect(rt, "ticks")
 }
 
+/// What a drawing begins with, has somewhere, and ends with.
+static DRAWN: [(Drawing, &str, &str, &str); 3] = [
+    (
+        Drawing::Svg,
+        "<svg ",
+        "<title id=\"what\">a.toml, ticks 0 to 4</title>",
+        "</svg>\n",
+    ),
+    (Drawing::Text, "a.toml, ticks 0 to 4\n", "|", "\n"),
+    (
+        Drawing::Trace,
+        "{\"displayTimeUnit\":\"ns\"",
+        "\"name\":\"a.toml\"",
+        "}\n",
+    ),
+];
+
+/// Ends the test unless what is drawn begins, goes on and ends with these parts.
+fn is_drawn(
+    rt: &impl Abort,
+    alloc: Global,
+    asked: Asked,
+    file: &str,
+    (start, part, end): (&str, &str, &str),
+) {
+    let outcome = printed(alloc, asked, MEMORY, file, usize::MAX);
+    same(rt, "status", outcome.status, 0);
+    let text = str::from_utf8(&outcome.out.taken).unwrap_or("");
+    same(rt, text, text.starts_with(start), true);
+    same(rt, text, text.contains(part), true);
+    same(rt, text, text.ends_with(end), true);
+}
+
 #[test]
 fn a_run_is_drawn_up_to_its_end(rt: HostRuntime) {
     let alloc = rt.alloc();
     let all = ticks(&rt, 0, 20_000);
-    let traced = "{\"displayTimeUnit\":\"ns\"";
-    for (drawing, start, part, end) in &[
-        (
-            Drawing::Svg,
-            "<svg ",
-            "<title id=\"what\">a.toml, ticks 0 to 4</title>",
-            "</svg>\n",
-        ),
-        (Drawing::Text, "a.toml, ticks 0 to 4\n", "|", "\n"),
-        (Drawing::Trace, traced, "\"name\":\"a.toml\"", "}\n"),
-    ] {
-        for (asked, file) in &[
-            (Asked::DrawLoad(*drawing, all), LOAD),
-            (Asked::DrawTasks(*drawing, all), TASKS),
-        ] {
-            let outcome = printed(alloc, *asked, MEMORY, file, usize::MAX);
-            assert_eq!(rt; outcome.status, 0);
-            let text = str::from_utf8(&outcome.out.taken).unwrap_or("");
-            assert!(rt; text.starts_with(*start), "{text}");
-            assert!(rt; text.contains(*part), "{text}");
-            assert!(rt; text.ends_with(*end), "{text}");
-        }
+    for &(drawing, start, part, end) in &DRAWN {
+        let parts = (start, part, end);
+        is_drawn(&rt, alloc, Asked::DrawLoad(drawing, all), LOAD, parts);
+        is_drawn(&rt, alloc, Asked::DrawTasks(drawing, all), TASKS, parts);
     }
 }
 
@@ -296,11 +312,18 @@ fn a_writer_that_fails_has_a_prefix(rt: HostRuntime) {
     }
 }
 
+/// Ends the test unless a faulty file is explained so, and without memory is refused for that.
+fn is_explained(rt: &impl Abort, alloc: Global, asked: Asked, file: &str, explained: &str) {
+    same(rt, explained, explained.starts_with(FAULT), true);
+    printed(alloc, asked, MEMORY, file, 0).leaves(rt, explained, 3, "", explained);
+    let no_memory = "cbsrun: file fault 7 OutOfMemory at top\n";
+    printed(alloc, asked, 10, file, 0).leaves(rt, no_memory, 3, "", no_memory);
+}
+
 #[test]
 fn a_fault_is_explained_if_there_is_memory(rt: HostRuntime) {
     let alloc = rt.alloc();
     let some = ticks(&rt, 0, 4);
-    let no_memory = "cbsrun: file fault 7 OutOfMemory at top\n";
     for (asked, file, explained) in &[
         (Asked::Check, "load = 2\n", LOAD_EXPLAINED),
         (
@@ -325,8 +348,6 @@ fn a_fault_is_explained_if_there_is_memory(rt: HostRuntime) {
             TASKS_EXPLAINED,
         ),
     ] {
-        assert!(rt; explained.starts_with(FAULT), "{explained}");
-        printed(alloc, *asked, MEMORY, file, 0).leaves(&rt, explained, 3, "", explained);
-        printed(alloc, *asked, 10, file, 0).leaves(&rt, no_memory, 3, "", no_memory);
+        is_explained(&rt, alloc, *asked, file, explained);
     }
 }

@@ -70,7 +70,7 @@ const RUNS: Shape = Shape {
     },
 };
 
-const SHAPES: [Shape; 12] = [
+static SHAPES: [Shape; 12] = [
     Shape {
         name: "runs, one a line",
         start: STEPS,

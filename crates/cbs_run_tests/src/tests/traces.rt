@@ -365,7 +365,7 @@ const NO_SERVER: Row = Row {
     lines: "@0 run idle\n@0 advance 0\n",
 };
 
-const ROWS: [Row; 18] = [
+static ROWS: [Row; 18] = [
     NO_STEP,
     LONG_PERIOD,
     TWO_SERVERS,
