@@ -14,7 +14,7 @@ use std::thread::Threads;
 use std::time::Clock;
 
 /// The words of all calls.
-const CASES: [&str; 15] = [
+static CASES: [&str; 15] = [
     "core",
     "make_room",
     "submit",
@@ -44,10 +44,10 @@ pub fn make<R: Print + Threads + Clock + Sync>(rt: &R, alloc: Global, case: &str
         "collector" => house_cases::new_collector(rt, alloc),
         "collector_room" => house_cases::collector_room(rt, alloc),
         "expect" => house_cases::announce(rt, alloc),
-        "poll" => house_cases::poll(rt, alloc),
-        "take_results" => house_cases::take_results(rt, alloc),
-        "turn" => house_cases::turn(rt, alloc),
-        "run_until_closed" => house_cases::run_until_closed(rt, alloc),
+        "poll" => house_cases::make_calls(rt, alloc, &house_cases::POLL),
+        "take_results" => house_cases::make_calls(rt, alloc, &house_cases::TAKE_RESULTS),
+        "turn" => house_cases::make_calls(rt, alloc, &house_cases::TURN),
+        "run_until_closed" => house_cases::make_calls(rt, alloc, &house_cases::RUN_UNTIL_CLOSED),
         "serve_round" => serving_cases::round(rt, alloc),
         "serve" => serving_cases::whole(rt, alloc),
         _ => bail!("no such call: {case}"),
@@ -56,7 +56,7 @@ pub fn make<R: Print + Threads + Clock + Sync>(rt: &R, alloc: Global, case: &str
 
 /// Makes all calls, one after another.
 pub fn make_all<R: Print + Threads + Clock + Sync>(rt: &R, alloc: Global) -> Result<()> {
-    for case in CASES {
+    for &case in &CASES {
         println!(rt; "== {case}")?;
         make(rt, alloc, case)?;
     }

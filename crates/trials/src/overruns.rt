@@ -23,7 +23,7 @@ use wall::time_of;
 const BRIEFLY: u64 = 40;
 
 /// The modes that greedy has in the trials.
-const MODES: [Mode; 2] = [Mode::Soft, Mode::Throttled];
+static MODES: [Mode; 2] = [Mode::Soft, Mode::Throttled];
 
 /// Returns the word for a mode.
 fn word_of(mode: Mode) -> &'static str {
@@ -46,7 +46,7 @@ fn metered(rt: &impl Clock, alloc: Global, mode: Mode, millis: u64) -> Result<Se
 
 /// Runs each trial for `millis` milliseconds, and prints a line for it.
 pub fn print_all<R: Print + Clock>(rt: &R, alloc: Global, millis: u64) -> Result<()> {
-    for mode in MODES {
+    for &mode in &MODES {
         let word = word_of(mode);
         let seen = unmetered(rt, alloc, mode, millis)?;
         println!(rt; "greedy {word}, no meter: {seen}")?;
@@ -58,7 +58,7 @@ pub fn print_all<R: Print + Clock>(rt: &R, alloc: Global, millis: u64) -> Result
 
 /// Runs each trial shortly, and prints how often a server was later than the rules allow. It prints no times.
 pub fn print_lateness<R: Print + Clock>(rt: &R, alloc: Global) -> Result<()> {
-    for mode in MODES {
+    for &mode in &MODES {
         let word = word_of(mode);
         let without = unmetered(rt, alloc, mode, BRIEFLY)?.too_late;
         let with = metered(rt, alloc, mode, BRIEFLY)?.too_late;

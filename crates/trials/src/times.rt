@@ -14,7 +14,7 @@ use std::thread::Threads;
 use std::time::Clock;
 
 /// The number of servers of each column.
-const COLUMNS: [u16; 3] = [1, 8, 64];
+static COLUMNS: [u16; 3] = [1, 8, 64];
 
 /// The number of things made for each case if no time is wanted.
 const BRIEFLY: u64 = 4_096;
@@ -30,7 +30,7 @@ fn print_row<R: Print + Threads + Clock + Sync>(
     brief: bool,
 ) -> Result<()> {
     print!(rt; "{:<44}", case.label())?;
-    for servers in COLUMNS {
+    for &servers in &COLUMNS {
         if brief {
             print!(rt; " {:>9}", case.time(rt, alloc, servers, BRIEFLY)?.made)?;
         } else {
@@ -71,7 +71,7 @@ pub fn print_table<R: Print + Threads + Clock + Sync>(
     brief: bool,
 ) -> Result<()> {
     println!(rt; "{:<44} {:>9} {:>9} {:>9}", "servers", 1, 8, 64)?;
-    for case in CASES {
+    for &case in &CASES {
         print_row(rt, alloc, case, brief)?;
     }
     Ok(())

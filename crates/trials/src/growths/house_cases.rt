@@ -1,7 +1,7 @@
 //! The calls of the house and the collector that take memory.
 
-ghost use Rattle.std.specs.Prelude.{◌≡◌, length, IfOk};
-ghost use Rattle.cbs_clients.specs.Clients.{SameClient, IsOpened};
+ghost use Rattle.std.specs.Prelude.{◌≡◌, length};
+ghost use Rattle.cbs_clients.specs.Clients.{IsOpened};
 ghost use Rattle.cbs_clients.specs.Houses.{rings_of};
 
 use super::telling::{begin, tell};
@@ -129,120 +129,152 @@ pub fn announce(rt: &impl Print, alloc: Global) -> Result<()> {
     Ok(())
 }
 
-/// Returns a house of one soft server with 2 ticks in every 5, and its client.
-fn house_of_one(alloc: Global) -> Result<(House<SumJob>, Client<SumJob>)>
-    ensures { IfOk result (λ r. IsOpened (rings_of r.0) r.1) }
-{
+/// A house of one soft server with 2 ticks in every 5, and its client.
+#[derive(Drop)]
+struct Opened {
+    house: House<SumJob>,
+    client: Client<SumJob>,
+    ghost opened: { IsOpened (rings_of house) client },
+}
+
+/// A call of a house of one server or of its client.
+#[derive(Clone, Copy)]
+enum Call {
+    Poll,
+    /// How many messages stand in the ring.
+    Settle,
+    View,
+    Turn,
+    Run,
+    Drain,
+    Results,
+    /// The results, handed out.
+    TakeResults,
+    End,
+    /// A run until the client's end is taken and its jobs are finished.
+    Close,
+}
+
+/// Calls of a house whose client has sent two jobs, each with the word for its result.
+pub struct Calls {
+    /// Those before the call under test.
+    before: &'static [(&'static str, Call)],
+    /// The call under test, and those after it.
+    after: &'static [(&'static str, Call)],
+}
+
+/// A poll of a ring with two messages.
+pub static POLL: Calls = Calls {
+    before: &[],
+    after: &[
+        ("first", Call::Poll),
+        ("settle", Call::Settle),
+        ("view", Call::View),
+        ("again", Call::Poll),
+        ("settle", Call::Settle),
+        ("drain", Call::Drain),
+        ("results", Call::Results),
+    ],
+};
+
+/// Results that are handed out while a job is held.
+pub static TAKE_RESULTS: Calls = Calls {
+    before: &[
+        ("poll", Call::Poll),
+        ("poll", Call::Poll),
+        ("run", Call::Run),
+    ],
+    after: &[
+        ("first", Call::TakeResults),
+        ("results", Call::Results),
+        ("again", Call::TakeResults),
+        ("drain", Call::Drain),
+        ("results", Call::Results),
+    ],
+};
+
+/// A turn of a house with two messages in its ring, and two more turns.
+pub static TURN: Calls = Calls {
+    before: &[],
+    after: &[
+        ("first", Call::Turn),
+        ("view", Call::View),
+        ("again", Call::Turn),
+        ("next", Call::Turn),
+        ("results", Call::Results),
+    ],
+};
+
+/// A run of a house whose client has sent its end too.
+pub static RUN_UNTIL_CLOSED: Calls = Calls {
+    before: &[("end", Call::End)],
+    after: &[
+        ("first", Call::Close),
+        ("results", Call::Results),
+        ("again", Call::Close),
+        ("results", Call::Results),
+    ],
+};
+
+/// Returns a house of one server, and its client.
+fn house_of_one(alloc: Global) -> Result<Opened> {
     let (plan, modes) = soft_servers(&[(2, 5)])?.into_parts();
     let (house, mut clients) = open_house(alloc, plan, modes, 4, 4)?;
     let Some(client) = clients.pop() else {
         bail!("a house without a client");
     };
-    Ok((house, client))
+    Ok(Opened { house, client })
 }
 
-/// Sends a job, and prints its number.
-fn sends(rt: &impl Print, client: &mut Client<SumJob>, task: Task<SumJob>)
-    ensures { SameClient client.old client.new }
-{
-    match client.send(task) {
-        Ok(number) => tell(rt, "sent", number),
-        Err(refused) => tell(rt, "not sent", refused.error),
+impl Opened {
+    /// Sends a job, and prints its number.
+    fn sends(&mut self, rt: &impl Print, task: Task<SumJob>) {
+        match self.client.send(task) {
+            Ok(number) => tell(rt, "sent", number),
+            Err(refused) => tell(rt, "not sent", refused.error),
+        }
+    }
+
+    /// Makes a call, and prints its result.
+    fn makes<R: Print + Clock>(&mut self, rt: &R, what: &str, call: Call) {
+        let house = &mut self.house;
+        match call {
+            Call::Poll => tell(rt, what, house.poll(0)),
+            Call::Settle => tell(rt, what, house.settle(&mut self.client)),
+            Call::View => tell(rt, what, house.view(0)),
+            Call::Turn => tell(rt, what, house.turn()),
+            Call::Run => tell(rt, what, house.run()),
+            Call::Drain => tell(rt, what, house.drain()),
+            Call::Results => tell(rt, what, house.results(0)),
+            Call::TakeResults => hands_out(rt, what, house),
+            Call::End => tell(rt, what, self.client.end()),
+            Call::Close => tell(rt, what, house.run_until_closed(rt, &mut NoSink, 1)),
+        }
     }
 }
 
-/// Polls the server.
-fn polls(rt: &impl Print, what: &str, house: &mut House<SumJob>)
+/// Takes the results, and prints them.
+fn hands_out(rt: &impl Print, what: &str, house: &mut House<SumJob>)
     ensures { rings_of house.new ≡ rings_of house.old }
 {
-    tell(rt, what, house.poll(0));
-}
-
-/// Prints how many messages stand in the ring.
-fn settles(rt: &impl Print, house: &mut House<SumJob>, client: &mut Client<SumJob>)
-    requires { IsOpened (rings_of house.old) client.old }
-    ensures rings { rings_of house.new ≡ rings_of house.old }
-    ensures client { SameClient client.old client.new }
-{
-    tell(rt, "settle", house.settle(client));
-}
-
-/// Runs all jobs, and prints the results.
-fn drains(rt: &impl Print, house: &mut House<SumJob>) {
-    tell(rt, "drain", house.drain());
-    tell(rt, "results", house.results(0));
-}
-
-/// Returns a house of one server, and its client, which has sent two jobs.
-fn two_sent(rt: &impl Print, alloc: Global) -> Result<(House<SumJob>, Client<SumJob>)>
-    ensures { IfOk result (λ r. IsOpened (rings_of r.0) r.1) }
-{
-    let (five, seven) = (sum_of(alloc, &[5])?, sum_of(alloc, &[7])?);
-    let (house, mut client) = house_of_one(alloc)?;
-    sends(rt, &mut client, five);
-    sends(rt, &mut client, seven);
-    Ok((house, client))
-}
-
-/// Polls a ring with two messages.
-pub fn poll(rt: &impl Print, alloc: Global) -> Result<()> {
-    let (mut house, mut client) = two_sent(rt, alloc)?;
-    begin(rt);
-    polls(rt, "first", &mut house);
-    settles(rt, &mut house, &mut client);
-    tell(rt, "view", house.view(0));
-    polls(rt, "again", &mut house);
-    settles(rt, &mut house, &mut client);
-    drains(rt, &mut house);
-    Ok(())
-}
-
-/// Takes the results, and prints them.
-fn hands_out(rt: &impl Print, what: &str, house: &mut House<SumJob>) {
     match house.take_results(0) {
         Ok(results) => tell(rt, what, results.as_slice()),
         Err(error) => tell(rt, what, error),
     }
 }
 
-/// Hands out results while a job is held.
-pub fn take_results(rt: &impl Print, alloc: Global) -> Result<()> {
-    let (mut house, _client) = two_sent(rt, alloc)?;
-    polls(rt, "poll", &mut house);
-    polls(rt, "poll", &mut house);
-    tell(rt, "run", house.run());
+/// Makes these calls of a new house whose client has sent two jobs.
+pub fn make_calls<R: Print + Clock>(rt: &R, alloc: Global, calls: &Calls) -> Result<()> {
+    let (five, seven) = (sum_of(alloc, &[5])?, sum_of(alloc, &[7])?);
+    let mut opened = house_of_one(alloc)?;
+    opened.sends(rt, five);
+    opened.sends(rt, seven);
+    for &(what, call) in calls.before {
+        opened.makes(rt, what, call);
+    }
     begin(rt);
-    hands_out(rt, "first", &mut house);
-    tell(rt, "results", house.results(0));
-    hands_out(rt, "again", &mut house);
-    drains(rt, &mut house);
-    Ok(())
-}
-
-/// Takes a turn of a house with two messages in its ring, and two more turns.
-pub fn turn(rt: &impl Print, alloc: Global) -> Result<()> {
-    let (mut house, _client) = two_sent(rt, alloc)?;
-    begin(rt);
-    tell(rt, "first", house.turn());
-    tell(rt, "view", house.view(0));
-    tell(rt, "again", house.turn());
-    tell(rt, "next", house.turn());
-    tell(rt, "results", house.results(0));
-    Ok(())
-}
-
-/// Runs until the client's end is taken and its jobs are finished.
-fn runs_until_closed<R: Print + Clock>(rt: &R, what: &str, house: &mut House<SumJob>) {
-    tell(rt, what, house.run_until_closed(rt, &mut NoSink, 1));
-    tell(rt, "results", house.results(0));
-}
-
-/// Runs a house whose client has sent two jobs and its end.
-pub fn run_until_closed<R: Print + Clock>(rt: &R, alloc: Global) -> Result<()> {
-    let (mut house, mut client) = two_sent(rt, alloc)?;
-    tell(rt, "end", client.end());
-    begin(rt);
-    runs_until_closed(rt, "first", &mut house);
-    runs_until_closed(rt, "again", &mut house);
+    for &(what, call) in calls.after {
+        opened.makes(rt, what, call);
+    }
     Ok(())
 }

@@ -16,7 +16,7 @@ use std::time::Clock;
 const TURNS: u64 = 100_000;
 
 /// The jobs of three servers: the numbers that each job adds up. The second server has no job.
-const JOBS: [&[&[u32]]; 3] = [&[&[1, 2, 3], &[9]], &[], &[&[10], &[20, 30, 0]]];
+static JOBS: [&[&[u32]]; 3] = [&[&[1, 2, 3], &[9]], &[], &[&[10], &[20, 30, 0]]];
 
 /// Returns a house of three servers, and a feed of the jobs of each.
 fn three_fed(alloc: Global) -> Result<(House<SumJob>, Vec<Feed<SumJob>>)>

@@ -4,7 +4,7 @@ use cbs_house::{Gate, Poll};
 use std::sync::atomic::{AtomicU64, Ordering};
 
 /// The longest delays that a load may have, in reads of a counter.
-const LONGEST: [u64; 4] = [1, 16, 128, 1024];
+static LONGEST: [u64; 4] = [1, 16, 128, 1024];
 
 /// A gate that delays each send, and the house after its polls, at random. It also puts about every fourth send off. No
 /// send is put off for ever: each question gets a new random number.

@@ -25,7 +25,7 @@ pub enum Case {
 }
 
 /// All cases, in the order of the table.
-pub const CASES: [Case; 8] = [
+pub static CASES: [Case; 8] = [
     Case::Run(Mode::Soft, 1),
     Case::Run(Mode::Soft, 25),
     Case::Run(Mode::Throttled, 1),
