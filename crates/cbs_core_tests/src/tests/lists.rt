@@ -238,30 +238,19 @@ static BEHIND: [Row; 3] = [
     Row::State(1, 1, 6, false),
 ];
 
-/// Takes the memory of a heap but for the replies to the list, and gives the first server as many jobs as it holds.
-/// Returns how many it took, and what holds the memory.
-fn takes_all_but_replies<'a>(
-    rt: &impl Abort,
-    alloc: Global,
-    heap: &'a LocalHeap,
-    core: &mut Core<SumJob, &'a LocalHeap>,
-) -> (u64, Vec<Vec<u8, &'a LocalHeap>>) {
-    let replies = Vec::<Reply<SumJob>, &LocalHeap>::with_capacity(heap, ASKED.len());
-    let kept = replies.expect(rt, "memory");
-    let ballast = filled(rt, alloc, heap);
-    let taken = takes_all_room(rt, alloc, core);
-    drop(kept);
-    (taken, ballast)
-}
-
-/// Makes the steps while no job finds memory. When a job is done there is room again, for the next job of any server.
-/// `taken` is how many jobs the first server has.
-fn is_marked<'a>(
-    rt: &impl Abort,
-    core: &mut Core<SumJob, &'a LocalHeap>,
-    steps: Vec<Step<SumJob>, &'a LocalHeap>,
-    taken: u64,
-) {
+#[test]
+fn a_step_that_finds_no_memory_is_marked(rt: HostRuntime) {
+    let alloc = rt.alloc();
+    let heap = LocalHeap::new(alloc, 1 << 14).expect(&rt, "a heap");
+    let mut core = core_of(&rt, &heap, Mode::Soft, &[(2, 5), (2, 5)], 64);
+    let steps = steps_of(&rt, alloc, &heap, &ASKED);
+    same(&rt, "make_room", core.make_room(1), Ok(()));
+    // The rest of the heap is as long as the replies, so no job finds memory. When a job is done there is room again,
+    // for the next job of any server.
+    let replies = Vec::<Reply<SumJob>, &LocalHeap>::with_capacity(&heap, ASKED.len());
+    let ballast = filled(&rt, alloc, &heap);
+    let taken = takes_all_room(&rt, alloc, &mut core);
+    drop(replies.expect(&rt, "memory"));
     let wanted = [
         Told::NotAccepted(CoreError::OutOfMemory),
         Told::Done(0, 0, 1),
@@ -271,18 +260,7 @@ fn is_marked<'a>(
         Told::Accepted(taken),
         Told::Done(1, 0, 2),
     ];
-    answers(rt, "no memory is found", core, steps, &wanted);
-}
-
-#[test]
-fn a_step_that_finds_no_memory_is_marked(rt: HostRuntime) {
-    let alloc = rt.alloc();
-    let heap = LocalHeap::new(alloc, 1 << 14).expect(&rt, "a heap");
-    let mut core = core_of(&rt, &heap, Mode::Soft, &[(2, 5), (2, 5)], 64);
-    let steps = steps_of(&rt, alloc, &heap, &ASKED);
-    same(&rt, "make_room", core.make_room(1), Ok(()));
-    let (taken, ballast) = takes_all_but_replies(&rt, alloc, &heap, &mut core);
-    is_marked(&rt, &mut core, steps, taken);
+    answers(&rt, "no memory is found", &mut core, steps, &wanted);
     plays(&rt, alloc, "behind the steps", &mut core, &BEHIND);
     drop(ballast);
 }

@@ -55,28 +55,18 @@ static ADMISSIONS: [Admission; 4] = [
     },
 ];
 
-/// Asks a plan for a reservation, and checks the answer.
-fn asks(
-    rt: &impl Abort,
-    plan: &mut Plan,
-    (budget, period): (u64, u64),
-    answer: Result<u16, AdmitError>,
-) {
-    let reservation = reserved(rt, budget, period);
-    let admitted = (budget, period, plan.admit(reservation));
-    same(rt, "admit", admitted, (budget, period, answer));
-    if let Ok(server) = answer {
-        same(rt, "get", plan.get(server), Some(reservation));
-    }
-}
-
 /// Asks a new plan for the reservations of an admission, and checks each answer and the plan behind them.
 fn admits(rt: &impl Abort, admission: &Admission) {
     let (num, den) = admission.bound;
     let mut plan = Plan::new(Bound::new(num, den).expect(rt, "a bound"));
     assert!(rt; plan.is_empty());
     for &(budget, period, answer) in admission.asked {
-        asks(rt, &mut plan, (budget, period), answer);
+        let reservation = reserved(rt, budget, period);
+        let admitted = (budget, period, plan.admit(reservation));
+        same(rt, "admit", admitted, (budget, period, answer));
+        if let Ok(server) = answer {
+            same(rt, "get", plan.get(server), Some(reservation));
+        }
     }
     let len = admission.len;
     let held = (plan.len(), plan.is_empty());
@@ -126,16 +116,6 @@ static LEFT: [(&[(u64, u64)], &[(u64, u64)]); 4] = [
     (&[(1, 1000); 64], &[(1000, 0)]),
 ];
 
-/// Returns a plan of these servers on nine tenths of a processor.
-fn nine_tenths(rt: &impl Abort, servers: &[(u64, u64)]) -> Plan {
-    let mut plan = Plan::new(Bound::new(9, 10).expect(rt, "a bound"));
-    for &(budget, period) in servers {
-        let admitted = plan.admit(reserved(rt, budget, period));
-        same(rt, "admitted", admitted.is_ok(), true);
-    }
-    plan
-}
-
 #[test]
 fn tells_the_greatest_budget(rt: HostRuntime) {
     for &(servers, rows) in &LEFT {
@@ -143,9 +123,13 @@ fn tells_the_greatest_budget(rt: HostRuntime) {
     }
 }
 
-/// Checks for each period the greatest budget that a plan of these servers still admits.
+/// Checks for each period the greatest budget that a plan of these servers still admits under nine tenths.
 fn leaves(rt: &impl Abort, servers: &[(u64, u64)], rows: &[(u64, u64)]) {
-    let plan = nine_tenths(rt, servers);
+    let mut plan = Plan::new(Bound::new(9, 10).expect(rt, "a bound"));
+    for &(budget, period) in servers {
+        let admitted = plan.admit(reserved(rt, budget, period));
+        same(rt, "admitted", admitted.is_ok(), true);
+    }
     for &(period, budget) in rows {
         let left = (period, plan.greatest_budget(period));
         same(rt, "greatest budget", left, (period, budget));
