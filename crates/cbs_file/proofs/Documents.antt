@@ -1,50 +1,11 @@
--- The members of a document that was read line by line.
-use Rattle.std.proofs.Common.{◌≡◌, ℕ, List, Option, Some, None, Result, Ok, Err, refl, sym, ◌∙◌, Ordering, Less, Equal, Greater, nat_cmp, is_eq, cond}
-use Rattle.std.proofs.lemmas.Option.{none-some}
-use Rattle.std.specs.Ordering.{match_ordering}
-use Rattle.std.specs.Cmp.Lexicographic.{slice_cmp}
+-- Errors that a `?` passes on.
+use Rattle.std.proofs.Common.{◌≡◌, Option, None, Result, Ok, Err, sym, ◌∙◌}
 use Rattle.std.specs.Result.{IsErrAnd}
-use Rattle.toml.specs.Data.{Data, Members, no_members, member, get_member}
-use Rattle.toml.specs.Tables.{Node, Nodes, no_nodes, node, value, insert, get_node, close, close_node}
-use Rattle.cbs_read.specs.Reading.{nodes_of}
+use Rattle.toml.specs.Data.{Members}
 use Rattle.cbs_read.specs.declared.stop.Stop.{Stop}
 use Rattle.cbs_read.specs.declared.stop.Stop.TheVariants.{NotToml}
 use Rattle.cbs_file.specs.declared.stream.Document.{Document as Doc}
-use Rattle.cbs_file.specs.Streams.{insert_member, ReadsDocument}
-
--- a choice by the order of two keys, as nodes
-match_nodes : (o : Ordering) (a b c : Members) → nodes_of (match_ordering o a b c) ≡ match_ordering o (nodes_of a) (nodes_of b) (nodes_of c)
-match_nodes Less a b c = refl
-match_nodes Equal a b c = refl
-match_nodes Greater a b c = refl
-
--- one more member is one more node
-pub nodes_of-insert_member : (k : List ℕ) (d : Data) (ms : Members) → nodes_of (insert_member k d ms) ≡ insert k (value d) (nodes_of ms)
-nodes_of-insert_member k d no_members = refl
-nodes_of-insert_member k d (member l e ms) = match_nodes (slice_cmp nat_cmp k l) _ _ _ ∙ rw (nodes_of-insert_member k d ms)
-
--- such a choice, as complete tables
-match_closed : (o : Ordering) (a b c : Nodes) → close (match_ordering o a b c) ≡ match_ordering o (close a) (close b) (close c)
-match_closed Less a b c = refl
-match_closed Equal a b c = refl
-match_closed Greater a b c = refl
-
--- the members of nodes with one more
-pub close-insert : (k : List ℕ) (x : Node) (ns : Nodes) → close (insert k x ns) ≡ insert_member k (close_node x) (close ns)
-close-insert k x no_nodes = refl
-close-insert k x (node l y ns) = match_closed (slice_cmp nat_cmp k l) _ _ _ ∙ rw (close-insert k x ns) refl
-
--- if nothing is found as a value, nothing is found as a node
-none_at : (o : Ordering) (y : Node) (a : Option Data) (b : Option Node) → match_ordering o a (Some (close_node y)) a ≡ None → (a ≡ None → b ≡ None)
-    → cond (is_eq o) (Some y) b ≡ None
-none_at Less y a b none ih = ih none
-none_at Equal y a b none ih = absurd (none-some (close_node y) (sym none))
-none_at Greater y a b none ih = ih none
-
--- what none of the members has, no node has
-pub closed_none : (k : List ℕ) (ns : Nodes) → get_member k (close ns) ≡ None → get_node k ns ≡ None
-closed_none k no_nodes none = refl
-closed_none k (node l y ns) none = none_at (slice_cmp nat_cmp k l) y (get_member k (close ns)) (get_node k ns) none (closed_none k ns)
+use Rattle.cbs_file.specs.Streams.{ReadsDocument}
 
 -- an error that a `?` passes on
 pub document_err : (r : Result Doc Stop) (expected : Option Members) (e : Stop) (Q : Stop → Type 0)

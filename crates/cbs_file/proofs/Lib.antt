@@ -1,4 +1,3 @@
-pub mod Arrays
 pub mod Documents
 pub mod OtherSteps
 pub mod PlainSteps

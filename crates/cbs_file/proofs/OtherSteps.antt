@@ -17,7 +17,7 @@ use Rattle.cbs_file.specs.declared.format.Format.{Format}
 use Rattle.cbs_file.specs.declared.format.Format.TheVariants.{One, Two}
 use Rattle.cbs_file.specs.TopTables.{TopValues, TypedData, TopData, format_at, keys_of, mode_at}
 use Rattle.cbs_file.specs.TopTables.{values_at_keys, top_values, typed_values, spelled_by, top_table}
-use Rattle.cbs_file.specs.Streams.{insert_member}
+use Rattle.cbs_read.specs.Reading.{insert_member}
 
 -- which keys a table has does not depend on the value at one of them
 only_at : (o : Ordering) (keys : List (List ℕ)) (s l : List ℕ) (d e x : Data) (a b : Members) (ms : Members) → has_only keys a ≡ has_only keys b

@@ -1,15 +1,8 @@
 -- The file that a document spells whose steps were read apart.
-use Rattle.std.proofs.Common.{◌≡◌, ℕ, List, [], ◌∷◌, codes, true, Some, None, Ok, Err, length, Ordering, Less}
-use Rattle.std.proofs.Common.{Equal, Greater, String, Global, string_bytes, refl, ◌∙◌}
+use Rattle.std.proofs.Common.{◌≡◌, ℕ, List, codes, true, Option, Some, None, is_some, Ok, Err, length, refl}
 use Rattle.std.specs.Str.{is_utf8}
-use Rattle.std.specs.BTreeMap.{insert_entry}
-use Rattle.std.specs.String.{string_cmp}
-use Rattle.std.specs.Ordering.{match_ordering}
-use Rattle.toml.specs.declared.value.Value.{Value}
 use Rattle.toml.specs.Data.{array, Items, no_items, Members, get_member}
-use Rattle.toml.specs.View.{view, members_view}
 use Rattle.toml.specs.Parse.{parse_document}
-use Rattle.toml.proofs.Views.{Entry}
 use Rattle.cbs_steps.specs.declared.step.Step.{Step}
 use Rattle.cbs_job.specs.declared.file.FileJob.{FileJob}
 use Rattle.cbs_tables.specs.declared.fault.FileKind.{FileKind}
@@ -19,29 +12,27 @@ use Rattle.cbs_tables.specs.declared.fault.Place.TheVariants.{Top, Step as AtSte
 use Rattle.cbs_file.specs.Entries.{step_entry}
 use Rattle.cbs_tables.specs.Fields.{each_from, list_of}
 use Rattle.cbs_rules.specs.Setups.{ModedPlan, no_servers}
-use Rattle.cbs_tables.specs.Documents.{at, faulty, taken_in}
+use Rattle.cbs_tables.specs.Documents.{at, faulty, has_key, taken_in}
 use Rattle.cbs_file.specs.Spelling.{admitted_entry, file}
 use Rattle.cbs_file.specs.TopTables.{TopData, top_table}
-use Rattle.cbs_file.specs.Streams.{insert_member}
-use Rattle.cbs_file.proofs.OtherSteps.{top_steps}
-
--- a choice by the order of two keys, as entries
-match_members : (o : Ordering) (a b c : List Entry) → members_view (match_ordering o a b c)
-    ≡ match_ordering o (members_view a) (members_view b) (members_view c)
-match_members Less a b c = refl
-match_members Equal a b c = refl
-match_members Greater a b c = refl
-
--- one more entry is one more member
-pub members_view-insert_entry : (es : List Entry) (k : String Global) (v : Value)
-    → members_view (insert_entry string_cmp es k v) ≡ insert_member (string_bytes k) (view v) (members_view es)
-members_view-insert_entry [] k v = refl
-members_view-insert_entry (e ∷ es) k v = match_members (string_cmp k e.0) _ _ _ ∙ rw (members_view-insert_entry es k v)
+use Rattle.cbs_read.specs.Reading.{insert_member}
+use Rattle.toml.specs.View.{table_view}
+use Rattle.cbs_file.specs.Streams.{IsDocument}
+use Rattle.cbs_file.specs.declared.steps.StepsRead.{StepsRead}
+use Rattle.cbs_file.specs.declared.stream.Document.{Document as Doc}
+use Rattle.cbs_file.proofs.OtherSteps.{get_other, top_steps}
 
 -- a text that is no TOML spells no file
 pub not_toml : (bytes : List ℕ) → is_utf8 bytes ≡ true → parse_document bytes ≡ None → file bytes ≡ Err (faulty Top NotToml)
 unfolding file
 not_toml bytes utf8 none = rw (utf8, none) refl
+
+-- whether the file is a load is seen in its table, whether its steps stand there or apart
+pub load_key : (doc : Doc) (read : Option StepsRead) (bytes : List ℕ) → is_utf8 bytes ≡ true → IsDocument doc read (parse_document bytes)
+    → has_key (codes "load") bytes ≡ Ok (is_some (get_member (codes "load") (table_view doc.table)))
+load_key doc None bytes utf8 parsed = rw (utf8, parsed) refl
+load_key doc (Some r) bytes utf8 (ds, parsed, none, spells) =
+    rw (utf8, parsed, get_other (codes "load") (codes "step") (array ds) (table_view doc.table) refl none) refl
 
 module _ (bytes : List ℕ) (ds : Items) (ms : Members) (utf8 : is_utf8 bytes ≡ true)
     (parsed : parse_document bytes ≡ Some (insert_member (codes "step") (array ds) ms)) (none : get_member (codes "step") ms ≡ None) where

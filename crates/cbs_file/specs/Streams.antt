@@ -1,15 +1,14 @@
 -- The steps of a file, as they were read entry by entry.
 use Rattle.std.specs.Prelude.{◌≡◌, ℕ, codes, List, [], ◌∷◌, ◌++◌, length, Option, Some, None, Result, Ok, Err, MatchResult, All}
 use Rattle.std.specs.Borrow.{Bor}
-use Rattle.std.specs.Ordering.{nat_cmp, match_ordering}
-use Rattle.std.specs.Cmp.Lexicographic.{slice_cmp}
-use Rattle.toml.specs.Data.{Data, array, table, Items, Members, no_members, member, get_member}
+use Rattle.toml.specs.Data.{Data, array, table, Items, Members, get_member}
 use Rattle.toml.specs.Parse.{val}
 use Rattle.toml.specs.Tables.{Nodes, close, Document as Lines}
 use Rattle.toml.specs.View.{table_view}
 use Rattle.toml_parser.specs.Lexical.{Read}
 use Rattle.cbs_job.specs.declared.file.FileJob.{FileJob}
 use Rattle.cbs_steps.specs.declared.step.Step.{Step}
+use Rattle.cbs_read.specs.Reading.{insert_member}
 use Rattle.cbs_read.specs.declared.stop.Stop.{Stop}
 use Rattle.cbs_read.specs.declared.stop.Stop.TheVariants.{NotToml}
 use Rattle.cbs_tables.specs.declared.fault.FileKind.{FileKind}
@@ -50,11 +49,6 @@ pub record TakesSection (t : Terms) (old new : StepsRead) (text rest : List ℕ)
 abbrev pub ReadsSteps : Terms → Result (StepsRead × Bor (List ℕ)) Stop → Read Items → Type 0
 ReadsSteps t r expected =
     MatchResult r (λ p. (ds : Items) × (expected ≡ Some (ds, p.1.now)) × Spells t p.0 (list_of ds)) (λ e. e ≡ NotToml → expected ≡ None)
-
--- the members with one more, at its place in the order of the keys
-abbrev pub insert_member : List ℕ → Data → Members → Members
-insert_member k x no_members = member k x no_members
-insert_member k x (member l d ms) = match_ordering (slice_cmp nat_cmp k l) (member k x (member l d ms)) (member l x ms) (member l d (insert_member k x ms))
 
 -- the grammar refuses the lines; or they add an array of tables at the key of the steps, and these tables spell what
 -- was read

@@ -1,6 +1,6 @@
 //! A task file, read from its bytes.
 
-ghost use Rattle.std.specs.Prelude.{◌≡◌, ◌<◌, ◌≤◌, ℕ, true, List, map, Ok, Err, IfOk, IfSome, All};
+ghost use Rattle.std.specs.Prelude.{◌≡◌, ◌<◌, ◌≤◌, ℕ, true, List, map, Ok, IfOk, IfSome, All};
 ghost use Rattle.std.specs.Str.{is_utf8};
 ghost use Rattle.toml.specs.Parse.{parse_document};
 ghost use Rattle.toml.specs.View.{view, table_view};
@@ -8,7 +8,7 @@ ghost use Rattle.cbs_tables.specs.declared.fault.FileKind.TheVariants.{OutOfMemo
 ghost use Rattle.cbs_tables.specs.declared.fault.Place.TheVariants.{Step as AtStep};
 ghost use Rattle.cbs_file.specs.Entries.{step_entry};
 ghost use Rattle.cbs_tables.specs.Fields.{Gives, seen, each_from};
-ghost use Rattle.cbs_tables.specs.Memory.{memory_wanted, usual_bound};
+ghost use Rattle.cbs_tables.specs.Bounds.{IsBounded, result_of};
 ghost use Rattle.cbs_file.specs.Streams.{IsDocument};
 ghost use Rattle.cbs_file.specs.TaskFiles.{IsFileStep};
 ghost use Rattle.cbs_file.specs.Spelling.{file, admitted_entry};
@@ -27,7 +27,7 @@ use cbs_job::FileJob;
 use cbs_rate::Bound;
 use cbs_read::Stop;
 use cbs_rules::{Mode, Setup};
-use cbs_tables::{FileFault, FileKind, MEMORY, Place, at, document, faulty, wants_within};
+use cbs_tables::{Bounded, FileFault, FileKind, MEMORY, Place, at, document, faulty, wants_within};
 use std::alloc::Global;
 use toml::Value;
 
@@ -160,27 +160,22 @@ fn read_apart(alloc: Global, bytes: &[u8]) -> Option<Result<TaskFile, FileFault>
     }
 }
 
-/// Returns the task file that the bytes spell, or its first fault.
-fn spelled_file(alloc: Global, bytes: &[u8]) -> Result<TaskFile, FileFault>
-    ensures { Gives no_memory (λ f. f) result (file bytes.now) }
-{
-    match read_apart(alloc, bytes) {
-        Some(result) => result,
-        None => read_whole(alloc, bytes),
-    }
-}
-
-/// Returns the task file that the bytes spell, or its first fault, as [`read_file`] does.
+/// Returns the task file that the bytes spell, or its first fault, as [`read_file`] does, with a bound on memory.
 ///
-/// If the bytes need more than `memory` bytes of memory, returns [`FileKind::OutOfMemory`], before anything is parsed.
-pub fn read_file_within(alloc: Global, memory: u64, bytes: &[u8]) -> Result<TaskFile, FileFault>
-    ensures read { Gives no_memory (λ f. f) result (file bytes.now) }
-    ensures bounded { memory < memory_wanted bytes.now → result ≡ Err no_memory }
+/// A file with only simple keys whose steps stand last is read piece by piece, and the bound is not asked. Any other
+/// file is read as one document. If that needs more than `memory` bytes, returns [`Bounded::TooLarge`], before the
+/// document is parsed.
+pub fn read_file_within(alloc: Global, memory: u64, bytes: &[u8]) -> Bounded<TaskFile>
+    ensures read { Gives no_memory (λ f. f) (result_of result) (file bytes.now) }
+    ensures bounded { IsBounded memory bytes.now result }
 {
-    if !wants_within(bytes, memory) {
-        return Err(faulty(Place::Top, FileKind::OutOfMemory));
+    if let Some(read) = read_apart(alloc, bytes) {
+        return Bounded::InPieces(read);
     }
-    spelled_file(alloc, bytes)
+    if !wants_within(bytes, memory) {
+        return Bounded::TooLarge;
+    }
+    Bounded::Whole(read_whole(alloc, bytes))
 }
 
 /// Returns the task file that the bytes spell, or its first fault.
@@ -190,11 +185,10 @@ pub fn read_file_within(alloc: Global, memory: u64, bytes: &[u8]) -> Result<Task
 /// ranges of values. After its tests, an entry of `server` is admitted to the plan. The `format` of the top table and
 /// the `op` of a step are tested before the other keys.
 ///
-/// [`FileKind::OutOfMemory`] may come at any time, and its place is the top. It comes at once if the bytes need more
-/// memory than [`MEMORY`].
+/// [`FileKind::OutOfMemory`] may come at any time, and its place is the top. A file that has to be read as one document
+/// and then needs more than [`MEMORY`] bytes is refused so before it is parsed.
 pub fn read_file(alloc: Global, bytes: &[u8]) -> Result<TaskFile, FileFault>
     ensures read { Gives no_memory (λ f. f) result (file bytes.now) }
-    ensures bounded { usual_bound < memory_wanted bytes.now → result ≡ Err no_memory }
 {
-    read_file_within(alloc, MEMORY, bytes)
+    read_file_within(alloc, MEMORY, bytes).into_result()
 }

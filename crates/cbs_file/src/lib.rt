@@ -5,6 +5,7 @@
 mod entries;
 mod file;
 mod format;
+mod kinds;
 mod plain;
 mod steps;
 mod stream;
@@ -12,6 +13,7 @@ mod task_file;
 mod terms;
 mod top;
 
-pub use cbs_tables::{FileFault, FileKind, MEMORY, Place, wants_within};
+pub use cbs_tables::{Bounded, FileFault, FileKind, MEMORY, Place, wants_within};
 pub use file::{read_file, read_file_within};
+pub use kinds::is_load_within;
 pub use task_file::{Parts, TaskFile};

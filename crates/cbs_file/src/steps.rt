@@ -17,7 +17,7 @@ use crate::plain::{Layout, plain_step};
 use crate::terms::Terms;
 use cbs_core::Step;
 use cbs_job::FileJob;
-use cbs_read::{Stop, after_element, array_header, pairs, value};
+use cbs_read::{Room, Stop, after_element, array_header, pairs, value};
 use cbs_tables::FileKind;
 use std::alloc::Global;
 use toml::Value;
@@ -91,7 +91,7 @@ fn read_entry<'s>(
         found.keep(step)?;
         return Ok(rest);
     }
-    let (entry, rest) = value(alloc, s, 79)?;
+    let (entry, rest) = value(alloc, &mut Room::new(), s, 79)?;
     take(found, alloc, terms, entry)?;
     Ok(rest)
 }
@@ -112,7 +112,7 @@ fn read_section<'s>(
         found.keep(step)?;
         return Ok(rest);
     }
-    let (table, rest) = pairs(alloc, s)?;
+    let (table, rest) = pairs(alloc, &mut Room::new(), s)?;
     take(found, alloc, terms, Value::Table(table))?;
     Ok(rest)
 }

@@ -10,12 +10,12 @@ ghost use Rattle.cbs_file.specs.TaskFiles.{IsFileStep};
 
 use crate::steps::{StepsRead, step_array, step_tables};
 use crate::terms::Terms;
-use cbs_read::{Stop, array_header, array_of_tables, ends_line, key_equals, put, value};
+use cbs_read::{Room, Stop, arrays_before, ends_line, key_equals, put, skip_bom, value};
 use std::alloc::Global;
 use std::collections::BTreeMap;
-use toml::{Table, Value};
+use toml::Table;
 use toml_parser::Key;
-use toml_parser::text::{byte_at, first, skip, skip_blank, skip_ws};
+use toml_parser::text::{first, skip, skip_blank, skip_ws};
 
 /// The table of a document. If the steps stand last, the table lacks them; what was read of them stands beside it, with
 /// the terms by which they were read.
@@ -33,54 +33,28 @@ fn is_step(key: &Key) -> bool
     key.path.is_empty() && key.last.as_str() == "step"
 }
 
-/// Returns the text after its byte order mark, or the whole text if it has none.
-fn skip_bom(s: &str) -> &str
-    ensures rest { result.now ≡ spec.skip_bom s.now }
-    ensures within { length result.now ≤ length s.now }
-{
-    if first(s) == 0xEF && byte_at(s, 1) == 0xBB && byte_at(s, 2) == 0xBF {
-        &s[3..]
-    } else {
-        s
-    }
-}
-
 /// Returns the document of a table whose other lines are arrays of tables.
-fn read_tables(alloc: Global, table: Table, s: &str) -> Result<Document, Stop>
+fn read_tables(alloc: Global, room: &mut Room, table: Table, s: &str) -> Result<Document, Stop>
     ensures value { (n : ℕ) (root : Nodes) (path : List (List ℕ)) → close root ≡ table_view table → length s.now < n
         → ReadsDocument result (option_map (λ doc. close doc.0) (spec.lines n (root, path) s.now)) }
     ensures named { IfOk result (λ d. IfSome d.read (λ r. All (IsFileStep d.terms.servers) r.steps.items)) }
 {
-    let mut table = table;
-    let mut rest = s;
-    'arrays: loop {
-        let start = skip_blank(rest, true);
-        if start.is_empty() {
-            let terms = Terms::of(&table);
-            return Ok(Document {
-                table,
-                terms,
-                read: None,
-            });
-        }
-        let (key, body) = array_header(alloc, start)?;
-        if table.contains_key(key.as_str()) {
-            return Err(Stop::Unusual);
-        }
-        if key.as_str() == "step" {
-            let terms = Terms::of(&table);
+    let (table, steps) = arrays_before(alloc, room, table, "step", s)?;
+    let terms = Terms::of(&table);
+    match steps {
+        None => Ok(Document {
+            table,
+            terms,
+            read: None,
+        }),
+        Some(body) => {
             let read = step_tables(alloc, terms, body)?;
-            return Ok(Document {
+            Ok(Document {
                 table,
                 terms,
                 read: Some(read),
-            });
+            })
         }
-        let (tables, after) = array_of_tables(alloc, key.as_str(), body)?;
-        let Ok(_) = table.insert(key, Value::Array(tables)) else {
-            return Err(Stop::OutOfMemory);
-        };
-        rest = after;
     }
 }
 
@@ -90,6 +64,7 @@ pub fn read_document(alloc: Global, s: &str) -> Result<Document, Stop>
     ensures value { ReadsDocument result (spec.parse_document s.now) }
     ensures named { IfOk result (λ d. IfSome d.read (λ r. All (IsFileStep d.terms.servers) r.steps.items)) }
 {
+    let mut room = Room::new();
     let mut table = BTreeMap::new(alloc);
     let mut rest = skip_bom(s);
     'lines: loop {
@@ -103,7 +78,7 @@ pub fn read_document(alloc: Global, s: &str) -> Result<Document, Stop>
             });
         }
         if first(start) == b'[' {
-            return read_tables(alloc, table, rest);
+            return read_tables(alloc, &mut room, table, rest);
         }
         let (key, at_value) = key_equals(alloc, start)?;
         if is_step(&key) && first(at_value) == b'[' {
@@ -121,7 +96,7 @@ pub fn read_document(alloc: Global, s: &str) -> Result<Document, Stop>
                 read: Some(read),
             });
         }
-        let (value, after) = value(alloc, at_value, 80)?;
+        let (value, after) = value(alloc, &mut room, at_value, 80)?;
         if !ends_line(skip_ws(after)) {
             return Err(Stop::NotToml);
         }

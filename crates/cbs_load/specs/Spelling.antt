@@ -1,7 +1,7 @@
 -- What the bytes of a load file spell: the load, or its first fault with the place of that fault.
-use Rattle.std.specs.Prelude.{ℕ, Bool, bytes_eq, codes, if◌then◌else◌, is_some, List, [], ◌∷◌, ◌++◌, Option, Some, None, Result, Ok, Err}
+use Rattle.std.specs.Prelude.{ℕ, Bool, bytes_eq, codes, if◌then◌else◌, List, [], ◌∷◌, ◌++◌, Option, Some, None, Result, Ok, Err}
 use Rattle.std.specs.List.{list_any}
-use Rattle.toml.specs.Data.{Data, get_member}
+use Rattle.toml.specs.Data.{Data, Members}
 use Rattle.cbs_rate.specs.Plan.{admit_refusal}
 use Rattle.cbs_rate.specs.declared.error.AdmitError.{AdmitError}
 use Rattle.cbs_rules.specs.Setups.{ModedPlan, no_servers, with_server}
@@ -9,8 +9,8 @@ use Rattle.cbs_tables.specs.declared.fault.FileKind.{FileKind}
 use Rattle.cbs_tables.specs.declared.fault.FileKind.TheVariants.{OutOfRange, NotAdmitted}
 use Rattle.cbs_tables.specs.declared.fault.FileFault.{FileFault}
 use Rattle.cbs_tables.specs.declared.fault.Place.TheVariants.{Top, Source}
-use Rattle.cbs_tables.specs.Documents.{at, document, taken_in}
-use Rattle.cbs_tables.specs.Fields.{◌>>=◌, each_from, seen}
+use Rattle.cbs_tables.specs.Documents.{at, document, has_key, taken_in}
+use Rattle.cbs_tables.specs.Fields.{◌>>=◌, each_from}
 use Rattle.cbs_load.specs.Loads.{LoadFile}
 use Rattle.cbs_load.specs.Servers.{server_entry}
 use Rattle.cbs_load.specs.Sources.{source_entry}
@@ -18,7 +18,7 @@ use Rattle.cbs_load.specs.TopTables.{top_table}
 
 -- whether the file is a load: its top table has the key `load`
 abbrev pub is_load : List ℕ → Result Bool FileFault
-is_load bytes = seen (λ table. is_some (get_member (codes "load") table)) (at Top (document bytes))
+is_load = has_key (codes "load")
 
 -- the servers so far: their names, and their plan and modes
 pub record Named : Type 0 where
@@ -42,10 +42,9 @@ admitted_entry so_far entry = do
   unless_refused (record { names = so_far.names ++ server.name ∷ []; setup = with_server so_far.setup server.reservation server.mode })
       (admit_refusal so_far.setup.plan server.reservation)
 
--- the load that the bytes spell
-unfoldable pub load : List ℕ → Result LoadFile FileFault
-load bytes = do
-  table ← at Top (document bytes)
+-- the load that a top table spells
+unfoldable pub load_in : Members → Result LoadFile FileFault
+load_in table = do
   top ← at Top (top_table table)
   servers ← taken_in admitted_entry 0 (record { names = []; setup = no_servers top.bound }) top.servers
   sources ← each_from 0 (λ i entry. at (Source i) (source_entry servers.names servers.setup.plan.rates entry)) top.sources
@@ -58,3 +57,9 @@ load bytes = do
     seed = top.seed;
     sources = sources;
   })
+
+-- the load that the bytes spell
+abbrev pub load : List ℕ → Result LoadFile FileFault
+load bytes = do
+  table ← at Top (document bytes)
+  load_in table

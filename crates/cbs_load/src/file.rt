@@ -1,17 +1,17 @@
 //! A load file, read from its bytes.
 
-ghost use Rattle.std.specs.Prelude.{◌≡◌, ◌<◌, ◌≤◌, [], length, map, string_bytes, Err, IfOk, OnOk, All};
-ghost use Rattle.toml.specs.View.{view};
+ghost use Rattle.std.specs.Prelude.{◌≡◌, ◌≤◌, ℕ, List, [], length, map, string_bytes, IfOk, OnOk, All};
+ghost use Rattle.toml.specs.View.{view, table_view};
 ghost use Rattle.cbs_rate.specs.Limits.{most_servers};
 ghost use Rattle.cbs_rules.specs.Setups.{no_servers};
 ghost use Rattle.cbs_tables.specs.declared.fault.FileKind.TheVariants.{OutOfMemory};
-ghost use Rattle.cbs_tables.specs.declared.fault.Place.TheVariants.{Source as AtSource};
-ghost use Rattle.cbs_tables.specs.Documents.{at, no_memory, taken_in};
+ghost use Rattle.cbs_tables.specs.declared.fault.Place.TheVariants.{Top, Source as AtSource};
+ghost use Rattle.cbs_tables.specs.Documents.{at, document, no_memory, taken_in};
 ghost use Rattle.cbs_tables.specs.Fields.{Gives, each_from};
-ghost use Rattle.cbs_tables.specs.Memory.{memory_wanted, usual_bound};
+ghost use Rattle.cbs_tables.specs.Bounds.{IsBounded, result_of};
 ghost use Rattle.cbs_load.specs.Loads.{IsSource};
 ghost use Rattle.cbs_load.specs.Sources.{source_entry};
-ghost use Rattle.cbs_load.specs.Spelling.{admitted_entry, is_load, load};
+ghost use Rattle.cbs_load.specs.Spelling.{admitted_entry, load, load_in};
 
 use crate::load::Load;
 use crate::server::{is_taken, server_entry};
@@ -20,11 +20,9 @@ use crate::top::top_table;
 use cbs_rate::{Bound, Plan};
 use cbs_rules::Setup;
 use cbs_simulate::SourceTerms;
-use cbs_tables::{
-    FileFault, FileKind, MEMORY, Place, at, document, faulty, optional, wants_within,
-};
+use cbs_tables::{Bounded, FileFault, FileKind, MEMORY, Place, at, document_within, faulty};
 use std::alloc::Global;
-use toml::Value;
+use toml::{Table, Value};
 
 /// Admits the server of one entry: adds its name, and its reservation and mode. Refuses a name that another server has,
 /// and a server that the plan does not take.
@@ -99,13 +97,12 @@ fn sources_of(
     Ok(sources)
 }
 
-/// Returns the load that the bytes spell, or its first fault.
-#[tactic(auto, unfolding(crate::specs::Spelling::load))]
-fn spelled_load(alloc: Global, bytes: &[u8]) -> Result<Load, FileFault>
-    ensures { Gives no_memory (λ f. f) result (load bytes.now) }
+/// Returns the load that a top table spells, or its first fault.
+#[tactic(auto, unfolding(crate::specs::Spelling::load_in))]
+fn load_in(alloc: Global, table: &Table) -> Result<Load, FileFault>
+    ensures { Gives no_memory (λ f. f) result (load_in (table_view table.now)) }
 {
-    let table = at(Place::Top, document(alloc, bytes))?;
-    let top = match top_table(&table) {
+    let top = match top_table(table) {
         Ok(top) => top,
         Err(kind) => return Err(faulty(Place::Top, kind)),
     };
@@ -121,39 +118,28 @@ fn spelled_load(alloc: Global, bytes: &[u8]) -> Result<Load, FileFault>
     })
 }
 
-/// Returns whether the top table has the key `load`.
-fn has_load_key(alloc: Global, bytes: &[u8]) -> Result<bool, FileFault>
-    ensures { Gives no_memory (λ is. is) result (is_load bytes.now) }
+/// Returns the load that a document spells, or its first fault.
+fn load_of(alloc: Global, read: Result<Table, FileFault>) -> Result<Load, FileFault>
+    ensures { (bytes : List ℕ) → Gives no_memory table_view read (at Top (document bytes)) → Gives no_memory (λ f. f) result (load bytes) }
 {
-    let table = at(Place::Top, document(alloc, bytes))?;
-    Ok(optional(&table, "load").is_some())
+    let table = read?;
+    load_in(alloc, &table)
 }
 
-/// Returns whether the bytes spell a load file: whether the top table has the key `load`.
+/// Returns the load that the bytes spell, or its first fault, as [`read_load`] does, with a bound on memory.
 ///
-/// The fault is [`FileKind::NotToml`] or [`FileKind::OutOfMemory`], and its place is the top. If the bytes need more
-/// than `memory` bytes of memory, returns [`FileKind::OutOfMemory`], before anything is parsed.
-pub fn is_load_within(alloc: Global, memory: u64, bytes: &[u8]) -> Result<bool, FileFault>
-    ensures read { Gives no_memory (λ is. is) result (is_load bytes.now) }
-    ensures bounded { memory < memory_wanted bytes.now → result ≡ Err no_memory }
+/// A file with only simple keys, whose headers are all in double brackets, is read in pieces if it takes at most 64 MiB,
+/// and the bound is not asked. Any other file is read as one document. If that needs more than `memory` bytes, returns
+/// [`Bounded::TooLarge`], before the document is parsed.
+pub fn read_load_within(alloc: Global, memory: u64, bytes: &[u8]) -> Bounded<Load>
+    ensures read { Gives no_memory (λ f. f) (result_of result) (load bytes.now) }
+    ensures bounded { IsBounded memory bytes.now result }
 {
-    if !wants_within(bytes, memory) {
-        return Err(faulty(Place::Top, FileKind::OutOfMemory));
+    match document_within(alloc, memory, bytes) {
+        Bounded::InPieces(read) => Bounded::InPieces(load_of(alloc, read)),
+        Bounded::Whole(read) => Bounded::Whole(load_of(alloc, read)),
+        Bounded::TooLarge => Bounded::TooLarge,
     }
-    has_load_key(alloc, bytes)
-}
-
-/// Returns the load that the bytes spell, or its first fault, as [`read_load`] does.
-///
-/// If the bytes need more than `memory` bytes of memory, returns [`FileKind::OutOfMemory`], before anything is parsed.
-pub fn read_load_within(alloc: Global, memory: u64, bytes: &[u8]) -> Result<Load, FileFault>
-    ensures read { Gives no_memory (λ f. f) result (load bytes.now) }
-    ensures bounded { memory < memory_wanted bytes.now → result ≡ Err no_memory }
-{
-    if !wants_within(bytes, memory) {
-        return Err(faulty(Place::Top, FileKind::OutOfMemory));
-    }
-    spelled_load(alloc, bytes)
 }
 
 /// Returns the load that the bytes spell, or its first fault.
@@ -163,11 +149,10 @@ pub fn read_load_within(alloc: Global, memory: u64, bytes: &[u8]) -> Result<Load
 /// ranges of values. After its tests, an entry of `server` is admitted to the plan. The key `load` of the top table is
 /// tested before the other keys.
 ///
-/// [`FileKind::OutOfMemory`] may come at any time, and its place is the top. It comes at once if the bytes need more
-/// memory than [`MEMORY`].
+/// [`FileKind::OutOfMemory`] may come at any time, and its place is the top. A file that has to be read as one document
+/// and then needs more than [`MEMORY`] bytes is refused so before it is parsed.
 pub fn read_load(alloc: Global, bytes: &[u8]) -> Result<Load, FileFault>
     ensures read { Gives no_memory (λ f. f) result (load bytes.now) }
-    ensures bounded { usual_bound < memory_wanted bytes.now → result ≡ Err no_memory }
 {
-    read_load_within(alloc, MEMORY, bytes)
+    read_load_within(alloc, MEMORY, bytes).into_result()
 }

@@ -8,6 +8,6 @@ mod server;
 mod source;
 mod top;
 
-pub use file::{is_load_within, read_load, read_load_within};
+pub use file::{read_load, read_load_within};
 pub use load::Load;
 pub use top::MAX_SOURCES;

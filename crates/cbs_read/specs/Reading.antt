@@ -1,13 +1,15 @@
 -- How the result of a reader relates to what the grammar gives.
 use Rattle.std.specs.Prelude.{◌≡◌, ℕ, ◌==◌, ◌<◌, ◌||◌, true, List, [], ◌∷◌, length, Option, Some, None, option_map, Result, MatchResult, IfOk, String, Vec}
 use Rattle.std.specs.Borrow.{Bor}
+use Rattle.std.specs.Ordering.{nat_cmp, match_ordering}
+use Rattle.std.specs.Cmp.Lexicographic.{slice_cmp}
 use Rattle.std.specs.BTreeMap.{BTreeMap}
 use Rattle.std.specs.declared.alloc.Global.{Global}
 use Rattle.toml_parser.specs.Lexical.{Read, first, skip_blank}
 use Rattle.toml_parser.specs.Strings.{Key}
 use Rattle.toml_parser.specs.declared.error.ParseError.{ParseError}
 use Rattle.toml_parser.specs.declared.error.ParseError.TheVariants as error
-use Rattle.toml.specs.Data.{Data, table, Items, no_items, push_item, Members, no_members, member}
+use Rattle.toml.specs.Data.{Data, table, Items, no_items, push_item, Members, no_members, member, get_member}
 use Rattle.toml.specs.Parse.{lines}
 use Rattle.toml.specs.Tables.{Nodes, no_nodes, node, value, open_array, insert, close, put, key_value, Document, define}
 use Rattle.toml.specs.View.{array_view, table_view}
@@ -70,3 +72,27 @@ ReadsTables key n root text r = MatchResult r
     × (lines n (growing key root no_items no_nodes) text ≡ lines m (growing key root done last) p.1.now)
     × (array_view p.0 ≡ push_item done (table (close last))))
     (λ e. e ≡ NotToml → lines n (growing key root no_items no_nodes) text ≡ None)
+
+-- the members with one more, at its place in the order of the keys
+abbrev pub insert_member : List ℕ → Data → Members → Members
+insert_member k x no_members = member k x no_members
+insert_member k x (member l d ms) = match_ordering (slice_cmp nat_cmp k l) (member k x (member l d ms)) (member l x ms) (member l d (insert_member k x ms))
+
+-- the members of a document
+abbrev pub closed : Option Document → Option Members
+closed = option_map (λ doc. close doc.0)
+
+-- after the lines of a text up to some line, a document has these members. The next line is a header with a new key, and
+-- `body` is the text after it
+abbrev pub BeginsArray : List ℕ → ℕ → Document → List ℕ → Members → List ℕ → Type 0
+BeginsArray key n doc text members body = (m : ℕ) × (root : Nodes) × (length body < m) × (close root ≡ members) × (get_member key members ≡ None)
+    × (lines n doc text ≡ lines m (growing key root no_items no_nodes) body)
+
+-- the lines of a text bring a document to these members, up to its end or to a header with the key
+abbrev pub EndsArrays : List ℕ → ℕ → Document → List ℕ → Members → Option (Bor (List ℕ)) → Type 0
+EndsArrays key n doc text members None = closed (lines n doc text) ≡ Some members
+EndsArrays key n doc text members (Some body) = BeginsArray key n doc text members body.now
+
+-- arrays of tables were added so. Or the grammar refuses
+abbrev pub ReadsArrays : List ℕ → ℕ → Document → List ℕ → Result (Table × Option (Bor (List ℕ))) Stop → Type 0
+ReadsArrays key n doc text r = MatchResult r (λ p. EndsArrays key n doc text (table_view p.0) p.1) (λ e. e ≡ NotToml → closed (lines n doc text) ≡ None)

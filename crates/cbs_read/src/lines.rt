@@ -5,6 +5,7 @@ ghost use Rattle.toml.specs.Parse as spec;
 ghost use Rattle.toml.specs.Tables.{Nodes, Document, array_table};
 ghost use Rattle.cbs_read.specs.Reading.{EndsPairs, IsPlace, Reads, ReadsPairs, Shortens};
 
+use crate::room::{PAIR, Room, TABLE};
 use crate::stop::Stop;
 use crate::tokens::{dotted, key_equals, simple};
 use crate::values::{put, value};
@@ -22,11 +23,14 @@ pub fn ends_line(s: &str) -> bool
 
 /// Returns the table of the pairs at the start of a text, and the text after them. The pairs end at the end of the text
 /// or at the first header.
-pub fn pairs(alloc: Global, s: &str) -> Result<(Table, &str), Stop>
+pub fn pairs<'s>(alloc: Global, room: &mut Room, s: &'s str) -> Result<(Table, &'s str), Stop>
     ensures value { (n : ℕ) (at : Nodes → Document) → IsPlace at → length s.now < n → ReadsPairs n at s.now result }
     ensures within { IfOk result (λ p. length p.1.now ≤ length s.now) }
     ensures ends { IfOk result (λ p. EndsPairs p.1.now) }
 {
+    let Ok(()) = room.take(TABLE) else {
+        return Err(Stop::Unusual);
+    };
     let mut found = BTreeMap::new(alloc);
     let mut rest = s;
     'lines: loop {
@@ -35,7 +39,10 @@ pub fn pairs(alloc: Global, s: &str) -> Result<(Table, &str), Stop>
             return Ok((found, rest));
         }
         let (key, at_value) = key_equals(alloc, start)?;
-        let (member, after) = value(alloc, at_value, 80)?;
+        let Ok(()) = room.take(PAIR) else {
+            return Err(Stop::Unusual);
+        };
+        let (member, after) = value(alloc, room, at_value, 80)?;
         if !ends_line(skip_ws(after)) {
             return Err(Stop::NotToml);
         }

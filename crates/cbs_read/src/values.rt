@@ -8,6 +8,7 @@ ghost use Rattle.toml_parser.specs.Reading.{key_view};
 ghost use Rattle.cbs_read.specs.Reading.{Gives, Reads, Shortens, nodes_of};
 ghost use Rattle.cbs_read.specs.declared.stop.Stop.TheVariants.{NotToml};
 
+use crate::room::{PAIR, Room, size_of_value};
 use crate::stop::Stop;
 use crate::tokens::{atom, key_equals, simple};
 use std::alloc::Global;
@@ -19,11 +20,19 @@ use toml_parser::text::{first, skip, skip_blank};
 /// Returns the value at the start of a text, and the text after it. Arrays and inline tables may be at most `depth`
 /// deep, and no key may have dots.
 #[cycle(value)]
-pub fn value(alloc: Global, s: &str, depth: usize) -> Result<(Value, &str), Stop>
+pub fn value<'s>(
+    alloc: Global,
+    room: &mut Room,
+    s: &'s str,
+    depth: usize,
+) -> Result<(Value, &'s str), Stop>
     ensures value { Reads view result (spec.val depth s.now) }
     ensures shorter { Shortens s.now result }
 {
     let byte = first(s);
+    let Ok(()) = room.take(size_of_value(byte)) else {
+        return Err(Stop::Unusual);
+    };
     if byte != b'[' && byte != b'{' {
         return atom(alloc, s);
     }
@@ -31,17 +40,22 @@ pub fn value(alloc: Global, s: &str, depth: usize) -> Result<(Value, &str), Stop
         return Err(Stop::NotToml);
     }
     if byte == b'[' {
-        let (items, rest) = array(alloc, skip(s, 1), depth - 1)?;
+        let (items, rest) = array(alloc, room, skip(s, 1), depth - 1)?;
         Ok((Value::Array(items), rest))
     } else {
-        let (members, rest) = inline_table(alloc, skip(s, 1), depth - 1)?;
+        let (members, rest) = inline_table(alloc, room, skip(s, 1), depth - 1)?;
         Ok((Value::Table(members), rest))
     }
 }
 
 /// Returns the items of an array whose opening bracket was read, and the text after the array.
 #[cycle(value)]
-fn array(alloc: Global, s: &str, depth: usize) -> Result<(Vec<Value>, &str), Stop>
+fn array<'s>(
+    alloc: Global,
+    room: &mut Room,
+    s: &'s str,
+    depth: usize,
+) -> Result<(Vec<Value>, &'s str), Stop>
     ensures value { (n : ℕ) → length s.now < n → Reads array_view result (spec.items (spec.val depth) n no_items s.now) }
     ensures shorter { Shortens s.now result }
 {
@@ -52,7 +66,7 @@ fn array(alloc: Global, s: &str, depth: usize) -> Result<(Vec<Value>, &str), Sto
         if first(start) == b']' {
             return Ok((found, skip(start, 1)));
         }
-        let (item, after) = value(alloc, start, depth)?;
+        let (item, after) = value(alloc, room, start, depth)?;
         let Ok(()) = found.push(item) else {
             return Err(Stop::OutOfMemory);
         };
@@ -62,7 +76,12 @@ fn array(alloc: Global, s: &str, depth: usize) -> Result<(Vec<Value>, &str), Sto
 
 /// Returns the members of an inline table whose opening brace was read, and the text after the table.
 #[cycle(value)]
-fn inline_table(alloc: Global, s: &str, depth: usize) -> Result<(Table, &str), Stop>
+fn inline_table<'s>(
+    alloc: Global,
+    room: &mut Room,
+    s: &'s str,
+    depth: usize,
+) -> Result<(Table, &'s str), Stop>
     ensures value { (n : ℕ) → length s.now < n → Reads table_view result (spec.members (spec.val depth) n no_nodes s.now) }
     ensures shorter { Shortens s.now result }
 {
@@ -74,7 +93,10 @@ fn inline_table(alloc: Global, s: &str, depth: usize) -> Result<(Table, &str), S
             return Ok((found, skip(start, 1)));
         }
         let (key, at_value) = key_equals(alloc, start)?;
-        let (member, after) = value(alloc, at_value, depth)?;
+        let Ok(()) = room.take(PAIR) else {
+            return Err(Stop::Unusual);
+        };
+        let (member, after) = value(alloc, room, at_value, depth)?;
         put(&mut found, key, member)?;
         rest = after_element(after, b'}')?;
     }

@@ -1,5 +1,5 @@
 -- What a command that draws leaves, by what its parts do.
-use Rattle.std.proofs.Common.{◌≡◌, List, ℕ, ap, refl, Result, Ok, Err}
+use Rattle.std.proofs.Common.{◌≡◌, List, ℕ, ap, Result, Ok, Err}
 use Rattle.cbs_chart.specs.declared.picture.Picture.{Picture}
 use Rattle.cbs_chart.specs.declared.window.Window.{Window}
 use Rattle.cbs_file.specs.Spelling.{file}
@@ -9,12 +9,10 @@ use Rattle.cbs_lines.specs.declared.run_error.RunError.{RunError}
 use Rattle.cbs_lines.specs.declared.run_error.RunError.TheVariants.{OutOfMemory, WriteFault, ClockEnd, Stalled}
 use Rattle.cbs_planning.specs.Tasks.{clock_of_tasks}
 use Rattle.cbs_planning.specs.declared.shown.NothingShown.{NothingShown}
-use Rattle.cbs_tables.specs.Documents.{no_memory}
 use Rattle.cbs_tables.specs.declared.fault.FileFault.{FileFault}
 use Rattle.cbs_words.specs.declared.actions.Drawing.{Drawing}
 use Rattle.cbs_run.specs.Pictured.{IsDrawn, nothing_shown_line, Draws, EndsDrawing, IsDrawingOf, TellsUndrawn, printed, nothing_shown}
 use Rattle.cbs_run.specs.Printing.{Prints, StopsPrinting, refused, stopped}
-use Rattle.cbs_run.specs.Statuses.{LacksMemory}
 use Rattle.cbs_run.specs.declared.pictures.Undrawn.{Undrawn}
 use Rattle.cbs_run.specs.declared.pictures.Undrawn.TheVariants.{Unread, Ended, Stopped}
 
@@ -53,11 +51,3 @@ module _ {F : Type 0} (read : List ℕ → Result F FileFault) (is : F → List 
       let told : TriesToWrite err err' (nothing_shown_line asked.from (ends d.0)) = rw (← from, ← end) t.1 in
       rw t.0 (nothing_shown d.0 d.1 d.2.0 d.3 told)
   ends_undrawn (Stopped error) status d t = rw t.0 (printed 4 (stopped d.0 error d.1 d.2 t.1))
-
-  -- the same if the bytes need more memory than they may
-  pub lacks_undrawn : (u : Undrawn) (status : ℕ) → u ≡ Unread no_memory → Draws read is ends asked bytes (Err u) out out' → TellsUndrawn u err err' status
-      → LacksMemory out out' err err' status
-  lacks_undrawn u status e d t =
-      let d' = rw e at d in
-      let t' = rw e at t in
-      (t'.0, d'.1, t'.2 refl)

@@ -17,7 +17,3 @@ pub data Ends (verb : Verb) (bytes : List ℕ) (out out' err err' : Writer) : �
       → Ends verb bytes out out' err err' 3
   stopped : (f : File) (error : RunError) → file bytes ≡ Ok f → StopsShort verb f error out out' → TriesToWrite err err' (run_line error)
       → Ends verb bytes out out' err err' 4
-
--- the file needed more memory than it may: nothing was written but the line of out of memory
-abbrev pub LacksMemory : Writer → Writer → Writer → Writer → ℕ → Type 0
-LacksMemory out out' err err' status = (status ≡ 3) × IsUntouched out out' × TriesToWrite err err' (file_line no_memory)

@@ -3,19 +3,18 @@
 ghost use Rattle.std.specs.Prelude.{◌≡◌, ◌+◌, ◌-◌, ◌<◌, ◌^◌, Err, IfOk, string_bytes};
 ghost use Rattle.cbs_tables.specs.Documents.{no_memory};
 ghost use Rattle.cbs_tables.specs.Fields.{Gives};
-ghost use Rattle.cbs_tables.specs.Memory.{memory_wanted};
 ghost use Rattle.cbs_run.specs.Checked.{any_file, IsCheckText};
 ghost use Rattle.cbs_run.specs.Printing.{EndsPrinting, Prints};
-ghost use Rattle.cbs_run.specs.Statuses.{LacksMemory};
 ghost use Rattle.cbs_lines.specs.Writers.{IsUntouched};
 
 use crate::explained::write_explained;
 use crate::fault_lines::write_run_fault;
+use crate::reading::{load_file, task_file};
 use crate::run::{BAD_FILE, DONE, RUN_FAULT};
 use cbs_check::{check_load, check_plan};
-use cbs_file::{FileFault, TaskFile, read_file_within};
+use cbs_file::{FileFault, TaskFile, is_load_within};
 use cbs_lines::{ByteOutput, RunError, write_text};
-use cbs_load::{Load, is_load_within, read_load_within};
+use cbs_load::Load;
 use std::alloc::{AllocError, Global};
 
 /// A file of either kind.
@@ -27,19 +26,18 @@ enum AnyFile {
     Tasks(TaskFile),
 }
 
-/// Returns the file that the bytes spell, or its first fault. If the bytes need more than `memory` bytes of memory,
-/// returns out of memory.
+/// Returns the file that the bytes spell, or its first fault. If it has to be read as one document that needs more than
+/// `memory` bytes of memory, returns out of memory.
 #[tactic(auto, unfolding(crate::specs::Checked::any_file))]
 fn read_any(alloc: Global, memory: u64, bytes: &[u8]) -> Result<AnyFile, FileFault>
-    ensures read { Gives no_memory (λ f. f) result (any_file bytes.now) }
-    ensures bounded { memory < memory_wanted bytes.now → result ≡ Err no_memory }
+    ensures { Gives no_memory (λ f. f) result (any_file bytes.now) }
 {
-    let is_load = is_load_within(alloc, memory, bytes)?;
+    let is_load = is_load_within(alloc, memory, bytes).into_result()?;
     if is_load {
-        let load = read_load_within(alloc, memory, bytes)?;
+        let load = load_file(alloc, memory, bytes)?;
         Ok(AnyFile::Load(load))
     } else {
-        let file = read_file_within(alloc, memory, bytes)?;
+        let file = task_file(alloc, memory, bytes)?;
         Ok(AnyFile::Tasks(file))
     }
 }
@@ -73,8 +71,8 @@ fn print_check<O: ByteOutput>(alloc: Global, file: &AnyFile, out: &mut O) -> Res
 /// of the run fault goes to `err`, and `out` has a prefix of the text. That prefix is empty unless a write failed. A
 /// line that cannot be written changes no status.
 ///
-/// If the bytes need more than `memory` bytes of memory, nothing is parsed. The status is 3, and the line of out of
-/// memory goes to `err`.
+/// A file that has to be read as one document may need `memory` bytes of memory. If it needs more, the status is 3, and the
+/// line of out of memory goes to `err`.
 pub fn check_bytes_within<O: ByteOutput, E: ByteOutput>(
     alloc: Global,
     memory: u64,
@@ -85,11 +83,7 @@ pub fn check_bytes_within<O: ByteOutput, E: ByteOutput>(
 ) -> u8
     requires out { O.failed out.old < 2 ^ 64 - 1 }
     requires err { E.failed err.old < 2 ^ 64 - 1 }
-    ensures ends { EndsPrinting any_file IsCheckText (λ f. IsUntouched) bytes.now
-        (record { written = O.written out.old; failed = O.failed out.old }) (record { written = O.written out.new; failed = O.failed out.new })
-        (record { written = E.written err.old; failed = E.failed err.old }) (record { written = E.written err.new; failed = E.failed err.new })
-        result }
-    ensures bounded { memory < memory_wanted bytes.now → LacksMemory
+    ensures { EndsPrinting any_file IsCheckText (λ f. IsUntouched) bytes.now
         (record { written = O.written out.old; failed = O.failed out.old }) (record { written = O.written out.new; failed = O.failed out.new })
         (record { written = E.written err.old; failed = E.failed err.old }) (record { written = E.written err.new; failed = E.failed err.new })
         result }
@@ -97,7 +91,7 @@ pub fn check_bytes_within<O: ByteOutput, E: ByteOutput>(
     let file = match read_any(alloc, memory, bytes) {
         Ok(file) => file,
         Err(fault) => {
-            write_explained(alloc, name, bytes, fault, err);
+            write_explained(alloc, memory, name, bytes, fault, err);
             return BAD_FILE;
         }
     };

@@ -8,14 +8,16 @@ ghost use Rattle.cbs_lines.specs.Writers.{TriesToWrite};
 
 use crate::fault_lines::write_file_fault;
 use cbs_explain::explain;
-use cbs_file::{FileFault, FileKind};
+use cbs_file::{FileFault, FileKind, wants_within};
 use cbs_lines::{ByteOutput, write_pieces};
 use std::alloc::Global;
 
-/// Writes the line of a file's fault, then an empty line and an explanation of the fault. The explanation is left out
-/// if the fault is out of memory, or if there is no memory for it.
+/// Writes the line of a file's fault, then an empty line and an explanation of the fault. To explain a fault, the file is
+/// read as one document. The explanation is left out if the fault is out of memory, if the document needs more than
+/// `memory` bytes, or if there is no memory for it.
 pub(crate) fn write_explained<E: ByteOutput>(
     alloc: Global,
+    memory: u64,
     name: &str,
     bytes: &[u8],
     fault: FileFault,
@@ -31,7 +33,7 @@ pub(crate) fn write_explained<E: ByteOutput>(
     let Ok(()) = write_file_fault(err, fault) else {
         return;
     };
-    if fault.kind == FileKind::OutOfMemory {
+    if fault.kind == FileKind::OutOfMemory || !wants_within(bytes, memory) {
         return;
     }
     if let Ok(text) = explain(alloc, name, bytes, fault) {

@@ -9,6 +9,7 @@ mod fault_lines;
 mod input;
 mod jobs_by_server;
 mod pictures;
+mod reading;
 mod report;
 mod result_lines;
 mod run;

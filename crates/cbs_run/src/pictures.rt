@@ -2,7 +2,6 @@
 
 ghost use Rattle.std.specs.Prelude.{◌≡◌, ◌+◌, ◌-◌, ◌<◌, ◌≤◌, ◌^◌, Err, IfOk, OnOk, OnErr, length, string_bytes};
 ghost use Rattle.std.specs.Io.KnownBytes.{Appends};
-ghost use Rattle.cbs_tables.specs.Memory.{memory_wanted};
 ghost use Rattle.cbs_file.specs.Spelling.{file};
 ghost use Rattle.cbs_load.specs.Spelling.{load};
 ghost use Rattle.cbs_lines.specs.Writes.{AppendsFront};
@@ -11,15 +10,15 @@ ghost use Rattle.cbs_planning.specs.Tasks.{clock_of_tasks};
 ghost use Rattle.cbs_tables.specs.Documents.{no_memory};
 ghost use Rattle.cbs_run.specs.Pictured.{end_of, nothing_shown_line, Draws, EndsDrawing, IsDrawingOf, IsDrawn, IsLoadDrawing, IsTaskDrawing, TellsUndrawn};
 ghost use Rattle.cbs_run.specs.Printing.{Prints};
-ghost use Rattle.cbs_run.specs.Statuses.{LacksMemory};
 
 use crate::explained::write_explained;
 use crate::fault_lines::write_run_fault;
+use crate::reading::{load_file, task_file};
 use crate::run::{BAD_FILE, DONE, RUN_FAULT, WRONG_WORDS};
 use cbs_chart::{Picture, Window};
-use cbs_file::{FileFault, TaskFile, read_file_within};
+use cbs_file::{FileFault, TaskFile};
 use cbs_lines::{ByteOutput, RunError, write_pieces, write_text};
-use cbs_load::{Load, read_load_within};
+use cbs_load::Load;
 use cbs_planning::{NothingShown, Progress, clock_of, picture_of, shown_of, task_picture_of};
 use cbs_svg::svg_text;
 use cbs_timeline::timeline_text;
@@ -116,11 +115,10 @@ fn draw_load<P: Progress, O: ByteOutput>(
     out: &mut O,
 ) -> Result<(), Undrawn>
     requires { O.failed out.old < 2 ^ 64 - 1 }
-    ensures draws { Draws load (IsLoadDrawing drawing asked name.now) end_of asked bytes.now result
+    ensures { Draws load (IsLoadDrawing drawing asked name.now) end_of asked bytes.now result
         (record { written = O.written out.old; failed = O.failed out.old }) (record { written = O.written out.new; failed = O.failed out.new }) }
-    ensures bounded { memory < memory_wanted bytes.now → result ≡ Err (Undrawn.Unread no_memory) }
 {
-    let load = match read_load_within(alloc, memory, bytes) {
+    let load = match load_file(alloc, memory, bytes) {
         Ok(load) => load,
         Err(fault) => return Err(Undrawn::Unread(fault)),
     };
@@ -146,11 +144,10 @@ fn draw_tasks<O: ByteOutput>(
     out: &mut O,
 ) -> Result<(), Undrawn>
     requires { O.failed out.old < 2 ^ 64 - 1 }
-    ensures draws { Draws file (IsTaskDrawing drawing asked name.now) clock_of_tasks asked bytes.now result
+    ensures { Draws file (IsTaskDrawing drawing asked name.now) clock_of_tasks asked bytes.now result
         (record { written = O.written out.old; failed = O.failed out.old }) (record { written = O.written out.new; failed = O.failed out.new }) }
-    ensures bounded { memory < memory_wanted bytes.now → result ≡ Err (Undrawn.Unread no_memory) }
 {
-    let first = match read_file_within(alloc, memory, bytes) {
+    let first = match task_file(alloc, memory, bytes) {
         Ok(tasks) => tasks,
         Err(fault) => return Err(Undrawn::Unread(fault)),
     };
@@ -161,7 +158,7 @@ fn draw_tasks<O: ByteOutput>(
         Ok(window) => window,
         Err(nothing) => return Err(Undrawn::Ended(nothing)),
     };
-    let tasks = match read_file_within(alloc, memory, bytes) {
+    let tasks = match task_file(alloc, memory, bytes) {
         Ok(tasks) => tasks,
         Err(fault) => return Err(Undrawn::Unread(fault)),
     };
@@ -197,6 +194,7 @@ fn write_nothing_shown<E: ByteOutput>(err: &mut E, nothing: NothingShown) -> io:
 /// Writes why nothing is drawn of the file that the bytes spell. Returns the status.
 fn write_undrawn<E: ByteOutput>(
     alloc: Global,
+    memory: u64,
     name: &str,
     bytes: &[u8],
     undrawn: Undrawn,
@@ -209,7 +207,7 @@ fn write_undrawn<E: ByteOutput>(
 {
     match undrawn {
         Undrawn::Unread(fault) => {
-            write_explained(alloc, name, bytes, fault, err);
+            write_explained(alloc, memory, name, bytes, fault, err);
             BAD_FILE
         }
         Undrawn::Ended(nothing) => {
@@ -232,8 +230,8 @@ fn write_undrawn<E: ByteOutput>(
 /// the run ended early: the line of the run fault goes to `err`, and `out` has a prefix of the drawing. That prefix is
 /// empty unless a write failed. A line that cannot be written changes no status.
 ///
-/// If the bytes need more than `memory` bytes of memory, nothing is parsed. The status is 3, and the line of out of
-/// memory goes to `err`.
+/// A file that has to be read as one document may need `memory` bytes of memory. If it needs more, the status is 3, and the
+/// line of out of memory goes to `err`.
 pub fn draw_load_within<P: Progress, O: ByteOutput, E: ByteOutput>(
     alloc: Global,
     memory: u64,
@@ -247,18 +245,14 @@ pub fn draw_load_within<P: Progress, O: ByteOutput, E: ByteOutput>(
 ) -> u8
     requires out { O.failed out.old < 2 ^ 64 - 1 }
     requires err { E.failed err.old < 2 ^ 64 - 1 }
-    ensures ends { EndsDrawing load (IsLoadDrawing drawing asked name.now) end_of asked bytes.now
-        (record { written = O.written out.old; failed = O.failed out.old }) (record { written = O.written out.new; failed = O.failed out.new })
-        (record { written = E.written err.old; failed = E.failed err.old }) (record { written = E.written err.new; failed = E.failed err.new })
-        result }
-    ensures bounded { memory < memory_wanted bytes.now → LacksMemory
+    ensures { EndsDrawing load (IsLoadDrawing drawing asked name.now) end_of asked bytes.now
         (record { written = O.written out.old; failed = O.failed out.old }) (record { written = O.written out.new; failed = O.failed out.new })
         (record { written = E.written err.old; failed = E.failed err.old }) (record { written = E.written err.new; failed = E.failed err.new })
         result }
 {
     match draw_load(alloc, memory, drawing, asked, name, bytes, progress, out) {
         Ok(()) => DONE,
-        Err(undrawn) => write_undrawn(alloc, name, bytes, undrawn, err),
+        Err(undrawn) => write_undrawn(alloc, memory, name, bytes, undrawn, err),
     }
 }
 
@@ -279,17 +273,13 @@ pub fn draw_tasks_within<O: ByteOutput, E: ByteOutput>(
 ) -> u8
     requires out { O.failed out.old < 2 ^ 64 - 1 }
     requires err { E.failed err.old < 2 ^ 64 - 1 }
-    ensures ends { EndsDrawing file (IsTaskDrawing drawing asked name.now) clock_of_tasks asked bytes.now
-        (record { written = O.written out.old; failed = O.failed out.old }) (record { written = O.written out.new; failed = O.failed out.new })
-        (record { written = E.written err.old; failed = E.failed err.old }) (record { written = E.written err.new; failed = E.failed err.new })
-        result }
-    ensures bounded { memory < memory_wanted bytes.now → LacksMemory
+    ensures { EndsDrawing file (IsTaskDrawing drawing asked name.now) clock_of_tasks asked bytes.now
         (record { written = O.written out.old; failed = O.failed out.old }) (record { written = O.written out.new; failed = O.failed out.new })
         (record { written = E.written err.old; failed = E.failed err.old }) (record { written = E.written err.new; failed = E.failed err.new })
         result }
 {
     match draw_tasks(alloc, memory, drawing, asked, name, bytes, out) {
         Ok(()) => DONE,
-        Err(undrawn) => write_undrawn(alloc, name, bytes, undrawn, err),
+        Err(undrawn) => write_undrawn(alloc, memory, name, bytes, undrawn, err),
     }
 }

@@ -1,17 +1,16 @@
 //! Reports in a form, and the report of a task file: from its bytes to a status.
 
 ghost use Rattle.std.specs.Prelude.{◌≡◌, ◌+◌, ◌-◌, ◌<◌, ◌≤◌, ◌^◌, IfOk, length, string_bytes};
-ghost use Rattle.cbs_tables.specs.Memory.{memory_wanted};
 ghost use Rattle.cbs_file.specs.Spelling.{file};
 ghost use Rattle.cbs_run.specs.Printing.{EndsPrinting, Prints};
 ghost use Rattle.cbs_run.specs.Reported.{IsTaskReportText, text_in};
-ghost use Rattle.cbs_run.specs.Statuses.{LacksMemory};
 ghost use Rattle.cbs_lines.specs.Writers.{IsUntouched};
 
 use crate::explained::write_explained;
 use crate::fault_lines::write_run_fault;
+use crate::reading::task_file;
 use crate::run::{BAD_FILE, DONE, RUN_FAULT};
-use cbs_file::{TaskFile, read_file_within};
+use cbs_file::TaskFile;
 use cbs_json::report_json;
 use cbs_lines::{ByteOutput, RunError, write_text};
 use cbs_planning::task_report_of;
@@ -56,8 +55,8 @@ fn print_task_report<O: ByteOutput>(
 /// of the run fault goes to `err`, and `out` has a prefix of the report. That prefix is empty unless a write failed. A
 /// line that cannot be written changes no status.
 ///
-/// If the bytes need more than `memory` bytes of memory, nothing is parsed. The status is 3, and the line of out of
-/// memory goes to `err`.
+/// A file that has to be read as one document may need `memory` bytes of memory. If it needs more, the status is 3, and the
+/// line of out of memory goes to `err`.
 pub fn report_bytes_within<O: ByteOutput, E: ByteOutput>(
     alloc: Global,
     memory: u64,
@@ -69,19 +68,15 @@ pub fn report_bytes_within<O: ByteOutput, E: ByteOutput>(
 ) -> u8
     requires out { O.failed out.old < 2 ^ 64 - 1 }
     requires err { E.failed err.old < 2 ^ 64 - 1 }
-    ensures ends { EndsPrinting file (IsTaskReportText form name.now) (λ f. IsUntouched) bytes.now
-        (record { written = O.written out.old; failed = O.failed out.old }) (record { written = O.written out.new; failed = O.failed out.new })
-        (record { written = E.written err.old; failed = E.failed err.old }) (record { written = E.written err.new; failed = E.failed err.new })
-        result }
-    ensures bounded { memory < memory_wanted bytes.now → LacksMemory
+    ensures { EndsPrinting file (IsTaskReportText form name.now) (λ f. IsUntouched) bytes.now
         (record { written = O.written out.old; failed = O.failed out.old }) (record { written = O.written out.new; failed = O.failed out.new })
         (record { written = E.written err.old; failed = E.failed err.old }) (record { written = E.written err.new; failed = E.failed err.new })
         result }
 {
-    let file = match read_file_within(alloc, memory, bytes) {
+    let file = match task_file(alloc, memory, bytes) {
         Ok(file) => file,
         Err(fault) => {
-            write_explained(alloc, name, bytes, fault, err);
+            write_explained(alloc, memory, name, bytes, fault, err);
             return BAD_FILE;
         }
     };

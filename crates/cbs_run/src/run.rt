@@ -1,14 +1,14 @@
 //! One run: from the bytes of a file to a status.
 
 ghost use Rattle.std.specs.Prelude.{◌+◌, ◌-◌, ◌<◌, ◌^◌};
-ghost use Rattle.cbs_tables.specs.Memory.{memory_wanted, usual_bound};
-ghost use Rattle.cbs_run.specs.Statuses.{Ends, LacksMemory};
+ghost use Rattle.cbs_run.specs.Statuses.{Ends};
 ghost use Rattle.cbs_run.specs.Verbs.{output_of, StopsShort};
 ghost use Rattle.cbs_lines.specs.Writers.{Leaves};
 
 use crate::fault_lines::{write_file_fault, write_run_fault};
+use crate::reading::task_file;
 use crate::serve::serve_file;
-use cbs_file::{MEMORY, TaskFile, read_file_within};
+use cbs_file::{MEMORY, TaskFile};
 use cbs_lines::{ByteOutput, RunError, replay};
 use cbs_words::Verb;
 use std::alloc::Global;
@@ -47,8 +47,8 @@ fn run_file<R: Threads + Clock + Sync, O: ByteOutput>(
 
 /// Replays or serves the task file that the bytes spell, as [`run_bytes`] does. Returns the status.
 ///
-/// If the bytes need more than `memory` bytes of memory, nothing is parsed. The status is 3, and the line of out of
-/// memory goes to `err`.
+/// A file that has to be read as one document may need `memory` bytes of memory. If it needs more, the status is 3, and the
+/// line of out of memory goes to `err`.
 pub fn run_bytes_within<R: Threads + Clock + Sync, O: ByteOutput, E: ByteOutput>(
     rt: &R,
     alloc: Global,
@@ -60,16 +60,12 @@ pub fn run_bytes_within<R: Threads + Clock + Sync, O: ByteOutput, E: ByteOutput>
 ) -> u8
     requires out { O.failed out.old < 2 ^ 64 - 1 }
     requires err { E.failed err.old < 2 ^ 64 - 1 }
-    ensures ends { Ends verb bytes.now
-        (record { written = O.written out.old; failed = O.failed out.old }) (record { written = O.written out.new; failed = O.failed out.new })
-        (record { written = E.written err.old; failed = E.failed err.old }) (record { written = E.written err.new; failed = E.failed err.new })
-        result }
-    ensures bounded { memory < memory_wanted bytes.now → LacksMemory
+    ensures { Ends verb bytes.now
         (record { written = O.written out.old; failed = O.failed out.old }) (record { written = O.written out.new; failed = O.failed out.new })
         (record { written = E.written err.old; failed = E.failed err.old }) (record { written = E.written err.new; failed = E.failed err.new })
         result }
 {
-    let file = match read_file_within(alloc, memory, bytes) {
+    let file = match task_file(alloc, memory, bytes) {
         Ok(file) => file,
         Err(fault) => {
             let _written = write_file_fault(err, fault);
@@ -92,7 +88,7 @@ pub fn run_bytes_within<R: Threads + Clock + Sync, O: ByteOutput, E: ByteOutput>
 /// and `out` has a prefix of the output. In serving that prefix is empty unless a write failed. A line that cannot be
 /// written changes no status.
 ///
-/// A file may need up to [`MEMORY`] bytes of memory.
+/// A file that is read as one document may need up to [`MEMORY`] bytes of memory.
 pub fn run_bytes<R: Threads + Clock + Sync, O: ByteOutput, E: ByteOutput>(
     rt: &R,
     alloc: Global,
@@ -103,11 +99,7 @@ pub fn run_bytes<R: Threads + Clock + Sync, O: ByteOutput, E: ByteOutput>(
 ) -> u8
     requires out { O.failed out.old < 2 ^ 64 - 1 }
     requires err { E.failed err.old < 2 ^ 64 - 1 }
-    ensures ends { Ends verb bytes.now
-        (record { written = O.written out.old; failed = O.failed out.old }) (record { written = O.written out.new; failed = O.failed out.new })
-        (record { written = E.written err.old; failed = E.failed err.old }) (record { written = E.written err.new; failed = E.failed err.new })
-        result }
-    ensures bounded { usual_bound < memory_wanted bytes.now → LacksMemory
+    ensures { Ends verb bytes.now
         (record { written = O.written out.old; failed = O.failed out.old }) (record { written = O.written out.new; failed = O.failed out.new })
         (record { written = E.written err.old; failed = E.failed err.old }) (record { written = E.written err.new; failed = E.failed err.new })
         result }

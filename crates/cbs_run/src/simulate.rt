@@ -1,21 +1,20 @@
 //! The command `simulate`: from the bytes of a load to a status.
 
 ghost use Rattle.std.specs.Prelude.{◌+◌, ◌-◌, ◌<◌, ◌^◌};
-ghost use Rattle.cbs_tables.specs.Memory.{memory_wanted};
 ghost use Rattle.cbs_load.specs.Spelling.{load};
 ghost use Rattle.cbs_planning.specs.Loads.{seen_in};
 ghost use Rattle.cbs_lines.specs.LoadLines.{AreLoadLines, WritesSomeLines};
 ghost use Rattle.cbs_run.specs.Printing.{EndsPrinting, Prints};
 ghost use Rattle.cbs_run.specs.Reported.{IsReportText};
-ghost use Rattle.cbs_run.specs.Statuses.{LacksMemory};
 ghost use Rattle.cbs_lines.specs.Writers.{IsUntouched};
 
 use crate::explained::write_explained;
 use crate::fault_lines::write_run_fault;
+use crate::reading::load_file;
 use crate::report::text_of;
 use crate::run::{BAD_FILE, DONE, RUN_FAULT};
 use cbs_lines::{ByteOutput, RunError, write_load_lines, write_text};
-use cbs_load::{Load, read_load_within};
+use cbs_load::Load;
 use cbs_planning::{Progress, report_of};
 use cbs_words::Form;
 use std::alloc::Global;
@@ -47,8 +46,8 @@ fn print_report<P: Progress, O: ByteOutput>(
 /// of the run fault goes to `err`, and `out` has a prefix of the report. That prefix is empty unless a write failed. A
 /// line that cannot be written changes no status.
 ///
-/// If the bytes need more than `memory` bytes of memory, nothing is parsed. The status is 3, and the line of out of
-/// memory goes to `err`.
+/// A file that has to be read as one document may need `memory` bytes of memory. If it needs more, the status is 3, and the
+/// line of out of memory goes to `err`.
 pub fn simulate_bytes_within<P: Progress, O: ByteOutput, E: ByteOutput>(
     alloc: Global,
     memory: u64,
@@ -61,19 +60,15 @@ pub fn simulate_bytes_within<P: Progress, O: ByteOutput, E: ByteOutput>(
 ) -> u8
     requires out { O.failed out.old < 2 ^ 64 - 1 }
     requires err { E.failed err.old < 2 ^ 64 - 1 }
-    ensures ends { EndsPrinting load (IsReportText form name.now) (λ f. IsUntouched) bytes.now
-        (record { written = O.written out.old; failed = O.failed out.old }) (record { written = O.written out.new; failed = O.failed out.new })
-        (record { written = E.written err.old; failed = E.failed err.old }) (record { written = E.written err.new; failed = E.failed err.new })
-        result }
-    ensures bounded { memory < memory_wanted bytes.now → LacksMemory
+    ensures { EndsPrinting load (IsReportText form name.now) (λ f. IsUntouched) bytes.now
         (record { written = O.written out.old; failed = O.failed out.old }) (record { written = O.written out.new; failed = O.failed out.new })
         (record { written = E.written err.old; failed = E.failed err.old }) (record { written = E.written err.new; failed = E.failed err.new })
         result }
 {
-    let load = match read_load_within(alloc, memory, bytes) {
+    let load = match load_file(alloc, memory, bytes) {
         Ok(load) => load,
         Err(fault) => {
-            write_explained(alloc, name, bytes, fault, err);
+            write_explained(alloc, memory, name, bytes, fault, err);
             return BAD_FILE;
         }
     };
@@ -94,8 +89,8 @@ pub fn simulate_bytes_within<P: Progress, O: ByteOutput, E: ByteOutput>(
 /// memory, `out` has the lines of the first steps, up to some step. If a write failed, `out` has a prefix of all lines.
 /// A line on `err` that cannot be written changes no status.
 ///
-/// If the bytes need more than `memory` bytes of memory, nothing is parsed. The status is 3, and the line of out of
-/// memory goes to `err`.
+/// A file that has to be read as one document may need `memory` bytes of memory. If it needs more, the status is 3, and the
+/// line of out of memory goes to `err`.
 pub fn simulate_lines_within<O: ByteOutput, E: ByteOutput>(
     alloc: Global,
     memory: u64,
@@ -106,19 +101,15 @@ pub fn simulate_lines_within<O: ByteOutput, E: ByteOutput>(
 ) -> u8
     requires out { O.failed out.old < 2 ^ 64 - 1 }
     requires err { E.failed err.old < 2 ^ 64 - 1 }
-    ensures ends { EndsPrinting load AreLoadLines (λ f. WritesSomeLines (seen_in f)) bytes.now
-        (record { written = O.written out.old; failed = O.failed out.old }) (record { written = O.written out.new; failed = O.failed out.new })
-        (record { written = E.written err.old; failed = E.failed err.old }) (record { written = E.written err.new; failed = E.failed err.new })
-        result }
-    ensures bounded { memory < memory_wanted bytes.now → LacksMemory
+    ensures { EndsPrinting load AreLoadLines (λ f. WritesSomeLines (seen_in f)) bytes.now
         (record { written = O.written out.old; failed = O.failed out.old }) (record { written = O.written out.new; failed = O.failed out.new })
         (record { written = E.written err.old; failed = E.failed err.old }) (record { written = E.written err.new; failed = E.failed err.new })
         result }
 {
-    let load = match read_load_within(alloc, memory, bytes) {
+    let load = match load_file(alloc, memory, bytes) {
         Ok(load) => load,
         Err(fault) => {
-            write_explained(alloc, name, bytes, fault, err);
+            write_explained(alloc, memory, name, bytes, fault, err);
             return BAD_FILE;
         }
     };

@@ -1,14 +1,14 @@
 -- The top table of a TOML document, and faults with their places.
-use Rattle.std.specs.Prelude.{ℕ, ◌+◌, if◌then◌else◌, List, [], ◌∷◌, Option, Some, None, Result, Ok, Err}
+use Rattle.std.specs.Prelude.{ℕ, ◌+◌, Bool, is_some, if◌then◌else◌, List, [], ◌∷◌, Option, Some, None, Result, Ok, Err}
 use Rattle.std.specs.Str.{is_utf8}
-use Rattle.toml.specs.Data.{Data, Members}
+use Rattle.toml.specs.Data.{Data, Members, get_member}
 use Rattle.toml.specs.Parse.{parse_document}
 use Rattle.cbs_tables.specs.declared.fault.FileKind.{FileKind}
 use Rattle.cbs_tables.specs.declared.fault.FileKind.TheVariants.{NotToml, OutOfMemory}
 use Rattle.cbs_tables.specs.declared.fault.FileFault.{FileFault}
 use Rattle.cbs_tables.specs.declared.fault.Place.{Place}
 use Rattle.cbs_tables.specs.declared.fault.Place.TheVariants.{Top, Server}
-use Rattle.cbs_tables.specs.Fields.{◌>>=◌}
+use Rattle.cbs_tables.specs.Fields.{◌>>=◌, seen}
 
 -- the fault that memory ran out while reading
 abbrev pub no_memory : FileFault
@@ -32,6 +32,10 @@ or_not_toml None = Err NotToml
 -- the top table, if the bytes are UTF-8 and TOML
 abbrev pub document : List ℕ → Result Members FileKind
 document bytes = if is_utf8 bytes then or_not_toml (parse_document bytes) else Err NotToml
+
+-- whether the top table has a key
+abbrev pub has_key : List ℕ → List ℕ → Result Bool FileFault
+has_key key bytes = seen (λ table. is_some (get_member key table)) (at Top (document bytes))
 
 -- what the entries of `server`, of which the first is server i, make of something, one after another; or the first
 -- fault

@@ -1,3 +1,4 @@
+pub mod Bounds
 pub mod Documents
 pub mod Faults
 pub mod Fields

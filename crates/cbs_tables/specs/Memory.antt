@@ -1,4 +1,4 @@
--- The memory that a file needs, in bytes, as the sum of what each of its bytes is counted for.
+-- The memory that a file needs as one document, in bytes, as the sum of what each of its bytes is counted for.
 use Rattle.std.specs.Prelude.{ℕ, List, sum_by, ◌==◌, if◌then◌else◌}
 
 -- what a byte is counted for: a dot, [, {, =, a comma, and any other byte
@@ -13,7 +13,3 @@ byte_wants byte =
 -- the sum over all bytes of a file
 abbrev pub memory_wanted : List ℕ → ℕ
 memory_wanted bytes = sum_by byte_wants bytes
-
--- how much memory a file may need if no bound is given: 2 GiB
-abbrev pub usual_bound : ℕ
-usual_bound = 2147483648

@@ -1,10 +1,38 @@
-//! The memory that the bytes of a file may take when they are read. It is computed before they are parsed.
+//! The memory that the bytes of a file may take when they are read as one document. It is computed before they are
+//! parsed.
 
 ghost use Rattle.std.specs.Prelude.{◌≡◌, ◌≤◌, ◌↔◌, IsTrue};
 ghost use Rattle.cbs_tables.specs.Memory.{byte_wants, memory_wanted};
+ghost use Rattle.cbs_tables.specs.Bounds.{result_of};
 
-/// How much memory a file may need if no bound is given, in bytes: 2 GiB.
-pub const MEMORY: u64 = 2_147_483_648;
+use crate::documents::faulty;
+use crate::fault::{FileFault, FileKind, Place};
+
+/// How much memory a file may need as one document if no bound is given, in bytes: 960 MiB.
+pub const MEMORY: u64 = 1_006_632_960;
+
+/// What came of reading a file with a bound on memory.
+#[derive(Drop)]
+pub enum Bounded<T: Drop> {
+    /// The file was read piece by piece. That takes little memory, so the bound was not asked.
+    InPieces(Result<T, FileFault>),
+    /// The file was read as one document, and the bound allows that.
+    Whole(Result<T, FileFault>),
+    /// The file was not read. As one document, it needs more memory than the bound.
+    TooLarge,
+}
+
+impl<T: Drop> Bounded<T> {
+    /// Returns what was read, or its fault. If the bound refused the file, that is out of memory.
+    pub fn into_result(self) -> Result<T, FileFault>
+        ensures { result ≡ result_of self }
+    {
+        match self {
+            Bounded::InPieces(read) | Bounded::Whole(read) => read,
+            Bounded::TooLarge => Err(faulty(Place::Top, FileKind::OutOfMemory)),
+        }
+    }
+}
 
 /// Returns how much memory a byte of a file is counted for, in bytes.
 ///

@@ -67,7 +67,8 @@ Not guaranteed:
   - Time. A tick is one unit of one job, however long that takes.
   - That an advance takes nobody's time. One while somebody is ready does.
 
-A file that may want more than 2048 MiB of memory while it is read is refused, with
+A file without dotted keys and headers in single brackets, with its steps last, is read
+piece by piece. Another that may want more than 960 MiB of memory is refused, with
 status 3. CBSRUN_MEMORY, in the environment, is another bound, in MiB.
 
 Exit status:

@@ -312,41 +312,29 @@ fn a_writer_that_fails_has_a_prefix(rt: HostRuntime) {
     }
 }
 
-/// Ends the test unless a faulty file is explained so, and without memory is refused for that.
+/// Ends the test unless a faulty file is explained so. The file is read in pieces, so its fault is told within any bound.
+/// For the explanation, and for a file with a dotted key, the document is needed.
 fn is_explained(rt: &impl Abort, alloc: Global, asked: Asked, file: &str, explained: &str) {
     same(rt, explained, explained.starts_with(FAULT), true);
     printed(alloc, asked, MEMORY, file, 0).leaves(rt, explained, 3, "", explained);
+    printed(alloc, asked, 10, file, 0).leaves(rt, "unexplained", 3, "", FAULT);
     let no_memory = "cbsrun: file fault 7 OutOfMemory at top\n";
-    printed(alloc, asked, 10, file, 0).leaves(rt, no_memory, 3, "", no_memory);
+    printed(alloc, asked, 10, "a.b = 1\n", 0).leaves(rt, no_memory, 3, "", no_memory);
 }
 
 #[test]
 fn a_fault_is_explained_if_there_is_memory(rt: HostRuntime) {
     let alloc = rt.alloc();
     let some = ticks(&rt, 0, 4);
-    for (asked, file, explained) in &[
-        (Asked::Check, "load = 2\n", LOAD_EXPLAINED),
-        (
-            Asked::ReportLoad(Form::Report),
-            "load = 2\n",
-            LOAD_EXPLAINED,
-        ),
-        (Asked::WriteLoadLines, "load = 2\n", LOAD_EXPLAINED),
-        (
-            Asked::ReportTasks(Form::Report),
-            "format = 3\n",
-            TASKS_EXPLAINED,
-        ),
-        (
-            Asked::DrawLoad(Drawing::Text, some),
-            "load = 2\n",
-            LOAD_EXPLAINED,
-        ),
-        (
-            Asked::DrawTasks(Drawing::Svg, some),
-            "format = 3\n",
-            TASKS_EXPLAINED,
-        ),
+    let load = ("load = 2\n", LOAD_EXPLAINED);
+    let tasks = ("format = 3\nstep = []\n", TASKS_EXPLAINED);
+    for (asked, (file, explained)) in &[
+        (Asked::Check, load),
+        (Asked::ReportLoad(Form::Report), load),
+        (Asked::WriteLoadLines, load),
+        (Asked::ReportTasks(Form::Report), tasks),
+        (Asked::DrawLoad(Drawing::Text, some), load),
+        (Asked::DrawTasks(Drawing::Svg, some), tasks),
     ] {
         is_explained(&rt, alloc, *asked, file, explained);
     }

@@ -7,8 +7,9 @@ use Rattle.cbs_rules.specs.Setups.{no_servers}
 use Rattle.cbs_tables.specs.Documents.{taken_in}
 use Rattle.cbs_file.specs.Spelling.{admitted_entry}
 use Rattle.cbs_file.specs.TopTables.{top_table, top_view}
-use Rattle.cbs_file.specs.Streams.{insert_member}
-use Rattle.cbs_file.proofs.ReadApart.{members_view-insert_entry, top_fault, setup_fault, steps_fault, whole_file}
+use Rattle.cbs_read.specs.Reading.{insert_member}
+use Rattle.cbs_read.proofs.Members.{members_view-insert_entry}
+use Rattle.cbs_file.proofs.ReadApart.{top_fault, setup_fault, steps_fault, whole_file}
 use Rattle.cbs_file.proofs.file.finish.Goals as goal
 
 pub returns-in-Err : goal.returns-in-Err

@@ -10,7 +10,7 @@ use Rattle.cbs_read.proofs.Growing.{place_growing, next_table}
 use Rattle.cbs_read.proofs.Results.{stops_by}
 use Rattle.cbs_tables.specs.Fields.{list_of}
 use Rattle.cbs_file.specs.Streams.{Spells}
-use Rattle.cbs_file.proofs.Documents.{close-insert}
+use Rattle.cbs_read.proofs.Members.{close-insert}
 use Rattle.cbs_file.proofs.StepsRead.{list_of-push}
 use Rattle.cbs_file.proofs.steps.step_tables.Goals as goal
 

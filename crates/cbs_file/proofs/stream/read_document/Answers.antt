@@ -10,9 +10,10 @@ use Rattle.toml.specs.Parse.{parse_document, key_equals, val, ends_line}
 use Rattle.toml.proofs.Turns.{document_none, document_some, lines_end, lines_more, lines_bad, lines_refused, val_open_array}
 use Rattle.cbs_read.specs.Reading.{nodes_of}
 use Rattle.cbs_read.proofs.Puts.{close-nodes_of, has_key, is_none, put_new}
-use Rattle.cbs_file.specs.Streams.{insert_member}
+use Rattle.cbs_read.specs.Reading.{insert_member}
 use Rattle.cbs_read.proofs.LineReads.{line_pair, line_no_end, line_no_key, line_no_value, define_pair, define_again}
-use Rattle.cbs_file.proofs.Documents.{nodes_of-insert_member, document_err}
+use Rattle.cbs_read.proofs.Members.{nodes_of-insert_member}
+use Rattle.cbs_file.proofs.Documents.{document_err}
 use Rattle.cbs_file.proofs.stream.read_document.Goals as goal
 
 pub lines-init : goal.lines-init

@@ -1,133 +1,34 @@
-use Rattle.std.proofs.Common.{◌≡◌, ◌==◌, ◌-◌, length, codes, false, le_refl, Some, None, [], ◌∷◌, string_bytes, refl, sym, ap, ◌∙◌, rules, arith}
-use Rattle.std.proofs.lemmas.Grind.{common_steps}
-use Rattle.std.proofs.lemmas.Slice.Eq.{bytes_eq-Decides}
-use Rattle.toml_parser.specs.Lexical.{skip_blank}
-use Rattle.toml.specs.Data.{array, table, push_item, get_member}
-use Rattle.toml.specs.Parse.{line}
-use Rattle.toml.specs.Tables.{open_array, insert, close, array_table}
-use Rattle.toml.specs.View.{view, table_view, members_view}
-use Rattle.toml.specs.declared.value.Value.{Array}
-use Rattle.toml.proofs.Views.{view-Array}
-use Rattle.cbs_read.proofs.Puts.{has_key, is_none}
-use Rattle.cbs_file.proofs.Arrays.{at_end, refused_line, no_node, refused_tables, last_tables, next_lines, next_members}
+use Rattle.std.proofs.Common.{◌≡◌, codes, Some, None, ap, ◌∙◌, refl}
+use Rattle.toml.specs.Data.{array}
+use Rattle.toml.specs.Tables.{close}
+use Rattle.toml.specs.View.{table_view}
+use Rattle.cbs_read.specs.Reading.{closed, EndsArrays, insert_member}
 use Rattle.cbs_file.proofs.Documents.{document_err}
-use Rattle.cbs_file.proofs.ReadApart.{members_view-insert_entry}
 use Rattle.cbs_file.proofs.stream.read_tables.Goals as goal
 
-pub arrays-init : goal.arrays-init
-arrays-init c = (search rules, le_refl _, λ n root path e h. (n, root, path, record { so_far = refl; same = e; room = h }))
+pub returns-in-None-clause-value : goal.returns-in-None-clause-value
+returns-in-None-clause-value c n root path e h =
+    let ends : EndsArrays (codes "step") n (root, path) c.args.s.now (table_view c.in_ok-table.table) None =
+    rw c.in-None.is at (c.in_ok-table.ensures n root path e h) in
+    ends
 
-pub returns-then-is_empty-clause-value : goal.returns-then-is_empty-clause-value
-returns-then-is_empty-clause-value c n root path e h =
-    let l = c.arrays in
-    let (m, now, last, far) = l.invariant.2 n root path e h in
-    let start_is = c.skip_blank-start.ensures.rest in
-    let over : length (skip_blank l.rest.now) ≡ 0 = grind (arith, common_steps) in
-    at_end far over
+pub returns-in_err-read-in-Some-clause-value : goal.returns-in_err-read-in-Some-clause-value
+returns-in_err-read-in-Some-clause-value c n root path e h =
+    let ends : EndsArrays (codes "step") n (root, path) c.args.s.now (table_view c.in_ok-table.table) (Some c.in-Some.body) =
+    rw c.in-Some.is at (c.in_ok-table.ensures n root path e h) in
+    let (m, now, less, same, free, read) = ends in
+    document_err c.from_residual-in_err-read-in-Some.result _ c.in_err-read-in-Some.field-0.0 _ c.from_residual-in_err-read-in-Some.ensures.1 (λ y p. p) λ refused.
+    ap closed (read ∙ c.in_err-read-in-Some.ensures m now less refused)
 
-pub returns-in_err-key-clause-value : goal.returns-in_err-key-clause-value
-returns-in_err-key-clause-value c n root path e h =
-    let l = c.arrays in
-    let (m, now, last, far) = l.invariant.2 n root path e h in
-    let start_is = c.skip_blank-start.ensures.rest in
-    let more : (length (skip_blank l.rest.now) == 0) ≡ false = grind (arith, common_steps) in
-    document_err c.from_residual.result _ c.in_err-key.field-0.0 _ c.from_residual.ensures.1 (λ y p. p) λ refused.
-    refused_line far more (rw start_is at (c.in_err-key.ensures.value refused))
-
-pub returns-in_err-read-clause-value : goal.returns-in_err-read-clause-value
-returns-in_err-read-clause-value c n root path e h =
-    let l = c.arrays in
-    let (m, now, last, far) = l.invariant.2 n root path e h in
-    let start_is = c.skip_blank-start.ensures.rest in
-    let more : (length (skip_blank l.rest.now) == 0) ≡ false = grind (arith, common_steps) in
-    let key = string_bytes c.in_ok-key.key in
-    let read : line (skip_blank l.rest.now) ≡ Some ((([], key), array_table), c.in_ok-key.body.now) = rw start_is at c.in_ok-key.ensures.value in
-    let free : get_member key (table_view l.table) ≡ None =
-    is_none key (table_view l.table) (sym (has_key key l.table.entries) ∙ rw (← c.as_str.ensures.value) (sym c.contains_key.ensures ∙ c.if-contains_key.false)) in
-    let shorter = c.in_ok-key.ensures.shorter in
-    let before = c.skip_blank-start.ensures.within in
-    let room = far.room in
-    let is_step : key ≡ codes "step" = sym c.as_str-in-arrays.ensures.value ∙ (bytes_eq-Decides _ _).0 (sym c.if-eq.ensures) in
-    document_err c.from_residual-in_err-read.result _ c.in_err-read.field-0.0 _ c.from_residual-in_err-read.ensures.1 (λ y p. p) λ refused.
-    refused_tables far more key c.in_ok-key.body.now read free
-    (rw is_step (c.in_err-read.ensures (m - 1) now (omega arith) refused))
-
-pub returns-then-eq-clause-value : goal.returns-then-eq-clause-value
-returns-then-eq-clause-value c n root path e h =
-    let l = c.arrays in
-    let (m, now, last, far) = l.invariant.2 n root path e h in
-    let start_is = c.skip_blank-start.ensures.rest in
-    let more : (length (skip_blank l.rest.now) == 0) ≡ false = grind (arith, common_steps) in
-    let key = string_bytes c.in_ok-key.key in
-    let is_step : key ≡ codes "step" = sym c.as_str-in-arrays.ensures.value ∙ (bytes_eq-Decides _ _).0 (sym c.if-eq.ensures) in
-    let read : line (skip_blank l.rest.now) ≡ Some ((([], codes "step"), array_table), c.in_ok-key.body.now) =
-    rw (← is_step) (rw start_is at c.in_ok-key.ensures.value) in
-    let own : get_member key (table_view l.table) ≡ None =
-    is_none key (table_view l.table) (sym (has_key key l.table.entries) ∙ rw (← c.as_str.ensures.value) (sym c.contains_key.ensures ∙ c.if-contains_key.false)) in
-    let free : get_member (codes "step") (table_view l.table) ≡ None = rw is_step at own in
-    let shorter = c.in_ok-key.ensures.shorter in
-    let before = c.skip_blank-start.ensures.within in
-    let room = far.room in
-    let (ds, whole, read_all, is, spells) = c.in_ok-read.ensures (m - 1) now (omega arith) in (
+pub returns-in_ok-read-in-Some-clause-value : goal.returns-in_ok-read-in-Some-clause-value
+returns-in_ok-read-in-Some-clause-value c n root path e h =
+    let ends : EndsArrays (codes "step") n (root, path) c.args.s.now (table_view c.in_ok-table.table) (Some c.in-Some.body) =
+    rw c.in-Some.is at (c.in_ok-table.ensures n root path e h) in
+    let (m, now, less, same, free, read) = ends in
+    let (ds, whole, read_all, is, spells) = c.in_ok-read-in-Some.ensures m now less in
+    let here : close whole.0 ≡ insert_member (codes "step") (array ds) (table_view c.in_ok-table.table) = rw (← same) is in (
       ds,
-      last_tables far more (codes "step") c.in_ok-key.body.now read free ds whole read_all is,
+      ap closed (read ∙ read_all) ∙ rw here refl,
       free,
       spells,
-    )
-
-pub returns-in_err-tables-clause-value : goal.returns-in_err-tables-clause-value
-returns-in_err-tables-clause-value c n root path e h =
-    let l = c.arrays in
-    let (m, now, last, far) = l.invariant.2 n root path e h in
-    let start_is = c.skip_blank-start.ensures.rest in
-    let more : (length (skip_blank l.rest.now) == 0) ≡ false = grind (arith, common_steps) in
-    let key = string_bytes c.in_ok-key.key in
-    let read : line (skip_blank l.rest.now) ≡ Some ((([], key), array_table), c.in_ok-key.body.now) = rw start_is at c.in_ok-key.ensures.value in
-    let free : get_member key (table_view l.table) ≡ None =
-    is_none key (table_view l.table) (sym (has_key key l.table.entries) ∙ rw (← c.as_str.ensures.value) (sym c.contains_key.ensures ∙ c.if-contains_key.false)) in
-    let none = no_node far more key c.in_ok-key.body.now read free in
-    let shorter = c.in_ok-key.ensures.shorter in
-    let before = c.skip_blank-start.ensures.within in
-    let room = far.room in
-    let is : c.as_str-in-arrays-2.result.now ≡ key = c.as_str-in-arrays-2.ensures.value in
-    document_err c.from_residual-in_err-tables.result _ c.in_err-tables.field-0.0 _ c.from_residual-in_err-tables.ensures.1 (λ y p. p) λ refused.
-    let bad = rw is at (c.in_err-tables.ensures.value (m - 1) now) in
-    refused_tables far more key c.in_ok-key.body.now read free
-    (bad none (omega arith) refused)
-
-pub arrays-preserved : goal.arrays-preserved
-arrays-preserved c =
-    let shorter = c.in_ok-key.ensures.shorter in
-    let before = c.skip_blank-start.ensures.within in
-    let within = c.in_ok-tables.ensures.within in (
-      search rules,
-      omega (arith, c.arrays.invariant.1),
-      λ n root path e h.
-          let l = c.arrays in
-          let (m, now, last, far) = l.invariant.2 n root path e h in
-          let room = far.room in
-          let start_is = c.skip_blank-start.ensures.rest in
-          let more : (length (skip_blank l.rest.now) == 0) ≡ false = grind (arith, common_steps) in
-          let key = string_bytes c.in_ok-key.key in
-          let body = c.in_ok-key.body.now in
-          let read : line (skip_blank l.rest.now) ≡ Some ((([], key), array_table), body) = rw start_is at c.in_ok-key.ensures.value in
-          let free : get_member key (table_view l.table) ≡ None =
-          is_none key (table_view l.table) (sym (has_key key l.table.entries) ∙ rw (← c.as_str.ensures.value) (sym c.contains_key.ensures ∙ c.if-contains_key.false)) in
-          let none = no_node far more key body read free in
-          let is : c.as_str-in-arrays-2.result.now ≡ key = c.as_str-in-arrays-2.ensures.value in
-          let good = rw is at (c.in_ok-tables.ensures.value (m - 1) now) in
-          let (k, space, done, latest, lines_are, items_are) = good none (omega arith) in
-          let d = view (Array c.in_ok-tables.tables) in
-          let array_is : d ≡ array (push_item done (table (close latest))) = rw (view-Array c.in_ok-tables.tables, items_are) refl in
-          let new : table_view c.insert.new.self ≡ _ =
-          ap members_view c.in-Ok.ensures.entries ∙ members_view-insert_entry l.table.entries c.in_ok-key.key (Array c.in_ok-tables.tables) in (
-            k,
-            insert key (open_array done latest) now,
-            key ∷ [],
-            record {
-              so_far = next_lines far more key body read free k done latest c.in_ok-tables.after.now lines_are;
-              same = next_members far more key body read free k done latest c.in_ok-tables.after.now d array_is ∙ sym new;
-              room = space;
-            },
-          ),
     )

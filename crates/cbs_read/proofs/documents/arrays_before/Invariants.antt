@@ -3,8 +3,8 @@ use denote.Text.{Utf8}
 use denote.Shadow.{shadow}
 use Rattle.toml.specs.Tables.{Nodes, close}
 use Rattle.toml.specs.View.{table_view}
-use Rattle.cbs_file.proofs.Arrays.{ReadsUpTo}
-use Rattle.cbs_file.proofs.stream.read_tables.Given as goal
+use Rattle.cbs_read.proofs.Arrays.{ReadsUpTo}
+use Rattle.cbs_read.proofs.documents.arrays_before.Given as goal
 
 abbrev pub invariant-arrays : goal.invariant-arrays
 invariant-arrays l =

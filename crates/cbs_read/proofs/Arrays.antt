@@ -1,18 +1,16 @@
 -- A document whose first lines were read, with what may follow them: its end, or one more array of tables.
-use Rattle.std.proofs.Common.{◌≡◌, ℕ, ◌-◌, ◌<◌, ◌==◌, false, List, [], ◌∷◌, length, Option, Some, None, option_map, ap, ◌∙◌, refl, arith}
+use Rattle.std.specs.Borrow.{Bor}
+use Rattle.std.proofs.lemmas.Bool.{true≢false}
+use Rattle.std.proofs.Common.{is_some, suc}
+use Rattle.std.proofs.Common.{◌≡◌, ℕ, ◌-◌, ◌<◌, ◌==◌, false, List, [], ◌∷◌, length, Option, Some, None, ap, ◌∙◌, refl, arith}
 use Rattle.toml_parser.specs.Lexical.{skip_blank}
 use Rattle.toml.specs.Data.{Data, Items, Members, array, no_items, table, push_item, get_member}
-use Rattle.toml.specs.Parse.{line, lines}
-use Rattle.toml.specs.Tables.{Nodes, Document, no_nodes, open_array, insert, get_node, close, array_table}
+use Rattle.toml.specs.Parse.{line, lines, skip_bom, parse_document}
+use Rattle.toml.specs.Tables.{Nodes, Document, no_nodes, open_array, insert, get_node, close, array_table, define, along_header}
 use Rattle.toml.proofs.Turns.{lines_end, lines_more, lines_bad}
-use Rattle.cbs_read.specs.Reading.{growing}
+use Rattle.cbs_read.specs.Reading.{growing, insert_member, closed, BeginsArray, EndsArrays, IsPlace}
 use Rattle.cbs_read.proofs.Growing.{first_table}
-use Rattle.cbs_file.specs.Streams.{insert_member}
-use Rattle.cbs_file.proofs.Documents.{close-insert, closed_none}
-
--- the members of a document, if the grammar gives one
-abbrev pub closed : Option Document → Option Members
-closed = option_map (λ doc. close doc.0)
+use Rattle.cbs_read.proofs.Members.{close-insert, closed_none}
 
 -- the lines of a document were read up to the text `rest`, and give these members
 pub record ReadsUpTo (n : ℕ) (doc : Document) (s : List ℕ) (m : ℕ) (now : Nodes) (last : List (List ℕ)) (rest : List ℕ) (members : Members) : Type 0 where
@@ -42,10 +40,9 @@ module _ {n m : ℕ} {doc : Document} {now : Nodes} {last : List (List ℕ)} {s 
       pub refused_tables : lines (m - 1) (growing key now no_items no_nodes) body ≡ None → closed (lines n doc s) ≡ None
       refused_tables bad = ap closed far.so_far ∙ rw (begun, bad) refl
 
-      -- if its tables are the last lines, the document has them beside its other members
-      pub last_tables : (ds : Items) (whole : Document) → lines (m - 1) (growing key now no_items no_nodes) body ≡ Some whole
-          → close whole.0 ≡ insert_member key (array ds) (close now) → closed (lines n doc s) ≡ Some (insert_member key (array ds) members)
-      last_tables ds whole read is = ap closed far.so_far ∙ rw (begun, read) (ap Some (rw (← far.same) is))
+      -- an array begins after the lines so far
+      pub begins : length body < m - 1 → BeginsArray key n doc s members body
+      begins less = (m - 1, now, less, far.same, free, far.so_far ∙ begun)
 
       module _ (k : ℕ) (done : Items) (latest : Nodes) (after : List ℕ) where
         -- or else the document goes on after them
@@ -56,3 +53,19 @@ module _ {n m : ℕ} {doc : Document} {now : Nodes} {last : List (List ℕ)} {s 
         -- with the array as one more member
         pub next_members : (d : Data) → d ≡ array (push_item done (table (close latest))) → close (insert key (open_array done latest) now) ≡ insert_member key d members
         next_members d is = close-insert key (open_array done latest) now ∙ rw (far.same, is) refl
+
+-- the document is its lines after the byte order mark
+pub document_is : (s : List ℕ) → parse_document s ≡ closed (lines (suc (length s)) (no_nodes, []) (skip_bom s))
+unfolding parse_document
+document_is s = refl
+
+-- the first pairs go into the top table
+pub place_top : IsPlace (λ ns. (ns, []))
+unfolding define along_header
+place_top ns key d = refl
+
+-- if no header ended the arrays, they are all of the document
+pub ends_none : (key : List ℕ) (n : ℕ) (doc : Document) (text : List ℕ) (members : Members) (o : Option (Bor (List ℕ))) → is_some o ≡ false
+    → EndsArrays key n doc text members o → closed (lines n doc text) ≡ Some members
+ends_none key n doc text ms None h e = e
+ends_none key n doc text ms (Some body) h e = absurd (true≢false h)
