@@ -231,8 +231,8 @@ static ASKED: [Asked; 7] = [
     Asked::Run,
 ];
 
-/// What the list leaves behind.
-static BEHIND: [Row; 3] = [
+/// The rows after the list.
+static AFTER: [Row; 3] = [
     Row::Now(3),
     Row::State(0, 2, 10, false),
     Row::State(1, 1, 6, false),
@@ -261,6 +261,6 @@ fn a_step_that_finds_no_memory_is_marked(rt: HostRuntime) {
         Told::Done(1, 0, 2),
     ];
     answers(&rt, "no memory is found", &mut core, steps, &wanted);
-    plays(&rt, alloc, "behind the steps", &mut core, &BEHIND);
+    plays(&rt, alloc, "after the steps", &mut core, &AFTER);
     drop(ballast);
 }

@@ -142,7 +142,7 @@ fn each_dropped_client_ends_once(rt: HostRuntime) {
     }
 }
 
-/// Behind a feed that was dropped with two jobs unsent.
+/// The rows after a feed was dropped with two jobs unsent.
 static UNSENT: [Row; 4] = [
     Row::Poll(0, Poll::Took(0)),
     Row::Poll(0, Poll::Closed),
