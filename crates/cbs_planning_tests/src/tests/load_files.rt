@@ -1,9 +1,9 @@
 //! Load files: the content of a good one, and the fault of each faulty one.
 
+use crate::tests::sample_loads::{PIPELINE, ROBOT};
 use cbs_core::Core;
 use cbs_load::{Load, read_load};
 use cbs_rules::Mode;
-use cbs_sample_loads::{PIPELINE, ROBOT};
 use cbs_simulate::{LoadJob, Moment, Range, SourceTerms, Watcher, simulate_plan};
 use std::alloc::{AllocError, Allocator, Global};
 use std::process::Abort;

@@ -3,9 +3,9 @@
 //! The expected texts of the two loads come from an independent program with another scheduler.
 
 use crate::tests::by_hand::by_hand;
-use crate::tests::picture_of;
+use crate::tests::drawn::picture_of;
+use crate::tests::sample_loads::{PIPELINE, ROBOT};
 use cbs_chart::Picture;
-use cbs_sample_loads::{PIPELINE, ROBOT};
 use cbs_timeline::timeline_text;
 use std::alloc::Global;
 use std::process::Abort;

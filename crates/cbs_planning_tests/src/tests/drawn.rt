@@ -6,11 +6,6 @@ use cbs_planning::show_load;
 use std::alloc::Global;
 use std::process::Abort;
 
-mod by_hand;
-mod charts;
-mod timelines;
-mod traces;
-
 /// Returns what a window shows of a load.
 fn chart_of(rt: &impl Abort, alloc: Global, load: &Load, from: u64, to: u64) -> Chart {
     let window = Window::new(from, to).ok().expect(rt, "a window");

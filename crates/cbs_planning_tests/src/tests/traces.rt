@@ -3,9 +3,9 @@
 //! What is expected of the load comes from an independent program with another scheduler.
 
 use crate::tests::by_hand::by_hand;
-use crate::tests::picture_of;
+use crate::tests::drawn::picture_of;
+use crate::tests::sample_loads::ROBOT;
 use cbs_chart::Picture;
-use cbs_sample_loads::ROBOT;
 use cbs_trace::trace_json;
 use std::alloc::Global;
 use std::process::Abort;

@@ -1,11 +1,11 @@
 //! Texts about files, byte for byte. The two loads with comments are examples of this project. All texts come from an
 //! independent program, but for what is promised beside overruns of others, which is worked out by hand.
 
+use crate::tests::sample_loads::{PIPELINE, ROBOT};
 use cbs_check::{check_load, check_plan};
 use cbs_load::read_load;
 use cbs_rate::{Bound, Plan, Reservation};
 use cbs_rules::{Mode, Modes};
-use cbs_sample_loads::{PIPELINE, ROBOT};
 use std::alloc::Global;
 use std::process::Abort;
 

@@ -1,5 +1,4 @@
 //! Two loads for tests, as they stand in `examples/`.
-#![tactic(auto)]
 
 /// A robot: control and vision, a throttled lidar, and bursts of logging that ask for more than they have.
 pub const ROBOT: &str = "\
