@@ -14,6 +14,7 @@ mod times;
 
 use anyhow::{Context, Result, bail};
 use std::alloc::Global;
+use std::io::Input;
 use std::thread::Threads;
 use std::time::Clock;
 use std::{env, io};
@@ -29,28 +30,37 @@ fn try_all<R: Print + Threads + Clock + Sync>(rt: &R, alloc: Global, load: &str)
     overruns::print_lateness(rt, alloc)
 }
 
+/// Runs the trials of overruns, each for as many milliseconds as a word says.
+fn print_overruns<R: Print + Clock>(rt: &R, alloc: Global, millis: Option<&str>) -> Result<()> {
+    let millis = millis.context("usage: overruns MILLISECONDS")?;
+    overruns::print_all(rt, alloc, millis.parse::<u64>()?)
+}
+
 /// Returns the load on standard input.
-fn load_given(rt: &HostRuntime) -> Result<String> {
-    Ok(io::read_to_string(rt.alloc(), rt.reader())?)
+fn load_given<R: Input>(rt: &R, alloc: Global) -> Result<String> {
+    Ok(io::read_to_string(alloc, rt.reader())?)
+}
+
+/// Tries the part that a word names, with what the next word gives it, or all parts.
+fn try_part<R: Print + Input + Threads + Clock + Sync>(
+    rt: &R,
+    alloc: Global,
+    part: Option<&str>,
+    given: Option<&str>,
+) -> Result<()> {
+    match part {
+        None => try_all(rt, alloc, load_given(rt, alloc)?.as_str()),
+        Some("growth") => growths::make(rt, alloc, given.context("usage: growth CALL")?),
+        Some("soak") => soak::serve_load(rt, alloc, load_given(rt, alloc)?.as_str()),
+        Some("bench") => times::print_table(rt, alloc, false),
+        Some("overruns") => print_overruns(rt, alloc, given),
+        Some(_) => bail!("usage: [growth CALL | soak | bench | overruns MILLISECONDS]"),
+    }
 }
 
 fn main(rt: HostRuntime) -> Result<()> {
-    let alloc = rt.alloc();
     let mut words = env::args(&rt)?.skip(1);
-    let Some(word) = words.next() else {
-        return try_all(&rt, alloc, load_given(&rt)?.as_str());
-    };
-    match word.as_str() {
-        "growth" => {
-            let call = words.next().context("usage: growth CALL")?;
-            growths::make(&rt, alloc, call.as_str())
-        }
-        "soak" => soak::serve_load(&rt, alloc, load_given(&rt)?.as_str()),
-        "bench" => times::print_table(&rt, alloc, false),
-        "overruns" => {
-            let millis = words.next().context("usage: overruns MILLISECONDS")?;
-            overruns::print_all(&rt, alloc, millis.as_str().parse::<u64>()?)
-        }
-        _ => bail!("usage: [growth CALL | soak | bench | overruns MILLISECONDS]"),
-    }
+    let part = words.next();
+    let given = words.next();
+    try_part(&rt, rt.alloc(), part.as_deref(), given.as_deref())
 }
