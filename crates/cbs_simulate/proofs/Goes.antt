@@ -1,6 +1,6 @@
 -- The next move, as a core makes it.
 use Rattle.std.proofs.Common.{◌≡◌, ℕ, ◌-◌, ◌≤◌, ◌<◌, true, false, leb, ltb, List, [], ◌∷◌, arith, refl, ◌∙◌, ap, inl, inr, Option, Some, None}
-use Rattle.std.specs.Prelude.{min, slice_get, Result, Ok, Err, OnErr}
+use Rattle.std.specs.Prelude.{min, slice_get, Result, Ok, Err, OnOk, OnErr}
 use Rattle.std.proofs.lemmas.Bool.{cases_lt}
 use Rattle.std.proofs.lemmas.Bool.Decides.{nat_tests}
 use Rattle.cbs_job.specs.Work.{Meaning, whole}
@@ -30,6 +30,11 @@ on_err (Err e) p = p
 pub on_err_with : {T E P Q : Type 0} (r : Result T E) → (P → Q) → OnErr r P → OnErr r Q
 on_err_with (Ok x) f p = tt
 on_err_with (Err e) f p = f p
+
+-- what follows at a success from what holds at a success
+pub on_ok_with : {T E P Q : Type 0} (r : Result T E) → (P → Q) → OnOk r P → OnOk r Q
+on_ok_with (Ok x) f p = f p
+on_ok_with (Err e) f p = tt
 
 module _ {W : Type 0} (work : Meaning W) (job : Release → W) where
   -- a run, with its result

@@ -1,8 +1,7 @@
 -- The laws of a whole simulation.
 use Rattle.std.proofs.Common.{◌≡◌, ℕ, zero, suc, ◌+◌, ◌-◌, ◌≤◌, ◌<◌, true, leb, ltb, List, [], ◌∷◌, ◌++◌, length, arith, refl, sym, ◌∙◌, ap, inl}
 use Rattle.std.proofs.Common.{inr, append_assoc, append-nil, Option, Some, None}
-use Rattle.std.proofs.lemmas.Bool.{cases_Bool}
-use Rattle.std.proofs.lemmas.Bool.Decides.{nat_tests}
+use Rattle.std.proofs.lemmas.Bool.{cases_Bool, ltb-true, leb-true, leb-false, le-leb}
 use Rattle.std.specs.Option.{option_map_or}
 use Rattle.cbs_job.specs.Work.{Meaning}
 use Rattle.cbs_rules.specs.Rules.{clock_end}
@@ -46,7 +45,7 @@ module _ {W : Type 0} (work : Meaning W) (job : Release → W) (until : ℕ) (en
     well_last [] o going late is = cc
     well_last (r ∷ rs) o going late is = elim (cases_Bool (ltb r.tick until)) [
       | inl t ↦
-          let sooner : r.tick < until = grind (arith, nat_tests) in
+          let sooner = ltb-true r.tick until t in
           let e : Some (submit r) ≡ Some m = rw t at is in
           let same : submit r ≡ m = cc in
           rw same at (well_submit work job until ends M since r rs o going (omega arith) sooner (none_owed until (world_after work M).now o late)
@@ -58,18 +57,18 @@ module _ {W : Type 0} (work : Meaning W) (job : Release → W) (until : ℕ) (en
   pub well_next : (since : ℕ) (sim : Simulation W) (m : Move) → IsGoing work job until ends since sim → next_of work job until sim ≡ Some m
       → MovesWell work job until ends since sim m
   well_next since sim m going e = elim (cases_Bool (leb until (clock_of work job sim))) [
-    | inl t ↦ well_last sim.history since m sim.coming sim.owing going (grind (arith, nat_tests)) (rw t at e)
+    | inl t ↦ well_last sim.history since m sim.coming sim.owing going (leb-true _ _ t) (rw t at e)
     | inr f ↦
         let w = world_after work sim.history in
         let is : Some (next_before until w.now (faces work w) sim.owing sim.coming) ≡ Some m = rw f at e in
-        well_before sim.history since m sim.coming sim.owing going (grind (arith, nat_tests)) cc
+        well_before sim.history since m sim.coming sim.owing going (leb-false _ _ f) cc
   ]
 
   -- if there is no next move, the clock is at `until`, and no release before `until` is left
   pub ended_at : (since : ℕ) (sim : Simulation W) → IsGoing work job until ends since sim → next_of work job until sim ≡ None
       → (clock_of work job sim ≡ until) × (before until sim.coming ≡ [])
   ended_at since sim going e = elim (cases_Bool (leb until (clock_of work job sim))) [
-    | inl t ↦ (let early = going.early in grind (arith, nat_tests), none_before until sim.coming (rw t at e))
+    | inl t ↦ (let early = going.early in let late = leb-true _ _ t in omega arith, none_before until sim.coming (rw t at e))
     | inr f ↦ let w = world_after work sim.history in let g : Some (next_before until w.now (faces work w) sim.owing sim.coming) ≡ None = rw f at e in cc
   ]
 
@@ -126,7 +125,7 @@ module _ {W : Type 0} (work : Meaning W) (job : Release → W) (until : ℕ) (en
       → AreMoves work job until sim (moves_within work job k until sim)
   unfolding moves_within
   enough zero since sim going le =
-      let t : leb until (clock_of work job sim) ≡ true = grind (arith, nat_tests) in
+      let t = le-leb until (clock_of work job sim) (omega arith) in
       record { each = tt; ended = rw t (none_last until sim.coming (omega arith)) }
   enough (suc k) since sim going le =
       let with : (o : Option Move) → next_of work job until sim ≡ o

@@ -1,13 +1,12 @@
 -- How long servers wait to be replenished, as servers change.
-use Rattle.std.proofs.Common.{◌≡◌, ℕ, zero, suc, ◌<◌, ◌≤◌, ◌&&◌, true, false, leb, List, [], ◌∷◌, length, map, get_or, set, take, refl, sym, ◌∙◌, ap, ap₂, inl, inr, arith}
+use Rattle.std.proofs.Common.{◌≡◌, ℕ, zero, suc, ◌<◌, ◌≤◌, ◌&&◌, true, false, leb, List, [], ◌∷◌, length, map, get_or, set, take, refl, ap, ap₂, inl, inr, arith}
 use Rattle.std.specs.Prelude.{min}
 use Rattle.std.proofs.lemmas.Bool.{cases_Bool}
 use Rattle.std.proofs.lemmas.Bool.Decides.{nat_tests}
 use Rattle.std.proofs.Math.Bool.{and-false}
-use Rattle.cbs_rules.specs.Rules.{Terms}
-use Rattle.cbs_lists.proofs.Lists.{AllByRecursion-get, AllByRecursion-set, AllByRecursion-take_set, AllByRecursion-weaker}
+use Rattle.cbs_lists.proofs.Lists.{AllByRecursion-weaker}
 use Rattle.cbs_steps.proofs.Faces.{runnable}
-use Rattle.cbs_steps.specs.Faces.{Face, new_face, is_active, is_ready, with_replenishment}
+use Rattle.cbs_steps.specs.Faces.{Face, is_active, is_ready, with_replenishment}
 use Rattle.cbs_steps.specs.Waiting.{most, IsNotDueBefore, NoneDueBefore, wake, wake_of}
 
 -- nobody is due before an earlier tick

@@ -1,4 +1,5 @@
-use Rattle.std.proofs.Common.{refl}
+use Rattle.std.proofs.Common.{refl, arith}
+use Rattle.std.proofs.lemmas.Grind.{common_steps}
 use Rattle.cbs_size.proofs.LateServers.{bounded}
 use Rattle.cbs_check.proofs.Plans.{split_of}
 use Rattle.cbs_check.proofs.check.check_load.Goals as goal
@@ -25,3 +26,18 @@ returns c = record {
     c.deref-3.ensures.value,
   ) refl;
 }
+
+pub append_plan-requires-clause-named : goal.append_plan-requires-clause-named
+append_plan-requires-clause-named c = grind (arith, common_steps)
+
+pub append_plan-requires-clause-moded : goal.append_plan-requires-clause-moded
+append_plan-requires-clause-moded c = grind (arith, common_steps)
+
+pub append_plan-requires-clause-counted : goal.append_plan-requires-clause-counted
+append_plan-requires-clause-counted c = grind (arith, common_steps)
+
+pub append_sources-requires : goal.append_sources-requires
+append_sources-requires c = grind (arith, common_steps)
+
+pub append_notes-requires : goal.append_notes-requires
+append_notes-requires c = grind (arith, common_steps)

@@ -1,4 +1,5 @@
 use Rattle.std.proofs.Common.{◌≡◌, ◌++◌, codes, string_bytes, arith}
+use Rattle.std.proofs.lemmas.Grind.{common_steps}
 use Rattle.std.specs.Prelude.{decimal}
 use Rattle.std.proofs.lemmas.List.{length_push}
 use Rattle.cbs_check.proofs.Rows.{mapped_more}
@@ -14,3 +15,9 @@ loop-server-preserved c =
           c.loop-server.invariant.names named);
       count = rw pushed (let e = length_push c.loop-server.names.items name in let n = c.loop-server.invariant.count in omega arith);
     }
+
+pub loop-server-init : goal.loop-server-init
+loop-server-init c = grind (arith, common_steps)
+
+pub returns : goal.returns
+returns c = grind (arith, common_steps)

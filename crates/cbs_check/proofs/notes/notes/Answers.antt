@@ -1,4 +1,5 @@
 use Rattle.std.proofs.Common.{◌≡◌, ◌<◌, refl, sym, ap, ◌∙◌, get_or, length, string_bytes, arith}
+use Rattle.std.proofs.lemmas.Grind.{common_steps}
 use Rattle.std.proofs.lemmas.List.{length-map}
 use Rattle.std.proofs.lemmas.Option.{get_or_from_slice_get}
 use Rattle.cbs_size.specs.ServerLoads.{no_load}
@@ -26,3 +27,9 @@ loop-server-preserved c =
     let load : get_or loads s no_load ≡ get_or loads place no_load = rw c.from-at.ensures refl in
     note_more f.names f.plan.rates loads s (string_bytes c.loop-server.text) (string_bytes c.append_note.new.text) c.as_str.result.now c.unwrap-rate.result
     (get_or loads place no_load) c.in_ok-append_note.ensures c.loop-server.invariant (rw c.names-names.ensures.value at name) rate load
+
+pub loop-server-init : goal.loop-server-init
+loop-server-init c = grind (arith, common_steps)
+
+pub returns : goal.returns
+returns c = grind (arith, common_steps)

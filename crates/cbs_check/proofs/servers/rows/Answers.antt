@@ -1,10 +1,12 @@
 use Rattle.std.proofs.Common.{◌≡◌, refl, sym, ◌∙◌, get_or, string_bytes, arith}
+use Rattle.std.proofs.lemmas.Grind.{common_steps}
 use Rattle.std.specs.Prelude.{map}
 use Rattle.std.proofs.lemmas.Option.{get_or_from_slice_get}
 use Rattle.cbs_rules.specs.declared.mode.Mode.TheVariants.{Soft}
 use Rattle.cbs_check.specs.Servers.{servers_heading, row_at}
 use Rattle.cbs_check.proofs.Rows.{headed_more}
 use Rattle.cbs_check.proofs.Texts.{name_is, row_is}
+use Rattle.cbs_check.specs.Servers.{servers_table}
 use Rattle.cbs_check.proofs.servers.rows.Goals as goal
 
 pub loop-server-preserved : goal.loop-server-preserved
@@ -25,3 +27,10 @@ loop-server-preserved c =
     rw c.in_ok-push-2.ensures.items
     (headed_more (λ row. row.items) (row_at names modes rates budgets) servers_heading c.loop-server.rows.items c.in_ok-server_row.field-0 s
     c.loop-server.invariant (c.in_ok-server_row.ensures ∙ sym row))
+
+pub returns : goal.returns
+unfolding servers_table
+returns c = grind (arith, common_steps)
+
+pub loop-server-init : goal.loop-server-init
+loop-server-init c = grind (arith, common_steps)

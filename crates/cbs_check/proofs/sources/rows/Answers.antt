@@ -1,4 +1,5 @@
 use Rattle.std.proofs.Common.{◌≡◌, ◌<◌, refl, sym, ap, ◌∙◌, get_or, length, string_bytes, arith}
+use Rattle.std.proofs.lemmas.Grind.{common_steps}
 use Rattle.std.proofs.lemmas.List.{length-map}
 use Rattle.std.proofs.lemmas.Option.{get_or_from_slice_get}
 use Rattle.cbs_size.specs.ServerLoads.{no_load}
@@ -30,3 +31,9 @@ loop-terms-preserved c =
     rw c.in_ok-push-2.ensures.items
     (listed_more (λ row. row.items) (row_of f.names f.plan.rates loads) sources_heading c.loop-terms.rows.items c.in_ok-source_row.field-0 f.sources i t here
     c.loop-terms.invariant (c.in_ok-source_row.ensures ∙ row))
+
+pub returns : goal.returns
+returns c = grind (arith, common_steps)
+
+pub loop-terms-init : goal.loop-terms-init
+loop-terms-init c = grind (arith, common_steps)

@@ -1,4 +1,5 @@
 use Rattle.std.proofs.Common.{sym, ap, arith, ◌≡◌, ◌∙◌, ◌≤◌, length, map}
+use Rattle.std.proofs.lemmas.Grind.{common_steps}
 use Rattle.std.specs.List.{range_with_len}
 use Rattle.std.proofs.lemmas.List.{length-map}
 use Rattle.std.proofs.lemmas.List.FromFn.{length-range_with_len}
@@ -61,3 +62,6 @@ pub returns-clause-each : goal.returns-clause-each
 returns-clause-each g c =
     IfOk-weaker c.house_of.result (λ r. HousesCore c.in-Ok.core c.args.ring r.0 r.1.items) (λ r. EachOpened (rings_of r.0) r.1.items)
     (λ r made. each_opened (rings_of r.0) r.1.items made.opened) c.house_of.ensures.made
+
+pub returns-clause-refusal : goal.returns-clause-refusal
+returns-clause-refusal g c = grind (arith, common_steps)

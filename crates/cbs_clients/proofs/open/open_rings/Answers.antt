@@ -1,4 +1,4 @@
-use Rattle.std.proofs.Common.{◌≡◌, sym, ◌∙◌, arith}
+use Rattle.std.proofs.Common.{◌≡◌, sym, ◌∙◌, arith, rules}
 use Rattle.std.proofs.lemmas.Grind.{common_steps}
 use Rattle.cbs_clients.specs.Clients.{server_of, ring_of}
 use Rattle.cbs_clients.specs.Opened.{IsNewEnd, IsUnused}
@@ -41,3 +41,12 @@ returns-clause-clients g c = let e : c.loop-server.server ≡ c.args.servers = o
 
 pub returns-clause-unused : goal.returns-clause-unused
 returns-clause-unused g c = c.loop-server.invariant.unused
+
+pub returns-in_err-ends-clause-unused : goal.returns-in_err-ends-clause-unused
+returns-in_err-ends-clause-unused g c = search rules
+
+pub returns-in_err-clients-clause-unused : goal.returns-in_err-clients-clause-unused
+returns-in_err-clients-clause-unused g c = search rules
+
+pub returns-in_err-producer-clause-unused : goal.returns-in_err-producer-clause-unused
+returns-in_err-producer-clause-unused g c = search rules

@@ -1,4 +1,4 @@
-use Rattle.std.proofs.Common.{rules, ap, Some}
+use Rattle.std.proofs.Common.{ap, Some}
 use Rattle.cbs_embed.proofs.opening.open_boxes.Goals as goal
 
 pub returns-in-Ok-clause-ok : goal.returns-in-Ok-clause-ok

@@ -1,4 +1,5 @@
-use Rattle.std.proofs.Common.{◌≡◌, rules, Ok, map, sym, ◌∙◌, length, refl}
+use Rattle.std.proofs.Common.{◌≡◌, rules, Ok, map, sym, ◌∙◌, length, refl, arith}
+use Rattle.std.proofs.lemmas.Grind.{common_steps}
 use Rattle.toml.specs.View.{view, table_view}
 use Rattle.cbs_tables.specs.declared.fault.Place.TheVariants.{Top, Step as AtStep}
 use Rattle.cbs_file.specs.Entries.{step_entry}
@@ -23,3 +24,19 @@ returns c =
     let steps : each_from 0 (λ i entry. at (AtStep i) (step_entry c.in-Ok.top.format (length c.in_ok-setup.setup.plan.rates) entry))
     (map view c.in-Ok.top.steps.now.items) ≡ Ok c.in_ok-steps.steps.items = rw (← c.deref-2.ensures.value, ← len) c.in_ok-steps.ensures.steps in
     rw (table, top, setup, steps) refl
+
+pub returns-in_err-table : goal.returns-in_err-table
+unfolding file
+returns-in_err-table c = grind (arith, common_steps)
+
+pub returns-in-Err : goal.returns-in-Err
+unfolding file
+returns-in-Err c = grind (arith, common_steps)
+
+pub returns-in_err-setup : goal.returns-in_err-setup
+unfolding file
+returns-in_err-setup c = grind (arith, common_steps)
+
+pub returns-in_err-steps : goal.returns-in_err-steps
+unfolding file
+returns-in_err-steps c = grind (arith, common_steps)

@@ -1,4 +1,5 @@
 use Rattle.std.proofs.Common.{◌≡◌, ◌∙◌, ap, take, arith}
+use Rattle.std.proofs.lemmas.Grind.{common_steps}
 use Rattle.std.proofs.lemmas.List.{take_all}
 use Rattle.std.proofs.lemmas.Result.{err_from_is_err_and}
 use Rattle.cbs_guarantee.specs.Sources.{streams_of}
@@ -32,3 +33,9 @@ returns c =
       answer = (c.loop-source.invariant.spans ∙ ap all_spans rates, borne);
       short = let few = c.loop-source.invariant.plan.few in omega arith;
     }
+
+pub loop-source-init : goal.loop-source-init
+loop-source-init c = grind (arith, common_steps)
+
+pub loop-source-preserved : goal.loop-source-preserved
+loop-source-preserved c = grind (arith, common_steps)

@@ -1,4 +1,5 @@
 use Rattle.std.proofs.Common.{◌≡◌, ◌∙◌, ℕ, List, [], ◌∷◌, ◌++◌, ◌<◌, sym, ap, arith, get_or, set, length, true, false, refl, None}
+use Rattle.std.proofs.lemmas.Grind.{common_steps}
 use Rattle.std.specs.Prelude.{◌≢◌}
 use Rattle.std.specs.Result.{is_ok}
 use Rattle.cbs_rate.specs.Plan.{admit_refusal}
@@ -69,3 +70,6 @@ returns-clause-servers c =
     λ k lt. refused k (omega (arith, part_count parts)) in
     let all = placed_new bound rates s (servers_of parts) before in
     rw (pushed, same, servers_pushed parts (record { plan = c.admit-2.new.self; servers = c.push-2.new.self }), one, all) refl
+
+pub loop-index-init : goal.loop-index-init
+loop-index-init c = grind (arith, common_steps)

@@ -1,4 +1,5 @@
-use Rattle.std.proofs.Common.{◌≡◌, ℕ, List, [], drop}
+use Rattle.std.proofs.Common.{◌≡◌, ℕ, List, [], drop, arith}
+use Rattle.std.proofs.lemmas.Grind.{common_steps}
 use Rattle.std.proofs.lemmas.List.{drop_all}
 use Rattle.cbs_guarantee.specs.Parts.{first_fit, servers_of}
 use Rattle.cbs_guarantee.proofs.Orders.{parts_once}
@@ -18,3 +19,9 @@ returns-clause-parts c =
       each = c.loop-server.invariant.each;
       once = parts_once rates c.args.bound order (servers_of c.loop-server.parts.items) is.once servers;
     }
+
+pub loop-server-init : goal.loop-server-init
+loop-server-init c = grind (arith, common_steps)
+
+pub loop-server-preserved : goal.loop-server-preserved
+loop-server-preserved c = grind (arith, common_steps)

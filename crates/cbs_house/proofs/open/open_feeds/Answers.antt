@@ -1,4 +1,4 @@
-use Rattle.std.proofs.Common.{map, ◌∙◌, ap, sym}
+use Rattle.std.proofs.Common.{map, ◌∙◌, ap, sym, rules}
 use Rattle.std.proofs.lemmas.Simd.{map-map}
 use Rattle.cbs_clients.specs.Clients.{server_of}
 use Rattle.cbs_house.specs.Feeds.{client_of}
@@ -22,3 +22,6 @@ returns-in-Ok-feeds_of-clause-jobs g c = c.in-Ok-feeds_of.ensures.jobs
 
 pub returns-in-Err-feeds_of-clause-jobs : goal.returns-in-Err-feeds_of-clause-jobs
 returns-in-Err-feeds_of-clause-jobs g c = c.in-Err-feeds_of.ensures.jobs
+
+pub returns-in-Err-clause-refusal : goal.returns-in-Err-clause-refusal
+returns-in-Err-clause-refusal g c = search rules

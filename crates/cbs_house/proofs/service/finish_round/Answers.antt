@@ -1,3 +1,4 @@
+use Rattle.std.proofs.Common.{rules}
 use Rattle.cbs_clients.specs.Houses.{received}
 use Rattle.cbs_house.proofs.Feeds.{feeds_on}
 use Rattle.cbs_clients.proofs.RingLooks.{prefix_same}
@@ -22,3 +23,6 @@ returns-clause-steps g c =
 
 pub returns-clause-feeds : goal.returns-clause-feeds
 returns-clause-feeds g c = feeds_on c.args.feeds.now c.take_rest.new.feeds c.settle_all.new.feeds c.take_rest.ensures.feeds c.settle_all.ensures.feeds
+
+pub returns-in_err-take_rest-clause-halts : goal.returns-in_err-take_rest-clause-halts
+returns-in_err-take_rest-clause-halts g c = search rules

@@ -1,4 +1,4 @@
-use Rattle.std.proofs.Common.{◌<◌, length, arith}
+use Rattle.std.proofs.Common.{◌<◌, length, arith, rules}
 use Rattle.cbs_house.proofs.Feeds.{feeds_same, feeds_on, feeds_set, ready_set, ready_at}
 use Rattle.cbs_house.proofs.Looks.{looks_none, looks_then, settled_more}
 use Rattle.cbs_house.proofs.StandingMessages.{taken_set, taken_looked, settled_is_taken}
@@ -33,3 +33,6 @@ pub settle_feed-requires : goal.settle_feed-requires
 settle_feed-requires g c =
     let l = c.loop-index in
     record { opened = ready_at l.house l.feeds l.index c.index-feeds-index.result (omega (arith, c.loop-index-test.true)) l.invariant.ready }
+
+pub returns-clause-settled : goal.returns-clause-settled
+returns-clause-settled g c = search rules

@@ -1,4 +1,4 @@
-use Rattle.std.proofs.Common.{◌<◌, length, arith}
+use Rattle.std.proofs.Common.{◌<◌, length, arith, rules}
 use Rattle.cbs_house.proofs.Feeds.{feeds_same, feeds_on, feeds_set, ready_set, ready_at}
 use Rattle.cbs_clients.proofs.Moves.{serves_none, serves_then, by_rings}
 use Rattle.cbs_house.proofs.StandingMessages.{received_more, taken_more}
@@ -49,3 +49,6 @@ returns-in_err-take_ring-clause-ready g c =
     let t = c.take_ring in
     ready_set l.house t.new.house l.feeds l.index t.new.feed c.index-feeds-index.result
     (by_rings g.W.Work.meaning g.M.Meter.may_tell l.house t.new.house t.ensures.steps) (omega (arith, c.loop-index-test.true)) t.ensures.feed l.invariant.ready
+
+pub returns-clause-taken : goal.returns-clause-taken
+returns-clause-taken g c = search rules

@@ -1,5 +1,6 @@
 use Rattle.std.proofs.lemmas.Result.{err_from_is_err_and}
 use Rattle.std.proofs.Common.{take, drop, arith, length-drop, ◌∙◌, ◌+◌, ap, sym}
+use Rattle.std.proofs.lemmas.Grind.{common_steps}
 use Rattle.std.proofs.lemmas.List.{take_rest, take-append-drop}
 use Rattle.std.proofs.Math.Seq.{take-add}
 use Rattle.cbs_lines.proofs.WrittenText.{Appends-then, Appends-kept}
@@ -28,3 +29,9 @@ returns-in_err-done-clause-err g c =
         sym (take-append-drop c.loop-done.done c.args.text.now),
       ),
     )
+
+pub loop-done-init : goal.loop-done-init
+loop-done-init g c = grind (arith, common_steps)
+
+pub returns-clause-ok : goal.returns-clause-ok
+returns-clause-ok g c = grind (arith, common_steps)

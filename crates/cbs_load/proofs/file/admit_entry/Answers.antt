@@ -1,4 +1,5 @@
-use Rattle.std.proofs.Common.{◌≡◌, ◌++◌, ◌∷◌, [], Ok, None, true, false, inr, map, string_bytes, bytes_eq, refl, sym, ◌∙◌}
+use Rattle.std.proofs.Common.{◌≡◌, ◌++◌, ◌∷◌, [], Ok, None, true, false, inr, map, string_bytes, bytes_eq, refl, sym, ◌∙◌, arith}
+use Rattle.std.proofs.lemmas.Grind.{common_steps}
 use Rattle.std.specs.List.{list_any}
 use Rattle.std.proofs.lemmas.List.{map-append}
 use Rattle.toml.specs.View.{view}
@@ -36,3 +37,12 @@ returns-clause-servers c =
     let names : map string_bytes c.push.new.self.items ≡ map string_bytes c.args.names.now.items ++ name ∷ [] =
     rw (c.in_ok-push.ensures.items, map-append, c.in_ok-from_str.ensures.ok) refl in
     rw (spelled, free, none, names, c.in-Ok-admit.ensures.ok) refl
+
+pub returns-in_err-from_str-clause-servers : goal.returns-in_err-from_str-clause-servers
+returns-in_err-from_str-clause-servers c = grind (arith, common_steps)
+
+pub returns-in_err-push-clause-servers : goal.returns-in_err-push-clause-servers
+returns-in_err-push-clause-servers c = grind (arith, common_steps)
+
+pub returns-clause-named : goal.returns-clause-named
+returns-clause-named c = grind (arith, common_steps)

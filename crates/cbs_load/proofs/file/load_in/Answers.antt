@@ -34,3 +34,6 @@ returns c =
     (map view c.in-Ok.top.sources.now.items) ≡ Ok c.in_ok-sources.sources.items =
     rw (c.deref-2.ensures.value, c.plan.ensures.value, c.deref-3.ensures.value) at c.in_ok-sources.ensures.sources in
     rw (top, servers, sources) refl
+
+pub invariant_of-result : goal.invariant_of-result
+invariant_of-result c = grind (arith, common_steps)

@@ -15,3 +15,23 @@ returns-clause-until c = c.in_ok-until.ensures.bounds
 
 pub returns-clause-sources : goal.returns-clause-sources
 returns-clause-sources c = grind (arith, common_steps)
+
+pub returns-in_err-bound-clause-value : goal.returns-in_err-bound-clause-value
+unfolding spelled_by
+returns-in_err-bound-clause-value c = grind (arith, common_steps)
+
+pub returns-in_err-backlog-clause-value : goal.returns-in_err-backlog-clause-value
+unfolding spelled_by
+returns-in_err-backlog-clause-value c = grind (arith, common_steps)
+
+pub returns-in_err-until-clause-value : goal.returns-in_err-until-clause-value
+unfolding spelled_by
+returns-in_err-until-clause-value c = grind (arith, common_steps)
+
+pub returns-in_err-seed-clause-value : goal.returns-in_err-seed-clause-value
+unfolding spelled_by
+returns-in_err-seed-clause-value c = grind (arith, common_steps)
+
+pub returns-in_err-sized-clause-value : goal.returns-in_err-sized-clause-value
+unfolding spelled_by
+returns-in_err-sized-clause-value c = grind (arith, common_steps)

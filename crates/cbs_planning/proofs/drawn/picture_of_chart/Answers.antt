@@ -1,4 +1,5 @@
 use Rattle.std.proofs.Common.{◌≡◌, ◌∙◌, ◌<◌, ◌+◌, ◌++◌, ◌∷◌, [], append_assoc, ap, arith, length, length-append, map, subst, sym, Some}
+use Rattle.std.proofs.lemmas.Grind.{common_steps}
 use Rattle.std.specs.Prelude.{slice_get, string_bytes}
 use Rattle.std.specs.Vec.Iter.{into_iter_items}
 use Rattle.std.proofs.lemmas.List.{length-map, map-append}
@@ -54,3 +55,9 @@ returns-clause-few c =
       length-map l.servers.items (λ (x : Drawn). x.chart),
       c.requires.charts,
     )
+
+pub loop-chart-init : goal.loop-chart-init
+loop-chart-init c = grind (arith, common_steps)
+
+pub returns-clause-picture : goal.returns-clause-picture
+returns-clause-picture c = grind (arith, common_steps)

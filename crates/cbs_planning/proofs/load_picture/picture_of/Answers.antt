@@ -1,3 +1,5 @@
+use Rattle.std.proofs.Common.{arith}
+use Rattle.std.proofs.lemmas.Grind.{common_steps}
 use Rattle.std.proofs.lemmas.Result.{IfOk-weaker}
 use Rattle.cbs_planning.proofs.load_picture.picture_of.Goals as goal
 
@@ -11,3 +13,12 @@ returns-clause-picture g c =
       shows = c.in_ok-chart.ensures.chart;
       picture = rw (← c.names.ensures.value, ← c.modes.ensures, ← c.plan.ensures) h;
     }) c.picture_of_chart.ensures.picture
+
+pub picture_of_chart-requires-clause-names : goal.picture_of_chart-requires-clause-names
+picture_of_chart-requires-clause-names g c = grind (arith, common_steps)
+
+pub picture_of_chart-requires-clause-modes : goal.picture_of_chart-requires-clause-modes
+picture_of_chart-requires-clause-modes g c = grind (arith, common_steps)
+
+pub picture_of_chart-requires-clause-charts : goal.picture_of_chart-requires-clause-charts
+picture_of_chart-requires-clause-charts g c = grind (arith, common_steps)

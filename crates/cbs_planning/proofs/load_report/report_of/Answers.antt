@@ -1,4 +1,5 @@
 use Rattle.std.proofs.Common.{◌≡◌, ◌<◌, ◌+◌, ◌∙◌, ◌∷◌, [], ap, arith, length, length-append, Some}
+use Rattle.std.proofs.lemmas.Grind.{common_steps}
 use Rattle.std.specs.Prelude.{slice_get}
 use Rattle.cbs_planning.specs.Loads.{IsServerReport, seen_in}
 use Rattle.cbs_planning.proofs.Servers.{each_is, each_more, figure_count, server_is, some_at}
@@ -49,3 +50,9 @@ returns-clause-report g c =
       count = omega (arith, l.invariant.count, c.len-server-end.ensures.value, c.loop-server-test.false, ap (λ p. length p.rates) c.plan.ensures);
       each = λ s r e. each_is (IsServerReport f) l.servers.items s r l.invariant.each e;
     }
+
+pub loop-server-init : goal.loop-server-init
+loop-server-init g c = grind (arith, common_steps)
+
+pub server_report-requires : goal.server_report-requires
+server_report-requires g c = grind (arith, common_steps)

@@ -1,4 +1,5 @@
-use Rattle.std.proofs.Common.{◌≡◌, ◌∙◌, ap, length, map, sym}
+use Rattle.std.proofs.Common.{◌≡◌, ◌∙◌, ap, length, map, sym, arith}
+use Rattle.std.proofs.lemmas.Grind.{common_steps}
 use Rattle.std.specs.Prelude.{string_bytes}
 use Rattle.std.specs.List.{range_with_len}
 use Rattle.std.proofs.lemmas.List.{length-map}
@@ -27,3 +28,9 @@ returns-clause-picture c =
     c.in_ok-chart.chart p c.into_parts-setup.ensures.value
     c.in_ok-chart.ensures.window c.in_ok-chart.ensures.end c.in_ok-chart.ensures.chart names
     c.modes.ensures.value c.plan-2.ensures.value h) c.picture_of_chart.ensures.picture
+
+pub picture_of_chart-requires-clause-modes : goal.picture_of_chart-requires-clause-modes
+picture_of_chart-requires-clause-modes c = grind (arith, common_steps)
+
+pub picture_of_chart-requires-clause-charts : goal.picture_of_chart-requires-clause-charts
+picture_of_chart-requires-clause-charts c = grind (arith, common_steps)

@@ -1,4 +1,5 @@
 use Rattle.std.proofs.Common.{◌≡◌, ◌<◌, ◌+◌, ◌∙◌, ◌∷◌, [], ap, arith, length, length-append, refl, Some}
+use Rattle.std.proofs.lemmas.Grind.{common_steps}
 use Rattle.std.specs.Prelude.{slice_get}
 use Rattle.cbs_file.specs.TaskFiles.{File}
 use Rattle.cbs_rate.specs.Plan.{Planned}
@@ -67,3 +68,9 @@ returns-clause-report c =
       );
       each = λ s r e. each_is (IsTaskServerReport f) l.servers.items s r l.invariant.each e;
     }
+
+pub loop-server-init : goal.loop-server-init
+loop-server-init c = grind (arith, common_steps)
+
+pub task_server_report-requires : goal.task_server_report-requires
+task_server_report-requires c = grind (arith, common_steps)

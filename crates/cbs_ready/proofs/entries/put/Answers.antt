@@ -1,4 +1,4 @@
-use Rattle.std.proofs.Common.{◌≡◌, ◌-◌, length, take, get_or, subst, sym, ◌∙◌, arith}
+use Rattle.std.proofs.Common.{◌≡◌, ◌-◌, length, take, get_or, subst, sym, ◌∙◌, arith, rules}
 use Rattle.std.proofs.lemmas.List.Edits.{get_or-insert_below}
 use Rattle.cbs_ready.specs.declared.entries.Entry.{Entry}
 use Rattle.cbs_lists.proofs.FreeSlots.{moved_down, written_free}
@@ -42,3 +42,6 @@ returns c =
     ] in
     rw (c.write.ensures, i.moved.1)
     (written_free es l.place i.moved.0 c.args.entry within ∙ insert-entered c.args.entry none es l.place within c.requires.order i.behind own)
+
+pub pass_fours-place-requires-clause-order : goal.pass_fours-place-requires-clause-order
+pass_fours-place-requires-clause-order c = search rules

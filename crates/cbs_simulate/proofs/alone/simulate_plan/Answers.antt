@@ -16,3 +16,6 @@ pub returns-in-Err-clause-stopped : goal.returns-in-Err-clause-stopped
 returns-in-Err-clause-stopped g c =
     sees_some loading job_of c.args.until c.requires.end g.S.Watcher.saw g.S.Watcher.failed _ c.args.backlog _ _ _ _ (g.R.Releases.ordered c.args.releases.now)
     (c.in-Err.ensures.stopped _ c.in_ok-core.ensures.start)
+
+pub simulate-requires-clause-history : goal.simulate-requires-clause-history
+simulate-requires-clause-history g c = λ none. none _ c.in_ok-core.ensures.start

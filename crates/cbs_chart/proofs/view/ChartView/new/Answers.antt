@@ -11,3 +11,12 @@ loop-server-preserved c =
 
 pub returns : goal.returns
 returns c = grind (arith, common_steps)
+
+pub returns-in_err-rows : goal.returns-in_err-rows
+returns-in_err-rows c = grind (arith, common_steps)
+
+pub loop-server-init : goal.loop-server-init
+loop-server-init c = grind (arith, common_steps)
+
+pub returns-in_err-push : goal.returns-in_err-push
+returns-in_err-push c = grind (arith, common_steps)

@@ -1,4 +1,5 @@
 use Rattle.std.proofs.Common.{◌≡◌, ◌<◌, ◌∙◌, arith}
+use Rattle.std.proofs.lemmas.Grind.{common_steps}
 use Rattle.std.proofs.lemmas.Bool.Decides.{nat_tests}
 use Rattle.cbs_clients.specs.Houses.{core_of}
 use Rattle.cbs_clients.specs.UntilClosed.{open_servers}
@@ -18,3 +19,6 @@ returns-else-unclosed-eq0-clause-waits g c =
     let ne = c.if-unclosed-eq0.false in
     let some : 0 < open_servers (core_of c.args.self.now) = omega (arith, e, ne) in
     λ f drained. record { drained = drained; unclosed = some_open (core_of c.args.self.now) some }
+
+pub returns-then-unclosed-eq0-clause-over : goal.returns-then-unclosed-eq0-clause-over
+returns-then-unclosed-eq0-clause-over g c = grind (arith, common_steps)

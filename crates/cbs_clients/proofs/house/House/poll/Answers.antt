@@ -1,4 +1,4 @@
-use Rattle.std.proofs.Common.{refl, ◌∙◌, inr, arith}
+use Rattle.std.proofs.Common.{refl, ◌∙◌, inr, arith, rules}
 use Rattle.std.proofs.lemmas.List.{nil_from_length}
 use Rattle.cbs_clients.proofs.HouseInvariant.{same_shelf}
 use Rattle.cbs_clients.proofs.MadeSteps.{made_nothing, made_room, polled_after}
@@ -38,3 +38,12 @@ returns g c =
       rings = t.ensures.rings ∙ c.is_empty.ensures.looked.rings;
       results = t.ensures.results;
     }
+
+pub is_empty-requires : goal.is_empty-requires
+is_empty-requires g c = search rules
+
+pub invariant_of-self : goal.invariant_of-self
+invariant_of-self g c = search rules
+
+pub take_seen-requires : goal.take_seen-requires
+take_seen-requires g c = search rules

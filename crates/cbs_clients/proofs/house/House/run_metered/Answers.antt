@@ -1,4 +1,4 @@
-use Rattle.std.proofs.Common.{refl}
+use Rattle.std.proofs.Common.{refl, rules}
 use Rattle.cbs_steps.specs.declared.reply.Ran.TheVariants as ran
 use Rattle.cbs_clients.proofs.Metered.{unit_runs}
 use Rattle.cbs_clients.proofs.MeteredRuns.{run_by}
@@ -30,3 +30,6 @@ returns-in-Done g c =
     run_by g.W.Work.meaning g.M.Meter.may_tell a c.run-ran.new.self c.pay-in-Done.new.self (ran.Done c.in-Done.done) c.in-Done.done.server
     c.beyond-in-Done.result a.housed.history c.in-Done.ensures refl c.beyond-in-Done.ensures c.pay-in-Done.ensures.made c.pay-in-Done.ensures.results
     c.pay-in-Done.ensures.jobs
+
+pub returns-in-Idle : goal.returns-in-Idle
+returns-in-Idle g c = search rules

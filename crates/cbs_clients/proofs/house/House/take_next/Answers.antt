@@ -1,4 +1,4 @@
-use Rattle.std.proofs.Common.{◌∙◌, ◌∷◌, [], refl, sym, arith}
+use Rattle.std.proofs.Common.{◌∙◌, ◌∷◌, [], refl, sym, arith, rules}
 use Rattle.cbs_steps.specs.declared.step.Step.TheVariants.{Submit, Close}
 use Rattle.cbs_clients.proofs.HouseInvariant.{housed_one, keeps_job, keeps_end, same_shelf, none_handed}
 use Rattle.cbs_clients.proofs.MadeSteps.{made_job, made_end}
@@ -71,3 +71,6 @@ returns-in-End-clause-rings g c = c.in-End.ensures.rings
 
 pub returns-in-End-clause-results : goal.returns-in-End-clause-results
 returns-in-End-clause-results g c = λ s. refl
+
+pub expect_reserved-requires-clause-spare : goal.expect_reserved-requires-clause-spare
+expect_reserved-requires-clause-spare g c = search rules

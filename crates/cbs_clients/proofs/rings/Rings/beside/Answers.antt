@@ -1,5 +1,5 @@
 use Rattle.std.proofs.Common.{arith}
-use Rattle.std.proofs.lemmas.Grind.{common_steps}
+use Rattle.std.proofs.lemmas.Grind.{common_steps, elements}
 use Rattle.std.proofs.lemmas.List.{length-map}
 use Rattle.cbs_clients.specs.Rings.{consumer_ring}
 use Rattle.cbs_clients.proofs.RingLooks.{looked_at}
@@ -14,3 +14,6 @@ returns-clause-looked g c =
 
 pub index_mut-end-requires : goal.index_mut-end-requires
 index_mut-end-requires g c = grind (arith, common_steps)
+
+pub slots_beside-requires : goal.slots_beside-requires
+slots_beside-requires g c = grind (arith, elements)

@@ -18,3 +18,9 @@ returns-then-n-gt0-clause-makes g c =
 pub returns-else-n-gt0-clause-makes : goal.returns-else-n-gt0-clause-makes
 returns-else-n-gt0-clause-makes g c = makes_still _ c.self.view_is c.self.invariant (step.Advance c.args.n) _ (λ M agrees.
     (search (rules, common_steps), advance_none c.self.view_is agrees c.args.n (omega arith)))
+
+pub returns-then-n-self-clause-makes : goal.returns-then-n-self-clause-makes
+returns-then-n-self-clause-makes g c = grind (arith, common_steps)
+
+pub returns-then-n-gt0-clause-jobs : goal.returns-then-n-gt0-clause-jobs
+returns-then-n-gt0-clause-jobs g c = grind (arith, common_steps)

@@ -1,4 +1,5 @@
-use Rattle.std.proofs.Common.{rules, refl}
+use Rattle.std.proofs.Common.{rules, refl, arith}
+use Rattle.std.proofs.lemmas.Grind.{elements}
 use Rattle.cbs_core.proofs.Cores.{queue_there}
 use Rattle.cbs_core.proofs.Refusals.{free_accepts, accepts_free}
 use Rattle.cbs_core.proofs.executor.Core.make_room.Goals as goal
@@ -17,3 +18,6 @@ returns-then-is_err-clause-refused g c = free_accepts c.self.view_is c.args.serv
 
 pub returns-clause-room : goal.returns-clause-room
 returns-clause-room g c = record { accepts = free_accepts refl c.args.server c.in_default.ensures; room = search rules }
+
+pub returns-in-Some-clause-refused : goal.returns-in-Some-clause-refused
+returns-in-Some-clause-refused g c = grind (arith, elements)

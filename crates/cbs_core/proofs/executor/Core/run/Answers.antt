@@ -1,4 +1,5 @@
-use Rattle.std.proofs.Common.{◌∙◌, ◌+◌, refl, sym}
+use Rattle.std.proofs.Common.{◌∙◌, ◌+◌, refl, sym, arith}
+use Rattle.std.proofs.lemmas.Grind.{common_steps}
 use Rattle.cbs_lists.proofs.Lists.{counted}
 use Rattle.cbs_core.proofs.Agreements.{next_late, end_reply, unit_agrees, unit_answered}
 use Rattle.cbs_core.proofs.Cores.{core_run, may_run}
@@ -72,3 +73,18 @@ returns-clause-makes g c =
       unit_answered c.self.view_is agrees c.in-Some.server g.met.W.Work.lowers first may _ (rw (found, c.finished-seq.ensures) refl),
       unit_agrees c.self.view_is agrees c.in-Some.server g.met.W.Work.lowers first may (rw found c.pass_tick-2.ensures) c.run_first-output.ensures.lists,
     ))
+
+pub returns-in_default-clause-makes : goal.returns-in_default-clause-makes
+returns-in_default-clause-makes g c = grind (arith, common_steps)
+
+pub pass_tick-requires-clause-some : goal.pass_tick-requires-clause-some
+pass_tick-requires-clause-some g c = grind (arith, common_steps)
+
+pub pass_tick-requires-clause-room : goal.pass_tick-requires-clause-room
+pass_tick-requires-clause-room g c = grind (arith, common_steps)
+
+pub pass_tick-requires-2-clause-some : goal.pass_tick-requires-2-clause-some
+pass_tick-requires-2-clause-some g c = grind (arith, common_steps)
+
+pub pass_tick-requires-2-clause-room : goal.pass_tick-requires-2-clause-room
+pass_tick-requires-2-clause-room g c = grind (arith, common_steps)

@@ -1,4 +1,5 @@
-use Rattle.std.proofs.Common.{◌∙◌, ap}
+use Rattle.std.proofs.Common.{◌∙◌, ap, arith}
+use Rattle.std.proofs.lemmas.Grind.{elements, common_steps}
 use Rattle.std.specs.Prelude.{slice_get}
 use Rattle.cbs_steps.specs.Faces.{view_reply}
 use Rattle.cbs_steps.proofs.OnTime.{view_in_time}
@@ -11,3 +12,9 @@ returns-clause-view g c = λ M agrees. c.view.ensures ∙ ap (λ fs. view_reply 
 pub returns-clause-in_time : goal.returns-clause-in_time
 returns-clause-in_time g c = λ M agrees on.
     view_in_time g.W.Work.meaning M (admitted_by g.W.Work.meaning c.self.view_is c.self.invariant agrees) on c.args.server c.view.result (returns-clause-view g c M agrees)
+
+pub returns-clause-early : goal.returns-clause-early
+returns-clause-early g c = grind (arith, elements)
+
+pub returns-clause-budget : goal.returns-clause-budget
+returns-clause-budget g c = grind (arith, common_steps)

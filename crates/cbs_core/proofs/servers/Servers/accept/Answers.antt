@@ -1,4 +1,5 @@
 use Rattle.std.proofs.Common.{◌≡◌, refl, sym, ◌∙◌, rules, arith}
+use Rattle.std.proofs.lemmas.Grind.{common_steps}
 use Rattle.std.proofs.lemmas.Bool.Decides.{nat_tests}
 use Rattle.cbs_steps.specs.Faces.{is_active, with_job}
 use Rattle.cbs_steps.proofs.Faces.{ready_behind}
@@ -19,3 +20,21 @@ invariant_of-self g c =
       rw c.from.ensures (lists_same _ _ _ _ _ c.self.invariant.1 within read (rw face (ready_behind now x active))),
       rw (c.from.ensures, face) (keeps_same _ _ _ _ _ c.self.invariant.2 within read (rw active refl) still),
     )
+
+pub accept_behind-requires-clause-few : goal.accept_behind-requires-clause-few
+accept_behind-requires-clause-few g c = grind (arith, common_steps)
+
+pub returns-then-is_active-clause-number : goal.returns-then-is_active-clause-number
+returns-then-is_active-clause-number g c = grind (arith, common_steps)
+
+pub invariant_of-self-2 : goal.invariant_of-self-2
+invariant_of-self-2 g c = grind (arith, common_steps)
+
+pub accept_first-requires-clause-few : goal.accept_first-requires-clause-few
+accept_first-requires-clause-few g c = grind (arith, common_steps)
+
+pub returns-clause-servers : goal.returns-clause-servers
+returns-clause-servers g c = grind (arith, common_steps)
+
+pub returns-clause-number : goal.returns-clause-number
+returns-clause-number g c = grind (arith, common_steps)

@@ -1,4 +1,5 @@
-use Rattle.std.proofs.Common.{◌≡◌, false, sym, ◌∙◌, rules}
+use Rattle.std.proofs.Common.{◌≡◌, false, sym, ◌∙◌, rules, arith}
+use Rattle.std.proofs.lemmas.Grind.{common_steps}
 use Rattle.std.proofs.lemmas.List.{get_or_read}
 use Rattle.cbs_steps.specs.Faces.{no_face, face_at, is_active}
 use Rattle.cbs_core.proofs.ReadyServers.{lists_set}
@@ -19,3 +20,12 @@ invariant_of-self g c =
       rw c.from.ensures (lists_set _ _ _ _ _ c.self.invariant.1 within f.ordered (f.here ∙ c.accept_first-ready_by.ensures.ready) f.others),
       rw c.from.ensures (keeps_noted _ _ _ _ _ _ c.self.invariant.2 within read (wake_idle x idle) c.note.ensures),
     )
+
+pub accept_first-ready_by-requires-clause-idle : goal.accept_first-ready_by-requires-clause-idle
+accept_first-ready_by-requires-clause-idle g c = grind (arith, common_steps)
+
+pub accept_first-ready_by-requires-clause-few : goal.accept_first-ready_by-requires-clause-few
+accept_first-ready_by-requires-clause-few g c = grind (arith, common_steps)
+
+pub returns-clause-number : goal.returns-clause-number
+returns-clause-number g c = grind (arith, common_steps)

@@ -68,3 +68,12 @@ returns-else-is_none g c =
     let read = rw c.from.ensures at c.index_mut-it.ensures.value in
     let first = chosen_first _ _ _ _ c.self.invariant.1 (rw (← c.self.view_is) at c.requires.chosen) read in
     rw (← c.self.view_is) (written (with_unit c.args.done) _ _ _ _ _ c.from.ensures first.within c.index_mut-it.ensures.value c.use_tick.ensures.face)
+
+pub index_mut-it-requires : goal.index_mut-it-requires
+index_mut-it-requires g c = grind (arith, common_steps)
+
+pub use_tick-requires-clause-some : goal.use_tick-requires-clause-some
+use_tick-requires-clause-some g c = grind (arith, common_steps)
+
+pub use_tick-requires-clause-room : goal.use_tick-requires-clause-room
+use_tick-requires-clause-room g c = grind (arith, common_steps)

@@ -1,4 +1,4 @@
-use Rattle.std.proofs.Common.{sym, arith}
+use Rattle.std.proofs.Common.{sym, arith, rules}
 use Rattle.std.proofs.lemmas.Grind.{common_steps}
 use Rattle.cbs_house.proofs.Feeds.{keeps_feed, keeps_sent}
 use Rattle.cbs_clients.proofs.Messages.{pushed}
@@ -22,3 +22,12 @@ returns-in-Some-clause-count g c = grind (arith, common_steps)
 
 pub returns-in-None-clause-count : goal.returns-in-None-clause-count
 returns-in-None-clause-count g c = grind (arith, common_steps)
+
+pub returns-then-not-may_send-clause-refused : goal.returns-then-not-may_send-clause-refused
+returns-then-not-may_send-clause-refused g c = search rules
+
+pub send_reserved-requires-clause-slot : goal.send_reserved-requires-clause-slot
+send_reserved-requires-clause-slot g c = search rules
+
+pub end_reserved-requires-clause-slot : goal.end_reserved-requires-clause-slot
+end_reserved-requires-clause-slot g c = search rules

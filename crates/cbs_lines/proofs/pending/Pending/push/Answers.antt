@@ -1,4 +1,5 @@
-use Rattle.std.proofs.Common.{◌≡◌, ◌++◌, ◌+◌, [], sym, ap, ◌∙◌, string_bytes}
+use Rattle.std.proofs.Common.{◌≡◌, ◌++◌, ◌+◌, [], sym, ap, ◌∙◌, string_bytes, arith}
+use Rattle.std.proofs.lemmas.Grind.{common_steps}
 use Rattle.std.proofs.lemmas.List.{append-nil}
 use Rattle.std.proofs.lemmas.Result.{err_from_is_err_and, on_ok_weaker, on_err_weaker}
 use Rattle.cbs_lines.proofs.WrittenText.{part_goes_on, part_ends, waits_too, front_more}
@@ -41,3 +42,9 @@ returns-clause-err g c =
       wrote.0 ∙ ap (λ n. n + 1) (c.in_ok-flush.ensures.ok.2 ∙ c.in_ok-make_room.ensures.ok.1),
       part_ends _ _ _ _ [] _ _ whole flushed wrote.1,
     )) c.write_text.ensures.err
+
+pub flush-requires : goal.flush-requires
+flush-requires g c = grind (arith, common_steps)
+
+pub write_text-requires : goal.write_text-requires
+write_text-requires g c = grind (arith, common_steps)

@@ -1,4 +1,4 @@
-use Rattle.std.proofs.Common.{◌≡◌, ◌+◌, arith, rules}
+use Rattle.std.proofs.Common.{◌≡◌, ◌+◌, arith}
 use Rattle.cbs_rate.proofs.Budgets.{takes_no_more}
 use Rattle.cbs_rate.proofs.plan.Plan.greatest_budget.Goals as goal
 

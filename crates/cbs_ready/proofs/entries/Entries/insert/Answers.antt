@@ -9,3 +9,12 @@ returns-then-self-len g c =
     let some : 0 < inside.first = grind (arith, common_steps) in
     let all : inside.first ≡ length inside.slots.items = grind (arith, common_steps) in
     rw (← c.self.view_is) (c.set_first.ensures ∙ alone_again inside.first inside.slots.items c.args.entry some all)
+
+pub set_first-requires : goal.set_first-requires
+set_first-requires g c = grind (arith, common_steps)
+
+pub put-requires-clause-order : goal.put-requires-clause-order
+put-requires-clause-order g c = grind (arith, common_steps)
+
+pub returns : goal.returns
+returns g c = grind (arith, common_steps)

@@ -1,4 +1,5 @@
-use Rattle.std.proofs.Common.{◌≡◌, drop, sym, ◌∙◌}
+use Rattle.std.proofs.Common.{◌≡◌, drop, sym, ◌∙◌, arith}
+use Rattle.std.proofs.lemmas.Grind.{common_steps}
 use Rattle.cbs_ready.proofs.Ordered.{drop-removed}
 use Rattle.cbs_ready.proofs.entries.Entries.remove.Goals as goal
 
@@ -9,3 +10,12 @@ returns-then-place-len g c =
     let here : drop first slots ≡ c.args.self.now = c.self.view_is in
     let rest = rw c.as_slice.ensures at c.place_of-place.ensures.rest in
     rw c.remove.ensures.items (drop-removed slots first c.place_of-place.result ∙ rw here (sym rest))
+
+pub remove-requires : goal.remove-requires
+remove-requires g c = grind (arith, common_steps)
+
+pub invariant_of-self : goal.invariant_of-self
+invariant_of-self g c = grind (arith, common_steps)
+
+pub returns-else-place-len : goal.returns-else-place-len
+returns-else-place-len g c = grind (arith, common_steps)

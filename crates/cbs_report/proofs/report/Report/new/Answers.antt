@@ -1,4 +1,5 @@
-use Rattle.std.proofs.Common.{◌≡◌, ◌∙◌, [], sym, refl}
+use Rattle.std.proofs.Common.{◌≡◌, ◌∙◌, [], sym, refl, arith}
+use Rattle.std.proofs.lemmas.Grind.{common_steps}
 use Rattle.std.proofs.lemmas.List.Elements.{All-push}
 use Rattle.cbs_report.specs.Tallies.{Kept, kept_of}
 use Rattle.cbs_report.proofs.ReportSteps.{budgets_more}
@@ -14,3 +15,12 @@ loop-server-preserved g c =
           l.invariant.budgets (sym c.unwrap-reservation.ensures ∙ c.get.ensures.value) (rw one (c.budget.ensures.value)));
       empty = rw more (All-push (λ (k : Kept). k ≡ kept_of k.budget []) l.tallies.items c.in_ok-new.field-0 l.invariant.empty (rw one refl));
     }
+
+pub loop-server-init : goal.loop-server-init
+loop-server-init g c = grind (arith, common_steps)
+
+pub returns-clause-none : goal.returns-clause-none
+returns-clause-none g c = grind (arith, common_steps)
+
+pub returns-clause-servers : goal.returns-clause-servers
+returns-clause-servers g c = grind (arith, common_steps)

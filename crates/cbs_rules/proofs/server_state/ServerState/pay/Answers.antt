@@ -1,4 +1,5 @@
-use Rattle.std.proofs.Common.{◌≡◌, ◌+◌, ◌-◌, ◌*◌, ◌/◌, ◌%◌, ◌≤◌, ◌<◌, ℕ, true, arith, inl, inr, ap}
+use Rattle.std.proofs.Common.{◌≡◌, ◌+◌, ◌-◌, ◌*◌, ◌/◌, ◌%◌, ◌≤◌, ◌<◌, ℕ, true, arith, inl, inr, ap, rules}
+use Rattle.std.proofs.lemmas.Grind.{common_steps}
 use Rattle.std.proofs.lemmas.Nat.{mul-le, div-add-mod'}
 use Rattle.std.proofs.lemmas.Bool.{cases_lt}
 use Rattle.cbs_rate.specs.Rate.{Rate, IsRate}
@@ -37,3 +38,18 @@ invariant_of-self-in-Throttled c =
     let room : c.self.inside.deadline + n * r.period ≤ 1000000001001000000000 = rw (d, t) c.requires.room in
     waits r s (c.self.inside.overrun + n - c.self.inside.budget) n c.from-in-Throttled.result c.from-period.result c.budget-2.result c.budget.ensures.lawful is begun (omega arith)
     (let a = c.budget.ensures.value in let b = c.from-in-Throttled.ensures in rw a at b) (let a = c.period.ensures.value in let b = c.from-period.ensures in rw a at b) c.budget-2.ensures.value room
+
+pub returns-then-ticks-self-clause-rule : goal.returns-then-ticks-self-clause-rule
+returns-then-ticks-self-clause-rule c = search rules
+
+pub invariant_of-self-in-Soft : goal.invariant_of-self-in-Soft
+invariant_of-self-in-Soft c = grind (arith, common_steps)
+
+pub overflow_add-self-in-Throttled : goal.overflow_add-self-in-Throttled
+overflow_add-self-in-Throttled c = grind (arith, common_steps)
+
+pub returns-in-Soft-clause-rule : goal.returns-in-Soft-clause-rule
+returns-in-Soft-clause-rule c = search rules
+
+pub returns-in-Throttled-clause-rule : goal.returns-in-Throttled-clause-rule
+returns-in-Throttled-clause-rule c = search rules

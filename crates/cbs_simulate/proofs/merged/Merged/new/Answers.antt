@@ -1,4 +1,5 @@
-use Rattle.std.proofs.Common.{◌≡◌, ◌<◌, length, get_or}
+use Rattle.std.proofs.Common.{◌≡◌, ◌<◌, length, get_or, arith}
+use Rattle.std.proofs.lemmas.Grind.{common_steps}
 use Rattle.cbs_simulate.proofs.MergedTurns.{turn_more}
 use Rattle.cbs_simulate.proofs.merged.Merged.new.Goals as goal
 
@@ -10,3 +11,19 @@ loop-place-preserved g c =
     let is : c.source-item.result ≡ get_or xs c.loop-place.place c.source-item.result = rw same at c.source-item.is in
     turn_more g.S.Releases.coming g.S.Releases.ordered xs c.loop-place.place c.loop-place.turns c.set.new.self c.source-item.result c.first.result
     within is c.first.ensures.next c.first.ensures.early c.loop-place.invariant c.set.ensures
+
+pub loop-place-init : goal.loop-place-init
+loop-place-init g c = grind (arith, common_steps)
+
+pub set-requires : goal.set-requires
+set-requires g c = grind (arith, common_steps)
+
+pub invariant_of-result : goal.invariant_of-result
+invariant_of-result g c =
+    let same = c.deref-source-items.ensures.value in
+    let over = c.loop-place-test.false in
+    let all : c.loop-place.place ≡ length c.args.sources.items = grind (arith, common_steps) in
+    rw all at c.loop-place.invariant
+
+pub returns : goal.returns
+returns g c = grind (arith, common_steps)
