@@ -1,5 +1,5 @@
 -- The laws of a whole simulation.
-use Rattle.std.proofs.Common.{◌≡◌, ℕ, zero, suc, ◌+◌, ◌-◌, ◌≤◌, ◌<◌, true, leb, ltb, List, [], ◌∷◌, ◌++◌, length, arith, refl, sym, ◌∙◌, ap, inl}
+use Rattle.std.proofs.Common.{◌≡◌, ℕ, zero, suc, ◌+◌, ◌-◌, ◌≤◌, ◌<◌, leb, ltb, List, [], ◌∷◌, ◌++◌, length, arith, refl, sym, ◌∙◌, ap, inl}
 use Rattle.std.proofs.Common.{inr, append_assoc, append-nil, Option, Some, None}
 use Rattle.std.proofs.lemmas.Bool.{cases_Bool, ltb-true, leb-true, leb-false, le-leb}
 use Rattle.std.specs.Option.{option_map_or}
