@@ -1,5 +1,5 @@
 -- The text about a file with no fault.
-use Rattle.std.specs.Prelude.{◌≡◌, ℕ, ◌+◌, ◌-◌, ◌*◌, eqb, if◌then◌else◌, List, ◌++◌, codes, decimal, length, map}
+use Rattle.std.specs.Prelude.{◌≡◌, ℕ, ◌+◌, ◌*◌, eqb, if◌then◌else◌, List, ◌++◌, codes, decimal, length, map}
 use Rattle.std.specs.List.{range_with_len}
 use Rattle.cbs_load.specs.Loads.{LoadFile}
 use Rattle.cbs_rate.specs.Plan.{Planned, common_multiple}
@@ -7,18 +7,14 @@ use Rattle.cbs_rules.specs.declared.mode.Mode.{Mode}
 use Rattle.cbs_size.specs.Budgets.{AreGreatest}
 use Rattle.cbs_size.specs.Lateness.{greatest_delay, BoundsLateness}
 use Rattle.cbs_size.specs.ServerLoads.{AreServerLoads}
+use Rattle.cbs_size.specs.Shares.{left_over, reserved}
 use Rattle.cbs_size.specs.declared.server_load.ServerLoad.{ServerLoad}
 use Rattle.cbs_text.specs.Columns.{columns_text}
 use Rattle.cbs_check.specs.Fractions.{fraction_text}
 use Rattle.cbs_check.specs.Lateness.{lateness_text}
 use Rattle.cbs_check.specs.Notes.{notes_text, set_off}
-use Rattle.cbs_check.specs.Servers.{reserved, servers_table}
+use Rattle.cbs_check.specs.Servers.{servers_table}
 use Rattle.cbs_check.specs.Sources.{sources_text}
-
--- what is left under the bound, in ticks. They are ticks of a span: `bound.den` times the least common multiple of all
--- periods
-abbrev pub left_over : Planned → ℕ
-left_over plan = plan.bound.num * common_multiple plan.rates - plan.bound.den * reserved plan.rates
 
 -- the first line: that the servers fit, what share of the time they have reserved, and what share is left under the
 -- bound

@@ -1,11 +1,12 @@
 -- The table of the servers, as cells.
 use Rattle.std.specs.Prelude.{ℕ, List, [], ◌∷◌, ◌++◌, codes, decimal, get_or, length, map}
-use Rattle.std.specs.List.{sum_by, range_with_len}
-use Rattle.cbs_rate.specs.Plan.{share, common_multiple}
+use Rattle.std.specs.List.{range_with_len}
+use Rattle.cbs_rate.specs.Plan.{common_multiple}
 use Rattle.cbs_rate.specs.Rate.{Rate}
 use Rattle.cbs_guarantee.specs.Parts.{rate_at}
 use Rattle.cbs_rules.specs.declared.mode.Mode.{Mode}
 use Rattle.cbs_rules.specs.declared.mode.Mode.TheVariants.{Soft}
+use Rattle.cbs_size.specs.Shares.{reserved}
 use Rattle.cbs_text.specs.Columns.{CellText, plain}
 use Rattle.cbs_text.specs.Modes.{mode_word}
 use Rattle.cbs_check.specs.Fractions.{fraction_text, percent_text}
@@ -27,10 +28,6 @@ abbrev pub servers_heading : List CellText
 servers_heading =
     plain (codes "SERVER") ∷ plain (codes "mode") ∷ plain (codes "budget") ∷ plain (codes "period") ∷ plain (codes "share") ∷ plain []
     ∷ plain (codes "greatest budget") ∷ []
-
--- how many ticks all servers together may run in the least common multiple of their periods
-abbrev pub reserved : List Rate → ℕ
-reserved rates = sum_by (share (common_multiple rates)) rates
 
 abbrev pub total_row : List Rate → List CellText
 total_row rates =

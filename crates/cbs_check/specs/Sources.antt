@@ -1,10 +1,11 @@
 -- The table of the sources, as cells.
-use Rattle.std.specs.Prelude.{ℕ, ◌*◌, Bool, false, eqb, leb, ltb, if◌then◌else◌, List, [], ◌∷◌, ◌++◌, codes, decimal, get_or, map, Option, Some, None}
+use Rattle.std.specs.Prelude.{ℕ, ◌*◌, Bool, eqb, ltb, if◌then◌else◌, List, [], ◌∷◌, ◌++◌, codes, decimal, get_or, map, Option, Some, None}
 use Rattle.cbs_rate.specs.Rate.{Rate}
 use Rattle.cbs_guarantee.specs.Parts.{rate_at}
 use Rattle.cbs_simulate.specs.Bounds.{Bounds}
 use Rattle.cbs_simulate.specs.declared.terms.SourceTerms.{SourceTerms}
 use Rattle.cbs_size.specs.ServerLoads.{no_load}
+use Rattle.cbs_size.specs.Shares.{is_within}
 use Rattle.cbs_size.specs.declared.server_load.ServerLoad.{ServerLoad}
 use Rattle.cbs_text.specs.Columns.{CellText, columns_text, plain, marked_if}
 use Rattle.cbs_text.specs.Numbers.{number_text}
@@ -14,11 +15,6 @@ use Rattle.cbs_check.specs.Servers.{name_at}
 -- a range of numbers; a range of one number is written as that number
 abbrev pub range_text : Bounds → List ℕ
 range_text r = if eqb r.least r.greatest then decimal r.least else decimal r.least ++ codes ".." ++ decimal r.greatest
-
--- a time is at most the wanted one, if a time is wanted
-abbrev pub is_within : ℕ → Option ℕ → Bool
-is_within time None = false
-is_within time (Some within) = leb time within
 
 -- whether each job is finished in time, if it is promised to be finished within this time
 abbrev pub promise_text : ℕ → Bool → List ℕ

@@ -1,7 +1,7 @@
 //! The text about a file with no fault.
 
 ghost use Rattle.std.specs.Prelude.{◌≡◌, ◌++◌, length, map, IfOk, OnOk, string_bytes};
-ghost use Rattle.cbs_check.specs.Checks.{left_over, fits_text, periods_text, plan_text, numbered, IsPlanText, IsLoadText};
+ghost use Rattle.cbs_check.specs.Checks.{fits_text, periods_text, plan_text, numbered, IsPlanText, IsLoadText};
 
 use crate::fractions::append_fraction;
 use crate::lateness::append_lateness;
@@ -11,20 +11,9 @@ use crate::sources::append_sources;
 use cbs_load::Load;
 use cbs_rate::Plan;
 use cbs_rules::Modes;
-use cbs_size::{greatest_budgets, server_loads};
+use cbs_size::{greatest_budgets, left_over, server_loads};
 use cbs_text::append_pair;
 use std::alloc::{AllocError, Global};
-
-/// Returns what is left under the bound, in ticks. They are ticks of a span: the bound's denominator times the least
-/// common multiple of all periods.
-fn left_over(plan: &Plan) -> u128
-    ensures { result ≡ left_over plan.now }
-{
-    let bound = plan.bound();
-    let reserved = plan.bandwidth();
-    let all = u128::from(bound.num()) * u128::from(reserved.of);
-    all.saturating_sub(u128::from(bound.den()) * u128::from(reserved.ticks))
-}
 
 /// Appends that the servers fit, what share of the time they have reserved, and what share is left under the bound.
 #[tactic(auto, unfolding(crate::specs::Checks::fits_text))]

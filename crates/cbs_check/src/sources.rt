@@ -3,13 +3,13 @@
 ghost use Rattle.std.specs.Prelude.{◌≡◌, ◌++◌, [], ◌∷◌, ◌<◌, length, IfOk, OnOk, string_bytes};
 ghost use Rattle.cbs_text.specs.Columns.{plain, rows_of};
 ghost use Rattle.cbs_text.specs.Numbers.{number_text};
-ghost use Rattle.cbs_check.specs.Sources.{range_text, is_within, promise_text, in_time_text, is_asking_too_much, source_row, sources_heading, sources_table, sources_text};
+ghost use Rattle.cbs_check.specs.Sources.{range_text, promise_text, in_time_text, is_asking_too_much, source_row, sources_heading, sources_table, sources_text};
 
 use crate::cells::{push_fraction, push_number, push_word};
 use cbs_load::Load;
 use cbs_rate::Reservation;
 use cbs_simulate::{Range, SourceTerms};
-use cbs_size::ServerLoad;
+use cbs_size::{ServerLoad, is_within};
 use cbs_text::{Cell, append_columns, append_pair};
 use std::alloc::{AllocError, Global};
 
@@ -36,16 +36,6 @@ fn push_optional(alloc: Global, row: &mut Vec<Cell>, number: Option<u64>) -> Res
     match number {
         Some(number) => push_number(alloc, row, number),
         None => push_word(alloc, row, "-"),
-    }
-}
-
-/// Returns whether a time is at most the wanted one. Without a wanted time, returns `false`.
-fn is_within(time: u64, within: Option<u64>) -> bool
-    ensures { result ≡ is_within time within }
-{
-    match within {
-        Some(within) => time <= within,
-        None => false,
     }
 }
 

@@ -3,3 +3,4 @@ pub mod Asked
 pub mod Joined
 pub mod ServerLoads
 pub mod Lateness
+pub mod Shares

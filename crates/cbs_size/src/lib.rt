@@ -7,9 +7,11 @@ mod budgets;
 mod divisor;
 mod lateness;
 mod server_load;
+mod shares;
 
 pub use asked::Asked;
 pub use budgets::greatest_budgets;
 pub use divisor::greatest_common_divisor;
 pub use lateness::greatest_delay;
 pub use server_load::{ServerLoad, server_loads};
+pub use shares::{is_within, left_over};
