@@ -72,6 +72,20 @@ fn with_verb<'a>(
     program.subcommand(verb)
 }
 
+/// Returns the program with one more verb, which takes a file, the form of its output, and the ticks to show.
+fn with_verb_in_a_form<'a>(
+    alloc: Global,
+    program: Command<'a>,
+    name: &'a str,
+    about: &'a str,
+    forms: &'a str,
+) -> Result<Command<'a>, AllocError>
+    ensures { IfOk result (λ c. app_of c ≡ with_subcommand (app_of program.entry) (in_a_form name.now).top) }
+{
+    let verb = in_a_form(alloc, name, about, forms)?;
+    program.subcommand(verb)
+}
+
 /// Returns the program, with no verb yet.
 fn bare_program<'a>(alloc: Global) -> Command<'a>
     ensures { app_of result ≡ bare_program }
@@ -89,10 +103,8 @@ fn command_line<'a>(alloc: Global) -> Result<Command<'a>, AllocError>
     ensures { IfOk result (λ c. app_of c ≡ command_line) }
 {
     let program = with_verb(alloc, bare_program(alloc), "check", CHECK)?;
-    let simulate = in_a_form(alloc, "simulate", SIMULATE, REPORTS)?;
-    let program = program.subcommand(simulate)?;
-    let replay = in_a_form(alloc, "replay", REPLAY, TRACES)?;
-    let program = program.subcommand(replay)?;
+    let program = with_verb_in_a_form(alloc, program, "simulate", SIMULATE, REPORTS)?;
+    let program = with_verb_in_a_form(alloc, program, "replay", REPLAY, TRACES)?;
     with_verb(alloc, program, "serve", SERVE)
 }
 

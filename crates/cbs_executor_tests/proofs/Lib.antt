@@ -1,0 +1,3 @@
+pub mod Examples
+pub mod OnTimeExamples
+pub mod HeldHouses
