@@ -93,7 +93,7 @@ fn a_chart_by_hand(rt: HostRuntime) -> Result<(), Fail> {
     }
     let chart = view.into_chart(alloc, 25)?;
     let stretch = |kind, from, to| Stretch { kind, from, to };
-    same(&rt, "servers", chart.servers.len(), 1);
+    assert!(rt; chart.servers.len() == 1);
     let server = &chart.servers[0];
     let spans = [
         stretch(Kind::Runs(0), 2, 3),

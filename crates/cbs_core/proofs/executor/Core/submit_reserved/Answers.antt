@@ -1,5 +1,3 @@
-use Rattle.std.proofs.Common.{arith}
-use Rattle.std.proofs.lemmas.Grind.{common_steps}
 use Rattle.cbs_lists.proofs.Lists.{counted}
 use Rattle.cbs_core.proofs.Agreements.{submit_answered, submit_agrees}
 use Rattle.cbs_core.proofs.Cores.{core_joined, few_held, queue_there}
@@ -39,6 +37,3 @@ returns-clause-makes g c =
       submit_agrees c.self.view_is agrees c.args.server c.args.task free {queues = c.push.new.self.lists} is.accepts.is_open.within
           c.accept.ensures.servers c.push.ensures.lists c.push.ensures.some,
     ))
-
-pub accept-requires-clause-few : goal.accept-requires-clause-few
-accept-requires-clause-few g c = grind (arith, common_steps)
