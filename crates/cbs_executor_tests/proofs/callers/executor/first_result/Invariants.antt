@@ -1,5 +1,0 @@
-use Rattle.cbs_core.specs.Held.{KeepsBudgets}
-use Rattle.cbs_executor_tests.proofs.callers.executor.first_result.Given as goal
-
-abbrev pub invariant-loop-unit : goal.invariant-loop-unit
-invariant-loop-unit g l = KeepsBudgets l.core

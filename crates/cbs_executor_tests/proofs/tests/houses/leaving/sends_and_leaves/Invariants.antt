@@ -1,5 +1,0 @@
-use Rattle.std.proofs.Common.{vec_len}
-use Rattle.cbs_executor_tests.proofs.tests.houses.leaving.sends_and_leaves.Given as goal
-
-abbrev pub decreases-loop-client : goal.decreases-loop-client
-decreases-loop-client l = vec_len l.clients

@@ -1,0 +1,5 @@
+//! Callers of cbs_house and cbs_embed.
+
+pub mod house;
+pub mod promises;
+pub mod serving;

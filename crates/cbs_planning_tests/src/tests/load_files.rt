@@ -1,0 +1,287 @@
+//! Load files: the content of a good one, and the fault of each faulty one.
+
+use crate::tests::sample_loads::{PIPELINE, ROBOT};
+use cbs_core::Core;
+use cbs_load::{Load, read_load};
+use cbs_rules::Mode;
+use cbs_simulate::{LoadJob, Moment, Range, SourceTerms, Watcher, simulate_plan};
+use std::alloc::{AllocError, Allocator, Global};
+use std::process::Abort;
+
+/// The text before the servers.
+const TOP: &str = "load = 1\nbound = [1, 1]\nbacklog = 4\nuntil = 200\n";
+
+/// A server.
+const CONTROL: &str = "[[server]]\nname = \"control\"\nmode = \"soft\"\nbudget = 1\nperiod = 5\n";
+
+/// Another server.
+const LIDAR: &str =
+    "[[server]]\nname = \"lidar-2\"\nmode = \"throttled\"\nbudget = 2\nperiod = 10\n";
+
+/// A source with all keys.
+const FULL: &str =
+    "[[source]]\nserver = \"lidar-2\"\nfirst = 3\nevery = [4, 12]\nunits = [1, 5]\njobs = 7\nwithin = 20\noverrun = [0, 2]\n";
+
+/// A source without the keys that may be left out.
+const BARE: &str = "[[source]]\nserver = \"control\"\nevery = 5\nunits = 1\n";
+
+/// Returns the bytes of these texts, one after another.
+fn bytes_of(rt: &impl Abort, alloc: Global, texts: &[&str]) -> Vec<u8> {
+    let mut bytes = Vec::new(alloc);
+    for text in texts {
+        bytes
+            .extend_from_slice(text.as_bytes())
+            .ok()
+            .expect(rt, "memory");
+    }
+    bytes
+}
+
+/// Returns the load that these texts spell.
+fn load_of(rt: &impl Abort, alloc: Global, texts: &[&str]) -> Load {
+    let bytes = bytes_of(rt, alloc, texts);
+    read_load(alloc, &bytes).ok().expect(rt, "a load")
+}
+
+/// Returns the range of numbers from `least` to `greatest`.
+fn range(rt: &impl Abort, least: u64, greatest: u64) -> Range {
+    Range::new(least, greatest).expect(rt, "a range")
+}
+
+#[test]
+fn a_load_holds_what_its_file_says(rt: HostRuntime) {
+    let alloc = rt.alloc();
+    let load = load_of(&rt, alloc, &[TOP, "seed = 7\n", CONTROL, LIDAR, BARE, FULL]);
+    assert!(rt; load.backlog() == 4);
+    assert!(rt; load.until() == 200);
+    assert!(rt; load.seed() == 7);
+    assert!(rt; load.plan().len() == 2);
+    assert!(rt; load.names()[1].as_str() == "lidar-2");
+    assert!(rt; load.modes().get(0) == Some(Mode::Soft));
+    assert!(rt; load.modes().get(1) == Some(Mode::Throttled));
+    let bare = SourceTerms {
+        server: 0,
+        first: 0,
+        every: Range::fixed(5),
+        units: Range::fixed(1),
+        jobs: None,
+        within: Some(5),
+        overrun: Range::fixed(0),
+    };
+    let full = SourceTerms {
+        server: 1,
+        first: 3,
+        every: range(&rt, 4, 12),
+        units: range(&rt, 1, 5),
+        jobs: Some(7),
+        within: Some(20),
+        overrun: range(&rt, 0, 2),
+    };
+    assert!(rt; load.sources() == [bare, full].as_slice());
+}
+
+#[test]
+fn a_seed_left_out_is_0(rt: HostRuntime) {
+    let load = load_of(&rt, rt.alloc(), &[TOP, CONTROL, BARE]);
+    assert!(rt; load.seed() == 0);
+}
+
+/// The texts of a file, and its fault.
+const FAULTS: [(&[&str], &str); 22] = [
+    (&["", "", "", ""], "a key of this table is missing, at top"),
+    (
+        &["load = 2\n", "", "", ""],
+        "a value is out of range, at top",
+    ),
+    (
+        &["load = \"1\"\n", "", "", ""],
+        "a value has the wrong type, at top",
+    ),
+    (
+        &["load = 1\nbound = [1, 1\n", "", "", ""],
+        "this is no TOML document, at top",
+    ),
+    (
+        &[TOP, "untill = 3\n", CONTROL, BARE],
+        "a key is not one of this table's keys, at top",
+    ),
+    (
+        &[TOP, CONTROL, "", ""],
+        "a key of this table is missing, at top",
+    ),
+    (
+        &[
+            "load = 1\nbound = [1, 1]\nbacklog = 4\nuntil = 0\n",
+            CONTROL,
+            BARE,
+            "",
+        ],
+        "a value is out of range, at top",
+    ),
+    (
+        &[
+            "load = 1\nbound = [1, 1]\nbacklog = 4097\nuntil = 1\n",
+            CONTROL,
+            BARE,
+            "",
+        ],
+        "a value is out of range, at top",
+    ),
+    (
+        &[TOP, "seed = -1\n", CONTROL, BARE],
+        "a value is out of range, at top",
+    ),
+    (
+        &[TOP, CONTROL, CONTROL, BARE],
+        "a value is out of range, at server 1",
+    ),
+    (
+        &[
+            TOP,
+            "[[server]]\nname = \"a b\"\nmode = \"soft\"\nbudget = 1\nperiod = 5\n",
+            BARE,
+            "",
+        ],
+        "a value is out of range, at server 0",
+    ),
+    (
+        &[
+            TOP,
+            "[[server]]\nname = \"\"\nmode = \"soft\"\nbudget = 1\nperiod = 5\n",
+            BARE,
+            "",
+        ],
+        "a value is out of range, at server 0",
+    ),
+    (
+        &[
+            TOP,
+            "[[server]]\nname = \"a\"\nmode = \"sporadic\"\nbudget = 1\nperiod = 5\n",
+            BARE,
+            "",
+        ],
+        "a value is out of range, at server 0",
+    ),
+    (
+        &[
+            TOP,
+            "[[server]]\nname = \"a\"\nmode = \"soft\"\nbudget = 6\nperiod = 5\n",
+            BARE,
+            "",
+        ],
+        "a value is out of range, at server 0",
+    ),
+    (
+        &[
+            TOP,
+            CONTROL,
+            "[[server]]\nname = \"a\"\nmode = \"soft\"\nbudget = 5\nperiod = 6\n",
+            BARE,
+        ],
+        "the plan does not take this server: too many, too fine periods, or over the bound, at server 1",
+    ),
+    (
+        &[TOP, CONTROL, BARE, FULL],
+        "a value is out of range, at source 1",
+    ),
+    (
+        &[
+            TOP,
+            CONTROL,
+            BARE,
+            "[[source]]\nserver = \"control\"\nevery = 5\n",
+        ],
+        "a key of this table is missing, at source 1",
+    ),
+    (
+        &[TOP, CONTROL, BARE, "deadline = 3\n"],
+        "a key is not one of this table's keys, at source 0",
+    ),
+    (
+        &[TOP, CONTROL, BARE, "within = true\n"],
+        "a value has the wrong type, at source 0",
+    ),
+    (
+        &[TOP, CONTROL, BARE, "overrun = [2, 1]\n"],
+        "a value is out of range, at source 0",
+    ),
+    (
+        &[TOP, CONTROL, BARE, "overrun = [2]\n"],
+        "a value is out of range, at source 0",
+    ),
+    (
+        &[TOP, CONTROL, BARE, "jobs = 0\n"],
+        "a value is out of range, at source 0",
+    ),
+];
+
+#[test]
+fn a_faulty_file_has_one_first_fault(rt: HostRuntime) {
+    let alloc = rt.alloc();
+    for &(texts, wanted) in &FAULTS {
+        let bytes = bytes_of(&rt, alloc, texts);
+        let fault = read_load(alloc, &bytes).err().expect(&rt, wanted);
+        let said = format!(in alloc; "{fault}").expect(&rt, "memory");
+        assert!(rt; said.as_str() == wanted, "{said}, not {wanted}");
+    }
+}
+
+/// A watcher that ignores all moments.
+#[derive(Drop)]
+struct Nobody;
+
+impl Watcher<()> for Nobody {
+    ghost saw = { λ first it seen. Unit {0} };
+
+    fn see<A: Allocator>(
+        &mut self,
+        _lent: &mut (),
+        _moment: Moment,
+        _core: &Core<LoadJob, A>,
+    ) -> Result<(), AllocError> {
+        Ok(())
+    }
+}
+
+/// Simulates the load of a text, and tests how many jobs each server accepted and finished.
+fn comes_to(rt: &impl Abort, alloc: Global, text: &str, rows: [(u64, u64); 4]) {
+    let load = load_of(rt, alloc, &[text]);
+    let until = load.until();
+    let mut releases = cbs_simulate::load_of(alloc, load.sources(), until, load.seed()).expect(
+        rt, "memory",
+    );
+    let core = simulate_plan(
+        alloc,
+        load.plan(),
+        load.modes(),
+        load.backlog(),
+        &mut releases,
+        until,
+        &mut Nobody,
+        &mut (),
+    )
+    .ok()
+    .expect(rt, "a simulation");
+    assert!(rt; core.now() == until);
+    for server in 0..4 {
+        let row = rows[usize::from(server)];
+        let view = core.view(server).ok().expect(rt, "a view");
+        assert!(rt;
+            (view.accepted, view.finished) == row,
+            "server {server}: {view:?}, not {row:?}"
+        );
+    }
+}
+
+// The rows come from another scheduler, which draws numbers by the same rule.
+#[test]
+fn loads_come_to_what_another_scheduler_found(rt: HostRuntime) {
+    let alloc = rt.alloc();
+    comes_to(&rt, alloc, ROBOT, [(40, 40), (10, 10), (10, 10), (23, 21)]);
+    comes_to(
+        &rt,
+        alloc,
+        PIPELINE,
+        [(60, 60), (25, 25), (31, 24), (10, 10)],
+    );
+}
