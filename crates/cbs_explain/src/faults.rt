@@ -3,20 +3,16 @@
 use crate::limits::append_not_admitted;
 use crate::not_toml::append_not_toml;
 use crate::notes::{append_keys_note, append_servers_note};
-use crate::page::append_bar;
+use crate::page::{append_all, append_bar, append_spot};
 use crate::remarks::{append_key_line, append_outside_line, append_taken_line, append_type_line};
-use crate::shown::{Shown, type_phrase};
+use crate::shown::{append_shown, type_phrase};
 use crate::values::{append_outside, append_wrong_type};
 use cbs_findings::{Document, Finding, Key, Spot, Want, find, nearest_key, spot_at};
 use cbs_tables::{FileFault, FileKind, Place};
+use cbs_text::append_pair;
 use std::alloc::{AllocError, Global};
 use std::fmt::Write;
 use toml::Value;
-
-/// Appends the place of a fault.
-fn append_spot(text: &mut String, spot: &Spot<'_>) -> Result<(), AllocError> {
-    writeln!(text, "\n  --> {spot}")
-}
 
 /// Returns a remark on the key that may be meant, if a key of the table is near enough. The only error is out of
 /// memory.
@@ -25,6 +21,18 @@ fn key_remark(alloc: Global, spot: &Spot<'_>, key: &str) -> Result<String, Alloc
         Some(name) => format!(in alloc; "did you mean `{name}`?"),
         None => Ok(String::new(alloc)),
     }
+}
+
+/// Appends the line of a key that a table may not have, with a remark on the key that may be meant.
+fn append_unknown_line(
+    alloc: Global,
+    text: &mut String,
+    spot: &Spot<'_>,
+    key: &str,
+    value: &Value,
+) -> Result<(), AllocError> {
+    let remark = key_remark(alloc, spot, key)?;
+    append_key_line(alloc, text, key, value, &remark)
 }
 
 /// Appends the explanation of a key that a table may not have.
@@ -37,8 +45,7 @@ fn append_unknown(
 ) -> Result<(), AllocError> {
     let phrase = spot.subject.phrase();
     writeln!(text, "error: no key of {phrase}: `{key}`\n  --> {spot}")?;
-    let remark = key_remark(alloc, spot, key)?;
-    append_key_line(alloc, text, key, value, &remark)?;
+    append_unknown_line(alloc, text, spot, key, value)?;
     append_keys_note(alloc, text, spot.subject, false)
 }
 
@@ -49,8 +56,8 @@ fn append_missing(
     spot: &Spot<'_>,
     key: Key,
 ) -> Result<(), AllocError> {
-    let name = key.name;
-    writeln!(text, "error: `{name}` is missing\n  --> {spot}")?;
+    append_all(text, &["error: `", key.name, "` is missing"])?;
+    append_spot(text, spot)?;
     append_keys_note(alloc, text, spot.subject, true)
 }
 
@@ -94,11 +101,11 @@ fn append_taken(
     value: &Value,
     other: usize,
 ) -> Result<(), AllocError> {
-    let name = Shown(value);
-    writeln!(
-        text,
-        "error: `name` is {name}, which server {other} has already\n  --> {spot}"
-    )?;
+    text.push_str("error: `name` is ")?;
+    append_shown(text, value)?;
+    append_pair(text, ", which server ", other)?;
+    text.push_str(" has already")?;
+    append_spot(text, spot)?;
     append_taken_line(alloc, text, value)
 }
 
@@ -147,8 +154,8 @@ fn other_kind(document: Document<'_>) -> &'static str {
 
 /// Appends that a document has no key that says of which kind it is, or that it is of the other kind.
 fn append_other_kind(text: &mut String, spot: &Spot<'_>) -> Result<(), AllocError> {
-    let kind = other_kind(spot.document);
-    writeln!(text, "error: {kind}\n  --> {spot}")?;
+    append_all(text, &["error: ", other_kind(spot.document)])?;
+    append_spot(text, spot)?;
     append_bar(text, 2)?;
     text.push_str("  = note: a task file has `format = 2`, and a load file `load = 1`\n")
 }
@@ -174,6 +181,24 @@ fn append_fault(
     }
 }
 
+/// Appends the explanation of the first fault of bytes. They are read again for this.
+fn append_explained(
+    alloc: Global,
+    text: &mut String,
+    name: &str,
+    bytes: &[u8],
+    fault: FileFault,
+) -> Result<(), AllocError> {
+    if fault.kind == FileKind::OutOfMemory {
+        return append_kind(text, fault.kind);
+    }
+    match toml::table_from_slice(alloc, bytes) {
+        Ok(top) => append_fault(alloc, text, Document::new(name, &top), fault),
+        Err(error) if error.is_memory() => Err(AllocError),
+        Err(error) => append_not_toml(alloc, text, name, bytes, &error),
+    }
+}
+
 /// Returns the explanation of the first fault of a task file or a load file, for a person. It says what is wrong and
 /// where, shows the line, and says what is allowed and what may help. The bytes are read again for this. If nothing
 /// more is known, it is the kind of the fault in words. The only error is out of memory.
@@ -184,14 +209,6 @@ pub fn explain(
     fault: FileFault,
 ) -> Result<String, AllocError> {
     let mut text = String::new(alloc);
-    if fault.kind == FileKind::OutOfMemory {
-        append_kind(&mut text, fault.kind)?;
-        return Ok(text);
-    }
-    match toml::table_from_slice(alloc, bytes) {
-        Ok(top) => append_fault(alloc, &mut text, Document::new(name, &top), fault)?,
-        Err(error) if error.is_memory() => return Err(AllocError),
-        Err(error) => append_not_toml(alloc, &mut text, name, bytes, &error)?,
-    }
+    append_explained(alloc, &mut text, name, bytes, fault)?;
     Ok(text)
 }

@@ -1,20 +1,19 @@
 //! The reasons why a plan does not take a server.
 
 use crate::over::append_over;
-use crate::page::{Marked, append_bar, append_line, append_note};
+use crate::page::{Marked, append_bar, append_line, append_note, append_spot};
 use cbs_findings::{Refused, Spot, refused_at};
 use cbs_rate::{AdmitError, MAX_COMMON_MULTIPLE, MAX_SERVERS};
 use cbs_tables::FileKind;
+use cbs_text::append_pair;
 use std::alloc::{AllocError, Global};
 use std::fmt::Write;
 
 /// Appends that a plan takes no more servers.
 fn append_too_many(text: &mut String, spot: &Spot<'_>) -> Result<(), AllocError> {
-    let count = spot.document.servers.len();
-    writeln!(
-        text,
-        "error: there are {count} servers, and there may be at most {MAX_SERVERS}\n  --> {spot}"
-    )
+    append_pair(text, "error: there are ", spot.document.servers.len())?;
+    append_pair(text, " servers, and there may be at most ", MAX_SERVERS)?;
+    append_spot(text, spot)
 }
 
 /// Appends the line of a server's period, and which periods fit.
@@ -28,6 +27,24 @@ fn append_period(alloc: Global, text: &mut String, period: u64) -> Result<(), Al
     append_line(text, "  ", &line, marked)
 }
 
+/// Appends how often the periods of the servers before this one come together.
+fn append_before(alloc: Global, text: &mut String, ticks: u64) -> Result<(), AllocError> {
+    let note = format!(in alloc;
+        "the periods of the servers before it come together every {ticks} ticks"
+    )?;
+    append_note(text, 2, "note", &note)
+}
+
+/// Appends how seldom the periods come together with this server.
+fn append_multiple(text: &mut String, refused: &Refused) -> Result<(), AllocError> {
+    let number = refused.number;
+    let multiple = refused.common_multiple();
+    write!(
+        text,
+        "error: with server {number} the periods come together every {multiple} ticks only, and at most {MAX_COMMON_MULTIPLE} are allowed"
+    )
+}
+
 /// Appends that the period of a server makes the periods too fine.
 fn append_too_fine(
     alloc: Global,
@@ -35,20 +52,11 @@ fn append_too_fine(
     spot: &Spot<'_>,
     refused: &Refused,
 ) -> Result<(), AllocError> {
-    let number = refused.number;
-    let period = refused.reservation.period();
-    let multiple = refused.common_multiple();
-    let before = refused.plan.bandwidth().of;
-    writeln!(
-        text,
-        "error: with server {number} the periods come together every {multiple} ticks only, and at most {MAX_COMMON_MULTIPLE} are allowed\n  --> {spot}"
-    )?;
-    append_period(alloc, text, period)?;
+    append_multiple(text, refused)?;
+    append_spot(text, spot)?;
+    append_period(alloc, text, refused.reservation.period())?;
     append_bar(text, 2)?;
-    let note = format!(in alloc;
-        "the periods of the servers before it come together every {before} ticks"
-    )?;
-    append_note(text, 2, "note", &note)?;
+    append_before(alloc, text, refused.plan.bandwidth().of)?;
     append_note(
         text,
         2,

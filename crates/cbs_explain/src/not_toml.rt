@@ -1,6 +1,6 @@
 //! The explanation of a text that is no TOML.
 
-use crate::page::{Marked, append_line};
+use crate::page::{Marked, append_all, append_line};
 use cbs_findings::{Broken, Position, Quote, broken_at};
 use std::alloc::{AllocError, Global};
 use std::fmt::Write;
@@ -18,6 +18,13 @@ fn append_sentence(text: &mut String, broken: Broken<'_>) -> Result<(), AllocErr
             write!(text, "error: {sentence}")
         }
     }
+}
+
+/// Appends the end of a line, and the line of a place of a text.
+fn append_place(text: &mut String, name: &str, position: Position<'_>) -> Result<(), AllocError> {
+    let number = position.number;
+    let column = position.before.chars().count().saturating_add(1);
+    writeln!(text, "\n  --> {name}:{number}:{column}")
 }
 
 /// Appends a line with its number, and carets below a part of it.
@@ -44,11 +51,14 @@ fn append_at(
     name: &str,
     broken: Broken<'_>,
 ) -> Result<(), AllocError> {
-    let number = broken.position.number;
-    let column = broken.position.before.chars().count().saturating_add(1);
     append_sentence(text, broken)?;
-    writeln!(text, "\n  --> {name}:{number}:{column}")?;
+    append_place(text, name, broken.position)?;
     append_numbered(alloc, text, broken)
+}
+
+/// Returns what is wrong at a place of a text, or `None` if the place is not known.
+fn broken_in<'a>(bytes: &'a [u8], error: &'a Error) -> Option<Broken<'a>> {
+    broken_at(std::str::from_utf8(bytes).ok()?, error)
 }
 
 /// Appends the explanation of bytes that are no TOML.
@@ -59,12 +69,8 @@ pub(crate) fn append_not_toml(
     bytes: &[u8],
     error: &Error,
 ) -> Result<(), AllocError> {
-    let document = std::str::from_utf8(bytes).ok();
-    match document.and_then(|document| broken_at(document, error)) {
+    match broken_in(bytes, error) {
         Some(broken) => append_at(alloc, text, name, broken),
-        None => {
-            let message = error.message();
-            writeln!(text, "error: {message}\n  --> {name}")
-        }
+        None => append_all(text, &["error: ", error.message(), "\n  --> ", name, "\n"]),
     }
 }

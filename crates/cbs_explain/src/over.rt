@@ -1,8 +1,9 @@
 //! The explanation of a server that takes the plan over its bound: by how much, and what would fit.
 
-use crate::page::{append_bar, append_note};
+use crate::page::{append_bar, append_note, append_spot};
 use cbs_findings::{Document, Fraction, Percent, Refused, Spot, excess, reservations, share};
 use cbs_guarantee::{Part, SplitError, split};
+use cbs_text::append_pair;
 use std::alloc::{AllocError, Global};
 use std::fmt::Write;
 
@@ -52,15 +53,18 @@ fn append_help(text: &mut String, words: &str) -> Result<(), AllocError> {
     append_note(text, MARGIN, "help", words)
 }
 
+/// Returns the words for the greatest budget at a period. The only error is out of memory.
+fn greatest_words(alloc: Global, period: u64, budget: u64) -> Result<String, AllocError> {
+    match budget {
+        0 => format!(in alloc; "at period {period} no budget fits"),
+        _ => format!(in alloc; "at period {period} a budget of {budget} fits, and no greater one"),
+    }
+}
+
 /// Appends the greatest budget at this period.
 fn append_greatest(alloc: Global, text: &mut String, refused: &Refused) -> Result<(), AllocError> {
     let period = refused.reservation.period();
-    let words = match refused.plan.greatest_budget(period) {
-        0 => format!(in alloc; "at period {period} no budget fits")?,
-        budget => format!(in alloc;
-            "at period {period} a budget of {budget} fits, and no greater one"
-        )?,
-    };
+    let words = greatest_words(alloc, period, refused.plan.greatest_budget(period))?;
     append_help(text, &words)
 }
 
@@ -74,43 +78,70 @@ fn append_least(alloc: Global, text: &mut String, refused: &Refused) -> Result<(
     append_help(text, &words)
 }
 
-/// Returns the name of a server, or its number in words if it has no name. The only error is out of memory.
-fn called(alloc: Global, document: Document<'_>, number: usize) -> Result<String, AllocError> {
+/// Appends the name of a server, or its number in words if it has no name.
+fn append_name(text: &mut String, document: Document<'_>, number: usize) -> Result<(), AllocError> {
     match document.server_name(number) {
-        Some(name) => String::from_str(alloc, name),
-        None => format!(in alloc; "server {number}"),
+        Some(name) => text.push_str(name),
+        None => append_pair(text, "server ", number),
     }
 }
 
 /// Appends the names of the servers of a part.
 fn append_names(
-    alloc: Global,
     text: &mut String,
     document: Document<'_>,
     part: &[usize],
 ) -> Result<(), AllocError> {
     for (place, number) in part.iter().enumerate() {
-        let separator = if place > 0 { ", " } else { "" };
-        let name = called(alloc, document, *number)?;
-        write!(text, "{separator}{name}")?;
+        text.push_str(if place > 0 { ", " } else { "" })?;
+        append_name(text, document, *number)?;
     }
     Ok(())
 }
 
-/// Appends the parts of a split, each with its servers and their sum.
+/// Appends a part of a split, with its number, its servers and their sum.
+fn append_part(
+    text: &mut String,
+    document: Document<'_>,
+    number: usize,
+    part: &Part,
+) -> Result<(), AllocError> {
+    let sum = share(part.plan.bandwidth());
+    append_pair(text, "           ", number)?;
+    text.push_str(": ")?;
+    append_names(text, document, &part.servers)?;
+    writeln!(text, "  ({sum})")
+}
+
+/// Appends on how many executors all servers fit, and which servers each of these has.
 fn append_parts(
     alloc: Global,
     text: &mut String,
     document: Document<'_>,
     parts: &[Part],
 ) -> Result<(), AllocError> {
+    append_executors(alloc, text, parts.len(), document.servers.len())?;
     for (place, part) in parts.iter().enumerate() {
-        let sum = share(part.plan.bandwidth());
-        write!(text, "           {}: ", place + 1)?;
-        append_names(alloc, text, document, &part.servers)?;
-        writeln!(text, "  ({sum})")?;
+        append_part(text, document, place + 1, part)?;
     }
     Ok(())
+}
+
+/// Appends on how many executors all servers fit.
+fn append_executors(
+    alloc: Global,
+    text: &mut String,
+    executors: usize,
+    count: usize,
+) -> Result<(), AllocError> {
+    let words = format!(in alloc; "on {executors} executors all {count} servers fit:")?;
+    append_help(text, &words)
+}
+
+/// Appends that a server is over the bound even alone.
+fn append_alone(alloc: Global, text: &mut String, server: usize) -> Result<(), AllocError> {
+    let words = format!(in alloc; "server {server} is over the bound even alone")?;
+    append_help(text, &words)
 }
 
 /// Appends a split of all servers over several executors, if there is one. It has as few executors as the first-fit
@@ -125,19 +156,21 @@ fn append_split(
         return Ok(());
     };
     match split(alloc, refused.plan.bound(), &all) {
-        Ok(parts) => {
-            let executors = parts.len();
-            let count = all.len();
-            let words = format!(in alloc; "on {executors} executors all {count} servers fit:")?;
-            append_help(text, &words)?;
-            append_parts(alloc, text, document, &parts)
-        }
-        Err(SplitError::OverBound { server }) => {
-            let words = format!(in alloc; "server {server} is over the bound even alone")?;
-            append_help(text, &words)
-        }
+        Ok(parts) => append_parts(alloc, text, document, &parts),
+        Err(SplitError::OverBound { server }) => append_alone(alloc, text, server),
         Err(SplitError::OutOfMemory) => Err(AllocError),
     }
+}
+
+/// Appends what is wrong: with this server the plan is over its bound.
+fn append_title(text: &mut String, refused: &Refused) -> Result<(), AllocError> {
+    let number = refused.number;
+    let total = refused.total();
+    let bound = refused.bound();
+    write!(
+        text,
+        "error: over the bound: {total} of the time with server {number}, and the bound is {bound}"
+    )
 }
 
 /// Appends the explanation of a server that takes the plan over its bound.
@@ -147,13 +180,8 @@ pub(crate) fn append_over(
     spot: &Spot<'_>,
     refused: &Refused,
 ) -> Result<(), AllocError> {
-    let number = refused.number;
-    let total = refused.total();
-    let bound = refused.bound();
-    writeln!(
-        text,
-        "error: over the bound: {total} of the time with server {number}, and the bound is {bound}\n  --> {spot}"
-    )?;
+    append_title(text, refused)?;
+    append_spot(text, spot)?;
     append_sum(alloc, text, refused)?;
     append_greatest(alloc, text, refused)?;
     append_least(alloc, text, refused)?;

@@ -1,9 +1,10 @@
 //! The line of a value that is not what its key needs, with carets and a remark.
 
-use crate::page::{Marked, append_line};
-use crate::shown::Shown;
-use crate::values::{append_allowed, append_type, period_at};
+use crate::page::{Marked, append_all, append_line};
+use crate::shown::append_shown;
+use crate::values::{append_allowed, append_from, append_type, period_at};
 use cbs_findings::{Key, Spot, Want, nearest_word, server_names, two_numbers};
+use cbs_text::append_pair;
 use std::alloc::{AllocError, Global};
 use std::fmt::Write;
 use toml::Value;
@@ -28,9 +29,9 @@ fn meant<'a>(
 /// Appends the numbers from the least to the greatest.
 fn append_span(text: &mut String, least: u64, greatest: u64) -> Result<(), AllocError> {
     if least == greatest {
-        write!(text, "{least}")
+        append_pair(text, "", least)
     } else {
-        write!(text, "{least} to {greatest}")
+        append_from(text, "", least, greatest)
     }
 }
 
@@ -78,21 +79,20 @@ fn wants_number(want: Want) -> bool {
     )
 }
 
-/// Appends a value after its key. Returns the value's place in the line. If a word is meant, that is the place of the
-/// text between the quotes.
-fn appended<'a>(
-    line: &mut String,
-    key: &str,
-    value: &Value,
-    inside: bool,
-    remark: &'a str,
-) -> Result<Marked<'a>, AllocError> {
-    write!(line, "{key} = ")?;
-    let from = line.chars().count();
-    let shown = Shown(value);
-    write!(line, "{shown}")?;
+/// Returns the line of a key and its value. The only error is out of memory.
+fn line_of(alloc: Global, key: &str, value: &Value) -> Result<String, AllocError> {
+    let mut line = String::new(alloc);
+    append_all(&mut line, &[key, " = "])?;
+    append_shown(&mut line, value)?;
+    Ok(line)
+}
+
+/// Returns the place of the value in the line of a key and its value, with a remark. If a word is meant, that is the
+/// place of the text between the quotes.
+fn marked_value<'a>(key: &str, line: &str, inside: bool, remark: &'a str) -> Marked<'a> {
+    let from = key.chars().count().saturating_add(3);
     let count = line.chars().count().saturating_sub(from);
-    Ok(if inside {
+    if inside {
         Marked {
             from: from.saturating_add(1),
             count: count.saturating_sub(2),
@@ -104,7 +104,7 @@ fn appended<'a>(
             count,
             remark,
         }
-    })
+    }
 }
 
 /// Appends the line of a key and its value, with carets below the value.
@@ -116,9 +116,22 @@ fn append_value(
     inside: bool,
     remark: &str,
 ) -> Result<(), AllocError> {
-    let mut line = String::new(alloc);
-    let marked = appended(&mut line, key, value, inside, remark)?;
-    append_line(text, "  ", &line, marked)
+    let line = line_of(alloc, key, value)?;
+    append_line(text, "  ", &line, marked_value(key, &line, inside, remark))
+}
+
+/// Appends which word may be meant by a value that is out of range, or in short what the value may be.
+fn append_outside_remark(
+    alloc: Global,
+    text: &mut String,
+    want: Want,
+    value: &Value,
+    spot: &Spot<'_>,
+) -> Result<(), AllocError> {
+    match meant(alloc, want, value, spot)? {
+        Some(word) => write!(text, "did you mean {word:?}?"),
+        None => append_short(text, want, value, spot),
+    }
 }
 
 /// Appends the line of a value that is out of range.
@@ -130,10 +143,7 @@ pub(crate) fn append_outside_line(
     spot: &Spot<'_>,
 ) -> Result<(), AllocError> {
     let mut remark = String::new(alloc);
-    match meant(alloc, key.want, value, spot)? {
-        Some(word) => write!(remark, "did you mean {word:?}?")?,
-        None => append_short(&mut remark, key.want, value, spot)?,
-    }
+    append_outside_remark(alloc, &mut remark, key.want, value, spot)?;
     append_value(alloc, text, key.name, value, value.is_str(), &remark)
 }
 
@@ -141,7 +151,7 @@ pub(crate) fn append_outside_line(
 fn append_type_remark(text: &mut String, want: Want, value: &Value) -> Result<(), AllocError> {
     match value {
         Value::String(word) if wants_number(want) => match word.parse::<i64>() {
-            Ok(number) => write!(text, "without the quotes it is the number {number}"),
+            Ok(number) => append_pair(text, "without the quotes it is the number ", number),
             Err(_) => append_type(text, want),
         },
         Value::Integer(number) if matches!(want, Want::Name | Want::ServerName) => {
@@ -181,9 +191,7 @@ pub(crate) fn append_key_line(
     value: &Value,
     remark: &str,
 ) -> Result<(), AllocError> {
-    let mut line = String::new(alloc);
-    let shown = Shown(value);
-    write!(line, "{key} = {shown}")?;
+    let line = line_of(alloc, key, value)?;
     let marked = Marked {
         from: 0,
         count: key.chars().count(),

@@ -1,54 +1,47 @@
 //! Values of a document, as an explanation shows them.
 
-use std::fmt;
+use std::alloc::AllocError;
+use std::fmt::Write;
 use toml::Value;
 
 /// The most entries of an array that are shown.
 const MOST_ENTRIES: usize = 6;
 
-/// A value, as it may be written in a file. Tables, arrays in arrays, and the later entries of a long array are left
-/// out.
-#[derive(Clone, Copy)]
-pub(crate) struct Shown<'a>(pub &'a Value);
-
-/// An entry of an array, as it may be written in a file.
-#[derive(Clone, Copy)]
-struct ShownEntry<'a>(&'a Value);
-
-impl fmt::Display for ShownEntry<'_> {
-    fn fmt<W: fmt::Write>(&self, f: &mut fmt::Formatter<W>) -> fmt::Result {
-        match self.0 {
-            Value::String(text) => {
-                let text = text.as_str();
-                write!(f, "{text:?}")
-            }
-            Value::Integer(number) => write!(f, "{number}"),
-            Value::Float(number) => write!(f, "{number:?}"),
-            Value::Boolean(truth) => write!(f, "{truth}"),
-            Value::Datetime(date) => write!(f, "{date}"),
-            Value::Array(_) => f.write_str("[..]"),
-            Value::Table(_) => f.write_str("{..}"),
+/// Appends an entry of an array, as it may be written in a file.
+fn append_entry(text: &mut String, entry: &Value) -> Result<(), AllocError> {
+    match entry {
+        Value::String(words) => {
+            let words = words.as_str();
+            write!(text, "{words:?}")
         }
+        Value::Integer(number) => write!(text, "{number}"),
+        Value::Float(number) => write!(text, "{number:?}"),
+        Value::Boolean(truth) => text.push_str(if *truth { "true" } else { "false" }),
+        Value::Datetime(date) => write!(text, "{date}"),
+        Value::Array(_) => text.push_str("[..]"),
+        Value::Table(_) => text.push_str("{..}"),
     }
 }
 
-impl fmt::Display for Shown<'_> {
-    fn fmt<W: fmt::Write>(&self, f: &mut fmt::Formatter<W>) -> fmt::Result {
-        let Some(entries) = self.0.as_array() else {
-            let entry = ShownEntry(self.0);
-            return write!(f, "{entry}");
-        };
-        f.write_str("[")?;
-        for (place, entry) in entries.iter().take(MOST_ENTRIES).enumerate() {
-            let separator = if place > 0 { ", " } else { "" };
-            let entry = ShownEntry(entry);
-            write!(f, "{separator}{entry}")?;
+/// Appends an array, as it may be written in a file, without its later entries if it is long.
+fn append_array(text: &mut String, entries: &[Value]) -> Result<(), AllocError> {
+    text.push_str("[")?;
+    for (place, entry) in entries.iter().enumerate() {
+        if place == MOST_ENTRIES {
+            return text.push_str(", ..]");
         }
-        f.write_str(if entries.len() > MOST_ENTRIES {
-            ", ..]"
-        } else {
-            "]"
-        })
+        text.push_str(if place > 0 { ", " } else { "" })?;
+        append_entry(text, entry)?;
+    }
+    text.push_str("]")
+}
+
+/// Appends a value, as it may be written in a file. Tables, arrays in arrays, and the later entries of a long array are
+/// left out.
+pub(crate) fn append_shown(text: &mut String, value: &Value) -> Result<(), AllocError> {
+    match value {
+        Value::Array(entries) => append_array(text, entries),
+        _ => append_entry(text, value),
     }
 }
 
