@@ -6,10 +6,10 @@ use Rattle.std.proofs.lemmas.Bool.{cases_Bool}
 use Rattle.cbs_views.specs.Events.{begun}
 use Rattle.cbs_views.specs.declared.seen.Seen.{Seen}
 use Rattle.cbs_chart.specs.Rows.{last_of, spans_seen, spans_until, step_stretch, throttled_stretch, waiting_stretch}
-use Rattle.cbs_chart.specs.Stretches.{AreApart, Joined, all_of, clipped, joins, joined_with, nothing_joined, with_stretch}
-use Rattle.cbs_chart.specs.declared.stretch.Stretch.{Stretch}
+use Rattle.cbs_stretches.specs.Stretches.{AreApart, Joined, all_of, clipped, joins, joined_with, nothing_joined, with_stretch}
+use Rattle.cbs_stretches.specs.declared.stretch.Stretch.{Stretch}
 use Rattle.cbs_chart.specs.declared.waits.Last.{Last}
-use Rattle.cbs_chart.specs.declared.window.Window.{Window}
+use Rattle.cbs_stretches.specs.declared.window.Window.{Window}
 
 -- the last one may grow
 apart_last : (xs : List Stretch) (q r : Stretch) → r.kind ≡ q.kind → r.from ≡ q.from → AreApart (xs ++ q ∷ []) → AreApart (xs ++ r ∷ [])

@@ -19,12 +19,12 @@ use Rattle.cbs_chart.specs.Deadlines.{deadlines_until}
 use Rattle.cbs_chart.specs.Jobs.{all_jobs}
 use Rattle.cbs_chart.specs.Rendered.{IsRowChart}
 use Rattle.cbs_chart.specs.Rows.{has_job, kind_of, last_of, spans_seen, spans_until, step_stretch, throttled_stretch, waiting_stretch}
-use Rattle.cbs_chart.specs.Stretches.{Joined, all_of, is_covered, same_kind, shows, takes, with_stretch}
+use Rattle.cbs_stretches.specs.Stretches.{Joined, all_of, is_covered, same_kind, shows, takes, with_stretch}
 use Rattle.cbs_chart.specs.declared.chart.Chart.{Chart}
 use Rattle.cbs_chart.specs.declared.chart.ServerChart.{ServerChart}
-use Rattle.cbs_chart.specs.declared.stretch.Kind.TheVariants as kind
+use Rattle.cbs_stretches.specs.declared.stretch.Kind.TheVariants as kind
 use Rattle.cbs_chart.specs.declared.waits.Last.{Last}
-use Rattle.cbs_chart.specs.declared.window.Window.{Window}
+use Rattle.cbs_stretches.specs.declared.window.Window.{Window}
 use Rattle.cbs_chart.proofs.Apart.{apart_at_end}
 use Rattle.cbs_chart.proofs.Covers.{with_covers}
 use Rattle.cbs_chart.proofs.Rows.{AreRowCharts, charts_count, chart_at}

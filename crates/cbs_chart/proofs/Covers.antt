@@ -7,12 +7,12 @@ use Rattle.std.proofs.lemmas.Bool.{cases_Bool}
 use Rattle.std.proofs.lemmas.Bool.Decides.{nat_tests}
 use Rattle.std.proofs.lemmas.List.Folds.{list_any-append, list_any_more}
 use Rattle.cbs_chart.specs.Jobs.{late_stretch}
-use Rattle.cbs_chart.specs.Stretches.{Joined, all_of, clipped, is_covered, joins, joined_with, same_kind, shows, takes, with_stretch}
+use Rattle.cbs_stretches.specs.Stretches.{Joined, all_of, clipped, is_covered, joins, joined_with, same_kind, shows, takes, with_stretch}
 use Rattle.cbs_chart.specs.declared.jobs.ChartJob.{ChartJob}
-use Rattle.cbs_chart.specs.declared.stretch.Kind.{Kind}
-use Rattle.cbs_chart.specs.declared.stretch.Kind.TheVariants as kind
-use Rattle.cbs_chart.specs.declared.stretch.Stretch.{Stretch}
-use Rattle.cbs_chart.specs.declared.window.Window.{Window}
+use Rattle.cbs_stretches.specs.declared.stretch.Kind.{Kind}
+use Rattle.cbs_stretches.specs.declared.stretch.Kind.TheVariants as kind
+use Rattle.cbs_stretches.specs.declared.stretch.Stretch.{Stretch}
+use Rattle.cbs_stretches.specs.declared.window.Window.{Window}
 
 -- a thing of the same kind as one thing is of the same kind as another, if these two are
 same_kinds : (a b k : Kind) → same_kind a b ≡ true → same_kind a k ≡ same_kind b k

@@ -1,5 +1,4 @@
 pub mod Apart
 pub mod Bars
-pub mod Counting
 pub mod Covers
 pub mod Rows

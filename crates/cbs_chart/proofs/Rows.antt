@@ -6,7 +6,7 @@ use Rattle.cbs_rate.specs.Rate.{Rate}
 use Rattle.cbs_chart.specs.Charts.{RowSeen, new_row, row_at}
 use Rattle.cbs_chart.specs.Rendered.{IsRowChart}
 use Rattle.cbs_chart.specs.declared.chart.ServerChart.{ServerChart}
-use Rattle.cbs_chart.specs.declared.window.Window.{Window}
+use Rattle.cbs_stretches.specs.declared.window.Window.{Window}
 
 -- what is found at a place stands there
 pub found : {X : Type 0} (xs : List X) (i : ℕ) (x d : X) → Some x ≡ slice_get xs i → (i < length xs) × (get_or xs i d ≡ x)

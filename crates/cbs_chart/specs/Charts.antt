@@ -15,12 +15,12 @@ use Rattle.cbs_chart.specs.Deadlines.{deadlines_after, deadlines_until, deadline
 use Rattle.cbs_chart.specs.Jobs.{JobsSeen, jobs_after, jobs_seen, no_jobs, all_jobs, late_stretch}
 use Rattle.cbs_chart.specs.Marks.{arrivals_after, arrivals_seen, completions_after, completions_seen, refusals_after, refusals_seen}
 use Rattle.cbs_chart.specs.Rows.{idle_after, last_of, last_seen, refused_after, refused_seen, spans_after, spans_until, spans_seen}
-use Rattle.cbs_chart.specs.Stretches.{AreApart, Joined, all_of, is_covered, nothing_joined, takes}
+use Rattle.cbs_stretches.specs.Stretches.{AreApart, Joined, all_of, is_covered, nothing_joined, takes}
 use Rattle.cbs_chart.specs.declared.chart.Chart.{Chart}
 use Rattle.cbs_chart.specs.declared.chart.ServerChart.{ServerChart}
-use Rattle.cbs_chart.specs.declared.stretch.Kind.TheVariants as kind
+use Rattle.cbs_stretches.specs.declared.stretch.Kind.TheVariants as kind
 use Rattle.cbs_chart.specs.declared.waits.Last.{Last}
-use Rattle.cbs_chart.specs.declared.window.Window.{Window}
+use Rattle.cbs_stretches.specs.declared.window.Window.{Window}
 
 -- what is collected of one server
 pub record RowSeen : Type 0 where

@@ -10,7 +10,7 @@ use Rattle.cbs_chart.specs.Deadlines.{is_renewed}
 use Rattle.cbs_chart.specs.Rows.{last_of}
 use Rattle.cbs_chart.specs.declared.course.Corner.{Corner}
 use Rattle.cbs_chart.specs.declared.waits.Last.{Last}
-use Rattle.cbs_chart.specs.declared.window.Window.{Window}
+use Rattle.cbs_stretches.specs.declared.window.Window.{Window}
 
 -- the budget at the first tick of the window, and the corners after it. The budget goes in straight lines between them
 pub record CourseSeen : Type 0 where

@@ -6,7 +6,7 @@ use Rattle.cbs_views.specs.Events.{begun}
 use Rattle.cbs_views.specs.declared.seen.Seen.{Seen}
 use Rattle.cbs_chart.specs.Rows.{last_of}
 use Rattle.cbs_chart.specs.declared.waits.Last.{Last}
-use Rattle.cbs_chart.specs.declared.window.Window.{Window}
+use Rattle.cbs_stretches.specs.declared.window.Window.{Window}
 
 -- a throttled server that makes no step until a tick is replenished at or before that tick
 abbrev pub is_renewed : Last → ℕ → Bool

@@ -8,9 +8,9 @@ use Rattle.cbs_views.specs.declared.seen.Event.{Event}
 use Rattle.cbs_views.specs.declared.seen.Event.TheVariants as event
 use Rattle.cbs_views.specs.declared.seen.Seen.{Seen}
 use Rattle.cbs_chart.specs.declared.jobs.ChartJob.{ChartJob}
-use Rattle.cbs_chart.specs.declared.stretch.Kind.TheVariants.{Late}
-use Rattle.cbs_chart.specs.declared.stretch.Stretch.{Stretch}
-use Rattle.cbs_chart.specs.declared.window.Window.{Window}
+use Rattle.cbs_stretches.specs.declared.stretch.Kind.TheVariants.{Late}
+use Rattle.cbs_stretches.specs.declared.stretch.Stretch.{Stretch}
+use Rattle.cbs_stretches.specs.declared.window.Window.{Window}
 
 -- the job that was accepted
 abbrev pub job_of : Arrival → ℕ → Option ℕ → ChartJob

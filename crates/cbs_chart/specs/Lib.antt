@@ -1,10 +1,7 @@
 pub mod Charts
-pub mod Counts
 pub mod Courses
 pub mod Deadlines
 pub mod Jobs
 pub mod Marks
 pub mod Rendered
 pub mod Rows
-pub mod Stretches
-pub mod Windows

@@ -6,7 +6,7 @@ use Rattle.cbs_steps.specs.declared.reply.Ran.TheVariants as ran
 use Rattle.cbs_views.specs.declared.seen.Event.{Event}
 use Rattle.cbs_views.specs.declared.seen.Event.TheVariants as event
 use Rattle.cbs_views.specs.declared.seen.Seen.{Seen}
-use Rattle.cbs_chart.specs.declared.window.Window.{Window}
+use Rattle.cbs_stretches.specs.declared.window.Window.{Window}
 
 -- how many releases of a server were refused in the window, after one more step
 abbrev pub refusals_after : Window → Event → ℕ → ℕ

@@ -6,12 +6,12 @@ use Rattle.cbs_chart.specs.Courses.{course_until}
 use Rattle.cbs_chart.specs.Deadlines.{deadlines_until}
 use Rattle.cbs_chart.specs.Jobs.{all_jobs, late_stretch}
 use Rattle.cbs_chart.specs.Rows.{spans_until}
-use Rattle.cbs_chart.specs.Stretches.{all_of, is_covered, takes}
+use Rattle.cbs_stretches.specs.Stretches.{all_of, is_covered, takes}
 use Rattle.cbs_chart.specs.declared.chart.ServerChart.{ServerChart}
 use Rattle.cbs_chart.specs.declared.jobs.ChartJob.{ChartJob}
-use Rattle.cbs_chart.specs.declared.stretch.Kind.TheVariants as kind
-use Rattle.cbs_chart.specs.declared.stretch.Stretch.{Stretch}
-use Rattle.cbs_chart.specs.declared.window.Window.{Window}
+use Rattle.cbs_stretches.specs.declared.stretch.Kind.TheVariants as kind
+use Rattle.cbs_stretches.specs.declared.stretch.Stretch.{Stretch}
+use Rattle.cbs_stretches.specs.declared.window.Window.{Window}
 
 -- in a run that ends at this tick, the stretches cover a tick of the window exactly if a job is late in it
 abbrev pub LateCovered : Window → ℕ → List ChartJob → List Stretch → Type 0

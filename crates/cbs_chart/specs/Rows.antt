@@ -7,12 +7,12 @@ use Rattle.cbs_views.specs.Events.{begun}
 use Rattle.cbs_views.specs.declared.seen.Event.{Event}
 use Rattle.cbs_views.specs.declared.seen.Event.TheVariants as event
 use Rattle.cbs_views.specs.declared.seen.Seen.{Seen}
-use Rattle.cbs_chart.specs.Stretches.{Joined, nothing_joined, with_stretch}
-use Rattle.cbs_chart.specs.declared.stretch.Kind.{Kind}
-use Rattle.cbs_chart.specs.declared.stretch.Kind.TheVariants as kind
-use Rattle.cbs_chart.specs.declared.stretch.Stretch.{Stretch}
+use Rattle.cbs_stretches.specs.Stretches.{Joined, nothing_joined, with_stretch}
+use Rattle.cbs_stretches.specs.declared.stretch.Kind.{Kind}
+use Rattle.cbs_stretches.specs.declared.stretch.Kind.TheVariants as kind
+use Rattle.cbs_stretches.specs.declared.stretch.Stretch.{Stretch}
 use Rattle.cbs_chart.specs.declared.waits.Last.{Last}
-use Rattle.cbs_chart.specs.declared.window.Window.{Window}
+use Rattle.cbs_stretches.specs.declared.window.Window.{Window}
 
 -- the view of a server after a step, with the clock, if there is a view
 abbrev pub last_seen : ℕ → Option ServerView → Option Last

@@ -6,9 +6,7 @@ ghost use Rattle.cbs_chart.specs.Rendered.{IsRowChart, LateCovered};
 use crate::course::Corner;
 use crate::jobs::ChartJob;
 use crate::row::Row;
-use crate::stretch::Stretch;
-use crate::stretches::Stretches;
-use crate::window::Window;
+use cbs_stretches::{Stretch, Stretches, Window};
 use std::alloc::{AllocError, Global};
 
 /// What a window shows of one server.

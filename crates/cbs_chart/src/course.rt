@@ -4,8 +4,8 @@ ghost use Rattle.std.specs.Prelude.{◌≡◌, OnOk};
 ghost use Rattle.cbs_chart.specs.Courses.{budget_at, course_after, course_until, fallen, no_course, spent, with_corner};
 
 use crate::waits::Last;
-use crate::window::Window;
 use cbs_rate::Reservation;
+use cbs_stretches::Window;
 use cbs_views::{Event, Seen};
 use std::alloc::{AllocError, Global};
 use std::marker::Model;

@@ -4,8 +4,8 @@ ghost use Rattle.std.specs.Prelude.{◌≡◌, ◌++◌, ◌∷◌, ◌≤◌, O
 ghost use Rattle.cbs_chart.specs.Deadlines.{deadline_at, deadlines_after, deadlines_until, is_renewed, renewed_deadline, with_deadline};
 
 use crate::waits::Last;
-use crate::window::Window;
 use cbs_rate::Reservation;
+use cbs_stretches::Window;
 use cbs_views::Seen;
 use std::alloc::AllocError;
 

@@ -4,9 +4,8 @@ ghost use Rattle.std.specs.Prelude.{◌≡◌, ◌++◌, ◌∷◌, [], IfOk, On
 ghost use Rattle.cbs_views.specs.declared.seen.Event.{Event};
 ghost use Rattle.cbs_chart.specs.Jobs.{all_jobs, is_shown, job_numbered, job_of, jobs_after, jobs_without, late_stretch, no_jobs};
 
-use crate::stretch::{Kind, Stretch};
-use crate::window::Window;
 use cbs_steps::Ran;
+use cbs_stretches::{Kind, Stretch, Window};
 use cbs_views::{Arrival, Event};
 use std::alloc::{AllocError, Global};
 use std::collections::VecDeque;

@@ -2,24 +2,19 @@
 #![tactic(auto)]
 
 mod chart;
-mod counts;
 mod course;
 mod deadlines;
 mod jobs;
 mod marks;
 mod picture;
 mod row;
-mod stretch;
-mod stretches;
+mod steps;
 mod view;
 mod waits;
-mod window;
 
+pub use cbs_stretches::{Counts, Kind, MOST_TICKS, Stretch, Window, WindowError};
 pub use chart::{Chart, ServerChart};
-pub use counts::Counts;
 pub use course::Corner;
 pub use jobs::{ChartJob, job_numbered};
 pub use picture::{Drawn, Picture};
-pub use stretch::{Kind, Stretch};
 pub use view::ChartView;
-pub use window::{MOST_TICKS, Window, WindowError};

@@ -3,8 +3,8 @@
 ghost use Rattle.std.specs.Prelude.{◌≡◌, OnOk};
 ghost use Rattle.cbs_chart.specs.Marks.{arrivals_after, completions_after, refusals_after};
 
-use crate::window::Window;
 use cbs_steps::Ran;
+use cbs_stretches::Window;
 use cbs_views::{Event, Seen};
 use std::alloc::AllocError;
 

@@ -1,10 +1,9 @@
 //! The content of a picture.
 
 use crate::chart::ServerChart;
-use crate::stretch::Stretch;
-use crate::window::Window;
 use cbs_rate::{Bandwidth, Reservation};
 use cbs_rules::Mode;
+use cbs_stretches::{Stretch, Window};
 
 /// A server that is drawn.
 #[derive(Drop)]

@@ -8,11 +8,10 @@ use crate::course::Course;
 use crate::deadlines::{add_deadlines, add_renewed};
 use crate::jobs::Jobs;
 use crate::marks::{add_arrival, add_completion, refusals_after};
-use crate::stretch::{Kind, Stretch};
-use crate::stretches::Stretches;
+use crate::steps::stretch_of;
 use crate::waits::Last;
-use crate::window::Window;
 use cbs_rate::Reservation;
+use cbs_stretches::{Kind, Stretch, Stretches, Window};
 use cbs_views::{Event, Seen};
 use std::alloc::{AllocError, Global};
 use std::marker::Model;
@@ -119,7 +118,7 @@ impl Row {
     {
         let last = self.last;
         add_spans(window, last, seen.begun(), &mut self.spans)?;
-        self.spans.add(window, Stretch::of(seen))?;
+        self.spans.add(window, stretch_of(seen))?;
         add_refused(window, &seen.event, &mut self.refused)?;
         self.refusals = refusals_after(window, &seen.event, self.refusals);
         add_arrival(window, &seen.event, &mut self.arrivals)?;

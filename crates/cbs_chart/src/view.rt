@@ -7,10 +7,9 @@ ghost use Rattle.cbs_chart.specs.Charts.{IsChart, Kept, kept_seen, kept_with, ne
 
 use crate::chart::Chart;
 use crate::row::Row;
-use crate::stretch::Stretch;
-use crate::stretches::Stretches;
-use crate::window::Window;
+use crate::steps::stretch_of;
 use cbs_rate::Plan;
+use cbs_stretches::{Stretch, Stretches, Window};
 use cbs_views::{Seen, View};
 use std::alloc::{AllocError, Global};
 use std::marker::Model;
@@ -56,7 +55,7 @@ impl ChartView {
         ensures { OnOk result (self.new ≡ kept_with server seen.now self.old) }
     {
         let Some(server) = server else {
-            return self.idle.add(self.window, Stretch::of(seen));
+            return self.idle.add(self.window, stretch_of(seen));
         };
         let index = usize::from(server);
         if index < self.rows.len() {

@@ -3,8 +3,8 @@
 ghost use Rattle.std.specs.Prelude.{◌≡◌};
 ghost use Rattle.cbs_chart.specs.Rows.{has_job, last_seen, throttled_stretch, throttled_until, waiting_stretch};
 
-use crate::stretch::{Kind, Stretch};
 use cbs_steps::ServerView;
+use cbs_stretches::{Kind, Stretch};
 
 /// The view of a server after its last step.
 #[derive(Clone, Copy, Debug, PartialEq, Eq)]

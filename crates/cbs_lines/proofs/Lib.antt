@@ -1,4 +1,3 @@
-pub mod WrittenText
 pub mod Writers
 pub mod StepTexts
 pub mod LoadLineSteps

@@ -6,9 +6,9 @@ use Rattle.cbs_views.specs.declared.seen.Seen.{Seen}
 use Rattle.cbs_lines.specs.LoadLines.{lines_of, seen_line, WritesSomeLines}
 use Rattle.cbs_lines.specs.WritingLines.{HasWritten, FailedToWrite}
 use Rattle.cbs_lines.specs.Writers.{Writer, Writes, FailsToWrite}
-use Rattle.cbs_lines.specs.Writes.{AppendsFront, AppendsAllBut}
+use Rattle.cbs_bytes.specs.Writes.{AppendsFront, AppendsAllBut}
 use Rattle.cbs_lines.specs.declared.load_lines.LoadLines.{LoadLines}
-use Rattle.cbs_lines.proofs.WrittenText.{Appends-nothing, Appends-then, all_but_then, all_waits, front_more, part_ends, waits_too}
+use Rattle.cbs_bytes.proofs.WrittenText.{Appends-nothing, Appends-then, all_but_then, all_waits, front_more, part_ends, waits_too}
 
 -- before the first step nothing is written
 pub begins : (lines : LoadLines) (w : Writer) → lines.write_failed ≡ false → lines.pending ≡ [] → HasWritten lines w w []

@@ -13,11 +13,11 @@ use Rattle.cbs_steps.specs.declared.step.Step.{Step}
 use Rattle.cbs_steps.specs.Continuations.{◌⊕⊕◌}
 use Rattle.cbs_lines.specs.StepTexts.{StepText, call_of, text_after, texts_after, WritesSteps, HasMade, StopsAtStep}
 use Rattle.cbs_lines.specs.Writers.{Writer, Leaves, StopsWriting}
-use Rattle.cbs_lines.specs.Writes.{AppendsFront, AppendsAllBut}
+use Rattle.cbs_bytes.specs.Writes.{AppendsFront, AppendsAllBut}
 use Rattle.cbs_lines.specs.declared.call.Call.{Call}
 use Rattle.cbs_lines.specs.declared.run_error.RunError.{RunError}
 use Rattle.cbs_lines.specs.declared.run_error.RunError.TheVariants.{OutOfMemory, WriteFault, ClockEnd, Stalled}
-use Rattle.cbs_lines.proofs.WrittenText.{Appends-nothing, all_waits, waits_too, all_but_then, front_more, part_ends, part_done}
+use Rattle.cbs_bytes.proofs.WrittenText.{Appends-nothing, all_waits, waits_too, all_but_then, front_more, part_ends, part_done}
 
 -- what always holds also holds for a result
 pub on_ok_always : {T E : Type 0} {P : Type 0} (r : Result T E) → P → OnOk r P

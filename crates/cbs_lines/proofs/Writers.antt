@@ -2,7 +2,7 @@
 use Rattle.std.proofs.Common.{◌≡◌, ◌∙◌, ◌+◌, ap, sym, ℕ, List, [], ◌++◌, append_assoc, append-nil, Option, Some, None, Result, Ok, Err, refl, inl, inr}
 use Rattle.std.specs.Prelude.{OnOk, OnErr}
 use Rattle.std.specs.Io.KnownBytes.{Keeps}
-use Rattle.cbs_lines.proofs.WrittenText.{Appends-then}
+use Rattle.cbs_bytes.proofs.WrittenText.{Appends-then}
 use Rattle.cbs_lines.specs.Writers.{Writer, IsUntouched, Writes, FailsToWrite, TriesToWrite}
 
 -- a text was written, or a write failed

@@ -1,4 +1,3 @@
-pub mod Counted
 pub mod FileLaws
 pub mod Lines
 pub mod LoadLines
@@ -7,4 +6,3 @@ pub mod Runs
 pub mod StepTexts
 pub mod Traces
 pub mod Writers
-pub mod Writes

@@ -12,7 +12,7 @@ use Rattle.cbs_steps.specs.Continuations.{◌⊕⊕◌}
 use Rattle.cbs_file.specs.TaskFiles.{File}
 use Rattle.cbs_planning.specs.Tasks.{start_of_tasks}
 use Rattle.cbs_lines.specs.Writers.{Writer, Writes}
-use Rattle.cbs_lines.specs.Writes.{AppendsFront}
+use Rattle.cbs_bytes.specs.Writes.{AppendsFront}
 use Rattle.cbs_lines.specs.declared.call.Call.{Call}
 use Rattle.cbs_lines.specs.declared.call.Call.TheVariants.{Submit, Run, Advance, Close, Charge}
 

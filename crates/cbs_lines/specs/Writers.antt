@@ -1,7 +1,7 @@
 -- What a call leaves on the writer that it was lent.
 use Rattle.std.specs.Prelude.{◌≡◌, ◌⊎◌, ℕ, ◌+◌, List, Option, Result, Ok, Err}
 use Rattle.std.specs.Io.KnownBytes.{Appends, Keeps}
-use Rattle.cbs_lines.specs.Writes.{AppendsFront}
+use Rattle.cbs_bytes.specs.Writes.{AppendsFront}
 use Rattle.cbs_lines.specs.declared.run_error.RunError.{RunError}
 use Rattle.cbs_lines.specs.declared.run_error.RunError.TheVariants.{OutOfMemory, WriteFault, ClockEnd, Stalled}
 

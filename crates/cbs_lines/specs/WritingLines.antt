@@ -3,7 +3,7 @@ use Rattle.std.specs.Prelude.{◌≡◌, ◌⊎◌, true, false, List, ◌∷◌
 use Rattle.cbs_views.specs.declared.seen.Seen.{Seen}
 use Rattle.cbs_lines.specs.LoadLines.{lines_of}
 use Rattle.cbs_lines.specs.Writers.{Writer, FailsToWrite}
-use Rattle.cbs_lines.specs.Writes.{AppendsAllBut}
+use Rattle.cbs_bytes.specs.Writes.{AppendsAllBut}
 use Rattle.cbs_lines.specs.declared.load_lines.LoadLines.{LoadLines}
 
 -- the lines of the steps were written, except for the text that waits, and no call failed

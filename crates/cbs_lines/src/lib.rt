@@ -4,13 +4,10 @@
 mod call;
 mod line;
 mod load_lines;
-mod output;
-mod pending;
 mod run_error;
 mod steps;
 mod trace;
 
 pub use load_lines::write_load_lines;
-pub use output::{ByteOutput, ToWrite, write_pieces, write_text};
 pub use run_error::RunError;
 pub use trace::replay;

@@ -8,9 +8,8 @@ ghost use Rattle.cbs_lines.specs.Writers.{Leaves, StopsWriting};
 
 use crate::call::Call;
 use crate::line::{append_error, append_ran, append_state};
-use crate::output::ByteOutput;
-use crate::pending::Pending;
 use crate::run_error::RunError;
+use cbs_bytes::{ByteOutput, Pending};
 use cbs_core::{CoreError, ServerView};
 use cbs_load::Load;
 use cbs_planning::show_load;

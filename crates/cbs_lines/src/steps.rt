@@ -11,9 +11,8 @@ ghost use Rattle.cbs_planning.specs.Tasks.{start_of_tasks};
 ghost use Rattle.cbs_lines.specs.StepTexts.{StepText, text_after, texts_after, texts_of, WritesSteps, StopsAtStep};
 
 use crate::call::{Call, call_of};
-use crate::output::ByteOutput;
-use crate::pending::Pending;
 use crate::run_error::RunError;
+use cbs_bytes::{ByteOutput, Pending};
 use cbs_core::{Core, CoreError, Reply, Step};
 use cbs_file::{Parts, TaskFile};
 use cbs_job::FileJob;

@@ -10,9 +10,9 @@ ghost use Rattle.cbs_lines.specs.Traces.{shown, line_of, trace, TraceStops};
 
 use crate::call::Call;
 use crate::line::{shown_server, write_line};
-use crate::output::ByteOutput;
 use crate::run_error::RunError;
 use crate::steps::{StepView, write_file_steps};
+use cbs_bytes::ByteOutput;
 use cbs_core::{Core, Reply, ServerView};
 use cbs_file::TaskFile;
 use cbs_job::FileJob;

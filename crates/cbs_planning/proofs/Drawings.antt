@@ -6,7 +6,7 @@ use Rattle.cbs_chart.proofs.Rows.{found}
 use Rattle.cbs_chart.specs.Charts.{Kept, IsChart, kept_seen, new_kept}
 use Rattle.cbs_chart.proofs.Bars.{rows_seen}
 use Rattle.cbs_chart.specs.declared.chart.Chart.{Chart}
-use Rattle.cbs_chart.specs.declared.window.Window.{Window}
+use Rattle.cbs_stretches.specs.declared.window.Window.{Window}
 use Rattle.cbs_rate.specs.Rate.{Rate}
 use Rattle.cbs_views.specs.declared.seen.Seen.{Seen}
 

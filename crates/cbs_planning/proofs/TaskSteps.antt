@@ -5,7 +5,7 @@ use Rattle.std.specs.List.{range_with_len}
 use Rattle.cbs_chart.specs.Charts.{IsChart}
 use Rattle.cbs_chart.specs.declared.chart.Chart.{Chart}
 use Rattle.cbs_chart.specs.declared.picture.Picture.{Picture}
-use Rattle.cbs_chart.specs.declared.window.Window.{Window}
+use Rattle.cbs_stretches.specs.declared.window.Window.{Window}
 use Rattle.cbs_file.specs.TaskFiles.{File}
 use Rattle.cbs_job.specs.declared.file.FileJob.{FileJob}
 use Rattle.cbs_rate.specs.Plan.{Planned}

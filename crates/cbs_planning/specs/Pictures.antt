@@ -1,10 +1,10 @@
 -- The pictures of a load and of a task file.
-use Rattle.std.specs.Prelude.{◌≡◌, ℕ, ◌≤◌, min, List, length, map, sum_by, string_bytes, Result, Ok, Err}
+use Rattle.std.specs.Prelude.{◌≡◌, ℕ, ◌≤◌, List, length, map, sum_by, string_bytes}
 use Rattle.std.specs.List.{range_with_len}
 use Rattle.cbs_chart.specs.Charts.{IsChart}
 use Rattle.cbs_chart.specs.declared.chart.Chart.{Chart}
 use Rattle.cbs_chart.specs.declared.picture.Picture.{Picture}
-use Rattle.cbs_chart.specs.declared.window.Window.{Window}
+use Rattle.cbs_stretches.specs.declared.window.Window.{Window}
 use Rattle.cbs_file.specs.TaskFiles.{File}
 use Rattle.cbs_load.specs.Loads.{LoadFile}
 use Rattle.cbs_rate.specs.Plan.{Planned, common_multiple, share}
@@ -12,13 +12,6 @@ use Rattle.cbs_rules.specs.declared.mode.Mode.{Mode}
 use Rattle.cbs_views.specs.declared.seen.Seen.{Seen}
 use Rattle.cbs_planning.specs.Loads.{seen_in}
 use Rattle.cbs_planning.specs.Tasks.{clock_of_tasks, name_of, seen_in_tasks}
-use Rattle.cbs_planning.specs.declared.shown.NothingShown.{NothingShown}
-
--- the rule of the window. Of the ticks that are asked for, a run shows those before its end. If it has none of them,
--- the error names the first one and the end
-abbrev pub AnswersShown : Window → ℕ → Result Window NothingShown → Type 0
-AnswersShown asked end (Ok w) = (w.from ≡ asked.from) × (w.to ≡ min asked.to end)
-AnswersShown asked end (Err e) = (end ≤ asked.from) × (e ≡ record { from = asked.from; end = end })
 
 -- a picture of a chart, with this name for its file, and with servers of these names, modes and plan. It has the
 -- chart's window, end and idle ticks, and shows of each server what the chart shows

@@ -1,14 +1,14 @@
 -- What a command that draws leaves, by what its parts do.
 use Rattle.std.proofs.Common.{◌≡◌, List, ℕ, ap, Result, Ok, Err}
 use Rattle.cbs_chart.specs.declared.picture.Picture.{Picture}
-use Rattle.cbs_chart.specs.declared.window.Window.{Window}
+use Rattle.cbs_stretches.specs.declared.window.Window.{Window}
 use Rattle.cbs_file.specs.Spelling.{file}
 use Rattle.cbs_file.specs.TaskFiles.{File}
 use Rattle.cbs_lines.specs.Writers.{Writer, IsUntouched, TriesToWrite}
 use Rattle.cbs_lines.specs.declared.run_error.RunError.{RunError}
 use Rattle.cbs_lines.specs.declared.run_error.RunError.TheVariants.{OutOfMemory, WriteFault, ClockEnd, Stalled}
 use Rattle.cbs_planning.specs.Tasks.{clock_of_tasks}
-use Rattle.cbs_planning.specs.declared.shown.NothingShown.{NothingShown}
+use Rattle.cbs_stretches.specs.declared.shown.NothingShown.{NothingShown}
 use Rattle.cbs_tables.specs.declared.fault.FileFault.{FileFault}
 use Rattle.cbs_words.specs.declared.actions.Drawing.{Drawing}
 use Rattle.cbs_run.specs.Pictured.{IsDrawn, nothing_shown_line, Draws, EndsDrawing, IsDrawingOf, TellsUndrawn, printed, nothing_shown}

@@ -1,10 +1,10 @@
 -- The lines of faults.
 use Rattle.std.specs.Prelude.{ℕ, List, ◌++◌, codes, decimal}
 use Rattle.cbs_tables.specs.Faults.{file_kind_number, file_kind_name, place_text}
-use Rattle.cbs_run.specs.Reads.{read_error_number, read_error_name}
+use Rattle.cbs_bytes.specs.Reads.{read_error_number, read_error_name}
 use Rattle.cbs_lines.specs.Runs.{run_error_number, run_error_name}
 use Rattle.cbs_tables.specs.declared.fault.FileFault.{FileFault}
-use Rattle.cbs_run.specs.declared.input.ReadError.{ReadError}
+use Rattle.cbs_bytes.specs.declared.input.ReadError.{ReadError}
 use Rattle.cbs_lines.specs.declared.run_error.RunError.{RunError}
 
 -- the line of a read fault: its number and its name

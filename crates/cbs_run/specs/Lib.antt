@@ -3,7 +3,6 @@ pub mod FaultLines
 pub mod JobsByServer
 pub mod Pictured
 pub mod Printing
-pub mod Reads
 pub mod Reported
 pub mod ResultLines
 pub mod ServingStops

@@ -1,11 +1,12 @@
 -- The pictures that are drawn of loads and of task files.
 use Rattle.std.specs.Prelude.{◌≡◌, ◌⊎◌, ℕ, ◌≤◌, List, ◌++◌, codes, decimal, Result, Ok, Err}
 use Rattle.cbs_chart.specs.declared.picture.Picture.{Picture}
-use Rattle.cbs_chart.specs.declared.window.Window.{Window}
+use Rattle.cbs_stretches.specs.declared.window.Window.{Window}
 use Rattle.cbs_file.specs.TaskFiles.{File}
 use Rattle.cbs_lines.specs.Writers.{Writer, IsUntouched, Writes, TriesToWrite}
 use Rattle.cbs_load.specs.Loads.{LoadFile}
-use Rattle.cbs_planning.specs.Pictures.{AnswersShown, IsPictureOf, IsTaskPicture}
+use Rattle.cbs_stretches.specs.Windows.{AnswersShown}
+use Rattle.cbs_planning.specs.Pictures.{IsPictureOf, IsTaskPicture}
 use Rattle.cbs_planning.specs.Tasks.{clock_of_tasks}
 use Rattle.cbs_svg.specs.Pictures.{svg_text}
 use Rattle.cbs_timeline.specs.Timelines.{timeline_text}

@@ -11,9 +11,10 @@ use crate::explained::write_explained;
 use crate::fault_lines::write_run_fault;
 use crate::reading::{load_file, task_file};
 use crate::run::{BAD_FILE, DONE, RUN_FAULT};
+use cbs_bytes::{ByteOutput, write_text};
 use cbs_check::{check_load, check_plan};
 use cbs_file::{FileFault, TaskFile, is_load_within};
-use cbs_lines::{ByteOutput, RunError, write_text};
+use cbs_lines::RunError;
 use cbs_load::Load;
 use std::alloc::{AllocError, Global};
 

@@ -7,9 +7,9 @@ ghost use Rattle.cbs_run.specs.Printing.{Explains};
 ghost use Rattle.cbs_lines.specs.Writers.{TriesToWrite};
 
 use crate::fault_lines::write_file_fault;
+use cbs_bytes::{ByteOutput, write_pieces};
 use cbs_explain::explain;
 use cbs_file::{FileFault, FileKind, wants_within};
-use cbs_lines::{ByteOutput, write_pieces};
 use std::alloc::Global;
 
 /// Writes the line of a file's fault, then an empty line and an explanation of the fault. To explain a fault, the file is

@@ -3,11 +3,11 @@
 ghost use Rattle.std.specs.Prelude.{◌≡◌, ◌+◌, ◌-◌, ◌<◌, ◌^◌, OnOk, OnErr};
 ghost use Rattle.std.specs.Io.KnownBytes.{Appends};
 ghost use Rattle.cbs_run.specs.FaultLines.{read_line, file_line, run_line};
-ghost use Rattle.cbs_lines.specs.Writes.{AppendsFront};
+ghost use Rattle.cbs_bytes.specs.Writes.{AppendsFront};
 
-use crate::input::ReadError;
+use cbs_bytes::{ByteOutput, ReadError, write_pieces};
 use cbs_file::{FileFault, Place};
-use cbs_lines::{ByteOutput, RunError, write_pieces};
+use cbs_lines::RunError;
 use itoa::Buffer;
 use std::io;
 

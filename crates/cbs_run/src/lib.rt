@@ -6,7 +6,6 @@ mod check;
 mod environment;
 mod explained;
 mod fault_lines;
-mod input;
 mod jobs_by_server;
 mod pictures;
 mod reading;
@@ -16,13 +15,16 @@ mod run;
 mod serve;
 mod simulate;
 
-pub use cbs_lines::{ByteOutput, RunError, ToWrite, replay, write_pieces, write_text};
+pub use cbs_bytes::{
+    ByteInput, ByteOutput, FromRead, MAX_BYTES, ReadError, ToWrite, read_all, write_pieces,
+    write_text,
+};
+pub use cbs_lines::{RunError, replay};
 pub use cbs_planning::{NoProgress, Progress};
 pub use cbs_words::{Action, Asked, Drawing, Form, Verb, Window, WordsFault, read_words};
 pub use check::check_bytes_within;
 pub use environment::{MEMORY_VARIABLE, memory_bound};
 pub use fault_lines::{write_file_fault, write_read_fault, write_run_fault};
-pub use input::{ByteInput, FromRead, MAX_BYTES, ReadError, read_all};
 pub use pictures::{draw_load_within, draw_tasks_within};
 pub use report::report_bytes_within;
 pub use run::{BAD_FILE, DONE, RUN_FAULT, WRONG_WORDS, run_bytes, run_bytes_within};

@@ -17,10 +17,11 @@ ghost use Rattle.cbs_lines.specs.Writers.{Leaves};
 
 use crate::jobs_by_server::jobs_by_server;
 use crate::result_lines::result_text;
+use cbs_bytes::{ByteOutput, write_text};
 use cbs_file::{Parts, TaskFile};
 use cbs_house::{Feed, House, HouseError, OpenGate, open_feeds, serve};
 use cbs_job::FileJob;
-use cbs_lines::{ByteOutput, RunError, write_text};
+use cbs_lines::RunError;
 use std::alloc::Global;
 use std::thread::Threads;
 use std::time::Clock;

@@ -1,9 +1,9 @@
 -- The places of ticks.
 use Rattle.std.specs.Prelude.{ℕ, ◌+◌, ◌-◌, ◌*◌, ◌/◌, ◌<◌, ◌≤◌, max, min}
 use Rattle.std.specs.Int.{div_ceil}
-use Rattle.cbs_chart.specs.Counts.{told}
-use Rattle.cbs_chart.specs.Windows.{ticks_of}
-use Rattle.cbs_chart.specs.declared.window.Window.{Window}
+use Rattle.cbs_stretches.specs.Counts.{told}
+use Rattle.cbs_stretches.specs.Windows.{ticks_of}
+use Rattle.cbs_stretches.specs.declared.window.Window.{Window}
 
 -- an axis: its left edge, the first tick, the number of ticks, the ticks of a cell, the number of cells, and the width
 -- of a cell

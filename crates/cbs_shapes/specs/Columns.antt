@@ -2,9 +2,9 @@
 use Rattle.std.specs.Prelude.{ℕ, ◌+◌, ◌-◌, ◌*◌, ◌/◌, min, max, eqb, if◌then◌else◌, List, [], ◌++◌, codes}
 use Rattle.std.specs.Prelude.{decimal, flat_map, get_or, length, map, slice_get, unwrap_or}
 use Rattle.std.specs.List.{range_with_len}
-use Rattle.cbs_chart.specs.Counts.{counts_of}
-use Rattle.cbs_chart.specs.declared.counts.Counts.{Counts}
-use Rattle.cbs_chart.specs.declared.stretch.Stretch.{Stretch}
+use Rattle.cbs_stretches.specs.Counts.{counts_of}
+use Rattle.cbs_stretches.specs.declared.counts.Counts.{Counts}
+use Rattle.cbs_stretches.specs.declared.stretch.Stretch.{Stretch}
 use Rattle.cbs_shapes.specs.Axes.{AxisSeen, right_of, tick_of_cell, x_of_cell}
 use Rattle.cbs_shapes.specs.declared.columns.Layer.{Layer}
 use Rattle.cbs_shapes.specs.declared.columns.Layer.TheVariants as layer

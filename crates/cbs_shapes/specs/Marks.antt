@@ -2,7 +2,7 @@
 use Rattle.std.specs.Prelude.{ℕ, ◌+◌, ◌-◌, ◌*◌, ◌/◌, min, max, if◌then◌else◌, List, [], ◌++◌, codes, decimal, flat_map}
 use Rattle.std.specs.List.{range_with_len}
 use Rattle.cbs_chart.specs.declared.course.Corner.{Corner}
-use Rattle.cbs_chart.specs.declared.stretch.Stretch.{Stretch}
+use Rattle.cbs_stretches.specs.declared.stretch.Stretch.{Stretch}
 use Rattle.cbs_shapes.specs.Axes.{AxisSeen, right_of, x_at}
 use Rattle.cbs_shapes.specs.Layouts.{LayoutSeen}
 use Rattle.cbs_shapes.specs.Shapes.{arrow_down_text, arrow_up_text, cross_text, label_text, lines_text, upright_text}

@@ -1,6 +1,6 @@
 -- The elements of a picture, and their shapes.
 use Rattle.std.specs.Prelude.{ℕ, ◌+◌, ◌-◌, eqb, if◌then◌else◌, List, [], ◌++◌, codes, decimal, length}
-use Rattle.cbs_chart.specs.declared.stretch.Stretch.{Stretch}
+use Rattle.cbs_stretches.specs.declared.stretch.Stretch.{Stretch}
 use Rattle.cbs_shapes.specs.Axes.{AxisSeen, x_at}
 
 -- a box, by its left edge, its top, its width and its height

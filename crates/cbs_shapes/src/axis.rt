@@ -1,7 +1,7 @@
 //! The places of ticks.
 
 ghost use Rattle.std.specs.Prelude.{◌≡◌, ◌+◌, ◌≤◌, ◌<◌};
-ghost use Rattle.cbs_chart.specs.Counts.{told};
+ghost use Rattle.cbs_stretches.specs.Counts.{told};
 ghost use Rattle.cbs_shapes.specs.Axes.{axis_of, cell_of, cells_of, right_of, tick_of_cell, x_at, x_of_cell};
 
 use cbs_chart::Window;

@@ -3,7 +3,7 @@ use Rattle.std.proofs.Common.{◌≡◌, ◌∙◌, ℕ, ◌+◌, ◌*◌, ◌<�
 use Rattle.std.specs.Prelude.{get_or, max}
 use Rattle.std.proofs.lemmas.List.{append-nil, length-take-le, take_more}
 use Rattle.cbs_chart.specs.declared.picture.Drawn.{Drawn}
-use Rattle.cbs_chart.specs.declared.window.Window.{Window}
+use Rattle.cbs_stretches.specs.declared.window.Window.{Window}
 use Rattle.cbs_shapes.specs.Axes.{AxisSeen}
 use Rattle.cbs_shapes.specs.Layouts.{LayoutSeen}
 use Rattle.cbs_svg.specs.Pictures.{left_of, rows_text, server_row, words_width}

@@ -1,11 +1,11 @@
 -- The words around the rows: the heading of a picture, its summary, and a sentence for each server.
 use Rattle.std.specs.Prelude.{ℕ, ◌+◌, ◌-◌, ◌*◌, ◌/◌, ◌%◌, Bool, false, ◌&&◌, eqb, leb, ltb, max}
 use Rattle.std.specs.Prelude.{if◌then◌else◌, List, [], ◌++◌, codes, count_by, decimal, length, sum_by, Option, Some, None}
-use Rattle.cbs_chart.specs.Counts.{counts_of, told}
+use Rattle.cbs_stretches.specs.Counts.{counts_of, told}
 use Rattle.cbs_chart.specs.declared.jobs.ChartJob.{ChartJob}
 use Rattle.cbs_chart.specs.declared.picture.Drawn.{Drawn}
 use Rattle.cbs_chart.specs.declared.picture.Picture.{Picture}
-use Rattle.cbs_chart.specs.declared.window.Window.{Window}
+use Rattle.cbs_stretches.specs.declared.window.Window.{Window}
 use Rattle.cbs_rate.specs.declared.bandwidth.Bandwidth.{Bandwidth}
 use Rattle.cbs_report.specs.Figures.{exceeds}
 use Rattle.cbs_text.specs.Modes.{mode_word}

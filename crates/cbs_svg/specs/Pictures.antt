@@ -1,10 +1,10 @@
 -- The whole picture.
 use Rattle.std.specs.Prelude.{ℕ, ◌+◌, ◌-◌, ◌*◌, ◌/◌, ltb, max, min, if◌then◌else◌, List, [], ◌∷◌, ◌++◌, codes, decimal, flat_map, length, string_bytes}
-use Rattle.cbs_chart.specs.Counts.{counts_of}
+use Rattle.cbs_stretches.specs.Counts.{counts_of}
 use Rattle.cbs_chart.specs.declared.picture.Drawn.{Drawn}
 use Rattle.cbs_chart.specs.declared.picture.Picture.{Picture}
-use Rattle.cbs_chart.specs.declared.stretch.Stretch.{Stretch}
-use Rattle.cbs_chart.specs.declared.window.Window.{Window}
+use Rattle.cbs_stretches.specs.declared.stretch.Stretch.{Stretch}
+use Rattle.cbs_stretches.specs.declared.window.Window.{Window}
 use Rattle.cbs_shapes.specs.Axes.{AxisSeen, axis_of, right_of}
 use Rattle.cbs_shapes.specs.Columns.{cell_counts}
 use Rattle.cbs_shapes.specs.Escapes.{escaped}

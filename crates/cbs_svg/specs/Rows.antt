@@ -1,11 +1,11 @@
 -- The row of a server.
 use Rattle.std.specs.Prelude.{ℕ, ◌+◌, ◌-◌, true, eqb, if◌then◌else◌, List, [], ◌++◌, codes, decimal, flat_map, length}
-use Rattle.cbs_chart.specs.Counts.{counts_of}
+use Rattle.cbs_stretches.specs.Counts.{counts_of}
 use Rattle.cbs_chart.specs.declared.chart.ServerChart.{ServerChart}
-use Rattle.cbs_chart.specs.declared.counts.Counts.{Counts}
+use Rattle.cbs_stretches.specs.declared.counts.Counts.{Counts}
 use Rattle.cbs_chart.specs.declared.picture.Drawn.{Drawn}
-use Rattle.cbs_chart.specs.declared.stretch.Stretch.{Stretch}
-use Rattle.cbs_chart.specs.declared.window.Window.{Window}
+use Rattle.cbs_stretches.specs.declared.stretch.Stretch.{Stretch}
+use Rattle.cbs_stretches.specs.declared.window.Window.{Window}
 use Rattle.cbs_rate.specs.Rate.{Rate}
 use Rattle.cbs_rules.specs.declared.mode.Mode.{Mode}
 use Rattle.cbs_shapes.specs.Axes.{AxisSeen, right_of}

@@ -2,8 +2,8 @@
 use Rattle.std.specs.Prelude.{ℕ, ◌+◌, ◌-◌, ◌*◌, ◌/◌, Bool, leb, max, if◌then◌else◌, List, [], ◌∷◌, ◌++◌, codes, decimal, flat_map, map, unwrap_or}
 use Rattle.std.specs.Int.{div_ceil}
 use Rattle.std.specs.List.{find, range_with_len}
-use Rattle.cbs_chart.specs.Counts.{told}
-use Rattle.cbs_chart.specs.declared.window.Window.{Window}
+use Rattle.cbs_stretches.specs.Counts.{told}
+use Rattle.cbs_stretches.specs.declared.window.Window.{Window}
 use Rattle.cbs_shapes.specs.Axes.{AxisSeen, right_of, x_at}
 use Rattle.cbs_shapes.specs.Shapes.{label_text, upright_text}
 use Rattle.cbs_text.specs.Numbers.{digits_of}

@@ -1,8 +1,8 @@
 -- The ticks that the columns of a timeline stand for.
 use Rattle.std.specs.Prelude.{ℕ, ◌+◌, ◌-◌, ◌*◌, ◌/◌, ◌<◌, ◌≤◌, Bool, eqb, leb, if◌then◌else◌, max, min, List, [], ◌∷◌, length, string_bytes}
 use Rattle.std.specs.Int.{div_ceil}
-use Rattle.cbs_chart.specs.Counts.{told}
-use Rattle.cbs_chart.specs.Windows.{ticks_of}
+use Rattle.cbs_stretches.specs.Counts.{told}
+use Rattle.cbs_stretches.specs.Windows.{ticks_of}
 use Rattle.cbs_chart.specs.declared.picture.Drawn.{Drawn}
 use Rattle.cbs_chart.specs.declared.picture.Picture.{Picture}
 use Rattle.cbs_text.specs.Numbers.{digits_of}

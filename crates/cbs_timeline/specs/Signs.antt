@@ -1,15 +1,15 @@
 -- The sign of a column in the row of a server, and the mark above it.
 use Rattle.std.specs.Prelude.{ℕ, ◌+◌, ◌-◌, ◌*◌, ◌/◌, ◌%◌, Bool, true, false, ◌&&◌, eqb, leb, ltb, if◌then◌else◌, List, Option, Some, None}
 use Rattle.std.specs.List.{find, list_any}
-use Rattle.cbs_chart.specs.Counts.{counts_of}
+use Rattle.cbs_stretches.specs.Counts.{counts_of}
 use Rattle.cbs_chart.specs.Rows.{next_tick}
-use Rattle.cbs_chart.specs.Stretches.{takes}
+use Rattle.cbs_stretches.specs.Stretches.{takes}
 use Rattle.cbs_chart.specs.declared.chart.ServerChart.{ServerChart}
-use Rattle.cbs_chart.specs.declared.counts.Counts.{Counts}
+use Rattle.cbs_stretches.specs.declared.counts.Counts.{Counts}
 use Rattle.cbs_chart.specs.declared.course.Corner.{Corner}
-use Rattle.cbs_chart.specs.declared.stretch.Kind.{Kind}
-use Rattle.cbs_chart.specs.declared.stretch.Kind.TheVariants as kind
-use Rattle.cbs_chart.specs.declared.stretch.Stretch.{Stretch}
+use Rattle.cbs_stretches.specs.declared.stretch.Kind.{Kind}
+use Rattle.cbs_stretches.specs.declared.stretch.Kind.TheVariants as kind
+use Rattle.cbs_stretches.specs.declared.stretch.Stretch.{Stretch}
 use Rattle.cbs_timeline.specs.Grids.{GridSeen, end_of, is_fine, tick_of}
 
 -- ' ': nothing

@@ -1,10 +1,10 @@
 -- The whole timeline.
 use Rattle.std.specs.Prelude.{ℕ, ltb, if◌then◌else◌, Bool, List, [], ◌++◌, codes, decimal, flat_map, string_bytes}
 use Rattle.std.specs.List.{list_any, range_with_len}
-use Rattle.cbs_chart.specs.Counts.{counts_of}
+use Rattle.cbs_stretches.specs.Counts.{counts_of}
 use Rattle.cbs_chart.specs.declared.picture.Drawn.{Drawn}
 use Rattle.cbs_chart.specs.declared.picture.Picture.{Picture}
-use Rattle.cbs_chart.specs.declared.window.Window.{Window}
+use Rattle.cbs_stretches.specs.declared.window.Window.{Window}
 use Rattle.cbs_timeline.specs.Grids.{GridSeen, blocks_of, count_of, first_of, grid_of, is_fine}
 use Rattle.cbs_timeline.specs.Lines.{ruler_text, server_text}
 use Rattle.cbs_timeline.specs.declared.legend.TheConstants.{CHARGED_LEGEND, COLUMN_LEGEND, LEGEND}

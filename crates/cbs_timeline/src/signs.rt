@@ -2,7 +2,7 @@
 
 ghost use Rattle.std.specs.Prelude.{◌≡◌, ◌+◌, ◌<◌, ◌≤◌};
 ghost use Rattle.std.specs.List.{find, list_any};
-ghost use Rattle.cbs_chart.specs.Stretches.{takes};
+ghost use Rattle.cbs_stretches.specs.Stretches.{takes};
 ghost use Rattle.cbs_timeline.specs.Signs.{column_mark, column_sign, count_mark, count_sign, is_among, is_used_up, kind_sign, letter_of, mark_of, run_sign, stretch_sign, tick_mark, tick_sign};
 
 use crate::grid::Grid;

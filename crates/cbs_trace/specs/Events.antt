@@ -2,7 +2,7 @@
 use Rattle.std.specs.Prelude.{ℕ, ◌-◌, List, [], ◌∷◌, ◌++◌, codes, Option, Some, None}
 use Rattle.serde_json.specs.Data.{Data, null, number, unsigned, string, object, Members, no_members, put}
 use Rattle.serde_json.specs.Written.{compact_text}
-use Rattle.cbs_chart.specs.Counts.{told}
+use Rattle.cbs_stretches.specs.Counts.{told}
 use Rattle.cbs_chart.specs.declared.jobs.ChartJob.{ChartJob}
 
 -- the members, and these put among them, in the order of their keys

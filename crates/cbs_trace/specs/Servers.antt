@@ -7,10 +7,10 @@ use Rattle.cbs_chart.specs.declared.course.Corner.{Corner}
 use Rattle.cbs_chart.specs.Jobs.{job_numbered}
 use Rattle.cbs_chart.specs.declared.jobs.ChartJob.{ChartJob}
 use Rattle.cbs_chart.specs.declared.picture.Drawn.{Drawn}
-use Rattle.cbs_chart.specs.declared.stretch.Kind.{Kind}
-use Rattle.cbs_chart.specs.declared.stretch.Kind.TheVariants as kind
-use Rattle.cbs_chart.specs.declared.stretch.Stretch.{Stretch}
-use Rattle.cbs_chart.specs.declared.window.Window.{Window}
+use Rattle.cbs_stretches.specs.declared.stretch.Kind.{Kind}
+use Rattle.cbs_stretches.specs.declared.stretch.Kind.TheVariants as kind
+use Rattle.cbs_stretches.specs.declared.stretch.Stretch.{Stretch}
+use Rattle.cbs_stretches.specs.declared.window.Window.{Window}
 use Rattle.cbs_trace.specs.Events.{LineSeen, budget_data, came_args, finished_args, instant_data, job_args, line_of, no_args, slice_data}
 
 -- a bar of job j, with what is known of the job

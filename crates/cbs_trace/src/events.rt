@@ -4,7 +4,7 @@ ghost use Rattle.std.specs.Prelude.{◌≡◌, false, IfOk, OnOk, [], ◌∷◌,
 ghost use Rattle.serde_json.specs.Data.{string, put as with_member};
 ghost use Rattle.serde_json.specs.View.{view, members_view};
 ghost use Rattle.serde_json.specs.Written.{compact_text, has_float};
-ghost use Rattle.cbs_chart.specs.Counts.{told};
+ghost use Rattle.cbs_stretches.specs.Counts.{told};
 ghost use Rattle.cbs_trace.specs.Events.{about_data, budget_args, budget_data, came_args, finished_args, instant_data, job_args, named_args, no_args, on_thread, placed_args, slice_data, whole, whole_if, with_members, with_place};
 
 use cbs_chart::ChartJob;

@@ -1,6 +1,6 @@
 //! The actions that a command line can ask for.
 
-use cbs_chart::Window;
+use cbs_stretches::Window;
 
 /// What `replay` or `serve` does with a task file.
 #[derive(Clone, Copy, Debug, PartialEq, Eq)]

@@ -8,6 +8,6 @@ mod texts;
 mod words;
 
 pub use actions::{Action, Asked, Drawing, Form, Verb};
-pub use cbs_chart::Window;
+pub use cbs_stretches::Window;
 pub use fault::WordsFault;
 pub use words::read_words;

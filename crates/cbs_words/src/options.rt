@@ -1,7 +1,7 @@
 //! The options of a command, and what they ask for.
 
 ghost use Rattle.std.specs.Prelude.{◌≡◌, ℕ, codes, IfOk, MatchOption, Some};
-ghost use Rattle.cbs_chart.specs.declared.window.Window.{Window as Ticks};
+ghost use Rattle.cbs_stretches.specs.declared.window.Window.{Window as Ticks};
 ghost use Rattle.cbs_words.specs.Actions.{drawing_name, form_name};
 ghost use Rattle.cbs_words.specs.Faults.{words_fault_number};
 ghost use Rattle.cbs_words.specs.Options.{AsksFor, AsksPlainly, AsksTicks, IsTick, said, text_of};
@@ -9,7 +9,7 @@ ghost use Rattle.cbs_words.specs.declared.actions.Action.{Action as Wanted};
 
 use crate::actions::{Action, Drawing, Form, Verb};
 use crate::fault::WordsFault;
-use cbs_chart::{MOST_TICKS, Window, WindowError};
+use cbs_stretches::{MOST_TICKS, Window, WindowError};
 use std::alloc::{AllocError, Global};
 use std::fmt::Write;
 

@@ -1,132 +1,137 @@
 //! The chart of a few steps that are made by hand.
 
-use super::same;
-use cbs_chart::{ChartView, Counts, Kind, Stretch, Window, WindowError};
+use super::{same, same_stretches};
+use cbs_chart::{Chart, ChartView, Counts, Kind, Window, WindowError};
 use cbs_job::Completion;
 use cbs_rate::{Bound, Plan, Reservation};
 use cbs_steps::{CoreError, Ran, ServerView};
 use cbs_views::{Arrival, Event, Seen, View};
+use std::alloc::Global;
 use std::test::Fail;
 
-/// Returns the view of a throttled server with 2 ticks in every 10.
-fn shows(budget: u64, deadline: u128, throttled: bool, accepted: u64, finished: u64) -> ServerView {
-    ServerView {
-        budget,
-        deadline,
-        throttled,
-        closed: false,
-        accepted,
-        finished,
+/// The view of a throttled server with 2 ticks in every 10, after its first job came.
+const CAME: ServerView = ServerView {
+    budget: 2,
+    deadline: 11,
+    throttled: false,
+    closed: false,
+    accepted: 1,
+    finished: 0,
+};
+
+/// Its view once the budget is used up.
+const HELD: ServerView = ServerView {
+    budget: 0,
+    throttled: true,
+    ..CAME
+};
+
+/// Its view after the last unit of its job.
+const DONE: ServerView = ServerView {
+    budget: 1,
+    deadline: 21,
+    finished: 1,
+    ..CAME
+};
+
+/// A job of three units, which is to be finished within 8 ticks.
+const JOB: Arrival = Arrival {
+    server: 0,
+    came: 1,
+    units: 3,
+    within: Some(8),
+};
+
+/// The job that is refused.
+const REFUSED: Arrival = Arrival { came: 4, ..JOB };
+
+/// A unit of the job, and its last one.
+const UNIT: Event = Event::Ran(Ran::Unit { server: 0, seq: 0 });
+
+const LAST: Event = Event::Ran(Ran::Done(Completion {
+    server: 0,
+    seq: 0,
+    result: 0,
+}));
+
+/// The steps, each with the clock and the view of the server after it.
+static STEPS: [(u64, Event, Option<ServerView>); 9] = [
+    (1, Event::Advanced(1), None),
+    (
+        1,
+        Event::Accepted {
+            job: JOB,
+            number: 0,
+            promised: None,
+        },
+        Some(CAME),
+    ),
+    (2, UNIT, Some(ServerView { budget: 1, ..CAME })),
+    (3, UNIT, Some(HELD)),
+    (
+        4,
+        Event::NotAccepted {
+            job: REFUSED,
+            error: CoreError::BacklogFull,
+        },
+        Some(HELD),
+    ),
+    (11, Event::Advanced(8), None),
+    (12, LAST, Some(DONE)),
+    (
+        14,
+        Event::Charged {
+            server: 0,
+            ticks: 2,
+        },
+        Some(ServerView {
+            budget: 0,
+            throttled: true,
+            ..DONE
+        }),
+    ),
+    (25, Event::Advanced(11), None),
+];
+
+/// What the server does.
+static SPANS: [(Kind, u64, u64); 5] = [
+    (Kind::Runs(0), 2, 3),
+    (Kind::Held, 3, 11),
+    (Kind::Runs(0), 11, 12),
+    (Kind::Charged, 12, 14),
+    (Kind::Resting, 14, 20),
+];
+
+/// When a release is refused, and when a job is late.
+static REFUSALS: [(Kind, u64, u64); 1] = [(Kind::Refused, 4, 5)];
+
+static LATE: [(Kind, u64, u64); 1] = [(Kind::Late, 9, 12)];
+
+/// Returns the chart of the steps.
+fn chart_of_steps(alloc: Global) -> Result<Chart, Fail> {
+    let mut plan = Plan::new(Bound::new(1, 1)?);
+    plan.admit(Reservation::new(2, 10)?)?;
+    let window = Window::new(2, 20)?;
+    let mut chart = ChartView::new(alloc, window, &plan)?;
+    for &(clock, event, view) in &STEPS {
+        chart.see(&mut (), Seen { clock, event, view })?;
     }
-}
-
-/// Returns a job of three units for server 0, which is to be finished within 8 ticks.
-fn job(came: u64) -> Arrival {
-    Arrival {
-        server: 0,
-        came,
-        units: 3,
-        within: Some(8),
-    }
-}
-
-fn unit(seq: u64) -> Event {
-    Event::Ran(Ran::Unit { server: 0, seq })
-}
-
-fn last_unit(seq: u64) -> Event {
-    Event::Ran(Ran::Done(Completion {
-        server: 0,
-        seq,
-        result: 0,
-    }))
+    Ok(chart.into_chart(alloc, 25)?)
 }
 
 #[test]
 fn a_chart_by_hand(rt: HostRuntime) -> Result<(), Fail> {
-    let alloc = rt.alloc();
-    let mut plan = Plan::new(Bound::new(1, 1)?);
-    plan.admit(Reservation::new(2, 10)?)?;
-    let window = Window::new(2, 20)?;
-    let mut view = ChartView::new(alloc, window, &plan)?;
-    for (clock, event, shown) in [
-        (1, Event::Advanced(1), None),
-        (
-            1,
-            Event::Accepted {
-                job: job(1),
-                number: 0,
-                promised: None,
-            },
-            Some(shows(2, 11, false, 1, 0)),
-        ),
-        (2, unit(0), Some(shows(1, 11, false, 1, 0))),
-        (3, unit(0), Some(shows(0, 11, true, 1, 0))),
-        (
-            4,
-            Event::NotAccepted {
-                job: job(4),
-                error: CoreError::BacklogFull,
-            },
-            Some(shows(0, 11, true, 1, 0)),
-        ),
-        (11, Event::Advanced(8), None),
-        (12, last_unit(0), Some(shows(1, 21, false, 1, 1))),
-        (
-            14,
-            Event::Charged {
-                server: 0,
-                ticks: 2,
-            },
-            Some(shows(0, 21, true, 1, 1)),
-        ),
-        (25, Event::Advanced(11), None),
-    ] {
-        view.see(
-            &mut (),
-            Seen {
-                clock,
-                event,
-                view: shown,
-            },
-        )?;
-    }
-    let chart = view.into_chart(alloc, 25)?;
-    let stretch = |kind, from, to| Stretch { kind, from, to };
+    let chart = chart_of_steps(rt.alloc())?;
     assert!(rt; chart.servers.len() == 1);
     let server = &chart.servers[0];
-    let spans = [
-        stretch(Kind::Runs(0), 2, 3),
-        stretch(Kind::Held, 3, 11),
-        stretch(Kind::Runs(0), 11, 12),
-        stretch(Kind::Charged, 12, 14),
-        stretch(Kind::Resting, 14, 20),
-    ];
-    same(&rt, "spans", server.spans.as_slice(), spans.as_slice());
-    let refused = [stretch(Kind::Refused, 4, 5)];
-    same(
-        &rt,
-        "refused",
-        server.refused.as_slice(),
-        refused.as_slice(),
-    );
+    same_stretches(&rt, "spans", &server.spans, &SPANS);
+    same_stretches(&rt, "refused", &server.refused, &REFUSALS);
     same(&rt, "refusals", server.refusals, 1);
-    let late = [stretch(Kind::Late, 9, 12)];
-    same(&rt, "late", server.late.as_slice(), late.as_slice());
+    same_stretches(&rt, "late", &server.late, &LATE);
     // The job came before the window.
     same(&rt, "arrivals", server.arrivals.len(), 0);
-    same(
-        &rt,
-        "completions",
-        server.completions.as_slice(),
-        [12].as_slice(),
-    );
-    same(
-        &rt,
-        "deadlines",
-        server.deadlines.as_slice(),
-        [11].as_slice(),
-    );
+    same(&rt, "completions", server.completions.as_slice(), &[12]);
+    same(&rt, "deadlines", server.deadlines.as_slice(), &[11]);
     same(&rt, "opening", server.opening, 1);
     same(&rt, "runs", Counts::of(&server.spans, 2, 20).runs, 2);
     Ok(())

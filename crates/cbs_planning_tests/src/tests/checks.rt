@@ -1,6 +1,7 @@
 //! Texts about files, byte for byte. The two loads with comments are examples of this project. All texts come from an
 //! independent program, but for what is promised beside overruns of others, which is worked out by hand.
 
+use crate::tests::same;
 use crate::tests::sample_loads::{PIPELINE, ROBOT};
 use cbs_check::{check_load, check_plan};
 use cbs_load::read_load;
@@ -354,7 +355,7 @@ Units that overrun make a server late by at most 1 tick.
 fn tells(rt: &impl Abort, alloc: Global, toml: &str, wanted: &str) {
     let load = read_load(alloc, toml.as_bytes()).ok().expect(rt, "a load");
     let text = check_load(alloc, &load).ok().expect(rt, "memory");
-    assert_eq!(rt; text.as_str(), wanted);
+    same(rt, "check", text.as_str(), wanted);
 }
 
 #[test]
@@ -422,7 +423,7 @@ fn no_server(rt: HostRuntime) {
     let text = check_plan(rt.alloc(), &plan, &Modes::new())
         .ok()
         .expect(&rt, "memory");
-    assert_eq!(&rt; text.as_str(), NONE_TEXT);
+    same(&rt, "check", text.as_str(), NONE_TEXT);
 }
 
 #[test]
@@ -438,5 +439,5 @@ fn servers_of_a_task_file(rt: HostRuntime) {
     let text = check_plan(rt.alloc(), &plan, &modes)
         .ok()
         .expect(&rt, "memory");
-    assert_eq!(&rt; text.as_str(), PLAN_TEXT);
+    same(&rt, "check", text.as_str(), PLAN_TEXT);
 }

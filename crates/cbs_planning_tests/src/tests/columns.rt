@@ -1,5 +1,6 @@
 //! Tables that are made by hand.
 
+use crate::tests::same;
 use cbs_text::{Cell, append_columns};
 use std::alloc::{AllocError, Global};
 use std::process::Abort;
@@ -35,7 +36,9 @@ fn columns_are_as_wide_as_their_widest_cell(rt: HostRuntime) {
     }
     let mut text = String::new(alloc);
     append_columns(&mut text, &rows).ok().expect(&rt, "memory");
-    assert_eq!(rt;
+    same(
+        &rt,
+        "rows",
         text.as_str(),
         "\
 JOBS     released  late  backlog
@@ -43,7 +46,7 @@ control        40     0   1 of 4
 log            24!   10!  4 of 4!
 all            64
 end
-"
+",
     );
 }
 
@@ -60,5 +63,5 @@ fn line(alloc: Global) -> Result<String, AllocError> {
 #[test]
 fn the_last_cell_may_be_marked(rt: HostRuntime) {
     let text = line(rt.alloc()).ok().expect(&rt, "memory");
-    assert_eq!(rt; text.as_str(), "jobs  12!\n");
+    same(&rt, "a row", text.as_str(), "jobs  12!\n");
 }

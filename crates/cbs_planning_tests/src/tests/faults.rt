@@ -1,5 +1,6 @@
 //! Explanations of common faults, and what the tests of other broken files share.
 
+use crate::tests::same;
 use cbs_explain::explain;
 use cbs_file::read_file;
 use cbs_load::read_load;
@@ -48,7 +49,7 @@ pub fn says(
     want: &str,
 ) {
     let text = explain(alloc, name, bytes, fault).ok().expect(rt, "memory");
-    assert_eq!(rt; text.as_str(), want);
+    same(rt, "explanation", text.as_str(), want);
 }
 
 /// Tests that the explanation of a load's fault is this text.

@@ -1,6 +1,7 @@
 //! Whole reports as JSON.
 
 use crate::tests::reports::{NOTHING, ROBOT, Row, Run, report_of};
+use crate::tests::same;
 use cbs_json::report_json;
 use cbs_report::{Figures, Ranks};
 use cbs_rules::Mode;
@@ -148,7 +149,7 @@ fn a_report_is_this_line(rt: HostRuntime) {
         let report = report_of(&rt, alloc, run);
         let text = report_json(alloc, &report).ok().expect(&rt, "memory");
         let wanted = line_of(alloc, *parts).ok().expect(&rt, "memory");
-        assert_eq!(rt; text.as_str(), wanted.as_str());
+        same(&rt, run.file, text.as_str(), wanted.as_str());
     }
 }
 

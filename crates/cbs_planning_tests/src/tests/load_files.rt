@@ -87,7 +87,7 @@ fn a_seed_left_out_is_0(rt: HostRuntime) {
 }
 
 /// The texts of a file, and its fault.
-const FAULTS: [(&[&str], &str); 22] = [
+static FAULTS: [(&[&str], &str); 22] = [
     (&["", "", "", ""], "a key of this table is missing, at top"),
     (
         &["load = 2\n", "", "", ""],

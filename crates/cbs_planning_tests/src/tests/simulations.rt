@@ -3,6 +3,7 @@
 ghost use Rattle.std.specs.Prelude.{◌≤◌, ◌<◌, All, length};
 ghost use Rattle.cbs_simulate.specs.Drawing.{IsLawful};
 
+use crate::tests::same;
 use cbs_core::Core;
 use cbs_job::Completion;
 use cbs_rate::{Bound, Reservation};
@@ -95,6 +96,20 @@ fn shown(
     moments.seen
 }
 
+/// The ticks after which jobs are finished, and their servers.
+static DONE: [(u64, u16); 10] = [
+    (2, 0),
+    (7, 0),
+    (10, 1),
+    (12, 0),
+    (17, 0),
+    (22, 0),
+    (27, 0),
+    (30, 1),
+    (32, 0),
+    (37, 0),
+];
+
 // Control has 2 units in every 5 ticks, on a server with 2 in 5. Vision has 6 units in every 20 ticks, on a server with
 // 3 in 10. From tick 0, control runs until 2, vision until 5, control again until 7, and vision until 10. This repeats
 // every 20 ticks.
@@ -103,27 +118,15 @@ fn robot(rt: HostRuntime) {
     let alloc = rt.alloc();
     let terms = [source(0, 0, 5, 2, 100, 0), source(1, 0, 20, 6, 100, 0)];
     let moments = shown(&rt, alloc, &[(2, 5), (3, 10)], &terms, 40);
-    let done = [
-        (2, 0),
-        (7, 0),
-        (10, 1),
-        (12, 0),
-        (17, 0),
-        (22, 0),
-        (27, 0),
-        (30, 1),
-        (32, 0),
-        (37, 0),
-    ];
     let mut count = 0;
     for moment in &moments {
         if let Event::Ran(Ran::Done(Completion { server, .. })) = moment.event {
-            let wanted = done.get(count).copied().expect(&rt, "one more is done");
-            assert_eq!(rt; (moment.clock, server), wanted);
+            let wanted = DONE.get(count).copied().expect(&rt, "one more is done");
+            same(&rt, "a job that ends", (moment.clock, server), wanted);
             count += 1;
         }
     }
-    assert_eq!(rt; count, done.len());
+    same(&rt, "jobs that end", count, DONE.len());
 }
 
 /// A job of two units at tick 0. Each unit takes 3 ticks beyond its first.
@@ -233,7 +236,7 @@ fn published_words(rt: HostRuntime) {
     let mut draws = Pcg64::new(42, 54);
     let all = Range::new(0, u64::MAX).expect(&rt, "range");
     for word in WORDS {
-        assert_eq!(rt; all.draw(&mut draws), word);
+        same(&rt, "a draw", all.draw(&mut draws), word);
     }
 }
 

@@ -1,8 +1,11 @@
 //! The picture of a task file, worked out by hand.
 
-use cbs_chart::{Kind, Stretch, Window};
-use cbs_file::read_file;
+use super::{same, same_stretches};
+use cbs_chart::{Kind, Picture, Window};
+use cbs_file::{TaskFile, read_file};
 use cbs_planning::{clock_of, shown_of, task_picture_of};
+use std::alloc::Global;
+use std::process::Abort;
 
 /// Two servers. The first is throttled with a job from tick 2 to 5, and without one from 7 to 10. The second refuses a
 /// job at tick 3.
@@ -32,44 +35,58 @@ step = [
 ]
 "#;
 
-/// Returns a stretch of ticks in which one thing goes on.
-fn stretch(kind: Kind, from: u64, to: u64) -> Stretch {
-    Stretch { kind, from, to }
+/// What the first server does: what goes on, the first tick, and the tick after the last.
+static FIRST: [(Kind, u64, u64); 5] = [
+    (Kind::Runs(0), 1, 2),
+    (Kind::Held, 2, 5),
+    (Kind::Runs(0), 5, 7),
+    (Kind::Resting, 7, 10),
+    (Kind::Runs(1), 10, 11),
+];
+
+/// When jobs of the first server are finished.
+static COMPLETED: [u64; 2] = [7, 11];
+
+/// What the second server does.
+static SECOND: [(Kind, u64, u64); 1] = [(Kind::Runs(0), 2, 3)];
+
+/// When a release of the second server is refused.
+static REFUSED: [(Kind, u64, u64); 1] = [(Kind::Refused, 3, 4)];
+
+/// Returns the task file.
+fn tasks(rt: &impl Abort, alloc: Global) -> TaskFile {
+    read_file(alloc, TASKS.as_bytes())
+        .ok()
+        .expect(rt, "a task file")
+}
+
+/// Returns the tick at which the steps end.
+fn end_of(rt: &impl Abort, alloc: Global) -> u64 {
+    clock_of(alloc, tasks(rt, alloc)).ok().expect(rt, "memory")
+}
+
+/// Returns the picture from tick 1 on.
+fn picture_from_1(rt: &impl Abort, alloc: Global, end: u64) -> Picture {
+    let asked = Window::new(1, 20_001).ok().expect(rt, "ticks");
+    let window = shown_of(asked, end).ok().expect(rt, "a tick");
+    task_picture_of(alloc, "a.toml", tasks(rt, alloc), window)
+        .ok()
+        .expect(rt, "memory")
 }
 
 #[test]
 fn a_task_file_is_drawn_up_to_its_last_step(rt: HostRuntime) {
-    let alloc = rt.alloc();
-    let read = || read_file(alloc, TASKS.as_bytes()).ok();
-    let end = clock_of(alloc, read().expect(&rt, "a task file"))
-        .ok()
-        .expect(&rt, "memory");
-    assert_eq!(rt; end, 11);
-    let asked = Window::new(1, 20_001).ok().expect(&rt, "ticks");
-    let window = shown_of(asked, end).ok().expect(&rt, "a tick");
-    let picture = task_picture_of(alloc, "a.toml", read().expect(&rt, "a task file"), window)
-        .ok()
-        .expect(&rt, "memory");
-    assert_eq!(rt; (picture.window.from, picture.window.to), (1, 11));
+    let end = end_of(&rt, rt.alloc());
+    same(&rt, "end", end, 11);
+    let picture = picture_from_1(&rt, rt.alloc(), end);
+    same(&rt, "from", picture.window.from, 1);
+    same(&rt, "to", picture.window.to, 11);
     assert!(rt; picture.servers.len() == 2);
     let first = &picture.servers[0];
-    assert_eq!(rt; first.name.as_str(), "server 0");
-    let spans = [
-        stretch(Kind::Runs(0), 1, 2),
-        stretch(Kind::Held, 2, 5),
-        stretch(Kind::Runs(0), 5, 7),
-        stretch(Kind::Resting, 7, 10),
-        stretch(Kind::Runs(1), 10, 11),
-    ];
-    assert_eq!(rt; first.chart.spans.as_slice(), spans.as_slice());
-    assert_eq!(rt; first.chart.completions.as_slice(), [7, 11].as_slice());
-    let second = &picture.servers[1];
-    assert_eq!(rt;
-        second.chart.spans.as_slice(),
-        [stretch(Kind::Runs(0), 2, 3)].as_slice()
-    );
-    assert_eq!(rt;
-        second.chart.refused.as_slice(),
-        [stretch(Kind::Refused, 3, 4)].as_slice()
-    );
+    same(&rt, "name", first.name.as_str(), "server 0");
+    same_stretches(&rt, "first", &first.chart.spans, &FIRST);
+    same(&rt, "first", first.chart.completions.as_slice(), &COMPLETED);
+    let second = &picture.servers[1].chart;
+    same_stretches(&rt, "second", &second.spans, &SECOND);
+    same_stretches(&rt, "refused", &second.refused, &REFUSED);
 }

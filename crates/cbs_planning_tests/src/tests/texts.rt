@@ -3,6 +3,7 @@
 //! The three loads and their expected texts come from an independent program with another scheduler.
 
 use crate::tests::reports::{CONTROL, LIDAR, NOTHING, ROBOT, Row, Run, report_of};
+use crate::tests::same;
 use cbs_print::report_text;
 use cbs_report::{Figures, Ranks};
 use cbs_rules::Mode;
@@ -518,7 +519,8 @@ static REPORTS: [(Run, &str); 6] = [
 #[test]
 fn a_report_is_this_text(rt: HostRuntime) {
     for (run, wanted) in &REPORTS {
-        assert_eq!(rt; text_of(&rt, rt.alloc(), run).as_str(), *wanted);
+        let text = text_of(&rt, rt.alloc(), run);
+        same(&rt, run.file, text.as_str(), *wanted);
     }
 }
 

@@ -4,6 +4,7 @@
 
 use crate::tests::by_hand::by_hand;
 use crate::tests::drawn::picture_of;
+use crate::tests::same;
 use crate::tests::sample_loads::{PIPELINE, ROBOT};
 use cbs_chart::Picture;
 use cbs_timeline::timeline_text;
@@ -13,7 +14,7 @@ use std::process::Abort;
 /// Tests that the timeline of a picture is this text.
 fn says(rt: &impl Abort, alloc: Global, picture: &Picture, wanted: &str) {
     let text = timeline_text(alloc, picture).ok().expect(rt, "memory");
-    assert_eq!(rt; text.as_str(), wanted);
+    same(rt, "timeline", text.as_str(), wanted);
 }
 
 #[test]

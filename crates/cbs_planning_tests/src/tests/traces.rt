@@ -4,6 +4,7 @@
 
 use crate::tests::by_hand::by_hand;
 use crate::tests::drawn::picture_of;
+use crate::tests::same;
 use crate::tests::sample_loads::ROBOT;
 use cbs_chart::Picture;
 use cbs_trace::trace_json;
@@ -20,7 +21,7 @@ fn a_trace_by_hand(rt: HostRuntime) {
     let alloc = rt.alloc();
     let picture = by_hand(&rt, alloc, "a\"b", 1, 20);
     let text = trace_of(&rt, alloc, &picture);
-    assert_eq!(rt; text.as_str(), BY_HAND);
+    same(&rt, "trace", text.as_str(), BY_HAND);
 }
 
 /// Tests the events of a load of 200 ticks, with two lines around them. There are 716 events from that program, and two
@@ -30,7 +31,7 @@ fn a_trace_has_a_line_for_each_event(rt: HostRuntime) {
     let alloc = rt.alloc();
     let picture = picture_of(&rt, alloc, "ROBOT.toml", ROBOT, 0, 200);
     let text = trace_of(&rt, alloc, &picture);
-    assert_eq!(rt; text.as_str().lines().count(), 720);
+    same(&rt, "lines", text.as_str().lines().count(), 720);
 }
 
 const BY_HAND: &str =

@@ -5,8 +5,8 @@ use Rattle.std.proofs.lemmas.List.Sorted.{list_any-IsPermutation}
 use Rattle.std.proofs.lemmas.Result.{IfOk-weaker}
 use Rattle.cbs_chart.specs.Jobs.{late_stretch}
 use Rattle.cbs_chart.specs.Rendered.{LateCovered}
-use Rattle.cbs_chart.specs.Stretches.{all_of, shows}
-use Rattle.cbs_chart.specs.declared.stretch.Kind.TheVariants as kind
+use Rattle.cbs_stretches.specs.Stretches.{all_of, shows}
+use Rattle.cbs_stretches.specs.declared.stretch.Kind.TheVariants as kind
 use Rattle.cbs_chart.proofs.Covers.{cover_more, late_of_jobs}
 use Rattle.cbs_chart.proofs.chart.late_of.Goals as goal
 

@@ -1,8 +1,8 @@
 use Rattle.std.proofs.Common.{◌≡◌, ℕ, ◌<◌, ◌≤◌, map, take}
 use Rattle.std.specs.List.{list_any}
 use Rattle.cbs_chart.specs.Jobs.{late_stretch}
-use Rattle.cbs_chart.specs.Stretches.{all_of, is_covered, shows}
-use Rattle.cbs_chart.specs.declared.stretch.Kind.TheVariants as kind
+use Rattle.cbs_stretches.specs.Stretches.{all_of, is_covered, shows}
+use Rattle.cbs_stretches.specs.declared.stretch.Kind.TheVariants as kind
 use Rattle.cbs_chart.proofs.chart.late_of.Given as goal
 
 -- the late ticks of the first jobs

@@ -1,6 +1,7 @@
 use Rattle.std.proofs.Common.{subst, ℕ, Ok, Err}
 use Rattle.cbs_lines.proofs.Writers.{untouched}
-use Rattle.cbs_planning.specs.Pictures.{AnswersShown, IsPictureOf}
+use Rattle.cbs_stretches.specs.Windows.{AnswersShown}
+use Rattle.cbs_planning.specs.Pictures.{IsPictureOf}
 use Rattle.cbs_run.specs.Pictured.{IsDrawingOf, IsLoadDrawing}
 use Rattle.cbs_run.proofs.Drawings.{stops_as}
 use Rattle.cbs_run.proofs.pictures.draw_load.Goals as goal

@@ -1,5 +1,6 @@
 use Rattle.std.proofs.Common.{◌≡◌, ◌∙◌, subst, ℕ, Ok}
-use Rattle.cbs_planning.specs.Pictures.{AnswersShown, IsTaskPicture}
+use Rattle.cbs_stretches.specs.Windows.{AnswersShown}
+use Rattle.cbs_planning.specs.Pictures.{IsTaskPicture}
 use Rattle.cbs_planning.specs.Tasks.{clock_of_tasks}
 use Rattle.cbs_run.specs.Pictured.{IsDrawingOf, IsTaskDrawing}
 use Rattle.cbs_run.proofs.Drawings.{same_file, stops_as}

@@ -1,6 +1,6 @@
 use Rattle.std.proofs.Common.{◌≡◌, take}
 use Rattle.std.specs.Prelude.{sum_by}
-use Rattle.cbs_chart.specs.Counts.{told}
+use Rattle.cbs_stretches.specs.Counts.{told}
 use Rattle.cbs_svg.specs.Rows.{units_of}
 use Rattle.cbs_svg.proofs.head.all_units.Given as goal
 

@@ -1,6 +1,6 @@
 use Rattle.std.proofs.Common.{arith}
 use Rattle.std.proofs.lemmas.Grind.{common_steps}
-use Rattle.cbs_chart.specs.declared.stretch.Stretch.{Stretch}
+use Rattle.cbs_stretches.specs.declared.stretch.Stretch.{Stretch}
 use Rattle.cbs_trace.specs.Servers.{slice_of, slices_of}
 use Rattle.cbs_trace.proofs.Growing.{piece_taken}
 use Rattle.cbs_trace.proofs.slices.append_slices.Goals as goal

@@ -2,7 +2,7 @@ use Rattle.std.proofs.Common.{◌≡◌, ◌∙◌, ◌++◌, ◌∷◌, [], app
 use Rattle.std.proofs.lemmas.List.{append-nil, nil_from_length}
 use Rattle.std.specs.Vec.Iter.{into_iter_items}
 use Rattle.cbs_chart.specs.Charts.{Kept}
-use Rattle.cbs_chart.specs.Stretches.{all_of}
+use Rattle.cbs_stretches.specs.Stretches.{all_of}
 use Rattle.cbs_chart.proofs.Bars.{chart_seen}
 use Rattle.cbs_chart.proofs.Rows.{charts_more}
 use Rattle.cbs_chart.proofs.view.ChartView.into_chart.Goals as goal

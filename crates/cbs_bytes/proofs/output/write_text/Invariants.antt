@@ -1,0 +1,13 @@
+use Rattle.std.proofs.Common.{length, ◌-◌, ◌≡◌, ◌≤◌, take}
+use Rattle.std.specs.Io.KnownBytes.{Appends}
+use Rattle.cbs_bytes.proofs.output.write_text.Given as goal
+
+abbrev pub invariant-loop-done : goal.invariant-loop-done
+invariant-loop-done g l = record {
+  within : l.done ≤ length l.text;
+  so_far : Appends (g.O.ByteOutput.written l.initial.out) (g.O.ByteOutput.written l.out) (take l.done l.text);
+  none_failed : g.O.ByteOutput.failed l.out ≡ g.O.ByteOutput.failed l.initial.out;
+}
+
+abbrev pub decreases-loop-done : goal.decreases-loop-done
+decreases-loop-done g l = length l.text - l.done

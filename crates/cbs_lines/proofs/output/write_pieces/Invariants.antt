@@ -1,9 +1,0 @@
-use Rattle.std.proofs.Common.{◌≡◌, drop}
-use Rattle.cbs_lines.specs.Writes.{joined, AppendsAllBut}
-use Rattle.cbs_lines.proofs.output.write_pieces.Given as goal
-
-abbrev pub invariant-loop-piece : goal.invariant-loop-piece
-invariant-loop-piece g l = record {
-  so_far : AppendsAllBut (g.O.ByteOutput.written l.fn.out) (g.O.ByteOutput.written l.out) (joined (drop l.piece-index l.pieces)) (joined l.pieces);
-  none_failed : g.O.ByteOutput.failed l.out ≡ g.O.ByteOutput.failed l.fn.out;
-}
