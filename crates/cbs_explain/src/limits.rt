@@ -1,83 +1,62 @@
 //! The reasons why a plan does not take a server.
 
 use crate::over::append_over;
-use crate::page::{Marked, append_bar, append_line, append_note, append_spot};
+use crate::page::Page;
 use cbs_findings::{Refused, Spot, refused_at};
 use cbs_rate::{AdmitError, MAX_COMMON_MULTIPLE, MAX_SERVERS};
 use cbs_tables::FileKind;
-use cbs_text::append_pair;
-use std::alloc::{AllocError, Global};
-use std::fmt::Write;
 
 /// Appends that a plan takes no more servers.
-fn append_too_many(text: &mut String, spot: &Spot<'_>) -> Result<(), AllocError> {
-    append_pair(text, "error: there are ", spot.document.servers.len())?;
-    append_pair(text, " servers, and there may be at most ", MAX_SERVERS)?;
-    append_spot(text, spot)
-}
-
-/// Appends the line of a server's period, and which periods fit.
-fn append_period(alloc: Global, text: &mut String, period: u64) -> Result<(), AllocError> {
-    let line = format!(in alloc; "period = {period}")?;
-    let marked = Marked {
-        from: 9,
-        count: line.chars().count().saturating_sub(9),
-        remark: "",
-    };
-    append_line(text, "  ", &line, marked)
+fn append_too_many(page: &mut Page, spot: &Spot<'_>) {
+    let count = spot.document.servers.len();
+    write!(
+        page,
+        "error: there are {count} servers, and there may be at most {MAX_SERVERS}"
+    );
+    page.push_spot(spot);
 }
 
 /// Appends how often the periods of the servers before this one come together.
-fn append_before(alloc: Global, text: &mut String, ticks: u64) -> Result<(), AllocError> {
-    let note = format!(in alloc;
+fn append_before(page: &mut Page, ticks: u64) {
+    let words = format!(in page.alloc;
         "the periods of the servers before it come together every {ticks} ticks"
-    )?;
-    append_note(text, 2, "note", &note)
+    );
+    page.push_note(2, "note", words);
 }
 
-/// Appends how seldom the periods come together with this server.
-fn append_multiple(text: &mut String, refused: &Refused) -> Result<(), AllocError> {
-    let number = refused.number;
-    let multiple = refused.common_multiple();
-    write!(
-        text,
-        "error: with server {number} the periods come together every {multiple} ticks only, and at most {MAX_COMMON_MULTIPLE} are allowed"
-    )
+/// Appends the line of a server's period, and which periods fit.
+fn append_period(page: &mut Page, refused: &Refused) {
+    let digits = refused.reservation.period().to_string(page.alloc);
+    if let Some(digits) = page.accept(digits) {
+        page.push_line("  ", &["period = ", &digits], 9, digits.len());
+        page.push("\n");
+    }
+    page.push_bar(2);
+    append_before(page, refused.plan.bandwidth().of);
+    let help = "take a period that shares more factors with the others, as 10 with 20";
+    page.push_note(2, "help", String::from_str(page.alloc, help));
 }
 
 /// Appends that the period of a server makes the periods too fine.
-fn append_too_fine(
-    alloc: Global,
-    text: &mut String,
-    spot: &Spot<'_>,
-    refused: &Refused,
-) -> Result<(), AllocError> {
-    append_multiple(text, refused)?;
-    append_spot(text, spot)?;
-    append_period(alloc, text, refused.reservation.period())?;
-    append_bar(text, 2)?;
-    append_before(alloc, text, refused.plan.bandwidth().of)?;
-    append_note(
-        text,
-        2,
-        "help",
-        "take a period that shares more factors with the others, as 10 with 20",
-    )
+fn append_too_fine(page: &mut Page, spot: &Spot<'_>, refused: &Refused) {
+    let number = refused.number;
+    let multiple = refused.common_multiple();
+    write!(
+        page,
+        "error: with server {number} the periods come together every {multiple} ticks only, and at most {MAX_COMMON_MULTIPLE} are allowed"
+    );
+    page.push_spot(spot);
+    append_period(page, refused);
 }
 
 /// Appends why a plan does not take the server with this number.
-pub(crate) fn append_not_admitted(
-    alloc: Global,
-    text: &mut String,
-    spot: &Spot<'_>,
-    number: u64,
-) -> Result<(), AllocError> {
+pub(crate) fn append_not_admitted(page: &mut Page, spot: &Spot<'_>, number: u64) {
     let Some(refused) = refused_at(spot.document, number) else {
-        return writeln!(text, "error: {}", FileKind::NotAdmitted);
+        return page.push_kind(FileKind::NotAdmitted);
     };
     match refused.why {
-        AdmitError::TooManyServers => append_too_many(text, spot),
-        AdmitError::PeriodsTooFine => append_too_fine(alloc, text, spot, &refused),
-        AdmitError::OverBound => append_over(alloc, text, spot, &refused),
+        AdmitError::TooManyServers => append_too_many(page, spot),
+        AdmitError::PeriodsTooFine => append_too_fine(page, spot, &refused),
+        AdmitError::OverBound => append_over(page, spot, &refused),
     }
 }

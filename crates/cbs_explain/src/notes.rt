@@ -1,89 +1,70 @@
 //! Notes below a fault: which keys a table has, and which servers there are.
 
-use crate::page::{append_all, append_bar, append_list, append_note};
+use crate::page::Page;
 use cbs_findings::{Key, Subject, server_names};
 use std::alloc::{AllocError, Global};
 use toml::Value;
 
-/// Returns the names of the keys: of all, or of those that may be left out. The only error is out of memory.
-fn key_names(alloc: Global, keys: &[Key], all: bool) -> Result<Vec<&'static str>, AllocError> {
-    let mut names = Vec::new(alloc);
-    for key in keys {
-        if all || !key.required {
-            names.push(key.name)?;
-        }
-    }
-    Ok(names)
-}
-
 /// Appends which keys a table has.
-fn append_keys(alloc: Global, text: &mut String, subject: Subject) -> Result<(), AllocError> {
+fn append_keys(page: &mut Page, subject: Subject) {
     let keys = subject.keys();
-    let has = if keys.len() == 1 {
+    page.push(subject.phrase());
+    page.push(if keys.len() == 1 {
         " has the key "
     } else {
         " has the keys "
-    };
-    append_all(text, &[subject.phrase(), has])?;
-    append_list(text, &key_names(alloc, keys, true)?, "`", ", ")
+    });
+    for (place, key) in keys.iter().enumerate() {
+        page.push(if place > 0 { ", `" } else { "`" });
+        page.push(key.name);
+        page.push("`");
+    }
+}
+
+/// Returns the names of those keys that may be left out. The only error is out of memory.
+fn optional_names(alloc: Global, keys: &[Key]) -> Result<Vec<&'static str>, AllocError> {
+    keys.iter()
+        .filter(|key| !key.required)
+        .map(|key| key.name)
+        .collect(alloc)
 }
 
 /// Appends which keys may be left out.
-fn append_optional(text: &mut String, optional: &[&str]) -> Result<(), AllocError> {
+fn append_optional(page: &mut Page, keys: &[Key]) {
+    let optional = optional_names(page.alloc, keys);
+    let Some(optional) = page.accept(optional) else {
+        return;
+    };
     if optional.is_empty() {
-        return text.push_str("; all of them have to be there");
+        return page.push("; all of them have to be there");
     }
-    text.push_str("; ")?;
-    append_list(text, optional, "`", " and ")?;
-    text.push_str(" may be left out")
-}
-
-/// Appends the words of a note on the keys that a table has. If a key is missing, appends also which keys it must have.
-fn append_keys_words(
-    alloc: Global,
-    words: &mut String,
-    subject: Subject,
-    missing: bool,
-) -> Result<(), AllocError> {
-    append_keys(alloc, words, subject)?;
-    if !missing || subject.keys().len() <= 1 {
-        return Ok(());
-    }
-    append_optional(words, &key_names(alloc, subject.keys(), false)?)
+    page.push("; ");
+    page.push_list(&optional, "`", " and ");
+    page.push(" may be left out");
 }
 
 /// Appends a note on the keys that a table has. If a key is missing, appends also which keys it must have.
-pub(crate) fn append_keys_note(
-    alloc: Global,
-    text: &mut String,
-    subject: Subject,
-    missing: bool,
-) -> Result<(), AllocError> {
-    append_bar(text, 2)?;
-    let mut words = String::new(alloc);
-    append_keys_words(alloc, &mut words, subject, missing)?;
-    append_note(text, 2, "note", &words)
-}
-
-/// Appends which servers there are.
-fn append_servers(alloc: Global, text: &mut String, servers: &[Value]) -> Result<(), AllocError> {
-    let names = server_names(alloc, servers)?;
-    text.push_str(match names.len() {
-        0 => "there are no servers",
-        1 => "the server is ",
-        _ => "the servers are ",
-    })?;
-    append_list(text, &names, "\"", ", ")
+pub(crate) fn append_keys_note(page: &mut Page, subject: Subject, missing: bool) {
+    let mut words = Page::new(page.alloc);
+    append_keys(&mut words, subject);
+    if missing && subject.keys().len() > 1 {
+        append_optional(&mut words, subject.keys());
+    }
+    page.push_bar(2);
+    page.push_note(2, "note", words.finish());
 }
 
 /// Appends a note on the servers that there are.
-pub(crate) fn append_servers_note(
-    alloc: Global,
-    text: &mut String,
-    servers: &[Value],
-) -> Result<(), AllocError> {
-    append_bar(text, 2)?;
-    let mut words = String::new(alloc);
-    append_servers(alloc, &mut words, servers)?;
-    append_note(text, 2, "note", &words)
+pub(crate) fn append_servers_note(page: &mut Page, servers: &[Value]) {
+    let mut words = Page::new(page.alloc);
+    if let Some(names) = words.accept(server_names(page.alloc, servers)) {
+        words.push(match names.len() {
+            0 => "there are no servers",
+            1 => "the server is ",
+            _ => "the servers are ",
+        });
+        words.push_list(&names, "\"", ", ");
+    }
+    page.push_bar(2);
+    page.push_note(2, "note", words.finish());
 }

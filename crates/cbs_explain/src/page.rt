@@ -1,148 +1,170 @@
-//! The lines of a text, as rustc and cargo lay them out.
+//! A text that is put together, in lines as rustc and cargo lay them out.
 
 use cbs_findings::Spot;
-use std::alloc::AllocError;
-use std::fmt::Write;
+use cbs_tables::FileKind;
+use cbs_text::append_pair;
+use std::alloc::{AllocError, Global};
+use std::fmt::Display;
 
 /// The most columns of a line before it is broken.
 const COLUMNS: usize = 80;
 
-/// Appends texts, one after another.
-pub(crate) fn append_all(text: &mut String, parts: &[&str]) -> Result<(), AllocError> {
-    for part in parts {
-        text.push_str(part)?;
+/// A text that is put together. It fails if it is out of memory, and nothing is appended after that.
+#[derive(Drop)]
+pub(crate) struct Page {
+    /// The allocator of the text, for other texts that go into it.
+    pub alloc: Global,
+    text: String,
+    failed: bool,
+}
+
+impl Page {
+    /// Returns an empty page.
+    pub(crate) fn new(alloc: Global) -> Page {
+        Page {
+            alloc,
+            text: String::new(alloc),
+            failed: false,
+        }
     }
-    Ok(())
-}
 
-/// Appends a text this many times.
-fn append_times(text: &mut String, part: &str, count: usize) -> Result<(), AllocError> {
-    for _time in 0..count {
-        text.push_str(part)?;
+    /// Returns the whole text. The only error is out of memory.
+    pub(crate) fn finish(self) -> Result<String, AllocError> {
+        if self.failed {
+            return Err(AllocError);
+        }
+        Ok(self.text)
     }
-    Ok(())
-}
 
-/// Appends blanks, and a word after them.
-fn append_after(text: &mut String, blanks: usize, word: &str) -> Result<(), AllocError> {
-    append_times(text, " ", blanks)?;
-    text.push_str(word)
-}
-
-/// Appends the end of a line, and the line of the place of a fault.
-pub(crate) fn append_spot(text: &mut String, spot: &Spot<'_>) -> Result<(), AllocError> {
-    writeln!(text, "\n  --> {spot}")
-}
-
-/// Appends a bar after `margin` columns, with nothing beside it.
-pub(crate) fn append_bar(text: &mut String, margin: usize) -> Result<(), AllocError> {
-    append_after(text, margin, "|\n")
-}
-
-/// The part of a line to which carets point, with a remark.
-#[derive(Clone, Copy)]
-pub(crate) struct Marked<'a> {
-    /// The first character, from 0.
-    pub from: usize,
-    /// How many characters.
-    pub count: usize,
-    /// The remark after the carets.
-    pub remark: &'a str,
-}
-
-/// Appends carets below a part of a line, at least one, and the remark.
-fn append_carets(text: &mut String, marked: Marked<'_>) -> Result<(), AllocError> {
-    let remark = marked.remark;
-    let blank = if remark.is_empty() { "" } else { " " };
-    append_times(text, " ", marked.from)?;
-    append_times(text, "^", marked.count.max(1))?;
-    append_all(text, &[blank, remark, "\n"])
-}
-
-/// Appends a line of a document, with at least one caret below it. `gutter` is the line's number, or blanks, and stands
-/// before the bar.
-pub(crate) fn append_line(
-    text: &mut String,
-    gutter: &str,
-    line: &str,
-    marked: Marked<'_>,
-) -> Result<(), AllocError> {
-    let margin = gutter.len();
-    append_bar(text, margin)?;
-    append_all(text, &[gutter, "| ", line, "\n"])?;
-    append_after(text, margin, "| ")?;
-    append_carets(text, marked)
-}
-
-/// Appends what stands before a word of this width: nothing at the start of a line, a blank, or a new line if the word
-/// does not fit. Returns the column at which the word begins.
-fn append_gap(
-    text: &mut String,
-    indent: usize,
-    column: usize,
-    width: usize,
-) -> Result<usize, AllocError> {
-    if column == indent {
-        return Ok(column);
+    /// Notes that the page is out of memory.
+    pub(crate) fn fail(&mut self) {
+        self.failed = true;
     }
-    if column.saturating_add(width) < COLUMNS {
-        text.push_str(" ")?;
-        return Ok(column.saturating_add(1));
+
+    /// Returns what was made for the page, or `None` if that is out of memory. Then the page fails, too.
+    pub(crate) fn accept<T>(&mut self, made: Result<T, AllocError>) -> Option<T> {
+        match made {
+            Ok(value) => Some(value),
+            Err(AllocError) => {
+                self.fail();
+                None
+            }
+        }
     }
-    text.push_str("\n")?;
-    append_times(text, " ", indent)?;
-    Ok(indent)
-}
 
-/// Appends a word at a column, or on a new line if it does not fit. Returns the column after the word.
-fn append_word(
-    text: &mut String,
-    indent: usize,
-    column: usize,
-    word: &str,
-) -> Result<usize, AllocError> {
-    let width = word.chars().count();
-    let column = append_gap(text, indent, column, width)?;
-    text.push_str(word)?;
-    Ok(column.saturating_add(width))
-}
-
-/// Appends words in lines of at most [`COLUMNS`] columns. All lines begin at the column `indent`.
-fn append_broken(text: &mut String, indent: usize, words: &str) -> Result<(), AllocError> {
-    let mut column = indent;
-    for word in words.split(' ') {
-        column = append_word(text, indent, column, word)?;
+    /// Appends a text.
+    pub(crate) fn push(&mut self, part: &str) {
+        if !self.failed {
+            self.failed = self.text.push_str(part).is_err();
+        }
     }
-    text.push_str("\n")
-}
 
-/// Appends a note or a help with these words.
-pub(crate) fn append_note(
-    text: &mut String,
-    margin: usize,
-    kind: &str,
-    words: &str,
-) -> Result<(), AllocError> {
-    let indent = margin.saturating_add(kind.len()).saturating_add(4);
-    append_after(text, margin, "= ")?;
-    append_all(text, &[kind, ": "])?;
-    append_broken(text, indent, words)
-}
+    /// Appends texts, one after another.
+    pub(crate) fn push_all(&mut self, parts: &[&str]) {
+        for part in parts {
+            self.push(part);
+        }
+    }
 
-/// Appends words one after another, each between two marks, with the word `last` before the last one.
-pub(crate) fn append_list(
-    text: &mut String,
-    words: &[&str],
-    mark: &str,
-    last: &str,
-) -> Result<(), AllocError> {
-    for (place, word) in words.iter().enumerate() {
-        let separator = match place {
-            0 => "",
-            _ if place + 1 == words.len() => last,
-            _ => ", ",
+    /// Appends a text this many times.
+    fn push_times(&mut self, part: &str, count: usize) {
+        for _time in 0..count {
+            self.push(part);
+        }
+    }
+
+    /// Appends words, and a number after them.
+    pub(crate) fn push_number(&mut self, words: &str, number: u64) {
+        if !self.failed {
+            self.failed = append_pair(&mut self.text, words, number).is_err();
+        }
+    }
+
+    /// Appends what `write!` and `writeln!` are given.
+    pub(crate) fn write_fmt<D: Display + Drop>(&mut self, value: D) {
+        if !self.failed {
+            self.failed = self.text.write(value).is_err();
+        }
+    }
+
+    /// Appends words one after another, each between two marks, with the word `last` before the last one.
+    pub(crate) fn push_list(&mut self, words: &[&str], mark: &str, last: &str) {
+        for (place, word) in words.iter().enumerate() {
+            let separator = match place {
+                0 => "",
+                _ if place + 1 == words.len() => last,
+                _ => ", ",
+            };
+            self.push_all(&[separator, mark, word, mark]);
+        }
+    }
+
+    /// Appends the kind of a fault, for a fault of which nothing more is known.
+    pub(crate) fn push_kind(&mut self, kind: FileKind) {
+        writeln!(self, "error: {kind}");
+    }
+
+    /// Appends the end of a line, and the line of the place of a fault.
+    pub(crate) fn push_spot(&mut self, spot: &Spot<'_>) {
+        writeln!(self, "\n  --> {spot}");
+    }
+
+    /// Appends a bar after `margin` columns, with nothing beside it.
+    pub(crate) fn push_bar(&mut self, margin: usize) {
+        self.push_times(" ", margin);
+        self.push("|\n");
+    }
+
+    /// Appends a line of a document, and carets below the `count` characters from the character `from` on, at least
+    /// one. `gutter` is the line's number, or blanks, and stands before the bar. A remark may follow, and the end of the
+    /// line has to.
+    pub(crate) fn push_line(&mut self, gutter: &str, line: &[&str], from: usize, count: usize) {
+        let margin = gutter.len();
+        self.push_bar(margin);
+        self.push_all(&[gutter, "| "]);
+        self.push_all(line);
+        self.push("\n");
+        self.push_times(" ", margin);
+        self.push("| ");
+        self.push_times(" ", from);
+        self.push_times("^", count.max(1));
+    }
+
+    /// Appends a word at a column, or on a new line if it does not fit. Returns the column after the word.
+    fn push_word(&mut self, indent: usize, column: usize, word: &str) -> usize {
+        let width = word.chars().count();
+        let after = column.saturating_add(width);
+        if column == indent {
+            self.push(word);
+            return after;
+        }
+        if after < COLUMNS {
+            self.push_all(&[" ", word]);
+            return after.saturating_add(1);
+        }
+        self.push("\n");
+        self.push_times(" ", indent);
+        self.push(word);
+        indent.saturating_add(width)
+    }
+
+    /// Appends a note or a help with these words, in lines of at most [`COLUMNS`] columns.
+    pub(crate) fn push_note(
+        &mut self,
+        margin: usize,
+        kind: &str,
+        words: Result<String, AllocError>,
+    ) {
+        let Some(words) = self.accept(words) else {
+            return;
         };
-        append_all(text, &[separator, mark, word, mark])?;
+        let indent = margin.saturating_add(kind.len()).saturating_add(4);
+        let mut column = indent;
+        self.push_times(" ", margin);
+        self.push_all(&["= ", kind, ": "]);
+        for word in words.split(' ') {
+            column = self.push_word(indent, column, word);
+        }
+        self.push("\n");
     }
-    Ok(())
 }

@@ -1,48 +1,41 @@
 //! Values of a document, as an explanation shows them.
 
-use std::alloc::AllocError;
-use std::fmt::Write;
+use crate::page::Page;
 use toml::Value;
 
 /// The most entries of an array that are shown.
 const MOST_ENTRIES: usize = 6;
 
 /// Appends an entry of an array, as it may be written in a file.
-fn append_entry(text: &mut String, entry: &Value) -> Result<(), AllocError> {
+fn append_entry(page: &mut Page, entry: &Value) {
     match entry {
         Value::String(words) => {
             let words = words.as_str();
-            write!(text, "{words:?}")
+            write!(page, "{words:?}")
         }
-        Value::Integer(number) => write!(text, "{number}"),
-        Value::Float(number) => write!(text, "{number:?}"),
-        Value::Boolean(truth) => text.push_str(if *truth { "true" } else { "false" }),
-        Value::Datetime(date) => write!(text, "{date}"),
-        Value::Array(_) => text.push_str("[..]"),
-        Value::Table(_) => text.push_str("{..}"),
+        Value::Float(number) => write!(page, "{number:?}"),
+        Value::Array(_) => page.push("[..]"),
+        Value::Table(_) => page.push("{..}"),
+        _ => write!(page, "{entry}"),
     }
-}
-
-/// Appends an array, as it may be written in a file, without its later entries if it is long.
-fn append_array(text: &mut String, entries: &[Value]) -> Result<(), AllocError> {
-    text.push_str("[")?;
-    for (place, entry) in entries.iter().enumerate() {
-        if place == MOST_ENTRIES {
-            return text.push_str(", ..]");
-        }
-        text.push_str(if place > 0 { ", " } else { "" })?;
-        append_entry(text, entry)?;
-    }
-    text.push_str("]")
 }
 
 /// Appends a value, as it may be written in a file. Tables, arrays in arrays, and the later entries of a long array are
 /// left out.
-pub(crate) fn append_shown(text: &mut String, value: &Value) -> Result<(), AllocError> {
-    match value {
-        Value::Array(entries) => append_array(text, entries),
-        _ => append_entry(text, value),
+pub(crate) fn append_shown(page: &mut Page, value: &Value) {
+    let Value::Array(entries) = value else {
+        return append_entry(page, value);
+    };
+    page.push("[");
+    for (place, entry) in entries.iter().enumerate() {
+        if place == MOST_ENTRIES {
+            page.push(", ..");
+            break;
+        }
+        page.push(if place > 0 { ", " } else { "" });
+        append_entry(page, entry);
     }
+    page.push("]");
 }
 
 /// Returns the words for the type of a value.
