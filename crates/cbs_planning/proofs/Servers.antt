@@ -1,6 +1,6 @@
 -- The reports of servers, one after another.
-use Rattle.std.proofs.Common.{◌≡◌, ℕ, zero, suc, ◌+◌, ◌<◌, List, [], ◌∷◌, ◌++◌, length, map, Some, None, arith, refl, ap, ◌∙◌, subst}
-use Rattle.std.specs.Prelude.{get_or, slice_get, string_bytes}
+use Rattle.std.proofs.Common.{◌≡◌, ℕ, zero, suc, ◌+◌, ◌<◌, List, [], ◌∷◌, ◌++◌, length, map, Some, None, arith, rules, refl, ap, ◌∙◌, subst}
+use Rattle.std.specs.Prelude.{get_or, slice_get, string_bytes, IsSome}
 use Rattle.std.proofs.lemmas.List.{get_or-map, length-map}
 use Rattle.cbs_file.specs.TaskFiles.{File}
 use Rattle.cbs_load.specs.Loads.{LoadFile}
@@ -84,6 +84,12 @@ task_server_is f s r fs all name mode reservation within figures =
       within = within;
       figures = figures_at f.plan.rates (clock_of_tasks f) (seen_in_tasks f) fs s r all reservation figures;
     }
+
+-- at a place of the list something stands
+pub stands : {X : Type 0} (xs : List X) (i : ℕ) → i < length xs → IsSome (slice_get xs i)
+stands [] i lt = absurd (omega arith)
+stands (x ∷ xs) zero lt = search rules
+stands (x ∷ xs) (suc i) lt = stands xs i (omega arith)
 
 -- what stands at a place is found there
 pub some_at : {X : Type 0} (xs : List X) (i : ℕ) (x : X) → i < length xs → x ≡ get_or xs i x → slice_get xs i ≡ Some x

@@ -56,3 +56,12 @@ loop-server-init g c = grind (arith, common_steps)
 
 pub server_report-requires : goal.server_report-requires
 server_report-requires g c = grind (arith, common_steps)
+
+pub overflow_cast-server-end : goal.overflow_cast-server-end
+overflow_cast-server-end g c = omega arith
+
+pub index-figures-requires : goal.index-figures-requires
+index-figures-requires g c = grind (arith, common_steps)
+
+pub loop-server-smaller : goal.loop-server-smaller
+loop-server-smaller g c = omega arith

@@ -74,3 +74,12 @@ loop-server-init c = grind (arith, common_steps)
 
 pub task_server_report-requires : goal.task_server_report-requires
 task_server_report-requires c = grind (arith, common_steps)
+
+pub overflow_cast-server-end : goal.overflow_cast-server-end
+overflow_cast-server-end c = omega arith
+
+pub index-figures-requires : goal.index-figures-requires
+index-figures-requires c = grind (arith, common_steps)
+
+pub loop-server-smaller : goal.loop-server-smaller
+loop-server-smaller c = omega arith
