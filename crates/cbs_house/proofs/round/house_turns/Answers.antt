@@ -30,3 +30,6 @@ returns-after-loop-clause-turns g c =
     let l = c.loop in
     turns_within g.W.Work.meaning g.M.Meter.may_tell c.args.turns l.counter c.args.wanted.now c.args.house.now l.house l.took (omega arith)
     (λ fewer. absurd (omega (arith, fewer))) l.invariant.taken
+
+pub overflow_add-took : goal.overflow_add-took
+overflow_add-took g c = let l = c.loop in omega (arith, l.invariant.most, c.house_turn-taken.ensures.most, c.requires)

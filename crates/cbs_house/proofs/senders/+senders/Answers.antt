@@ -49,3 +49,9 @@ send_all-overflow_add-result g t c = grind arith
 
 pub send_all-returns-clause-count : goal.send_all-returns-clause-count
 send_all-returns-clause-count g t c = grind (arith, common_steps)
+
+pub send_all-split_at_mut-front-requires : goal.send_all-split_at_mut-front-requires
+send_all-split_at_mut-front-requires g t c = omega arith
+
+pub send_both-returns-clause-sends : goal.send_both-returns-clause-sends
+send_both-returns-clause-sends g t c = search rules

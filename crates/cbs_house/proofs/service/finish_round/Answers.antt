@@ -1,4 +1,5 @@
-use Rattle.std.proofs.Common.{rules}
+use Rattle.std.proofs.Common.{arith, rules}
+use Rattle.std.proofs.lemmas.Grind.{common_steps}
 use Rattle.cbs_clients.specs.Houses.{received}
 use Rattle.cbs_house.proofs.Feeds.{feeds_on}
 use Rattle.cbs_clients.proofs.RingLooks.{prefix_same}
@@ -26,3 +27,28 @@ returns-clause-feeds g c = feeds_on c.args.feeds.now c.take_rest.new.feeds c.set
 
 pub returns-in_err-take_rest-clause-halts : goal.returns-in_err-take_rest-clause-halts
 returns-in_err-take_rest-clause-halts g c = search rules
+
+pub returns-in_err-take_rest-clause-ready : goal.returns-in_err-take_rest-clause-ready
+returns-in_err-take_rest-clause-ready g c = c.take_rest.ensures.ready
+
+pub returns-in_err-take_rest-clause-feeds : goal.returns-in_err-take_rest-clause-feeds
+returns-in_err-take_rest-clause-feeds g c = c.take_rest.ensures.feeds
+
+pub returns-in_err-take_rest-clause-steps : goal.returns-in_err-take_rest-clause-steps
+returns-in_err-take_rest-clause-steps g c = c.take_rest.ensures.steps
+
+pub returns-in_err-drain_metered-clause-feeds : goal.returns-in_err-drain_metered-clause-feeds
+returns-in_err-drain_metered-clause-feeds g c = c.take_rest.ensures.feeds
+
+pub returns-in_err-drain_metered-clause-halts : goal.returns-in_err-drain_metered-clause-halts
+returns-in_err-drain_metered-clause-halts g c = grind (arith, common_steps)
+
+pub settle_all-requires-clause-ready : goal.settle_all-requires-clause-ready
+settle_all-requires-clause-ready g c =
+    let ready = c.take_rest.ensures.ready in record { few = ready.few; opened = rw c.drain_metered.ensures.rings ready.opened }
+
+pub returns-clause-ready : goal.returns-clause-ready
+returns-clause-ready g c = c.settle_all.ensures.ready
+
+pub returns-clause-done : goal.returns-clause-done
+returns-clause-done g c = c.all_done.ensures

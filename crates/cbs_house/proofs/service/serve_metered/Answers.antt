@@ -77,3 +77,27 @@ pub returns-clause-on_time : goal.returns-clause-on_time
 returns-clause-on_time g c = λ never.
     let a = c.args.house.now in
     serves_on_time g.W.Work.meaning g.M.Meter.may_tell a c.loop.house never a.housed.history c.loop.invariant.steps
+
+pub returns-in_err-finish_round-clause-ready : goal.returns-in_err-finish_round-clause-ready
+returns-in_err-finish_round-clause-ready g c = c.finish_round.ensures.ready
+
+pub returns-in_err-finish_round-clause-stops : goal.returns-in_err-finish_round-clause-stops
+returns-in_err-finish_round-clause-stops g c = search rules
+
+pub returns-then-branch-clause-ready : goal.returns-then-branch-clause-ready
+returns-then-branch-clause-ready g c = c.finish_round.ensures.ready
+
+pub returns-then-branch-clause-drained : goal.returns-then-branch-clause-drained
+returns-then-branch-clause-drained g c = c.in_ok-finish_round.ensures.drained
+
+pub returns-clause-ready : goal.returns-clause-ready
+returns-clause-ready g c = c.loop.invariant.ready
+
+pub returns-clause-feeds : goal.returns-clause-feeds
+returns-clause-feeds g c = c.loop.invariant.feeds
+
+pub returns-clause-steps : goal.returns-clause-steps
+returns-clause-steps g c = c.loop.invariant.steps
+
+pub returns-clause-stops : goal.returns-clause-stops
+returns-clause-stops g c = c.loop.invariant.stalled (omega (arith, c.rounds_for-end.ensures))
