@@ -1,5 +1,6 @@
 //! Load files: the content of a good one, and the fault of each faulty one.
 
+use super::same;
 use crate::tests::sample_loads::{PIPELINE, ROBOT};
 use cbs_core::Core;
 use cbs_load::{Load, read_load};
@@ -222,7 +223,7 @@ fn a_faulty_file_has_one_first_fault(rt: HostRuntime) {
         let bytes = bytes_of(&rt, alloc, texts);
         let fault = read_load(alloc, &bytes).err().expect(&rt, wanted);
         let said = format!(in alloc; "{fault}").expect(&rt, "memory");
-        assert!(rt; said.as_str() == wanted, "{said}, not {wanted}");
+        same(&rt, "a fault", said.as_str(), wanted);
     }
 }
 
@@ -266,10 +267,7 @@ fn comes_to(rt: &impl Abort, alloc: Global, text: &str, rows: [(u64, u64); 4]) {
     for server in 0..4 {
         let row = rows[usize::from(server)];
         let view = core.view(server).ok().expect(rt, "a view");
-        assert!(rt;
-            (view.accepted, view.finished) == row,
-            "server {server}: {view:?}, not {row:?}"
-        );
+        same(rt, "a server", (view.accepted, view.finished), row);
     }
 }
 

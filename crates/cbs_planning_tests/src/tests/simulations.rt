@@ -203,7 +203,7 @@ fn overrun(rt: HostRuntime) {
             event: Event::Passed(3),
         },
     ];
-    assert!(rt; moments.as_slice() == wanted.as_slice(), "{moments:?}");
+    same(&rt, "moments", moments.as_slice(), wanted.as_slice());
 }
 
 // Up to tick 3, the charge is cut to two ticks. The short job is submitted at the end.
@@ -218,7 +218,7 @@ fn overrun_cut(rt: HostRuntime) {
         charged(3, 2),
         submitted(3, SHORT, 13),
     ];
-    assert!(rt; moments.as_slice() == wanted.as_slice(), "{moments:?}");
+    same(&rt, "moments", moments.as_slice(), wanted.as_slice());
 }
 
 // PCG's published words for the state 42 and the stream 54. A range of all numbers draws each word as it is.
@@ -273,6 +273,6 @@ fn drawn_releases(rt: HostRuntime) {
             overrun,
         };
         let next = take(&mut source);
-        assert!(rt; next == Some(release), "{next:?}");
+        same(&rt, "a release", next, Some(release));
     }
 }

@@ -43,12 +43,23 @@ pub fn run<R: Clock, M: Meter>(
 ) -> Result<Seen> {
     let mut trial = open(alloc, mode)?;
     let mut seen = Seen::new(alloc);
-    let wall = Wall::new(rt)?;
-    run_for(&wall, &mut trial, meter, length, &mut seen)?;
+    measure(&Wall::new(rt)?, &mut trial, meter, length, &mut seen)?;
+    Ok(seen)
+}
+
+/// Runs an opened trial for this time, and takes the measurements.
+fn measure<'a, R: Clock, M: Meter>(
+    wall: &Wall<'a, R>,
+    trial: &mut Trial<LongJob<'a, R>>,
+    meter: &mut M,
+    length: Duration,
+    seen: &mut Seen,
+) -> Result<()> {
+    run_for(wall, trial, meter, length, seen)?;
     seen.length = wall.now()?;
     seen.sent = trial.control.sent();
     seen.responses.sort_unstable();
-    Ok(seen)
+    Ok(())
 }
 
 /// Makes ticks until this time has passed.
