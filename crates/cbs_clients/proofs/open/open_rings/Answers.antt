@@ -1,5 +1,4 @@
-use Rattle.std.proofs.Common.{◌≡◌, sym, ◌∙◌, arith, rules}
-use Rattle.std.proofs.lemmas.Grind.{common_steps}
+use Rattle.std.proofs.Common.{◌≡◌, [], ◌∷◌, ap, length, length-append, sym, ◌∙◌, arith, rules}
 use Rattle.cbs_clients.specs.Clients.{server_of, ring_of}
 use Rattle.cbs_clients.specs.Opened.{IsNewEnd, IsUnused}
 use Rattle.cbs_clients.specs.Rings.{consumer_ring}
@@ -19,8 +18,8 @@ loop-server-preserved g c =
     let a = c.push_reserved.ensures.items in
     let b = c.push_reserved-in-loop-server.ensures.items in
     record {
-      ends = grind (arith, common_steps);
-      places = grind (arith, common_steps);
+      ends = omega (arith, ap length a, length-append l.ends.items (made.consumer ∷ []), c.push_reserved.ensures.capacity, l.invariant.ends);
+      places = omega (arith, ap length b, length-append l.clients.items (client ∷ []), c.push_reserved-in-loop-server.ensures.capacity, l.invariant.places);
       new = All_pushed IsNewEnd l.ends.items ends' made.consumer a
           (record { received = made.ensures.consumer.0; known = made.ensures.consumer.1 }) l.invariant.new;
       rings = map_pushed consumer_ring ring_of l.ends.items ends' l.clients.items clients' made.consumer client a b

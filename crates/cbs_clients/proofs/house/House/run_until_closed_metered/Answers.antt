@@ -158,16 +158,16 @@ returns-in_err-move_on-clause-rings g c =
     (returns-in_err-move_on-clause-steps g c).moves.1.made.rings
 
 pub is_over_with-requires : goal.is_over_with-requires
-is_over_with-requires g c = search rules
+is_over_with-requires g c = c.turns.invariant.unclosed
 
 pub move_on-requires : goal.move_on-requires
-move_on-requires g c = search rules
+move_on-requires g c = record { unclosed = (c.turns.invariant.unclosed, c.turns.invariant.few) }
 
 pub returns-in_err-move_on-clause-finished : goal.returns-in_err-move_on-clause-finished
 returns-in_err-move_on-clause-finished g c = search rules
 
 pub overflow_add-idle : goal.overflow_add-idle
-overflow_add-idle g c = search rules
+overflow_add-idle g c = omega arith
 
 pub turns-smaller : goal.turns-smaller
 turns-smaller g c = search rules

@@ -2,7 +2,7 @@ use Rattle.std.proofs.Common.{arith}
 use Rattle.std.proofs.lemmas.Grind.{common_steps}
 use Rattle.std.proofs.lemmas.List.{length-map}
 use Rattle.cbs_clients.specs.Rings.{consumer_ring}
-use Rattle.cbs_clients.proofs.RingLooks.{looked_at}
+use Rattle.cbs_clients.proofs.RingLooks.{looked_at, ringed}
 use Rattle.cbs_clients.proofs.rings.Rings.is_empty.Goals as goal
 
 pub returns-clause-looked : goal.returns-clause-looked
@@ -14,3 +14,6 @@ returns-clause-looked g c =
 
 pub index_mut-end-requires : goal.index_mut-end-requires
 index_mut-end-requires g c = grind (arith, common_steps)
+
+pub returns-clause-value : goal.returns-clause-value
+returns-clause-value g c = grind (arith, ringed)
