@@ -73,3 +73,12 @@ returns-clause-servers c =
 
 pub loop-index-init : goal.loop-index-init
 loop-index-init c = grind (arith, common_steps)
+
+pub returns-then-is_ok-clause-each : goal.returns-then-is_ok-clause-each
+returns-then-is_ok-clause-each c = grind (arith, common_steps)
+
+pub returns-clause-each : goal.returns-clause-each
+returns-clause-each c = grind (arith, common_steps)
+
+pub returns-then-is_err-clause-over : goal.returns-then-is_err-clause-over
+returns-then-is_err-clause-over c = grind (arith, common_steps)
