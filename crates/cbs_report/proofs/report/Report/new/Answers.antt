@@ -1,5 +1,6 @@
 use Rattle.std.proofs.Common.{◌≡◌, ◌∙◌, [], sym, refl, arith}
 use Rattle.std.proofs.lemmas.Grind.{common_steps}
+use Rattle.std.proofs.lemmas.Option.{slice_get-get_or}
 use Rattle.std.proofs.lemmas.List.Elements.{All-push}
 use Rattle.cbs_report.specs.Tallies.{Kept, kept_of}
 use Rattle.cbs_report.proofs.ReportSteps.{budgets_more}
@@ -24,3 +25,7 @@ returns-clause-none g c = grind (arith, common_steps)
 
 pub returns-clause-servers : goal.returns-clause-servers
 returns-clause-servers g c = grind (arith, common_steps)
+
+pub unwrap-reservation-requires : goal.unwrap-reservation-requires
+unwrap-reservation-requires g c =
+    rw (c.get.ensures.value, slice_get-get_or c.args.plan.now.rates c.loop-server.server (record { budget = 0; period = 0 }) (omega arith)) refl
