@@ -1,4 +1,5 @@
-use Rattle.std.proofs.Common.{◌≡◌, ◌∙◌, map, sym, ap}
+use Rattle.std.proofs.Common.{◌≡◌, ◌∙◌, map, sym, ap, arith}
+use Rattle.std.proofs.lemmas.Grind.{common_steps}
 use Rattle.std.specs.List.{list_any}
 use Rattle.std.proofs.lemmas.List.{take_all}
 use Rattle.std.proofs.lemmas.List.Sorted.{list_any-IsPermutation}
@@ -29,3 +30,6 @@ returns c =
     ∙ (sym (list_any-IsPermutation (shows kind.Late t) _ _ c.in_ok-sort_by_key.ensures.permutation)
     ∙ (ap (list_any (shows kind.Late t)) whole ∙ late_of_jobs c.args.end t jobs)))))
     c.into_all.ensures
+
+pub loop-job-preserved : goal.loop-job-preserved
+loop-job-preserved c = grind (arith, common_steps)

@@ -1,5 +1,6 @@
-use Rattle.std.proofs.Common.{arith, sym, ◌∙◌}
+use Rattle.std.proofs.Common.{arith, refl, sym, ◌∙◌}
 use Rattle.std.proofs.lemmas.Grind.{common_steps}
+use Rattle.std.proofs.lemmas.Option.{slice_get-get_or}
 use Rattle.cbs_chart.proofs.Rows.{rows_more}
 use Rattle.cbs_chart.proofs.view.ChartView.new.Goals as goal
 
@@ -20,3 +21,7 @@ loop-server-init c = grind (arith, common_steps)
 
 pub returns-in_err-push : goal.returns-in_err-push
 returns-in_err-push c = grind (arith, common_steps)
+
+pub unwrap-reservation-requires : goal.unwrap-reservation-requires
+unwrap-reservation-requires c =
+    rw (c.get.ensures.value, slice_get-get_or c.args.plan.now.rates c.loop-server.server (record { budget = 0; period = 0 }) (omega arith)) refl
