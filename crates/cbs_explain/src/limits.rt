@@ -9,10 +9,8 @@ use cbs_tables::FileKind;
 /// Appends that a plan takes no more servers.
 fn append_too_many(page: &mut Page, spot: &Spot<'_>) {
     let count = spot.document.servers.len();
-    write!(
-        page,
-        "error: there are {count} servers, and there may be at most {MAX_SERVERS}"
-    );
+    page.push_number("error: there are ", count as u64);
+    page.push_number(" servers, and there may be at most ", MAX_SERVERS as u64);
     page.push_spot(spot);
 }
 

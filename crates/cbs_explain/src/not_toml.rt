@@ -4,13 +4,8 @@ use crate::page::Page;
 use cbs_findings::{Broken, Position, Quote, broken_at};
 use toml::de::Error;
 
-/// Appends what is wrong at a place of a text, the place, and its line with carets.
-fn append_broken(page: &mut Page, name: &str, broken: Broken<'_>) {
-    let Position {
-        number,
-        before,
-        after,
-    } = broken.position;
+/// Appends what is wrong.
+fn append_sentence(page: &mut Page, broken: Broken<'_>) {
     match broken.unclosed() {
         Some(Quote { column, mark }) => write!(
             page,
@@ -21,8 +16,18 @@ fn append_broken(page: &mut Page, name: &str, broken: Broken<'_>) {
             page.push(broken.sentence());
         }
     }
+}
+
+/// Appends what is wrong at a place of a text, the place, and its line with carets.
+fn append_broken(page: &mut Page, name: &str, broken: Broken<'_>) {
+    let Position {
+        number,
+        before,
+        after,
+    } = broken.position;
     let from = before.chars().count();
     let column = from.saturating_add(1);
+    append_sentence(page, broken);
     writeln!(page, "\n  --> {name}:{number}:{column}");
     let gutter = format!(in page.alloc; "{number} ");
     if let Some(gutter) = page.accept(gutter) {

@@ -23,10 +23,13 @@ fn append_keys(page: &mut Page, subject: Subject) {
 
 /// Returns the names of those keys that may be left out. The only error is out of memory.
 fn optional_names(alloc: Global, keys: &[Key]) -> Result<Vec<&'static str>, AllocError> {
-    keys.iter()
-        .filter(|key| !key.required)
-        .map(|key| key.name)
-        .collect(alloc)
+    let mut names = Vec::new(alloc);
+    for key in keys {
+        if !key.required {
+            names.push(key.name)?;
+        }
+    }
+    Ok(names)
 }
 
 /// Appends which keys may be left out.

@@ -99,14 +99,8 @@ fn append_parts(page: &mut Page, document: Document<'_>, parts: &[Part]) {
     }
 }
 
-/// Appends that a server is over the bound even alone.
-fn append_alone(page: &mut Page, server: usize) {
-    let words = format!(in page.alloc; "server {server} is over the bound even alone");
-    page.push_note(MARGIN, "help", words);
-}
-
-/// Appends a split of all servers over several executors, if there is one. It has as few executors as the first-fit
-/// method finds.
+/// Appends a split of all servers over several executors, or that one of them is over the bound even alone. A split has
+/// as few executors as the first-fit method finds.
 fn append_split(page: &mut Page, document: Document<'_>, refused: &Refused) {
     let all = reservations(page.alloc, document.servers);
     let Some(Some(all)) = page.accept(all) else {
@@ -114,7 +108,10 @@ fn append_split(page: &mut Page, document: Document<'_>, refused: &Refused) {
     };
     match split(page.alloc, refused.plan.bound(), &all) {
         Ok(parts) => append_parts(page, document, &parts),
-        Err(SplitError::OverBound { server }) => append_alone(page, server),
+        Err(SplitError::OverBound { server }) => {
+            let words = format!(in page.alloc; "server {server} is over the bound even alone");
+            page.push_note(MARGIN, "help", words);
+        }
         Err(SplitError::OutOfMemory) => page.fail(),
     }
 }

@@ -116,8 +116,8 @@ impl Page {
     }
 
     /// Appends a line of a document, and carets below the `count` characters from the character `from` on, at least
-    /// one. `gutter` is the line's number, or blanks, and stands before the bar. A remark may follow, and the end of the
-    /// line has to.
+    /// one. `gutter` is the line's number, or blanks, and stands before the bar. A remark may follow, and the end of
+    /// the line has to.
     pub(crate) fn push_line(&mut self, gutter: &str, line: &[&str], from: usize, count: usize) {
         let margin = gutter.len();
         self.push_bar(margin);
