@@ -1,6 +1,12 @@
-use Rattle.std.proofs.Common.{suc, ◌∙◌, subst}
+use Rattle.std.proofs.Common.{◌≡◌, suc, ◌∙◌, Result, Ok, Err, subst}
+use Rattle.std.specs.Prelude.{IfErr, MatchResult}
+use Rattle.cbs_job.specs.declared.work.Work.{Ghosts}
+use Rattle.cbs_clients.specs.declared.error.HouseError.{HouseError}
+use Rattle.cbs_clients.specs.declared.error.HouseError.TheVariants.{OutOfMemory}
+use Rattle.cbs_clients.specs.declared.house.House.{House}
 use Rattle.cbs_clients.specs.Houses.{Polled}
 use Rattle.cbs_steps.specs.Continuations.{MayDrain}
+use Rattle.cbs_house.specs.Rounds.{Halts}
 use Rattle.cbs_house.proofs.Feeds.{opened_moved}
 use Rattle.cbs_clients.proofs.Moves.{serves_then, serves_poll, serves_drain}
 use Rattle.cbs_house.proofs.StandingMessages.{answered_ok, poll_takes, not_full, standing_looked, standing_moved}
@@ -59,3 +65,15 @@ returns-in_default-clause-taken g c =
     let polled = subst (λ s. Polled work h s p.result p.new.self) c.server-server.ensures p.ensures.polled in
     answered_ok c.memory_for-in_default.result _ _ c.memory_for-in_default.ensures
     (λ memory n standing. poll_takes work h p.new.self client p.result h.housed client.last c.requires.opened polled memory c.in_default.not-Full n standing)
+
+-- a house halts for want of memory
+memory_halts : {W A : Type 0} {g : Ghosts W} (X : Type 0) (r : Result (Unit {0}) HouseError) (h : House W A g) → MatchResult r (λ _. X) (λ e. e ≡ OutOfMemory)
+    → IfErr r (λ e. Halts e h)
+memory_halts X (Ok x) h is = tt
+memory_halts X (Err e) h is = rw is tt
+
+pub returns-in_ok-drain_metered-in-Full-clause-halts : goal.returns-in_ok-drain_metered-in-Full-clause-halts
+returns-in_ok-drain_metered-in-Full-clause-halts g c = memory_halts _ c.memory_for.result c.poll-in-Full.new.self c.memory_for.ensures
+
+pub returns-in_default-clause-halts : goal.returns-in_default-clause-halts
+returns-in_default-clause-halts g c = memory_halts _ c.memory_for-in_default.result c.poll.new.self c.memory_for-in_default.ensures
