@@ -1,5 +1,5 @@
 use Rattle.std.proofs.Common.{◌≡◌, ◌==◌, ◌-◌, suc, length, true, false, Some, None, [], codes, sym, ap, ◌∙◌, rules, arith}
-use Rattle.std.proofs.lemmas.Grind.{common_steps}
+use Rattle.std.proofs.lemmas.Bool.{eqb-true, eq-eqb, ne_eqb}
 use Rattle.toml_parser.specs.Lexical.{first, skip_blank, skip_ws}
 use Rattle.toml_parser.specs.Reading.{key_view}
 use Rattle.toml_parser.specs.Strings.{Key}
@@ -34,7 +34,7 @@ returns-then-is_empty-clause-value c =
     let room = l.invariant.3 in
     let loop = l.invariant.4 in
     let start_is = c.skip_blank-start.ensures.rest in
-    let none : length start ≡ 0 = grind (arith, common_steps) in
+    let none : length start ≡ 0 = eqb-true _ _ (rw (← start_is, ← c.is_empty.ensures) c.if-is_empty.true) in
     let ended = loop ∙ lines_end m doc l.rest.now (omega arith) none in
     document_some c.args.s.now doc ended ∙ ap Some (close-nodes_of (table_view l.table))
 
@@ -47,8 +47,8 @@ returns-in_err-key-clause-value c =
     let room = l.invariant.3 in
     let loop = l.invariant.4 in
     let start_is = c.skip_blank-start.ensures.rest in
-    let other : (length start == 0) ≡ false = grind (arith, common_steps) in
-    let pair : (first start == 91) ≡ false = grind (arith, common_steps) in
+    let other : (length start == 0) ≡ false = rw (← start_is, ← c.is_empty.ensures) c.if-is_empty.false in
+    let pair : (first start == 91) ≡ false = rw (← start_is, ← c.first.ensures) (ne_eqb _ _ c.if-first-eq91.false) in
     document_err c.from_residual.result _ c.in_err-key.field-0.0 _ c.from_residual.ensures.1 (λ y p. p) λ refused.
     document_none c.args.s.now (loop ∙ lines_bad m doc l.rest.now (omega arith) other
     (line_no_key start pair (rw start_is at (c.in_err-key.ensures.value refused))))
@@ -62,8 +62,8 @@ returns-in_err-value-clause-value c =
     let room = l.invariant.3 in
     let loop = l.invariant.4 in
     let start_is = c.skip_blank-start.ensures.rest in
-    let other : (length start == 0) ≡ false = grind (arith, common_steps) in
-    let pair : (first start == 91) ≡ false = grind (arith, common_steps) in
+    let other : (length start == 0) ≡ false = rw (← start_is, ← c.is_empty.ensures) c.if-is_empty.false in
+    let pair : (first start == 91) ≡ false = rw (← start_is, ← c.first.ensures) (ne_eqb _ _ c.if-first-eq91.false) in
     let key : Key = key_view c.in_ok-key.key in
     let read_key : key_equals start ≡ Some (key, c.in_ok-key.at_value.now) = rw start_is at c.in_ok-key.ensures.value in
     document_err c.from_residual-in_err-value.result _ c.in_err-value.field-0.0 _ c.from_residual-in_err-value.ensures.1 (λ y p. p) λ refused.
@@ -79,8 +79,8 @@ returns-then-not-ends_line-2-clause-value c e =
     let room = l.invariant.3 in
     let loop = l.invariant.4 in
     let start_is = c.skip_blank-start.ensures.rest in
-    let other : (length start == 0) ≡ false = grind (arith, common_steps) in
-    let pair : (first start == 91) ≡ false = grind (arith, common_steps) in
+    let other : (length start == 0) ≡ false = rw (← start_is, ← c.is_empty.ensures) c.if-is_empty.false in
+    let pair : (first start == 91) ≡ false = rw (← start_is, ← c.first.ensures) (ne_eqb _ _ c.if-first-eq91.false) in
     let key : Key = key_view c.in_ok-key.key in
     let read_key : key_equals start ≡ Some (key, c.in_ok-key.at_value.now) = rw start_is at c.in_ok-key.ensures.value in
     let after = c.in_ok-value.after.now in
@@ -97,8 +97,8 @@ returns-in_err-put-clause-value c =
     let room = l.invariant.3 in
     let loop = l.invariant.4 in
     let start_is = c.skip_blank-start.ensures.rest in
-    let other : (length start == 0) ≡ false = grind (arith, common_steps) in
-    let pair : (first start == 91) ≡ false = grind (arith, common_steps) in
+    let other : (length start == 0) ≡ false = rw (← start_is, ← c.is_empty.ensures) c.if-is_empty.false in
+    let pair : (first start == 91) ≡ false = rw (← start_is, ← c.first.ensures) (ne_eqb _ _ c.if-first-eq91.false) in
     let key : Key = key_view c.in_ok-key.key in
     let read_key : key_equals start ≡ Some (key, c.in_ok-key.at_value.now) = rw start_is at c.in_ok-key.ensures.value in
     let after = c.in_ok-value.after.now in
@@ -117,8 +117,8 @@ lines-preserved c =
     let room = l.invariant.3 in
     let loop = l.invariant.4 in
     let start_is = c.skip_blank-start.ensures.rest in
-    let other : (length start == 0) ≡ false = grind (arith, common_steps) in
-    let pair : (first start == 91) ≡ false = grind (arith, common_steps) in
+    let other : (length start == 0) ≡ false = rw (← start_is, ← c.is_empty.ensures) c.if-is_empty.false in
+    let pair : (first start == 91) ≡ false = rw (← start_is, ← c.first.ensures) (ne_eqb _ _ c.if-first-eq91.false) in
     let key : Key = key_view c.in_ok-key.key in
     let read_key : key_equals start ≡ Some (key, c.in_ok-key.at_value.now) = rw start_is at c.in_ok-key.ensures.value in
     let after = c.in_ok-value.after.now in
@@ -144,12 +144,12 @@ returns-in_err-read-clause-value c =
     let room = l.invariant.3 in
     let loop = l.invariant.4 in
     let start_is = c.skip_blank-start.ensures.rest in
-    let other : (length start == 0) ≡ false = grind (arith, common_steps) in
-    let pair : (first start == 91) ≡ false = grind (arith, common_steps) in
+    let other : (length start == 0) ≡ false = rw (← start_is, ← c.is_empty.ensures) c.if-is_empty.false in
+    let pair : (first start == 91) ≡ false = rw (← start_is, ← c.first.ensures) (ne_eqb _ _ c.if-first-eq91.false) in
     let key : Key = key_view c.in_ok-key.key in
     let read_key : key_equals start ≡ Some (key, c.in_ok-key.at_value.now) = rw start_is at c.in_ok-key.ensures.value in
     let text = c.in_ok-key.at_value.now in
-    let opens : (first text == 91) ≡ true = grind (arith, common_steps) in
+    let opens : (first text == 91) ≡ true = eq-eqb _ _ (sym c.first-then-is_step.ensures ∙ c.if-first-eq91-2.true) in
     document_err c.from_residual-in_err-read.result _ c.in_err-read.field-0.0 _ c.from_residual-in_err-read.ensures.1 (λ y p. p) λ refused.
     let none : val 80 text ≡ None = val_open_array 80 text (omega arith) opens
     ∙ rw (← c.skip.ensures.rest, c.in_err-read.ensures.value (length text) c.skip.ensures.shorter refused) in
@@ -164,12 +164,12 @@ returns-then-not-ends_line-clause-value c e =
     let room = l.invariant.3 in
     let loop = l.invariant.4 in
     let start_is = c.skip_blank-start.ensures.rest in
-    let other : (length start == 0) ≡ false = grind (arith, common_steps) in
-    let pair : (first start == 91) ≡ false = grind (arith, common_steps) in
+    let other : (length start == 0) ≡ false = rw (← start_is, ← c.is_empty.ensures) c.if-is_empty.false in
+    let pair : (first start == 91) ≡ false = rw (← start_is, ← c.first.ensures) (ne_eqb _ _ c.if-first-eq91.false) in
     let key : Key = key_view c.in_ok-key.key in
     let read_key : key_equals start ≡ Some (key, c.in_ok-key.at_value.now) = rw start_is at c.in_ok-key.ensures.value in
     let text = c.in_ok-key.at_value.now in
-    let opens : (first text == 91) ≡ true = grind (arith, common_steps) in
+    let opens : (first text == 91) ≡ true = eq-eqb _ _ (sym c.first-then-is_step.ensures ∙ c.if-first-eq91-2.true) in
     let (ds, got, spells) = c.in_ok-read.ensures.value (length text) c.skip.ensures.shorter in
     let after = c.in_ok-read.after.now in
     let read_steps : val 80 text ≡ Some (array ds, after) = val_open_array 80 text (omega arith) opens ∙ rw (← c.skip.ensures.rest, got) in
@@ -185,13 +185,13 @@ returns-then-first-eq91-2-clause-value c =
     let room = l.invariant.3 in
     let loop = l.invariant.4 in
     let start_is = c.skip_blank-start.ensures.rest in
-    let other : (length start == 0) ≡ false = grind (arith, common_steps) in
-    let pair : (first start == 91) ≡ false = grind (arith, common_steps) in
+    let other : (length start == 0) ≡ false = rw (← start_is, ← c.is_empty.ensures) c.if-is_empty.false in
+    let pair : (first start == 91) ≡ false = rw (← start_is, ← c.first.ensures) (ne_eqb _ _ c.if-first-eq91.false) in
     let step : Key = ([], codes "step") in
     let is_step : key_view c.in_ok-key.key ≡ step = c.is_step.ensures c.if-is_step.true in
     let read_key : key_equals start ≡ Some (step, c.in_ok-key.at_value.now) = rw is_step at (rw start_is at c.in_ok-key.ensures.value) in
     let text = c.in_ok-key.at_value.now in
-    let opens : (first text == 91) ≡ true = grind (arith, common_steps) in
+    let opens : (first text == 91) ≡ true = eq-eqb _ _ (sym c.first-then-is_step.ensures ∙ c.if-first-eq91-2.true) in
     let (ds, got, spells) = c.in_ok-read.ensures.value (length text) c.skip.ensures.shorter in
     let after = c.in_ok-read.after.now in
     let read_steps : val 80 text ≡ Some (array ds, after) = val_open_array 80 text (omega arith) opens ∙ rw (← c.skip.ensures.rest, got) in
@@ -207,7 +207,7 @@ returns-then-first-eq91-2-clause-value c =
     let shorter_still = c.in_ok-read.ensures.shorter in
     let before = c.skip_blank-start.ensures.within in
     let blank_is = c.skip_blank.ensures.rest in
-    let over : length (skip_blank after) ≡ 0 = grind (arith, common_steps) in
+    let over : length (skip_blank after) ≡ 0 = eqb-true _ _ (rw (← blank_is, ← c.is_empty-then-first-eq91-2.ensures) c.if-not-is_empty.false) in
     let ended = loop ∙ lines_more m doc next l.rest.now _ after (omega arith) other read
     (rw (nodes_of-insert_member (codes "step") (array ds) ms) defined) ∙ lines_end (m - 1) next after (omega arith) over in
     (ds, document_some c.args.s.now next ended ∙ ap Some (close-nodes_of (insert_member (codes "step") (array ds) ms)), none, spells)
