@@ -1,5 +1,5 @@
 -- The pictures of a load and of a task file.
-use Rattle.std.specs.Prelude.{◌≡◌, ℕ, ◌≤◌, List, length, map, sum_by, string_bytes}
+use Rattle.std.specs.Prelude.{◌≡◌, ℕ, List, length, map, sum_by, string_bytes}
 use Rattle.std.specs.List.{range_with_len}
 use Rattle.cbs_chart.specs.Charts.{IsChart}
 use Rattle.cbs_chart.specs.declared.chart.Chart.{Chart}
