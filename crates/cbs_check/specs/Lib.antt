@@ -1,3 +1,4 @@
+pub mod Cells
 pub mod Fractions
 pub mod Servers
 pub mod Sources

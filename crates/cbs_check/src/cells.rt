@@ -1,60 +1,72 @@
 //! Cells of the tables. The only error of each call is out of memory.
 
-ghost use Rattle.std.specs.Prelude.{◌≡◌, ◌++◌, [], ◌∷◌, ◌<◌, decimal, OnOk, string_bytes};
-ghost use Rattle.cbs_text.specs.Columns.{plain, marked_if};
-ghost use Rattle.cbs_check.specs.Fractions.{fraction_text, percent_text};
+ghost use Rattle.std.specs.Prelude.{◌≡◌, IfOk, map, string_bytes};
+ghost use Rattle.cbs_check.specs.Cells.{is_marked, shown_text, cell_of};
 
-use crate::fractions::{append_fraction, append_percent};
-use cbs_text::{Cell, append_pair};
+use crate::fractions::Share;
+use cbs_text::Cell;
 use std::alloc::{AllocError, Global};
 
-/// Adds a cell with a word to a row.
-pub(crate) fn push_word(alloc: Global, row: &mut Vec<Cell>, word: &str) -> Result<(), AllocError>
-    ensures { OnOk result (row.new.items ≡ row.old.items ++ plain word.now ∷ []) }
-{
-    row.push(Cell::new(String::from_str(alloc, word)?))?;
-    Ok(())
+/// What a cell shows.
+#[derive(Clone, Copy)]
+pub(crate) enum Shown<'a> {
+    /// A word or a name.
+    Word(&'a str),
+    /// A number.
+    Number(u64),
+    /// The least and the greatest number of a range.
+    Range(u64, u64),
+    /// That each job is finished in time: within this many ticks.
+    Promise(u64),
+    /// A share, as a shortened fraction.
+    Fraction(Share),
+    /// The same. Its cell is marked if the condition holds.
+    MarkedFraction(Share, bool),
+    /// A share, in per cent.
+    Percent(Share),
 }
 
-/// Adds a cell with a number to a row.
-pub(crate) fn push_number(alloc: Global, row: &mut Vec<Cell>, number: u64) -> Result<(), AllocError>
-    ensures { OnOk result (row.new.items ≡ row.old.items ++ plain (decimal number) ∷ []) }
-{
-    let mut text = String::new(alloc);
-    append_pair(&mut text, "", number)?;
-    row.push(Cell::new(text))?;
-    Ok(())
+impl Shown<'_> {
+    /// Returns the text of the cell.
+    fn text(self, alloc: Global) -> Result<String, AllocError>
+        ensures { IfOk result (λ text. string_bytes text ≡ shown_text self.entry) }
+    {
+        match self {
+            Shown::Word(word) => String::from_str(alloc, word),
+            Shown::Number(number) => number.to_string(alloc),
+            Shown::Range(least, greatest) => format!(in alloc; "{least}..{greatest}"),
+            Shown::Promise(time) => format!(in alloc; "yes, by {time}"),
+            Shown::Fraction(share) | Shown::MarkedFraction(share, _) => share.fraction(alloc),
+            Shown::Percent(share) => share.percent(alloc),
+        }
+    }
+
+    /// Returns whether the cell is marked.
+    fn is_marked(self) -> bool
+        ensures { result ≡ is_marked self.entry }
+    {
+        match self {
+            Shown::MarkedFraction(_, marked) => marked,
+            _ => false,
+        }
+    }
+
+    /// Returns the cell.
+    fn cell(self, alloc: Global) -> Result<Cell, AllocError>
+        ensures { IfOk result (λ cell. cell ≡ cell_of self.entry) }
+    {
+        let text = self.text(alloc)?;
+        Ok(Cell::new(text).marked_if(self.is_marked()))
+    }
 }
 
-/// Adds a cell with a part of a whole to a row, as a shortened fraction. The cell is marked if `marked` is true.
-pub(crate) fn push_fraction(
-    alloc: Global,
-    row: &mut Vec<Cell>,
-    part: u64,
-    whole: u64,
-    marked: bool,
-) -> Result<(), AllocError>
-    requires { 0 < whole }
-    ensures { OnOk result (row.new.items ≡ row.old.items ++ marked_if marked (fraction_text part whole) ∷ []) }
+/// Returns a row of cells that show this.
+pub(crate) fn cells(alloc: Global, shown: &[Shown<'_>]) -> Result<Vec<Cell>, AllocError>
+    ensures { IfOk result (λ row. row.items ≡ map cell_of shown.now) }
 {
-    let mut text = String::new(alloc);
-    append_fraction(&mut text, "", u128::from(part), u128::from(whole))?;
-    row.push(Cell::new(text).marked_if(marked))?;
-    Ok(())
-}
-
-/// Adds a cell with a part of a whole to a row, in per cent.
-pub(crate) fn push_percent(
-    alloc: Global,
-    row: &mut Vec<Cell>,
-    part: u64,
-    whole: u64,
-) -> Result<(), AllocError>
-    requires { 0 < whole }
-    ensures { OnOk result (row.new.items ≡ row.old.items ++ plain (percent_text part whole) ∷ []) }
-{
-    let mut text = String::new(alloc);
-    append_percent(&mut text, part, whole)?;
-    row.push(Cell::new(text))?;
-    Ok(())
+    let mut row = Vec::with_capacity(alloc, shown.len())?;
+    for &one in shown {
+        row.push(one.cell(alloc)?)?;
+    }
+    Ok(row)
 }

@@ -1,11 +1,48 @@
 //! Shares of the time as text.
 
-ghost use Rattle.std.specs.Prelude.{◌≡◌, ◌++◌, ◌<◌, OnOk, string_bytes};
+ghost use Rattle.std.specs.Prelude.{◌≡◌, ◌++◌, ◌<◌, IfOk, OnOk, string_bytes};
 ghost use Rattle.cbs_check.specs.Fractions.{greatest_divisor, fraction_text, percent_text};
 
 use cbs_size::greatest_common_divisor;
 use cbs_text::append_pair;
-use std::alloc::AllocError;
+use std::alloc::{AllocError, Global};
+
+/// A part of a whole.
+#[derive(Clone, Copy)]
+pub(crate) struct Share {
+    part: u64,
+    whole: u64,
+    ghost some: { 0 < whole },
+}
+
+impl Share {
+    /// Returns a part of a whole.
+    pub(crate) fn new(part: u64, whole: u64) -> Share
+        requires { 0 < whole }
+        ensures part { result.part ≡ part }
+        ensures whole { result.whole ≡ whole }
+    {
+        Share { part, whole }
+    }
+
+    /// Returns the share as a shortened fraction. The only error is out of memory.
+    pub(crate) fn fraction(self, alloc: Global) -> Result<String, AllocError>
+        ensures { IfOk result (λ text. string_bytes text ≡ fraction_text self.part self.whole) }
+    {
+        let mut text = String::new(alloc);
+        append_fraction(&mut text, "", u128::from(self.part), u128::from(self.whole))?;
+        Ok(text)
+    }
+
+    /// Returns the share in per cent. The only error is out of memory.
+    pub(crate) fn percent(self, alloc: Global) -> Result<String, AllocError>
+        ensures { IfOk result (λ text. string_bytes text ≡ percent_text self.part self.whole) }
+    {
+        let mut text = String::new(alloc);
+        append_percent(&mut text, self.part, self.whole)?;
+        Ok(text)
+    }
+}
 
 /// Returns the greatest number that divides both.
 fn divisor(part: u128, whole: u128) -> u128
@@ -34,7 +71,7 @@ pub(crate) fn append_fraction(
 
 /// Appends a part of a whole in per cent, with one decimal, rounded, a half upward. The only error is out of memory.
 #[tactic(auto, unfolding(crate::specs::Fractions::percent_text))]
-pub(crate) fn append_percent(text: &mut String, part: u64, whole: u64) -> Result<(), AllocError>
+fn append_percent(text: &mut String, part: u64, whole: u64) -> Result<(), AllocError>
     requires { 0 < whole }
     ensures { OnOk result (string_bytes text.new ≡ string_bytes text.old ++ percent_text part whole) }
 {

@@ -1,28 +1,32 @@
 //! The table of the servers.
 
-ghost use Rattle.std.specs.Prelude.{◌≡◌, ◌++◌, [], ◌∷◌, length, map, IfOk, OnOk, string_bytes};
+ghost use Rattle.std.specs.Prelude.{◌≡◌, ◌++◌, length, map, IfOk, OnOk, string_bytes};
 ghost use Rattle.cbs_text.specs.Columns.{columns_text, rows_of};
 ghost use Rattle.cbs_check.specs.Servers.{server_row, servers_heading, total_row, servers_table};
 
-use crate::cells::{push_fraction, push_number, push_percent, push_word};
+use crate::cells::{Shown, cells};
+use crate::fractions::Share;
 use cbs_rate::{Plan, Reservation};
 use cbs_rules::{Mode, Modes};
-use cbs_text::{Cell, append_columns, mode_word};
+use cbs_text::{Cell, append_columns, mode_word, words};
 use std::alloc::{AllocError, Global};
 
 /// Returns the heading of the table.
 fn heading(alloc: Global) -> Result<Vec<Cell>, AllocError>
     ensures { IfOk result (λ row. row.items ≡ servers_heading) }
 {
-    let mut row = Vec::with_capacity(alloc, 7)?;
-    push_word(alloc, &mut row, "SERVER")?;
-    push_word(alloc, &mut row, "mode")?;
-    push_word(alloc, &mut row, "budget")?;
-    push_word(alloc, &mut row, "period")?;
-    push_word(alloc, &mut row, "share")?;
-    push_word(alloc, &mut row, "")?;
-    push_word(alloc, &mut row, "greatest budget")?;
-    Ok(row)
+    words(
+        alloc,
+        &[
+            "SERVER",
+            "mode",
+            "budget",
+            "period",
+            "share",
+            "",
+            "greatest budget",
+        ],
+    )
 }
 
 /// Returns the row of a server.
@@ -35,17 +39,19 @@ fn server_row(
 ) -> Result<Vec<Cell>, AllocError>
     ensures { IfOk result (λ row. row.items ≡ server_row name.now mode rate greatest) }
 {
-    let budget = rate.budget();
-    let period = rate.period();
-    let mut row = Vec::with_capacity(alloc, 7)?;
-    push_word(alloc, &mut row, name)?;
-    push_word(alloc, &mut row, mode_word(mode))?;
-    push_number(alloc, &mut row, budget)?;
-    push_number(alloc, &mut row, period)?;
-    push_fraction(alloc, &mut row, budget, period, false)?;
-    push_percent(alloc, &mut row, budget, period)?;
-    push_number(alloc, &mut row, greatest)?;
-    Ok(row)
+    let share = Share::new(rate.budget(), rate.period());
+    cells(
+        alloc,
+        &[
+            Shown::Word(name),
+            Shown::Word(mode_word(mode)),
+            Shown::Number(rate.budget()),
+            Shown::Number(rate.period()),
+            Shown::Fraction(share),
+            Shown::Percent(share),
+            Shown::Number(greatest),
+        ],
+    )
 }
 
 /// Returns the row for all servers together.
@@ -53,14 +59,18 @@ fn total_row(alloc: Global, plan: &Plan) -> Result<Vec<Cell>, AllocError>
     ensures { IfOk result (λ row. row.items ≡ total_row plan.now.rates) }
 {
     let reserved = plan.bandwidth();
-    let mut row = Vec::with_capacity(alloc, 6)?;
-    push_word(alloc, &mut row, "all")?;
-    push_word(alloc, &mut row, "")?;
-    push_word(alloc, &mut row, "")?;
-    push_word(alloc, &mut row, "")?;
-    push_fraction(alloc, &mut row, reserved.ticks, reserved.of, false)?;
-    push_percent(alloc, &mut row, reserved.ticks, reserved.of)?;
-    Ok(row)
+    let share = Share::new(reserved.ticks, reserved.of);
+    cells(
+        alloc,
+        &[
+            Shown::Word("all"),
+            Shown::Word(""),
+            Shown::Word(""),
+            Shown::Word(""),
+            Shown::Fraction(share),
+            Shown::Percent(share),
+        ],
+    )
 }
 
 /// Returns the rows of the table.

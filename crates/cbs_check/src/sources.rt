@@ -1,74 +1,49 @@
 //! The table of the sources.
 
-ghost use Rattle.std.specs.Prelude.{◌≡◌, ◌++◌, [], ◌∷◌, ◌<◌, length, IfOk, OnOk, string_bytes};
+ghost use Rattle.std.specs.Prelude.{◌≡◌, ◌++◌, ◌<◌, length, IfOk, OnOk, string_bytes};
 ghost use Rattle.cbs_text.specs.Columns.{plain, rows_of};
 ghost use Rattle.cbs_text.specs.Numbers.{number_text};
-ghost use Rattle.cbs_check.specs.Sources.{range_text, promise_text, in_time_text, is_asking_too_much, source_row, sources_heading, sources_table, sources_text};
+ghost use Rattle.cbs_check.specs.Cells.{cell_of};
+ghost use Rattle.cbs_check.specs.Sources.{range_text, in_time_text, is_asking_too_much, source_row, sources_heading, sources_table, sources_text};
 
-use crate::cells::{push_fraction, push_number, push_word};
+use crate::cells::{Shown, cells};
+use crate::fractions::Share;
 use cbs_load::Load;
 use cbs_rate::Reservation;
 use cbs_simulate::{Range, SourceTerms};
 use cbs_size::{ServerLoad, is_within};
-use cbs_text::{Cell, append_columns, append_pair};
+use cbs_text::{Cell, append_columns, words};
 use std::alloc::{AllocError, Global};
 
-/// Adds a cell with a range of numbers to a row.
-fn push_range(alloc: Global, row: &mut Vec<Cell>, range: Range) -> Result<(), AllocError>
-    ensures { OnOk result (row.new.items ≡ row.old.items ++ plain (range_text range) ∷ []) }
+/// Returns what a cell shows of a range of numbers. A range of one number is shown as that number.
+fn range_shown(range: Range) -> Shown<'static>
+    ensures { cell_of result ≡ plain (range_text range) }
 {
     let least = range.least();
     let greatest = range.greatest();
     if least == greatest {
-        return push_number(alloc, row, least);
+        return Shown::Number(least);
     }
-    let mut text = String::new(alloc);
-    append_pair(&mut text, "", least)?;
-    append_pair(&mut text, "..", greatest)?;
-    row.push(Cell::new(text))?;
-    Ok(())
+    Shown::Range(least, greatest)
 }
 
-/// Adds a cell with a number to a row, or with `-` if there is no number.
-fn push_optional(alloc: Global, row: &mut Vec<Cell>, number: Option<u64>) -> Result<(), AllocError>
-    ensures { OnOk result (row.new.items ≡ row.old.items ++ plain (number_text number) ∷ []) }
+/// Returns what a cell shows of a number: it, or `-` if there is no number.
+fn number_shown(number: Option<u64>) -> Shown<'static>
+    ensures { cell_of result ≡ plain (number_text number) }
 {
     match number {
-        Some(number) => push_number(alloc, row, number),
-        None => push_word(alloc, row, "-"),
+        Some(number) => Shown::Number(number),
+        None => Shown::Word("-"),
     }
 }
 
-/// Adds a cell to a row: whether each job is finished in time, if it is promised to be finished within `time` ticks.
-fn push_promise(
-    alloc: Global,
-    row: &mut Vec<Cell>,
-    time: u64,
-    in_time: bool,
-) -> Result<(), AllocError>
-    ensures { OnOk result (row.new.items ≡ row.old.items ++ plain (promise_text time in_time) ∷ []) }
-{
-    if !in_time {
-        return push_word(alloc, row, "not promised");
-    }
-    let mut text = String::new(alloc);
-    append_pair(&mut text, "yes, by ", time)?;
-    row.push(Cell::new(text))?;
-    Ok(())
-}
-
-/// Adds a cell to a row: whether each job is promised to be finished within the wanted ticks.
-fn push_in_time(
-    alloc: Global,
-    row: &mut Vec<Cell>,
-    promised: Option<u64>,
-    within: Option<u64>,
-) -> Result<(), AllocError>
-    ensures { OnOk result (row.new.items ≡ row.old.items ++ plain (in_time_text promised within) ∷ []) }
+/// Returns what a cell shows of whether each job is promised to be finished within the wanted ticks.
+fn promise_shown(promised: Option<u64>, within: Option<u64>) -> Shown<'static>
+    ensures { cell_of result ≡ plain (in_time_text promised within) }
 {
     match promised {
-        None => push_word(alloc, row, "not promised"),
-        Some(time) => push_promise(alloc, row, time, is_within(time, within)),
+        Some(time) if is_within(time, within) => Shown::Promise(time),
+        _ => Shown::Word("not promised"),
     }
 }
 
@@ -84,15 +59,18 @@ fn is_asking_too_much(rate: Reservation, terms: &SourceTerms) -> bool
 fn heading(alloc: Global) -> Result<Vec<Cell>, AllocError>
     ensures { IfOk result (λ row. row.items ≡ sources_heading) }
 {
-    let mut row = Vec::with_capacity(alloc, 7)?;
-    push_word(alloc, &mut row, "SOURCE OF")?;
-    push_word(alloc, &mut row, "units")?;
-    push_word(alloc, &mut row, "every")?;
-    push_word(alloc, &mut row, "asks")?;
-    push_word(alloc, &mut row, "share")?;
-    push_word(alloc, &mut row, "within")?;
-    push_word(alloc, &mut row, "in time always")?;
-    Ok(row)
+    words(
+        alloc,
+        &[
+            "SOURCE OF",
+            "units",
+            "every",
+            "asks",
+            "share",
+            "within",
+            "in time always",
+        ],
+    )
 }
 
 /// Returns the row of a source, with the name and the reservation of its server, and the ticks that are promised.
@@ -106,18 +84,20 @@ fn source_row(
     requires { 0 < terms.now.every.least }
     ensures { IfOk result (λ row. row.items ≡ source_row name.now rate promised terms.now) }
 {
-    let marked = is_asking_too_much(rate, terms);
-    let units = terms.units.greatest();
-    let every = terms.every.least();
-    let mut row = Vec::with_capacity(alloc, 7)?;
-    push_word(alloc, &mut row, name)?;
-    push_range(alloc, &mut row, terms.units)?;
-    push_range(alloc, &mut row, terms.every)?;
-    push_fraction(alloc, &mut row, units, every, marked)?;
-    push_fraction(alloc, &mut row, rate.budget(), rate.period(), false)?;
-    push_optional(alloc, &mut row, terms.within)?;
-    push_in_time(alloc, &mut row, promised, terms.within)?;
-    Ok(row)
+    let asked = Share::new(terms.units.greatest(), terms.every.least());
+    let reserved = Share::new(rate.budget(), rate.period());
+    cells(
+        alloc,
+        &[
+            Shown::Word(name),
+            range_shown(terms.units),
+            range_shown(terms.every),
+            Shown::MarkedFraction(asked, is_asking_too_much(rate, terms)),
+            Shown::Fraction(reserved),
+            number_shown(terms.within),
+            promise_shown(promised, terms.within),
+        ],
+    )
 }
 
 /// Returns the rows of the table.

@@ -1,3 +1,4 @@
+pub mod Cells
 pub mod Notes
 pub mod Numbers
 pub mod Reports

@@ -6,7 +6,7 @@ ghost use Rattle.cbs_print.specs.Numbers.{percent_tenths, mean_tenths};
 use std::fmt;
 
 /// A part of a whole, in per cent with one decimal, rounded, a half upward. If the whole is 0, it is written as `-`.
-#[derive(Drop)]
+#[derive(Clone, Copy)]
 pub(crate) struct Percent {
     part: u128,
     whole: u64,
@@ -49,7 +49,7 @@ impl fmt::Display for Percent {
 }
 
 /// The mean of numbers, with one decimal, rounded, a half upward. If there is no number, it is written as `-`.
-#[derive(Drop)]
+#[derive(Clone, Copy)]
 pub(crate) struct Mean {
     /// The sum of the numbers.
     pub total: u128,

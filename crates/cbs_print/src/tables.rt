@@ -1,27 +1,28 @@
 //! The tables of a report.
 
-ghost use Rattle.std.specs.Prelude.{◌≡◌, ◌≤◌, [], ◌∷◌, ◌++◌, IfOk, OnOk, codes, length, replicate};
+ghost use Rattle.std.specs.Prelude.{◌≡◌, ◌≤◌, ◌++◌, IfOk, OnOk, length};
 ghost use Rattle.cbs_text.specs.Columns.{plain, rows_of};
 ghost use Rattle.cbs_text.specs.Numbers.{number_text};
+ghost use Rattle.cbs_print.specs.Cells.{cell_of};
 ghost use Rattle.cbs_print.specs.Tables.{late_cell, jobs_row, jobs_total, jobs_table, ticks_row, ticks_total, ticks_table, within_text, rank_cells, response_row, response_table, early_row, early_table, charges_row, charges_total, charges_table};
 
-use crate::cells::{add, add_marked, words};
+use crate::cells::{Shown, add, cells};
 use crate::numbers::{Mean, Percent};
 use crate::report::{RunReport, ServerReport};
 use crate::totals::Total;
-use cbs_text::Cell;
+use cbs_text::{Cell, words};
 use std::alloc::{AllocError, Global};
 
-/// Adds a cell with the number of late jobs, or with `-` if no time is wanted.
-fn add_late(alloc: Global, row: &mut Vec<Cell>, server: &ServerReport) -> Result<(), AllocError>
-    ensures { OnOk result (row.new.items ≡ row.old.items ++ late_cell server.now.figures server.now.within ∷ []) }
+/// Returns what a cell shows of the late jobs of a server: their number, or `-` if no time is wanted.
+fn late_shown(server: &ServerReport) -> Shown<'static>
+    ensures { cell_of result ≡ late_cell server.now.figures server.now.within }
 {
     match &server.within {
         Some(_) => {
             let late = server.late();
-            add_marked(alloc, row, late, late > 0)
+            Shown::Marked(late, late > 0)
         }
-        None => add(alloc, row, "-"),
+        None => Shown::Word("-"),
     }
 }
 
@@ -30,16 +31,19 @@ fn jobs_row(alloc: Global, backlog: u64, server: &ServerReport) -> Result<Vec<Ce
     ensures { IfOk result (λ row. row.items ≡ jobs_row backlog server.now) }
 {
     let figures = &server.figures;
-    let greatest = figures.greatest_backlog;
-    let mut row = Vec::with_capacity(alloc, 7)?;
-    add(alloc, &mut row, &server.name)?;
-    add(alloc, &mut row, server.released())?;
-    add_marked(alloc, &mut row, figures.refused, figures.refused > 0)?;
-    add(alloc, &mut row, figures.finished)?;
-    add(alloc, &mut row, figures.unfinished)?;
-    add_late(alloc, &mut row, server)?;
-    add(alloc, &mut row, format_args!("{greatest} of {backlog}"))?;
-    Ok(row)
+    let refused = u128::from(figures.refused);
+    cells(
+        alloc,
+        &[
+            Shown::Word(&server.name),
+            Shown::Sum(server.released()),
+            Shown::Marked(refused, refused > 0),
+            Shown::Number(figures.finished),
+            Shown::Number(figures.unfinished),
+            late_shown(server),
+            Shown::Pair(figures.greatest_backlog, " of ", backlog),
+        ],
+    )
 }
 
 /// Returns the last row of the table of jobs.
@@ -47,14 +51,17 @@ fn jobs_total(alloc: Global, servers: &[ServerReport]) -> Result<Vec<Cell>, Allo
     requires { length servers.now ≤ 64 }
     ensures { IfOk result (λ row. row.items ≡ jobs_total servers.now) }
 {
-    let mut row = Vec::with_capacity(alloc, 6)?;
-    add(alloc, &mut row, "all")?;
-    add(alloc, &mut row, Total::Released.of(servers))?;
-    add(alloc, &mut row, Total::Refused.of(servers))?;
-    add(alloc, &mut row, Total::Finished.of(servers))?;
-    add(alloc, &mut row, Total::Unfinished.of(servers))?;
-    add(alloc, &mut row, Total::Late.of(servers))?;
-    Ok(row)
+    cells(
+        alloc,
+        &[
+            Shown::Word("all"),
+            Shown::Sum(Total::Released.of(servers)),
+            Shown::Sum(Total::Refused.of(servers)),
+            Shown::Sum(Total::Finished.of(servers)),
+            Shown::Sum(Total::Unfinished.of(servers)),
+            Shown::Sum(Total::Late.of(servers)),
+        ],
+    )
 }
 
 /// Returns the table of jobs: how many jobs of each server came, were refused, are finished, and are late.
@@ -91,20 +98,19 @@ fn ticks_row(alloc: Global, clock: u64, server: &ServerReport) -> Result<Vec<Cel
     let budget = server.reservation.budget();
     let period = server.reservation.period();
     let asked = Percent::new(u128::from(figures.asked), clock);
-    let mut row = Vec::with_capacity(alloc, 8)?;
-    add(alloc, &mut row, &server.name)?;
-    add(alloc, &mut row, format_args!("{budget} in {period}"))?;
-    add(alloc, &mut row, Percent::new(u128::from(budget), period))?;
-    add_marked(alloc, &mut row, asked, server.is_asked_too_much(clock))?;
-    add(
+    cells(
         alloc,
-        &mut row,
-        Percent::new(u128::from(figures.run), clock),
-    )?;
-    add(alloc, &mut row, figures.run)?;
-    add(alloc, &mut row, figures.used_up)?;
-    add(alloc, &mut row, figures.throttled)?;
-    Ok(row)
+        &[
+            Shown::Word(&server.name),
+            Shown::Pair(budget, " in ", period),
+            Shown::Percent(Percent::new(u128::from(budget), period)),
+            Shown::MarkedPercent(asked, server.is_asked_too_much(clock)),
+            Shown::Percent(Percent::new(u128::from(figures.run), clock)),
+            Shown::Number(figures.run),
+            Shown::Number(figures.used_up),
+            Shown::Number(figures.throttled),
+        ],
+    )
 }
 
 /// Returns the last row of the table of ticks.
@@ -115,20 +121,20 @@ fn ticks_total(alloc: Global, report: &RunReport) -> Result<Vec<Cell>, AllocErro
     let reserved = Percent::new(u128::from(report.reserved.ticks), report.reserved.of);
     let servers = &report.servers;
     let run = Total::Run.of(servers);
-    let mut row = Vec::with_capacity(alloc, 8)?;
-    add(alloc, &mut row, "all")?;
-    add(alloc, &mut row, "")?;
-    add(alloc, &mut row, reserved)?;
-    add(
+    let asked = Percent::new(Total::Asked.of(servers), report.clock);
+    cells(
         alloc,
-        &mut row,
-        Percent::new(Total::Asked.of(servers), report.clock),
-    )?;
-    add(alloc, &mut row, Percent::new(run, report.clock))?;
-    add(alloc, &mut row, run)?;
-    add(alloc, &mut row, Total::UsedUp.of(servers))?;
-    add(alloc, &mut row, Total::Throttled.of(servers))?;
-    Ok(row)
+        &[
+            Shown::Word("all"),
+            Shown::Word(""),
+            Shown::Percent(reserved),
+            Shown::Percent(asked),
+            Shown::Percent(Percent::new(run, report.clock)),
+            Shown::Sum(run),
+            Shown::Sum(Total::UsedUp.of(servers)),
+            Shown::Sum(Total::Throttled.of(servers)),
+        ],
+    )
 }
 
 /// Returns the table of ticks: what each server has, was asked for, and ran.
@@ -158,29 +164,19 @@ pub(crate) fn ticks_table(alloc: Global, report: &RunReport) -> Result<Vec<Vec<C
     Ok(table)
 }
 
-/// Adds a cell with the ticks within which the jobs are wanted, or with `-` if there are none.
-fn add_within(alloc: Global, row: &mut Vec<Cell>, server: &ServerReport) -> Result<(), AllocError>
-    ensures { OnOk result (row.new.items ≡ row.old.items ++ plain (within_text server.now.within) ∷ []) }
+/// Returns what a cell shows of the ticks within which the jobs are wanted: them, or `-` if there are none.
+fn within_shown(server: &ServerReport) -> Shown<'static>
+    ensures { cell_of result ≡ plain (within_text server.now.within) }
 {
     let Some(within) = &server.within else {
-        return add(alloc, row, "-");
+        return Shown::Word("-");
     };
     let least = within.least();
     let greatest = within.greatest();
     if least == greatest {
-        return add(alloc, row, least);
+        return Shown::Number(least);
     }
-    add(alloc, row, format_args!("{least}..{greatest}"))
-}
-
-/// Adds the six cells of a server that has no response times.
-fn add_no_ranks(alloc: Global, row: &mut Vec<Cell>) -> Result<(), AllocError>
-    ensures { OnOk result (row.new.items ≡ row.old.items ++ replicate 6 (plain (codes "-"))) }
-{
-    for _rank in 0..6u8 {
-        add(alloc, row, "-")?;
-    }
-    Ok(())
+    Shown::Pair(least, "..", greatest)
 }
 
 /// Adds the cells of a server's response times.
@@ -189,28 +185,33 @@ fn add_ranks(alloc: Global, row: &mut Vec<Cell>, server: &ServerReport) -> Resul
 {
     let figures = &server.figures;
     let Some(ranks) = figures.responses else {
-        return add_no_ranks(alloc, row);
+        return add(alloc, row, &[Shown::Word("-"); 6]);
     };
     let mean = Mean {
         total: figures.response_total,
         count: figures.finished,
     };
-    add(alloc, row, ranks.least)?;
-    add(alloc, row, mean)?;
-    add(alloc, row, ranks.median)?;
-    add(alloc, row, ranks.p95)?;
-    add(alloc, row, ranks.p99)?;
-    add_marked(alloc, row, ranks.greatest, server.late() > 0)
+    add(
+        alloc,
+        row,
+        &[
+            Shown::Number(ranks.least),
+            Shown::Mean(mean),
+            Shown::Number(ranks.median),
+            Shown::Number(ranks.p95),
+            Shown::Number(ranks.p99),
+            Shown::Marked(u128::from(ranks.greatest), server.late() > 0),
+        ],
+    )
 }
 
 /// Returns the row of a server in the table of response times.
 fn response_row(alloc: Global, server: &ServerReport) -> Result<Vec<Cell>, AllocError>
     ensures { IfOk result (λ row. row.items ≡ response_row server.now) }
 {
-    let mut row = Vec::with_capacity(alloc, 8)?;
-    add(alloc, &mut row, &server.name)?;
+    let mut row = cells(alloc, &[Shown::Word(&server.name)])?;
     add_ranks(alloc, &mut row, server)?;
-    add_within(alloc, &mut row, server)?;
+    add(alloc, &mut row, &[within_shown(server)])?;
     Ok(row)
 }
 
@@ -235,13 +236,13 @@ pub(crate) fn response_table(
     Ok(table)
 }
 
-/// Adds a cell with a number, or with `-` if there is no number.
-fn add_number(alloc: Global, row: &mut Vec<Cell>, number: Option<u128>) -> Result<(), AllocError>
-    ensures { OnOk result (row.new.items ≡ row.old.items ++ plain (number_text number) ∷ []) }
+/// Returns what a cell shows of a number: it, or `-` if there is no number.
+fn number_shown(number: Option<u128>) -> Shown<'static>
+    ensures { cell_of result ≡ plain (number_text number) }
 {
     match number {
-        Some(number) => add(alloc, row, number),
-        None => add(alloc, row, "-"),
+        Some(number) => Shown::Sum(number),
+        None => Shown::Word("-"),
     }
 }
 
@@ -253,11 +254,14 @@ fn early_row(alloc: Global, server: &ServerReport) -> Result<Vec<Cell>, AllocErr
         total: server.figures.early_total,
         count: server.figures.early_count,
     };
-    let mut row = Vec::with_capacity(alloc, 3)?;
-    add(alloc, &mut row, &server.name)?;
-    add_number(alloc, &mut row, server.figures.early_least)?;
-    add(alloc, &mut row, mean)?;
-    Ok(row)
+    cells(
+        alloc,
+        &[
+            Shown::Word(&server.name),
+            number_shown(server.figures.early_least),
+            Shown::Mean(mean),
+        ],
+    )
 }
 
 /// Returns the table of how many ticks earlier than promised jobs were finished.
@@ -280,11 +284,14 @@ pub(crate) fn early_table(
 fn charges_row(alloc: Global, server: &ServerReport) -> Result<Vec<Cell>, AllocError>
     ensures { IfOk result (λ row. row.items ≡ charges_row server.now) }
 {
-    let mut row = Vec::with_capacity(alloc, 3)?;
-    add(alloc, &mut row, &server.name)?;
-    add(alloc, &mut row, server.figures.charged)?;
-    add(alloc, &mut row, server.figures.greatest_charge)?;
-    Ok(row)
+    cells(
+        alloc,
+        &[
+            Shown::Word(&server.name),
+            Shown::Number(server.figures.charged),
+            Shown::Number(server.figures.greatest_charge),
+        ],
+    )
 }
 
 /// Returns the last row of the table of charges.
@@ -292,10 +299,8 @@ fn charges_total(alloc: Global, servers: &[ServerReport]) -> Result<Vec<Cell>, A
     requires { length servers.now ≤ 64 }
     ensures { IfOk result (λ row. row.items ≡ charges_total servers.now) }
 {
-    let mut row = Vec::with_capacity(alloc, 2)?;
-    add(alloc, &mut row, "all")?;
-    add(alloc, &mut row, Total::Charged.of(servers))?;
-    Ok(row)
+    let charged = Total::Charged.of(servers);
+    cells(alloc, &[Shown::Word("all"), Shown::Sum(charged)])
 }
 
 /// Returns the table of charges: what each server was charged.

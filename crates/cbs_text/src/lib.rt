@@ -6,7 +6,7 @@ mod columns;
 mod modes;
 mod numbers;
 
-pub use cell::Cell;
+pub use cell::{Cell, words};
 pub use columns::append_columns;
 pub use modes::mode_word;
 pub use numbers::{append_pair, digits_of};

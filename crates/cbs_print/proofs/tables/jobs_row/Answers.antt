@@ -1,6 +1,12 @@
-use Rattle.std.proofs.Common.{arith}
-use Rattle.std.proofs.lemmas.Grind.{common_steps}
+use Rattle.std.proofs.Common.{decimal, refl, ap}
+use Rattle.cbs_text.specs.Columns.{plain}
+use Rattle.cbs_text.proofs.Rows.{consed, row_is}
 use Rattle.cbs_print.proofs.tables.jobs_row.Goals as goal
 
 pub returns : goal.returns
-returns c = grind (arith, common_steps)
+returns c =
+    row_is c.cells.result _ _ c.cells.ensures
+    (consed (ap plain c.deref.ensures)
+    (consed (ap (λ n. plain (decimal n)) c.released.ensures.value)
+    (consed (rw c.from-refused.ensures refl)
+    (consed refl (consed refl (consed c.late_shown.ensures (consed refl refl)))))))

@@ -1,6 +1,6 @@
 use Rattle.std.proofs.Common.{arith}
 use Rattle.std.proofs.lemmas.Grind.{common_steps}
-use Rattle.cbs_print.proofs.cells.words.Goals as goal
+use Rattle.cbs_text.proofs.cell.words.Goals as goal
 
 pub returns : goal.returns
 returns c = grind (arith, common_steps)

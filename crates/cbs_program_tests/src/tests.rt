@@ -1,16 +1,38 @@
-//! The parts of the library, run on worked examples.
+//! Loads and task files, their reports, pictures, traces and explanations, each called as its users call it.
 
+mod broken_files;
+mod broken_values;
+mod by_hand;
+mod charts;
+mod checks;
+mod columns;
+mod drawn;
 mod errors;
 mod fakes;
+mod faults;
+mod figures;
+mod file_traces;
 mod files;
+mod guarantees;
+mod json_texts;
+mod load_files;
 mod memory;
 mod printing;
+mod replays;
+mod reports;
+mod sample_loads;
 mod serving;
 mod shapes;
+mod simulations;
+mod sizes;
 mod streams;
+mod task_pictures;
+mod texts;
+mod timelines;
 mod traces;
 mod words;
 
+use cbs_chart::{Kind, Stretch};
 use std::alloc::Global;
 use std::fmt::{Debug, Display};
 use std::process::Abort;
@@ -24,6 +46,14 @@ fn same<T: Debug + Drop + PartialEq>(rt: &impl Abort, label: &str, answer: T, wa
 fn says(rt: &impl Abort, alloc: Global, value: &impl Display, text: &str) {
     let said = format!(in alloc; "{value}").expect(rt, "memory");
     same(rt, text, said.as_str(), text);
+}
+
+/// Ends the test unless the stretches are these: what goes on, the first tick, and the tick after the last.
+fn same_stretches(rt: &impl Abort, label: &str, answer: &[Stretch], wanted: &[(Kind, u64, u64)]) {
+    same(rt, label, answer.len(), wanted.len());
+    for (stretch, &(kind, from, to)) in answer.iter().zip(wanted) {
+        same(rt, label, *stretch, Stretch { kind, from, to });
+    }
 }
 
 /// The first example: one soft server, and a job of three units.
