@@ -42,11 +42,10 @@ note_more names rates loads s old new name rate load wrote so_far e f g =
     wrote ∙ rw (so_far, ← (note_is names rates loads s name rate load e f g)) (sym (flat_more (note_at names rates loads) s))
 
 -- the row of a source, by its parts
-pub source_row_is : (names : List (List ℕ)) (rates : List Rate) (loads : List ServerLoad) (sources : List SourceTerms) (i : ℕ) (t : SourceTerms)
-    (name : List ℕ) (rate : Rate)
-    (load : ServerLoad) → t ≡ get_or sources i t → get_or names t.server [] ≡ name → rate_at rates t.server ≡ rate → get_or loads t.server no_load ≡ load
-    → source_row name rate load.promised t ≡ row_of names rates loads (get_or sources i t)
-source_row_is names rates loads sources i t name rate load is e f g = rw (← is, e, f, g) refl
+pub source_row_is : (names : List (List ℕ)) (rates : List Rate) (loads : List ServerLoad) (t : SourceTerms) (name : List ℕ) (rate : Rate) (load : ServerLoad)
+    → get_or names t.server [] ≡ name → rate_at rates t.server ≡ rate → get_or loads t.server no_load ≡ load
+    → row_of names rates loads t ≡ source_row name rate load.promised t
+source_row_is names rates loads t name rate load e f g = rw (e, f, g) refl
 
 -- what a text is after a last word is pushed
 pub pushed : (r : Result (Unit {0}) AllocError) (new old word whole : List ℕ) → new ≡ (if is_ok r then old ++ word else old) → old ++ word ≡ whole

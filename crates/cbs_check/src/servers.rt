@@ -1,8 +1,8 @@
 //! The table of the servers.
 
-ghost use Rattle.std.specs.Prelude.{◌≡◌, ◌++◌, length, map, IfOk, OnOk, string_bytes};
+ghost use Rattle.std.specs.Prelude.{◌≡◌, ◌<◌, ◌++◌, length, map, IfOk, OnOk, string_bytes};
 ghost use Rattle.cbs_text.specs.Columns.{columns_text, rows_of};
-ghost use Rattle.cbs_check.specs.Servers.{server_row, servers_heading, total_row, servers_table};
+ghost use Rattle.cbs_check.specs.Servers.{server_row, row_at, servers_heading, total_row, servers_table};
 
 use crate::cells::{Shown, cells};
 use crate::fractions::Share;
@@ -73,6 +73,27 @@ fn total_row(alloc: Global, plan: &Plan) -> Result<Vec<Cell>, AllocError>
     )
 }
 
+/// Returns the row of the server with this number.
+fn row_at(
+    alloc: Global,
+    names: &[String],
+    modes: &Modes,
+    plan: &Plan,
+    budgets: &[u64],
+    server: u16,
+) -> Result<Vec<Cell>, AllocError>
+    requires named { length names.now ≡ length plan.now.rates }
+    requires moded { length modes.now ≡ length plan.now.rates }
+    requires counted { length budgets.now ≡ length plan.now.rates }
+    requires held { server < length plan.now.rates }
+    ensures { IfOk result (λ row. row.items ≡ row_at (map string_bytes names.now) modes.now plan.now.rates budgets.now server) }
+{
+    let name = names[usize::from(server)].as_str();
+    let mode = modes.get(server).unwrap();
+    let rate = plan.get(server).unwrap();
+    server_row(alloc, name, mode, rate, budgets[usize::from(server)])
+}
+
 /// Returns the rows of the table.
 #[tactic(auto, unfolding(crate::specs::Servers::servers_table))]
 fn rows(
@@ -92,11 +113,7 @@ fn rows(
     let mut rows = Vec::with_capacity(alloc, usize::from(servers) + 2)?;
     rows.push(heading(alloc)?)?;
     for server in 0..servers {
-        let name = names[usize::from(server)].as_str();
-        let mode = modes.get(server).unwrap();
-        let rate = plan.get(server).unwrap();
-        let greatest = budgets[usize::from(server)];
-        rows.push(server_row(alloc, name, mode, rate, greatest)?)?;
+        rows.push(row_at(alloc, names, modes, plan, budgets, server)?)?;
     }
     rows.push(total_row(alloc, plan)?)?;
     Ok(rows)

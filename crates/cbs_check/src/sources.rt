@@ -4,7 +4,7 @@ ghost use Rattle.std.specs.Prelude.{◌≡◌, ◌++◌, ◌<◌, length, IfOk, 
 ghost use Rattle.cbs_text.specs.Columns.{plain, rows_of};
 ghost use Rattle.cbs_text.specs.Numbers.{number_text};
 ghost use Rattle.cbs_check.specs.Cells.{cell_of};
-ghost use Rattle.cbs_check.specs.Sources.{range_text, in_time_text, is_asking_too_much, source_row, sources_heading, sources_table, sources_text};
+ghost use Rattle.cbs_check.specs.Sources.{range_text, in_time_text, is_asking_too_much, source_row, row_of, sources_heading, sources_table, sources_text};
 
 use crate::cells::{Shown, cells};
 use crate::fractions::Share;
@@ -100,20 +100,33 @@ fn source_row(
     )
 }
 
+/// Returns the row of a source of a load.
+fn row_of(
+    alloc: Global,
+    load: &Load,
+    loads: &[ServerLoad],
+    terms: &SourceTerms,
+) -> Result<Vec<Cell>, AllocError>
+    requires counted { length loads.now ≡ length load.now.plan.rates }
+    requires held { terms.now.server < length load.now.plan.rates }
+    requires apart { 0 < terms.now.every.least }
+    ensures { IfOk result (λ row. row.items ≡ row_of load.now.names load.now.plan.rates loads.now terms.now) }
+{
+    let server = usize::from(terms.server);
+    let name = load.names()[server].as_str();
+    let rate = load.plan().get(terms.server).unwrap();
+    source_row(alloc, name, rate, loads[server].promised, terms)
+}
+
 /// Returns the rows of the table.
 fn rows(alloc: Global, load: &Load, loads: &[ServerLoad]) -> Result<Vec<Vec<Cell>>, AllocError>
     requires { length loads.now ≡ length load.now.plan.rates }
     ensures { IfOk result (λ rows. rows_of rows.items ≡ sources_table load.now.names load.now.plan.rates loads.now load.now.sources) }
 {
-    let names = load.names();
-    let plan = load.plan();
     let mut rows = Vec::new(alloc);
     rows.push(heading(alloc)?)?;
     for terms in load.sources() {
-        let server = usize::from(terms.server);
-        let name = names[server].as_str();
-        let rate = plan.get(terms.server).unwrap();
-        rows.push(source_row(alloc, name, rate, loads[server].promised, terms)?)?;
+        rows.push(row_of(alloc, load, loads, terms)?)?;
     }
     Ok(rows)
 }
