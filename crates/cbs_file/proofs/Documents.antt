@@ -2,8 +2,8 @@
 use Rattle.std.proofs.Common.{◌≡◌, Option, None, Result, Ok, Err, sym, ◌∙◌}
 use Rattle.std.specs.Result.{IsErrAnd}
 use Rattle.toml.specs.Data.{Members}
-use Rattle.cbs_read.specs.declared.stop.Stop.{Stop}
-use Rattle.cbs_read.specs.declared.stop.Stop.TheVariants.{NotToml}
+use Rattle.cbs_tokens.specs.declared.stop.Stop.{Stop}
+use Rattle.cbs_tokens.specs.declared.stop.Stop.TheVariants.{NotToml}
 use Rattle.cbs_file.specs.declared.stream.Document.{Document as Doc}
 use Rattle.cbs_file.specs.Streams.{ReadsDocument}
 

@@ -14,8 +14,8 @@ use Rattle.cbs_tables.specs.Documents.{at}
 use Rattle.std.specs.Borrow.{Bor}
 use Rattle.std.specs.Result.{IsErrAnd}
 use Rattle.toml_parser.specs.Lexical.{Read}
-use Rattle.cbs_read.specs.declared.stop.Stop.{Stop}
-use Rattle.cbs_read.specs.declared.stop.Stop.TheVariants.{NotToml}
+use Rattle.cbs_tokens.specs.declared.stop.Stop.{Stop}
+use Rattle.cbs_tokens.specs.declared.stop.Stop.TheVariants.{NotToml}
 use Rattle.cbs_file.specs.declared.steps.StepsRead.{StepsRead}
 use Rattle.cbs_file.specs.declared.terms.Terms.{Terms}
 use Rattle.std.specs.Prelude.{All}

@@ -9,8 +9,8 @@ use Rattle.toml_parser.specs.Lexical.{Read}
 use Rattle.cbs_job.specs.declared.file.FileJob.{FileJob}
 use Rattle.cbs_steps.specs.declared.step.Step.{Step}
 use Rattle.cbs_read.specs.Reading.{insert_member}
-use Rattle.cbs_read.specs.declared.stop.Stop.{Stop}
-use Rattle.cbs_read.specs.declared.stop.Stop.TheVariants.{NotToml}
+use Rattle.cbs_tokens.specs.declared.stop.Stop.{Stop}
+use Rattle.cbs_tokens.specs.declared.stop.Stop.TheVariants.{NotToml}
 use Rattle.cbs_tables.specs.declared.fault.FileKind.{FileKind}
 use Rattle.cbs_tables.specs.declared.fault.FileFault.{FileFault}
 use Rattle.cbs_tables.specs.declared.fault.Place.TheVariants.{Step as AtStep}

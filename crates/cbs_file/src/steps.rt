@@ -6,7 +6,7 @@ ghost use Rattle.toml.specs.Parse as spec;
 ghost use Rattle.toml.specs.Tables.{Nodes, no_nodes, Document};
 ghost use Rattle.toml.specs.View.{view};
 ghost use Rattle.cbs_read.specs.Reading.{IsPlace, Shortens, growing};
-ghost use Rattle.cbs_read.specs.declared.stop.Stop.TheVariants.{NotToml, OutOfMemory};
+ghost use Rattle.cbs_tokens.specs.declared.stop.Stop.TheVariants.{NotToml, OutOfMemory};
 ghost use Rattle.cbs_file.specs.Entries.{step_entry};
 ghost use Rattle.cbs_file.specs.Streams.{Spells, TakesEntry, TakesSection, ReadsSteps, ReadsStepTables};
 ghost use Rattle.cbs_file.specs.TaskFiles.{IsFileStep};

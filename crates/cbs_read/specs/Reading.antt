@@ -1,43 +1,24 @@
--- How the result of a reader relates to what the grammar gives.
-use Rattle.std.specs.Prelude.{◌≡◌, ℕ, ◌==◌, ◌<◌, ◌||◌, true, List, [], ◌∷◌, length, Option, Some, None, option_map, Result, MatchResult, IfOk, String, Vec}
+-- How what is read of a document relates to what the grammar gives.
+use Rattle.std.specs.Prelude.{◌≡◌, ℕ, ◌==◌, ◌<◌, ◌||◌, true, List, [], ◌∷◌, length, Option, Some, None, option_map, Result, MatchResult, String, Vec}
 use Rattle.std.specs.Borrow.{Bor}
 use Rattle.std.specs.Ordering.{nat_cmp, match_ordering}
 use Rattle.std.specs.Cmp.Lexicographic.{slice_cmp}
 use Rattle.std.specs.BTreeMap.{BTreeMap}
 use Rattle.std.specs.declared.alloc.Global.{Global}
-use Rattle.toml_parser.specs.Lexical.{Read, first, skip_blank}
+use Rattle.toml_parser.specs.Lexical.{first, skip_blank}
 use Rattle.toml_parser.specs.Strings.{Key}
-use Rattle.toml_parser.specs.declared.error.ParseError.{ParseError}
-use Rattle.toml_parser.specs.declared.error.ParseError.TheVariants as error
 use Rattle.toml.specs.Data.{Data, table, Items, no_items, push_item, Members, no_members, member, get_member}
 use Rattle.toml.specs.Parse.{lines}
 use Rattle.toml.specs.Tables.{Nodes, no_nodes, node, value, open_array, insert, close, put, key_value, Document, define}
 use Rattle.toml.specs.View.{array_view, table_view}
 use Rattle.toml.specs.declared.value.Value.{Value}
-use Rattle.cbs_read.specs.declared.stop.Stop.{Stop}
-use Rattle.cbs_read.specs.declared.stop.Stop.TheVariants.{NotToml, OutOfMemory}
-
--- why reading stops at an error of the tokens
-abbrev pub stop_of : ParseError → Stop
-stop_of error.OutOfMemory = OutOfMemory
-stop_of (error.At _ _ _) = NotToml
+use Rattle.cbs_tokens.specs.declared.stop.Stop.{Stop}
+use Rattle.cbs_tokens.specs.declared.stop.Stop.TheVariants.{NotToml}
+pub use Rattle.cbs_tokens.specs.Tokens.{Gives, Reads, Shortens}
 
 -- the map of a table
 abbrev pub Table : Type 0
 Table = BTreeMap (String Global) Value
-
--- a successful result is what the grammar gives, seen through f. The stop NotToml means that the grammar refuses; other
--- stops say nothing
-abbrev pub Gives : {A B : Type 0} → (A → B) → Result A Stop → Option B → Type 0
-Gives f r expected = MatchResult r (λ a. expected ≡ Some (f a)) (λ e. e ≡ NotToml → expected ≡ None)
-
--- the same for a value and the text after it
-abbrev pub Reads : {A B : Type 0} → (A → B) → Result (A × Bor (List ℕ)) Stop → Read B → Type 0
-Reads f r expected = Gives (λ p. (f p.0, p.1.now)) r expected
-
--- after a success, less text is left than before
-abbrev pub Shortens : {A : Type 0} → List ℕ → Result (A × Bor (List ℕ)) Stop → Type 0
-Shortens text r = IfOk r (λ p. length p.1.now < length text)
 
 -- the nodes of complete values
 abbrev pub nodes_of : Members → Nodes

@@ -7,9 +7,8 @@ ghost use Rattle.toml.specs.View.{table_view};
 ghost use Rattle.cbs_read.specs.Reading.{Gives, ReadsArrays};
 
 use crate::lines::{array_header, pairs};
-use crate::room::Room;
-use crate::stop::Stop;
 use crate::tables::tables as array_of_tables;
+use cbs_tokens::{Room, Stop};
 use std::alloc::Global;
 use toml::{Table, Value};
 use toml_parser::text::{byte_at, first, skip_blank};

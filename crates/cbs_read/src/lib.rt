@@ -3,16 +3,11 @@
 
 mod documents;
 mod lines;
-mod room;
-mod stop;
 mod tables;
-mod tokens;
 mod values;
 
+pub use cbs_tokens::{Room, Stop, ends_line, key_equals};
 pub use documents::{arrays_before, document, skip_bom};
-pub use lines::{array_header, ends_line, pairs};
-pub use room::Room;
-pub use stop::Stop;
+pub use lines::{array_header, pairs};
 pub use tables::tables as array_of_tables;
-pub use tokens::key_equals;
 pub use values::{after_element, put, value};

@@ -5,21 +5,12 @@ ghost use Rattle.toml.specs.Parse as spec;
 ghost use Rattle.toml.specs.Tables.{Nodes, Document, array_table};
 ghost use Rattle.cbs_read.specs.Reading.{EndsPairs, IsPlace, Reads, ReadsPairs, Shortens};
 
-use crate::room::{PAIR, Room, TABLE};
-use crate::stop::Stop;
-use crate::tokens::{dotted, key_equals, simple};
 use crate::values::{put, value};
+use cbs_tokens::{PAIR, Room, Stop, TABLE, dotted, ends_line, key_equals, simple};
 use std::alloc::Global;
 use std::collections::BTreeMap;
 use toml::Table;
 use toml_parser::text::{byte_at, first, skip, skip_blank, skip_ws};
-
-/// Returns whether a line may end at the start of the text.
-pub fn ends_line(s: &str) -> bool
-    ensures { result ≡ spec.ends_line s.now }
-{
-    s.is_empty() || matches!(first(s), b'#' | b'\n' | b'\r')
-}
 
 /// Returns the table of the pairs at the start of a text, and the text after them. The pairs end at the end of the text
 /// or at the first header.

@@ -5,8 +5,7 @@ ghost use Rattle.toml.specs.Tables.{Nodes, get_node};
 ghost use Rattle.cbs_read.specs.Reading.{ReadsTables};
 
 use crate::lines::{array_header, pairs};
-use crate::room::Room;
-use crate::stop::Stop;
+use cbs_tokens::{Room, Stop};
 use std::alloc::Global;
 use toml::Value;
 use toml_parser::text::skip_blank;

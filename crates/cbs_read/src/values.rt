@@ -6,11 +6,9 @@ ghost use Rattle.toml.specs.Tables.{no_nodes, put};
 ghost use Rattle.toml.specs.Parse as spec;
 ghost use Rattle.toml_parser.specs.Reading.{key_view};
 ghost use Rattle.cbs_read.specs.Reading.{Gives, Reads, Shortens, nodes_of};
-ghost use Rattle.cbs_read.specs.declared.stop.Stop.TheVariants.{NotToml};
+ghost use Rattle.cbs_tokens.specs.declared.stop.Stop.TheVariants.{NotToml};
 
-use crate::room::{PAIR, Room, size_of_value};
-use crate::stop::Stop;
-use crate::tokens::{atom, key_equals, simple};
+use cbs_tokens::{PAIR, Room, Stop, atom, key_equals, simple, size_of_value};
 use std::alloc::Global;
 use std::collections::BTreeMap;
 use toml::{Table, Value};

@@ -7,7 +7,7 @@ use Rattle.toml.specs.Tables.{Nodes, open_array, close, array_table, Document}
 use Rattle.toml.proofs.Turns.{lines_end, lines_more, lines_bad}
 use Rattle.cbs_read.specs.Reading.{growing}
 use Rattle.cbs_read.proofs.Growing.{place_growing, next_table}
-use Rattle.cbs_read.proofs.Results.{stops_by}
+use Rattle.cbs_tokens.proofs.Results.{stops_by}
 use Rattle.cbs_tables.specs.Fields.{list_of}
 use Rattle.cbs_file.specs.Streams.{Spells}
 use Rattle.cbs_read.proofs.Members.{close-insert}

@@ -11,7 +11,7 @@ use Rattle.toml.proofs.Views.{view-Array}
 use Rattle.cbs_read.proofs.Puts.{has_key, is_none}
 use Rattle.cbs_read.proofs.Arrays.{at_end, refused_line, no_node, refused_tables, begins, next_lines, next_members}
 use Rattle.cbs_read.proofs.Members.{members_view-insert_entry}
-use Rattle.cbs_read.proofs.Results.{stops_by}
+use Rattle.cbs_tokens.proofs.Results.{stops_by}
 use Rattle.cbs_read.proofs.documents.arrays_before.Goals as goal
 
 pub arrays-init : goal.arrays-init

@@ -3,7 +3,7 @@ use Rattle.toml.specs.View.{table_view}
 use Rattle.cbs_read.specs.Reading.{closed, nodes_of}
 use Rattle.cbs_read.proofs.Arrays.{document_is, ends_none, place_top}
 use Rattle.cbs_read.proofs.Puts.{close-nodes_of}
-use Rattle.cbs_read.proofs.Results.{gives_err}
+use Rattle.cbs_tokens.proofs.Results.{gives_err}
 use Rattle.cbs_read.proofs.documents.document.Goals as goal
 
 pub returns-in_err-table : goal.returns-in_err-table

@@ -6,7 +6,7 @@ use Rattle.toml_parser.specs.Reading.{key_view}
 use Rattle.toml_parser.specs.Strings.{key}
 use Rattle.toml.specs.Parse.{ends_line}
 use Rattle.cbs_read.proofs.LineReads.{header_no_key, header_open, header_half_open, header_no_end, header_line}
-use Rattle.cbs_read.proofs.Results.{gives_err}
+use Rattle.cbs_tokens.proofs.Results.{gives_err}
 use Rattle.cbs_read.proofs.lines.array_header.Goals as goal
 use Rattle.cbs_read.proofs.lines.array_header.Goals.{then-first-ne93-via-then-first-ne93, then-first-ne93-via-else-first-ne93+then-byte_at-ne93}
 

@@ -9,7 +9,7 @@ use Rattle.toml.specs.Parse.{key_equals, ends_line}
 use Rattle.toml.proofs.Turns.{lines_more, lines_bad, lines_refused}
 use Rattle.cbs_read.specs.Reading.{nodes_of}
 use Rattle.cbs_read.proofs.LineReads.{line_pair, line_no_end, line_no_key, line_no_value, pair_placed, pair_refused}
-use Rattle.cbs_read.proofs.Results.{stops_by}
+use Rattle.cbs_tokens.proofs.Results.{stops_by}
 use Rattle.cbs_read.proofs.lines.pairs.Goals as goal
 
 pub lines-init : goal.lines-init

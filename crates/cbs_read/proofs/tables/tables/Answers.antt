@@ -11,7 +11,7 @@ use Rattle.toml.proofs.Views.{items_view-push, view-Table}
 use Rattle.cbs_read.specs.Reading.{nodes_of, growing}
 use Rattle.cbs_read.proofs.Growing.{place_growing, next_table}
 use Rattle.cbs_read.proofs.Puts.{close-nodes_of}
-use Rattle.cbs_read.proofs.Results.{stops_by}
+use Rattle.cbs_tokens.proofs.Results.{stops_by}
 use Rattle.cbs_read.proofs.tables.tables.Goals as goal
 
 pub tables-init : goal.tables-init

@@ -10,7 +10,7 @@ use Rattle.toml.proofs.Views.{view-Array, view-Table}
 use Rattle.toml.proofs.Turns.{keyval_ok, keyval_no_key, keyval_no_value}
 use Rattle.toml.proofs.Turns.{items_end, items_more, items_bad, items_bad_end, members_end, members_more, members_bad, members_bad_put, members_bad_end}
 use Rattle.toml.proofs.Views.{items_view-push}
-use Rattle.cbs_read.proofs.Results.{gives_err}
+use Rattle.cbs_tokens.proofs.Results.{gives_err}
 use Rattle.cbs_read.proofs.Puts.{close-nodes_of}
 use Rattle.toml_parser.specs.Lexical.{first, skip_blank}
 use Rattle.toml.specs.Parse.{val}

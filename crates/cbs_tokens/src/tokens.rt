@@ -5,8 +5,8 @@ ghost use Rattle.toml.specs.Parse as spec;
 ghost use Rattle.toml_parser.specs.Reading.{key_view};
 ghost use Rattle.toml_parser.specs.Strings.{key};
 ghost use Rattle.toml_parser.specs.declared.error.ParseError.TheVariants.{OutOfMemory};
-ghost use Rattle.cbs_read.specs.Reading.{Reads, Shortens, stop_of};
-ghost use Rattle.cbs_read.specs.declared.stop.Stop.TheVariants.{NotToml, Unusual};
+ghost use Rattle.cbs_tokens.specs.Tokens.{Reads, Shortens, stop_of};
+ghost use Rattle.cbs_tokens.specs.declared.stop.Stop.TheVariants.{NotToml, Unusual};
 
 use crate::stop::Stop;
 use std::alloc::Global;
@@ -93,4 +93,11 @@ pub fn simple(key: Key) -> Result<String, Stop>
     } else {
         Err(Stop::Unusual)
     }
+}
+
+/// Returns whether a line may end at the start of the text.
+pub fn ends_line(s: &str) -> bool
+    ensures { result ≡ spec.ends_line s.now }
+{
+    s.is_empty() || matches!(first(s), b'#' | b'\n' | b'\r')
 }

@@ -1,18 +1,18 @@
 //! How much memory may hold what is read piece by piece.
 
 ghost use Rattle.std.specs.Prelude.{◌≡◌, ◌+◌, ◌<◌, ◌≤◌, OnOk, IfErr};
-ghost use Rattle.cbs_read.specs.declared.stop.Stop.TheVariants.{Unusual};
+ghost use Rattle.cbs_tokens.specs.declared.stop.Stop.TheVariants.{Unusual};
 
 use crate::stop::Stop;
 
 /// How many bytes a value takes: itself and the place of its text.
-pub(crate) const VALUE: u64 = 64;
+const VALUE: u64 = 64;
 
 /// How many bytes a pair of a table takes beside its value: its key, and its share of a block of the table.
-pub(crate) const PAIR: u64 = 256;
+pub const PAIR: u64 = 256;
 
 /// How many bytes a table with a pair takes: a block with places for fifteen pairs.
-pub(crate) const TABLE: u64 = 1280;
+pub const TABLE: u64 = 1280;
 
 /// How many bytes of memory may still be taken for values. The texts of values are not counted, since they are no
 /// longer than the text that is read.
@@ -43,6 +43,6 @@ impl Room {
 }
 
 /// Returns how many bytes a value with this first byte takes.
-pub(crate) fn size_of_value(first: u8) -> u64 {
+pub fn size_of_value(first: u8) -> u64 {
     if first == b'{' { VALUE + TABLE } else { VALUE }
 }
