@@ -7,60 +7,52 @@
 #![tactic(auto)]
 
 mod growths;
+mod load;
 mod overruns;
 mod setup;
 mod soak;
+mod telling;
 mod times;
 
 use anyhow::{Context, Result, bail};
 use std::alloc::Global;
+use std::env;
 use std::io::Input;
 use std::thread::Threads;
 use std::time::Clock;
-use std::{env, io};
+use telling::title;
 
 /// Tries all parts, shortly.
-fn try_all<R: Print + Threads + Clock + Sync>(rt: &R, alloc: Global, load: &str) -> Result<()> {
+fn try_all<R: Print + Input + Threads + Clock + Sync>(rt: &R, alloc: Global) -> Result<()> {
     growths::make_all(rt, alloc)?;
-    println!(rt; "== soak")?;
-    soak::serve_load(rt, alloc, load)?;
-    println!(rt; "== bench")?;
+    title(rt, "soak");
+    soak::serve_input(rt, alloc)?;
+    title(rt, "bench");
     times::print_table(rt, alloc, true)?;
-    println!(rt; "== overruns")?;
+    title(rt, "overruns");
     overruns::print_lateness(rt, alloc)
 }
 
-/// Runs the trials of overruns, each for as many milliseconds as a word says.
-fn print_overruns<R: Print + Clock>(rt: &R, alloc: Global, millis: Option<&str>) -> Result<()> {
-    let millis = millis.context("usage: overruns MILLISECONDS")?;
-    overruns::print_all(rt, alloc, millis.parse::<u64>()?)
-}
-
-/// Returns the load on standard input.
-fn load_given<R: Input>(rt: &R, alloc: Global) -> Result<String> {
-    Ok(io::read_to_string(alloc, rt.reader())?)
-}
-
-/// Tries the part that a word names, with what the next word gives it, or all parts.
+/// Tries the part that a word names, with what the next word gives it.
 fn try_part<R: Print + Input + Threads + Clock + Sync>(
     rt: &R,
     alloc: Global,
-    part: Option<&str>,
+    part: &str,
     given: Option<&str>,
 ) -> Result<()> {
     match part {
-        None => try_all(rt, alloc, load_given(rt, alloc)?.as_str()),
-        Some("growth") => growths::make(rt, alloc, given.context("usage: growth CALL")?),
-        Some("soak") => soak::serve_load(rt, alloc, load_given(rt, alloc)?.as_str()),
-        Some("bench") => times::print_table(rt, alloc, false),
-        Some("overruns") => print_overruns(rt, alloc, given),
-        Some(_) => bail!("usage: [growth CALL | soak | bench | overruns MILLISECONDS]"),
+        "growth" => growths::make(rt, alloc, given.context("usage: growth CALL")?),
+        "soak" => soak::serve_input(rt, alloc),
+        "bench" => times::print_table(rt, alloc, false),
+        "overruns" => overruns::print_for(rt, alloc, given),
+        _ => bail!("usage: [growth CALL | soak | bench | overruns MILLISECONDS]"),
     }
 }
 
 fn main(rt: HostRuntime) -> Result<()> {
     let mut words = env::args(&rt)?.skip(1);
-    let part = words.next();
-    let given = words.next();
-    try_part(&rt, rt.alloc(), part.as_deref(), given.as_deref())
+    match words.next() {
+        None => try_all(&rt, rt.alloc()),
+        Some(part) => try_part(&rt, rt.alloc(), &part, words.next().as_deref()),
+    }
 }

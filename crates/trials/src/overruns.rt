@@ -8,61 +8,69 @@ mod clients;
 mod long_job;
 mod seen;
 mod trial;
-mod wall;
 
 use anyhow::{Context, Result};
 use cbs_house::{ClockMeter, NoMeter};
 use cbs_rules::Mode;
+use clients::time_of;
 use seen::Seen;
 use std::alloc::Global;
-use std::time::{Clock, Duration};
+use std::io;
+use std::time::Clock;
 use trial::run;
-use wall::time_of;
 
 /// How long a trial takes if no times are wanted, in milliseconds.
 const BRIEFLY: u64 = 40;
 
-/// The modes that greedy has in the trials.
-static MODES: [Mode; 2] = [Mode::Soft, Mode::Throttled];
+/// The modes that greedy has in the trials, each with its word.
+static MODES: [(&str, Mode); 2] = [("soft", Mode::Soft), ("throttled", Mode::Throttled)];
 
-/// Returns the word for a mode.
-fn word_of(mode: Mode) -> &'static str {
-    match mode {
-        Mode::Soft => "soft",
-        Mode::Throttled => "throttled",
+/// Runs a trial with no meter, or with one that measures each unit, and returns its measurements.
+fn measured(
+    rt: &impl Clock,
+    alloc: Global,
+    mode: Mode,
+    metered: bool,
+    millis: u64,
+) -> Result<Seen> {
+    if !metered {
+        return run(rt, alloc, mode, &mut NoMeter, time_of(millis));
     }
-}
-
-/// Runs a trial without a meter, and returns its measurements.
-fn unmetered(rt: &impl Clock, alloc: Global, mode: Mode, millis: u64) -> Result<Seen> {
-    run(rt, alloc, mode, &mut NoMeter, Duration::from_millis(millis))
-}
-
-/// Runs a trial with a meter that measures each unit, and returns its measurements.
-fn metered(rt: &impl Clock, alloc: Global, mode: Mode, millis: u64) -> Result<Seen> {
     let mut meter = ClockMeter::new(rt, time_of(1)).context("a tick of no length")?;
-    run(rt, alloc, mode, &mut meter, Duration::from_millis(millis))
+    run(rt, alloc, mode, &mut meter, time_of(millis))
+}
+
+/// Runs each trial for as many milliseconds as this word says, and prints a line for it.
+pub fn print_for<R: Print + Clock>(rt: &R, alloc: Global, millis: Option<&str>) -> Result<()> {
+    let millis = millis.context("usage: overruns MILLISECONDS")?;
+    print_all(rt, alloc, millis.parse()?)
 }
 
 /// Runs each trial for `millis` milliseconds, and prints a line for it.
-pub fn print_all<R: Print + Clock>(rt: &R, alloc: Global, millis: u64) -> Result<()> {
-    for &mode in &MODES {
-        let word = word_of(mode);
-        let seen = unmetered(rt, alloc, mode, millis)?;
-        println!(rt; "greedy {word}, no meter: {seen}")?;
-        let seen = metered(rt, alloc, mode, millis)?;
-        println!(rt; "greedy {word}, clock meter: {seen}")?;
+fn print_all<R: Print + Clock>(rt: &R, alloc: Global, millis: u64) -> Result<()> {
+    for &(word, mode) in &MODES {
+        print_seen(rt, word, "no", measured(rt, alloc, mode, false, millis)?)?;
+        print_seen(rt, word, "clock", measured(rt, alloc, mode, true, millis)?)?;
     }
     Ok(())
+}
+
+/// Prints the line of a trial.
+fn print_seen(rt: &impl Print, word: &str, meter: &str, seen: Seen) -> io::Result<()> {
+    println!(rt; "greedy {word}, {meter} meter: {seen}")
 }
 
 /// Runs each trial shortly, and prints how often a server was later than the rules allow. It prints no times.
 pub fn print_lateness<R: Print + Clock>(rt: &R, alloc: Global) -> Result<()> {
-    for &mode in &MODES {
-        let word = word_of(mode);
-        let without = unmetered(rt, alloc, mode, BRIEFLY)?.too_late;
-        let with = metered(rt, alloc, mode, BRIEFLY)?.too_late;
-        println!(rt; "greedy {word}: too late {without} times with no meter, {with} with one")?;
+    for &(word, mode) in &MODES {
+        let without = measured(rt, alloc, mode, false, BRIEFLY)?.too_late;
+        let with = measured(rt, alloc, mode, true, BRIEFLY)?.too_late;
+        print_late(rt, word, without, with)?;
     }
     Ok(())
+}
+
+/// Prints how often a server was too late in the two trials of a mode.
+fn print_late(rt: &impl Print, word: &str, without: u64, with: u64) -> io::Result<()> {
+    println!(rt; "greedy {word}: too late {without} times with no meter, {with} with one")
 }

@@ -4,36 +4,26 @@
 ghost use Rattle.cbs_house.specs.Rounds.{Ready};
 
 mod gate;
-mod load;
 
+use crate::load::read_load;
 use crate::setup::fed;
 use anyhow::Result;
 use cbs_house::{Feed, House, serve};
 use cbs_job::FileJob;
 use gate::RandomDelays;
-use load::read_load;
 use std::alloc::Global;
+use std::io::{self, Input};
 use std::thread::Threads;
 use std::time::Clock;
 
-/// Prints a line for each server.
-fn print_results(rt: &impl Print, house: &House<FileJob>) -> Result<()> {
-    for server in 0..house.servers() {
-        print!(rt; "server {server}:")?;
-        for result in house.results(server)? {
-            print!(rt; " {result}")?;
-        }
-        println!(rt)?;
-    }
-    Ok(())
+/// Serves the load on standard input, and prints the results.
+pub fn serve_input<R: Print + Input + Threads + Clock + Sync>(rt: &R, alloc: Global) -> Result<()> {
+    let text = io::read_to_string(alloc, rt.reader())?;
+    serve_load(rt, alloc, &text)
 }
 
 /// Serves the load of this text, and prints the results.
-pub fn serve_load<R: Print + Threads + Clock + Sync>(
-    rt: &R,
-    alloc: Global,
-    text: &str,
-) -> Result<()> {
+fn serve_load<R: Print + Threads + Clock + Sync>(rt: &R, alloc: Global, text: &str) -> Result<()> {
     let load = read_load(alloc, text)?;
     let gate = RandomDelays::new(load.seed);
     let (mut house, mut feeds) = fed(alloc, load.setup, load.backlog, load.ring, load.jobs)?;
@@ -50,5 +40,17 @@ fn serve_and_print<R: Print + Threads + Clock + Sync>(
     requires { Ready house.old feeds.old }
 {
     serve(rt, house, feeds, gate)?;
-    print_results(rt, house)
+    for server in 0..house.servers() {
+        print_results(rt, server, house.results(server)?)?;
+    }
+    Ok(())
+}
+
+/// Prints the line of a server.
+fn print_results(rt: &impl Print, server: u16, results: &[u64]) -> io::Result<()> {
+    print!(rt; "server {server}:")?;
+    for result in results {
+        print!(rt; " {result}")?;
+    }
+    println!(rt)
 }

@@ -1,40 +1,22 @@
-//! The calls of the core that take memory.
+//! The calls of a core that take memory.
 
-use super::telling::{begin, tell};
 use super::wide::{WideJob, wide};
-use crate::setup::{soft_servers, sum_of};
+use crate::setup::setup_of;
+use crate::telling::{begin, tell};
 use anyhow::Result;
-use cbs_core::{Core, CoreError, Reply, Step};
-use cbs_job::{SumJob, Task, Work};
-use cbs_rules::Setup;
+use cbs_core::{Core, Reply, Step};
+use cbs_job::Task;
+use cbs_rules::Mode;
 use std::alloc::Global;
 
-/// Returns why a core of these servers is refused, or `None` if it is made.
-fn refusal(alloc: Global, setup: Setup) -> Option<CoreError> {
-    let (plan, modes) = setup.into_parts();
-    Core::<SumJob>::new(alloc, plan, modes, 4).err()
-}
-
-/// Makes a core of two servers.
-pub fn new_core(rt: &impl Print, alloc: Global) -> Result<()> {
-    let setup = soft_servers(&[(2, 5), (2, 5)])?;
-    let same = soft_servers(&[(2, 5), (2, 5)])?;
-    begin(rt);
-    tell(rt, "first", refusal(alloc, setup));
-    tell(rt, "again", refusal(alloc, same));
-    Ok(())
-}
-
 /// Returns a core of one soft server with 2 ticks in every 5.
-fn core_of_one<W: Work>(alloc: Global) -> Result<Core<W>> {
-    let (plan, modes) = soft_servers(&[(2, 5)])?.into_parts();
+fn core_of_one(alloc: Global) -> Result<Core<WideJob>> {
+    let (plan, modes) = setup_of(&[(2, 5, Mode::Soft)])?.into_parts();
     Ok(Core::new(alloc, plan, modes, 4)?)
 }
 
-// Each call stands in its own function, which has no contract. So a case that makes many calls is proved fast.
-
 /// Prints the state of a core.
-fn shows<W: Work>(rt: &impl Print, core: &Core<W>) {
+fn shows(rt: &impl Print, core: &Core<WideJob>) {
     tell(rt, "now", core.now());
     tell(rt, "ready", core.ready());
     tell(rt, "view", core.view(0));
@@ -42,7 +24,7 @@ fn shows<W: Work>(rt: &impl Print, core: &Core<W>) {
 
 /// Makes room for a job.
 pub fn make_room(rt: &impl Print, alloc: Global) -> Result<()> {
-    let mut core = core_of_one::<SumJob>(alloc)?;
+    let mut core = core_of_one(alloc)?;
     begin(rt);
     makes_room(rt, "first", &mut core);
     shows(rt, &core);
@@ -51,26 +33,28 @@ pub fn make_room(rt: &impl Print, alloc: Global) -> Result<()> {
 }
 
 /// Makes room, and prints the result.
-fn makes_room(rt: &impl Print, what: &str, core: &mut Core<SumJob>) {
+fn makes_room(rt: &impl Print, what: &str, core: &mut Core<WideJob>) {
     tell(rt, what, core.make_room(0));
 }
 
 /// Submits a job.
 pub fn submit(rt: &impl Print, alloc: Global) -> Result<()> {
-    let task = sum_of(alloc, &[1, 2, 3])?;
+    let task = wide(3, 6)?;
     let mut core = core_of_one(alloc)?;
     begin(rt);
     if let Some(task) = submitted(rt, &mut core, task) {
-        shows(rt, &core);
         submitted(rt, &mut core, task);
     }
-    shows(rt, &core);
     Ok(())
 }
 
-/// Submits a job, and prints the result. Returns the job if it comes back.
-fn submitted(rt: &impl Print, core: &mut Core<SumJob>, task: Task<SumJob>) -> Option<Task<SumJob>> {
-    match core.submit(0, task) {
+/// Submits a job, and prints the result and the core. Returns the job if it comes back.
+fn submitted(
+    rt: &impl Print,
+    core: &mut Core<WideJob>,
+    task: Task<WideJob>,
+) -> Option<Task<WideJob>> {
+    let back = match core.submit(0, task) {
         Ok(number) => {
             tell(rt, "accepted", number);
             None
@@ -79,19 +63,21 @@ fn submitted(rt: &impl Print, core: &mut Core<SumJob>, task: Task<SumJob>) -> Op
             tell(rt, "came back", (refused.error, refused.task.left()));
             Some(refused.task)
         }
-    }
+    };
+    shows(rt, core);
+    back
 }
 
 /// Returns three submits and three runs.
 fn six_steps(alloc: Global) -> Result<Vec<Step<WideJob>>> {
-    let mut steps = Vec::with_capacity(alloc, 6)?;
-    for number in [1, 2, 3] {
-        steps.push(Step::Submit(0, wide(number)?))?;
-    }
-    for _run in 0..3 {
-        steps.push(Step::Run)?;
-    }
-    Ok(steps)
+    Ok(vec![in alloc;
+        Step::Submit(0, wide(1, 1)?),
+        Step::Submit(0, wide(1, 2)?),
+        Step::Submit(0, wide(1, 3)?),
+        Step::Run,
+        Step::Run,
+        Step::Run,
+    ]?)
 }
 
 /// Makes a list of steps.
@@ -100,20 +86,18 @@ pub fn run_steps(rt: &impl Print, alloc: Global) -> Result<()> {
     let mut core = core_of_one(alloc)?;
     begin(rt);
     if let Some(steps) = made(rt, &mut core, steps) {
-        shows(rt, &core);
         made(rt, &mut core, steps);
     }
-    shows(rt, &core);
     Ok(())
 }
 
-/// Makes steps, and prints the replies. Returns the steps if they come back.
+/// Makes steps, and prints the replies and the core. Returns the steps if they come back.
 fn made(
     rt: &impl Print,
     core: &mut Core<WideJob>,
     steps: Vec<Step<WideJob>>,
 ) -> Option<Vec<Step<WideJob>>> {
-    match core.run_steps(steps) {
+    let back = match core.run_steps(steps) {
         Ok(replies) => {
             for reply in &replies {
                 tell_reply(rt, reply);
@@ -124,7 +108,9 @@ fn made(
             tell(rt, "steps that came back", refused.steps.len());
             Some(refused.steps)
         }
-    }
+    };
+    shows(rt, core);
+    back
 }
 
 /// Prints the reply to a submit or a run.

@@ -3,6 +3,7 @@
 ghost use Rattle.std.specs.Prelude.{◌-◌};
 ghost use Rattle.std.proofs.Common.{refl};
 
+use crate::setup::task;
 use anyhow::Result;
 use cbs_job::{Task, Work};
 
@@ -33,12 +34,11 @@ impl Work for WideJob {
     }
 }
 
-/// Returns a job of one unit with this output.
-pub fn wide(output: u64) -> Result<Task<WideJob>> {
-    let job = WideJob {
-        left: 1,
+/// Returns a job of so many units with this output.
+pub fn wide(units: u32, output: u64) -> Result<Task<WideJob>> {
+    task(WideJob {
+        left: units,
         output,
         _width: [0; 128],
-    };
-    Ok(Task::new(job).map_err(|refused| refused.error)?)
+    })
 }

@@ -1,10 +1,10 @@
 //! The two clients, and what they send.
 
 use super::long_job::{LongJob, one_unit};
-use super::wall::{Wall, time_of};
+use super::seen::Seen;
+use crate::setup::setup_of;
 use anyhow::Result;
 use cbs_house::Client;
-use cbs_rate::{Bound, Reservation};
 use cbs_rules::{Mode, Setup};
 use std::time::{Clock, Duration};
 
@@ -29,10 +29,12 @@ const LONG: u64 = 19_900;
 
 /// Returns the servers, with this mode for greedy.
 pub fn servers(mode: Mode) -> Result<Setup> {
-    let mut setup = Setup::new(Bound::new(1, 1)?);
-    setup.admit(Reservation::new(2, PERIOD)?, Mode::Soft)?;
-    setup.admit(Reservation::new(1, PERIOD)?, mode)?;
-    Ok(setup)
+    setup_of(&[(2, PERIOD, Mode::Soft), (1, PERIOD, mode)])
+}
+
+/// Returns how long `ticks` ticks are: a millisecond each.
+pub fn time_of(ticks: u64) -> Duration {
+    Duration::from_millis(ticks)
 }
 
 /// Returns how long a unit of this server should take.
@@ -45,27 +47,35 @@ pub fn release_of(seq: u64) -> Duration {
     time_of(seq.saturating_mul(PERIOD))
 }
 
-/// Sends the jobs of control that are due. A job that a full ring refuses is sent later.
-pub fn send_due<'a, R: Clock>(
-    wall: &Wall<'a, R>,
-    control: &mut Client<LongJob<'a, R>>,
-) -> Result<()> {
-    let now = wall.now()?;
+/// Sends what the clients have to send at this time, and records how many jobs control has sent.
+pub fn send_all<'a, R: Clock>(
+    rt: &'a R,
+    clients: &mut [Client<LongJob<'a, R>>],
+    now: Duration,
+    seen: &mut Seen,
+) {
+    for client in clients {
+        if client.server() == CONTROL {
+            send_due(rt, client, now);
+            seen.sent = client.sent();
+        } else {
+            send_one(rt, client);
+        }
+    }
+}
+
+/// Sends the jobs of control that are due at this time. A job that a full ring refuses is sent later.
+fn send_due<'a, R: Clock>(rt: &'a R, control: &mut Client<LongJob<'a, R>>, now: Duration) {
     for _job in 0..ROOM {
         if now < release_of(control.sent()) {
             break;
         }
-        send_one(wall, control)?;
+        send_one(rt, control);
     }
-    Ok(())
 }
 
 /// Sends a job, unless the ring is full.
-pub fn send_one<'a, R: Clock>(
-    wall: &Wall<'a, R>,
-    client: &mut Client<LongJob<'a, R>>,
-) -> Result<()> {
-    let task = one_unit(wall.rt, length_of(client.server()))?;
+fn send_one<'a, R: Clock>(rt: &'a R, client: &mut Client<LongJob<'a, R>>) {
+    let task = one_unit(rt, length_of(client.server()));
     let _full = client.send(task).is_err();
-    Ok(())
 }

@@ -2,7 +2,6 @@
 
 ghost use Rattle.std.specs.Prelude.{◌-◌, refl};
 
-use anyhow::{Context, Result};
 use cbs_job::{Task, Work};
 use std::time::{Clock, Duration};
 
@@ -44,13 +43,13 @@ impl<'a, R: Clock> Work for LongJob<'a, R> {
 }
 
 /// Returns a job of one unit that takes this long.
-pub fn one_unit<'a, R: Clock>(rt: &'a R, length: Duration) -> Result<Task<LongJob<'a, R>>> {
+pub fn one_unit<'a, R: Clock>(rt: &'a R, length: Duration) -> Task<LongJob<'a, R>> {
     let job = LongJob {
         rt,
         units: 1,
         length,
     };
-    Task::new(job).ok().context("no such job")
+    Task::new(job).unwrap()
 }
 
 /// Keeps the processor busy for this long, or until the clock cannot be read.

@@ -2,12 +2,14 @@
 
 use std::alloc::Global;
 use std::fmt::{self, Display, Formatter, Write};
-use std::time::Duration;
+use std::time::{Duration, Instant};
 
 /// The measurements of a trial.
 #[derive(Drop)]
 pub struct Seen {
-    /// The length of the trial.
+    /// When the trial began.
+    pub start: Instant,
+    /// How long the trial has gone on.
     pub length: Duration,
     /// The number of jobs that control sent.
     pub sent: u64,
@@ -22,9 +24,10 @@ pub struct Seen {
 }
 
 impl Seen {
-    /// Returns the measurements before the start.
-    pub fn new(alloc: Global) -> Seen {
+    /// Returns the measurements of a trial that begins now.
+    pub fn new(alloc: Global, start: Instant) -> Seen {
         Seen {
+            start,
             length: Duration::ZERO,
             sent: 0,
             responses: Vec::new(alloc),
@@ -68,20 +71,25 @@ fn millis(time: Duration) -> Tenths {
     Tenths(time.as_micros() / 100)
 }
 
-impl Display for Seen {
-    fn fmt<W: Write>(&self, f: &mut Formatter<W>) -> fmt::Result {
+impl Seen {
+    /// Writes what control got.
+    fn write_control(&self, out: &mut impl Write) -> fmt::Result {
         let (done, sent) = (self.responses.len(), self.sent);
         let (worst, median) = (self.response(100), self.response(50));
         write!(
-            f,
+            out,
             "control finished {done} of {sent} jobs, worst after {worst} ms, median after {median} ms; "
-        )?;
-        write!(f, "greedy took {} % of the time; ", self.share())?;
+        )
+    }
+}
+
+impl Display for Seen {
+    fn fmt<W: Write>(&self, f: &mut Formatter<W>) -> fmt::Result {
+        self.write_control(f)?;
+        let (share, late, jitter) = (self.share(), self.too_late, millis(self.jitter));
         write!(
             f,
-            "too late {} times; jitter {} ms",
-            self.too_late,
-            millis(self.jitter)
+            "greedy took {share} % of the time; too late {late} times; jitter {jitter} ms"
         )
     }
 }

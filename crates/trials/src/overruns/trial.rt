@@ -1,37 +1,17 @@
 //! A trial: a house of both servers, in which each tick waits for its real time.
 
-use super::clients::{CONTROL, GREEDY, ROOM, length_of, release_of, send_due, send_one, servers};
+use super::clients::{CONTROL, GREEDY, ROOM, length_of, release_of, send_all, servers, time_of};
 use super::long_job::LongJob;
 use super::seen::Seen;
-use super::wall::{Wall, time_of};
-use anyhow::{Context, Result, bail};
+use anyhow::{Result, bail};
 use cbs_core::Ran;
 use cbs_house::{Client, House, Meter, open_house};
 use cbs_job::Work;
 use cbs_rules::Mode;
 use std::alloc::Global;
-use std::time::{Clock, Duration};
-
-/// A house, and its clients.
-#[derive(Drop)]
-struct Trial<W: Work> {
-    house: House<W>,
-    control: Client<W>,
-    greedy: Client<W>,
-}
-
-/// Opens a house in which greedy has this mode. Returns the house and its clients.
-fn open<W: Work>(alloc: Global, mode: Mode) -> Result<Trial<W>> {
-    let (plan, modes) = servers(mode)?.into_parts();
-    let (house, mut clients) = open_house(alloc, plan, modes, ROOM, ROOM)?;
-    let greedy = clients.pop().context("a client for each server")?;
-    let control = clients.pop().context("a client for each server")?;
-    Ok(Trial {
-        house,
-        control,
-        greedy,
-    })
-}
+use std::io;
+use std::thread::sleep;
+use std::time::{Clock, Duration, Instant};
 
 /// Runs a trial of this length, in which greedy has this mode. Returns the measurements.
 pub fn run<R: Clock, M: Meter>(
@@ -41,57 +21,59 @@ pub fn run<R: Clock, M: Meter>(
     meter: &mut M,
     length: Duration,
 ) -> Result<Seen> {
-    let mut trial = open(alloc, mode)?;
-    let mut seen = Seen::new(alloc);
-    measure(&Wall::new(rt)?, &mut trial, meter, length, &mut seen)?;
-    Ok(seen)
-}
-
-/// Runs an opened trial for this time, and takes the measurements.
-fn measure<'a, R: Clock, M: Meter>(
-    wall: &Wall<'a, R>,
-    trial: &mut Trial<LongJob<'a, R>>,
-    meter: &mut M,
-    length: Duration,
-    seen: &mut Seen,
-) -> Result<()> {
-    run_for(wall, trial, meter, length, seen)?;
-    seen.length = wall.now()?;
-    seen.sent = trial.control.sent();
+    let (plan, modes) = servers(mode)?.into_parts();
+    let (mut house, mut clients) = open_house(alloc, plan, modes, ROOM, ROOM)?;
+    let mut seen = Seen::new(alloc, Instant::now(rt)?);
+    run_for(rt, &mut house, &mut clients, meter, length, &mut seen)?;
     seen.responses.sort_unstable();
-    Ok(())
+    Ok(seen)
 }
 
 /// Makes ticks until this time has passed.
 fn run_for<'a, R: Clock, M: Meter>(
-    wall: &Wall<'a, R>,
-    trial: &mut Trial<LongJob<'a, R>>,
+    rt: &'a R,
+    house: &mut House<LongJob<'a, R>>,
+    clients: &mut [Client<LongJob<'a, R>>],
     meter: &mut M,
     length: Duration,
     seen: &mut Seen,
 ) -> Result<()> {
     for _tick in 0..u64::MAX {
-        if length <= wall.now()? {
+        seen.length = seen.start.elapsed(rt)?;
+        if length <= seen.length {
             break;
         }
-        take_turn(wall, trial, meter, seen)?;
-        look(&trial.house, seen)?;
+        take_turn(rt, house, clients, meter, seen)?;
+        look(house, seen)?;
     }
     Ok(())
 }
 
 /// Takes a turn of one tick, once its time has come. If the house's clock is late, turns follow each other at once.
 fn take_turn<'a, R: Clock, M: Meter>(
-    wall: &Wall<'a, R>,
-    trial: &mut Trial<LongJob<'a, R>>,
+    rt: &'a R,
+    house: &mut House<LongJob<'a, R>>,
+    clients: &mut [Client<LongJob<'a, R>>],
     meter: &mut M,
     seen: &mut Seen,
 ) -> Result<()> {
-    seen.took_beyond(wall.sleep_until(time_of(trial.house.now()))?);
-    send_due(wall, &mut trial.control)?;
-    send_one(wall, &mut trial.greedy)?;
-    poll_each(&mut trial.house);
-    run_unit(wall, &mut trial.house, meter, seen)
+    let now = sleep_until(rt, time_of(house.now()), seen)?;
+    send_all(rt, clients, now, seen);
+    poll_each(house);
+    run_unit(rt, house, meter, seen)
+}
+
+/// Sleeps until this time of the trial, if it is still to come, and records by how much the sleep was too long. Returns
+/// the time of the trial.
+fn sleep_until(rt: &impl Clock, time: Duration, seen: &mut Seen) -> io::Result<Duration> {
+    let now = seen.start.elapsed(rt)?;
+    if time <= now {
+        return Ok(now);
+    }
+    sleep(rt, time.saturating_sub(now));
+    let now = seen.start.elapsed(rt)?;
+    seen.took_beyond(now.saturating_sub(time));
+    Ok(now)
 }
 
 /// Polls each server once.
@@ -104,16 +86,18 @@ fn poll_each<W: Work>(house: &mut House<W>) {
 /// Runs a unit, or lets a tick pass. `House::turn_metered` is not used, since it does not wait for the time of a
 /// throttled server: its clock jumps to that time.
 fn run_unit<'a, R: Clock, M: Meter>(
-    wall: &Wall<'a, R>,
+    rt: &R,
     house: &mut House<LongJob<'a, R>>,
     meter: &mut M,
     seen: &mut Seen,
 ) -> Result<()> {
-    let begun = wall.now()?;
-    match house.run_metered(meter) {
+    let begun = seen.start.elapsed(rt)?;
+    let ran = house.run_metered(meter);
+    let ended = seen.start.elapsed(rt)?;
+    match ran {
         // No server is ready, so this takes nobody's time.
         Ran::Idle => house.advance(1)?,
-        Ran::Done(done) => took(done.server, done.seq, begun, wall.now()?, seen)?,
+        Ran::Done(done) => took(done.server, done.seq, begun, ended, seen)?,
         Ran::Unit { .. } | Ran::ClockEnd => bail!(
             "a job has more than a unit, or the clock an end"
         ),
@@ -134,7 +118,7 @@ fn took(server: u16, seq: u64, begun: Duration, ended: Duration, seen: &mut Seen
 }
 
 /// Records whether a server is later than the rules allow.
-fn look<R: Clock>(house: &House<LongJob<'_, R>>, seen: &mut Seen) -> Result<()> {
+fn look<W: Work>(house: &House<W>, seen: &mut Seen) -> Result<()> {
     if is_too_late(house, CONTROL, GREEDY)? || is_too_late(house, GREEDY, CONTROL)? {
         seen.too_late = seen.too_late.saturating_add(1);
     }
@@ -142,7 +126,7 @@ fn look<R: Clock>(house: &House<LongJob<'_, R>>, seen: &mut Seen) -> Result<()> 
 }
 
 /// Returns whether a server has a job, may run, and is at least as late as the other's greatest charge for one unit.
-fn is_too_late<R: Clock>(house: &House<LongJob<'_, R>>, server: u16, other: u16) -> Result<bool> {
+fn is_too_late<W: Work>(house: &House<W>, server: u16, other: u16) -> Result<bool> {
     let view = house.view(server)?;
     let most = u128::from(house.charges(other)?.most);
     let is_ready = view.finished < view.accepted && !view.throttled;

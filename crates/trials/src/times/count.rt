@@ -3,6 +3,8 @@
 ghost use Rattle.std.specs.Prelude.{◌≤◌, ◌+◌};
 ghost use Rattle.trials.specs.Counts.{Counts, counting};
 
+use crate::setup::task;
+use anyhow::Result;
 use cbs_job::{Task, Work};
 use std::marker::Model;
 
@@ -42,11 +44,10 @@ impl Work for CountJob {
     }
 }
 
-/// Returns a job of `units` units, or `None` unless they are 1 to 1000000.
-pub fn counting(units: u32) -> Option<Task<CountJob>> {
-    Task::new(CountJob {
+/// Returns a job of `units` units, which must be 1 to 1000000.
+pub fn counting(units: u32) -> Result<Task<CountJob>> {
+    task(CountJob {
         left: units,
         done: 0,
     })
-    .ok()
 }

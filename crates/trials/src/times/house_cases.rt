@@ -3,44 +3,54 @@
 ghost use Rattle.std.specs.Prelude.{IfOk};
 ghost use Rattle.cbs_house.specs.Rounds.{Ready};
 
+use super::case::HouseCall;
 use super::count::{CountJob, counting};
-use super::setup::{BACKLOG, equal_shares};
-use super::timing::Timing;
+use super::timing::{BACKLOG, Timing};
 use crate::setup::fed;
-use anyhow::{Context, Result, ensure};
-use cbs_house::{Client, Feed, House, OpenGate, Poll, open_house, serve};
+use anyhow::{Result, ensure};
+use cbs_house::{Feed, House, OpenGate, Poll, serve};
 use cbs_job::Task;
-use cbs_rules::Mode;
+use cbs_rules::Setup;
 use std::alloc::Global;
 use std::thread::Threads;
 use std::time::{Clock, Instant};
 
-/// Returns the time of polls of empty rings, of all servers in turn.
-pub fn polls(rt: &impl Clock, alloc: Global, servers: u16, polls: u64) -> Result<Timing> {
-    let (mut house, _clients) = idle_house(alloc, servers)?;
-    time_polls(rt, &mut house, polls / u64::from(servers.max(1)))
+/// Returns the time of calls of a house of these servers: of polls of all servers in turn, or of messages of clients on
+/// their own threads, each of which sends a job of one unit over a ring of 64 slots.
+pub fn time_house<R: Threads + Clock + Sync>(
+    rt: &R,
+    alloc: Global,
+    setup: Setup,
+    call: HouseCall,
+    count: u64,
+) -> Result<Timing> {
+    let servers = setup.plan().len() as u64;
+    let each = count / servers.max(1);
+    let made = each.saturating_mul(servers);
+    match call {
+        HouseCall::Poll => {
+            let (mut house, _feeds) = opened(alloc, setup, 0)?;
+            time_polls(rt, &mut house, each, made)
+        }
+        HouseCall::Message => {
+            let (mut house, mut feeds) = opened(alloc, setup, each)?;
+            time_serving(rt, &mut house, &mut feeds, made)
+        }
+    }
 }
 
-/// Returns the time of `turns` turns of such polls.
-fn time_polls(rt: &impl Clock, house: &mut House<CountJob>, turns: u64) -> Result<Timing> {
+/// Returns the time of `turns` turns of polls of empty rings, which makes `polls` polls.
+fn time_polls(
+    rt: &impl Clock,
+    house: &mut House<CountJob>,
+    turns: u64,
+    polls: u64,
+) -> Result<Timing> {
     let start = Instant::now(rt)?;
-    poll_turns(house, turns)?;
-    let made = turns.saturating_mul(u64::from(house.servers()));
-    Timing::since(rt, start, made)
-}
-
-/// Returns a house, and its clients, which send nothing.
-fn idle_house(alloc: Global, servers: u16) -> Result<(House<CountJob>, Vec<Client<CountJob>>)> {
-    let (plan, modes) = equal_shares(servers, 1, Mode::Soft)?.into_parts();
-    Ok(open_house(alloc, plan, modes, BACKLOG, 64)?)
-}
-
-/// Makes `turns` turns of polls.
-fn poll_turns(house: &mut House<CountJob>, turns: u64) -> Result<()> {
     for _turn in 0..turns {
         ensure!(poll_all(house), "a ring is not empty");
     }
-    Ok(())
+    Timing::since(rt, start, polls)
 }
 
 /// Polls each server once. Returns whether all rings were empty.
@@ -51,19 +61,6 @@ fn poll_all(house: &mut House<CountJob>) -> bool {
         }
     }
     true
-}
-
-/// Serves clients on their own threads, which send jobs of one unit over rings of 64 slots. Returns the time.
-pub fn messages<R: Threads + Clock + Sync>(
-    rt: &R,
-    alloc: Global,
-    servers: u16,
-    jobs: u64,
-) -> Result<Timing> {
-    let each = jobs / u64::from(servers.max(1));
-    let (mut house, mut feeds) = opened(alloc, servers, each)?;
-    let sent = each.saturating_mul(u64::from(servers));
-    time_serving(rt, &mut house, &mut feeds, sent)
 }
 
 /// Serves feeds that have `jobs` jobs in total. Returns the time.
@@ -77,31 +74,30 @@ fn time_serving<R: Threads + Clock + Sync>(
 {
     let start = Instant::now(rt)?;
     serve(rt, house, feeds, &OpenGate)?;
-    let timing = Timing::since(rt, start, count_results(house)?)?;
-    ensure!(timing.made == jobs, "{} results", timing.made);
-    Ok(timing)
+    find_results(house, jobs)?;
+    Timing::since(rt, start, jobs)
 }
 
-/// Returns how many results all servers have.
-fn count_results(house: &House<CountJob>) -> Result<u64> {
+/// Refuses unless all servers together have so many results.
+fn find_results(house: &House<CountJob>, jobs: u64) -> Result<()> {
     let mut count = 0u64;
     for server in 0..house.servers() {
         count = count.saturating_add(house.results(server)?.len() as u64);
     }
-    Ok(count)
+    ensure!(count == jobs, "{count} results");
+    Ok(())
 }
 
-/// Returns a house, and for each server a feed of `jobs` jobs of one unit.
-fn opened(alloc: Global, servers: u16, jobs: u64) -> Result<(House<CountJob>, Vec<Feed<CountJob>>)>
+/// Returns a house of these servers, and for each a feed of `jobs` jobs of one unit.
+fn opened(alloc: Global, setup: Setup, jobs: u64) -> Result<(House<CountJob>, Vec<Feed<CountJob>>)>
     ensures { IfOk result (λ r. Ready r.0 r.1.items) }
 {
-    let setup = equal_shares(servers, 1, Mode::Soft)?;
-    let lists = job_lists(alloc, servers, jobs)?;
+    let lists = job_lists(alloc, setup.plan().len(), jobs)?;
     fed(alloc, setup, BACKLOG, 64, lists)
 }
 
-/// Returns for each server a list of `jobs` jobs of one unit.
-fn job_lists(alloc: Global, servers: u16, jobs: u64) -> Result<Vec<Vec<Task<CountJob>>>> {
+/// Returns for each of `servers` servers a list of `jobs` jobs of one unit.
+fn job_lists(alloc: Global, servers: usize, jobs: u64) -> Result<Vec<Vec<Task<CountJob>>>> {
     let mut lists = Vec::new(alloc);
     for _server in 0..servers {
         lists.push(job_list(alloc, jobs)?)?;
@@ -113,7 +109,7 @@ fn job_lists(alloc: Global, servers: u16, jobs: u64) -> Result<Vec<Vec<Task<Coun
 fn job_list(alloc: Global, jobs: u64) -> Result<Vec<Task<CountJob>>> {
     let mut list = Vec::new(alloc);
     for _job in 0..jobs {
-        list.push(counting(1).context("no such job")?)?;
+        list.push(counting(1)?)?;
     }
     Ok(list)
 }

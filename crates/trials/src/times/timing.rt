@@ -3,6 +3,9 @@
 use anyhow::Result;
 use std::time::{Clock, Duration, Instant};
 
+/// The greatest backlog of the servers that are timed.
+pub const BACKLOG: u64 = 4096;
+
 /// The time that it took to make a number of something.
 #[derive(Clone, Copy)]
 pub struct Timing {

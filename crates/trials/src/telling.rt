@@ -12,3 +12,8 @@ pub fn begin(rt: &impl Print) {
 pub fn tell<T: Debug + Drop>(rt: &impl Print, what: &str, answer: T) {
     let _written = println!(rt; "{what}: {answer:?}");
 }
+
+/// Prints the title of what is tried next.
+pub fn title(rt: &impl Print, name: &str) {
+    let _written = println!(rt; "== {name}");
+}
