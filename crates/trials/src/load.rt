@@ -34,12 +34,14 @@ pub fn read_load(alloc: Global, text: &str) -> Result<Load> {
 
 /// Reads the lines of this text into the load.
 fn read_lines(alloc: Global, load: &mut Load, text: &str) -> Result<()> {
-    ensure!(!text.is_empty(), "line 1: there is none");
-    for (number, line) in (1..u64::MAX).zip(text.lines()) {
+    let mut number = 0u64;
+    for line in text.lines() {
+        number = number.saturating_add(1);
         if let Err(error) = read_line(alloc, load, number, &mut line.split_whitespace()) {
             bail!("line {number}: {error}");
         }
     }
+    ensure!(number > 0, "line 1: there is none");
     Ok(())
 }
 

@@ -43,31 +43,38 @@ fn measured(
 /// Runs each trial for as many milliseconds as this word says, and prints a line for it.
 pub fn print_for<R: Print + Clock>(rt: &R, alloc: Global, millis: Option<&str>) -> Result<()> {
     let millis = millis.context("usage: overruns MILLISECONDS")?;
-    print_all(rt, alloc, millis.parse()?)
-}
-
-/// Runs each trial for `millis` milliseconds, and prints a line for it.
-fn print_all<R: Print + Clock>(rt: &R, alloc: Global, millis: u64) -> Result<()> {
-    for &(word, mode) in &MODES {
-        print_seen(rt, word, "no", measured(rt, alloc, mode, false, millis)?)?;
-        print_seen(rt, word, "clock", measured(rt, alloc, mode, true, millis)?)?;
-    }
-    Ok(())
-}
-
-/// Prints the line of a trial.
-fn print_seen(rt: &impl Print, word: &str, meter: &str, seen: Seen) -> io::Result<()> {
-    println!(rt; "greedy {word}, {meter} meter: {seen}")
+    try_modes(rt, alloc, millis.parse()?, false)
 }
 
 /// Runs each trial shortly, and prints how often a server was later than the rules allow. It prints no times.
 pub fn print_lateness<R: Print + Clock>(rt: &R, alloc: Global) -> Result<()> {
+    try_modes(rt, alloc, BRIEFLY, true)
+}
+
+/// Runs each trial for `millis` milliseconds, and prints what was seen.
+fn try_modes<R: Print + Clock>(rt: &R, alloc: Global, millis: u64, brief: bool) -> Result<()> {
     for &(word, mode) in &MODES {
-        let without = measured(rt, alloc, mode, false, BRIEFLY)?.too_late;
-        let with = measured(rt, alloc, mode, true, BRIEFLY)?.too_late;
-        print_late(rt, word, without, with)?;
+        let without = measured(rt, alloc, mode, false, millis)?;
+        let with = measured(rt, alloc, mode, true, millis)?;
+        print_mode(rt, word, &without, &with, brief)?;
     }
     Ok(())
+}
+
+/// Prints what was seen in the two trials of a mode, with no meter and with one: a line for each, or if it is to be
+/// brief, how often a server was too late.
+fn print_mode(
+    rt: &impl Print,
+    word: &str,
+    without: &Seen,
+    with: &Seen,
+    brief: bool,
+) -> io::Result<()> {
+    if brief {
+        return print_late(rt, word, without.too_late, with.too_late);
+    }
+    println!(rt; "greedy {word}, no meter: {without}")?;
+    println!(rt; "greedy {word}, clock meter: {with}")
 }
 
 /// Prints how often a server was too late in the two trials of a mode.

@@ -1,6 +1,6 @@
 //! Makes feeds, and serves them, by a round and to the end.
 
-ghost use Rattle.std.specs.Prelude.{◌<◌, ◌≡◌, length, IfOk};
+ghost use Rattle.std.specs.Prelude.{◌<◌, ◌≡◌, length, IfOk, IfSome};
 ghost use Rattle.cbs_house.specs.Rounds.{Ready};
 
 use crate::load::read_load;
@@ -54,10 +54,6 @@ fn make_feeds(
     ensure!(clients.len() == lists.len(), "not a list for each client");
     begin(rt);
     if let Some(back) = made(rt, alloc, clients, lists) {
-        ensure!(
-            back.clients.len() == back.lists.len(),
-            "not as many came back"
-        );
         made(rt, alloc, back.clients, back.lists);
     }
     Ok(())
@@ -71,6 +67,7 @@ fn made(
     lists: Vec<Vec<Task<FileJob>>>,
 ) -> Option<FeedsRefused<FileJob>>
     requires { length lists.items ≡ length clients.items }
+    ensures { IfSome result (λ back. length back.lists.items ≡ length back.clients.items) }
 {
     match feeds_of(alloc, clients, lists) {
         Ok(feeds) => {

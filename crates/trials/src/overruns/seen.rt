@@ -24,7 +24,7 @@ pub struct Seen {
 }
 
 impl Seen {
-    /// Returns the measurements of a trial that begins now.
+    /// Returns the measurements of a trial that began at `start`, which has measured nothing.
     pub fn new(alloc: Global, start: Instant) -> Seen {
         Seen {
             start,

@@ -23,8 +23,20 @@ pub fn run<R: Clock, M: Meter>(
 ) -> Result<Seen> {
     let (plan, modes) = servers(mode)?.into_parts();
     let (mut house, mut clients) = open_house(alloc, plan, modes, ROOM, ROOM)?;
+    measure(rt, alloc, &mut house, &mut clients, meter, length)
+}
+
+/// Runs a trial of this length in an opened house. Returns the measurements.
+fn measure<'a, R: Clock, M: Meter>(
+    rt: &'a R,
+    alloc: Global,
+    house: &mut House<LongJob<'a, R>>,
+    clients: &mut [Client<LongJob<'a, R>>],
+    meter: &mut M,
+    length: Duration,
+) -> Result<Seen> {
     let mut seen = Seen::new(alloc, Instant::now(rt)?);
-    run_for(rt, &mut house, &mut clients, meter, length, &mut seen)?;
+    run_for(rt, house, clients, meter, length, &mut seen)?;
     seen.responses.sort_unstable();
     Ok(seen)
 }
