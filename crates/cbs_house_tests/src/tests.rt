@@ -1,5 +1,7 @@
 //! Tests of the house and its clients on worked examples.
 
+ghost use Rattle.std.specs.Prelude.{◌≡◌, length};
+
 mod calls;
 mod charges;
 mod closing;
@@ -12,6 +14,7 @@ mod leaving;
 mod meeting;
 mod memory;
 mod metering;
+mod naps;
 mod patience;
 mod polling;
 mod rows;
@@ -19,10 +22,12 @@ mod serving;
 mod turning;
 mod widest;
 
-use cbs_job::{SumJob, Task};
+use cbs_house::{Client, House, open_house};
+use cbs_job::{SumJob, Task, Work};
 use cbs_rate::{Bound, Plan, Reservation};
+use cbs_rules::{Mode, Modes, Setup};
 use linked_list_allocator::LocalHeap;
-use std::alloc::Global;
+use std::alloc::{Allocator, Global};
 use std::fmt::{Debug, Display};
 use std::process::Abort;
 
@@ -51,14 +56,28 @@ fn says(rt: &impl Abort, alloc: Global, value: &impl Display, text: &str) {
     same(rt, text, said.as_str(), text);
 }
 
-/// Returns a plan of reservations, each a budget and a period.
-fn plan_of(rt: &impl Abort, rates: &[(u64, u64)]) -> Plan {
-    let mut plan = Plan::new(Bound::new(1, 1).expect(rt, "a bound"));
-    for &(budget, period) in rates {
+/// Returns the plan and the modes of servers, each a mode, a budget and a period.
+fn setup_of(rt: &impl Abort, servers: &[(Mode, u64, u64)]) -> (Plan, Modes)
+    ensures { length result.1 ≡ length result.0.rates }
+{
+    let mut setup = Setup::new(Bound::new(1, 1).expect(rt, "a bound"));
+    for &(mode, budget, period) in servers {
         let reservation = Reservation::new(budget, period).expect(rt, "a reservation");
-        plan.admit(reservation).expect(rt, "a server");
+        setup.admit(reservation, mode).expect(rt, "a server");
     }
-    plan
+    setup.into_parts()
+}
+
+/// Returns a house of these servers with this backlog and so many slots in each ring, and its clients.
+fn house_of<W: Work, A: Allocator + Copy>(
+    rt: &impl Abort,
+    alloc: A,
+    servers: &[(Mode, u64, u64)],
+    (backlog, ring): (u64, u64),
+) -> (House<W, A>, Vec<Client<W, A>, A>) {
+    let (plan, modes) = setup_of(rt, servers);
+    let opened = open_house(alloc, plan, modes, backlog, ring);
+    opened.ok().expect(rt, "a house")
 }
 
 /// Returns the task that adds these numbers up.

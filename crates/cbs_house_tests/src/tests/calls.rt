@@ -5,24 +5,25 @@
 
 ghost use Rattle.cbs_clients.specs.Clients.{SameClient};
 
-use super::same;
-use cbs_core::Ran;
-use cbs_house::{Client, House, HouseError, Poll, SendError};
-use cbs_job::{SumJob, Task};
-use std::alloc::Allocator;
+use super::{same, same_at, sum_of};
+use cbs_house::{Client, House, SendError};
+use cbs_job::SumJob;
+use std::alloc::{Allocator, Global};
 use std::process::Abort;
 
-/// Sends a job, and checks its number.
+/// Sends a sum of these numbers, and checks the number that the job gets.
 pub fn sends<A: Allocator>(
     rt: &impl Abort,
+    alloc: Global,
+    at: (&str, usize),
     client: &mut Client<SumJob, A>,
-    task: Task<SumJob>,
+    numbers: &[u32],
     number: u64,
 )
     ensures { SameClient client.old client.new }
 {
-    let answer = client.send(task);
-    assert!(rt; matches!(answer, Ok(n) if n == number));
+    let answer = client.send(sum_of(rt, alloc, numbers)).ok();
+    same_at(rt, at, "send", answer, Some(number));
 }
 
 /// Ends a client, and checks the result.
@@ -32,30 +33,6 @@ pub fn ends<A: Allocator>(
     wanted: Result<(), SendError>,
 ) {
     same(rt, "end", client.end(), wanted);
-}
-
-/// Polls a server, and checks the result.
-pub fn polls<A: Allocator>(
-    rt: &impl Abort,
-    house: &mut House<SumJob, A>,
-    server: u16,
-    wanted: Poll,
-) {
-    same(rt, "poll", house.poll(server), wanted);
-}
-
-/// Runs a unit, and checks the result.
-pub fn runs<A: Allocator>(rt: &impl Abort, house: &mut House<SumJob, A>, wanted: Ran) {
-    same(rt, "run", house.run(), wanted);
-}
-
-/// Runs until every job is finished, and checks the result.
-pub fn drains<A: Allocator>(
-    rt: &impl Abort,
-    house: &mut House<SumJob, A>,
-    wanted: Result<(), HouseError>,
-) {
-    same(rt, "drain", house.drain(), wanted);
 }
 
 /// Checks the clock.

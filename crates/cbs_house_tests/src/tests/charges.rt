@@ -1,18 +1,16 @@
 //! Tests of charges of a house, and of the state that they leave.
 
 use super::calls::sends;
+use super::house_of;
 use super::rows::{Case, Row, does_all, plays_all};
-use super::sum_of;
-use cbs_core::Ran;
-use cbs_house::{House, HouseError, Poll, open_house};
+use cbs_house::{House, HouseError, Poll};
 use cbs_job::SumJob;
-use cbs_rate::{Bound, Reservation};
-use cbs_rules::{LIMIT, Mode, Setup};
+use cbs_rules::{LIMIT, Mode};
 use std::alloc::Global;
 use std::process::Abort;
 
 /// A unit of the first job of server 0, not its last.
-const UNIT: Row = Row::Run(Ran::Unit { server: 0, seq: 0 });
+const UNIT: Row = Row::Unit(0, 0);
 
 static CASES: [Case; 3] = [
     Case {
@@ -35,7 +33,7 @@ static CASES: [Case; 3] = [
             Row::State(0, 2, 20, false),
             Row::Now(6),
             Row::Charges(0, Ok((4, 3))),
-            Row::Done(0, 3),
+            Row::Done(0, 0, 3),
             // The charge comes in two parts: 1, and then 2.
             Row::Charge(1, Ok(())),
             Row::State(0, 2, 25, false),
@@ -120,22 +118,16 @@ fn a_house_charges_the_server_that_runs(rt: HostRuntime) {
 /// Returns a house of a soft and a throttled server with 2 ticks in every 5 each. The client of each sent a sum of
 /// three ones, and is gone.
 fn two_servers(rt: &impl Abort, alloc: Global) -> House<SumJob> {
-    let mut setup = Setup::new(Bound::new(1, 1).expect(rt, "a bound"));
-    for mode in [Mode::Soft, Mode::Throttled] {
-        let reservation = Reservation::new(2, 5).expect(rt, "a reservation");
-        setup.admit(reservation, mode).expect(rt, "a server");
-    }
-    let (plan, modes) = setup.into_parts();
-    let opened = open_house(alloc, plan, modes, 4, 4);
-    let (house, mut clients) = opened.ok().expect(rt, "a house");
-    for client in clients.iter_mut() {
-        sends(rt, client, sum_of(rt, alloc, &[1, 1, 1]), 0);
+    let servers = [(Mode::Soft, 2, 5), (Mode::Throttled, 2, 5)];
+    let (house, mut clients) = house_of(rt, alloc, &servers, (4, 4));
+    for client in &mut clients {
+        sends(rt, alloc, ("two servers", 0), client, &[1, 1, 1], 0);
     }
     house
 }
 
 /// A unit of the throttled server's job, not its last.
-const UNIT_OF_1: Row = Row::Run(Ran::Unit { server: 1, seq: 0 });
+const UNIT_OF_1: Row = Row::Unit(1, 0);
 
 static OF_TWO: [Row; 29] = [
     Row::Poll(0, Poll::Took(0)),
@@ -158,7 +150,7 @@ static OF_TWO: [Row; 29] = [
     Row::Charges(2, Err(HouseError::NoSuchServer)),
     UNIT,
     Row::State(1, 2, 10, false),
-    Row::Done(0, 3),
+    Row::Done(0, 0, 3),
     UNIT_OF_1,
     Row::ChargeServer(1, 2, Ok(())),
     Row::State(1, 0, 10, true),

@@ -7,10 +7,10 @@ ghost use Rattle.cbs_clients.specs.Houses.{rings_of};
 use super::calls::{ends, gave, sends, stands_at};
 use super::leaving::sends_and_leaves;
 use super::rows::{Opened, Row};
-use super::{plan_of, same, same_at, sum_of};
-use cbs_house::{Client, House, HouseError, SendError, Sink, open_house};
+use super::{house_of, same, same_at};
+use cbs_house::{Client, House, HouseError, SendError, Sink};
 use cbs_job::{Completion, SumJob, Task};
-use cbs_rules::{Mode, Modes};
+use cbs_rules::Mode;
 use std::alloc::Global;
 use std::process::Abort;
 use std::thread::{Threads, join_mut, sleep, yield_now};
@@ -22,7 +22,8 @@ const PATIENCE: u64 = 1_000_000;
 /// A sink that keeps the completions that it is given.
 #[derive(Drop)]
 struct Seen {
-    told: Vec<Completion>,
+    /// The server, the number and the result of each.
+    told: Vec<(u16, u64, u64)>,
     lost: bool,
 }
 
@@ -37,39 +38,40 @@ impl Seen {
 
 impl Sink for Seen {
     fn tell(&mut self, done: Completion) {
-        if self.told.push(done).is_err() {
+        if self
+            .told
+            .push((done.server, done.seq, done.result))
+            .is_err()
+        {
             self.lost = true;
         }
     }
 }
 
-/// Runs a house until its clients have ended, or it was idle for so many turns, and checks the result.
+/// Runs a house until its clients have ended, or it was idle for so many turns. Checks the result, and the completions
+/// that the sink was given so far.
 fn closes<R: Clock + Abort>(
     rt: &R,
     at: (&str, usize),
     house: &mut House<SumJob>,
     seen: &mut Seen,
-    run: (u64, Result<(), HouseError>),
+    run: (u64, Result<(), HouseError>, Told),
 )
     ensures { rings_of house.new ≡ rings_of house.old }
 {
-    let (idle_turns, wanted) = run;
+    let (idle_turns, wanted, told) = run;
     let answer = house.run_until_closed(rt, seen, idle_turns);
     same_at(rt, at, "run_until_closed", answer, wanted);
+    was_told(rt, at, seen, told);
 }
 
-/// Checks the completions that a sink was given: server, number and result of each job, in order.
-fn was_told(rt: &impl Abort, at: (&str, usize), seen: &Seen, wanted: &[(u16, u64, u64)]) {
+/// Completions in order: server, number and result of each job.
+type Told = &'static [(u16, u64, u64)];
+
+/// Checks the completions that a sink was given.
+fn was_told(rt: &impl Abort, at: (&str, usize), seen: &Seen, wanted: Told) {
     assert!(rt; !seen.lost);
-    same_at(rt, at, "told", seen.told.len(), wanted.len());
-    for (done, &(server, seq, output)) in seen.told.iter().zip(wanted) {
-        let wanted = Completion {
-            server,
-            seq,
-            result: output,
-        };
-        same_at(rt, at, "told", *done, wanted);
-    }
+    same_at(rt, at, "told", seen.told.as_slice(), wanted);
 }
 
 /// A step of a test with a house of one server, its client and a sink.
@@ -77,10 +79,9 @@ fn was_told(rt: &impl Abort, at: (&str, usize), seen: &Seen, wanted: &[(u16, u64
 enum Step {
     /// Calls of the house or of its client.
     Rows(&'static [Row]),
-    /// A run of the house until its client has ended, or it was idle for this many turns.
-    Close(u64, Result<(), HouseError>),
-    /// The completions that the sink was given so far: server, number and result of each job, in order.
-    Told(&'static [(u16, u64, u64)]),
+    /// A run of the house until its client has ended, or it was idle for this many turns, and the completions that the
+    /// sink was given so far.
+    Close(u64, Result<(), HouseError>, Told),
 }
 
 /// The steps of a test with a new house.
@@ -101,7 +102,7 @@ fn closes_opened<R: Clock + Abort>(
     at: (&str, usize),
     opened: &mut Opened,
     seen: &mut Seen,
-    run: (u64, Result<(), HouseError>),
+    run: (u64, Result<(), HouseError>, Told),
 ) {
     closes(rt, at, &mut opened.house, seen, run);
 }
@@ -114,31 +115,28 @@ fn goes<R: Clock + Abort>(rt: &R, alloc: Global, case: &Closing) {
         let at = (case.name, place);
         match step {
             Step::Rows(rows) => opened.plays(rt, alloc, case.name, rows),
-            Step::Close(idle_turns, wanted) => {
-                closes_opened(rt, at, &mut opened, &mut seen, (idle_turns, wanted));
+            Step::Close(idle_turns, wanted, told) => {
+                closes_opened(rt, at, &mut opened, &mut seen, (idle_turns, wanted, told));
             }
-            Step::Told(wanted) => was_told(rt, at, &seen, wanted),
         }
     }
 }
 
 /// A client that ends at once.
-const ENDED: [Step; 5] = [
+const ENDED: [Step; 4] = [
     Step::Rows(&[Row::End(Ok(()))]),
-    Step::Close(1, Ok(())),
-    Step::Close(1, Ok(())),
-    Step::Told(&[]),
+    Step::Close(1, Ok(()), &[]),
+    Step::Close(1, Ok(()), &[]),
     Step::Rows(&[Row::Now(0)]),
 ];
 
 /// A client that sends nothing, and ends at last.
-const SILENT: [Step; 6] = [
-    Step::Close(0, Err(HouseError::Stalled)),
-    Step::Close(1, Err(HouseError::Stalled)),
-    Step::Close(100, Err(HouseError::Stalled)),
+const SILENT: [Step; 5] = [
+    Step::Close(0, Err(HouseError::Stalled), &[]),
+    Step::Close(1, Err(HouseError::Stalled), &[]),
+    Step::Close(100, Err(HouseError::Stalled), &[]),
     Step::Rows(&[Row::Now(0), Row::End(Ok(()))]),
-    Step::Close(100, Ok(())),
-    Step::Told(&[]),
+    Step::Close(100, Ok(()), &[]),
 ];
 
 /// The sends of a client that does not end.
@@ -193,12 +191,10 @@ static CASES: [Closing; 6] = [
         limits: (1, 4),
         steps: &[
             Step::Rows(&SENT),
-            Step::Close(100, Err(HouseError::Stalled)),
-            Step::Told(&TOLD),
+            Step::Close(100, Err(HouseError::Stalled), &TOLD),
             Step::Rows(&[Row::Results(0, Ok(&[5, 7, 9])), Row::Now(3)]),
             Step::Rows(&LAST),
-            Step::Close(100, Ok(())),
-            Step::Told(&ALL_TOLD),
+            Step::Close(100, Ok(()), &ALL_TOLD),
             Step::Rows(&[Row::Results(0, Ok(&[11])), Row::Now(4)]),
         ],
     },
@@ -210,12 +206,10 @@ static CASES: [Closing; 6] = [
         // Units run at 0, at 4 and at 8. The last job comes when the budget is used up, and waits until 12.
         steps: &[
             Step::Rows(&SENT),
-            Step::Close(100, Err(HouseError::Stalled)),
-            Step::Told(&TOLD),
+            Step::Close(100, Err(HouseError::Stalled), &TOLD),
             Step::Rows(&[Row::Results(0, Ok(&[5, 7, 9])), Row::Now(9)]),
             Step::Rows(&LAST),
-            Step::Close(100, Ok(())),
-            Step::Told(&ALL_TOLD),
+            Step::Close(100, Ok(()), &ALL_TOLD),
             Step::Rows(&[Row::Results(0, Ok(&[11])), Row::Now(13)]),
         ],
     },
@@ -235,10 +229,7 @@ pub fn two_clients(
     alloc: Global,
     mode: Mode,
 ) -> (House<SumJob>, Vec<Client<SumJob>>) {
-    let plan = plan_of(rt, &[(2, 5), (2, 5)]);
-    let modes = Modes::uniform(mode, plan.len() as u16);
-    let opened = open_house(alloc, plan, modes, 2, 2);
-    opened.ok().expect(rt, "a house")
+    house_of(rt, alloc, &[(mode, 2, 5), (mode, 2, 5)], (2, 2))
 }
 
 /// Returns the task of one unit of this number, or `None` if an allocation is refused.
@@ -371,8 +362,8 @@ fn late_clients_that_send_more_than_fits_are_finished(rt: HostRuntime) {
 /// Sends two jobs of one unit each: of 10 times the number of the client's server, and of one more.
 fn sends_two(rt: &impl Abort, alloc: Global, client: &mut Client<SumJob>) {
     let first = 10 * u32::from(client.server());
-    sends(rt, client, sum_of(rt, alloc, &[first]), 0);
-    sends(rt, client, sum_of(rt, alloc, &[first + 1]), 1);
+    sends(rt, alloc, ("two jobs", 0), client, &[first], 0);
+    sends(rt, alloc, ("two jobs", 1), client, &[first + 1], 1);
 }
 
 /// The completions that a sink is given of two clients' jobs.
@@ -387,20 +378,12 @@ fn a_sink_is_told_in_the_order_of_the_completions(rt: HostRuntime) {
         sends_two(&rt, alloc, client);
     }
     // Both servers have the deadline 5, and the two units of server 0 are a whole budget.
-    let sent = ("both have sent", 0);
-    closes(
-        &rt,
-        sent,
-        &mut house,
-        &mut seen,
-        (1, Err(HouseError::Stalled)),
-    );
-    was_told(&rt, sent, &seen, &OF_TWO);
+    let stalled = (1, Err(HouseError::Stalled), &OF_TWO[..]);
+    closes(&rt, ("both have sent", 0), &mut house, &mut seen, stalled);
     for client in &mut clients {
         ends(&rt, client, Ok(()));
     }
-    let ended = ("both have ended", 1);
-    closes(&rt, ended, &mut house, &mut seen, (1, Ok(())));
-    was_told(&rt, ended, &seen, &OF_TWO);
+    let closed = (1, Ok(()), &OF_TWO[..]);
+    closes(&rt, ("both have ended", 1), &mut house, &mut seen, closed);
     stands_at(&rt, &house, 4);
 }

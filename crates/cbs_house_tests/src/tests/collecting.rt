@@ -4,7 +4,7 @@ use super::{filled, same_at};
 use cbs_house::{CollectError, Collector};
 use cbs_job::Completion;
 use linked_list_allocator::LocalHeap;
-use std::alloc::{Allocator, Global};
+use std::alloc::Global;
 use std::process::Abort;
 
 /// A call of a collector, with the result that a test checks.
@@ -23,12 +23,7 @@ enum Row {
 }
 
 /// Makes the calls of these rows in turn, and checks each result.
-fn plays<A: Allocator + Clone>(
-    rt: &impl Abort,
-    name: &str,
-    collector: &mut Collector<A>,
-    rows: &[Row],
-) {
+fn plays(rt: &impl Abort, name: &str, collector: &mut Collector<&LocalHeap>, rows: &[Row]) {
     for (place, &row) in rows.iter().enumerate() {
         play(rt, (name, place), collector, row);
     }
@@ -43,11 +38,13 @@ struct Phase {
     rows: &'static [Row],
 }
 
-/// Makes the calls of these phases of a new collector for one server, and checks each result. All its memory is that of
-/// a heap.
-fn plays_in_heap(rt: &impl Abort, alloc: Global, phases: &[Phase]) {
+/// Makes the calls of these phases of a new collector for so many servers, and checks each result. All its memory is
+/// that of a heap.
+fn plays_in_heap(rt: &impl Abort, alloc: Global, servers: u16, phases: &[Phase]) {
     let heap = LocalHeap::new(alloc, 1 << 12).expect(rt, "a heap");
-    let mut collector = Collector::new(&heap, 1).ok().expect(rt, "a collector");
+    let Ok(mut collector) = Collector::new(&heap, servers) else {
+        panic!(rt; "a collector");
+    };
     for phase in phases {
         if phase.full {
             plays_full(rt, alloc, &heap, &mut collector, phase);
@@ -71,12 +68,7 @@ fn plays_full(
 }
 
 /// Makes the call of a row, which stands at this place of the rows of this name, and checks the result.
-fn play<A: Allocator + Clone>(
-    rt: &impl Abort,
-    at: (&str, usize),
-    collector: &mut Collector<A>,
-    row: Row,
-) {
+fn play(rt: &impl Abort, at: (&str, usize), collector: &mut Collector<&LocalHeap>, row: Row) {
     match row {
         Row::MakeRoom(server, wanted) => {
             same_at(rt, at, "make_room", collector.make_room(server), wanted);
@@ -95,10 +87,21 @@ fn play<A: Allocator + Clone>(
         Row::Results(server, wanted) => {
             same_at(rt, at, "results", collector.results(server), wanted);
         }
-        Row::TakeResults(server, wanted) => match collector.take_results(server) {
-            Ok(results) => same_at(rt, at, "take_results", Ok(results.as_slice()), wanted),
-            Err(error) => same_at(rt, at, "take_results", Err(error), wanted),
-        },
+        Row::TakeResults(server, wanted) => hands_out(rt, at, collector, server, wanted),
+    }
+}
+
+/// Hands out the results of a server, and checks them.
+fn hands_out(
+    rt: &impl Abort,
+    at: (&str, usize),
+    collector: &mut Collector<&LocalHeap>,
+    server: u16,
+    wanted: Result<&[u64], CollectError>,
+) {
+    match collector.take_results(server) {
+        Ok(results) => same_at(rt, at, "take_results", Ok(results.as_slice()), wanted),
+        Err(error) => same_at(rt, at, "take_results", Err(error), wanted),
     }
 }
 
@@ -140,18 +143,11 @@ static ONLY_NEXT: [Phase; 2] = [
 
 #[test]
 fn only_the_next_completion_is_taken(rt: HostRuntime) {
-    plays_in_heap(&rt, rt.alloc(), &ONLY_NEXT);
-}
-
-/// Returns a collector for so many servers.
-fn collector_of(rt: &impl Abort, alloc: Global, servers: u16) -> Collector {
-    Collector::new(alloc, servers)
-        .ok()
-        .expect(rt, "a collector")
+    plays_in_heap(&rt, rt.alloc(), 1, &ONLY_NEXT);
 }
 
 /// A completion of the second of two servers is announced.
-static SECOND: [Row; 10] = [
+const SECOND: [Row; 10] = [
     Row::MakeRoom(1, Ok(())),
     Row::Expect(1, Ok(())),
     Row::Take(0, 0, 3, Err(CollectError::Early)),
@@ -164,15 +160,23 @@ static SECOND: [Row; 10] = [
     Row::Results(1, Some(&[3])),
 ];
 
-/// There is no server.
-static NONE: [Row; 1] = [Row::Take(0, 0, 1, Err(CollectError::Stranger))];
+static OF_TWO: [Phase; 1] = [Phase {
+    name: "two servers",
+    full: false,
+    rows: &SECOND,
+}];
+
+static OF_NONE: [Phase; 1] = [Phase {
+    name: "no server",
+    full: false,
+    rows: &[Row::Take(0, 0, 1, Err(CollectError::Stranger))],
+}];
 
 #[test]
 fn each_server_has_its_own_results(rt: HostRuntime) {
-    let mut collector = collector_of(&rt, rt.alloc(), 2);
-    plays(&rt, "two servers", &mut collector, &SECOND);
-    let mut none = collector_of(&rt, rt.alloc(), 0);
-    plays(&rt, "no server", &mut none, &NONE);
+    let alloc = rt.alloc();
+    plays_in_heap(&rt, alloc, 2, &OF_TWO);
+    plays_in_heap(&rt, alloc, 0, &OF_NONE);
 }
 
 /// Four completions are announced, and one is taken.
@@ -236,5 +240,5 @@ static NUMBERED_ON: [Phase; 4] = [
 
 #[test]
 fn completions_are_numbered_on_behind_results_handed_out(rt: HostRuntime) {
-    plays_in_heap(&rt, rt.alloc(), &NUMBERED_ON);
+    plays_in_heap(&rt, rt.alloc(), 1, &NUMBERED_ON);
 }

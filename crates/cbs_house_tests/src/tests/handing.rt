@@ -1,15 +1,11 @@
 //! Tests of results that are handed out.
 
-use super::calls::{drains, polls, runs, sends};
-use super::polling::one_client;
-use super::rows::{Case, Phase, Row, hands_out, plays_all, plays_in_heap};
-use super::sum_of;
-use cbs_core::{Ran, ServerView};
-use cbs_house::{Client, House, HouseError, Poll};
-use cbs_job::{Completion, SumJob};
+use super::rows::{Case, Opened, Phase, Row, plays_all, plays_in_heap};
+use cbs_core::ServerView;
+use cbs_house::{HouseError, Poll};
 use cbs_rules::Mode;
 use linked_list_allocator::LocalHeap;
-use std::alloc::{Allocator, Global};
+use std::alloc::Global;
 use std::process::Abort;
 
 /// The view of a server that was closed with three jobs, when all are finished.
@@ -33,7 +29,7 @@ static CASES: [Case; 1] = [Case {
         Row::Poll(0, Poll::Took(0)),
         Row::Send(&[7], 1),
         Row::Poll(0, Poll::Took(1)),
-        Row::Done(0, 5),
+        Row::Done(0, 0, 5),
         Row::TakeResults(0, Ok(&[5])),
         Row::TakeResults(0, Ok(&[])),
         Row::TakeResults(1, Err(HouseError::NoSuchServer)),
@@ -67,7 +63,7 @@ const HELD: [Row; 9] = [
     Row::Poll(0, Poll::Took(2)),
     Row::Send(&[3], 3),
     Row::Poll(0, Poll::Took(3)),
-    Row::Done(0, 3),
+    Row::Done(0, 0, 3),
 ];
 
 /// The results handed out while no memory can be had.
@@ -82,7 +78,7 @@ const HANDED: [Row; 1] = [Row::TakeResults(0, Ok(&[3]))];
 
 /// The other three jobs are finished, while no memory can be had.
 const FINISHED: [Row; 3] = [
-    Row::Done(1, 3),
+    Row::Done(0, 1, 3),
     Row::Drain(Ok(())),
     // No job is held, so no memory is needed.
     Row::TakeResults(0, Ok(&[3, 3, 3])),
@@ -116,53 +112,30 @@ fn jobs_held_keep_the_places_of_their_results(rt: HostRuntime) {
     plays_in_heap(&rt, rt.alloc(), Mode::Soft, &PHASES);
 }
 
-/// Sends a job of one unit, with this number, and takes it.
-fn gets<A: Allocator>(
-    rt: &impl Abort,
-    alloc: Global,
-    house: &mut House<SumJob, A>,
-    client: &mut Client<SumJob, A>,
-    job: (u64, u32),
-) {
-    let (number, output) = job;
-    sends(rt, client, sum_of(rt, alloc, &[output]), number);
-    polls(rt, house, 0, Poll::Took(number));
-}
-
-/// Runs the unit that finishes this job of server 0, and checks the result.
-fn finishes<A: Allocator>(rt: &impl Abort, house: &mut House<SumJob, A>, seq: u64, output: u64) {
-    let done = Completion {
-        server: 0,
-        seq,
-        result: output,
-    };
-    runs(rt, house, Ran::Done(done));
-}
-
 /// Makes a round of a service: two jobs come, and the results of both are handed out, one after the other.
-fn serves_two<A: Allocator + Clone>(
-    rt: &impl Abort,
-    alloc: Global,
-    house: &mut House<SumJob, A>,
-    client: &mut Client<SumJob, A>,
-    round: u32,
-) {
+fn serves_two(rt: &impl Abort, alloc: Global, opened: &mut Opened<&LocalHeap>, round: u32) {
     let first = 2 * u64::from(round);
-    gets(rt, alloc, house, client, (first, round));
-    gets(rt, alloc, house, client, (first + 1, 1));
-    finishes(rt, house, first, u64::from(round));
-    hands_out(rt, ("the first", 0), house, 0, Ok(&[u64::from(round)]));
-    drains(rt, house, Ok(()));
-    hands_out(rt, ("the second", 1), house, 0, Ok(&[1]));
+    let result = u64::from(round);
+    let rows = [
+        Row::SendOne(round, first),
+        Row::Poll(0, Poll::Took(first)),
+        Row::SendOne(1, first + 1),
+        Row::Poll(0, Poll::Took(first + 1)),
+        Row::Done(0, first, result),
+        Row::TakeResult(result),
+        Row::Drain(Ok(())),
+        Row::TakeResult(1),
+    ];
+    opened.plays(rt, alloc, "a round", &rows);
 }
 
 #[test]
 fn a_service_goes_on_in_bounded_memory(rt: HostRuntime) {
     let alloc = rt.alloc();
     let heap = LocalHeap::new(alloc, 1 << 14).expect(&rt, "a heap");
-    let (mut house, mut client) = one_client(&rt, &heap, Mode::Soft, (2, 5), (4, 4));
+    let mut opened = Opened::new(&rt, &heap, Mode::Soft, (2, 5), (4, 4));
     // The results of all rounds take 16000 bytes, twice the size of the heap.
     for round in 0..1000 {
-        serves_two(&rt, alloc, &mut house, &mut client, round);
+        serves_two(&rt, alloc, &mut opened, round);
     }
 }

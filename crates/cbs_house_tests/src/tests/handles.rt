@@ -6,7 +6,6 @@ use cbs_house::{HouseError, SendError};
 use cbs_job::TaskError;
 use cbs_rate::{AdmitError, RateError};
 use std::alloc::Global;
-use std::fmt::Display;
 use std::process::Abort;
 
 /// Requires that the value may go to another thread, and returns it.
@@ -22,82 +21,90 @@ fn may_cross(rt: HostRuntime) {
     assert!(rt; held.is_none());
 }
 
+/// The status of each refusal of a reservation or of an admission.
+static OF_RESERVATIONS: [(Refusal, u32); 7] = [
+    (Refusal::Rate(RateError::ZeroBudget), 0x101),
+    (Refusal::Rate(RateError::PeriodTooLong), 0x102),
+    (Refusal::Rate(RateError::BudgetOverPeriod), 0x103),
+    (Refusal::Rate(RateError::BadBound), 0x104),
+    (Refusal::Admit(AdmitError::TooManyServers), 0x201),
+    (Refusal::Admit(AdmitError::PeriodsTooFine), 0x202),
+    (Refusal::Admit(AdmitError::OverBound), 0x203),
+];
+
+/// The status of each refusal of a house, of a task or of a client.
+static OF_HOUSES: [(Refusal, u32); 10] = [
+    (Refusal::House(HouseError::BadBacklog), 0x301),
+    (Refusal::House(HouseError::BadRing), 0x302),
+    (Refusal::House(HouseError::OutOfMemory), 0x303),
+    (Refusal::House(HouseError::NoSuchServer), 0x304),
+    (Refusal::House(HouseError::ClockEnd), 0x305),
+    (Refusal::House(HouseError::Stalled), 0x306),
+    (Refusal::Task(TaskError::EmptyJob), 0x401),
+    (Refusal::Task(TaskError::TooLong), 0x402),
+    (Refusal::Send(SendError::Ended), 0x501),
+    (Refusal::Send(SendError::RingFull), 0x502),
+];
+
 /// Checks the status of a refusal, and that the text of the status is the text of its error.
-fn tells(rt: &impl Abort, alloc: Global, error: &impl Display, refusal: Refusal, status: u32) {
+fn tells(rt: &impl Abort, alloc: Global, refusal: Refusal, status: u32) {
     same(rt, "status", refusal.status(), status);
-    says(rt, alloc, error, text_of(status));
-}
-
-/// Checks the status of a refused reservation.
-fn rate_tells(rt: &impl Abort, alloc: Global, error: RateError, status: u32) {
-    tells(rt, alloc, &error, Refusal::Rate(error), status);
-}
-
-/// Checks the status of a refused admission.
-fn admission_tells(rt: &impl Abort, alloc: Global, error: AdmitError, status: u32) {
-    tells(rt, alloc, &error, Refusal::Admit(error), status);
+    let text = text_of(status);
+    match refusal {
+        Refusal::Rate(error) => says(rt, alloc, &error, text),
+        Refusal::Admit(error) => says(rt, alloc, &error, text),
+        Refusal::House(error) => says(rt, alloc, &error, text),
+        Refusal::Task(error) => says(rt, alloc, &error, text),
+        Refusal::Send(error) => says(rt, alloc, &error, text),
+        Refusal::Handle(_) => panic!(rt; "a handle's refusal has a text of its own"),
+    }
 }
 
 #[test]
 fn reservations_are_refused_by_their_texts(rt: HostRuntime) {
-    let alloc = rt.alloc();
-    rate_tells(&rt, alloc, RateError::ZeroBudget, 0x101);
-    rate_tells(&rt, alloc, RateError::PeriodTooLong, 0x102);
-    rate_tells(&rt, alloc, RateError::BudgetOverPeriod, 0x103);
-    rate_tells(&rt, alloc, RateError::BadBound, 0x104);
-    admission_tells(&rt, alloc, AdmitError::TooManyServers, 0x201);
-    admission_tells(&rt, alloc, AdmitError::PeriodsTooFine, 0x202);
-    admission_tells(&rt, alloc, AdmitError::OverBound, 0x203);
-}
-
-/// Checks the status of an error of a house.
-fn house_tells(rt: &impl Abort, alloc: Global, error: HouseError, status: u32) {
-    tells(rt, alloc, &error, Refusal::House(error), status);
-}
-
-/// Checks the status of a refused task.
-fn task_tells(rt: &impl Abort, alloc: Global, error: TaskError, status: u32) {
-    tells(rt, alloc, &error, Refusal::Task(error), status);
-}
-
-/// Checks the status of an error of a client.
-fn client_tells(rt: &impl Abort, alloc: Global, error: SendError, status: u32) {
-    tells(rt, alloc, &error, Refusal::Send(error), status);
+    for &(refusal, status) in &OF_RESERVATIONS {
+        tells(&rt, rt.alloc(), refusal, status);
+    }
 }
 
 #[test]
 fn houses_and_clients_refuse_by_their_texts(rt: HostRuntime) {
-    let alloc = rt.alloc();
-    house_tells(&rt, alloc, HouseError::BadBacklog, 0x301);
-    house_tells(&rt, alloc, HouseError::BadRing, 0x302);
-    house_tells(&rt, alloc, HouseError::OutOfMemory, 0x303);
-    house_tells(&rt, alloc, HouseError::NoSuchServer, 0x304);
-    house_tells(&rt, alloc, HouseError::ClockEnd, 0x305);
-    house_tells(&rt, alloc, HouseError::Stalled, 0x306);
-    task_tells(&rt, alloc, TaskError::EmptyJob, 0x401);
-    task_tells(&rt, alloc, TaskError::TooLong, 0x402);
-    client_tells(&rt, alloc, SendError::Ended, 0x501);
-    client_tells(&rt, alloc, SendError::RingFull, 0x502);
+    for &(refusal, status) in &OF_HOUSES {
+        tells(&rt, rt.alloc(), refusal, status);
+    }
 }
 
-/// Checks the status of an error of a handle, and the text of the status.
-fn refused(rt: &impl Abort, error: HandleError, status: u32, text: &str) {
-    same(rt, "status", Refusal::Handle(error).status(), status);
-    same(rt, "text", text_of(status), text);
-}
+/// The status of each error of a handle, and the text of the status.
+static OF_HANDLES: [(HandleError, u32, &str); 5] = [
+    (HandleError::NotOpen, 0x601, "the handle is not open"),
+    (
+        HandleError::OtherKind,
+        0x602,
+        "the handle is of the other kind",
+    ),
+    (
+        HandleError::WrongCount,
+        0x603,
+        "there are not as many clients as servers",
+    ),
+    (
+        HandleError::BadMode,
+        0x604,
+        "the mode is neither soft nor throttled",
+    ),
+    (
+        HandleError::HouseGone,
+        0x605,
+        "the client's house was freed",
+    ),
+];
 
 #[test]
 fn handles_are_refused_by_texts_of_their_own(rt: HostRuntime) {
-    let text = "the handle is not open";
-    refused(&rt, HandleError::NotOpen, 0x601, text);
-    let text = "the handle is of the other kind";
-    refused(&rt, HandleError::OtherKind, 0x602, text);
-    let text = "there are not as many clients as servers";
-    refused(&rt, HandleError::WrongCount, 0x603, text);
-    let text = "the mode is neither soft nor throttled";
-    refused(&rt, HandleError::BadMode, 0x604, text);
-    let text = "the client's house was freed";
-    refused(&rt, HandleError::HouseGone, 0x605, text);
+    for &(error, status, text) in &OF_HANDLES {
+        same(&rt, "status", Refusal::Handle(error).status(), status);
+        same(&rt, "text", text_of(status), text);
+    }
 }
 
 #[test]

@@ -1,10 +1,10 @@
 //! Tests of clients and houses that are dropped.
 
-use super::calls::gave;
+use super::calls::{gave, sends};
 use super::closing::{Late, runs_with_late_clients, two_clients, unit_of};
 use super::polling::one_client;
 use super::rows::{Opened, Row, does_all};
-use super::{same, sum_of, sums_of};
+use super::{same, sums_of};
 use cbs_core::ServerView;
 use cbs_house::{Client, Feed, NoSink, Poll, SendError};
 use cbs_job::SumJob;
@@ -154,15 +154,9 @@ static UNSENT: [Row; 4] = [
 fn a_dropped_feed_ends_with_jobs_unsent(rt: HostRuntime) {
     let alloc = rt.alloc();
     let (mut house, mut client) = one_client(&rt, alloc, Mode::Soft, (2, 5), (4, 4));
-    sends_5(&rt, alloc, &mut client);
+    sends(&rt, alloc, ("a client", 0), &mut client, &[5], 0);
     drop(Feed::new(client, sums_of(&rt, alloc, &[&[7], &[9]])));
     does_all(&rt, "a dropped feed", &mut house, &UNSENT);
-}
-
-/// Sends a job of one unit, which is the client's first.
-fn sends_5(rt: &impl Abort, alloc: Global, client: &mut Client<SumJob>) {
-    let number = client.send(sum_of(rt, alloc, &[5])).ok();
-    same(rt, "send", number, Some(0));
 }
 
 /// Checks whether the client's house is gone, how many jobs the client sent, and how many slots are free.
@@ -176,7 +170,7 @@ fn a_client_sees_that_its_house_is_gone(rt: HostRuntime) {
     let alloc = rt.alloc();
     let (house, mut client) = one_client(&rt, alloc, Mode::Soft, (2, 5), (4, 2));
     sees(&rt, &mut client, false, 0, 2);
-    sends_5(&rt, alloc, &mut client);
+    sends(&rt, alloc, ("a client", 0), &mut client, &[5], 0);
     sees(&rt, &mut client, false, 1, 1);
     drop(house);
     sees(&rt, &mut client, true, 1, 1);

@@ -1,7 +1,6 @@
 //! Tests of calls that are out of memory.
 
 use super::rows::{Phase, Row, plays_in_heap};
-use cbs_core::Ran;
 use cbs_house::Poll;
 use cbs_rules::Mode;
 
@@ -19,7 +18,7 @@ const WITHOUT_MEMORY: [Row; 11] = [
     Row::Send(&[4], 1),
     Row::End(Ok(())),
     Row::Settle(2),
-    Row::Run(Ran::Unit { server: 0, seq: 0 }),
+    Row::Unit(0, 0),
     Row::Advance(1, Ok(())),
     // The second unit ends at 3 and uses up the budget. The third runs from the deadline on, at 5.
     Row::Drain(Ok(())),

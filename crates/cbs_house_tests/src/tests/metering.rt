@@ -1,22 +1,21 @@
 //! Tests of meters: what a server is charged whose units take longer than a tick.
 
-ghost use Rattle.std.specs.Prelude.{◌-◌, refl};
-ghost use Rattle.cbs_clients.specs.Clients.{IsOpened};
+ghost use Rattle.std.specs.Prelude.{◌≡◌, ◌-◌, refl};
 ghost use Rattle.cbs_clients.specs.Houses.{rings_of};
 
-use super::calls::{ends, polls, sends};
+use super::calls::sends;
 use super::meeting::Shut;
 use super::polling::one_client;
-use super::rows::{Row, does_all};
+use super::rows::{Opened, Row, does_all};
 use super::serving::opened;
-use super::{plan_of, same, same_at, sum_of};
+use super::{house_of, same};
 use cbs_core::Ran;
 use cbs_house::{
-    Client, ClockMeter, Feed, House, Meter, NoMeter, NoSink, OpenGate, Poll, open_house,
-    serve_metered, serve_round_metered,
+    Client, ClockMeter, Feed, House, Meter, NoMeter, NoSink, OpenGate, Poll, serve_metered,
+    serve_round_metered,
 };
-use cbs_job::{SumJob, Task, Work};
-use cbs_rules::{LIMIT, Mode, Modes};
+use cbs_job::{Completion, SumJob, Task, Work};
+use cbs_rules::{LIMIT, Mode};
 use std::alloc::Global;
 use std::io;
 use std::process::Abort;
@@ -47,14 +46,75 @@ impl Meter for TwoBeyond {
     }
 }
 
-/// Returns a house of a soft server with 2 ticks in every 5, whose client sent a job of three units.
-fn one_job(rt: &impl Abort, alloc: Global) -> (House<SumJob>, Client<SumJob>)
-    ensures { IsOpened (rings_of result.0) result.1 }
-{
-    let (house, mut client) = one_client(rt, alloc, Mode::Soft, (2, 5), (4, 4));
-    sends(rt, &mut client, sum_of(rt, alloc, &[1, 1, 1]), 0);
-    (house, client)
+/// A call with a meter, with its result.
+#[derive(Clone, Copy)]
+enum Call {
+    /// Calls without a meter.
+    Rows(&'static [Row]),
+    Run(Ran),
+    /// A turn that takes this many messages, and does not advance.
+    Turn(u64),
+    Drain,
+    /// A run until the client has ended.
+    Close,
 }
+
+/// Calls with a meter of a new house of a soft server with 2 ticks in every 5.
+struct Metered {
+    name: &'static str,
+    calls: &'static [Call],
+}
+
+/// A unit of the job, not its last.
+const UNIT: Ran = Ran::Unit { server: 0, seq: 0 };
+
+/// The last unit of a job of three ones.
+const DONE: Ran = Ran::Done(Completion {
+    server: 0,
+    seq: 0,
+    result: 3,
+});
+
+/// Runs a job of three units, unit by unit.
+static RUNS: Metered = Metered {
+    name: "run_metered",
+    calls: &[
+        Call::Rows(&[Row::Send(&[1, 1, 1], 0), Row::Poll(0, Poll::Took(0))]),
+        Call::Run(UNIT),
+        Call::Run(UNIT),
+        Call::Run(DONE),
+        Call::Run(Ran::Idle),
+    ],
+};
+
+/// Takes three turns.
+static TURNS: Metered = Metered {
+    name: "turn_metered",
+    calls: &[
+        Call::Rows(&[Row::Send(&[1, 1, 1], 0)]),
+        Call::Turn(1),
+        Call::Turn(0),
+        Call::Turn(0),
+    ],
+};
+
+/// Drains the house.
+static DRAINS: Metered = Metered {
+    name: "drain_metered",
+    calls: &[
+        Call::Rows(&[Row::Send(&[1, 1, 1], 0), Row::Poll(0, Poll::Took(0))]),
+        Call::Drain,
+    ],
+};
+
+/// Runs until the client has ended.
+static CLOSES: Metered = Metered {
+    name: "run_until_closed_metered",
+    calls: &[
+        Call::Rows(&[Row::Send(&[1, 1, 1], 0), Row::End(Ok(()))]),
+        Call::Close,
+    ],
+};
 
 /// The state after three units of three ticks each: after these 9 ticks the last budget has 1 left.
 static LONG: [Row; 4] = [
@@ -72,45 +132,58 @@ static SHORT: [Row; 4] = [
     Row::Results(0, Ok(&[3])),
 ];
 
-/// Runs the job, unit by unit.
-fn runs<M: Meter>(rt: &impl Abort, alloc: Global, meter: &mut M, rows: &[Row]) {
-    let (mut house, client) = one_job(rt, alloc);
-    polls(rt, &mut house, 0, Poll::Took(0));
-    for _unit in 0..3 {
-        house.run_metered(meter);
+/// Makes the calls of a table, and checks the state behind them.
+fn meters<R: Clock + Abort, M: Meter>(
+    rt: &R,
+    alloc: Global,
+    meter: &mut M,
+    table: &Metered,
+    rows: &[Row],
+) {
+    let mut opened = Opened::new(rt, alloc, Mode::Soft, (2, 5), (4, 4));
+    for &call in table.calls {
+        makes_opened(rt, alloc, table.name, &mut opened, meter, call);
     }
-    same(rt, "run_metered", house.run_metered(meter), Ran::Idle);
-    does_all(rt, "run_metered", &mut house, rows);
-    drop(client);
+    opened.plays(rt, alloc, table.name, rows);
 }
 
-/// Takes three turns.
-fn turns<M: Meter>(rt: &impl Abort, alloc: Global, meter: &mut M, rows: &[Row]) {
-    let (mut house, client) = one_job(rt, alloc);
-    for took in [1, 0, 0] {
-        let turn = house.turn_metered(meter);
-        same(rt, "turn_metered", (turn.took, turn.advanced), (took, 0));
+/// Makes a call of a table, and checks the result.
+fn makes_opened<R: Clock + Abort, M: Meter>(
+    rt: &R,
+    alloc: Global,
+    name: &str,
+    opened: &mut Opened,
+    meter: &mut M,
+    call: Call,
+) {
+    match call {
+        Call::Rows(rows) => opened.plays(rt, alloc, name, rows),
+        _ => makes(rt, &mut opened.house, meter, call),
     }
-    does_all(rt, "turn_metered", &mut house, rows);
-    drop(client);
 }
 
-/// Drains the house.
-fn drains<M: Meter>(rt: &impl Abort, alloc: Global, meter: &mut M, rows: &[Row]) {
-    let (mut house, client) = one_job(rt, alloc);
-    polls(rt, &mut house, 0, Poll::Took(0));
-    same(rt, "drain_metered", house.drain_metered(meter), Ok(()));
-    does_all(rt, "drain_metered", &mut house, rows);
-    drop(client);
+/// Makes a call with a meter, and checks the result.
+fn makes<R: Clock + Abort, M: Meter>(rt: &R, house: &mut House<SumJob>, meter: &mut M, call: Call)
+    ensures { rings_of house.new ≡ rings_of house.old }
+{
+    match call {
+        Call::Run(wanted) => same(rt, "run_metered", house.run_metered(meter), wanted),
+        Call::Turn(took) => {
+            let turn = house.turn_metered(meter);
+            same(rt, "turn_metered", (turn.took, turn.advanced), (took, 0));
+        }
+        Call::Drain => same(rt, "drain_metered", house.drain_metered(meter), Ok(())),
+        Call::Close => closes(rt, house, meter),
+        Call::Rows(_) => {}
+    }
 }
 
 /// Runs until the client has ended.
-fn closes<R: Clock + Abort, M: Meter>(rt: &R, alloc: Global, meter: &mut M, rows: &[Row]) {
-    let (mut house, mut client) = one_job(rt, alloc);
-    ends(rt, &mut client, Ok(()));
+fn closes<R: Clock + Abort, M: Meter>(rt: &R, house: &mut House<SumJob>, meter: &mut M)
+    ensures { rings_of house.new ≡ rings_of house.old }
+{
     let answer = house.run_until_closed_metered(rt, &mut NoSink, meter, 1);
     same(rt, "run_until_closed_metered", answer, Ok(()));
-    does_all(rt, "run_until_closed_metered", &mut house, rows);
 }
 
 /// Serves a round of three turns.
@@ -120,7 +193,8 @@ fn rounds<R: Threads + Clock + Sync + Abort, M: Meter>(
     meter: &mut M,
     rows: &[Row],
 ) {
-    let (mut house, client) = one_job(rt, alloc);
+    let (mut house, mut client) = one_client(rt, alloc, Mode::Soft, (2, 5), (4, 4));
+    sends(rt, alloc, ("a round", 0), &mut client, &[1, 1, 1], 0);
     let mut feed = Feed::new(client, Vec::new(alloc));
     let round = serve_round_metered(rt, &mut house, from_mut(&mut feed), 3, &Shut, meter);
     same(rt, "serve_round_metered", (round.sent, round.took), (0, 1));
@@ -134,7 +208,7 @@ fn serves<R: Threads + Clock + Sync + Abort, M: Meter>(
     meter: &mut M,
     rows: &[Row],
 ) {
-    let (mut house, mut feeds) = opened(rt, alloc, &[(2, 5)], 4, &[&[&[1, 1, 1]]]);
+    let (mut house, mut feeds) = opened(rt, alloc, &[(Mode::Soft, 2, 5)], 4, &[&[&[1, 1, 1]]]);
     let answer = serve_metered(rt, &mut house, &mut feeds, &OpenGate, meter);
     same(rt, "serve_metered", answer, Ok(()));
     does_all(rt, "serve_metered", &mut house, rows);
@@ -144,11 +218,11 @@ fn serves<R: Threads + Clock + Sync + Abort, M: Meter>(
 fn units_are_charged_what_a_meter_tells(rt: HostRuntime) {
     let alloc = rt.alloc();
     let mut meter = TwoBeyond::NEW;
-    runs(&rt, alloc, &mut meter, &LONG);
+    meters(&rt, alloc, &mut meter, &RUNS, &LONG);
     // Four runs, of which the last finds no unit.
     same(&rt, "begun, asked", (meter.begun, meter.asked), (4, 3));
-    turns(&rt, alloc, &mut meter, &LONG);
-    drains(&rt, alloc, &mut meter, &LONG);
+    meters(&rt, alloc, &mut meter, &TURNS, &LONG);
+    meters(&rt, alloc, &mut meter, &DRAINS, &LONG);
     same(&rt, "begun, asked", (meter.begun, meter.asked), (10, 9));
 }
 
@@ -156,7 +230,7 @@ fn units_are_charged_what_a_meter_tells(rt: HostRuntime) {
 fn serving_charges_what_a_meter_tells(rt: HostRuntime) {
     let alloc = rt.alloc();
     let mut meter = TwoBeyond::NEW;
-    closes(&rt, alloc, &mut meter, &LONG);
+    meters(&rt, alloc, &mut meter, &CLOSES, &LONG);
     rounds(&rt, alloc, &mut meter, &LONG);
     serves(&rt, alloc, &mut meter, &LONG);
     same(&rt, "asked", meter.asked, 9);
@@ -165,19 +239,28 @@ fn serving_charges_what_a_meter_tells(rt: HostRuntime) {
 #[test]
 fn no_meter_charges_nothing(rt: HostRuntime) {
     let alloc = rt.alloc();
-    runs(&rt, alloc, &mut NoMeter, &SHORT);
-    turns(&rt, alloc, &mut NoMeter, &SHORT);
-    drains(&rt, alloc, &mut NoMeter, &SHORT);
-    closes(&rt, alloc, &mut NoMeter, &SHORT);
+    for table in [&RUNS, &TURNS, &DRAINS, &CLOSES] {
+        meters(&rt, alloc, &mut NoMeter, table, &SHORT);
+    }
     rounds(&rt, alloc, &mut NoMeter, &SHORT);
     serves(&rt, alloc, &mut NoMeter, &SHORT);
 }
 
-/// The job is taken two ticks before the clock's end.
-static BEFORE_THE_END: [Row; 2] = [Row::Advance(LIMIT - 2, Ok(())), Row::Poll(0, Poll::Took(0))];
+/// The job is taken two ticks before the clock's end, and a unit is run.
+static AT_THE_END: Metered = Metered {
+    name: "at the clock's end",
+    calls: &[
+        Call::Rows(&[
+            Row::Send(&[1, 1, 1], 0),
+            Row::Advance(LIMIT - 2, Ok(())),
+            Row::Poll(0, Poll::Took(0)),
+        ]),
+        Call::Run(UNIT),
+    ],
+};
 
-/// A unit of the job was charged the last tick.
-static AT_THE_END: [Row; 3] = [
+/// The unit was charged the last tick.
+static CHARGED: [Row; 3] = [
     Row::Now(LIMIT),
     Row::Charges(0, Ok((1, 1))),
     Row::Run(Ran::ClockEnd),
@@ -185,12 +268,7 @@ static AT_THE_END: [Row; 3] = [
 
 #[test]
 fn a_unit_is_charged_what_the_clock_can_hold(rt: HostRuntime) {
-    let (mut house, client) = one_job(&rt, rt.alloc());
-    does_all(&rt, "before", &mut house, &BEFORE_THE_END);
-    let ran = house.run_metered(&mut TwoBeyond::NEW);
-    same(&rt, "run_metered", ran, Ran::Unit { server: 0, seq: 0 });
-    does_all(&rt, "after", &mut house, &AT_THE_END);
-    drop(client);
+    meters(&rt, rt.alloc(), &mut TwoBeyond::NEW, &AT_THE_END, &CHARGED);
 }
 
 /// A clock that is later by `step` nanoseconds each time that it is read, and by what a unit adds.
@@ -211,37 +289,40 @@ impl Clock for Steady {
     }
 }
 
-/// The nanoseconds that each unit takes, and the ticks of 10 microseconds after its first.
-static TOOK: [(u64, u64); 7] = [
-    (0, 0),
-    (1, 0),
-    (10_000, 0),
-    (10_001, 1),
-    (20_000, 1),
-    (30_000, 2),
-    (30_001, 3),
+/// The nanoseconds that each unit takes, its charge in ticks of 10 microseconds after the first, and the clock.
+static TOOK: [(u64, &[Row]); 7] = [
+    (0, &[Row::Charges(0, Ok((0, 0))), Row::Now(1)]),
+    (1, &[Row::Charges(0, Ok((0, 0))), Row::Now(1)]),
+    (10_000, &[Row::Charges(0, Ok((0, 0))), Row::Now(1)]),
+    (10_001, &[Row::Charges(0, Ok((1, 1))), Row::Now(2)]),
+    (20_000, &[Row::Charges(0, Ok((1, 1))), Row::Now(2)]),
+    (30_000, &[Row::Charges(0, Ok((2, 2))), Row::Now(3)]),
+    (30_001, &[Row::Charges(0, Ok((3, 3))), Row::Now(4)]),
 ];
 
-/// Runs a unit that takes `step` nanoseconds, and checks how many ticks it is charged.
-fn is_charged(rt: &impl Abort, alloc: Global, at: (&str, usize), step: u64, wanted: u64) {
+/// The job is taken, and a unit is run.
+static ONE_UNIT: Metered = Metered {
+    name: "one unit",
+    calls: &[
+        Call::Rows(&[Row::Send(&[1, 1, 1], 0), Row::Poll(0, Poll::Took(0))]),
+        Call::Run(UNIT),
+    ],
+};
+
+/// Runs a unit that takes `step` nanoseconds, and checks what it is charged.
+fn is_charged<R: Clock + Abort>(rt: &R, alloc: Global, step: u64, rows: &[Row]) {
     let clock = Steady {
         now: AtomicU64::new(7),
         step,
     };
     let mut meter = ClockMeter::new(&clock, Duration::from_micros(10)).expect(rt, "a meter");
-    let (mut house, client) = one_job(rt, alloc);
-    polls(rt, &mut house, 0, Poll::Took(0));
-    house.run_metered(&mut meter);
-    let charges = house.charges(0).map(|it| it.total);
-    same_at(rt, at, "charges", charges, Ok(wanted));
-    same_at(rt, at, "now", house.now(), wanted.saturating_add(1));
-    drop(client);
+    meters(rt, alloc, &mut meter, &ONE_UNIT, rows);
 }
 
 #[test]
 fn a_clock_meter_charges_each_further_tick_that_was_begun(rt: HostRuntime) {
-    for (place, &(step, wanted)) in TOOK.iter().enumerate() {
-        is_charged(&rt, rt.alloc(), ("took", place), step, wanted);
+    for &(step, rows) in &TOOK {
+        is_charged(&rt, rt.alloc(), step, rows);
     }
 }
 
@@ -254,8 +335,8 @@ fn a_unit_that_takes_no_time_is_charged_nothing(rt: HostRuntime) {
     };
     let tick = Duration::from_nanos(1);
     let mut meter = ClockMeter::new(&clock, tick).expect(&rt, "a meter");
-    drains(&rt, alloc, &mut meter, &SHORT);
-    closes(&rt, alloc, &mut meter, &SHORT);
+    meters(&rt, alloc, &mut meter, &DRAINS, &SHORT);
+    meters(&rt, alloc, &mut meter, &CLOSES, &SHORT);
     let none = ClockMeter::new(&clock, Duration::ZERO).is_none();
     same(&rt, "a tick of no length is refused", none, true);
 }
@@ -288,10 +369,7 @@ impl<'a> Work for SlowJob<'a> {
 
 /// Returns a house of a soft server with 2 ticks in every 5. Its client sent a job of two such units, and is gone.
 fn slow_house<'a>(rt: &impl Abort, alloc: Global, clock: &'a Steady) -> House<SlowJob<'a>> {
-    let plan = plan_of(rt, &[(2, 5)]);
-    let modes = Modes::uniform(Mode::Soft, plan.len() as u16);
-    let opened = open_house(alloc, plan, modes, 4, 4);
-    let (house, mut clients) = opened.ok().expect(rt, "a house");
+    let (house, mut clients) = house_of(rt, alloc, &[(Mode::Soft, 2, 5)], (4, 4));
     let mut client = clients.pop().expect(rt, "a client");
     sends_slow(rt, &mut client, clock);
     house

@@ -3,13 +3,12 @@
 ghost use Rattle.cbs_clients.specs.Houses.{rings_of};
 ghost use Rattle.cbs_clients.specs.Clients.{IsOpened};
 
-use super::calls::{polls, sends};
-use super::rows::{Case, Phase, Row, does_all, plays_all, plays_in_heap};
-use super::{plan_of, same, sum_of};
+use super::rows::{Case, Phase, Row, plays_all, plays_in_heap};
+use super::{same, setup_of};
 use cbs_core::{Ran, ServerView};
 use cbs_house::{Client, House, HouseError, Poll, SendError, open_house};
 use cbs_job::SumJob;
-use cbs_rules::{LIMIT, Mode, Modes};
+use cbs_rules::{LIMIT, Mode};
 use std::alloc::{Allocator, Global};
 use std::process::Abort;
 
@@ -23,9 +22,9 @@ pub fn one_client<R: Abort, A: Allocator + Copy>(
 ) -> (House<SumJob, A>, Client<SumJob, A>)
     ensures { IsOpened (rings_of result.0) result.1 }
 {
+    let (budget, period) = rate;
     let (backlog, ring) = limits;
-    let plan = plan_of(rt, &[rate]);
-    let modes = Modes::uniform(mode, plan.len() as u16);
+    let (plan, modes) = setup_of(rt, &[(mode, budget, period)]);
     let opened = open_house(alloc, plan, modes, backlog, ring);
     let Ok((house, mut clients)) = opened else {
         panic!(rt; "a house");
@@ -102,7 +101,27 @@ fn messages_are_taken_in_order(rt: HostRuntime) {
     plays_in_heap(&rt, rt.alloc(), Mode::Soft, &PHASES);
 }
 
-static CASES: [Case; 4] = [
+/// The view of a throttled server with a tick in every 1000000000, when its job of three units is finished.
+const WAITED: ServerView = ServerView {
+    budget: 0,
+    deadline: 3_000_000_000,
+    throttled: true,
+    closed: false,
+    accepted: 1,
+    finished: 1,
+};
+
+/// The view of such a server when the clock has ended before its job.
+const UNFINISHED: ServerView = ServerView {
+    budget: 1,
+    deadline: 1_001_000_000_000,
+    throttled: false,
+    closed: false,
+    accepted: 1,
+    finished: 0,
+};
+
+static CASES: [Case; 6] = [
     Case {
         name: "a client sees the free slots of its ring",
         mode: Mode::Soft,
@@ -151,7 +170,7 @@ static CASES: [Case; 4] = [
             Row::Send(&[2], 1),
             Row::Poll(0, Poll::Full),
             Row::Settle(1),
-            Row::Done(0, 1),
+            Row::Done(0, 0, 1),
             Row::Poll(0, Poll::Took(1)),
             Row::Poll(3, Poll::NoSuchServer),
             Row::View(3, Err(HouseError::NoSuchServer)),
@@ -170,10 +189,40 @@ static CASES: [Case; 4] = [
             Row::Poll(0, Poll::Took(0)),
             Row::Poll(0, Poll::Full),
             Row::Settle(1),
-            Row::Done(0, 1),
+            Row::Done(0, 0, 1),
             Row::Poll(0, Poll::Closed),
             Row::Poll(0, Poll::Nothing),
             Row::Refused(2, SendError::Ended),
+        ],
+    },
+    Case {
+        name: "a drain waits for replenishments",
+        mode: Mode::Throttled,
+        rate: (1, 1_000_000_000),
+        limits: (4, 4),
+        rows: &[
+            Row::Send(&[1, 1, 1], 0),
+            Row::Poll(0, Poll::Took(0)),
+            Row::Drain(Ok(())),
+            Row::Now(2_000_000_001),
+            Row::Results(0, Ok(&[3])),
+            Row::View(0, Ok(WAITED)),
+            Row::Advance(1, Ok(())),
+        ],
+    },
+    Case {
+        name: "the clock ends with a job unfinished",
+        mode: Mode::Throttled,
+        rate: (1, 1_000_000_000),
+        limits: (4, 4),
+        rows: &[
+            Row::Send(&[1; 1001], 0),
+            Row::Poll(0, Poll::Took(0)),
+            Row::Drain(Err(HouseError::ClockEnd)),
+            Row::Now(1_000_000_000_000),
+            Row::Results(0, Ok(&[])),
+            Row::View(0, Ok(UNFINISHED)),
+            Row::Advance(1, Err(HouseError::ClockEnd)),
         ],
     },
 ];
@@ -185,10 +234,11 @@ fn each_message_is_taken_or_waits(rt: HostRuntime) {
 
 /// Checks that a house with these limits is refused by this error.
 fn is_refused(rt: &impl Abort, alloc: Global, backlog: u64, ring: u64, error: HouseError) {
-    let plan = plan_of(rt, &[(2, 5)]);
-    let modes = Modes::uniform(Mode::Soft, plan.len() as u16);
-    let refused = open_house::<SumJob, _>(alloc, plan, modes, backlog, ring).err();
-    same(rt, "refused", refused, Some(error));
+    let (plan, modes) = setup_of(rt, &[(Mode::Soft, 2, 5)]);
+    let Err(refused) = open_house::<SumJob, _>(alloc, plan, modes, backlog, ring) else {
+        panic!(rt; "refused");
+    };
+    same(rt, "refused", refused, error);
 }
 
 /// A backlog and a number of slots of a ring, and the error by which a house with them is refused.
@@ -204,71 +254,4 @@ fn limits_are_tested_in_their_order(rt: HostRuntime) {
     for &(backlog, ring, error) in &LIMITS {
         is_refused(&rt, rt.alloc(), backlog, ring, error);
     }
-}
-
-/// Returns a house of one throttled server with a tick in every 1000000000. A job of these ones was sent to it, and
-/// taken by a poll.
-fn with_ones(rt: &impl Abort, alloc: Global, ones: &[u32]) -> House<SumJob> {
-    let (mut house, mut client) = one_client(
-        rt,
-        alloc,
-        Mode::Throttled,
-        (1, 1_000_000_000),
-        (4, 4),
-    );
-    sends(rt, &mut client, sum_of(rt, alloc, ones), 0);
-    polls(rt, &mut house, 0, Poll::Took(0));
-    house
-}
-
-/// The view of the server when its job of three units is finished.
-const WAITED: ServerView = ServerView {
-    budget: 0,
-    deadline: 3_000_000_000,
-    throttled: true,
-    closed: false,
-    accepted: 1,
-    finished: 1,
-};
-
-/// A job of three units is finished.
-static REPLENISHED: [Row; 5] = [
-    Row::Drain(Ok(())),
-    Row::Now(2_000_000_001),
-    Row::Results(0, Ok(&[3])),
-    Row::View(0, Ok(WAITED)),
-    Row::Advance(1, Ok(())),
-];
-
-#[test]
-fn a_drain_waits_for_replenishments(rt: HostRuntime) {
-    let mut house = with_ones(&rt, rt.alloc(), &[1, 1, 1]);
-    let name = "a drain waits for replenishments";
-    does_all(&rt, name, &mut house, &REPLENISHED);
-}
-
-/// The view of the server when the clock has ended.
-const UNFINISHED: ServerView = ServerView {
-    budget: 1,
-    deadline: 1_001_000_000_000,
-    throttled: false,
-    closed: false,
-    accepted: 1,
-    finished: 0,
-};
-
-/// A job of 1001 units is not finished.
-static ENDED: [Row; 5] = [
-    Row::Drain(Err(HouseError::ClockEnd)),
-    Row::Now(1_000_000_000_000),
-    Row::Results(0, Ok(&[])),
-    Row::View(0, Ok(UNFINISHED)),
-    Row::Advance(1, Err(HouseError::ClockEnd)),
-];
-
-#[test]
-fn the_clock_ends_with_a_job_unfinished(rt: HostRuntime) {
-    let mut house = with_ones(&rt, rt.alloc(), &[1; 1001]);
-    let name = "the clock ends with a job unfinished";
-    does_all(&rt, name, &mut house, &ENDED);
 }

@@ -2,8 +2,10 @@
 
 ghost use Rattle.std.specs.Prelude.{◌≡◌};
 ghost use Rattle.cbs_clients.specs.Houses.{rings_of};
-ghost use Rattle.cbs_clients.specs.Clients.{IsOpened};
+ghost use Rattle.cbs_clients.specs.Clients.{IsOpened, SameClient};
 
+use super::calls::sends;
+use super::naps::{self, Sleeps};
 use super::polling::one_client;
 use super::{filled, same_at, sum_of};
 use cbs_core::{Ran, ServerView};
@@ -19,9 +21,15 @@ use std::process::Abort;
 pub enum Row {
     /// A send of a sum of these numbers, and the number that the job gets.
     Send(&'static [u32], u64),
+    /// A send of a sum of this number alone, and the number that the job gets.
+    SendOne(u32, u64),
     /// A send of a sum of this number alone, which is refused and comes back.
     Refused(u32, SendError),
     End(Result<(), SendError>),
+    /// A send of a sum of these numbers with so many tries, the number that the job gets, and the sleeps.
+    SendWithin(&'static [u32], u64, Result<u64, SendError>, Sleeps),
+    /// An end with so many tries, and the sleeps.
+    EndWithin(u64, Result<(), SendError>, Sleeps),
     /// The number of free slots of the ring.
     Free(u64),
     /// The number of messages of the client that stand in its ring.
@@ -36,8 +44,10 @@ pub enum Row {
     /// A poll together with the client.
     PollBeside(Poll),
     Run(Ran),
-    /// A run that finishes a job of server 0: its number and output.
-    Done(u64, u64),
+    /// A run of a unit of a job, not its last: its server and number.
+    Unit(u16, u64),
+    /// A run that finishes a job: its server, number and output.
+    Done(u16, u64, u64),
     Advance(u64, Result<(), HouseError>),
     /// A charge of the server that runs.
     Charge(u64, Result<(), HouseError>),
@@ -48,11 +58,17 @@ pub enum Row {
     Turn(u64, u64),
     /// A turn that takes this many messages and finishes a job of server 0: its number and output.
     DoneTurn(u64, u64, u64),
+    /// A turn in which memory for a message is refused.
+    RefusedTurn,
     /// A hundred turns with nothing to take or to run: the clock stays.
     IdleTurns,
+    /// A run until the client has ended, or the house was idle for so many turns, and the sleeps.
+    Close(u64, Result<(), HouseError>, Sleeps),
     /// The clock.
     Now(u64),
     IdleSpan(Option<u64>),
+    /// The tick by which all jobs of a server are done, if it has one.
+    Promised(u16, Option<u128>),
     View(u16, Result<ServerView, HouseError>),
     /// A server's budget, deadline and flag 'throttled'.
     State(u16, u64, u128, bool),
@@ -62,6 +78,8 @@ pub enum Row {
     Results(u16, Result<&'static [u64], HouseError>),
     /// The results of a server, handed out.
     TakeResults(u16, Result<&'static [u64], HouseError>),
+    /// The only result of server 0, handed out.
+    TakeResult(u64),
 }
 
 /// Calls of a new house, in rows.
@@ -124,22 +142,6 @@ impl<A: Allocator + Clone> Opened<A> {
     /// Makes the call of a row, which stands at this place of the rows of this name, and checks the result.
     fn play(&mut self, rt: &impl Abort, alloc: Global, at: (&str, usize), row: Row) {
         match row {
-            Row::Send(numbers, number) => {
-                let answer = self.client.send(sum_of(rt, alloc, numbers)).ok();
-                same_at(rt, at, "send", answer, Some(number));
-            }
-            Row::Refused(number, error) => {
-                let task = sum_of(rt, alloc, &[number]);
-                let refused = self.client.send(task).err().expect(rt, "a refusal");
-                let back = (refused.error, refused.task.left());
-                same_at(rt, at, "send", back, (error, 1));
-            }
-            Row::End(wanted) => same_at(rt, at, "end", self.client.end(), wanted),
-            Row::Free(wanted) => same_at(rt, at, "free", self.client.free(), wanted),
-            Row::Waiting(wanted) => same_at(rt, at, "waiting", self.client.waiting(), wanted),
-            Row::HouseIsGone(wanted) => {
-                same_at(rt, at, "house_is_gone", self.client.house_is_gone(), wanted);
-            }
             Row::Settle(wanted) => {
                 let standing = self.house.settle(&mut self.client);
                 same_at(rt, at, "settle", standing, wanted);
@@ -148,22 +150,76 @@ impl<A: Allocator + Clone> Opened<A> {
                 let answer = self.house.poll_beside(&mut self.client);
                 same_at(rt, at, "poll_beside", answer, wanted);
             }
-            Row::Client(server, sent, ended) => {
-                let client = &self.client;
-                let shown = (client.server(), client.sent(), client.ended());
-                same_at(rt, at, "client", shown, (server, sent, ended));
-            }
             Row::IdleTurns => self.idles(rt, at),
-            _ => does(rt, at, &mut self.house, row),
+            _ => {
+                if !asks(rt, alloc, at, &mut self.client, row) {
+                    does(rt, at, &mut self.house, row);
+                }
+            }
         }
     }
 
     /// Takes turns in which nothing is done.
     fn idles(&mut self, rt: &impl Abort, at: (&str, usize)) {
         for _turn in 0..100 {
-            turns(rt, at, &mut self.house, (0, Ran::Idle, 0));
+            turns(rt, at, &mut self.house, turn(0, Ran::Idle, 0));
         }
     }
+}
+
+/// Makes the call of a row if it is of the client alone, and checks the result. Returns whether it is such a row.
+fn asks<A: Allocator>(
+    rt: &impl Abort,
+    alloc: Global,
+    at: (&str, usize),
+    client: &mut Client<SumJob, A>,
+    row: Row,
+) -> bool
+    ensures { SameClient client.old client.new }
+{
+    match row {
+        Row::Send(numbers, number) => sends(rt, alloc, at, client, numbers, number),
+        Row::SendOne(number, wanted) => sends(rt, alloc, at, client, &[number], wanted),
+        Row::Refused(number, error) => {
+            let refused = client.send(sum_of(rt, alloc, &[number])).err();
+            let refused = refused.expect(rt, "a refusal");
+            let back = (refused.error, refused.task.left());
+            same_at(rt, at, "send", back, (error, 1));
+        }
+        Row::End(wanted) => same_at(rt, at, "end", client.end(), wanted),
+        Row::SendWithin(numbers, tries, wanted, sleeps) => {
+            naps::sends(rt, alloc, at, client, (numbers, tries), (wanted, sleeps));
+        }
+        Row::EndWithin(tries, wanted, sleeps) => {
+            naps::ends(rt, at, client, tries, wanted, sleeps);
+        }
+        _ => return sees(rt, at, client, row),
+    }
+    true
+}
+
+/// Checks the value of a row if it is one that the client tells. Returns whether it is such a row.
+fn sees<A: Allocator>(
+    rt: &impl Abort,
+    at: (&str, usize),
+    client: &mut Client<SumJob, A>,
+    row: Row,
+) -> bool
+    ensures { SameClient client.old client.new }
+{
+    match row {
+        Row::Free(wanted) => same_at(rt, at, "free", client.free(), wanted),
+        Row::Waiting(wanted) => same_at(rt, at, "waiting", client.waiting(), wanted),
+        Row::HouseIsGone(wanted) => {
+            same_at(rt, at, "house_is_gone", client.house_is_gone(), wanted);
+        }
+        Row::Client(server, sent, ended) => {
+            let shown = (client.server(), client.sent(), client.ended());
+            same_at(rt, at, "client", shown, (server, sent, ended));
+        }
+        _ => return false,
+    }
+    true
 }
 
 /// Calls of a house in a heap, in rows.
@@ -215,7 +271,7 @@ pub fn does_all<A: Allocator + Clone>(
 }
 
 /// Makes the call of a row that is of the house alone, and checks the result.
-fn does<A: Allocator + Clone>(
+pub fn does<A: Allocator + Clone>(
     rt: &impl Abort,
     at: (&str, usize),
     house: &mut House<SumJob, A>,
@@ -225,8 +281,21 @@ fn does<A: Allocator + Clone>(
 {
     match row {
         Row::Poll(server, wanted) => same_at(rt, at, "poll", house.poll(server), wanted),
-        Row::Run(wanted) => same_at(rt, at, "run", house.run(), wanted),
-        Row::Done(seq, output) => same_at(rt, at, "run", house.run(), done(seq, output)),
+        Row::Run(wanted) => runs(rt, at, house, wanted),
+        Row::Unit(server, seq) => runs(rt, at, house, Ran::Unit { server, seq }),
+        Row::Done(server, seq, output) => runs(rt, at, house, done(server, seq, output)),
+        Row::Drain(wanted) => same_at(rt, at, "drain", house.drain(), wanted),
+        Row::TakeResults(server, wanted) => hands_out(rt, at, house, server, wanted),
+        Row::TakeResult(wanted) => hands_out(rt, at, house, 0, Ok(&[wanted])),
+        _ => passes(rt, at, house, row),
+    }
+}
+
+/// Makes the call of a row that is of the house alone, by which time passes, and checks the result.
+fn passes<A: Allocator>(rt: &impl Abort, at: (&str, usize), house: &mut House<SumJob, A>, row: Row)
+    ensures { rings_of house.new ≡ rings_of house.old }
+{
+    match row {
         Row::Advance(ticks, wanted) => {
             same_at(rt, at, "advance", house.advance(ticks), wanted);
         }
@@ -237,44 +306,66 @@ fn does<A: Allocator + Clone>(
             let answer = house.charge_server(server, ticks);
             same_at(rt, at, "charge_server", answer, wanted);
         }
-        Row::Drain(wanted) => same_at(rt, at, "drain", house.drain(), wanted),
-        Row::Turn(took, advanced) => turns(rt, at, house, (took, Ran::Idle, advanced)),
-        Row::DoneTurn(took, seq, output) => turns(rt, at, house, (took, done(seq, output), 0)),
-        Row::TakeResults(server, wanted) => hands_out(rt, at, house, server, wanted),
+        Row::Turn(took, advanced) => turns(rt, at, house, turn(took, Ran::Idle, advanced)),
+        Row::DoneTurn(took, seq, output) => {
+            turns(rt, at, house, turn(took, done(0, seq, output), 0));
+        }
+        Row::RefusedTurn => turns(rt, at, house, REFUSED),
+        Row::Close(idle_turns, wanted, sleeps) => {
+            naps::closes(rt, at, house, idle_turns, wanted, sleeps);
+        }
         _ => looks(rt, at, house, row),
     }
 }
 
-/// Returns the result of a run of the last unit of this job of server 0.
-fn done(seq: u64, output: u64) -> Ran {
+/// Runs a unit, and checks the result.
+fn runs<A: Allocator>(rt: &impl Abort, at: (&str, usize), house: &mut House<SumJob, A>, wanted: Ran)
+    ensures { rings_of house.new ≡ rings_of house.old }
+{
+    same_at(rt, at, "run", house.run(), wanted);
+}
+
+/// Returns the result of a run of the last unit of this job.
+fn done(server: u16, seq: u64, output: u64) -> Ran {
     Ran::Done(Completion {
-        server: 0,
+        server,
         seq,
         result: output,
     })
 }
 
-/// Takes a turn, and checks how many messages it took, what ran, and by how many ticks it advanced.
-fn turns<A: Allocator>(
-    rt: &impl Abort,
-    at: (&str, usize),
-    house: &mut House<SumJob, A>,
-    turn: (u64, Ran, u64),
-)
-    ensures { rings_of house.new ≡ rings_of house.old }
-{
-    let (took, ran, advanced) = turn;
-    let wanted = Turn {
+/// Returns what a turn tells that took so many messages, ran this, and advanced by so many ticks.
+fn turn(took: u64, ran: Ran, advanced: u64) -> Turn {
+    Turn {
         took,
         out_of_memory: false,
         ran,
         advanced,
-    };
+    }
+}
+
+/// What a turn tells in which memory for a message is refused.
+const REFUSED: Turn = Turn {
+    took: 0,
+    out_of_memory: true,
+    ran: Ran::Idle,
+    advanced: 0,
+};
+
+/// Takes a turn, and checks what it tells.
+fn turns<A: Allocator>(
+    rt: &impl Abort,
+    at: (&str, usize),
+    house: &mut House<SumJob, A>,
+    wanted: Turn,
+)
+    ensures { rings_of house.new ≡ rings_of house.old }
+{
     same_at(rt, at, "turn", house.turn(), wanted);
 }
 
 /// Hands out the results of a server, and checks them.
-pub fn hands_out<A: Allocator + Clone>(
+fn hands_out<A: Allocator + Clone>(
     rt: &impl Abort,
     at: (&str, usize),
     house: &mut House<SumJob, A>,
@@ -290,10 +381,23 @@ pub fn hands_out<A: Allocator + Clone>(
 }
 
 /// Checks the value of a row that only reads.
-fn looks<A: Allocator>(rt: &impl Abort, at: (&str, usize), house: &House<SumJob, A>, row: Row) {
+pub fn looks<A: Allocator>(rt: &impl Abort, at: (&str, usize), house: &House<SumJob, A>, row: Row) {
     match row {
         Row::Now(wanted) => same_at(rt, at, "now", house.now(), wanted),
         Row::IdleSpan(wanted) => same_at(rt, at, "idle_span", house.idle_span(), wanted),
+        Row::Promised(server, wanted) => {
+            same_at(rt, at, "promised", house.promised(server), wanted);
+        }
+        Row::Results(server, wanted) => {
+            same_at(rt, at, "results", house.results(server), wanted);
+        }
+        _ => looks_at(rt, at, house, row),
+    }
+}
+
+/// Checks the value of a row that reads the state of a server.
+fn looks_at<A: Allocator>(rt: &impl Abort, at: (&str, usize), house: &House<SumJob, A>, row: Row) {
+    match row {
         Row::View(server, wanted) => same_at(rt, at, "view", house.view(server), wanted),
         Row::State(server, budget, deadline, throttled) => {
             let view = house.view(server).expect(rt, "a server");
@@ -303,9 +407,6 @@ fn looks<A: Allocator>(rt: &impl Abort, at: (&str, usize), house: &House<SumJob,
         Row::Charges(server, wanted) => {
             let charges = house.charges(server).map(|it| (it.total, it.most));
             same_at(rt, at, "charges", charges, wanted);
-        }
-        Row::Results(server, wanted) => {
-            same_at(rt, at, "results", house.results(server), wanted);
         }
         _ => same_at(rt, at, "a client is at hand", false, true),
     }
