@@ -1,5 +1,5 @@
 -- The top table of a document with other steps.
-use Rattle.std.proofs.Common.{◌≡◌, ℕ, false, ◌&&◌, List, codes, Option, Some, None, Result, Ok, Err, Ordering}
+use Rattle.std.proofs.Common.{◌≡◌, ℕ, false, ◌&&◌, List, [], ◌∷◌, ◌++◌, codes, Option, Some, None, is_some, Result, Ok, Err, Ordering}
 use Rattle.std.proofs.Common.{Less, Equal, Greater, nat_cmp, is_eq, bytes_eq, refl, ap, sym, ◌∙◌}
 use Rattle.std.proofs.lemmas.Bool.{true≢false}
 use Rattle.std.proofs.lemmas.Option.{none-some}
@@ -11,12 +11,11 @@ use Rattle.std.specs.Cmp.Lexicographic.{slice_cmp}
 use Rattle.toml.specs.Data.{Data, array, Items, Members, no_members, member, get_member}
 use Rattle.cbs_rate.specs.Limits.{most_backlog, most_ring}
 use Rattle.cbs_tables.specs.declared.fault.FileKind.{FileKind}
-use Rattle.cbs_tables.specs.Fields.{◌>>=◌, seen, has_only, only_keys, of_some, present, list_of, integer, pair, within, text, items}
+use Rattle.cbs_tables.specs.Fields.{◌>>=◌, seen, has_only, has_all, with_keys, of_some, list_of, within, integer_at, text_at, items_at, pair_at}
 use Rattle.cbs_tables.specs.Plans.{mode_of, bound_of}
 use Rattle.cbs_file.specs.declared.format.Format.{Format}
 use Rattle.cbs_file.specs.declared.format.Format.TheVariants.{One, Two}
-use Rattle.cbs_file.specs.TopTables.{TopValues, TypedData, TopData, format_at, keys_of, mode_at}
-use Rattle.cbs_file.specs.TopTables.{values_at_keys, top_values, typed_values, spelled_by, top_table}
+use Rattle.cbs_file.specs.TopTables.{TypedData, TopData, format_at, keys_of, mode_at, typed_values, spelled_by, top_table}
 use Rattle.cbs_read.specs.Reading.{insert_member}
 
 -- which keys a table has does not depend on the value at one of them
@@ -31,6 +30,28 @@ only_at Greater keys s l d e x a b ms h = ap (λ t. list_any (λ k. bytes_eq k l
 pub only_insert : (keys : List (List ℕ)) (s : List ℕ) (d e : Data) (ms : Members) → has_only keys (insert_member s d ms) ≡ has_only keys (insert_member s e ms)
 only_insert keys s d e no_members = refl
 only_insert keys s d e (member l x ms) = only_at (slice_cmp nat_cmp s l) keys s l d e x _ _ ms (only_insert keys s d e ms)
+
+-- whether something is found does not depend on the value
+found_at : (o : Ordering) (d e : Data) (a b : Option Data) → is_some a ≡ is_some b → is_some (match_ordering o a (Some d) a) ≡ is_some (match_ordering o b (Some e) b)
+found_at Less d e a b h = h
+found_at Equal d e a b h = refl
+found_at Greater d e a b h = h
+
+some_at : (o : Ordering) (k s l : List ℕ) (d e x : Data) (a b ms : Members) → is_some (get_member k a) ≡ is_some (get_member k b)
+    → is_some (get_member k (match_ordering o (member s d (member l x ms)) (member l d ms) (member l x a)))
+    ≡ is_some (get_member k (match_ordering o (member s e (member l x ms)) (member l e ms) (member l x b)))
+some_at Less k s l d e x a b ms h = found_at (slice_cmp nat_cmp k s) d e _ _ refl
+some_at Equal k s l d e x a b ms h = found_at (slice_cmp nat_cmp k l) d e _ _ refl
+some_at Greater k s l d e x a b ms h = found_at (slice_cmp nat_cmp k l) x x _ _ h
+
+-- a table has the same keys, whatever stands at one
+some_insert : (k s : List ℕ) (d e : Data) (ms : Members) → is_some (get_member k (insert_member s d ms)) ≡ is_some (get_member k (insert_member s e ms))
+some_insert k s d e no_members = found_at (slice_cmp nat_cmp k s) d e None None refl
+some_insert k s d e (member l x ms) = some_at (slice_cmp nat_cmp s l) k s l d e x _ _ ms (some_insert k s d e ms)
+
+all_insert : (keys : List (List ℕ)) (s : List ℕ) (d e : Data) (ms : Members) → has_all keys (insert_member s d ms) ≡ has_all keys (insert_member s e ms)
+all_insert [] s d e ms = refl
+all_insert (k ∷ keys) s d e ms = rw (some_insert k s d e ms, all_insert keys s d e ms) refl
 
 -- what is found at another key is not the value at this one
 skip_at : (o : Ordering) (d : Data) (a : Option Data) → is_eq o ≡ false → match_ordering o a (Some d) a ≡ a
@@ -65,11 +86,7 @@ pub get_same : (s : List ℕ) (d : Data) (ms : Members) → get_member s (insert
 get_same s d no_members = rw (tied_itself nat_list_cmp_total s)
 get_same s d (member l x ms) = same_at (slice_cmp nat_cmp s l) s l d x _ ms refl (get_same s d ms)
 
--- the same values, with other steps
-abbrev pub with_step : Data → TopValues → TopValues
-with_step d v = record { mode = v.mode; bound = v.bound; backlog = v.backlog; ring = v.ring; server = v.server; step = d }
-
--- .. each of its type
+-- the same values, each of its type, with other steps
 abbrev pub with_typed : List Data → TypedData → TypedData
 with_typed ds v = record { mode = v.mode; bound = v.bound; backlog = v.backlog; ring = v.ring; servers = v.servers; steps = ds }
 
@@ -90,52 +107,64 @@ seen_bind f g h (Ok v) k l e = e v
 seen_bind f g h (Err kind) k l e = refl
 
 -- the keys of a table are tested alike
-only_step : (format : Format) (d e : Data) (ms : Members)
-    → only_keys (keys_of format) (insert_member (codes "step") d ms) ≡ only_keys (keys_of format) (insert_member (codes "step") e ms)
-only_step format d e ms = rw (only_insert (keys_of format) (codes "step") d e ms) refl
+keys_step : (format : Format) (d e : Data) (ms : Members)
+    → with_keys (keys_of format) [] (insert_member (codes "step") d ms) ≡ with_keys (keys_of format) [] (insert_member (codes "step") e ms)
+unfolding with_keys
+keys_step format d e ms = rw (only_insert (keys_of format ++ []) (codes "step") d e ms, all_insert (keys_of format) (codes "step") d e ms) refl
 
 -- the mode stands elsewhere
 mode_step : (format : Format) (d : Data) (ms : Members) → get_member (codes "step") ms ≡ None
     → mode_at format (insert_member (codes "step") d ms) ≡ mode_at format ms
+unfolding text_at
 mode_step One d ms none = rw (get_other (codes "mode") (codes "step") d ms refl none) refl
 mode_step Two d ms none = refl
 
--- the values at the keys
-values_step : (format : Format) (d : Data) (ms : Members) → get_member (codes "step") ms ≡ None
-    → (e : Data) → values_at_keys format (insert_member (codes "step") d ms) ≡ seen (with_step d) (values_at_keys format (insert_member (codes "step") e ms))
-unfolding values_at_keys
-values_step format d ms none e =
-    let step = codes "step" in
-    rw (
-      mode_step format d ms none,
-      get_other (codes "bound") step d ms refl none,
-      get_other (codes "backlog") step d ms refl none,
-      get_other (codes "ring") step d ms refl none,
-      get_other (codes "server") step d ms refl none,
-      mode_step format e ms none,
-      get_other (codes "bound") step e ms refl none,
-      get_other (codes "backlog") step e ms refl none,
-      get_other (codes "ring") step e ms refl none,
-      get_other (codes "server") step e ms refl none,
-      get_same step d ms,
-      get_same step e ms,
-    ) (bind_seen (with_step d) (mode_at format ms) _ _ λ mode. bind_seen (with_step d) (present (codes "bound") ms) _ _ λ bound.
-    bind_seen (with_step d) (present (codes "backlog") ms) _ _ λ backlog. bind_seen (with_step d) (present (codes "ring") ms) _ _ λ ring.
-    bind_seen (with_step d) (present (codes "server") ms) _ _ λ server. refl)
+-- an integer, two of them and an array at another key
+integer_step : (key : List ℕ) (d : Data) (ms : Members) → is_eq (slice_cmp nat_cmp key (codes "step")) ≡ false → get_member (codes "step") ms ≡ None
+    → integer_at key (insert_member (codes "step") d ms) ≡ integer_at key ms
+unfolding integer_at
+integer_step key d ms other none = rw (get_other key (codes "step") d ms other none) refl
 
--- .. if the table has no others
-top_step : (format : Format) (d e : Data) (ms : Members) → get_member (codes "step") ms ≡ None
-    → top_values format (insert_member (codes "step") d ms) ≡ seen (with_step d) (top_values format (insert_member (codes "step") e ms))
-top_step format d e ms none = rw (only_step format d e ms)
-    (bind_seen (with_step d) (only_keys (keys_of format) (insert_member (codes "step") e ms)) _ _ λ u. values_step format d ms none e)
+items_step : (key : List ℕ) (d : Data) (ms : Members) → is_eq (slice_cmp nat_cmp key (codes "step")) ≡ false → get_member (codes "step") ms ≡ None
+    → items_at key (insert_member (codes "step") d ms) ≡ items_at key ms
+unfolding items_at
+items_step key d ms other none = rw (get_other key (codes "step") d ms other none) refl
 
--- the values, each of its type
-typed_step : (ds es : Items) (v : TopValues) → typed_values (with_step (array ds) v) ≡ seen (with_typed (list_of ds)) (typed_values (with_step (array es) v))
+pair_step : (key : List ℕ) (d : Data) (ms : Members) → is_eq (slice_cmp nat_cmp key (codes "step")) ≡ false → get_member (codes "step") ms ≡ None
+    → pair_at key (insert_member (codes "step") d ms) ≡ pair_at key ms
+unfolding pair_at
+pair_step key d ms other none = rw (items_step key d ms other none) refl
+
+-- the steps themselves
+own_items : (ds : Items) (ms : Members) → items_at (codes "step") (insert_member (codes "step") (array ds) ms) ≡ Ok (list_of ds)
+unfolding items_at
+own_items ds ms = rw (get_same (codes "step") (array ds) ms) refl
+
+-- the values of the keys
+typed_step : (format : Format) (ds es : Items) (ms : Members) → get_member (codes "step") ms ≡ None
+    → typed_values format (insert_member (codes "step") (array ds) ms)
+    ≡ seen (with_typed (list_of ds)) (typed_values format (insert_member (codes "step") (array es) ms))
 unfolding typed_values
-typed_step ds es v =
+typed_step format ds es ms none =
     let f = with_typed (list_of ds) in
-    bind_seen f (of_some text v.mode) _ _ λ mode_word. bind_seen f (items v.bound) _ _ λ bound_values. bind_seen f (pair bound_values) _ _ λ bound_pair.
-    bind_seen f (integer v.backlog) _ _ λ backlog_number. bind_seen f (integer v.ring) _ _ λ ring_number. bind_seen f (items v.server) _ _ λ servers. refl
+    let keys = with_keys (keys_of format) [] (insert_member (codes "step") (array es) ms) in
+    rw (
+      keys_step format (array ds) (array es) ms,
+      mode_step format (array ds) ms none,
+      pair_step (codes "bound") (array ds) ms refl none,
+      integer_step (codes "backlog") (array ds) ms refl none,
+      integer_step (codes "ring") (array ds) ms refl none,
+      items_step (codes "server") (array ds) ms refl none,
+      own_items ds ms,
+      mode_step format (array es) ms none,
+      pair_step (codes "bound") (array es) ms refl none,
+      integer_step (codes "backlog") (array es) ms refl none,
+      integer_step (codes "ring") (array es) ms refl none,
+      items_step (codes "server") (array es) ms refl none,
+      own_items es ms,
+    ) (bind_seen f keys _ _ λ u. bind_seen f (mode_at format ms) _ _ λ mode_word. bind_seen f (pair_at (codes "bound") ms) _ _ λ bound_pair.
+    bind_seen f (integer_at (codes "backlog") ms) _ _ λ backlog_number. bind_seen f (integer_at (codes "ring") ms) _ _ λ ring_number.
+    bind_seen f (items_at (codes "server") ms) _ _ λ servers. refl)
 
 -- what they spell
 spelled_step : (format : Format) (ds : List Data) (v : TypedData) → spelled_by format (with_typed ds v) ≡ seen (with_steps ds) (spelled_by format v)
@@ -145,34 +174,19 @@ spelled_step format ds v =
     bind_seen f (of_some mode_of v.mode) _ _ λ mode. bind_seen f (bound_of v.bound) _ _ λ bound. bind_seen f (within 1 most_backlog v.backlog) _ _ λ backlog.
     bind_seen f (within 1 most_ring v.ring) _ _ λ ring. refl
 
--- the types and then the ranges of the values
-abbrev pub spelled_in : Format → TopValues → Result TopData FileKind
-spelled_in format v = typed_values v >>= spelled_by format
-
 -- a value that is read as it is
 as_read : {A : Type 0} (r : Result A FileKind) → seen (λ v. v) r ≡ r
 as_read (Ok v) = refl
 as_read (Err kind) = refl
-
--- two documents that differ in their steps have the same values beside
-both_step : (format : Format) (ds es : Items) (v : TopValues)
-    → spelled_in format (with_step (array ds) v) ≡ seen (with_steps (list_of ds)) (spelled_in format (with_step (array es) v))
-both_step format ds es v =
-    let f = with_steps (list_of ds) in
-    let r = typed_values (with_step (array es) v) in
-    ap (λ x. x >>= spelled_by format) (typed_step ds es v)
-    ∙ seen_bind f (with_typed (list_of ds)) (λ v. v) r (spelled_by format) (spelled_by format) (spelled_step format (list_of ds))
-    ∙ ap (λ x. seen f (x >>= spelled_by format)) (as_read r)
 
 -- the top table of the same document with other steps
 pub top_steps : (ds es : Items) (ms : Members) → get_member (codes "step") ms ≡ None
     → top_table (insert_member (codes "step") (array ds) ms) ≡ seen (with_steps (list_of ds)) (top_table (insert_member (codes "step") (array es) ms))
 top_steps ds es ms none =
     let f = with_steps (list_of ds) in
-    let step = codes "step" in
-    rw (get_other (codes "format") step (array ds) ms refl none, get_other (codes "format") step (array es) ms refl none)
+    rw (integer_step (codes "format") (array ds) ms refl none, integer_step (codes "format") (array es) ms refl none)
     (bind_seen f (format_at ms) _ _ λ format.
-    let r = top_values format (insert_member step (array es) ms) in
-    ap (λ x. x >>= spelled_in format) (top_step format (array ds) (array es) ms none)
-    ∙ seen_bind f (with_step (array ds)) (with_step (array es)) r (spelled_in format) (spelled_in format) (both_step format ds es)
-    ∙ ap (λ x. seen f (x >>= spelled_in format)) (sym (top_step format (array es) (array es) ms none)))
+    let r = typed_values format (insert_member (codes "step") (array es) ms) in
+    ap (λ x. x >>= spelled_by format) (typed_step format ds es ms none)
+    ∙ seen_bind f (with_typed (list_of ds)) (λ v. v) r (spelled_by format) (spelled_by format) (spelled_step format (list_of ds))
+    ∙ ap (λ x. seen f (x >>= spelled_by format)) (as_read r))

@@ -27,7 +27,7 @@ use Rattle.cbs_read.proofs.LineReads.{line_pair, pair_placed}
 use Rattle.cbs_steps.specs.declared.step.Step.TheVariants as step
 use Rattle.cbs_job.specs.declared.file.FileJob.{FileJob}
 use Rattle.cbs_rate.specs.Limits.{greatest_number, most_units}
-use Rattle.cbs_tables.specs.Fields.{list_of, number, each, each_from}
+use Rattle.cbs_tables.specs.Fields.{list_of, number, each, each_from, with_keys, integer_at, text_at, items_at}
 use Rattle.cbs_file.specs.declared.terms.Terms.{Terms}
 use Rattle.cbs_file.specs.declared.plain.Layout.{Layout}
 use Rattle.cbs_file.specs.declared.plain.Layout.TheVariants.{Inline, Lines}
@@ -283,13 +283,13 @@ put_server d e = refl
 
 -- what the entries spell
 run_spells : (t : Terms) → step_entry t.format t.servers (table (close (op_pair (codes "run")))) ≡ Ok step.Run
-unfolding step_entry run_entry
+unfolding step_entry run_entry text_at
 run_spells t = refl
 
 advance_spells : (t : Terms) (ticks : ℕ) → ticks ≤ longest_advance t.format
     → step_entry t.format t.servers (table (close (node (codes "op") (value (string (codes "advance")))
     (node (codes "ticks") (value (integer (pos ticks))) no_nodes)))) ≡ Ok (step.Advance ticks)
-unfolding step_entry advance_entry
+unfolding step_entry advance_entry with_keys integer_at text_at
 advance_spells t ticks most =
     let some : nat_le 0 ticks ≡ true = grind (arith, nat_tests) in
     let fits : nat_le ticks (longest_advance t.format) ≡ true = grind (arith, nat_tests) in
@@ -298,7 +298,7 @@ advance_spells t ticks most =
 close_spells : (t : Terms) (server : ℕ) → server < t.servers
     → step_entry t.format t.servers (table (close (node (codes "op") (value (string (codes "close")))
     (node (codes "server") (value (integer (pos server))) no_nodes)))) ≡ Ok (step.Close server)
-unfolding step_entry close_entry
+unfolding step_entry close_entry with_keys integer_at text_at
 close_spells t server few =
     let fits : nat_lt server t.servers ≡ true = grind (arith, nat_tests) in
     rw fits refl
@@ -342,7 +342,7 @@ submit_pairs server kind ds =
 submit_spells : (t : Terms) (server : ℕ) (kind units : List ℕ) (ds : Items) (job : FileJob) → server < t.servers → AreUnits units ds
     → 0 < length units → length units ≤ most_units
     → job_of kind units ≡ Ok job → step_entry t.format t.servers (table (close (submit_pairs server kind ds))) ≡ Ok (step.Submit server job)
-unfolding step_entry submit_entry submit_fields
+unfolding step_entry submit_entry submit_fields with_keys integer_at text_at items_at
 submit_spells t server kind units ds job few are some most is =
     let ints : list_all (λ d. is_some (as_integer d)) (list_of ds) ≡ true = rw are.items (units_integers units) in
     let count : length (list_of ds) ≡ length units = rw are.items (length-map units (λ n. integer (pos n))) in

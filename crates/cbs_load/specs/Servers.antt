@@ -7,7 +7,7 @@ use Rattle.cbs_rate.specs.Rate.{Rate}
 use Rattle.cbs_rules.specs.declared.mode.Mode.{Mode}
 use Rattle.cbs_tables.specs.declared.fault.FileKind.{FileKind}
 use Rattle.cbs_tables.specs.declared.fault.FileKind.TheVariants.{OutOfRange}
-use Rattle.cbs_tables.specs.Fields.{◌>>=◌, only_keys, present, integer, text, members}
+use Rattle.cbs_tables.specs.Fields.{◌>>=◌, table_with, integer_at, text_at}
 use Rattle.cbs_tables.specs.Plans.{reservation, mode_of}
 use Rattle.cbs_load.specs.declared.server.ServerEntry.{ServerEntry}
 
@@ -28,16 +28,11 @@ pub record ServerData : Type 0 where
 -- the server of an entry
 unfoldable pub server_entry : Data → Result ServerData FileKind
 server_entry entry = do
-  table ← members entry
-  _ ← only_keys (codes "name" ∷ codes "mode" ∷ codes "budget" ∷ codes "period" ∷ []) table
-  name_value ← present (codes "name") table
-  mode_value ← present (codes "mode") table
-  budget_value ← present (codes "budget") table
-  period_value ← present (codes "period") table
-  name_text ← text name_value
-  mode_word ← text mode_value
-  budget_number ← integer budget_value
-  period_number ← integer period_value
+  table ← table_with (codes "name" ∷ codes "mode" ∷ codes "budget" ∷ codes "period" ∷ []) [] entry
+  name_text ← text_at (codes "name") table
+  mode_word ← text_at (codes "mode") table
+  budget_number ← integer_at (codes "budget") table
+  period_number ← integer_at (codes "period") table
   name ← name_of name_text
   mode ← mode_of mode_word
   reservation ← reservation budget_number period_number

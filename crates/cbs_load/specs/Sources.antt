@@ -1,7 +1,7 @@
 -- What one entry of `source` spells in a load file.
 use Rattle.std.specs.Prelude.{ℕ, ℤ, codes, bytes_eq, get_or, unwrap_or, List, [], ◌∷◌, Option, Some, None, Result, Ok, Err}
 use Rattle.std.specs.List.{position}
-use Rattle.toml.specs.Data.{Data, get_member}
+use Rattle.toml.specs.Data.{Data, Members, get_member}
 use Rattle.toml.specs.Data.{integer as an_integer}
 use Rattle.cbs_rate.specs.Limits.{longest_period, most_units}
 use Rattle.cbs_rate.specs.Rate.{Rate}
@@ -10,7 +10,7 @@ use Rattle.cbs_simulate.specs.Bounds.{Bounds}
 use Rattle.cbs_simulate.specs.declared.terms.SourceTerms.{SourceTerms}
 use Rattle.cbs_tables.specs.declared.fault.FileKind.{FileKind}
 use Rattle.cbs_tables.specs.declared.fault.FileKind.TheVariants.{OutOfRange}
-use Rattle.cbs_tables.specs.Fields.{◌>>=◌, only_keys, present, integer, text, items, members, pair, within, of_some}
+use Rattle.cbs_tables.specs.Fields.{◌>>=◌, table_with, present, text_at, optional_integer_at, items, pair, within, of_some}
 use Rattle.cbs_load.specs.declared.source.SourceFields.{SourceFields}
 
 -- the least and the greatest number of a range. One number stands for both. There are none if an array has fewer or
@@ -18,6 +18,13 @@ use Rattle.cbs_load.specs.declared.source.SourceFields.{SourceFields}
 abbrev pub two_numbers : Data → Result (Option (ℤ × ℤ)) FileKind
 two_numbers (an_integer n) = Ok (Some (n, n))
 two_numbers d = items d >>= pair
+
+-- the least and the greatest number of the range at a key, and of one at a key that may be left out
+unfoldable pub numbers_at : List ℕ → Members → Result (Option (ℤ × ℤ)) FileKind
+numbers_at key table = present key table >>= two_numbers
+
+unfoldable pub optional_numbers_at : List ℕ → Members → Result (Option (Option (ℤ × ℤ))) FileKind
+optional_numbers_at key table = of_some two_numbers (get_member key table)
 
 -- the range from the least number, which is at least `low`, to the greatest, which is at most `high`
 abbrev pub range_within : ℕ → ℕ → Option (ℤ × ℤ) → Result Bounds FileKind
@@ -50,29 +57,31 @@ pub record FieldsData : Type 0 where
   pub within : Option ℤ
   pub overrun : Option (Option (ℤ × ℤ))
 
+-- the keys that an entry must have, and those that may be left out
+abbrev pub required_keys : List (List ℕ)
+required_keys = codes "server" ∷ codes "every" ∷ codes "units" ∷ []
+
+abbrev pub optional_keys : List (List ℕ)
+optional_keys = codes "first" ∷ codes "jobs" ∷ codes "within" ∷ codes "overrun" ∷ []
+
 -- the values of an entry's keys, or the first fault over all of them
 unfoldable pub source_fields : Data → Result FieldsData FileKind
 source_fields entry = do
-  table ← members entry
-  _ ← only_keys (codes "server" ∷ codes "first" ∷ codes "every" ∷ codes "units" ∷ codes "jobs" ∷ codes "within" ∷ codes "overrun" ∷ []) table
-  server_value ← present (codes "server") table
-  every_value ← present (codes "every") table
-  units_value ← present (codes "units") table
-  server_name ← text server_value
-  first_number ← of_some integer (get_member (codes "first") table)
-  every_numbers ← two_numbers every_value
-  units_numbers ← two_numbers units_value
-  jobs_number ← of_some integer (get_member (codes "jobs") table)
-  within_number ← of_some integer (get_member (codes "within") table)
-  overrun_numbers ← of_some two_numbers (get_member (codes "overrun") table)
+  table ← table_with required_keys optional_keys entry
+  server_name ← text_at (codes "server") table
+  first_number ← optional_integer_at (codes "first") table
+  every_numbers ← numbers_at (codes "every") table
+  units_numbers ← numbers_at (codes "units") table
+  jobs_number ← optional_integer_at (codes "jobs") table
+  within_number ← optional_integer_at (codes "within") table
+  overrun_numbers ← optional_numbers_at (codes "overrun") table
   Ok (record {
     server = server_name;
     first = first_number;
     every = every_numbers;
     units = units_numbers;
     jobs = jobs_number;
-    within =
-        within_number;
+    within = within_number;
     overrun = overrun_numbers;
   })
 

@@ -1,53 +1,26 @@
 -- What the top table of a load file spells. The entries of its two arrays are not read here.
 use Rattle.std.specs.Prelude.{ℕ, ℤ, codes, map, unwrap_or, List, [], ◌∷◌, Option, Result, Ok}
 use Rattle.cbs_rate.specs.Limits.{most_backlog}
-use Rattle.toml.specs.Data.{Data, Members, get_member}
+use Rattle.toml.specs.Data.{Data, Members}
 use Rattle.toml.specs.View.{view}
 use Rattle.cbs_rate.specs.Bound.{Fraction}
 use Rattle.cbs_rules.specs.Rules.{clock_end}
 use Rattle.cbs_tables.specs.declared.fault.FileKind.{FileKind}
-use Rattle.cbs_tables.specs.Fields.{◌>>=◌, only_keys, present, integer, pair, items, within, of_some, sized}
+use Rattle.cbs_tables.specs.Fields.{◌>>=◌, with_keys, integer_at, items_at, pair_at, optional_integer_at, within, of_some, sized}
 use Rattle.cbs_tables.specs.Plans.{bound_of}
 use Rattle.cbs_load.specs.Loads.{most_sources}
 use Rattle.cbs_load.specs.declared.top.TypedValues.{TypedValues}
-use Rattle.cbs_load.specs.declared.top.Values.{Values}
 use Rattle.cbs_load.specs.declared.top.TopTable.{TopTable}
 
 -- the kind of the load file, which is 1
 abbrev pub kind_at : Members → Result ℕ FileKind
 kind_at table = do
-  kind_value ← present (codes "load") table
-  kind_number ← integer kind_value
+  kind_number ← integer_at (codes "load") table
   within 1 1 kind_number
 
--- the keys of the top table
-abbrev pub top_keys : List (List ℕ)
-top_keys = codes "load" ∷ codes "bound" ∷ codes "backlog" ∷ codes "until" ∷ codes "seed" ∷ codes "server" ∷ codes "source" ∷ []
-
--- the values of those keys that the top table must have, beside its kind
-pub record TopValues : Type 0 where
-  pub bound : Data
-  pub backlog : Data
-  pub until : Data
-  pub server : Data
-  pub source : Data
-
--- the values at the keys. The table must have each key
-unfoldable pub values_at_keys : Members → Result TopValues FileKind
-values_at_keys table = do
-  bound_value ← present (codes "bound") table
-  backlog_value ← present (codes "backlog") table
-  until_value ← present (codes "until") table
-  server_value ← present (codes "server") table
-  source_value ← present (codes "source") table
-  Ok (record { bound = bound_value; backlog = backlog_value; until = until_value; server = server_value; source = source_value })
-
--- the values of the top table. First comes the test for a key that the table may not have, then the test for a key that
--- it lacks
-abbrev pub top_values : Members → Result TopValues FileKind
-top_values table = do
-  _ ← only_keys top_keys table
-  values_at_keys table
+-- the keys that the top table must have. It may have a `seed` beside
+abbrev pub required_keys : List (List ℕ)
+required_keys = codes "load" ∷ codes "bound" ∷ codes "backlog" ∷ codes "until" ∷ codes "server" ∷ codes "source" ∷ []
 
 -- the values of the keys, each of its type
 pub record TypedData : Type 0 where
@@ -62,14 +35,13 @@ pub record TypedData : Type 0 where
 -- values
 unfoldable pub typed_values : Members → Result TypedData FileKind
 typed_values table = do
-  values ← top_values table
-  bound_values ← items values.bound
-  bound_pair ← pair bound_values
-  backlog_number ← integer values.backlog
-  until_number ← integer values.until
-  seed_number ← of_some integer (get_member (codes "seed") table)
-  servers ← items values.server
-  sources ← items values.source
+  _ ← with_keys required_keys (codes "seed" ∷ []) table
+  bound_pair ← pair_at (codes "bound") table
+  backlog_number ← integer_at (codes "backlog") table
+  until_number ← integer_at (codes "until") table
+  seed_number ← optional_integer_at (codes "seed") table
+  servers ← items_at (codes "server") table
+  sources ← items_at (codes "source") table
   Ok (record { bound = bound_pair; backlog = backlog_number; until = until_number; seed = seed_number; servers = servers; sources = sources })
 
 -- what the top table spells
@@ -97,16 +69,6 @@ top_table table = do
   _ ← kind_at table
   found ← typed_values table
   spelled_by found
-
--- the values, as the code holds them
-abbrev pub values_view : Values → TopValues
-values_view v = record {
-  bound = view v.bound.now;
-  backlog = view v.backlog.now;
-  until = view v.until.now;
-  server = view v.server.now;
-  source = view v.source.now;
-}
 
 -- the values of each type, as the code holds them
 abbrev pub typed_view : TypedValues → TypedData

@@ -8,7 +8,7 @@ ghost use Rattle.cbs_load.specs.Servers.{is_name_byte, name_of, server_entry, se
 
 use cbs_rate::Reservation;
 use cbs_rules::Mode;
-use cbs_tables::{FileKind, integer, members, mode_of, only_keys, present, reservation, text};
+use cbs_tables::{FileKind, integer_at, mode_of, reservation, table_with, text_at};
 use toml::Value;
 
 /// The longest name of a server, in bytes.
@@ -59,16 +59,11 @@ pub fn is_taken(names: &[String], name: &str) -> bool
 pub fn server_entry(entry: &Value) -> Result<ServerEntry<'_>, FileKind>
     ensures { seen server_view result ≡ server_entry (view entry.now) }
 {
-    let table = members(entry)?;
-    only_keys(table, &["name", "mode", "budget", "period"])?;
-    let name = present(table, "name")?;
-    let mode = present(table, "mode")?;
-    let budget = present(table, "budget")?;
-    let period = present(table, "period")?;
-    let name = text(name)?;
-    let mode = text(mode)?;
-    let budget = integer(budget)?;
-    let period = integer(period)?;
+    let table = table_with(entry, &["name", "mode", "budget", "period"], &[])?;
+    let name = text_at(table, "name")?;
+    let mode = text_at(table, "mode")?;
+    let budget = integer_at(table, "budget")?;
+    let period = integer_at(table, "period")?;
     let name = name_of(name)?;
     let mode = mode_of(mode)?;
     let reservation = reservation(budget, period)?;

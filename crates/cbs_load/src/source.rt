@@ -2,21 +2,21 @@
 
 ghost use Rattle.std.specs.Prelude.{◌≡◌, ◌≤◌, ◌<◌, length, map, bytes_eq, string_bytes, option_map, IfOk, IfSome, IsSome};
 ghost use Rattle.std.specs.List.{position};
-ghost use Rattle.toml.specs.View.{view};
+ghost use Rattle.toml.specs.View.{view, table_view};
 ghost use Rattle.cbs_rate.specs.Limits.{most_servers};
 ghost use Rattle.cbs_tables.specs.Fields.{seen, of_some};
 ghost use Rattle.cbs_load.specs.Loads.{IsSource};
-ghost use Rattle.cbs_load.specs.Sources.{two_numbers, range_within, server_named, period_at, source_fields, spelled_by, source_entry, fields_view};
+ghost use Rattle.cbs_load.specs.Sources.{two_numbers, numbers_at, optional_numbers_at, range_within, server_named, period_at, source_fields, spelled_by, source_entry, fields_view};
 
 use cbs_job::MAX_UNITS;
 use cbs_rate::{MAX_PERIOD, Plan};
 use cbs_rules::LIMIT;
 use cbs_simulate::{Range, SourceTerms};
 use cbs_tables::{
-    FileKind, items, members, only_keys, optional, optional_integer, optional_within, pair,
-    present, text, within,
+    FileKind, items, optional, optional_integer_at, optional_within, pair, present, table_with,
+    text_at, within,
 };
-use toml::Value;
+use toml::{Table, Value};
 
 /// The values of a source's keys, each of its type.
 #[derive(Clone, Copy)]
@@ -41,11 +41,20 @@ fn two_numbers(value: &Value) -> Result<Option<(i64, i64)>, FileKind>
     pair(items(value)?)
 }
 
-/// Returns the least and the greatest number of a range, if there is a value.
-fn optional_numbers(value: Option<&Value>) -> Result<Option<Option<(i64, i64)>>, FileKind>
-    ensures { result ≡ of_some two_numbers (option_map (λ v. view v.now) value.entry) }
+/// Returns the least and the greatest number of the range at a key.
+#[tactic(auto, unfolding(crate::specs::Sources::numbers_at))]
+fn numbers_at(table: &Table, key: &str) -> Result<Option<(i64, i64)>, FileKind>
+    ensures { result ≡ numbers_at key.now (table_view table.now) }
 {
-    match value {
+    two_numbers(present(table, key)?)
+}
+
+/// Returns the least and the greatest number of the range at a key, or `None` if the table lacks the key.
+#[tactic(auto, unfolding(crate::specs::Sources::optional_numbers_at))]
+fn optional_numbers_at(table: &Table, key: &str) -> Result<Option<Option<(i64, i64)>>, FileKind>
+    ensures { result ≡ optional_numbers_at key.now (table_view table.now) }
+{
+    match optional(table, key) {
         Some(value) => Ok(Some(two_numbers(value)?)),
         None => Ok(None),
     }
@@ -116,21 +125,15 @@ fn period_at(plan: &Plan, server: u16) -> u64
 fn source_fields(entry: &Value) -> Result<SourceFields<'_>, FileKind>
     ensures { seen fields_view result ≡ source_fields (view entry.now) }
 {
-    let table = members(entry)?;
-    let keys = [
-        "server", "first", "every", "units", "jobs", "within", "overrun",
-    ];
-    only_keys(table, &keys)?;
-    let server = present(table, "server")?;
-    let every = present(table, "every")?;
-    let units = present(table, "units")?;
-    let server = text(server)?;
-    let first = optional_integer(optional(table, "first"))?;
-    let every = two_numbers(every)?;
-    let units = two_numbers(units)?;
-    let jobs = optional_integer(optional(table, "jobs"))?;
-    let within = optional_integer(optional(table, "within"))?;
-    let overrun = optional_numbers(optional(table, "overrun"))?;
+    let optional_keys = ["first", "jobs", "within", "overrun"];
+    let table = table_with(entry, &["server", "every", "units"], &optional_keys)?;
+    let server = text_at(table, "server")?;
+    let first = optional_integer_at(table, "first")?;
+    let every = numbers_at(table, "every")?;
+    let units = numbers_at(table, "units")?;
+    let jobs = optional_integer_at(table, "jobs")?;
+    let within = optional_integer_at(table, "within")?;
+    let overrun = optional_numbers_at(table, "overrun")?;
     Ok(SourceFields {
         server,
         first,

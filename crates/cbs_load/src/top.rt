@@ -6,14 +6,14 @@ ghost use Rattle.cbs_rate.specs.Limits.{most_backlog};
 ghost use Rattle.cbs_rules.specs.Rules.{clock_end};
 ghost use Rattle.cbs_tables.specs.Fields.{seen};
 ghost use Rattle.cbs_load.specs.Loads.{most_sources};
-ghost use Rattle.cbs_load.specs.TopTables.{kind_at, top_values, typed_values, values_at_keys, spelled_by, top_table, values_view, typed_view, top_view};
+ghost use Rattle.cbs_load.specs.TopTables.{kind_at, typed_values, spelled_by, top_table, typed_view, top_view};
 
 use cbs_core::MAX_BACKLOG;
 use cbs_rate::Bound;
 use cbs_rules::LIMIT;
 use cbs_tables::{
-    FileKind, bound_of, integer, items, only_keys, optional, optional_integer, optional_within,
-    pair, present, sized, within,
+    FileKind, bound_of, integer_at, items_at, optional_integer_at, optional_within, pair_at, sized,
+    with_keys, within,
 };
 use toml::{Table, Value};
 
@@ -22,16 +22,6 @@ pub const MAX_SOURCES: usize = 65_536;
 
 /// The greatest seed: the greatest integer of TOML.
 const MAX_SEED: u64 = 9_223_372_036_854_775_807;
-
-/// The values of those keys of the top table that it must have, beside its kind.
-#[derive(Clone, Copy)]
-struct Values<'a> {
-    bound: &'a Value,
-    backlog: &'a Value,
-    until: &'a Value,
-    server: &'a Value,
-    source: &'a Value,
-}
 
 /// The values of the keys of the top table, each of its type.
 #[derive(Clone, Copy)]
@@ -59,37 +49,7 @@ pub struct TopTable<'a> {
 fn kind_at(table: &Table) -> Result<u64, FileKind>
     ensures { result ≡ kind_at (table_view table.now) }
 {
-    within(1, 1, integer(present(table, "load")?)?)
-}
-
-/// Returns the values of those keys that must be there.
-#[tactic(auto, unfolding(crate::specs::TopTables::values_at_keys))]
-fn values_at_keys(table: &Table) -> Result<Values<'_>, FileKind>
-    ensures { seen values_view result ≡ values_at_keys (table_view table.now) }
-{
-    let bound = present(table, "bound")?;
-    let backlog = present(table, "backlog")?;
-    let until = present(table, "until")?;
-    let server = present(table, "server")?;
-    let source = present(table, "source")?;
-    Ok(Values {
-        bound,
-        backlog,
-        until,
-        server,
-        source,
-    })
-}
-
-/// Returns the values of those keys that must be there. First tests that the table has no unknown keys.
-fn top_values(table: &Table) -> Result<Values<'_>, FileKind>
-    ensures { seen values_view result ≡ top_values (table_view table.now) }
-{
-    let keys = [
-        "load", "bound", "backlog", "until", "seed", "server", "source",
-    ];
-    only_keys(table, &keys)?;
-    values_at_keys(table)
+    within(1, 1, integer_at(table, "load")?)
 }
 
 /// Returns the values of all keys, or the first fault over all of them.
@@ -97,13 +57,14 @@ fn top_values(table: &Table) -> Result<Values<'_>, FileKind>
 fn typed_values(table: &Table) -> Result<TypedValues<'_>, FileKind>
     ensures { seen typed_view result ≡ typed_values (table_view table.now) }
 {
-    let values = top_values(table)?;
-    let bound = pair(items(values.bound)?)?;
-    let backlog = integer(values.backlog)?;
-    let until = integer(values.until)?;
-    let seed = optional_integer(optional(table, "seed"))?;
-    let servers = items(values.server)?;
-    let sources = items(values.source)?;
+    let required = ["load", "bound", "backlog", "until", "server", "source"];
+    with_keys(table, &required, &["seed"])?;
+    let bound = pair_at(table, "bound")?;
+    let backlog = integer_at(table, "backlog")?;
+    let until = integer_at(table, "until")?;
+    let seed = optional_integer_at(table, "seed")?;
+    let servers = items_at(table, "server")?;
+    let sources = items_at(table, "source")?;
     Ok(TypedValues {
         bound,
         backlog,

@@ -11,8 +11,9 @@ mod plans;
 pub use documents::{at, document, document_within, faulty};
 pub use fault::{FileFault, FileKind, Place};
 pub use fields::{
-    all_integers, below, integer, items, members, natural, number, only_keys, optional,
-    optional_integer, optional_within, pair, present, sized, text, units, within,
+    all_integers, below, integer, integer_at, items, items_at, members, natural, number, only_keys,
+    optional, optional_integer, optional_integer_at, optional_within, pair, pair_at, present,
+    sized, table_with, text, text_at, units, with_keys, within,
 };
 pub use memory::{Bounded, MEMORY, wants_within};
 pub use plans::{bound_of, mode_of, reservation};
