@@ -5,7 +5,7 @@ use Rattle.std.proofs.lemmas.Result.{IfOk-weaker}
 use Rattle.serde_json.specs.Data.{Data}
 use Rattle.serde_json.specs.Written.{compact_text, has_float}
 use Rattle.cbs_chart.specs.declared.jobs.ChartJob.{ChartJob}
-use Rattle.cbs_trace.specs.Events.{about_data, budget_args, budget_data, instant_data, job_args, on_thread, slice_data, whole_if}
+use Rattle.cbs_trace.specs.Events.{LineSeen, about_data, budget_args, budget_data, instant_data, job_args, line_of, on_thread, slice_data, whole_if}
 
 -- a number, or its absence, has no fraction
 whole_if_plain : (n : Option ℕ) → has_float (whole_if n) ≡ false
@@ -39,8 +39,12 @@ unfolding about_data
 about_plain what thread args plain = rw plain refl
 
 -- what is written of data with no float
-pub written : {E : Type 0} (r : Result (String Global) E) (d e : Data) → d ≡ e → has_float e ≡ false
-    → IfOk r (λ s. has_float d ≡ false → string_bytes s ≡ compact_text d) → IfOk r (λ s. string_bytes s ≡ compact_text e)
-written r d e is plain h =
-    IfOk-weaker r (λ s. has_float d ≡ false → string_bytes s ≡ compact_text d) (λ s. string_bytes s ≡ compact_text e)
-    (λ s text. text (ap has_float is ∙ plain) ∙ ap compact_text is) h
+pub written : {E : Type 0} (r : Result (String Global) E) (d : Data) → has_float d ≡ false
+    → IfOk r (λ s. has_float d ≡ false → string_bytes s ≡ compact_text d) → IfOk r (λ s. string_bytes s ≡ compact_text d)
+written r d plain h =
+    IfOk-weaker r (λ s. has_float d ≡ false → string_bytes s ≡ compact_text d) (λ s. string_bytes s ≡ compact_text d) (λ s text. text plain) h
+
+-- .. as a line, with its tick
+pub line_is : (line : LineSeen) (tick : ℕ) (text : List ℕ) (d : Data) → line ≡ record { tick = tick; text = text } → has_float d ≡ false
+    → (has_float d ≡ false → text ≡ compact_text d) → line ≡ line_of tick d
+line_is line tick text d is plain wrote = is ∙ ap (λ (t : List ℕ). record { tick = tick; text = t }) (wrote plain)

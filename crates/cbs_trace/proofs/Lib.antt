@@ -1,3 +1,4 @@
 pub mod Floats
 pub mod Growing
 pub mod Numbering
+pub mod Putting

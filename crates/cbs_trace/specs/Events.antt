@@ -1,9 +1,12 @@
 -- The events of a trace, as JSON objects.
-use Rattle.std.specs.Prelude.{ℕ, ◌-◌, List, [], ◌∷◌, ◌++◌, codes, Option, Some, None}
+use Rattle.std.specs.Prelude.{ℕ, ◌-◌, List, [], ◌∷◌, ◌++◌, codes, map, Option, Some, None}
+use Rattle.std.specs.Borrow.{Bor}
 use Rattle.serde_json.specs.Data.{Data, null, number, unsigned, string, object, Members, no_members, put}
 use Rattle.serde_json.specs.Written.{compact_text}
 use Rattle.cbs_stretches.specs.Counts.{told}
 use Rattle.cbs_chart.specs.declared.jobs.ChartJob.{ChartJob}
+use Rattle.cbs_trace.specs.declared.members.Scalar.{Scalar}
+use Rattle.cbs_trace.specs.declared.members.Scalar.TheVariants as scalar
 
 -- the members, and these put among them, in the order of their keys
 abbrev pub with_members : List (List ℕ × Data) → Members → Members
@@ -22,6 +25,21 @@ whole n = number (unsigned n)
 abbrev pub whole_if : Option ℕ → Data
 whole_if None = null
 whole_if (Some n) = whole (told n)
+
+-- a value with no parts
+abbrev pub scalar_data : Scalar → Data
+scalar_data (scalar.Text text) = string text.now
+scalar_data (scalar.Whole n) = whole n
+scalar_data (scalar.WholeIf n) = whole_if n
+
+-- a key with its value
+abbrev pub member_of : Bor (List ℕ) × Scalar → List ℕ × Data
+member_of m = (m.0.now, scalar_data m.1)
+
+-- the event with these members, with more members, and with arguments
+abbrev pub event_data : List (Bor (List ℕ) × Scalar) → List (Bor (List ℕ) × Scalar) → Data → Data
+event_data first more args =
+    object (put (codes "args") args (with_members (map member_of more) (with_members (map member_of first) no_members)))
 
 -- the members, with a thread and a tick
 abbrev pub with_place : ℕ → ℕ → Members → Members

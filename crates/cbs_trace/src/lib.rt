@@ -4,6 +4,7 @@
 mod events;
 mod line;
 mod marks;
+mod members;
 mod server;
 mod slices;
 mod trace;

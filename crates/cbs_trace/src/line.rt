@@ -1,6 +1,6 @@
 //! The lines of a trace.
 
-ghost use Rattle.std.specs.Prelude.{◌≡◌, OnOk, string_bytes};
+ghost use Rattle.std.specs.Prelude.{◌≡◌, [], ◌∷◌, ◌++◌, OnOk, string_bytes};
 ghost use Rattle.std.specs.Ordering.{nat_cmp};
 ghost use Rattle.std.specs.List.Sorted.{IsPermutation, IsSortedByKey, IsStableByKey};
 ghost use Rattle.cbs_trace.specs.Traces.{tick_of};
@@ -45,6 +45,14 @@ impl Line {
     {
         &self.text
     }
+}
+
+/// Appends a line. The only error is out of memory.
+pub(crate) fn append_line(lines: &mut Vec<Line>, line: Line) -> Result<(), AllocError>
+    ensures { OnOk result (lines.new.items ≡ lines.old.items ++ line ∷ []) }
+{
+    lines.push(line)?;
+    Ok(())
 }
 
 /// Sorts lines by their ticks. Lines of the same tick keep their order. Refuses if out of memory.

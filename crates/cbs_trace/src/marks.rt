@@ -4,10 +4,10 @@ ghost use Rattle.std.specs.Prelude.{◌≡◌, ◌<◌, ◌++◌, false, IfOk, O
 ghost use Rattle.serde_json.specs.View.{view};
 ghost use Rattle.serde_json.specs.Written.{has_float};
 ghost use Rattle.cbs_trace.specs.Events.{instant_data, line_of};
-ghost use Rattle.cbs_trace.specs.Servers.{arrival_in, arrival_line, arrivals_of, budget_before, budget_line, budgets_of, change_at, change_between, changes_of, deadline_line, deadlines_of, end_at, end_line, ends_of, late_by, refusals_in, refusals_of, refused_line};
+ghost use Rattle.cbs_trace.specs.Servers.{arrival_in, arrival_line, arrivals_of, budget_before, budgets_of, change_at, change_between, changes_of, deadline_line, deadlines_of, end_at, end_line, ends_of, late_by, refusals_in, refusals_of, refused_line};
 
-use crate::events::{budget_text, came_args, finished_args, instant_text, no_args};
-use crate::line::Line;
+use crate::events::{budget_line, came_args, finished_args, instant_line, no_args};
+use crate::line::{Line, append_line};
 use cbs_chart::{ChartJob, Corner, ServerChart, Stretch, Window};
 use serde_json::Value;
 use std::alloc::{AllocError, Global};
@@ -36,8 +36,7 @@ fn named_end(
     ensures { IfOk result (λ line. line ≡ line_of tick (instant_data (codes "job " ++ decimal number ++ codes " finished" ++ how.now) cat.now thread tick (view args))) }
 {
     let name = format!(in alloc; "job {number} finished{how}")?;
-    let text = instant_text(alloc, &name, cat, thread, tick, args)?;
-    Ok(Line::new(tick, text))
+    instant_line(alloc, &name, cat, thread, tick, args)
 }
 
 /// Returns the line of the end of a job that took `took` ticks and was late by `late` ticks.
@@ -78,7 +77,7 @@ fn append_end(
     if window.from < finish && finish <= window.to {
         let took = finish.saturating_sub(job.came);
         let late = late_by(job.within, took);
-        lines.push(end_line(alloc, thread, job, finish, took, late)?)?;
+        return append_line(lines, end_line(alloc, thread, job, finish, took, late)?);
     }
     Ok(())
 }
@@ -105,9 +104,7 @@ pub(crate) fn append_ends(
 fn refused_line(alloc: Global, thread: u64, tick: u64) -> Result<Line, AllocError>
     ensures { IfOk result (λ line. line ≡ refused_line thread tick) }
 {
-    let args = no_args(alloc)?;
-    let text = instant_text(alloc, "refused", "refused", thread, tick, args)?;
-    Ok(Line::new(tick, text))
+    instant_line(alloc, "refused", "refused", thread, tick, no_args(alloc)?)
 }
 
 /// Appends a line for each tick of a stretch in which releases are refused.
@@ -121,7 +118,7 @@ fn append_refusals_in(
     ensures { OnOk result (lines.new.items ≡ lines.old.items ++ refusals_in thread refused.now) }
 {
     for place in 0..refused.to.saturating_sub(refused.from) {
-        lines.push(refused_line(alloc, thread, refused.from + place)?)?;
+        append_line(lines, refused_line(alloc, thread, refused.from + place)?)?;
     }
     Ok(())
 }
@@ -150,8 +147,7 @@ fn arrival_line(alloc: Global, thread: u64, job: &ChartJob) -> Result<Line, Allo
     let number = job.number;
     let name = format!(in alloc; "job {number} comes")?;
     let args = came_args(alloc, job)?;
-    let text = instant_text(alloc, &name, "arrival", thread, job.came, args)?;
-    Ok(Line::new(job.came, text))
+    instant_line(alloc, &name, "arrival", thread, job.came, args)
 }
 
 /// Appends the arrival of a job, if the job came in the window.
@@ -165,7 +161,7 @@ fn append_arrival(
     ensures { OnOk result (lines.new.items ≡ lines.old.items ++ arrival_in window thread job.now) }
 {
     if window.from <= job.came && job.came < window.to {
-        lines.push(arrival_line(alloc, thread, job)?)?;
+        return append_line(lines, arrival_line(alloc, thread, job)?);
     }
     Ok(())
 }
@@ -192,9 +188,7 @@ pub(crate) fn append_arrivals(
 fn deadline_line(alloc: Global, thread: u64, tick: u64) -> Result<Line, AllocError>
     ensures { IfOk result (λ line. line ≡ deadline_line thread tick) }
 {
-    let args = no_args(alloc)?;
-    let text = instant_text(alloc, "deadline", "deadline", thread, tick, args)?;
-    Ok(Line::new(tick, text))
+    instant_line(alloc, "deadline", "deadline", thread, tick, no_args(alloc)?)
 }
 
 /// Appends a line for each deadline.
@@ -208,24 +202,9 @@ pub(crate) fn append_deadlines(
     ensures { OnOk result (lines.new.items ≡ lines.old.items ++ deadlines_of thread ticks.now) }
 {
     for tick in ticks {
-        lines.push(deadline_line(alloc, thread, *tick)?)?;
+        append_line(lines, deadline_line(alloc, thread, *tick)?)?;
     }
     Ok(())
-}
-
-/// Returns the line of the budget of a server from a tick on.
-#[tactic(auto, unfolding(crate::specs::Servers::budget_line))]
-fn budget_line(
-    alloc: Global,
-    name: &str,
-    thread: u64,
-    tick: u64,
-    budget: u64,
-) -> Result<Line, AllocError>
-    ensures { IfOk result (λ line. line ≡ budget_line name.now thread tick budget) }
-{
-    let text = budget_text(alloc, name, thread, tick, budget)?;
-    Ok(Line::new(tick, text))
 }
 
 /// Returns the budget before a corner of its course.
@@ -253,9 +232,10 @@ fn append_change_between(
     if corner.budget == before {
         return Ok(());
     }
-    let line = budget_line(alloc, name, thread, corner.tick, corner.budget)?;
-    lines.push(line)?;
-    Ok(())
+    append_line(
+        lines,
+        budget_line(alloc, name, thread, corner.tick, corner.budget)?,
+    )
 }
 
 /// Appends the budget from the corner at a place on, if it differs from the budget before.
@@ -305,6 +285,9 @@ pub(crate) fn append_budgets(
 ) -> Result<(), AllocError>
     ensures { OnOk result (lines.new.items ≡ lines.old.items ++ budgets_of window name.now thread chart.now) }
 {
-    lines.push(budget_line(alloc, name, thread, window.from, chart.opening)?)?;
+    append_line(
+        lines,
+        budget_line(alloc, name, thread, window.from, chart.opening)?,
+    )?;
     append_changes(alloc, lines, name, thread, chart.opening, &chart.corners)
 }

@@ -3,8 +3,8 @@
 ghost use Rattle.std.specs.Prelude.{◌≡◌, ◌++◌, IfOk, OnOk};
 ghost use Rattle.cbs_trace.specs.Servers.{bar_line, other_line, slice_of, slices_of};
 
-use crate::events::{job_args, no_args, slice_text};
-use crate::line::Line;
+use crate::events::{job_args, no_args, slice_line};
+use crate::line::{Line, append_line};
 use cbs_chart::{ChartJob, Kind, ServerChart, Stretch, job_numbered};
 use std::alloc::{AllocError, Global};
 
@@ -21,8 +21,7 @@ fn bar_line(
 {
     let name = format!(in alloc; "job {number}")?;
     let args = job_args(alloc, number, job_numbered(number, jobs))?;
-    let text = slice_text(alloc, &name, "run", thread, span.from, span.to, args)?;
-    Ok(Line::new(span.from, text))
+    slice_line(alloc, &name, "run", thread, span, args)
 }
 
 /// Returns the line of ticks that are no bar, by what goes on in them.
@@ -30,9 +29,7 @@ fn bar_line(
 fn other_line(alloc: Global, thread: u64, what: &str, span: &Stretch) -> Result<Line, AllocError>
     ensures { IfOk result (λ line. line ≡ other_line thread what.now span.now) }
 {
-    let args = no_args(alloc)?;
-    let text = slice_text(alloc, what, what, thread, span.from, span.to, args)?;
-    Ok(Line::new(span.from, text))
+    slice_line(alloc, what, what, thread, span, no_args(alloc)?)
 }
 
 /// Appends the slice of a stretch, if the stretch has one.
@@ -46,12 +43,11 @@ fn append_slice(
     ensures { OnOk result (lines.new.items ≡ lines.old.items ++ slice_of thread jobs.now span.now.kind span.now) }
 {
     match span.kind {
-        Kind::Runs(number) => lines.push(bar_line(alloc, thread, jobs, number, span)?)?,
-        Kind::Charged => lines.push(other_line(alloc, thread, "charged", span)?)?,
-        Kind::Held => lines.push(other_line(alloc, thread, "throttled", span)?)?,
-        Kind::Waits | Kind::Resting | Kind::Refused | Kind::Late | Kind::Idle => {}
+        Kind::Runs(number) => append_line(lines, bar_line(alloc, thread, jobs, number, span)?),
+        Kind::Charged => append_line(lines, other_line(alloc, thread, "charged", span)?),
+        Kind::Held => append_line(lines, other_line(alloc, thread, "throttled", span)?),
+        Kind::Waits | Kind::Resting | Kind::Refused | Kind::Late | Kind::Idle => Ok(()),
     }
-    Ok(())
 }
 
 /// Appends the slices of a server.

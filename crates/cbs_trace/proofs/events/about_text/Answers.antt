@@ -4,7 +4,8 @@ use Rattle.cbs_trace.proofs.Floats.{about_plain, written}
 use Rattle.cbs_trace.proofs.events.about_text.Goals as goal
 
 pub returns : goal.returns
+unfolding about_data
 returns c =
     let a = c.args in
-    written c.to_string.result (view c.in_ok-about_value.field-0) (about_data a.what.now a.thread (view a.args)) c.in_ok-about_value.ensures
-    (about_plain a.what.now a.thread (view a.args) c.requires) c.to_string.ensures.text
+    written c.event_text.result (about_data a.what.now a.thread (view a.args)) (about_plain a.what.now a.thread (view a.args) c.requires)
+    c.event_text.ensures

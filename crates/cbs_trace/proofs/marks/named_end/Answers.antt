@@ -1,6 +1,5 @@
-use Rattle.std.proofs.Common.{arith}
-use Rattle.std.proofs.lemmas.Grind.{common_steps}
+use Rattle.std.proofs.Common.{append_assoc}
 use Rattle.cbs_trace.proofs.marks.named_end.Goals as goal
 
 pub returns : goal.returns
-returns c = grind (arith, common_steps)
+returns c = simp append_assoc (simp (c.deref.ensures, c.in_ok-name.ensures.ok) at c.instant_line.ensures)
