@@ -1,5 +1,6 @@
 -- The whole report as JSON: its keys, and the figure of each key.
 use Rattle.std.specs.Prelude.{ℕ, Bool, List, [], ◌∷◌, ◌++◌, codes, map, Option, Some, None, string_bytes}
+use Rattle.std.specs.Borrow.{Bor}
 use Rattle.std.specs.List.{list_all}
 use Rattle.serde_json.specs.Data.{Data, null, boolean, number, unsigned, string, array, object, Items, no_items, item, Members, no_members, put}
 use Rattle.serde_json.specs.View.{items_of}
@@ -12,6 +13,10 @@ use Rattle.cbs_report.specs.declared.figures.Ranks.{Ranks}
 use Rattle.cbs_print.specs.Reports.{released, is_in_time, sum_of}
 use Rattle.cbs_print.specs.declared.report.RunReport.{RunReport}
 use Rattle.cbs_print.specs.declared.report.ServerReport.{ServerReport}
+use Rattle.cbs_json.specs.declared.figures.Figure.{Figure}
+use Rattle.cbs_json.specs.declared.figures.Figure.TheVariants as figure
+use Rattle.cbs_json.specs.declared.parts.Part.{Part}
+use Rattle.cbs_json.specs.declared.parts.Part.TheVariants as part
 
 -- the members, and these put among them, in the order of their keys
 abbrev pub with_members : List (List ℕ × Data) → Members → Members
@@ -29,6 +34,14 @@ whole n = number (unsigned n)
 -- two numbers: a part and its whole, or a sum and a count
 unfoldable pub pair_data : ℕ → ℕ → Data
 pair_data a b = array (item (whole a) (item (whole b) no_items))
+
+-- a figure, and a key with it
+abbrev pub figure_data : Figure → Data
+figure_data (figure.Whole n) = whole n
+figure_data (figure.Pair a b) = pair_data a b
+
+abbrev pub figure_member : Bor (List ℕ) × Figure → List ℕ × Data
+figure_member m = (m.0.now, figure_data m.1)
 
 -- how many jobs of the servers came, were refused, are finished, and are late
 unfoldable pub jobs_data : List ServerReport → Data
@@ -72,6 +85,37 @@ early_data f (Some least) =
 unfoldable pub charges_data : Figures → Data
 charges_data f = object_of ((codes "all", whole f.charged) ∷ (codes "greatest", whole f.greatest_charge) ∷ [])
 
+-- how many ticks were run, idle and charged
+unfoldable pub ticks_data : RunReport → Data
+ticks_data r = object_of (
+    (codes "run", whole (told (sum_of (λ f. f.run) r.servers.items)))
+    ∷ (codes "idle", whole r.idle)
+    ∷ (codes "charged", whole (told (sum_of (λ f. f.charged) r.servers.items)))
+    ∷ [])
+
+-- the seed of the numbers that were drawn, or null if there is none
+unfoldable pub seed_data : Option ℕ → Data
+seed_data None = null
+seed_data (Some seed) = whole seed
+
+-- a part of what is told of a server or of a run, and a key with it
+abbrev pub part_data : Part → Data
+part_data (part.Is so) = boolean so
+part_data (part.Text text) = string text.now
+part_data (part.Whole n) = whole n
+part_data (part.Pair a b) = pair_data a b
+part_data (part.Seed seed) = seed_data seed
+part_data (part.Jobs servers) = jobs_data servers.now
+part_data (part.Within s) = within_data s.now.within
+part_data (part.Units f) = units_data f.now
+part_data (part.Ranks f) = ranks_data f.now f.now.responses
+part_data (part.Early f) = early_data f.now f.now.early_least
+part_data (part.Charges f) = charges_data f.now
+part_data (part.Ticks r) = ticks_data r.now
+
+abbrev pub part_member : Bor (List ℕ) × Part → List ℕ × Data
+part_member m = (m.0.now, part_data m.1)
+
 -- the members that say what a server is
 unfoldable pub server_terms : ServerReport → Members
 server_terms s = with_members (
@@ -111,19 +155,6 @@ servers_data servers = items_of (map server_data servers)
 -- no server has a job that is late or was refused
 abbrev pub all_in_time : List ServerReport → Bool
 all_in_time servers = list_all (λ s. is_in_time s.figures) servers
-
--- how many ticks were run, idle and charged
-unfoldable pub ticks_data : RunReport → Data
-ticks_data r = object_of (
-    (codes "run", whole (told (sum_of (λ f. f.run) r.servers.items)))
-    ∷ (codes "idle", whole r.idle)
-    ∷ (codes "charged", whole (told (sum_of (λ f. f.charged) r.servers.items)))
-    ∷ [])
-
--- the seed of the numbers that were drawn, or null if there is none
-unfoldable pub seed_data : Option ℕ → Data
-seed_data None = null
-seed_data (Some seed) = whole seed
 
 -- the members that say what a report is about
 unfoldable pub report_terms : RunReport → Members
