@@ -67,8 +67,10 @@ fn append_figures(
     let tenths = tenths_of(reserved);
     let whole = tenths / 10;
     let tenth = tenths % 10;
-    write!(text, " with {whole}.{tenth} % of the time reserved. ")?;
-    write!(text, "{units} units run, {idle} ticks idle.")
+    write!(
+        text,
+        " with {whole}.{tenth} % of the time reserved. {units} units run, {idle} ticks idle."
+    )
 }
 
 /// Returns whether a window shows a whole run, which ends at the tick `end`.

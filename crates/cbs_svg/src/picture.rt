@@ -51,14 +51,12 @@ fn append_opening(text: &mut String, left: u64, scale: u64) -> Result<(), AllocE
 {
     let width = left + 107_300;
     let height = scale + 4200;
-    write!(
+    let wide = width / 100;
+    let high = height / 100;
+    writeln!(
         text,
-        "<svg xmlns=\"http://www.w3.org/2000/svg\" viewBox=\"0 0 {width} {height}\""
-    )?;
-    let width = width / 100;
-    let height = height / 100;
-    write!(text, " width=\"{width}\" height=\"{height}\"")?;
-    writeln!(text, " role=\"img\" aria-labelledby=\"what how\">")
+        "<svg xmlns=\"http://www.w3.org/2000/svg\" viewBox=\"0 0 {width} {height}\" width=\"{wide}\" height=\"{high}\" role=\"img\" aria-labelledby=\"what how\">"
+    )
 }
 
 /// Appends the page: a rectangle behind everything.
@@ -350,7 +348,7 @@ fn append_body(
     append_rows(alloc, text, axis, layout, window, &picture.servers)?;
     append_idle(alloc, text, axis, layout, window, scale, &picture.idle)?;
     append_scale(alloc, text, axis, scale, ticks)?;
-    writeln!(text, "</svg>")
+    text.push_str("</svg>\n")
 }
 
 /// Returns how far down the line of the scale stands, below this many rows.

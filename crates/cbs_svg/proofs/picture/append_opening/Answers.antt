@@ -4,4 +4,4 @@ use Rattle.cbs_svg.proofs.picture.append_opening.Goals as goal
 
 pub returns : goal.returns
 unfolding opening_text
-returns c = simp append_assoc (simp (append_assoc, c.in_ok-write-2.ensures.bytes, c.in_ok-write.ensures.bytes) at c.writeln.ensures.bytes)
+returns c = simp append_assoc c.writeln.ensures.bytes
