@@ -2,7 +2,7 @@
 
 use anyhow::{Result, bail};
 
-/// A call that takes memory, or one that tells what such a call left.
+/// A call that takes memory, or one that shows what such a call left.
 #[derive(Clone, Copy)]
 pub enum Call {
     Collector(CollectorCall),
