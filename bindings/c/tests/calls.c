@@ -1,7 +1,9 @@
-/* Every call of the library, with every status that it can return but out of memory (memory.c). */
+/* Every call of the library, with every status that it can return but out of memory (memory.c). The texts are in texts.c,
+ * and what the structs look like in layouts.c. */
 #include "check.h"
-#include <stddef.h>
 #include <string.h>
+
+static const struct cbs_server soft_and_throttled[2] = {{2, 5, CBS_SOFT}, {1, 10, CBS_THROTTLED}};
 
 static uint32_t opened(const struct cbs_server *servers, size_t n, uint64_t backlog, uint64_t ring, size_t clients_n) {
     struct cbs_handle house = CBS_HANDLE_INIT;
@@ -11,6 +13,7 @@ static uint32_t opened(const struct cbs_server *servers, size_t n, uint64_t back
     }
     uint32_t status = cbs_open(servers, n, backlog, ring, &house, clients, clients_n);
     CHECK(house.full == (status == CBS_OK));
+    CHECK(cbs_end(&house) == (status == CBS_OK ? CBS_CALL_OTHER_KIND : CBS_CALL_NOT_OPEN));
     for (size_t i = 0; i < 65; i++) {
         CHECK(clients[i].full == (status == CBS_OK && i < n));
         cbs_free(&clients[i]);
@@ -33,6 +36,28 @@ static void open_refuses_a_server(void) {
     CHECK(one(1, 5, 2) == CBS_CALL_BAD_MODE);
 }
 
+/* The first that does not fit is told, also if it is the second. */
+static void open_refuses_the_second_server(void) {
+    struct cbs_server servers[2] = {{2, 5, CBS_SOFT}, {0, 5, CBS_SOFT}};
+    CHECK(opened(servers, 2, 4, 4, 2) == CBS_RATE_ZERO_BUDGET);
+    servers[1].budget = 4;
+    CHECK(opened(servers, 2, 4, 4, 2) == CBS_ADMIT_OVER_BOUND);
+    servers[1].budget = 2;
+    servers[1].mode = 2;
+    CHECK(opened(servers, 2, 4, 4, 2) == CBS_CALL_BAD_MODE);
+    servers[1].mode = CBS_SOFT;
+    CHECK(opened(servers, 2, 4, 4, 2) == CBS_OK);
+}
+
+/* So many servers with one tick in every period each. */
+static void alike(struct cbs_server *servers, size_t n, uint64_t period) {
+    for (size_t i = 0; i < n; i++) {
+        servers[i].budget = 1;
+        servers[i].period = period;
+        servers[i].mode = CBS_SOFT;
+    }
+}
+
 static void open_refuses_a_plan(void) {
     /* 999999937 is a prime: with 10^9 the common multiple is just below 10^18, and with a third it is far above. */
     struct cbs_server fine[3] = {{1, 999999937, CBS_SOFT}, {1, 1000000000, CBS_SOFT}, {1, 999999929, CBS_SOFT}};
@@ -43,11 +68,7 @@ static void open_refuses_a_plan(void) {
     over[1].budget = 3;
     CHECK(opened(over, 2, 4, 4, 2) == CBS_OK);
     struct cbs_server many[65];
-    for (size_t i = 0; i < 65; i++) {
-        many[i].budget = 1;
-        many[i].period = 100;
-        many[i].mode = CBS_SOFT;
-    }
+    alike(many, 65, 100);
     CHECK(opened(many, 64, 4, 4, 64) == CBS_OK);
     CHECK(opened(many, 65, 4, 4, 65) == CBS_ADMIT_TOO_MANY_SERVERS);
     CHECK(opened(many, 0, 4, 4, 0) == CBS_OK);
@@ -91,14 +112,14 @@ static void no_house(struct cbs_handle *handle, uint32_t status) {
     memset(&turn, 0x5a, sizeof turn);
     memset(&view, 0x5a, sizeof view);
     CHECK(cbs_poll(handle, 0, &kind) == status && kind == 99);
-    CHECK(cbs_run(handle, &unit) == status && unit.seq == UNTOUCHED && unit.token == UNTOUCHED);
-    CHECK(cbs_turn(handle, &turn) == status && turn.took == UNTOUCHED && turn.advanced == UNTOUCHED);
+    CHECK(cbs_run(handle, &unit) == status && untouched(&unit, sizeof unit));
+    CHECK(cbs_turn(handle, &turn) == status && untouched(&turn, sizeof turn));
     CHECK(cbs_advance(handle, 1) == status);
     CHECK(cbs_charge(handle, 0, 1) == status);
     CHECK(cbs_charges(handle, 0, &number, &other) == status && number == UNTOUCHED && other == UNTOUCHED);
     CHECK(cbs_now(handle, &number) == status && number == UNTOUCHED);
     CHECK(cbs_idle_span(handle, &number) == status && number == UNTOUCHED);
-    CHECK(cbs_view(handle, 0, &view) == status && view.budget == UNTOUCHED && view.finished == UNTOUCHED);
+    CHECK(cbs_view(handle, 0, &view) == status && untouched(&view, sizeof view));
     CHECK(cbs_promised(handle, 0, &number, &other) == status && number == UNTOUCHED && other == UNTOUCHED);
 }
 
@@ -109,7 +130,7 @@ static void no_server(struct cbs_handle *house, uint16_t server) {
     struct cbs_shown shown;
     memset(&shown, 0x5a, sizeof shown);
     CHECK(cbs_poll(house, server, &kind) == CBS_HOUSE_NO_SUCH_SERVER && kind == 99);
-    CHECK(cbs_view(house, server, &shown) == CBS_HOUSE_NO_SUCH_SERVER && shown.budget == UNTOUCHED && shown.finished == UNTOUCHED);
+    CHECK(cbs_view(house, server, &shown) == CBS_HOUSE_NO_SUCH_SERVER && untouched(&shown, sizeof shown));
     CHECK(cbs_promised(house, server, &low, &high) == CBS_HOUSE_NO_SUCH_SERVER && low == UNTOUCHED && high == UNTOUCHED);
     CHECK(cbs_charge(house, server, 0) == CBS_HOUSE_NO_SUCH_SERVER);
     CHECK(cbs_charges(house, server, &low, &high) == CBS_HOUSE_NO_SUCH_SERVER && low == UNTOUCHED && high == UNTOUCHED);
@@ -142,6 +163,12 @@ static void handles(void) {
     tear_down(&setup); /* a second free is none */
 }
 
+/* Checks how many messages of a client wait in its ring. */
+static void waits(struct cbs_handle *client, uint64_t wanted) {
+    uint64_t waiting = UNTOUCHED;
+    CHECK(cbs_waiting(client, &waiting) == CBS_OK && waiting == wanted);
+}
+
 static void sending(void) {
     struct cbs_server server = {2, 5, CBS_SOFT};
     struct setup setup;
@@ -172,6 +199,21 @@ static void polls(struct setup *setup, uint16_t server, uint32_t wanted) {
     CHECK(kind == wanted);
 }
 
+/* A client sees what was taken of its ring, and of no other. */
+static void taking(void) {
+    struct setup setup;
+    set_up(&setup, soft_and_throttled, 2, 4, 4);
+    send_job(&setup.clients[0], 7, 1, 0);
+    send_job(&setup.clients[0], 8, 1, 1);
+    waits(&setup.clients[0], 2);
+    polls(&setup, 0, CBS_POLL_TOOK);
+    waits(&setup.clients[0], 1);
+    polls(&setup, 0, CBS_POLL_TOOK);
+    waits(&setup.clients[0], 0);
+    waits(&setup.clients[1], 0);
+    tear_down(&setup);
+}
+
 /* A client of a freed house is told so, after its units were looked at, whether its ring is full and whether it has ended. */
 static void house_is_gone(void) {
     struct cbs_server servers[3] = {{1, 5, CBS_SOFT}, {1, 5, CBS_SOFT}, {1, 5, CBS_SOFT}};
@@ -186,6 +228,7 @@ static void house_is_gone(void) {
         CHECK(cbs_send(&setup.clients[i], 2, 0, &seq) == CBS_TASK_EMPTY_JOB && seq == UNTOUCHED);
         CHECK(cbs_send(&setup.clients[i], 2, 1, &seq) == CBS_CALL_HOUSE_GONE && seq == UNTOUCHED);
         CHECK(cbs_end(&setup.clients[i]) == CBS_CALL_HOUSE_GONE);
+        waits(&setup.clients[i], i == 0 ? 0 : 1); /* what it had sent, an end too */
     }
     tear_down(&setup);
 }
@@ -206,10 +249,26 @@ static void client_is_gone(void) {
     polls(&setup, 1, CBS_POLL_CLOSED);
     polls(&setup, 2, CBS_POLL_CLOSED);
     for (uint16_t i = 0; i < 3; i++) {
+        struct cbs_shown view;
         polls(&setup, i, CBS_POLL_NOTHING);
+        CHECK(cbs_view(&setup.house, i, &view) == CBS_OK && view.accepted == (i == 1) && view.closed);
     }
     runs(&setup, CBS_RUN_DONE, 1, 0, 9);
     runs(&setup, CBS_RUN_IDLE, 0, 0, 0);
+    tear_down(&setup);
+}
+
+/* Numbers that no server has, with a message in the ring of one that is there. */
+static void no_such_servers(void) {
+    struct setup setup;
+    set_up(&setup, soft_and_throttled, 2, 4, 1);
+    send_job(&setup.clients[0], 7, 1, 0);
+    no_server(&setup.house, 2);
+    no_server(&setup.house, 63);
+    no_server(&setup.house, 64);
+    no_server(&setup.house, 65535);
+    polls(&setup, 0, CBS_POLL_TOOK);
+    polls(&setup, 1, CBS_POLL_NOTHING);
     tear_down(&setup);
 }
 
@@ -236,6 +295,88 @@ static void polling(void) {
     CHECK(cbs_view(&setup.house, 0, &view) == CBS_OK);
     CHECK(view.accepted == 2 && view.finished == 2 && view.closed && !view.throttled);
     tear_down(&setup);
+}
+
+/* Takes a turn that tells of this unit, with something left to do. */
+static void turns(struct cbs_handle *house, uint64_t took, uint64_t advanced, uint32_t kind, uint16_t server, uint64_t seq, uint64_t token) {
+    struct cbs_turned turn;
+    memset(&turn, 0x5a, sizeof turn);
+    CHECK(cbs_turn(house, &turn) == CBS_OK);
+    CHECK(turn.took == took && turn.advanced == advanced && !turn.out_of_memory && !turn.over);
+    is_unit(&turn.ran, kind, server, seq, token);
+}
+
+/* Checks for how many ticks no server will be ready. */
+static void rests_for(struct setup *setup, uint64_t ticks) {
+    uint64_t span = UNTOUCHED;
+    CHECK(cbs_idle_span(&setup->house, &span) == CBS_OK && span == ticks);
+}
+
+static void stands_at(struct setup *setup, uint64_t tick) {
+    uint64_t now = UNTOUCHED;
+    CHECK(cbs_now(&setup->house, &now) == CBS_OK && now == tick);
+}
+
+/* Checks the tick by which server 0 promises to be done. */
+static void promises(struct setup *setup, uint64_t low, uint64_t high) {
+    uint64_t lower = UNTOUCHED, upper = UNTOUCHED;
+    CHECK(cbs_promised(&setup->house, 0, &lower, &upper) == CBS_OK && lower == low && upper == high);
+}
+
+/* Both servers, from the sends to the end, by turns and by runs. */
+static void serving(void) {
+    struct setup setup;
+    struct cbs_shown view;
+    set_up(&setup, soft_and_throttled, 2, 4, 4);
+    promises(&setup, UINT64_MAX, UINT64_MAX);
+    send_job(&setup.clients[0], 7, 3, 0);
+    send_job(&setup.clients[1], 9, 2, 0);
+    CHECK(cbs_end(&setup.clients[1]) == CBS_OK);
+    waits(&setup.clients[1], 2);
+    polls(&setup, 0, CBS_POLL_TOOK);
+    promises(&setup, 10, 0); /* three units with 2 ticks in 5: the third waits for the second budget */
+    rests_for(&setup, UINT64_MAX);
+    turns(&setup.house, 1, 0, CBS_RUN_UNIT, 0, 0, 7);
+    runs(&setup, CBS_RUN_UNIT, 0, 0, 7);
+    CHECK(cbs_view(&setup.house, 0, &view) == CBS_OK);
+    CHECK(view.budget == 2 && view.deadline_low == 10 && view.deadline_high == 0);
+    CHECK(view.accepted == 1 && view.finished == 0 && !view.throttled && !view.closed);
+    runs(&setup, CBS_RUN_DONE, 0, 0, 7);
+    turns(&setup.house, 1, 0, CBS_RUN_UNIT, 1, 0, 9);
+    rests_for(&setup, 6); /* server 1 has used its budget up at tick 4, and waits until 10 */
+    turns(&setup.house, 0, 6, CBS_RUN_IDLE, 0, 0, 0);
+    runs(&setup, CBS_RUN_DONE, 1, 0, 9);
+    CHECK(cbs_advance(&setup.house, 1) == CBS_OK);
+    stands_at(&setup, 12);
+    runs(&setup, CBS_RUN_IDLE, 0, 0, 0);
+    tear_down(&setup);
+}
+
+/* 64 servers take the whole processor. All deadlines are 64, so the server with the lowest number is first. */
+static void widest(void) {
+    struct cbs_server servers[65];
+    struct cbs_handle house = CBS_HANDLE_INIT, clients[64];
+    uint64_t budget = UNTOUCHED;
+    alike(servers, 64, 64);
+    for (size_t i = 0; i < 64; i++) {
+        clients[i] = SHUT;
+    }
+    CHECK(cbs_open(servers, 64, 1, 1, &house, clients, 64) == CBS_OK);
+    for (size_t i = 0; i < 64; i++) {
+        send_job(&clients[i], 1000 + i, 1, 0);
+    }
+    turns(&house, 64, 0, CBS_RUN_DONE, 0, 0, 1000);
+    for (uint16_t i = 1; i < 64; i++) {
+        turns(&house, 0, 0, CBS_RUN_DONE, i, 0, 1000U + i);
+    }
+    turns(&house, 0, 0, CBS_RUN_IDLE, 0, 0, 0);
+    for (size_t i = 0; i < 64; i++) {
+        cbs_free(&clients[i]);
+    }
+    cbs_free(&house);
+    alike(servers, 65, 65);
+    CHECK(opened(servers, 65, 1, 1, 65) == CBS_ADMIT_TOO_MANY_SERVERS);
+    CHECK(cbs_greatest_budget(servers, 64, 65, &budget) == CBS_OK && budget == 0);
 }
 
 /* A soft server with 2 ticks in every 5, and a job of three units. */
@@ -325,11 +466,52 @@ static void charging(void) {
     tear_down(&setup);
 }
 
-static void turns(struct setup *setup, uint64_t took, uint64_t advanced, uint32_t kind, uint64_t token) {
-    struct cbs_turned turn;
-    CHECK(cbs_turn(&setup->house, &turn) == CBS_OK);
-    CHECK(turn.took == took && turn.advanced == advanced && !turn.out_of_memory && !turn.over);
-    CHECK(turn.ran.kind == kind && (kind < CBS_RUN_UNIT || turn.ran.token == token));
+/* What is charged before a unit, and of another server; and periods of 10 that pay for three ticks. */
+static void charging_by_name(void) {
+    struct setup setup;
+    set_up(&setup, soft_and_throttled, 2, 4, 4);
+    send_job(&setup.clients[1], 9, 2, 0);
+    CHECK(cbs_charge(&setup.house, 1, 1) == CBS_HOUSE_NOT_RUNNING);
+    turns(&setup.house, 1, 0, CBS_RUN_UNIT, 1, 0, 9);
+    CHECK(cbs_charge(&setup.house, 2, 1) == CBS_HOUSE_NO_SUCH_SERVER);
+    CHECK(cbs_charge(&setup.house, 0, 1) == CBS_HOUSE_NOT_RUNNING);
+    CHECK(cbs_charge(&setup.house, 1, UINT64_MAX) == CBS_HOUSE_CLOCK_END);
+    CHECK(cbs_charge(&setup.house, 1, 2) == CBS_OK);
+    CHECK(cbs_charge(&setup.house, 1, 1) == CBS_OK);
+    stands_at(&setup, 4);
+    rests_for(&setup, 36); /* throttled at tick 1 until 10, and then for three periods more */
+    charged(&setup, 1, 3, 3);
+    charged(&setup, 0, 0, 0);
+    no_server(&setup.house, 2);
+    CHECK(cbs_charge(&setup.clients[0], 0, 1) == CBS_CALL_OTHER_KIND);
+    charged(&setup, 1, 3, 3);
+    tear_down(&setup);
+}
+
+/* A deadline and a promise of more than 64 bits. Each tick moves the deadline by a period of 10^9, and nearly all ticks are
+ * charged to one unit: 10^21 is 54 * 2^64 + 3875820019684212736. */
+static void halves(void) {
+    struct cbs_server server = {1, 1000000000, CBS_SOFT};
+    struct setup setup;
+    struct cbs_shown view;
+    set_up(&setup, &server, 1, 4, 4);
+    submit(&setup, 0, 11, 1, 0);
+    submit(&setup, 0, 12, 1, 1);
+    submit(&setup, 0, 13, 2, 2);
+    CHECK(cbs_end(&setup.clients[0]) == CBS_OK);
+    polls(&setup, 0, CBS_POLL_CLOSED);
+    runs(&setup, CBS_RUN_DONE, 0, 0, 11);
+    runs(&setup, CBS_RUN_DONE, 0, 1, 12);
+    runs(&setup, CBS_RUN_UNIT, 0, 2, 13); /* tick 3, deadline 4 * 10^9 */
+    CHECK(cbs_charge(&setup.house, 0, 999999999996) == CBS_OK);
+    stands_at(&setup, 999999999999);
+    memset(&view, 0x5a, sizeof view);
+    CHECK(cbs_view(&setup.house, 0, &view) == CBS_OK);
+    CHECK(view.budget == 1 && view.deadline_low == 3875820019684212736 && view.deadline_high == 54);
+    CHECK(view.accepted == 3 && view.finished == 2 && !view.throttled && view.closed);
+    promises(&setup, 3875820019684212736, 54);
+    runs(&setup, CBS_RUN_DONE, 0, 2, 13);
+    tear_down(&setup);
 }
 
 static bool is_over(struct setup *setup) {
@@ -358,6 +540,15 @@ static void ending(void) {
     cbs_free(&setup.clients[0]);
     CHECK(is_over(&setup));
     tear_down(&setup);
+    set_up(&setup, soft_and_throttled, 2, 4, 4);
+    CHECK(!is_over(&setup)); /* nothing was sent, and both are open */
+    send_job(&setup.clients[0], 7, 3, 0);
+    cbs_free(&setup.clients[1]);
+    CHECK(!is_over(&setup));
+    cbs_free(&setup.clients[0]);
+    CHECK(!is_over(&setup)); /* the second unit of three */
+    CHECK(is_over(&setup) && is_over(&setup));
+    tear_down(&setup);
 }
 
 /* A throttled server with 1 tick in every 10, and a soft one with 1 in every 2. */
@@ -366,15 +557,15 @@ static void turning(void) {
     struct setup setup;
     uint64_t seq, now = 0;
     set_up(&setup, servers, 2, 4, 4);
-    turns(&setup, 0, 0, CBS_RUN_IDLE, 0);
+    turns(&setup.house, 0, 0, CBS_RUN_IDLE, 0, 0, 0);
     CHECK(cbs_send(&setup.clients[0], 5, 2, &seq) == CBS_OK);
     CHECK(cbs_send(&setup.clients[1], 6, 1, &seq) == CBS_OK);
     CHECK(cbs_end(&setup.clients[1]) == CBS_OK);
-    turns(&setup, 2, 0, CBS_RUN_DONE, 6); /* tick 1: deadline 2 before 10 */
-    turns(&setup, 1, 0, CBS_RUN_UNIT, 5); /* tick 2: the end is taken, and server 0 is throttled */
-    turns(&setup, 0, 8, CBS_RUN_IDLE, 0); /* tick 10 */
-    turns(&setup, 0, 0, CBS_RUN_DONE, 5); /* tick 11 */
-    turns(&setup, 0, 0, CBS_RUN_IDLE, 0);
+    turns(&setup.house, 2, 0, CBS_RUN_DONE, 1, 0, 6); /* tick 1: deadline 2 before 10 */
+    turns(&setup.house, 1, 0, CBS_RUN_UNIT, 0, 0, 5); /* tick 2: the end is taken, and server 0 is throttled */
+    turns(&setup.house, 0, 8, CBS_RUN_IDLE, 0, 0, 0); /* tick 10 */
+    turns(&setup.house, 0, 0, CBS_RUN_DONE, 0, 0, 5); /* tick 11 */
+    turns(&setup.house, 0, 0, CBS_RUN_IDLE, 0, 0, 0);
     CHECK(cbs_now(&setup.house, &now) == CBS_OK && now == 11);
     tear_down(&setup);
 }
@@ -400,26 +591,10 @@ static void clock_ends(void) {
     tear_down(&setup);
 }
 
-/* What the declarations of other languages count on. */
-static void layouts(void) {
-    CHECK(sizeof(struct cbs_handle) == 16 && sizeof(struct cbs_server) == 24 && sizeof(struct cbs_unit) == 24);
-    CHECK(sizeof(struct cbs_turned) == 48 && sizeof(struct cbs_shown) == 48);
-    CHECK(offsetof(struct cbs_turned, ran) == 16 && offsetof(struct cbs_turned, out_of_memory) == 40);
-    CHECK(offsetof(struct cbs_turned, over) == 41);
-    CHECK(offsetof(struct cbs_server, period) == 8 && offsetof(struct cbs_server, mode) == 16);
-    CHECK(offsetof(struct cbs_unit, server) == 4 && sizeof((struct cbs_unit *)0)->server == 2);
-    CHECK(offsetof(struct cbs_unit, seq) == 8 && offsetof(struct cbs_unit, token) == 16);
-    CHECK(offsetof(struct cbs_shown, throttled) == 40 && offsetof(struct cbs_shown, closed) == 41);
-}
-
 static void greatest_budgets_of_none(void) {
     struct cbs_server many[64];
     uint64_t budget = UNTOUCHED;
-    for (size_t i = 0; i < 64; i++) {
-        many[i].budget = 1;
-        many[i].period = 100;
-        many[i].mode = CBS_SOFT;
-    }
+    alike(many, 64, 100);
     CHECK(cbs_greatest_budget(many, 63, 100, &budget) == CBS_OK && budget == 37);
     CHECK(cbs_greatest_budget(many, 64, 100, &budget) == CBS_OK && budget == 0);
     CHECK(cbs_greatest_budget(many, 1, 1000000000, &budget) == CBS_OK && budget == 990000000);
@@ -443,34 +618,12 @@ static void greatest_budgets(void) {
     servers[1].budget = 3;
     CHECK(cbs_greatest_budget(servers, 2, 10, &budget) == CBS_ADMIT_OVER_BOUND && budget == UNTOUCHED);
     CHECK(cbs_admit(servers, 2) == CBS_ADMIT_OVER_BOUND && cbs_admit(servers, 1) == CBS_OK);
-}
-
-static void is_text(uint32_t status, const char *wanted) {
-    char text[128], cut[8];
-    size_t length = cbs_status_text(status, text, sizeof text);
-    CHECK(length == strlen(wanted) && memcmp(text, wanted, length) == 0);
-    memset(cut, '#', sizeof cut);
-    CHECK(cbs_status_text(status, cut, 2) == length && cut[0] == text[0] && cut[1] == text[1] && cut[2] == '#');
-    CHECK(cbs_status_text(status, cut + 2, 0) == length && cut[2] == '#');
-}
-
-static void texts(void) {
-    static const uint32_t statuses[] = {
-        CBS_OK, CBS_RATE_ZERO_BUDGET, CBS_RATE_PERIOD_TOO_LONG, CBS_RATE_BUDGET_OVER_PERIOD, CBS_RATE_BAD_BOUND,
-        CBS_ADMIT_TOO_MANY_SERVERS, CBS_ADMIT_PERIODS_TOO_FINE, CBS_ADMIT_OVER_BOUND, CBS_HOUSE_BAD_BACKLOG,
-        CBS_HOUSE_BAD_RING, CBS_HOUSE_OUT_OF_MEMORY, CBS_HOUSE_NO_SUCH_SERVER, CBS_HOUSE_CLOCK_END, CBS_HOUSE_STALLED, CBS_HOUSE_NOT_RUNNING,
-        CBS_TASK_EMPTY_JOB, CBS_TASK_TOO_LONG, CBS_SEND_ENDED, CBS_SEND_RING_FULL, CBS_CALL_NOT_OPEN,
-        CBS_CALL_OTHER_KIND, CBS_CALL_WRONG_COUNT, CBS_CALL_BAD_MODE, CBS_CALL_HOUSE_GONE};
-    char text[256];
-    for (size_t i = 0; i < sizeof statuses / sizeof statuses[0]; i++) {
-        size_t length = cbs_status_text(statuses[i], text, sizeof text);
-        CHECK(length > 0 && length < sizeof text && memchr(text, 0, length) == NULL);
-    }
-    CHECK(cbs_status_text(0x999, text, sizeof text) > 0);
-    is_text(CBS_RATE_ZERO_BUDGET, "the budget is 0: a reservation needs a budget of at least 1 tick");
-    is_text(CBS_HOUSE_BAD_RING, "the ring is not within 1 to 1024 messages");
-    is_text(CBS_SEND_RING_FULL, "the ring is full");
-    is_text(CBS_CALL_HOUSE_GONE, "the client's house was freed");
+    servers[0].mode = 2;
+    CHECK(cbs_greatest_budget(servers, 1, 10, &budget) == CBS_CALL_BAD_MODE && budget == UNTOUCHED);
+    CHECK(cbs_admit(servers, 1) == CBS_CALL_BAD_MODE);
+    CHECK(cbs_admit(soft_and_throttled, 2) == CBS_OK);
+    CHECK(cbs_greatest_budget(soft_and_throttled, 2, 10, &budget) == CBS_OK && budget == 5); /* 5 in 10 are left, */
+    CHECK(cbs_greatest_budget(soft_and_throttled, 2, 4, &budget) == CBS_OK && budget == 2);  /* and so 2 in 4 */
 }
 
 /* The header and the library are of one version. */
@@ -481,24 +634,29 @@ static void versions(void) {
 
 int main(void) {
     open_refuses_a_server();
+    open_refuses_the_second_server();
     open_refuses_a_plan();
     open_refuses_its_sizes();
     open_again();
     handles();
     sending();
+    taking();
     house_is_gone();
     client_is_gone();
     polling();
+    no_such_servers();
+    serving();
+    widest();
     running();
     throttling();
     charging();
+    charging_by_name();
+    halves();
     turning();
     ending();
     clock_ends();
     greatest_budgets();
     greatest_budgets_of_none();
-    layouts();
-    texts();
     versions();
     puts("every call and every status: as it should be");
     return 0;

@@ -17,6 +17,16 @@
 /* What stands in an out parameter before a call, to see that a refusal leaves it. */
 #define UNTOUCHED 0x5a5a5a5a5a5a5a5aU
 
+static inline bool untouched(const void *at, size_t n) {
+    const unsigned char *bytes = (const unsigned char *)at;
+    for (size_t i = 0; i < n; i++) {
+        if (bytes[i] != 0x5a) {
+            return false;
+        }
+    }
+    return true;
+}
+
 /* A house of up to four servers with its clients. */
 struct setup {
     struct cbs_handle house;
@@ -42,22 +52,31 @@ static inline void tear_down(struct setup *setup) {
     cbs_free(&setup->house);
 }
 
+/* Sends a job, which has to get this number. */
+static inline void send_job(struct cbs_handle *client, uint64_t token, uint32_t units, uint64_t number) {
+    uint64_t seq = UNTOUCHED;
+    CHECK(cbs_send(client, token, units, &seq) == CBS_OK);
+    CHECK(seq == number);
+}
+
 /* Sends a job, which has to get this number, and has the house take it. */
 static inline void submit(struct setup *setup, uint16_t server, uint64_t token, uint32_t units, uint64_t number) {
-    uint64_t seq = UNTOUCHED;
     uint32_t kind = UINT32_MAX;
-    CHECK(cbs_send(&setup->clients[server], token, units, &seq) == CBS_OK);
-    CHECK(seq == number);
+    send_job(&setup->clients[server], token, units, number);
     CHECK(cbs_poll(&setup->house, server, &kind) == CBS_OK);
     CHECK(kind == CBS_POLL_TOOK);
+}
+
+/* Checks what is told of a unit; if there is none, all that stands beside the kind is 0. */
+static inline void is_unit(const struct cbs_unit *unit, uint32_t kind, uint16_t server, uint64_t seq, uint64_t token) {
+    CHECK(unit->kind == kind && unit->server == server && unit->seq == seq && unit->token == token);
 }
 
 /* Runs, and checks the unit that is told. */
 static inline void runs(struct setup *setup, uint32_t kind, uint16_t server, uint64_t seq, uint64_t token) {
     struct cbs_unit unit;
     CHECK(cbs_run(&setup->house, &unit) == CBS_OK);
-    CHECK(unit.kind == kind);
-    CHECK(kind < CBS_RUN_UNIT || (unit.server == server && unit.seq == seq && unit.token == token));
+    is_unit(&unit, kind, server, seq, token);
 }
 
 /* Checks what a server shows of its budget. */

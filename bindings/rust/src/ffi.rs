@@ -297,7 +297,7 @@ mod tests {
         assert_eq!(unsafe { cbs_version() }, FITS * 100 + patch);
     }
 
-    // As in the header: bindings/c/tests/calls.c has the same numbers.
+    // As in the header: bindings/c/tests/layouts.c has the same numbers.
     #[test]
     fn structs_are_as_long_as_in_c() {
         assert_eq!(size_of::<Handle>(), 16);

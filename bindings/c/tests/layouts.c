@@ -1,0 +1,107 @@
+/* That the header and the library have the same layouts. */
+#include "check.h"
+#include <stddef.h>
+#include <string.h>
+
+/* Where a field stands, and how long it is. */
+#define FIELD(type, field, at, size) CHECK(offsetof(struct type, field) == (at) && sizeof(((struct type *)0)->field) == (size))
+
+/* What the calls write to or read, between bytes that they leave alone. The first byte shows how each type is aligned. */
+struct guarded_house { char before; struct cbs_handle it; char after[8]; };
+struct guarded_clients { char before; struct cbs_handle it[2]; char after[8]; };
+struct guarded_server { char before; struct cbs_server it; char after[8]; };
+struct guarded_unit { char before; struct cbs_unit it; char after[8]; };
+struct guarded_turn { char before; struct cbs_turned it; char after[8]; };
+struct guarded_view { char before; struct cbs_shown it; char after[8]; };
+
+/* What the declarations of other languages count on. */
+static void layouts(void) {
+    CHECK(sizeof(struct cbs_handle) == 16 && sizeof(struct cbs_server) == 24 && sizeof(struct cbs_unit) == 24);
+    CHECK(sizeof(struct cbs_turned) == 48 && sizeof(struct cbs_shown) == 48);
+    CHECK(offsetof(struct guarded_house, it) == 8 && offsetof(struct guarded_server, it) == 8 && offsetof(struct guarded_unit, it) == 8);
+    CHECK(offsetof(struct guarded_turn, it) == 8 && offsetof(struct guarded_view, it) == 8);
+    FIELD(cbs_server, budget, 0, 8);
+    FIELD(cbs_server, period, 8, 8);
+    FIELD(cbs_server, mode, 16, 4);
+    FIELD(cbs_unit, kind, 0, 4);
+    FIELD(cbs_unit, server, 4, 2);
+    FIELD(cbs_unit, seq, 8, 8);
+    FIELD(cbs_unit, token, 16, 8);
+    FIELD(cbs_turned, took, 0, 8);
+    FIELD(cbs_turned, advanced, 8, 8);
+    FIELD(cbs_turned, ran, 16, 24);
+    FIELD(cbs_turned, out_of_memory, 40, 1);
+    FIELD(cbs_turned, over, 41, 1);
+    FIELD(cbs_shown, budget, 0, 8);
+    FIELD(cbs_shown, deadline_low, 8, 8);
+    FIELD(cbs_shown, deadline_high, 16, 8);
+    FIELD(cbs_shown, accepted, 24, 8);
+    FIELD(cbs_shown, finished, 32, 8);
+    FIELD(cbs_shown, throttled, 40, 1);
+    FIELD(cbs_shown, closed, 41, 1);
+}
+
+/* The library has these layouts, too: it writes each field, and nothing beside the struct, and reads nothing between fields. */
+static void fields(void) {
+    struct guarded_house house;
+    struct guarded_clients clients;
+    struct guarded_unit unit;
+    struct guarded_turn turn;
+    struct guarded_view view;
+    struct cbs_server servers[2];
+    memset(&house, 0x5a, sizeof house);
+    memset(&clients, 0x5a, sizeof clients);
+    memset(&unit, 0x5a, sizeof unit);
+    memset(&turn, 0x5a, sizeof turn);
+    memset(&view, 0x5a, sizeof view);
+    memset(servers, 0x5a, sizeof servers);
+    house.it = clients.it[0] = clients.it[1] = SHUT;
+    servers[0].budget = 3;
+    servers[0].period = 10;
+    servers[0].mode = CBS_THROTTLED;
+    servers[1].budget = 7;
+    servers[1].period = 10;
+    servers[1].mode = CBS_SOFT;
+    CHECK(cbs_open(servers, 2, 4, 4, &house.it, clients.it, 2) == CBS_OK);
+    send_job(&clients.it[1], 8, 1, 0);
+    send_job(&clients.it[1], 9, 1, 1);
+    CHECK(cbs_turn(&house.it, &turn.it) == CBS_OK);
+    CHECK(cbs_turn(&house.it, &turn.it) == CBS_OK);
+    CHECK(turn.it.took == 1 && turn.it.advanced == 0 && !turn.it.out_of_memory && !turn.it.over);
+    is_unit(&turn.it.ran, CBS_RUN_DONE, 1, 1, 9);
+    CHECK(cbs_view(&house.it, 1, &view.it) == CBS_OK);
+    CHECK(view.it.budget == 5 && view.it.deadline_low == 10 && view.it.deadline_high == 0);
+    CHECK(view.it.accepted == 2 && view.it.finished == 2 && !view.it.throttled && !view.it.closed);
+    send_job(&clients.it[0], 11, 4, 0);
+    for (int i = 0; i < 3; i++) {
+        CHECK(cbs_turn(&house.it, &turn.it) == CBS_OK);
+    }
+    is_unit(&turn.it.ran, CBS_RUN_UNIT, 0, 0, 11);
+    CHECK(cbs_view(&house.it, 0, &view.it) == CBS_OK);
+    CHECK(view.it.budget == 0 && view.it.deadline_low == 12 && view.it.deadline_high == 0);
+    CHECK(view.it.accepted == 1 && view.it.finished == 0 && view.it.throttled && !view.it.closed);
+    CHECK(cbs_end(&clients.it[0]) == CBS_OK && cbs_end(&clients.it[1]) == CBS_OK);
+    CHECK(cbs_turn(&house.it, &turn.it) == CBS_OK); /* tick 5, and server 0 waits until 12 */
+    CHECK(turn.it.took == 2 && turn.it.advanced == 7 && !turn.it.out_of_memory && !turn.it.over);
+    is_unit(&turn.it.ran, CBS_RUN_IDLE, 0, 0, 0);
+    CHECK(cbs_turn(&house.it, &turn.it) == CBS_OK);
+    CHECK(turn.it.took == 0 && turn.it.advanced == 0 && !turn.it.out_of_memory && turn.it.over);
+    is_unit(&turn.it.ran, CBS_RUN_DONE, 0, 0, 11);
+    CHECK(cbs_run(&house.it, &unit.it) == CBS_OK);
+    is_unit(&unit.it, CBS_RUN_IDLE, 0, 0, 0);
+    CHECK(untouched(&house.before, 1) && untouched(house.after, 8) && untouched(&clients.before, 1) && untouched(clients.after, 8));
+    CHECK(untouched(&unit.before, 1) && untouched(unit.after, 8));
+    CHECK(untouched(&turn.before, 1) && untouched(turn.after, 8));
+    CHECK(untouched(&view.before, 1) && untouched(view.after, 8));
+    cbs_free(&clients.it[0]);
+    cbs_free(&clients.it[1]);
+    cbs_free(&house.it);
+    CHECK(untouched(house.after, 8) && untouched(&clients.before, 1) && untouched(clients.after, 8));
+}
+
+int main(void) {
+    layouts();
+    fields();
+    puts("the layouts of all structs: as they should be");
+    return 0;
+}
