@@ -9,7 +9,7 @@ use cbs_house::Poll;
 
 /// The result of a run: `struct cbs_unit`.
 #[repr(C)]
-#[derive(Clone, Copy, Debug, PartialEq, Eq)]
+#[derive(Clone, Copy)]
 pub struct Event {
     /// 0 idle, 1 the clock's end, 2 a unit, 3 the last unit of its job.
     pub kind: u32,
@@ -23,7 +23,7 @@ pub struct Event {
 
 /// The result of a turn: `struct cbs_turned`.
 #[repr(C)]
-#[derive(Clone, Copy, Debug, PartialEq, Eq)]
+#[derive(Clone, Copy)]
 pub struct TurnEvent {
     /// The number of messages that the turn took.
     pub took: u64,
@@ -39,7 +39,7 @@ pub struct TurnEvent {
 
 /// The view of a server: `struct cbs_shown`.
 #[repr(C)]
-#[derive(Clone, Copy, Debug, PartialEq, Eq)]
+#[derive(Clone, Copy)]
 pub struct View {
     /// The ticks that are left of the budget.
     pub budget: u64,

@@ -12,6 +12,3 @@ mod version;
 
 pub use events::{Event, TurnEvent, View};
 pub use version::{MAJOR, MINOR, PATCH};
-
-#[cfg(test)]
-mod tests;
