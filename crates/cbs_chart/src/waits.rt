@@ -7,7 +7,7 @@ use cbs_steps::ServerView;
 use cbs_stretches::{Kind, Stretch};
 
 /// The view of a server after its last step.
-#[derive(Clone, Copy, Debug, PartialEq, Eq)]
+#[derive(Clone, Copy)]
 pub(crate) struct Last {
     /// The clock after the step.
     pub clock: u64,

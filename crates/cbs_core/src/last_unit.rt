@@ -6,7 +6,7 @@ ghost use Rattle.cbs_core.specs.Held.{is_some_of, runner_at, charged_at};
 /// The server of the last unit, and what was charged for the unit.
 ///
 /// A run writes only the server. The server runs as long as the clock differs from the clock after the last advance.
-#[derive(Clone, Copy, Debug)]
+#[derive(Clone, Copy)]
 pub struct LastUnit {
     /// The server of the last unit, if there was one.
     pub server: u16,

@@ -8,7 +8,7 @@ use cbs_rules::LIMIT;
 use cbs_tables::{FileKind, within};
 
 /// The format of a task file.
-#[derive(Clone, Copy, Debug, PartialEq, Eq)]
+#[derive(Clone, Copy)]
 pub enum Format {
     /// Format 1: all servers follow one mode, which stands in the top table.
     One,

@@ -9,7 +9,7 @@ use cbs_rate::MAX_SERVERS;
 use toml::{Table, Value};
 
 /// The terms by which the steps of a file are read: its format, and how many servers it has.
-#[derive(Clone, Copy, Debug, PartialEq, Eq)]
+#[derive(Clone, Copy)]
 pub struct Terms {
     pub format: Format,
     pub servers: u64,

@@ -4,7 +4,7 @@ ghost use Rattle.std.specs.Prelude.{◌≡◌, []};
 ghost use Rattle.cbs_report.specs.Tallies.{early_of, early_with};
 
 /// Sums over finished jobs: how many ticks earlier than promised they were finished.
-#[derive(Clone, Copy, Debug, PartialEq, Eq)]
+#[derive(Clone, Copy)]
 pub struct Early {
     /// How many jobs were finished that had been promised a tick.
     pub count: u64,

@@ -7,7 +7,7 @@ ghost use Rattle.cbs_report.specs.Tallies.{held_of, held_with, wait_of, waited_s
 use cbs_steps::ServerView;
 
 /// A throttled server with a job.
-#[derive(Clone, Copy, Debug, PartialEq, Eq)]
+#[derive(Clone, Copy)]
 pub struct Wait {
     /// The clock after the server's last step.
     pub since: u64,
@@ -16,7 +16,7 @@ pub struct Wait {
 }
 
 /// The ticks in which a server was throttled and had a job.
-#[derive(Clone, Copy, Debug, PartialEq, Eq)]
+#[derive(Clone, Copy)]
 pub struct Held {
     /// The ticks up to the server's last step.
     pub ticks: u64,

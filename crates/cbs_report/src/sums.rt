@@ -8,7 +8,7 @@ use cbs_steps::{Ran, ServerView};
 use cbs_views::{Event, ticks_of_run};
 
 /// Sums over the steps of one server.
-#[derive(Clone, Copy, Debug, PartialEq, Eq)]
+#[derive(Clone, Copy)]
 pub struct Sums {
     /// The jobs that were refused.
     pub refused: u64,

@@ -4,7 +4,7 @@ ghost use Rattle.std.specs.Prelude.{◌≡◌};
 ghost use Rattle.cbs_simulate.specs.Moves.{owing_of};
 
 /// A charge of a server that must come before any other move.
-#[derive(Clone, Copy, Debug, PartialEq, Eq)]
+#[derive(Clone, Copy)]
 pub(crate) struct Charge {
     /// The server that ran the last unit.
     pub server: u16,

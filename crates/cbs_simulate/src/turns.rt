@@ -8,7 +8,7 @@ use std::alloc::{AllocError, Allocator, Global};
 use std::marker::Model;
 
 /// When a source releases next: the earlier turn comes first, and of two at one tick that of the lower place.
-#[derive(Clone, Copy, Debug)]
+#[derive(Clone, Copy)]
 pub struct Turn {
     /// The tick, or `u64::MAX` if the source releases nothing more.
     pub tick: u64,
