@@ -96,12 +96,14 @@ fn plan_of(bound: Bound, servers: &[Value]) -> Option<Plan> {
     Some(plan)
 }
 
-/// Returns the server with this number, or `None` unless the plan of the servers before it refuses it.
-pub fn refused_at(document: Document<'_>, number: u64) -> Option<Refused> {
-    let number = usize::try_from(number).ok()?;
-    let reservation = reservation_of(document.servers.get(number)?)?;
-    let bound = bound_at(document.top).ok()?;
-    let mut plan = plan_of(bound, document.servers.get(..number)?)?;
+/// Returns the server with this number and reservation, or `None` unless the plan of the servers before it refuses it.
+fn refused_after(
+    before: &[Value],
+    bound: Bound,
+    number: usize,
+    reservation: Reservation,
+) -> Option<Refused> {
+    let mut plan = plan_of(bound, before)?;
     let why = plan.admit(reservation).err()?;
     Some(Refused {
         number,
@@ -109,6 +111,14 @@ pub fn refused_at(document: Document<'_>, number: u64) -> Option<Refused> {
         plan,
         reservation,
     })
+}
+
+/// Returns the server with this number, or `None` unless the plan of the servers before it refuses it.
+pub fn refused_at(document: Document<'_>, number: u64) -> Option<Refused> {
+    let number = usize::try_from(number).ok()?;
+    let reservation = reservation_of(document.servers.get(number)?)?;
+    let bound = bound_at(document.top).ok()?;
+    refused_after(document.servers.get(..number)?, bound, number, reservation)
 }
 
 /// Returns the reservations of all servers, or `None` if one has none. The only error is out of memory.

@@ -120,35 +120,52 @@ fn entry_at<'a>(document: Document<'a>, key: &str, number: u64) -> Option<&'a Va
     entries(document.top, key).get(usize::try_from(number).ok()?)
 }
 
-/// Returns the table at a place of a document, or `None` if there is no such entry.
-pub fn spot_at(document: Document<'_>, place: Place) -> Option<Spot<'_>> {
-    let kind = document.kind;
-    let (entry, subject, label) = match place {
-        Place::Top => return Some(top_spot(document)),
-        Place::Server(number) => {
-            let entry = entry_at(document, "server", number)?;
-            (entry, server_subject(kind), server_label(kind, entry))
-        }
-        Place::Source(number) => {
-            let entry = entry_at(document, "source", number)?;
-            (
-                entry,
-                Subject::Source,
-                source_label(document.servers, entry),
-            )
-        }
-        Place::Step(number) => {
-            let entry = entry_at(document, "step", number)?;
-            let subject = step_subject(kind, entry);
-            (entry, subject, step_label(subject))
-        }
-    };
+/// Returns the server with this number, from 0, or `None` if there is none.
+fn server_spot(document: Document<'_>, number: u64) -> Option<Spot<'_>> {
+    let entry = entry_at(document, "server", number)?;
     Some(Spot {
         document,
-        place,
+        place: Place::Server(number),
+        subject: server_subject(document.kind),
+        table: entry.as_table(),
+        entry: Some(entry),
+        label: server_label(document.kind, entry),
+    })
+}
+
+/// Returns the source with this number, from 0, or `None` if there is none.
+fn source_spot(document: Document<'_>, number: u64) -> Option<Spot<'_>> {
+    let entry = entry_at(document, "source", number)?;
+    Some(Spot {
+        document,
+        place: Place::Source(number),
+        subject: Subject::Source,
+        table: entry.as_table(),
+        entry: Some(entry),
+        label: source_label(document.servers, entry),
+    })
+}
+
+/// Returns the step with this number, from 0, or `None` if there is none.
+fn step_spot(document: Document<'_>, number: u64) -> Option<Spot<'_>> {
+    let entry = entry_at(document, "step", number)?;
+    let subject = step_subject(document.kind, entry);
+    Some(Spot {
+        document,
+        place: Place::Step(number),
         subject,
         table: entry.as_table(),
         entry: Some(entry),
-        label,
+        label: step_label(subject),
     })
+}
+
+/// Returns the table at a place of a document, or `None` if there is no such entry.
+pub fn spot_at(document: Document<'_>, place: Place) -> Option<Spot<'_>> {
+    match place {
+        Place::Top => Some(top_spot(document)),
+        Place::Server(number) => server_spot(document, number),
+        Place::Source(number) => source_spot(document, number),
+        Place::Step(number) => step_spot(document, number),
+    }
 }

@@ -84,26 +84,57 @@ fn hold(holds: bool) -> Result<(), FileKind> {
     }
 }
 
+/// Tests that a value is a number from `least` to `greatest`.
+fn test_number(least: u64, greatest: u64, value: &Value) -> Result<(), FileKind> {
+    number(least, greatest, value)?;
+    Ok(())
+}
+
+/// Tests that a value is the number of a server.
+fn test_server(servers: &[Value], value: &Value) -> Result<(), FileKind> {
+    below(servers.len() as u64, integer(value)?)?;
+    Ok(())
+}
+
+/// Tests that a value is one of these words.
+fn test_word(words: &[&str], value: &Value) -> Result<(), FileKind> {
+    hold(words.contains(&text(value)?))
+}
+
+/// Tests that a value is a name.
+fn test_name(value: &Value) -> Result<(), FileKind> {
+    hold(is_name(text(value)?))
+}
+
+/// Tests that a value is the name of a server.
+fn test_server_name(servers: &[Value], value: &Value) -> Result<(), FileKind> {
+    hold(server_named(servers, text(value)?).is_some())
+}
+
+/// Tests that a value is a bound.
+fn test_bound(value: &Value) -> Result<(), FileKind> {
+    bound_of(pair(items(value)?)?)?;
+    Ok(())
+}
+
+/// Tests that a value is an array of at most so many entries.
+fn test_count(most: u64, value: &Value) -> Result<(), FileKind> {
+    hold(items(value)?.len() as u64 <= most)
+}
+
 /// Tests that a value of a table is what its key needs.
 pub(crate) fn test(want: Want, value: &Value, spot: &Spot<'_>) -> Result<(), FileKind> {
     let servers = spot.document.servers;
     match want {
-        Want::Number(least, greatest) => {
-            number(least, greatest, value)?;
-        }
-        Want::Budget => test_budget(value, spot.table)?,
-        Want::Server => {
-            below(servers.len() as u64, integer(value)?)?;
-        }
-        Want::Range(least, greatest) => test_range(least, greatest, value)?,
-        Want::Word(words) => hold(words.list().contains(&text(value)?))?,
-        Want::Name => hold(is_name(text(value)?))?,
-        Want::ServerName => hold(server_named(servers, text(value)?).is_some())?,
-        Want::Bound => {
-            bound_of(pair(items(value)?)?)?;
-        }
-        Want::Tables(most) => hold(items(value)?.len() as u64 <= most)?,
-        Want::Units => test_units(value)?,
+        Want::Number(least, greatest) => test_number(least, greatest, value),
+        Want::Budget => test_budget(value, spot.table),
+        Want::Server => test_server(servers, value),
+        Want::Range(least, greatest) => test_range(least, greatest, value),
+        Want::Word(words) => test_word(words.list(), value),
+        Want::Name => test_name(value),
+        Want::ServerName => test_server_name(servers, value),
+        Want::Bound => test_bound(value),
+        Want::Tables(most) => test_count(most, value),
+        Want::Units => test_units(value),
     }
-    Ok(())
 }
