@@ -9,7 +9,7 @@ use rand_pcg::Pcg64;
 use std::marker::Model;
 
 /// The numbers from a least to a greatest one, with both.
-#[derive(Clone, Copy, Debug, PartialEq, Eq)]
+#[derive(Clone, Copy, PartialEq, Eq)]
 pub struct Range {
     least: u64,
     greatest: u64,

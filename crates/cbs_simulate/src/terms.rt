@@ -3,7 +3,7 @@
 use crate::range::Range;
 
 /// The terms of a source of jobs.
-#[derive(Clone, Copy, Debug, PartialEq, Eq)]
+#[derive(Clone, Copy, PartialEq, Eq)]
 pub struct SourceTerms {
     /// The server that is to run its jobs.
     pub server: u16,

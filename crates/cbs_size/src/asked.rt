@@ -11,7 +11,7 @@ use cbs_guarantee::Source;
 use cbs_rate::MAX_COMMON_MULTIPLE;
 
 /// The greatest demand of sources, all together, as a share of the time.
-#[derive(Clone, Copy, Debug, PartialEq, Eq)]
+#[derive(Clone, Copy, PartialEq, Eq)]
 pub struct Asked {
     /// The ticks in every `of` ticks.
     pub ticks: u128,

@@ -13,7 +13,7 @@ use cbs_simulate::SourceTerms;
 use std::alloc::{AllocError, Global};
 
 /// The figures of the sources of a server.
-#[derive(Clone, Copy, Debug, PartialEq, Eq)]
+#[derive(Clone, Copy, PartialEq, Eq)]
 pub struct ServerLoad {
     /// The greatest demand of the sources, all together, if it can be summed exactly.
     pub asked: Option<Asked>,

@@ -7,7 +7,7 @@ use crate::stretch::{Kind, Stretch};
 
 /// The ticks of a cell that stretches take, counted by what goes on in them. A count of more than 2^64 - 1 is given as
 /// 2^64 - 1.
-#[derive(Clone, Copy, Debug, PartialEq, Eq)]
+#[derive(Clone, Copy)]
 pub struct Counts {
     /// The server runs.
     pub runs: u64,

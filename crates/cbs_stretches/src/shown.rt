@@ -7,7 +7,7 @@ use std::fmt;
 use thiserror::Error;
 
 /// The error of a run that has none of the ticks to show, since it ends at or before the first of them.
-#[derive(Clone, Copy, Debug, PartialEq, Eq, Error)]
+#[derive(Clone, Copy, Debug, Error)]
 #[error("the first tick to show is {from}, and the run ends at tick {end}")]
 pub struct NothingShown {
     /// The first tick to show.

@@ -16,7 +16,7 @@ pub const TABLE: u64 = 1280;
 
 /// How many bytes of memory may still be taken for values. The texts of values are not counted, since they are no
 /// longer than the text that is read.
-#[derive(Clone, Copy, Debug)]
+#[derive(Clone, Copy)]
 pub struct Room {
     pub left: u64,
 }

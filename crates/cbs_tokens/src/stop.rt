@@ -1,7 +1,7 @@
 //! The reasons why reading stops.
 
 /// The reason why a text was not read to its end.
-#[derive(Clone, Copy, Debug, PartialEq, Eq)]
+#[derive(Clone, Copy)]
 pub enum Stop {
     /// The text is no TOML.
     NotToml,

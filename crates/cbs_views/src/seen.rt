@@ -126,7 +126,7 @@ impl Event {
 }
 
 /// A step as a view sees it.
-#[derive(Clone, Copy, Debug, PartialEq, Eq)]
+#[derive(Clone, Copy)]
 pub struct Seen {
     /// The clock after the step, in ticks.
     pub clock: u64,

@@ -52,7 +52,7 @@ pub enum Action {
 }
 
 /// The request of a command line: an action, and a file.
-#[derive(Debug, Drop)]
+#[derive(Drop)]
 pub struct Asked {
     /// The action.
     pub action: Action,

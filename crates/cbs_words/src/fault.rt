@@ -7,7 +7,7 @@ ghost use Rattle.cbs_words.specs.declared.fault.WordsFault.TheVariants.{OutOfMem
 use std::alloc::AllocError;
 
 /// The reason why the words make no request, with the text to print.
-#[derive(Debug, Drop)]
+#[derive(Drop)]
 pub enum WordsFault {
     /// The words are wrong. The text says what is wrong, and which words are right.
     Usage(String),
