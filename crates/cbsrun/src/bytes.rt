@@ -4,7 +4,6 @@ ghost use Rattle.std.specs.Prelude.{◌-◌, ◌<◌, ◌^◌};
 
 use cbs_run::{ByteOutput, FromRead, ReadError, read_all, write_pieces};
 use std::alloc::{AllocError, Global};
-use std::fmt::Write;
 use std::fs::File;
 use std::{fs, io};
 
@@ -53,19 +52,15 @@ fn reason(
     name: &str,
     unread: &Unread,
 ) -> Result<String, AllocError> {
-    let mut text = String::new(alloc);
     match unread {
-        Unread::Unopened(error) => write!(text, "cannot open {name}: {error}")?,
+        Unread::Unopened(error) => format!(in alloc; "cannot open {name}: {error}"),
         Unread::Opened(fault) if name == STANDARD_INPUT => {
-            write!(text, "cannot read standard input: {fault}")?;
+            format!(in alloc; "cannot read standard input: {fault}")
         }
         Unread::Opened(ReadError::ReadFault) if fs::metadata(rt, name).is_ok_and(|m| m.is_dir()) =>
-            {
-                write!(text, "cannot read {name}: it is a folder")?;
-            }
-        Unread::Opened(fault) => write!(text, "cannot read {name}: {fault}")?,
+            format!(in alloc; "cannot read {name}: it is a folder"),
+        Unread::Opened(fault) => format!(in alloc; "cannot read {name}: {fault}"),
     }
-    Ok(text)
 }
 
 /// Writes an empty line, and why a file could not be read. If out of memory, writes nothing.

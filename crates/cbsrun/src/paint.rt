@@ -30,7 +30,7 @@ impl Style {
 const END: &str = "\x1b[0m";
 
 /// The first words of the lines that are painted, with their styles.
-const WORDS: [(&str, Style); 6] = [
+static WORDS: [(&str, Style); 6] = [
     ("not in time:", Style::Alarm),
     ("in time:", Style::Well),
     ("fits:", Style::Well),
@@ -40,7 +40,7 @@ const WORDS: [(&str, Style); 6] = [
 ];
 
 /// The first words of the headings of tables.
-const HEADINGS: [&str; 7] = [
+static HEADINGS: [&str; 7] = [
     "JOBS",
     "TICKS",
     "RESPONSE",
@@ -81,18 +81,30 @@ fn append_row(text: &mut String, line: &str) -> Result<(), AllocError> {
     Ok(())
 }
 
-/// Appends a line, with its first words, a whole heading, or its marked entries painted.
-fn append_line(text: &mut String, line: &str) -> Result<(), AllocError> {
-    for (word, style) in WORDS {
-        if let Some(rest) = line.strip_prefix(word) {
-            append(text, style, word)?;
-            return text.push_str(rest);
+/// Returns the first words of a line that are painted, with their style, and the rest of the line. Returns `None` if the
+/// line begins with no such words.
+fn first_words(line: &str) -> Option<(&'static str, Style, &str)> {
+    for &(words, style) in &WORDS {
+        if let Some(rest) = line.strip_prefix(words) {
+            return Some((words, style, rest));
         }
     }
-    for word in HEADINGS {
-        if line.starts_with(word) {
-            return append(text, Style::Heading, line);
-        }
+    None
+}
+
+/// Returns whether a line is the heading of a table.
+fn is_heading(line: &str) -> bool {
+    HEADINGS.iter().any(|words| line.starts_with(words))
+}
+
+/// Appends a line, with its first words, a whole heading, or its marked entries painted.
+fn append_line(text: &mut String, line: &str) -> Result<(), AllocError> {
+    if let Some((words, style, rest)) = first_words(line) {
+        append(text, style, words)?;
+        return text.push_str(rest);
+    }
+    if is_heading(line) {
+        return append(text, Style::Heading, line);
     }
     append_row(text, line)
 }
