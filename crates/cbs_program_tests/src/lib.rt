@@ -1,5 +1,6 @@
-//! Tests of what the program does: how loads and task files are read, what loads guarantee, how both are run, what is
-//! printed and drawn of them, and the text about a file with a fault. Also of the words of a command line.
+//! Tests of what the program is made of, as far as it cannot show it itself: what is read of loads and task files, what
+//! loads guarantee, how both are run, what is printed and drawn of them, and the words of a command line. What the
+//! program writes of a file is in the cases of `tests/`, at the top of the repository.
 #![tactic(auto)]
 
 #[cfg(test)]

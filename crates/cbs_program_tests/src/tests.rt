@@ -1,7 +1,5 @@
 //! Loads and task files, their reports, pictures, traces and explanations, each called as its users call it.
 
-mod broken_files;
-mod broken_values;
 mod by_hand;
 mod charts;
 mod checks;
@@ -11,7 +9,6 @@ mod errors;
 mod fakes;
 mod faults;
 mod figures;
-mod file_traces;
 mod files;
 mod guarantees;
 mod json_texts;

@@ -151,16 +151,3 @@ pub fn replays<R: Abort + Threads + Clock + Sync>(
 ) {
     ran(rt, alloc, Verb::Replay, file).leaves(rt, label, status, out, err);
 }
-
-/// Serves a file with ample memory for its output, and tests the outcome.
-pub fn serves<R: Abort + Threads + Clock + Sync>(
-    rt: &R,
-    alloc: Global,
-    label: &str,
-    file: &[u8],
-    status: u8,
-    out: &str,
-    err: &str,
-) {
-    ran(rt, alloc, Verb::Serve, file).leaves(rt, label, status, out, err);
-}

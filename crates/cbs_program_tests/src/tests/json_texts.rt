@@ -1,6 +1,7 @@
-//! Whole reports as JSON.
+//! Reports as JSON. Those of the robot and of no server are in `examples/`, and in `tests/reports.txt` at the top of
+//! the repository.
 
-use crate::tests::reports::{NOTHING, ROBOT, Row, Run, report_of};
+use crate::tests::reports::{NOTHING, Row, Run, report_of};
 use crate::tests::same;
 use cbs_json::report_json;
 use cbs_report::{Figures, Ranks};
@@ -64,7 +65,19 @@ const LEG: Row = Row {
     },
 };
 
-/// The expected text of their report.
+/// A run of both.
+static CHARGED_RUN: Run = Run {
+    file: "a\tb.toml",
+    seed: None,
+    clock: 100,
+    idle: 69,
+    backlog: 12,
+    bound: (9, 10),
+    reserved: (7, 30),
+    servers: &[ARM, LEG],
+};
+
+/// The expected text of its report.
 const CHARGED: [&str; 12] = [
     r#"{"backlog":12,"bound":[9,10],"clock":100,"file":"a\tb.toml","in_time":false,"#,
     r#""jobs":{"finished":10,"late_finished":2,"late_unfinished":1,"refused":3,"released":18,"unfinished":5},"#,
@@ -80,77 +93,13 @@ const CHARGED: [&str; 12] = [
     r#""ticks":{"charged":11,"idle":69,"run":20},"unit":"tick"}"#,
 ];
 
-/// The expected text of the robot's report. It comes from an independent program with another scheduler.
-const ROBOT_LINE: [&str; 20] = [
-    r#"{"backlog":4,"bound":[1,1],"clock":200,"file":"ROBOT.toml","in_time":false,"jobs":{"finished":81,"late_finished":9,"#,
-    r#""late_unfinished":1,"refused":1,"released":84,"unfinished":2},"report":1,"reserved":[4,5],"seed":7,"#,
-    r#""servers":[{"budget":1,"charged_ticks":{"all":0,"greatest":0},"early_ticks":{"least":4,"mean":[160,40]},"#,
-    r#""exhaustions":40,"greatest_backlog":1,"jobs":{"finished":40,"late_finished":0,"late_unfinished":0,"refused":0,"#,
-    r#""released":40,"unfinished":0},"mode":"soft","name":"control","period":5,"response_ticks":{"greatest":1,"least":1,"#,
-    r#""mean":[40,40],"median":1,"p95":1,"p99":1},"throttled_with_job_ticks":0,"units":{"asked":40,"run":40},"#,
-    r#""within_ticks":{"greatest":5,"least":5}},{"budget":6,"charged_ticks":{"all":0,"greatest":0},"early_ticks":{"least":10,"#,
-    r#""mean":[100,10]},"exhaustions":10,"greatest_backlog":1,"jobs":{"finished":10,"late_finished":0,"late_unfinished":0,"#,
-    r#""refused":0,"released":10,"unfinished":0},"mode":"soft","name":"vision","period":20,"response_ticks":{"greatest":10,"#,
-    r#""least":10,"mean":[100,10],"median":10,"p95":10,"p99":10},"throttled_with_job_ticks":0,"units":{"asked":60,"run":60},"#,
-    r#""within_ticks":{"greatest":20,"least":20}},{"budget":2,"charged_ticks":{"all":0,"greatest":0},"#,
-    r#""early_ticks":{"least":9,"mean":[90,10]},"exhaustions":10,"greatest_backlog":1,"jobs":{"finished":10,"#,
-    r#""late_finished":0,"late_unfinished":0,"refused":0,"released":10,"unfinished":0},"mode":"throttled","name":"lidar","#,
-    r#""period":10,"response_ticks":{"greatest":11,"least":11,"mean":[110,10],"median":11,"p95":11,"p99":11},"#,
-    r#""throttled_with_job_ticks":80,"units":{"asked":30,"run":30},"within_ticks":{"greatest":20,"least":20}},{"budget":1,"#,
-    r#""charged_ticks":{"all":0,"greatest":0},"early_ticks":{"least":34,"mean":[4371,21]},"exhaustions":63,"#,
-    r#""greatest_backlog":4,"jobs":{"finished":21,"late_finished":9,"late_unfinished":1,"refused":1,"released":24,"#,
-    r#""unfinished":2},"mode":"soft","name":"logging","period":10,"response_ticks":{"greatest":35,"least":3,"mean":[363,21],"#,
-    r#""median":18,"p95":30,"p99":35},"throttled_with_job_ticks":0,"units":{"asked":76,"run":63},"#,
-    r#""within_ticks":{"greatest":20,"least":20}}],"ticks":{"charged":0,"idle":7,"run":193},"unit":"tick"}"#,
-];
-
-/// The expected text of the report of no server.
-const NO_SERVER: [&str; 3] = [
-    r#"{"backlog":1,"bound":[1,2],"clock":100,"file":"EMPTY.toml","in_time":true,"#,
-    r#""jobs":{"finished":0,"late_finished":0,"late_unfinished":0,"refused":0,"released":0,"unfinished":0},"#,
-    r#""report":1,"reserved":[0,1],"seed":null,"servers":[],"ticks":{"charged":0,"idle":100,"run":0},"unit":"tick"}"#,
-];
-
-/// Reports, and the parts of their lines.
-static REPORTS: [(Run, &[&str]); 3] = [
-    (
-        Run {
-            file: "a\tb.toml",
-            seed: None,
-            clock: 100,
-            idle: 69,
-            backlog: 12,
-            bound: (9, 10),
-            reserved: (7, 30),
-            servers: &[ARM, LEG],
-        },
-        &CHARGED,
-    ),
-    (ROBOT, &ROBOT_LINE),
-    (
-        Run {
-            file: "EMPTY.toml",
-            seed: None,
-            clock: 100,
-            idle: 100,
-            backlog: 1,
-            bound: (1, 2),
-            reserved: (0, 1),
-            servers: &[],
-        },
-        &NO_SERVER,
-    ),
-];
-
 #[test]
 fn a_report_is_this_line(rt: HostRuntime) {
     let alloc = rt.alloc();
-    for (run, parts) in &REPORTS {
-        let report = report_of(&rt, alloc, run);
-        let text = report_json(alloc, &report).ok().expect(&rt, "memory");
-        let wanted = line_of(alloc, *parts).ok().expect(&rt, "memory");
-        same(&rt, run.file, text.as_str(), wanted.as_str());
-    }
+    let report = report_of(&rt, alloc, &CHARGED_RUN);
+    let text = report_json(alloc, &report).ok().expect(&rt, "memory");
+    let wanted = line_of(alloc, &CHARGED).ok().expect(&rt, "memory");
+    same(&rt, "JSON", text.as_str(), wanted.as_str());
 }
 
 /// The figures of a server whose sums are too great.

@@ -1,7 +1,8 @@
-//! Load files: the content of a good one, and the fault of each faulty one.
+//! Load files: the content of a good one, and what a load comes to. Faults are in `tests/load_faults.txt`, at the top
+//! of the repository.
 
 use super::same;
-use crate::tests::sample_loads::{PIPELINE, ROBOT};
+use crate::tests::sample_loads::ROBOT;
 use cbs_core::Core;
 use cbs_load::{Load, read_load};
 use cbs_rules::Mode;
@@ -87,146 +88,6 @@ fn a_seed_left_out_is_0(rt: HostRuntime) {
     assert!(rt; load.seed() == 0);
 }
 
-/// The texts of a file, and its fault.
-static FAULTS: [(&[&str], &str); 22] = [
-    (&["", "", "", ""], "a key of this table is missing, at top"),
-    (
-        &["load = 2\n", "", "", ""],
-        "a value is out of range, at top",
-    ),
-    (
-        &["load = \"1\"\n", "", "", ""],
-        "a value has the wrong type, at top",
-    ),
-    (
-        &["load = 1\nbound = [1, 1\n", "", "", ""],
-        "this is no TOML document, at top",
-    ),
-    (
-        &[TOP, "untill = 3\n", CONTROL, BARE],
-        "a key is not one of this table's keys, at top",
-    ),
-    (
-        &[TOP, CONTROL, "", ""],
-        "a key of this table is missing, at top",
-    ),
-    (
-        &[
-            "load = 1\nbound = [1, 1]\nbacklog = 4\nuntil = 0\n",
-            CONTROL,
-            BARE,
-            "",
-        ],
-        "a value is out of range, at top",
-    ),
-    (
-        &[
-            "load = 1\nbound = [1, 1]\nbacklog = 4097\nuntil = 1\n",
-            CONTROL,
-            BARE,
-            "",
-        ],
-        "a value is out of range, at top",
-    ),
-    (
-        &[TOP, "seed = -1\n", CONTROL, BARE],
-        "a value is out of range, at top",
-    ),
-    (
-        &[TOP, CONTROL, CONTROL, BARE],
-        "a value is out of range, at server 1",
-    ),
-    (
-        &[
-            TOP,
-            "[[server]]\nname = \"a b\"\nmode = \"soft\"\nbudget = 1\nperiod = 5\n",
-            BARE,
-            "",
-        ],
-        "a value is out of range, at server 0",
-    ),
-    (
-        &[
-            TOP,
-            "[[server]]\nname = \"\"\nmode = \"soft\"\nbudget = 1\nperiod = 5\n",
-            BARE,
-            "",
-        ],
-        "a value is out of range, at server 0",
-    ),
-    (
-        &[
-            TOP,
-            "[[server]]\nname = \"a\"\nmode = \"sporadic\"\nbudget = 1\nperiod = 5\n",
-            BARE,
-            "",
-        ],
-        "a value is out of range, at server 0",
-    ),
-    (
-        &[
-            TOP,
-            "[[server]]\nname = \"a\"\nmode = \"soft\"\nbudget = 6\nperiod = 5\n",
-            BARE,
-            "",
-        ],
-        "a value is out of range, at server 0",
-    ),
-    (
-        &[
-            TOP,
-            CONTROL,
-            "[[server]]\nname = \"a\"\nmode = \"soft\"\nbudget = 5\nperiod = 6\n",
-            BARE,
-        ],
-        "the plan does not take this server: too many, too fine periods, or over the bound, at server 1",
-    ),
-    (
-        &[TOP, CONTROL, BARE, FULL],
-        "a value is out of range, at source 1",
-    ),
-    (
-        &[
-            TOP,
-            CONTROL,
-            BARE,
-            "[[source]]\nserver = \"control\"\nevery = 5\n",
-        ],
-        "a key of this table is missing, at source 1",
-    ),
-    (
-        &[TOP, CONTROL, BARE, "deadline = 3\n"],
-        "a key is not one of this table's keys, at source 0",
-    ),
-    (
-        &[TOP, CONTROL, BARE, "within = true\n"],
-        "a value has the wrong type, at source 0",
-    ),
-    (
-        &[TOP, CONTROL, BARE, "overrun = [2, 1]\n"],
-        "a value is out of range, at source 0",
-    ),
-    (
-        &[TOP, CONTROL, BARE, "overrun = [2]\n"],
-        "a value is out of range, at source 0",
-    ),
-    (
-        &[TOP, CONTROL, BARE, "jobs = 0\n"],
-        "a value is out of range, at source 0",
-    ),
-];
-
-#[test]
-fn a_faulty_file_has_one_first_fault(rt: HostRuntime) {
-    let alloc = rt.alloc();
-    for &(texts, wanted) in &FAULTS {
-        let bytes = bytes_of(&rt, alloc, texts);
-        let fault = read_load(alloc, &bytes).err().expect(&rt, wanted);
-        let said = format!(in alloc; "{fault}").expect(&rt, "memory");
-        same(&rt, "a fault", said.as_str(), wanted);
-    }
-}
-
 /// A watcher that ignores all moments.
 #[derive(Drop)]
 struct Nobody;
@@ -271,15 +132,13 @@ fn comes_to(rt: &impl Abort, alloc: Global, text: &str, rows: [(u64, u64); 4]) {
     }
 }
 
-// The rows come from another scheduler, which draws numbers by the same rule.
+// The row comes from another scheduler, which draws numbers by the same rule.
 #[test]
-fn loads_come_to_what_another_scheduler_found(rt: HostRuntime) {
-    let alloc = rt.alloc();
-    comes_to(&rt, alloc, ROBOT, [(40, 40), (10, 10), (10, 10), (23, 21)]);
+fn a_load_comes_to_what_another_scheduler_found(rt: HostRuntime) {
     comes_to(
         &rt,
-        alloc,
-        PIPELINE,
-        [(60, 60), (25, 25), (31, 24), (10, 10)],
+        rt.alloc(),
+        ROBOT,
+        [(40, 40), (10, 10), (10, 10), (23, 21)],
     );
 }

@@ -127,33 +127,6 @@ pub(crate) const CONTROL: Row = Row {
     },
 };
 
-/// The second server of the robot, as it ran beside a logging that is asked for too much.
-pub(crate) const VISION: Row = Row {
-    name: "vision",
-    mode: Mode::Soft,
-    rate: (6, 20),
-    within: Some((20, 20)),
-    figures: Figures {
-        finished: 10,
-        greatest_backlog: 1,
-        asked: 60,
-        run: 60,
-        used_up: 10,
-        responses: Some(Ranks {
-            least: 10,
-            median: 10,
-            p95: 10,
-            p99: 10,
-            greatest: 10,
-        }),
-        response_total: 100,
-        early_count: 10,
-        early_total: 100,
-        early_least: Some(10),
-        ..NOTHING
-    },
-};
-
 /// The third server of the robot, which is throttled.
 pub(crate) const LIDAR: Row = Row {
     name: "lidar",
@@ -180,47 +153,4 @@ pub(crate) const LIDAR: Row = Row {
         early_least: Some(9),
         ..NOTHING
     },
-};
-
-/// The fourth server of the robot, which is asked for too much.
-pub(crate) const LOGGING: Row = Row {
-    name: "logging",
-    mode: Mode::Soft,
-    rate: (1, 10),
-    within: Some((20, 20)),
-    figures: Figures {
-        refused: 1,
-        finished: 21,
-        unfinished: 2,
-        late_finished: 9,
-        late_unfinished: 1,
-        greatest_backlog: 4,
-        asked: 76,
-        run: 63,
-        used_up: 63,
-        responses: Some(Ranks {
-            least: 3,
-            median: 18,
-            p95: 30,
-            p99: 35,
-            greatest: 35,
-        }),
-        response_total: 363,
-        early_count: 21,
-        early_total: 4371,
-        early_least: Some(34),
-        ..NOTHING
-    },
-};
-
-/// The run of the robot whose logging is asked for too much.
-pub(crate) const ROBOT: Run = Run {
-    file: "ROBOT.toml",
-    seed: Some(7),
-    clock: 200,
-    idle: 7,
-    backlog: 4,
-    bound: (1, 1),
-    reserved: (4, 5),
-    servers: &[CONTROL, VISION, LIDAR, LOGGING],
 };

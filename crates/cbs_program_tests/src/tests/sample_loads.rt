@@ -1,4 +1,4 @@
-//! Two loads for tests, as they stand in `examples/`.
+//! A load for tests, as it stands in `examples/`.
 
 /// A robot: control and vision, a throttled lidar, and bursts of logging that ask for more than they have.
 pub const ROBOT: &str = "\
@@ -67,62 +67,4 @@ first = 12
 every = [4, 12]
 units = [1, 5]
 within = 20
-";
-
-/// A media pipeline: audio, video, uploads that ask for more than they have, and a throttled batch.
-pub const PIPELINE: &str = "\
-# A media pipeline: three producers, one of them greedy, and a batch job that
-# pays for its ticks and shall not have more.
-load = 1
-bound = [9, 10]     # a tenth of the time is kept free
-backlog = 8
-until = 600
-seed = 1
-
-[[server]]
-name = \"audio\"      # 2 units every 10 ticks
-mode = \"soft\"
-budget = 2
-period = 10
-
-[[source]]
-server = \"audio\"
-every = 10
-units = 2
-
-[[server]]
-name = \"video\"      # a frame every 24 ticks, of 5 to 8 units
-mode = \"soft\"
-budget = 8
-period = 24
-
-[[source]]
-server = \"video\"
-every = 24
-units = [5, 8]
-
-[[server]]
-name = \"uploads\"    # greedy: it asks for five times what it has
-mode = \"soft\"
-budget = 3
-period = 30
-
-[[source]]
-server = \"uploads\"
-first = 5
-every = [8, 16]
-units = [4, 10]
-within = 90
-
-[[server]]
-name = \"batch\"      # throttled: 4 ticks in every 20, and never more
-mode = \"throttled\"
-budget = 4
-period = 20
-
-[[source]]
-server = \"batch\"
-every = 60
-units = 12
-within = 80
 ";

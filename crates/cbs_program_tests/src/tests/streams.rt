@@ -1,6 +1,6 @@
 //! Readers and writers that fail.
 
-use super::fakes::{Letters, Memory, Outcome, replays};
+use super::fakes::{Letters, Memory, Outcome};
 use super::files::good_file;
 use super::{FIRST, FIRST_LINES, same};
 use cbs_run::{
@@ -119,28 +119,6 @@ fn a_reader_gives_more_than_a_mebibyte(rt: HostRuntime) {
 /// Adds a text after another.
 fn add(rt: &impl Abort, whole: &mut String, part: &str) {
     whole.push_str(part).expect(rt, "memory");
-}
-
-#[test]
-fn long_traces_are_whole(rt: HostRuntime) {
-    let alloc = rt.alloc();
-    let mut file = String::from_str(alloc, FIRST).expect(&rt, "memory");
-    let mut lines = String::from_str(alloc, FIRST_LINES).expect(&rt, "memory");
-    file.truncate(FIRST.len() - 2);
-    for _ in 0..5000 {
-        add(&rt, &mut file, "  { op = \"run\" },\n");
-        add(&rt, &mut lines, "@3 run idle\n");
-    }
-    add(&rt, &mut file, "]\n");
-    replays(
-        &rt,
-        alloc,
-        "5000 runs",
-        file.as_bytes(),
-        0,
-        lines.as_str(),
-        "",
-    );
 }
 
 #[test]

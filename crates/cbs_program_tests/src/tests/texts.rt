@@ -1,8 +1,9 @@
 //! Whole reports, and verdicts.
 //!
-//! The three loads and their expected texts come from an independent program with another scheduler.
+//! The robot's load and its expected text come from an independent program with another scheduler. More reports stand
+//! in `examples/`, and in `tests/reports.txt` at the top of the repository.
 
-use crate::tests::reports::{CONTROL, LIDAR, NOTHING, ROBOT, Row, Run, report_of};
+use crate::tests::reports::{CONTROL, LIDAR, NOTHING, Row, Run, report_of};
 use crate::tests::same;
 use cbs_print::report_text;
 use cbs_report::{Figures, Ranks};
@@ -71,144 +72,6 @@ const CALM_LOGGING: Row = Row {
     },
 };
 
-// Of the pipeline, only the means are known, and not the sums of response times and earliness. These sums have those
-// means.
-/// The first server of the pipeline.
-const AUDIO: Row = Row {
-    name: "audio",
-    mode: Mode::Soft,
-    rate: (2, 10),
-    within: Some((10, 10)),
-    figures: Figures {
-        finished: 60,
-        greatest_backlog: 1,
-        asked: 120,
-        run: 120,
-        used_up: 60,
-        responses: Some(Ranks {
-            least: 2,
-            median: 2,
-            p95: 2,
-            p99: 2,
-            greatest: 2,
-        }),
-        response_total: 120,
-        early_count: 60,
-        early_total: 480,
-        early_least: Some(8),
-        ..NOTHING
-    },
-};
-
-/// The second server of the pipeline.
-const VIDEO: Row = Row {
-    name: "video",
-    mode: Mode::Soft,
-    rate: (8, 24),
-    within: Some((24, 24)),
-    figures: Figures {
-        finished: 25,
-        greatest_backlog: 1,
-        asked: 169,
-        run: 169,
-        used_up: 9,
-        responses: Some(Ranks {
-            least: 5,
-            median: 10,
-            p95: 14,
-            p99: 16,
-            greatest: 16,
-        }),
-        response_total: 250,
-        early_count: 25,
-        early_total: 350,
-        early_least: Some(8),
-        ..NOTHING
-    },
-};
-
-/// The third server of the pipeline, which is asked for too much.
-const UPLOADS: Row = Row {
-    name: "uploads",
-    mode: Mode::Soft,
-    rate: (3, 30),
-    within: Some((90, 90)),
-    figures: Figures {
-        refused: 18,
-        finished: 24,
-        unfinished: 7,
-        late_finished: 15,
-        late_unfinished: 7,
-        greatest_backlog: 8,
-        asked: 381,
-        run: 191,
-        used_up: 63,
-        responses: Some(Ranks {
-            least: 35,
-            median: 169,
-            p95: 200,
-            p99: 206,
-            greatest: 206,
-        }),
-        response_total: 3583,
-        early_count: 24,
-        early_total: 16718,
-        early_least: Some(55),
-        ..NOTHING
-    },
-};
-
-/// The fourth server of the pipeline.
-const BATCH: Row = Row {
-    name: "batch",
-    mode: Mode::Soft,
-    rate: (4, 20),
-    within: Some((80, 80)),
-    figures: Figures {
-        finished: 10,
-        greatest_backlog: 1,
-        asked: 120,
-        run: 120,
-        used_up: 30,
-        throttled: 280,
-        responses: Some(Ranks {
-            least: 46,
-            median: 46,
-            p95: 50,
-            p99: 50,
-            greatest: 50,
-        }),
-        response_total: 473,
-        early_count: 10,
-        early_total: 127,
-        early_least: Some(10),
-        ..NOTHING
-    },
-};
-
-/// A server of a task file with an unfinished job.
-const UNSERVED: Row = Row {
-    name: "server 0",
-    mode: Mode::Soft,
-    rate: (1, 4),
-    within: None,
-    figures: Figures {
-        unfinished: 1,
-        greatest_backlog: 1,
-        asked: 3,
-        ..NOTHING
-    },
-};
-
-/// A server of a task file with no job.
-const UNASKED: Row = Row {
-    name: "server 1",
-    mode: Mode::Soft,
-    rate: (1, 2),
-    within: None,
-    figures: NOTHING,
-};
-
 /// A server that refused a job.
 const ONE_REFUSED: Row = Row {
     name: "a",
@@ -262,42 +125,6 @@ const LEG: Row = Row {
     figures: NOTHING,
 };
 
-/// The expected text of the robot's report.
-const ROBOT_TEXT: &str = "\
-not in time: logging: 10 of 23 jobs late, 1 of 24 refused
-
-ROBOT.toml, ticks 0 to 200: 193 run (96.5 %), 7 idle
-
-JOBS     released  refused  finished  unfinished  late  backlog
-control        40        0        40           0     0   1 of 4
-vision         10        0        10           0     0   1 of 4
-lidar          10        0        10           0     0   1 of 4
-logging        24        1!       21           2    10!  4 of 4
-all            84        1        81           2    10
-
-TICKS     budget  reserved    asked     got  run  used up  throttled
-control   1 in 5    20.0 %   20.0 %  20.0 %   40       40          0
-vision   6 in 20    30.0 %   30.0 %  30.0 %   60       10          0
-lidar    2 in 10    20.0 %   15.0 %  15.0 %   30       10         80
-logging  1 in 10    10.0 %   38.0 %! 31.5 %   63       63          0
-all                 80.0 %  103.0 %  96.5 %  193      123         80
-
-RESPONSE  least  mean  median  95 %  99 %  greatest  within
-control       1   1.0       1     1     1         1       5
-vision       10  10.0      10    10    10        10      20
-lidar        11  11.0      11    11    11        11      20
-logging       3  17.3      18    30    35        35!     20
-
-EARLY    least   mean
-control      4    4.0
-vision      10   10.0
-lidar        9    9.0
-logging     34  208.1
-
-note: logging asked for 38.0 % of the time and has 10.0 % reserved
-      4 in every 10 would cover it; 'cbsrun check' says what fits
-";
-
 /// The expected text of the report of a robot whose logging is asked for less.
 const IN_TIME: &str = "\
 in time: no job late, none refused, of 70
@@ -329,67 +156,6 @@ control      4   4.0
 vision       8   9.4
 lidar        9   9.0
 logging      8  14.9
-";
-
-/// The expected text of the pipeline's report.
-const PIPELINE: &str = "\
-not in time: uploads: 22 of 31 jobs late, 18 of 49 refused
-
-PIPELINE.toml, ticks 0 to 600: 600 run (100.0 %), 0 idle
-
-JOBS     released  refused  finished  unfinished  late  backlog
-audio          60        0        60           0     0   1 of 8
-video          25        0        25           0     0   1 of 8
-uploads        49       18!       24           7    22!  8 of 8
-batch          10        0        10           0     0   1 of 8
-all           144       18       119           7    22
-
-TICKS     budget  reserved    asked      got  run  used up  throttled
-audio    2 in 10    20.0 %   20.0 %   20.0 %  120       60          0
-video    8 in 24    33.3 %   28.2 %   28.2 %  169        9          0
-uploads  3 in 30    10.0 %   63.5 %!  31.8 %  191       63          0
-batch    4 in 20    20.0 %   20.0 %   20.0 %  120       30        280
-all                 83.3 %  131.7 %  100.0 %  600      162        280
-
-RESPONSE  least   mean  median  95 %  99 %  greatest  within
-audio         2    2.0       2     2     2         2      10
-video         5   10.0      10    14    16        16      24
-uploads      35  149.3     169   200   206       206!     90
-batch        46   47.3      46    50    50        50      80
-
-EARLY    least   mean
-audio        8    8.0
-video        8   14.0
-uploads     55  696.6
-batch       10   12.7
-
-note: uploads asked for 63.5 % of the time and has 10.0 % reserved
-      20 in every 30 would cover it; 'cbsrun check' says what fits
-";
-
-/// The expected text of the report of a task file that takes no time and finishes no job.
-const REPLAY: &str = "\
-in time: no job late, none refused, of 1
-
-FIRST.toml, ticks 0 to 0: 0 run (-), 0 idle
-
-JOBS      released  refused  finished  unfinished  late  backlog
-server 0         1        0         0           1     -   1 of 4
-server 1         0        0         0           0     -   0 of 4
-all              1        0         0           1     0
-
-TICKS     budget  reserved  asked  got  run  used up  throttled
-server 0  1 in 4    25.0 %      -    -    0        0          0
-server 1  1 in 2    50.0 %      -    -    0        0          0
-all                 75.0 %      -    -    0        0          0
-
-RESPONSE  least  mean  median  95 %  99 %  greatest  within
-server 0      -     -       -     -     -         -       -
-server 1      -     -       -     -     -         -       -
-
-EARLY     least  mean
-server 0      -     -
-server 1      -     -
 ";
 
 /// The expected text of the report of a refused job in no time.
@@ -447,8 +213,7 @@ all         10
 ";
 
 /// Reports, and their texts.
-static REPORTS: [(Run, &str); 6] = [
-    (ROBOT, ROBOT_TEXT),
+static REPORTS: [(Run, &str); 3] = [
     (
         Run {
             file: "ROBOT.toml",
@@ -461,32 +226,6 @@ static REPORTS: [(Run, &str); 6] = [
             servers: &[CONTROL, CALM_VISION, LIDAR, CALM_LOGGING],
         },
         IN_TIME,
-    ),
-    (
-        Run {
-            file: "PIPELINE.toml",
-            seed: Some(7),
-            clock: 600,
-            idle: 0,
-            backlog: 8,
-            bound: (1, 1),
-            reserved: (5, 6),
-            servers: &[AUDIO, VIDEO, UPLOADS, BATCH],
-        },
-        PIPELINE,
-    ),
-    (
-        Run {
-            file: "FIRST.toml",
-            seed: None,
-            clock: 0,
-            idle: 0,
-            backlog: 4,
-            bound: (1, 1),
-            reserved: (3, 4),
-            servers: &[UNSERVED, UNASKED],
-        },
-        REPLAY,
     ),
     (
         Run {
