@@ -13,7 +13,7 @@ TRIALS = os.path.join(ROOT, "crates", "trials", "out", "trials")
 
 def build_cbsrun():
     """Proves and builds CBSRUN, if it is not there or a source is newer."""
-    subprocess.run([os.path.join(ROOT, "cbsrun"), "--help"], stdout=subprocess.DEVNULL, check=True)
+    subprocess.run([os.path.join(ROOT, "scripts", "program"), "cbsrun"], stdout=subprocess.DEVNULL, check=True)
 
 
 def build_trials():

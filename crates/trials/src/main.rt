@@ -1,18 +1,15 @@
 //! The parts that are tried from outside: calls to which scripts refuse memory, and loads that are served with random
-//! delays. Also how long calls take, and what a client gets whose units overrun.
+//! delays.
 //!
-//! `growth CALL` makes the call that the word names. `soak` serves the load on standard input. `bench` prints the table
-//! of times. `overruns MILLISECONDS` runs each trial of overruns for so long. With no word, all calls are made in turn
-//! and the load is served; the cases of the table and the trials of overruns are made shortly.
+//! `growth CALL` makes the call that the word names. `soak` serves the load on standard input. With no word, all calls
+//! are made in turn and the load is served.
 #![tactic(auto)]
 
 mod growths;
 mod load;
-mod overruns;
 mod setup;
 mod soak;
 mod telling;
-mod times;
 
 use anyhow::{Context, Result, bail};
 use std::alloc::Global;
@@ -22,15 +19,11 @@ use std::thread::Threads;
 use std::time::Clock;
 use telling::title;
 
-/// Tries all parts, shortly.
+/// Tries both parts.
 fn try_all<R: Print + Input + Threads + Clock + Sync>(rt: &R, alloc: Global) -> Result<()> {
     growths::make_all(rt, alloc)?;
     title(rt, "soak");
-    soak::serve_input(rt, alloc)?;
-    title(rt, "bench");
-    times::print_table(rt, alloc, true)?;
-    title(rt, "overruns");
-    overruns::print_lateness(rt, alloc)
+    soak::serve_input(rt, alloc)
 }
 
 /// Tries the part that a word names, with what the next word gives it.
@@ -43,9 +36,7 @@ fn try_part<R: Print + Input + Threads + Clock + Sync>(
     match part {
         "growth" => growths::make(rt, alloc, given.context("usage: growth CALL")?),
         "soak" => soak::serve_input(rt, alloc),
-        "bench" => times::print_table(rt, alloc, false),
-        "overruns" => overruns::print_for(rt, alloc, given),
-        _ => bail!("usage: [growth CALL | soak | bench | overruns MILLISECONDS]"),
+        _ => bail!("usage: [growth CALL | soak]"),
     }
 }
 
