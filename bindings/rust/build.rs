@@ -1,4 +1,5 @@
-//! Finds libcbs.a: in the folder that CBS_LIB_DIR names, or beside this crate in a release, or where scripts/library puts it.
+//! Finds libcbs.a: in the folder that CBS_LIB_DIR names, or beside this crate in a release, or where scripts/library or the Debian
+//! package puts it.
 //!
 //! Without it the crate can still be checked and documented; whoever links it is told by the warning what is missing.
 
@@ -11,7 +12,11 @@ fn main() {
         PathBuf::from(env::var_os("CARGO_MANIFEST_DIR").expect("cargo names the crate's folder"));
     let candidates = match env::var_os("CBS_LIB_DIR") {
         Some(folder) => vec![PathBuf::from(folder)],
-        None => vec![here.join("../lib"), here.join("../../out/cbs/lib")],
+        None => vec![
+            here.join("../lib"),
+            here.join("../../out/cbs/lib"),
+            here.join("../../../lib/x86_64-linux-gnu"), // from /usr/share/cbsrun/rust
+        ],
     };
     let library = |folder: &Path| folder.join("libcbs.a");
     for folder in &candidates {

@@ -64,3 +64,8 @@ pub use house::{Charges, Ended, House, Poll, Ran, Turn, View};
 pub use job::{Job, JobError, JobHandle, Payload};
 pub use plan::{Mode, Plan};
 pub use unit::{Token, Unfinished, Unit};
+
+/// Has the program of the README tried with those of these pages.
+#[cfg(doctest)]
+#[doc = include_str!("../README.md")]
+struct Readme;

@@ -1,11 +1,11 @@
 # What the scripts in bash share. One of them begins with
 #
-#   source "$(dirname "$(readlink -f "${BASH_SOURCE[0]}")")/shared.sh"
+#   source "$(dirname "$(readlink -f "${BASH_SOURCE[0]}")")/lib/shared.sh"
 #
 # This sets root, the folder of the repository, and runs nothing.
 # shellcheck shell=bash
 
-root=$(cd "$(dirname "$(readlink -f "${BASH_SOURCE[0]}")")/.." && pwd)
+root=$(cd "$(dirname "$(readlink -f "${BASH_SOURCE[0]}")")/../.." && pwd)
 
 # newer_source FILE: a file that FILE is built from and that is newer than it, if there is one.
 newer_source() {
@@ -25,7 +25,7 @@ wants_rt() {
 # out/build.log there, and the seconds that it takes are told under NAME.
 build_logged() {
     local crate=${2%/out/*}
-    (cd "$crate" && "$root/scripts/logged" "$1" "$crate/out/build.log" "${@:3}")
+    (cd "$crate" && "$root/scripts/lib/logged" "$1" "$crate/out/build.log" "${@:3}")
     touch "$2"
 }
 

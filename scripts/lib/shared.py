@@ -1,12 +1,12 @@
-"""What the scripts in Python share. They stand beside it, so that Python finds it by its name:
+"""What the scripts in Python share. They stand in the folder above, so that Python finds it by its name:
 
     sys.dont_write_bytecode = True  # leaves no __pycache__
-    from shared import ROOT
+    from lib.shared import ROOT
 """
 import os
 import subprocess
 
-ROOT = os.path.dirname(os.path.dirname(os.path.realpath(__file__)))
+ROOT = os.path.dirname(os.path.dirname(os.path.dirname(os.path.realpath(__file__))))
 CBSRUN = os.path.join(ROOT, "crates", "cbsrun", "out", "cbsrun")
 TRIALS = os.path.join(ROOT, "crates", "trials", "out", "trials")
 

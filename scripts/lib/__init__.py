@@ -1,0 +1,1 @@
+"""What is no command: what the scripts share."""
