@@ -8,8 +8,8 @@
  *
  * In each tick the loop polls each server once, and does at most one unit. A unit that takes longer is charged to its server,
  * never rounded down. While nobody is ready ticks pass, and the loop sleeps until the next deadline of somebody who waits, or
- * until a client rings; so throttled servers wait in real time. The house's clock is ahead of the real one by less than a
- * tick. If it is late, ticks follow each other at once.
+ * until a client rings; so throttled servers wait in real time. The house's clock is ahead of the real one by at most a
+ * tick, and no unit begins before its tick. If it is late, ticks follow each other at once.
  *
  * Include this header first, or define _POSIX_C_SOURCE as 200809L before. It wants gcc or clang, in C99 or C++17. */
 #ifndef CBS_REALTIME_H

@@ -59,3 +59,30 @@ def submit(server, kind, units):
 
 
 RUN = '  { op = "run" },\n'
+
+
+def documents(folder):
+    """The documents (*.md) in a folder and below. A folder whose name is 'out' or begins with a dot is passed over."""
+    for at, folders, files in os.walk(folder):
+        folders[:] = sorted(name for name in folders if name != "out" and not name.startswith("."))
+        yield from (os.path.join(at, name) for name in sorted(files) if name.endswith(".md"))
+
+
+def read(path):
+    """The text of a file."""
+    with open(path, encoding="utf-8") as file:
+        return file.read()
+
+
+def outside_code(text):
+    """The lines of a document that are in no code block, each with its number from 1 on."""
+    fenced, after_blank, indented = False, True, False
+    for number, line in enumerate(text.split("\n"), 1):
+        if line.lstrip().startswith("```"):
+            fenced = not fenced
+            continue
+        # four blanks make a code block after an empty line, but in a list
+        indented = line.startswith("    ") and (after_blank or indented)
+        after_blank = not line.strip()
+        if not fenced and not indented:
+            yield number, line

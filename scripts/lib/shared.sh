@@ -29,6 +29,14 @@ build_logged() {
     touch "$2"
 }
 
+# build_cbsrun: proves and builds the program if it is not there or a source is newer. Sets program, its path.
+build_cbsrun() {
+    program=$root/crates/cbsrun/out/cbsrun
+    if [[ ! -x $program || -n $(newer_source "$program") ]]; then
+        "$root/scripts/prove" >/dev/null
+    fi
+}
+
 # What passed and what failed of what a script tries.
 passed=0 failed=0
 pass() { passed=$((passed + 1)); }

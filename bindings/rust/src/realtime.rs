@@ -94,7 +94,8 @@ pub struct Counts {
 ///
 /// In each tick it takes messages, and does at most one unit: measured, and charged if it took longer. While nobody is ready ticks
 /// pass, and it sleeps until the next deadline of somebody who waits, or until a send. So throttled servers wait in real time. The
-/// house's clock is never ahead of the real one; if it has fallen behind, ticks follow each other at once.
+/// house's clock is ahead of the real one by at most a tick, and no unit begins before its tick. If it has fallen behind, ticks
+/// follow each other at once.
 #[derive(Debug)]
 pub struct Realtime<'h, T, C = Monotonic> {
     house: &'h mut House<T>,
