@@ -67,7 +67,7 @@ fn append_greatest(page: &mut Page, refused: &Refused) {
 fn append_least(page: &mut Page, refused: &Refused) {
     if let Some(period) = refused.least_period() {
         let budget = refused.reservation.budget();
-        let words = format!(in page.alloc; "a budget of {budget} fits from period {period} on");
+        let words = format!(in page.alloc; "a budget of {budget} fits at period {period}");
         page.push_note(MARGIN, "help", words);
     }
 }
