@@ -70,7 +70,7 @@ since_open within open_at now period some long late =
     ]
 
 -- the sum of all such numbers grows by one if a job comes
-all_since_came : (parts since now i : ℕ) (xs : List Stream) → AllByRecursion (IsOpenSoon parts now) xs → i < length xs → since ≤ now
+pub all_since_came : (parts since now i : ℕ) (xs : List Stream) → AllByRecursion (IsOpenSoon parts now) xs → i < length xs → since ≤ now
     → (get_or xs i no_stream).open_at ≤ now
     → sum_by (jobs_since since) xs + 1 ≤ sum_by (jobs_since since) (changed_at (came now) xs i)
 all_since_came parts since now i xs each lt recent late =
@@ -80,7 +80,7 @@ all_since_came parts since now i xs each lt recent late =
     (since_came since x.open_at now x.rate.period some recent late)
 
 -- and it is less than the backlog that suffices, if the next job of a stream may come
-all_since_open : (parts within now i : ℕ) (xs : List Stream) → AllByRecursion (IsOpenSoon parts now) xs → i < length xs → 0 < within
+pub all_since_open : (parts within now i : ℕ) (xs : List Stream) → AllByRecursion (IsOpenSoon parts now) xs → i < length xs → 0 < within
     → (get_or xs i no_stream).open_at ≤ now
     → sum_by (jobs_since (now + 1 - within)) xs + 1 ≤ sum_by (λ x. div_ceil within x.rate.period) xs
 all_since_open parts within now i xs each lt long late =
@@ -95,7 +95,7 @@ all_since_open parts within now i xs each lt long late =
     rw (sum_changed_same f (λ x. x) xs i (λ x. refl)) at h
 
 -- if there is a stream, the sum of all spans is positive
-spans_some : (rates : List Rate) (i : ℕ) → AllByRecursion IsStream rates → i < length rates → 0 < all_spans rates
+pub spans_some : (rates : List Rate) (i : ℕ) → AllByRecursion IsStream rates → i < length rates → 0 < all_spans rates
 spans_some [] i each lt = absurd (omega arith)
 spans_some (r ∷ rates) i each lt = let h = each.0.span in omega (arith, sum_by-cons (λ (r : Rate). r.budget) r rates)
 

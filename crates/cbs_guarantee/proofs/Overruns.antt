@@ -12,16 +12,17 @@ use Rattle.cbs_job.specs.Work.{Meaning}
 use Rattle.cbs_rate.specs.Rate.{Rate}
 use Rattle.cbs_rules.specs.Rules.{Terms}
 use Rattle.cbs_steps.specs.Accounts.{Account, finished, face_of, new_account}
-use Rattle.cbs_steps.specs.Charged.{Due, charged_due, others_charges, KeepsChargedDue}
+use Rattle.cbs_steps.specs.Charged.{Due, charged_due, others_charges, AreChargesOf, IsEndOf, KeepsChargedDue, KeepsChargedDueEnd}
 use Rattle.cbs_steps.specs.Faces.{submit_refusal}
 use Rattle.cbs_steps.specs.History.{Setup, History, account, faces, after}
 use Rattle.cbs_steps.specs.Promises.{when, IsJobOf}
 use Rattle.cbs_steps.specs.Quiet.{AdvanceQuietly}
 use Rattle.cbs_steps.specs.declared.step.Step.{Step}
-use Rattle.cbs_steps.specs.declared.step.Step.TheVariants.{Submit, Charge}
+use Rattle.cbs_steps.specs.declared.step.Step.TheVariants.{Submit, Run, Advance, Close, Charge}
+use Rattle.cbs_steps.proofs.Ends.{end_first, end_steps}
 use Rattle.cbs_steps.proofs.Faces.{runnable}
 use Rattle.cbs_steps.proofs.Histories.{charged_runs, holds_after}
-use Rattle.cbs_guarantee.specs.Overruns.{opens_after, IsOneStream, span_on, KeepsOverruns, KeepsAcceptingOverruns}
+use Rattle.cbs_guarantee.specs.Overruns.{opens_after, IsOneStream, span_on, KeepsOverruns, KeepsOverrunEnds, KeepsAcceptingOverruns}
 use Rattle.cbs_guarantee.specs.Streams.{span_of, jobs_of, Accepts}
 use Rattle.cbs_guarantee.proofs.Accepting.{room_accepts}
 use Rattle.cbs_guarantee.proofs.Steps.{others_behind, finished_behind, no_jobs, total_of, total_behind, jobs_given, charge_counts}
@@ -47,6 +48,12 @@ ceil-mono q m n le = elim (cases_lt 0 q) [
 -- so more ticks have no shorter span
 span-mono : (r : Rate) (m n : ℕ) → m ≤ n → span_of r m ≤ span_of r n
 span-mono r m n le = mul-le (div_ceil m r.budget) r.period (div_ceil n r.budget) r.period (ceil-mono r.budget m n le) (omega arith)
+
+module _ {W : Type 0} where
+  -- the first of the steps is no submit
+  abbrev NoSubmit : List (Step W) → Type 0
+  NoSubmit (Submit t job ∷ L) = ⊥
+  NoSubmit L = Unit {0}
 
 module _ {W : Type 0} (work : Meaning W) (setup : Setup) where
   -- a list of steps that advances quietly begins with such ones
@@ -209,6 +216,66 @@ module _ {W : Type 0} (work : Meaning W) (setup : Setup) where
                     go more
               ]
 
+          -- it is still the last after a step that is no submit
+          last_next : (x : Step W) (L : List (Step W)) → NoSubmit (x ∷ L) → IsLast L → IsLast (x ∷ L)
+          last_next x L plain last =
+              let later = last.later in
+              let jobs = last.jobs in
+              let units = last.units in
+              by_step work setup s (λ A. NoSubmit A → IsLast A) x L (λ next taken given. absurd given)
+              (λ n charged given.
+              let c = charge_counts work setup s L n charged in
+              let same = c.0 in
+              let counts = c.1 in
+              let grown = ap (λ (d : Due). d.units) (due_charged work setup s L n charged) in
+              record { later = last.later; jobs = omega arith; units = omega arith })
+              (λ other moves given.
+              let o = other.opens every in
+              let j = other.jobs in
+              let t = other.total in
+              let d = ap (λ (d : Due). d.units) other.due in
+              record { later = omega arith; jobs = omega arith; units = omega arith })
+              plain
+
+          -- and after charges
+          last_charges : (C L : List (Step W)) → AreChargesOf s C → IsLast L → IsLast (C ++ L)
+          last_charges [] L only last = last
+          last_charges (Charge t n ∷ C) L only last = last_next (Charge t n) (C ++ L) tt (last_charges C L only.1 last)
+          last_charges (Submit t job ∷ C) L only last = absurd only
+          last_charges (Run ∷ C) L only last = absurd only
+          last_charges (Advance n ∷ C) L only last = absurd only
+          last_charges (Close t ∷ C) L only last = absurd only
+
+          -- its job ends in time
+          ends_in_time : (ends : (L : List (Step W)) → KeepsChargedDueEnd work (record { setup = setup; steps = L })) (C K : List (Step W))
+              → (let L = C ++ Run ∷ (K ++ first) in
+              IsGoing L → IsEndOf work (record { setup = setup; steps = L }) C K M s job
+              → (after work setup L).now ≤ now + span + others_charges (after work setup L).accounts s)
+          ends_in_time ends C K go of =
+              let B = K ++ first in
+              let R = Run ∷ B in
+              let L = C ++ R in
+              let run = going_before C R go in
+              let before = going_before (Run ∷ []) B run in
+              let start = going_before K first before in
+              let undone = end_first work (record { setup = setup; steps = L }) C K M s job of in
+              let last : IsLast L = elim (done_or_last K before) [
+                | inl done ↦ absurd (omega arith)
+                | inr last ↦ last_charges C R of.charges (last_next Run B tt last)
+              ] in
+              let from = (paid_given M job accepted start.stream (paid_after M start.stream.0)).0 in
+              let given = ap (λ (d : Due). d.units) (due_given work setup s M job accepted) in
+              let g = total_behind work setup K first s in
+              let h = total_behind work setup (Run ∷ []) B s in
+              let i = total_behind work setup C R s in
+              let units = last.units in
+              let same : (spent first).units + (total_of work setup s L - total_of work setup s first) ≡ (spent L).units = omega arith in
+              let short = span-mono (reserved work setup s) (spent L).units ticks (ticks_within L go.stream) in
+              let by = ends L go.quiet C K M s job of in
+              let due : (after work setup L).now ≤ now + span_of (reserved work setup s) (spent L).units + others_charges (after work setup L).accounts s =
+              rw (same, reserved_after work setup s first, from) at by in
+              omega arith
+
           -- its job is finished in time
           done_in_time : (K : List (Step W)) → IsGoing (K ++ first)
               → now + span + others_charges (after work setup (K ++ first)).accounts s ≤ (after work setup (K ++ first)).now → IsDone (K ++ first)
@@ -271,6 +338,17 @@ module _ {W : Type 0} (work : Meaning W) (N : History W) (keeps : (L : List (Ste
       let apart : span_of (reserved work N.setup s) ticks + delay ≤ every = rw e at alone.apart in
       overrun_done work N.setup s every ticks (omega arith) keeps delay apart N.steps K M job
       (record { quiet = quiet; stream = alone.stream; others = alone.others }) is (omega arith)
+
+  -- it ends in time
+  pub overrun_ends_kept : ((L : List (Step W)) → KeepsChargedDueEnd work (when N L)) → KeepsOverrunEnds work N
+  overrun_ends_kept ends = λ quiet s ticks every delay alone C K M job of.
+      let e = span_same s ticks in
+      let apart : span_of (reserved work N.setup s) ticks + delay ≤ every = rw e at alone.apart in
+      let steps = end_steps work N C K M s job of in
+      let go : IsGoing work N.setup s every ticks (omega arith) keeps delay apart N.steps = record { quiet = quiet; stream = alone.stream; others = alone.others } in
+      rw (e, steps) (ends_in_time work N.setup s every ticks (omega arith) keeps delay apart M job of.job_of.accepted ends C K
+      (subst (λ L. IsGoing work N.setup s every ticks (omega arith) keeps delay apart L) steps go)
+      (subst (λ L. IsEndOf work (when N L) C K M s job) steps of))
 
   -- and the next is accepted
   pub accepting_overruns_kept : KeepsAcceptingOverruns work N

@@ -27,6 +27,7 @@ use Rattle.cbs_steps.proofs.FinishedJobs.{count_done-le, count_done_within, coun
 use Rattle.cbs_steps.proofs.Histories.{charged_there, holds_ticks, holds_run_step, holds_advance_step, holds_close_step, holds_behind, terms_behind}
 use Rattle.cbs_steps.proofs.Promises.{count_after, submitted}
 use Rattle.cbs_guarantee.specs.Overruns.{opens_after, units_before}
+use Rattle.cbs_guarantee.specs.Late.{released_after}
 use Rattle.cbs_guarantee.specs.Streams.{jobs_of, streams_after}
 
 module _ {W : Type 0} (work : Meaning W) where
@@ -179,6 +180,7 @@ module _ {W : Type 0} (work : Meaning W) where
         pub total : total_of (x ∷ M) ≡ total_of M
         pub due : charged_due work setup s (x ∷ M) ≡ charged_due work setup s M
         pub streams : (rates : List Rate) (of : ℕ → ℕ) → streams_after work setup s rates of (x ∷ M) ≡ streams_after work setup s rates of M
+        pub released : (at : ℕ → ℕ) (rates : List Rate) (of : ℕ → ℕ) → released_after work setup s at rates of (x ∷ M) ≡ released_after work setup s at rates of M
         pub opens : (every : ℕ) → opens_after work setup s every (x ∷ M) ≡ opens_after work setup s every M
         pub units : units_before work setup s (x ∷ M) ≡ units_before work setup s M
 
@@ -278,7 +280,7 @@ module _ {W : Type 0} (work : Meaning W) where
                 let moves = moves_submit w t job o (λ a e. let y : eqb t s ≡ true = grind (arith, nat_tests) in cc) in
                 let same = moved_same w (after_submit work w t job o) moves in
                 rest
-                (record { jobs = same.0; total = same.1; due = rw n refl; streams = λ rates of. rw n refl; opens = λ every. rw n refl; units = rw n refl })
+                (record { jobs = same.0; total = same.1; due = rw n refl; streams = λ rates of. rw n refl; released = λ at rates of. rw n refl; opens = λ every. rw n refl; units = rw n refl })
                 moves
             | inl y ↦
                 let e : t ≡ s = grind (arith, nat_tests) in
@@ -293,6 +295,7 @@ module _ {W : Type 0} (work : Meaning W) where
                         due = rw (y, refused) refl;
                         streams = λ rates of. rw
                             (y, refused) refl;
+                        released = λ at rates of. rw (y, refused) refl;
                         opens = λ every. rw (y, refused) refl;
                         units = rw (y, refused) refl;
                       }) moves
@@ -302,17 +305,17 @@ module _ {W : Type 0} (work : Meaning W) where
           let w = after work setup M in
           let moves = moves_run w in
           let same = moved_same w (next work setup.backlog w Run) moves in
-          rest (record { jobs = same.0; total = same.1; due = refl; streams = λ rates of. refl; opens = λ every. refl; units = refl }) moves
+          rest (record { jobs = same.0; total = same.1; due = refl; streams = λ rates of. refl; released = λ at rates of. refl; opens = λ every. refl; units = refl }) moves
       by_step P (Advance n) M gives charges rest =
           let w = after work setup M in
           let moves = moves_advance w n in
           let same = moved_same w (next work setup.backlog w (Advance n)) moves in
-          rest (record { jobs = same.0; total = same.1; due = refl; streams = λ rates of. refl; opens = λ every. refl; units = refl }) moves
+          rest (record { jobs = same.0; total = same.1; due = refl; streams = λ rates of. refl; released = λ at rates of. refl; opens = λ every. refl; units = refl }) moves
       by_step P (Close t) M gives charges rest =
           let w = after work setup M in
           let moves = moves_close w t in
           let same = moved_same w (next work setup.backlog w (Close t)) moves in
-          rest (record { jobs = same.0; total = same.1; due = refl; streams = λ rates of. refl; opens = λ every. refl; units = refl }) moves
+          rest (record { jobs = same.0; total = same.1; due = refl; streams = λ rates of. refl; released = λ at rates of. refl; opens = λ every. refl; units = refl }) moves
       by_step P (Charge t n) M gives charges rest =
           let w = after work setup M in
           let o = charge_refusal w t n in
@@ -320,7 +323,7 @@ module _ {W : Type 0} (work : Meaning W) where
             | inr f ↦
                 let moves = moves_charge w t n o (λ a e. let y : eqb t s ≡ true = grind (arith, nat_tests) in cc) in
                 let same = moved_same w (after_charging w t n o) moves in
-                rest (record { jobs = same.0; total = same.1; due = rw f refl; streams = λ rates of. refl; opens = λ every. refl; units = refl }) moves
+                rest (record { jobs = same.0; total = same.1; due = rw f refl; streams = λ rates of. refl; released = λ at rates of. refl; opens = λ every. refl; units = refl }) moves
             | inl y ↦
                 let e : t ≡ s = grind (arith, nat_tests) in
                 elim (refused_or o) [
@@ -334,6 +337,7 @@ module _ {W : Type 0} (work : Meaning W) where
                         due = rw
                             (y, refused) refl;
                         streams = λ rates of. refl;
+                        released = λ at rates of. refl;
                         opens = λ every. refl;
                         units = refl;
                       }) moves

@@ -14,14 +14,14 @@ use Rattle.cbs_rate.specs.Rate.{Rate}
 use Rattle.cbs_rate.specs.Plan.{share, all_periods, IsCommonMultiple}
 use Rattle.cbs_rate.proofs.Multiples.{all_periods-common}
 use Rattle.cbs_rules.specs.Rules.{Terms}
-use Rattle.cbs_steps.specs.Charged.{due_tick, charged_due, KeepsChargedDue}
+use Rattle.cbs_steps.specs.Charged.{Due, due_tick, charged_due, KeepsChargedDue, KeepsChargedDueEnd}
 use Rattle.cbs_steps.specs.Faces.{submit_refusal}
 use Rattle.cbs_steps.specs.History.{Setup, History, account, faces, start, after, charge_refusal}
 use Rattle.cbs_steps.specs.declared.step.Step.{Step}
-use Rattle.cbs_steps.specs.declared.step.Step.TheVariants.{Submit, Charge}
+use Rattle.cbs_steps.specs.declared.step.Step.TheVariants.{Submit, Run, Charge}
 use Rattle.cbs_guarantee.specs.Streams.{Stream, new_streams, came, span_of, IsStream, IsBearable, all_spans, streams_submitted, jobs_of}
 use Rattle.cbs_guarantee.specs.Streams.{streams_after, next_stream}
-use Rattle.cbs_guarantee.specs.Streams.{IsStreamJob, AreStreams, KeepsStreams}
+use Rattle.cbs_guarantee.specs.Streams.{IsStreamJob, AreStreams, KeepsStreams, KeepsStreamEnds}
 use Rattle.cbs_guarantee.proofs.Debts.{IsOpenSoon, IsBorne, borne_later, borne_came, borne_by, spans}
 use Rattle.cbs_guarantee.proofs.Steps.{submit-now, clock_grows, terms_after, total_behind, total_of, charge_counts, by_step}
 
@@ -37,14 +37,14 @@ whole_share parts r common =
     mul_assoc r.budget (parts / r.period) r.period ∙ ap (λ n. r.budget * n) (mul_comm (parts / r.period) r.period ∙ e)
 
 -- new streams owe nothing
-new_open : (parts : ℕ) (rates : List Rate) → IsCommonMultiple parts rates → AllByRecursion IsStream rates
+pub new_open : (parts : ℕ) (rates : List Rate) → IsCommonMultiple parts rates → AllByRecursion IsStream rates
     → AllByRecursion (IsOpenSoon parts 0) (new_streams rates)
 new_open parts [] common each = tt
 new_open parts (r ∷ rates) common each =
     (record { some = each.0.distance; soon = omega arith; whole = whole_share parts r common.0 }, new_open parts rates common.1 each.1)
 
 -- new streams have the rates that were given
-new_rates : (rates : List Rate) → map (λ (x : Stream). x.rate) (new_streams rates) ≡ rates
+pub new_rates : (rates : List Rate) → map (λ (x : Stream). x.rate) (new_streams rates) ≡ rates
 new_rates [] = refl
 new_rates (r ∷ rates) = ap (λ rs. r ∷ rs) (new_rates rates)
 
@@ -148,13 +148,18 @@ module _ {W : Type 0} (work : Meaning W) (setup : Setup) (s : ℕ) where
         before x none = let h = total_behind work setup (x ∷ []) M s in omega arith
 
 module _ {W : Type 0} (work : Meaning W) where
-  -- each job is finished when the streams' spans have passed, by the law of what is due
-  pub streams_kept : (N : History W) → KeepsChargedDue work N → KeepsStreams work N
-  streams_kept N keeps = λ quiet s rates of ok none K M job is are late.
+  -- while nothing is charged, a job of streams is due when the streams' spans have passed
+  due_in_spans : (N : History W) (s : ℕ) (rates : List Rate) (of : ℕ → ℕ) → IsBearable rates → total_of work N.setup s N.steps ≡ 0
+      → (K M : List (Step W)) (job : W) → N.steps ≡ K ++ Submit s job ∷ M → AreStreams work N.setup s rates of (Submit s job ∷ M)
+      → (let L = Submit s job ∷ M in
+      let d = charged_due work N.setup s L in
+      let behind : Due = record d { units = d.units + (total_of work N.setup s N.steps - total_of work N.setup s L) } in
+      due_tick (account (after work N.setup L).accounts s).terms.reservation behind ≤ (after work N.setup M).now + all_spans rates)
+  due_in_spans N s rates of ok none K M job is are =
       let setup = N.setup in
       let L = Submit s job ∷ M in
       let less : total_of work setup s L ≤ total_of work setup s (K ++ L) = total_behind work setup K L s in
-      let all : total_of work setup s (K ++ L) ≡ 0 = subst (λ A. total_of work setup s A ≡ 0) is.steps none in
+      let all : total_of work setup s (K ++ L) ≡ 0 = subst (λ A. total_of work setup s A ≡ 0) is none in
       let h = borne_after work setup s rates of ok L (omega arith) are in
       let by = borne_by (all_periods rates) (after work setup L).now (due_after work setup s L) (streams_after work setup s rates of L)
       (periods_some rates ok.each) h.borne in
@@ -164,4 +169,17 @@ module _ {W : Type 0} (work : Meaning W) where
       submit-now work (after work setup M) s job (submit_refusal setup.backlog (faces work (after work setup M)) s) in
       let d = charged_due work setup s L in
       let nothing : d.units + (total_of work setup s N.steps - total_of work setup s L) ≡ d.units = omega arith in
-      keeps quiet K M s job is (rw (nothing, reserved_after work setup s L) (omega arith))
+      rw (nothing, reserved_after work setup s L) (omega arith)
+
+  -- each job is finished when the streams' spans have passed, by the law of what is due
+  pub streams_kept : (N : History W) → KeepsChargedDue work N → KeepsStreams work N
+  streams_kept N keeps = λ quiet s rates of ok none K M job is are late.
+      let due = due_in_spans N s rates of ok none K M job is.steps are in
+      keeps quiet K M s job is (omega arith)
+
+  -- and it ends as soon
+  pub stream_ends_kept : (N : History W) → KeepsChargedDueEnd work N → KeepsStreamEnds work N
+  stream_ends_kept N ends = λ quiet s rates of ok none C K M job is are.
+      let due = due_in_spans N s rates of ok none (C ++ Run ∷ K) M job is.job_of.steps are in
+      let last = ends quiet C K M s job is in
+      omega arith

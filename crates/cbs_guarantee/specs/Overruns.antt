@@ -2,7 +2,7 @@
 -- accepted.
 use Rattle.std.specs.Prelude.{◌≡◌, ℕ, ◌+◌, ◌*◌, ◌≤◌, ◌<◌, eqb, if◌then◌else◌, List, [], ◌∷◌, None}
 use Rattle.cbs_job.specs.Work.{Meaning}
-use Rattle.cbs_steps.specs.Charged.{charged_due, others_charges}
+use Rattle.cbs_steps.specs.Charged.{charged_due, others_charges, IsEndOf}
 use Rattle.cbs_steps.specs.Faces.{submit_refusal}
 use Rattle.cbs_steps.specs.HardTasks.{slot_submitted}
 use Rattle.cbs_steps.specs.History.{Setup, History, account, faces, after, world_after, charge_refusal}
@@ -86,6 +86,13 @@ module _ {W : Type 0} where
       → (K M : List (Step W)) (job : W) → IsJobOf work N K M s job
       → (world_after work (when N M)).now + span_on work N s ticks + others_charges (world_after work N).accounts s ≤ (world_after work N).now
       → IsFinished work N M s
+
+  -- Each such job ends its span after it came, its last charge included, and later by no more than what the others were
+  -- charged.
+  abbrev pub KeepsOverrunEnds : Meaning W → History W → Type 0
+  KeepsOverrunEnds work N = AdvanceQuietly work N.setup N.steps → (s ticks every delay : ℕ) → IsAlone work N s ticks every delay
+      → (C K M : List (Step W)) (job : W) → IsEndOf work N C K M s job
+      → (world_after work N).now ≤ (world_after work (when N M)).now + span_on work N s ticks + others_charges (world_after work N).accounts s
 
   -- The server accepts each job that does not come early.
   abbrev pub KeepsAcceptingOverruns : Meaning W → History W → Type 0

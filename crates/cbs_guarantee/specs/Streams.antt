@@ -7,7 +7,7 @@ use Rattle.cbs_job.specs.Work.{Meaning}
 use Rattle.cbs_lists.specs.Lists.{changed_at}
 use Rattle.cbs_rate.specs.Rate.{Rate}
 use Rattle.cbs_rate.specs.Plan.{total_share, all_periods}
-use Rattle.cbs_steps.specs.Charged.{others_charges}
+use Rattle.cbs_steps.specs.Charged.{others_charges, IsEndOf}
 use Rattle.cbs_steps.specs.Faces.{submit_refusal}
 use Rattle.cbs_steps.specs.History.{Setup, History, account, faces, after, world_after}
 use Rattle.cbs_steps.specs.Laws.{account_in}
@@ -117,6 +117,12 @@ module _ {W : Type 0} where
   KeepsStreams work N = AdvanceQuietly work N.setup N.steps → (s : ℕ) (rates : List Rate) (of : ℕ → ℕ) → IsBearable rates → IsUncharged work N s
       → (K M : List (Step W)) (job : W) → IsJobOf work N K M s job → AreStreams work N.setup s rates of (Submit s job ∷ M)
       → (world_after work (when N M)).now + all_spans rates + others_charges (world_after work N).accounts s ≤ (world_after work N).now → IsFinished work N M s
+
+  -- Each such job ends as soon.
+  abbrev pub KeepsStreamEnds : Meaning W → History W → Type 0
+  KeepsStreamEnds work N = AdvanceQuietly work N.setup N.steps → (s : ℕ) (rates : List Rate) (of : ℕ → ℕ) → IsBearable rates → IsUncharged work N s
+      → (C K M : List (Step W)) (job : W) → IsEndOf work N C K M s job → AreStreams work N.setup s rates of (Submit s job ∷ M)
+      → (world_after work N).now ≤ (world_after work (when N M)).now + all_spans rates + others_charges (world_after work N).accounts s
 
   -- The server accepts each such job. This holds if the others are charged at most `delay` ticks, and the backlog
   -- suffices for as long as a job takes.

@@ -1,5 +1,5 @@
 -- Each job is finished when it is due.
-use Rattle.std.proofs.Common.{◌≡◌, ℕ, zero, suc, ◌+◌, ◌-◌, ◌*◌, ◌≤◌, ◌<◌, true, false, eqb, ◌||◌, List, [], ◌∷◌, length, map, arith, refl, inl, inr, ap, sym, subst, ◌∙◌, Option, Some, None}
+use Rattle.std.proofs.Common.{◌≡◌, ℕ, zero, suc, ◌+◌, ◌-◌, ◌*◌, ◌≤◌, ◌<◌, true, false, eqb, ◌||◌, List, [], ◌∷◌, ◌++◌, length, map, arith, refl, inl, inr, ap, sym, subst, ◌∙◌, Option, Some, None}
 use Rattle.std.specs.Prelude.{max, if◌then◌else◌}
 use Rattle.std.specs.Int.{div_ceil}
 use Rattle.std.specs.List.{sum_by}
@@ -15,13 +15,14 @@ use Rattle.cbs_rules.specs.Rules.{Terms}
 use Rattle.cbs_steps.specs.Accounts.{Account, face_of, new_account, no_account, account_with_job, account_with_unit, account_with_charge, account_with_replenishment, account_let_go, taken}
 use Rattle.cbs_steps.specs.Accounts.{account_with_close}
 use Rattle.cbs_steps.specs.History.{World, Setup, History, account, faces, start, ticks, after_submit, after_charging, charge_refusal, next, after, world_after}
-use Rattle.cbs_steps.specs.Charged.{Due, due_tick, due_of_submit, due_of_charge, due_after, charged_due, others_charges, KeepsChargedDue}
+use Rattle.cbs_steps.specs.Charged.{Due, due_tick, due_of_submit, due_of_charge, due_after, charged_due, others_charges, KeepsChargedDue, KeepsChargedDueEnd}
 use Rattle.cbs_steps.specs.Promises.{due, due_submitted, KeepsDue}
-use Rattle.cbs_steps.specs.Quiet.{AreQuiet}
+use Rattle.cbs_steps.specs.Quiet.{AreQuiet, AdvanceQuietly}
 use Rattle.cbs_steps.specs.declared.error.CoreError.{CoreError}
 use Rattle.cbs_steps.specs.declared.step.Step.{Step}
 use Rattle.cbs_steps.specs.declared.step.Step.TheVariants.{Submit, Run, Advance, Close, Charge}
 use Rattle.cbs_steps.proofs.Covers.{IsCovered, covered_from, covered_paid, covered_more, covered_unit, covered_replenishment, covered_queued, covered_arrival, covered-less}
+use Rattle.cbs_steps.proofs.Ends.{ended, end_steps, ran_of}
 use Rattle.cbs_steps.proofs.Faces.{runnable}
 use Rattle.cbs_steps.proofs.Histories.{holds_ticks, holds_run_step, holds_advance_step, holds_close_step, charged_runs, terms_behind}
 use Rattle.cbs_steps.proofs.Lateness.{quiet_advances, quiet_front, others_uncharged}
@@ -258,6 +259,13 @@ module _ {W : Type 0} (work : Meaning W) where
     grow = λ r t m g s some c. covered_more r before from g (work.left job + (t - base)) (work.left job + (t + m - base)) s some (omega arith) c;
   }
 
+  -- a job that comes counts from when the job before it is due, and from the clock
+  due_of_new : (setup : Setup) (M : List (Step W)) (s : ℕ) (job : W) → submit_refusal setup.backlog (faces work (after work setup M)) s ≡ None
+      → (let w = after work setup M in
+      charged_due work setup s (Submit s job ∷ M)
+      ≡ record { from = max (due_tick (account w.accounts s).terms.reservation (charged_due work setup s M)) w.now; units = work.left job })
+  due_of_new setup M s job accepted = let itself : eqb s s ≡ true = grind (arith, nat_tests) in rw (itself, accepted) refl
+
   -- every history keeps its due ticks, with what is charged counted
   pub charged_due_kept : (N : History W) → IsAdmitted (given work N.setup) → KeepsChargedDue work N
   charged_due_kept N ok = λ quiet K M s job of past.
@@ -274,8 +282,7 @@ module _ {W : Type 0} (work : Meaning W) where
       let from = max (due_tick r d) w.now in
       let before = all work a + a.charges.total in
       let base = a.charges.total in
-      let itself : eqb s s ≡ true = grind (arith, nat_tests) in
-      let due : charged_due work setup s (Submit s job ∷ M) ≡ record { from = from; units = work.left job } = rw (itself, of.accepted) refl in
+      let due = due_of_new setup M s job of.accepted in
       let e = submitted work setup M s job of.accepted in
       let z : work.left job + (base - base) ≡ work.left job = omega arith in
       let b = account (world_after work N).accounts s in
@@ -287,6 +294,36 @@ module _ {W : Type 0} (work : Meaning W) where
       covered_finished work setup M s job of.accepted (λ r t. before + div_ceil (work.left job + (t - base)) r.budget * r.budget)
       (λ r t. from + div_ceil (work.left job + (t - base)) r.budget * r.period) (growing a.accepted job before from base refl) N.steps K of.steps ok quiet
       (rw z (covered_job d w.now job a kept)) (rw same late) (λ owes. rw same (omega arith))
+
+  -- and every job ends by them
+  pub charged_due_end_kept : (N : History W) → IsAdmitted (given work N.setup) → KeepsChargedDueEnd work N
+  charged_due_end_kept N ok = λ quiet C K M s job of.
+      let setup = N.setup in
+      let accepted = of.job_of.accepted in
+      let w = after work setup M in
+      let a = account w.accounts s in
+      let r = a.terms.reservation in
+      let n = count_after work setup M in
+      let m = count_after work setup [] in
+      let lt = place work setup M s job accepted in
+      let kept = kept_after s setup M ok (omega arith) in
+      let d = charged_due work setup s M in
+      let from = max (due_tick r d) w.now in
+      let before = all work a + a.charges.total in
+      let base = a.charges.total in
+      let due = due_of_new setup M s job accepted in
+      let e = submitted work setup M s job accepted in
+      let z : work.left job + (base - base) ≡ work.left job = omega arith in
+      let steps = end_steps work N C K M s job of in
+      let L = C ++ Run ∷ (K ++ Submit s job ∷ M) in
+      let b = account (after work setup L).accounts s in
+      let same : b.terms ≡ a.terms = terms_behind work setup C (Run ∷ (K ++ Submit s job ∷ M)) s ∙ terms_behind work setup (Run ∷ K) (Submit s job ∷ M) s
+      ∙ terms_behind work setup (Submit s job ∷ []) M s in
+      let up = (div_ceil_times (work.left job + (b.charges.total - base)) r.budget kept.lawful.rate.some).0 in
+      let by = ended work setup M s job accepted (λ r t. before + div_ceil (work.left job + (t - base)) r.budget * r.budget)
+      (λ r t. from + div_ceil (work.left job + (t - base)) r.budget * r.period) (growing a.accepted job before from base refl) C K of.result ok
+      (subst (λ L. AdvanceQuietly work setup L) steps quiet) of.charges (ap ran_of of.done) (rw z (covered_job d w.now job a kept)) (rw same (omega arith)) in
+      rw (steps, e, due) (rw same at by)
 
   -- if nothing is charged, a job is due when it is without charges
   module _ (setup : Setup) (s : ℕ) where

@@ -31,11 +31,14 @@ use Rattle.cbs_steps.proofs.Paced.{asks, blocks, blocks_none, IsPaced, shared_ou
 use Rattle.cbs_steps.proofs.Uncharged.{uncharged_after}
 
 module _ {W : Type 0} (work : Meaning W) where
-  -- an active server may still take something
-  funds_some : (P : ℕ) (a : Account W) → IsSound work P a → is_active (face_of work a) ≡ true → 0 < funds a.terms.reservation a.state
-  funds_some P a ok active =
+  -- a server that is active, or runs, may still take something
+  funds_some : (P : ℕ) (a : Account W) → IsSound work P a → (a.runs || is_active (face_of work a)) ≡ true → 0 < funds a.terms.reservation a.state
+  funds_some P a ok busy =
       let r = a.terms.reservation in
-      let begun = ok.lawful.begun active in
+      let begun : 0 < a.state.deadline = elim (cases_Bool a.runs) [
+        | inl t ↦ ok.lawful.ran t
+        | inr f ↦ let active : is_active (face_of work a) ≡ true = rw f at busy in ok.lawful.begun active
+      ] in
       let under = ok.lawful.state.below in
       elim (cases_Bool a.state.throttled) [
         | inl t ↦ let e : funds r a.state ≡ r.budget - a.state.overrun = rw t refl in omega arith
@@ -44,16 +47,16 @@ module _ {W : Type 0} (work : Meaning W) where
 
   -- what it may still take fits, but for what those that are due later hold up
   funds_fit : (P : ℕ) (w : World W) → 0 < P → AllSound work P w → IsPaced work P 0 w → (s : ℕ) → s < length w.accounts
-      → is_active (face_of work (account w.accounts s)) ≡ true
       → (let a = account w.accounts s in
-      let x = until a.terms.reservation a.state in w.now + funds a.terms.reservation a.state ≤ x + sum_by (blocks work x) w.accounts)
-  funds_fit P w pos ok on s lt active =
+      let x = until a.terms.reservation a.state in
+      (a.runs || is_active (face_of work a)) ≡ true → w.now + funds a.terms.reservation a.state ≤ x + sum_by (blocks work x) w.accounts)
+  funds_fit P w pos ok on s lt busy =
       let a = account w.accounts s in
       let r = a.terms.reservation in
       let x = until r a.state in
       let c = funds r a.state in
       let law = sound_at work P w ok s lt in
-      let has = funds_some P a law active in
+      let has = funds_some P a law busy in
       let all : asks work P w.now x a ≡ full_demand P r a.state x = demand_busy P r w.now x (a.runs || is_active (face_of work a)) a.state (grind (arith, nat_tests)) in
       let full : full_demand P r a.state x ≡ c * P + (x - x) * share P r = asked_from P (share P r) c x x (omega arith) in
       let part : asks work P w.now x a ≤ sum_by (asks work P w.now x) w.accounts = get_or-le-sum_by (asks work P w.now x) w.accounts s no_account lt in
@@ -72,13 +75,13 @@ module _ {W : Type 0} (work : Meaning W) where
 
   -- so it is due no earlier than the clock, but for the charges of the others
   due_soon : (P : ℕ) (w : World W) → 0 < P → AllSound work P w → IsPaced work P 0 w → (s : ℕ) → s < length w.accounts
-      → is_active (face_of work (account w.accounts s)) ≡ true
-      → (let a = account w.accounts s in w.now < until a.terms.reservation a.state + others_charges w.accounts s)
-  due_soon P w pos ok on s lt active =
+      → (let a = account w.accounts s in
+      (a.runs || is_active (face_of work a)) ≡ true → w.now < until a.terms.reservation a.state + others_charges w.accounts s)
+  due_soon P w pos ok on s lt busy =
       let a = account w.accounts s in
       let x = until a.terms.reservation a.state in
-      let f = funds_fit P w pos ok on s lt active in
-      let has = funds_some P a (sound_at work P w ok s lt) active in
+      let f = funds_fit P w pos ok on s lt busy in
+      let has = funds_some P a (sound_at work P w ok s lt) busy in
       let k = sum_spared (blocks work x) (λ (b : Account W). b.charges.most) w.accounts s no_account lt
       (λ i l. blocks-most P x (account w.accounts i) (sound_at work P w ok i l)) (blocks_none work P x a (omega arith)) in
       omega arith
@@ -115,10 +118,11 @@ module _ {W : Type 0} (work : Meaning W) where
             let law = sound_at work P w ok s lt in
             let free : a.state.throttled ≡ false = (runnable (face_of work a) ready).free in
             let active : is_active (face_of work a) ≡ true = grind (arith, nat_tests) in
+            let busy : (a.runs || is_active (face_of work a)) ≡ true = grind (arith, nat_tests) in
             let has = ready_budget work a ready law.lawful in
             let u : until a.terms.reservation a.state ≡ x = rw free refl in
             let c : funds a.terms.reservation a.state ≡ a.state.budget = rw free refl in
-            let f : w.now + a.state.budget ≤ x + sum_by (blocks work x) w.accounts = rw (u, c) at (funds_fit P w pos ok on s lt active) in
+            let f : w.now + a.state.budget ≤ x + sum_by (blocks work x) w.accounts = rw (u, c) at (funds_fit P w pos ok on s lt busy) in
             let m : sum_by (blocks work x) w.accounts ≤ later_charges x w.accounts =
             sum-mono (blocks work x) (λ b. if ltb x b.state.deadline then b.charges.most else 0) w.accounts no_account
             (λ i l. later P w.now x (account w.accounts i) (sound_at work P w ok i l) come
@@ -156,13 +160,19 @@ module _ {W : Type 0} (work : Meaning W) where
   lateness_kept N ok = λ quiet s. late_by (all_periods (given work N.setup)) (world_after work N) (all_periods_some (given work N.setup) ok.lawful)
       (sound_after work N.setup N.steps ok) (paced_after N.setup N.steps ok quiet) s
 
-  -- and an active server is due no earlier than the clock, but for the charges of the others
+  -- and a server that is active, or runs, is due no earlier than the clock, but for the charges of the others
+  pub due_busy : (setup : Setup) (M : List (Step W)) → IsAdmitted (given work setup) → AdvanceQuietly work setup M → (s : ℕ) → s < length (after work setup M).accounts
+      → (let w = after work setup M in
+      let a = account w.accounts s in
+      (a.runs || is_active (face_of work a)) ≡ true → w.now < until a.terms.reservation a.state + others_charges w.accounts s)
+  due_busy setup M ok quiet s lt busy = due_soon (all_periods (given work setup)) (after work setup M) (all_periods_some (given work setup) ok.lawful)
+      (sound_after work setup M ok) (paced_after setup M ok quiet) s lt busy
+
   pub due_late : (setup : Setup) (M : List (Step W)) → IsAdmitted (given work setup) → AdvanceQuietly work setup M → (s : ℕ) → s < length (after work setup M).accounts
       → is_active (face_of work (account (after work setup M).accounts s)) ≡ true
       → (let w = after work setup M in
       let a = account w.accounts s in w.now < until a.terms.reservation a.state + others_charges w.accounts s)
-  due_late setup M ok quiet s lt active = due_soon (all_periods (given work setup)) (after work setup M) (all_periods_some (given work setup) ok.lawful)
-      (sound_after work setup M ok) (paced_after setup M ok quiet) s lt active
+  due_late setup M ok quiet s lt active = due_busy setup M ok quiet s lt (grind (arith, nat_tests))
 
   -- a step that takes nobody's time advances quietly
   quiet_advance : (w : World W) (x : Step W) → IsQuietStep work w x → IsQuietAdvance work w x

@@ -6,6 +6,7 @@ pub mod Covers
 pub mod DemandLines
 pub mod Demands
 pub mod Dues
+pub mod Ends
 pub mod FaceSteps
 pub mod Faces
 pub mod FinishedJobs

@@ -82,7 +82,7 @@ module _ {W : Type 0} (work : Meaning W) where
       pub grow : (r : Rate) (t m g : ℕ) (s : State) → 0 < r.budget → IsCovered r (n r t) (b r t) g s → IsCovered r (n r (t + m)) (b r (t + m)) g s
 
     -- the jobs up to it need that many units
-    need_job : (a : Account W) → IsAwaited a → (length before < length a.accepted) × (need work a (length before + 1) ≡ goal)
+    pub need_job : (a : Account W) → IsAwaited a → (length before < length a.accepted) × (need work a (length before + 1) ≡ goal)
     need_job a h =
         let jobs : a.accepted ≡ before ++ job ∷ h.behind = h.jobs in
         let n = length-append before (job ∷ h.behind) in
@@ -108,7 +108,7 @@ module _ {W : Type 0} (work : Meaning W) where
         ]
 
     -- and with fewer the server is active
-    pending_active : (a : Account W) → IsAwaited a → a.got < goal → is_active (face_of work a) ≡ true
+    pub pending_active : (a : Account W) → IsAwaited a → a.got < goal → is_active (face_of work a) ≡ true
     pending_active a h owes =
         let n = need_job a h in
         let lt = n.0 in
@@ -225,15 +225,11 @@ module _ {W : Type 0} (work : Meaning W) where
     pub total : all (account_with_job work w.now job a) ≡ sum_by work.left a.accepted + work.left job
     total = omega (arith, sum_by-append work.left a.accepted (job ∷ []))
 
-    -- it is finished if it is covered from its submit on, and b and what the others were charged have passed
-    pub covered_finished : (n b : Rate → ℕ → ℕ) → IsGrowing a.accepted job n b → (L K : List (Step W)) → L ≡ K ++ Submit s job ∷ M → IsAdmitted (given work setup)
-        → AdvanceQuietly work setup L
+    -- it is awaited after each step, if it is covered from its submit on
+    pub awaited_after : (n b : Rate → ℕ → ℕ) → IsGrowing a.accepted job n b → (K : List (Step W)) → IsAdmitted (given work setup)
         → (let c = account_with_job work w.now job a in IsCovered a.terms.reservation (n a.terms.reservation c.charges.total) (b a.terms.reservation c.charges.total) (taken c) c.state)
-        → (let v = after work setup L in
-        let c = account v.accounts s in
-        b c.terms.reservation c.charges.total + others_charges v.accounts s ≤ v.now
-        → (c.got < goal a.accepted job n b → taken c < n c.terms.reservation c.charges.total) → length a.accepted < finished work c)
-    covered_finished n b grows L K e ok quiet c past under =
+        → IsAwaited a.accepted job n b (account (after work setup (K ++ Submit s job ∷ M)).accounts s)
+    awaited_after n b grows K ok c =
         let law = (AllByRecursion-get (IsSound work (all_periods (given work setup))) w.accounts s no_account
         (sound_after work setup M ok).each place).lawful in
         let start : IsAwaited a.accepted job n b (account_with_job work w.now job a) = record {
@@ -243,10 +239,20 @@ module _ {W : Type 0} (work : Meaning W) where
           pending = λ owes few. c;
         } in
         let at : IsAwaited a.accepted job n b (account (after work setup (Submit s job ∷ M)).accounts s) = rw submitted start in
-        let h : IsAwaited a.accepted job n b (account (after work setup (K ++ Submit s job ∷ M)).accounts s) =
         holds_behind work (λ now. IsAwaited a.accepted job n b) (λ now. awaited_unit a.accepted job n b) (λ now. awaited_replenishment a.accepted job n b (now + 1))
         (λ now. awaited_close a.accepted job n b) (λ now. awaited_let_go a.accepted job n b) (awaited_job a.accepted job n b)
-        (λ now. awaited_charge a.accepted job n b grows) setup K (Submit s job ∷ M) s at in
+        (λ now. awaited_charge a.accepted job n b grows) setup K (Submit s job ∷ M) s at
+
+    -- it is finished if it is covered from its submit on, and b and what the others were charged have passed
+    pub covered_finished : (n b : Rate → ℕ → ℕ) → IsGrowing a.accepted job n b → (L K : List (Step W)) → L ≡ K ++ Submit s job ∷ M → IsAdmitted (given work setup)
+        → AdvanceQuietly work setup L
+        → (let c = account_with_job work w.now job a in IsCovered a.terms.reservation (n a.terms.reservation c.charges.total) (b a.terms.reservation c.charges.total) (taken c) c.state)
+        → (let v = after work setup L in
+        let c = account v.accounts s in
+        b c.terms.reservation c.charges.total + others_charges v.accounts s ≤ v.now
+        → (c.got < goal a.accepted job n b → taken c < n c.terms.reservation c.charges.total) → length a.accepted < finished work c)
+    covered_finished n b grows L K e ok quiet c past under =
+        let h = awaited_after n b grows K ok c in
         let there : s < length (after work setup L).accounts = let m = count_after setup L in let k = count_after setup M in let lt = place in omega arith in
         let g : IsAwaited a.accepted job n b (account (after work setup L).accounts s) =
         subst (λ L. IsAwaited a.accepted job n b (account (after work setup L).accounts s)) (sym e) h in

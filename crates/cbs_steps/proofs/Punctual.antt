@@ -9,7 +9,8 @@ use Rattle.cbs_rate.specs.Rate.{Rate}
 use Rattle.cbs_rules.specs.declared.mode.Mode.{Mode}
 use Rattle.cbs_steps.specs.Accounts.{new_account}
 use Rattle.cbs_steps.specs.Setups.{terms_of}
-use Rattle.cbs_steps.proofs.Dues.{due_kept, charged_due_kept}
+use Rattle.cbs_steps.proofs.Dues.{due_kept, charged_due_kept, charged_due_end_kept}
+use Rattle.cbs_steps.proofs.Ends.{charged_end_kept}
 use Rattle.cbs_steps.proofs.HardTasks.{hard_kept}
 use Rattle.cbs_steps.proofs.Lateness.{lateness_kept}
 use Rattle.cbs_steps.proofs.OnTime.{IsAdmitted, reservation, given, on_time_after, never_late}
@@ -33,6 +34,8 @@ module _ {W : Type 0} (work : Meaning W) where
     charged_supply = charged_supply_kept work N ok;
     charged_promise = charged_promise_kept work N ok;
     charged_due = charged_due_kept work N ok;
+    charged_end = charged_end_kept work N ok;
+    charged_due_end = charged_due_end_kept work N ok;
   }
 
   -- new servers have the reservations that they were given

@@ -42,7 +42,7 @@ module _ {W : Type 0} where
       → account (map (account_with_replenishment now) xs) t ≡ account_with_replenishment now (account xs t)
   replenished_account now xs t = get_or-map (account_with_replenishment now) xs t no_account
 
-  loose_account : (xs : List (Account W)) (t : ℕ) → account (map account_let_go xs) t ≡ account_let_go (account xs t)
+  pub loose_account : (xs : List (Account W)) (t : ℕ) → account (map account_let_go xs) t ≡ account_let_go (account xs t)
   loose_account xs t = get_or-map account_let_go xs t no_account
 
   -- after a run its server runs, and no other

@@ -29,9 +29,9 @@ use Rattle.cbs_rules.proofs.Paid.{charge_paid}
 
 module _ {W : Type 0} (work : Meaning W) (n b : ℕ) where
   -- until n ticks are taken they are covered by tick b
-  record IsSupplied (a : Account W) : Type 0 where
-    lawful : IsLawful work a
-    pending : taken a < n → IsCovered a.terms.reservation n b (taken a) a.state
+  pub record IsSupplied (a : Account W) : Type 0 where
+    pub lawful : IsLawful work a
+    pub pending : taken a < n → IsCovered a.terms.reservation n b (taken a) a.state
 
   -- a unit keeps it
   supplied_unit : (a : Account W) → is_ready (face_of work a) ≡ true → IsSupplied a → IsSupplied (account_with_unit a)
@@ -97,8 +97,13 @@ module _ {W : Type 0} (work : Meaning W) (n b : ℕ) where
           rw (changed_elsewhere (account_with_job work w.now job) w.accounts t s no_account other) h
     ]
 
+    -- a charge, of this server or another
+    pub supplied_charging : (backlog : ℕ) (w : World W) (t m : ℕ) → IsSupplied (account w.accounts s) → IsSupplied (account (next work backlog w (Charge t m)).accounts s)
+    supplied_charging backlog w t m h = holds_charge_step work (λ now. IsSupplied) (λ now. supplied_unit)
+        (λ now. supplied_replenishment (now + 1)) (λ now. supplied_close) (λ now. supplied_let_go) (λ now m a some runs k. supplied_charge m a runs k) backlog w t m s h
+
     -- each step keeps it, while the server is active
-    supplied_next : (backlog : ℕ) (w : World W) (x : Step W) → s < length w.accounts → is_active (face_of work (account w.accounts s)) ≡ true
+    pub supplied_next : (backlog : ℕ) (w : World W) (x : Step W) → s < length w.accounts → is_active (face_of work (account w.accounts s)) ≡ true
         → IsSupplied (account w.accounts s) → IsSupplied (account (next work backlog w x).accounts s)
     supplied_next backlog w (Submit t job) lt active h = supplied_submit w t job (submit_refusal backlog (faces work w) t) lt active h
     supplied_next backlog w Run lt active h = holds_run_step work (λ now. IsSupplied) (λ now. supplied_unit)
@@ -107,8 +112,7 @@ module _ {W : Type 0} (work : Meaning W) (n b : ℕ) where
         (λ now. supplied_replenishment (now + 1)) (λ now. supplied_close) (λ now. supplied_let_go) backlog w m s h
     supplied_next backlog w (Close t) lt active h = holds_close_step work (λ now. IsSupplied) (λ now. supplied_unit)
         (λ now. supplied_replenishment (now + 1)) (λ now. supplied_close) (λ now. supplied_let_go) backlog w t s h
-    supplied_next backlog w (Charge t m) lt active h = holds_charge_step work (λ now. IsSupplied) (λ now. supplied_unit)
-        (λ now. supplied_replenishment (now + 1)) (λ now. supplied_close) (λ now. supplied_let_go) (λ now m a some runs k. supplied_charge m a runs k) backlog w t m s h
+    supplied_next backlog w (Charge t m) lt active h = supplied_charging backlog w t m h
 
     -- the server is active at last
     active_last : (setup : Setup) (K M : List (Step W)) → StaysActive work setup s M K

@@ -1,21 +1,23 @@
 -- By when a server gets its ticks, and by when its jobs are finished, if units are charged. The ticks charged to the
 -- server itself count as units. The ticks charged to the others delay the server by at most the most for one unit of
 -- each.
-use Rattle.std.specs.Prelude.{◌≡◌, ℕ, ◌+◌, ◌-◌, ◌*◌, ◌≤◌, max, eqb, if◌then◌else◌, List, [], ◌∷◌, ◌++◌, Option, Some, None}
+use Rattle.std.specs.Prelude.{◌≡◌, ℕ, ◌+◌, ◌-◌, ◌*◌, ◌≤◌, max, eqb, if◌then◌else◌, List, [], ◌∷◌, ◌++◌, length, Option, Some, None}
 use Rattle.std.specs.Int.{div_ceil}
 use Rattle.std.specs.List.{sum_by}
 use Rattle.cbs_job.specs.Work.{Meaning}
 use Rattle.cbs_rate.specs.Rate.{Rate}
 use Rattle.cbs_steps.specs.Faces.{submit_refusal}
 use Rattle.cbs_steps.specs.Accounts.{Account, taken}
-use Rattle.cbs_steps.specs.History.{World, Setup, History, account, faces, after, world_after, charge_refusal}
+use Rattle.cbs_steps.specs.History.{World, Setup, History, account, faces, after, world_after, charge_refusal, reply_in}
 use Rattle.cbs_steps.specs.Laws.{account_in}
 use Rattle.cbs_steps.specs.Promises.{when, IsJobOf, IsFinished}
 use Rattle.cbs_steps.specs.Quiet.{AdvanceQuietly}
 use Rattle.cbs_steps.specs.Supplies.{StaysActive}
 use Rattle.cbs_steps.specs.declared.error.CoreError.{CoreError}
 use Rattle.cbs_steps.specs.declared.step.Step.{Step}
-use Rattle.cbs_steps.specs.declared.step.Step.TheVariants.{Submit, Charge}
+use Rattle.cbs_steps.specs.declared.reply.Ran.TheVariants as ran
+use Rattle.cbs_steps.specs.declared.reply.Reply.TheVariants as reply
+use Rattle.cbs_steps.specs.declared.step.Step.TheVariants.{Submit, Run, Charge}
 
 -- when a job is due: so many units, counted from a tick
 pub record Due : Type 0 where
@@ -84,3 +86,38 @@ module _ {W : Type 0} where
       let due = charged_due work N.setup s (Submit s job ∷ M) in
       let behind : Due = record due { units = due.units + ((account_in work N s).charges.total - a.charges.total) } in
       due_tick a.terms.reservation behind + others_charges w.accounts s ≤ w.now → IsFinished work N M s)
+
+  -- each of the steps is a charge of server s
+  abbrev pub AreChargesOf : ℕ → List (Step W) → Type 0
+  AreChargesOf s [] = Unit {0}
+  AreChargesOf s (Charge t n ∷ C) = (t ≡ s) × AreChargesOf s C
+  AreChargesOf s (x ∷ C) = ⊥
+
+  -- N ends with the job that s accepted after M: a Run finishes it, with K between its submit and that Run, and then only
+  -- charges C of s follow. A job ends with the last charge for its last unit
+  pub record IsEndOf (work : Meaning W) (N : History W) (C K M : List (Step W)) (s : ℕ) (job : W) : Type 0 where
+    pub job_of : IsJobOf work N (C ++ Run ∷ K) M s job
+    pub result : ℕ
+    pub done : reply_in work (when N (K ++ Submit s job ∷ M)) Run
+        ≡ reply.Ran (ran.Done (record { server = s; seq = length (account_in work (when N M) s).accepted; result = result }))
+    pub charges : AreChargesOf s C
+
+  -- Each job ends by the tick that can be given when it is accepted. Let c, d and o be the budget, deadline and overrun that
+  -- its submit leaves. Let all that the server then owes, and all that it is charged, be at most c - o + j * Q ticks. Then
+  -- the clock has not passed d + j * T and what the others are charged.
+  abbrev pub KeepsChargedEnd : Meaning W → History W → Type 0
+  KeepsChargedEnd work N = AdvanceQuietly work N.setup N.steps → (C K M : List (Step W)) (s : ℕ) (job : W) (j : ℕ) → IsEndOf work N C K M s job
+      → (let a = account_in work (when N (Submit s job ∷ M)) s in
+      let w = world_after work N in
+      sum_by work.left a.accepted + (account_in work N s).charges.total + a.state.overrun ≤ taken a + a.state.budget + j * a.terms.reservation.budget
+      → w.now ≤ a.state.deadline + j * a.terms.reservation.period + others_charges w.accounts s)
+
+  -- Each job ends when it is due, and later by no more than what the others are charged. What its server was charged from
+  -- its submit on counts as units of the job.
+  abbrev pub KeepsChargedDueEnd : Meaning W → History W → Type 0
+  KeepsChargedDueEnd work N = AdvanceQuietly work N.setup N.steps → (C K M : List (Step W)) (s : ℕ) (job : W) → IsEndOf work N C K M s job
+      → (let a = account_in work (when N (Submit s job ∷ M)) s in
+      let w = world_after work N in
+      let due = charged_due work N.setup s (Submit s job ∷ M) in
+      let behind : Due = record due { units = due.units + ((account_in work N s).charges.total - a.charges.total) } in
+      w.now ≤ due_tick a.terms.reservation behind + others_charges w.accounts s)

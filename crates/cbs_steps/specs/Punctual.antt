@@ -6,7 +6,7 @@ use Rattle.cbs_steps.specs.Promises.{KeepsPromise, KeepsBound, KeepsDue}
 use Rattle.cbs_steps.specs.HardTasks.{KeepsHard}
 use Rattle.cbs_steps.specs.Supplies.{KeepsSupply}
 use Rattle.cbs_steps.specs.Lateness.{KeepsLateness}
-use Rattle.cbs_steps.specs.Charged.{KeepsChargedSupply, KeepsChargedPromise, KeepsChargedDue}
+use Rattle.cbs_steps.specs.Charged.{KeepsChargedSupply, KeepsChargedPromise, KeepsChargedDue, KeepsChargedEnd, KeepsChargedDueEnd}
 use Rattle.cbs_steps.specs.Windows.{KeepsShare, KeepsCap}
 
 -- punctual: the laws on time hold of the history, and no server took more than its share
@@ -24,3 +24,5 @@ pub record IsPunctual {W : Type 0} (work : Meaning W) (N : History W) : Type 0 w
   pub charged_supply : KeepsChargedSupply work N
   pub charged_promise : KeepsChargedPromise work N
   pub charged_due : KeepsChargedDue work N
+  pub charged_end : KeepsChargedEnd work N
+  pub charged_due_end : KeepsChargedDueEnd work N
