@@ -12,8 +12,8 @@ use Rattle.cbs_views.specs.declared.seen.Event.TheVariants as event
 use Rattle.cbs_views.specs.declared.seen.Seen.{Seen}
 use Rattle.cbs_chart.specs.Courses.{CourseSeen, course_after, course_until, course_seen, no_course}
 use Rattle.cbs_chart.specs.Deadlines.{deadlines_after, deadlines_until, deadlines_seen}
-use Rattle.cbs_chart.specs.Jobs.{JobsSeen, jobs_after, jobs_seen, no_jobs, all_jobs, late_stretch}
-use Rattle.cbs_chart.specs.Marks.{arrivals_after, arrivals_seen, completions_after, completions_seen, refusals_after, refusals_seen}
+use Rattle.cbs_chart.specs.Jobs.{JobsSeen, jobs_after, jobs_seen, no_jobs, all_jobs, completions, late_stretch}
+use Rattle.cbs_chart.specs.Marks.{arrivals_after, arrivals_seen, refusals_after, refusals_seen}
 use Rattle.cbs_chart.specs.Rows.{idle_after, last_of, last_seen, refused_after, refused_seen, spans_after, spans_until, spans_seen}
 use Rattle.cbs_stretches.specs.Stretches.{AreApart, Joined, all_of, is_covered, nothing_joined, takes}
 use Rattle.cbs_chart.specs.declared.chart.Chart.{Chart}
@@ -30,7 +30,6 @@ pub record RowSeen : Type 0 where
   pub refused : Joined
   pub refusals : ℕ
   pub arrivals : List ℕ
-  pub completions : List ℕ
   pub jobs : JobsSeen
   pub deadlines : List ℕ
   pub course : CourseSeen
@@ -44,7 +43,6 @@ new_row r = record {
   refused = nothing_joined;
   refusals = 0;
   arrivals = [];
-  completions = [];
   jobs = no_jobs;
   deadlines = [];
   course = no_course;
@@ -59,7 +57,6 @@ row_after w o row = record {
   refused = refused_after w o.event row.refused;
   refusals = refusals_after w o.event row.refusals;
   arrivals = arrivals_after w o.event row.arrivals;
-  completions = completions_after w o.clock o.event row.completions;
   jobs = jobs_after w o.clock o.event row.jobs;
   deadlines = deadlines_after w row.reservation row.last o row.deadlines;
   course = course_after w row.reservation row.last o row.course;
@@ -74,7 +71,6 @@ row_seen w r own = record {
   refused = refused_seen w own;
   refusals = refusals_seen w own;
   arrivals = arrivals_seen w own;
-  completions = completions_seen w own;
   jobs = jobs_seen w own;
   deadlines = deadlines_seen w r own;
   course = course_seen w r own;
@@ -89,7 +85,6 @@ row_until w to row = record {
   refused = row.refused;
   refusals = row.refusals;
   arrivals = row.arrivals;
-  completions = row.completions;
   jobs = row.jobs;
   deadlines = deadlines_until w row.reservation row.last to row.deadlines;
   course = course_until w row.reservation row.last to row.course;
@@ -137,8 +132,8 @@ pub record IsServerChart (w : Window) (r : Rate) (end : ℕ) (own : List Seen) (
   pub refused : c.refused.items ≡ all_of (refused_seen w own)
   pub refusals : c.refusals ≡ refusals_seen w own
   pub arrivals : c.arrivals.items ≡ arrivals_seen w own
-  pub completions : c.completions.items ≡ completions_seen w own
   pub jobs : c.jobs.items ≡ all_jobs w (jobs_seen w own)
+  pub completions : c.completions.items ≡ completions w c.jobs.items
   pub late : (t : ℕ) → w.from ≤ t → t < w.to → is_covered kind.Late t c.late.items ≡ list_any (λ job. takes t (late_stretch end job)) c.jobs.items
   pub deadlines : c.deadlines.items ≡ deadlines_until w r (last_of own) end (deadlines_seen w r own)
   pub course : record { opening = c.opening; corners = c.corners.items } ≡ course_until w r (last_of own) end (course_seen w r own)

@@ -1,8 +1,6 @@
--- The ticks at which jobs come and are finished, and the number of refused releases, from a server's steps. The steps
--- stand with the newest first.
+-- The ticks at which jobs come, and the number of refused releases, from a server's steps. The steps stand with the
+-- newest first.
 use Rattle.std.specs.Prelude.{ℕ, ◌+◌, ◌&&◌, leb, ltb, if◌then◌else◌, min, List, [], ◌∷◌, ◌++◌}
-use Rattle.cbs_steps.specs.declared.reply.Ran.{Ran}
-use Rattle.cbs_steps.specs.declared.reply.Ran.TheVariants as ran
 use Rattle.cbs_views.specs.declared.seen.Event.{Event}
 use Rattle.cbs_views.specs.declared.seen.Event.TheVariants as event
 use Rattle.cbs_views.specs.declared.seen.Seen.{Seen}
@@ -27,19 +25,3 @@ arrivals_after w _ ts = ts
 abbrev pub arrivals_seen : Window → List Seen → List ℕ
 arrivals_seen w [] = []
 arrivals_seen w (o ∷ own) = arrivals_after w o.event (arrivals_seen w own)
-
--- the ticks at which jobs were finished, after a run that leaves the clock at a tick. Each is the end of a tick of the
--- window
-abbrev pub completions_after_run : Window → ℕ → Ran → List ℕ → List ℕ
-completions_after_run w clock (ran.Done c) ts = if ltb w.from clock && leb clock w.to then ts ++ clock ∷ [] else ts
-completions_after_run w clock _ ts = ts
-
--- those ticks after one more step
-abbrev pub completions_after : Window → ℕ → Event → List ℕ → List ℕ
-completions_after w clock (event.Ran r) ts = completions_after_run w clock r ts
-completions_after w clock _ ts = ts
-
--- those ticks after all steps
-abbrev pub completions_seen : Window → List Seen → List ℕ
-completions_seen w [] = []
-completions_seen w (o ∷ own) = completions_after w o.clock o.event (completions_seen w own)

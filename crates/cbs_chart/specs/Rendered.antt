@@ -4,7 +4,7 @@ use Rattle.std.specs.List.{list_any}
 use Rattle.cbs_chart.specs.Charts.{RowSeen}
 use Rattle.cbs_chart.specs.Courses.{course_until}
 use Rattle.cbs_chart.specs.Deadlines.{deadlines_until}
-use Rattle.cbs_chart.specs.Jobs.{all_jobs, late_stretch}
+use Rattle.cbs_chart.specs.Jobs.{all_jobs, completions, late_stretch}
 use Rattle.cbs_chart.specs.Rows.{spans_until}
 use Rattle.cbs_stretches.specs.Stretches.{all_of, is_covered, takes}
 use Rattle.cbs_chart.specs.declared.chart.ServerChart.{ServerChart}
@@ -24,8 +24,8 @@ pub record IsRowChart (w : Window) (end : ℕ) (row : RowSeen) (c : ServerChart)
   pub refused : c.refused.items ≡ all_of row.refused
   pub refusals : c.refusals ≡ row.refusals
   pub arrivals : c.arrivals.items ≡ row.arrivals
-  pub completions : c.completions.items ≡ row.completions
   pub jobs : c.jobs.items ≡ all_jobs w row.jobs
+  pub completions : c.completions.items ≡ completions w c.jobs.items
   pub late : LateCovered w end c.jobs.items c.late.items
   pub deadlines : c.deadlines.items ≡ deadlines_until w row.reservation row.last end row.deadlines
   pub course : record { opening = c.opening; corners = c.corners.items } ≡ course_until w row.reservation row.last end row.course

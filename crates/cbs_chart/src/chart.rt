@@ -4,7 +4,7 @@ ghost use Rattle.std.specs.Prelude.{◌≡◌, IfOk};
 ghost use Rattle.cbs_chart.specs.Rendered.{IsRowChart, LateCovered};
 
 use crate::course::Corner;
-use crate::jobs::ChartJob;
+use crate::jobs::{ChartJob, completions_of};
 use crate::row::Row;
 use cbs_stretches::{Stretch, Stretches, Window};
 use std::alloc::{AllocError, Global};
@@ -25,7 +25,7 @@ pub struct ServerChart {
     pub jobs: Vec<ChartJob>,
     /// The ticks at which accepted jobs come.
     pub arrivals: Vec<u64>,
-    /// The ticks at which jobs are finished.
+    /// The ticks at which jobs end, each after its last unit and all that is charged for that unit.
     pub completions: Vec<u64>,
     /// The deadlines that the server gets.
     pub deadlines: Vec<u64>,
@@ -89,13 +89,13 @@ impl Row {
             refused,
             refusals,
             arrivals,
-            completions,
             jobs,
             deadlines,
             course,
         } = self;
         let jobs = jobs.into_all(window)?;
         let late = late_of(alloc, window, end, &jobs)?;
+        let completions = completions_of(alloc, window, &jobs)?;
         let (opening, corners) = course.into_parts();
         Ok(ServerChart {
             spans: spans.into_all()?,

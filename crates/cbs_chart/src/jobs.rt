@@ -1,8 +1,10 @@
 //! The jobs of one server.
 
-ghost use Rattle.std.specs.Prelude.{◌≡◌, ◌++◌, ◌∷◌, [], IfOk, OnOk, slice_get};
+ghost use Rattle.std.specs.Prelude.{◌≡◌, ◌++◌, ◌∷◌, [], IfOk, OnOk};
+ghost use Rattle.std.specs.Option.{option_map};
 ghost use Rattle.cbs_views.specs.declared.seen.Event.{Event};
-ghost use Rattle.cbs_chart.specs.Jobs.{all_jobs, is_shown, job_numbered, job_of, jobs_after, jobs_without, late_stretch, no_jobs};
+ghost use Rattle.cbs_chart.specs.Jobs.{all_jobs, completions, finished_at, is_shown, job_numbered, job_of};
+ghost use Rattle.cbs_chart.specs.Jobs.{jobs_after, jobs_after_run, jobs_settled, late_stretch, no_jobs};
 
 use cbs_steps::Ran;
 use cbs_stretches::{Kind, Stretch, Window};
@@ -24,7 +26,8 @@ pub struct ChartJob {
     pub within: Option<u64>,
     /// The tick by which the job was promised to be finished, if one was promised.
     pub promised: Option<u128>,
-    /// The tick at which the job was finished, if it was.
+    /// The tick at which the job ended, if it did: the clock after its last unit and all that was charged for that
+    /// unit.
     pub finish: Option<u64>,
 }
 
@@ -35,10 +38,30 @@ pub fn job_numbered(number: u64, jobs: &[ChartJob]) -> Option<ChartJob>
     jobs.iter().copied().find(|job| job.number == number)
 }
 
+/// Returns the ticks up to the window's end at which these jobs ended. The only error is out of memory.
+pub(crate) fn completions_of(
+    alloc: Global,
+    window: Window,
+    jobs: &[ChartJob],
+) -> Result<Vec<u64>, AllocError>
+    ensures { IfOk result (λ ticks. ticks.items ≡ completions window jobs.now) }
+{
+    let mut ticks = Vec::new(alloc);
+    for job in jobs {
+        match job.finish {
+            Some(finish) if finish <= window.to => ticks.push(finish)?,
+            _ => {}
+        }
+    }
+    Ok(ticks)
+}
+
 /// The jobs of one server that a window shows, and the jobs that wait.
 #[derive(Drop)]
 pub(crate) struct Jobs {
     finished: Vec<ChartJob>,
+    // The job that the newest unit finished: a charge for that unit puts its end off.
+    newest: Option<ChartJob>,
     // The oldest first.
     waiting: VecDeque<ChartJob>,
 }
@@ -48,7 +71,7 @@ impl Model for Jobs {
 
     ghost Value = { JobsSeen };
 
-    ghost view = { λ j. record { finished = j.finished.items; waiting = j.waiting.items } };
+    ghost view = { λ j. record { finished = j.finished.items; newest = j.newest; waiting = j.waiting.items } };
 }
 
 /// Returns the job that was accepted.
@@ -66,11 +89,25 @@ fn job_of(job: Arrival, number: u64, promised: Option<u128>) -> ChartJob
 }
 
 impl ChartJob {
-    /// Returns whether the window shows the job, if it is finished at the tick `finish`.
-    fn is_shown(&self, window: Window, finish: u64) -> bool
-        ensures { result ≡ is_shown window finish self.now }
+    /// Returns the job, finished at the tick `clock`.
+    fn finished_at(self, clock: u64) -> ChartJob
+        ensures { result ≡ finished_at clock self }
     {
-        window.from < finish && self.came < window.to
+        ChartJob {
+            finish: Some(clock),
+            ..self
+        }
+    }
+
+    /// Returns whether the job is unfinished in some tick of the window.
+    fn is_shown(&self, window: Window) -> bool
+        ensures { result ≡ is_shown window self.now }
+    {
+        let open = match self.finish {
+            Some(finish) => window.from < finish,
+            None => true,
+        };
+        open && self.came < window.to
     }
 
     /// Returns the ticks in which the job is late, in a run that ends at the tick `end`.
@@ -96,29 +133,42 @@ impl Jobs {
     {
         Jobs {
             finished: Vec::new(alloc),
+            newest: None,
             waiting: VecDeque::new(alloc),
         }
     }
 
-    /// Removes the oldest job that waits, which was finished at the tick `clock`. Keeps it as a finished job if the
-    /// window shows it. Refuses if out of memory.
-    fn finish(&mut self, window: Window, clock: u64) -> Result<(), AllocError>
-        ensures { OnOk result (self.new ≡ jobs_without window clock (slice_get self.old.waiting 0) self.old) }
+    /// Keeps the newest finished job if the window shows it: nothing can put its end off any more. Refuses if out of
+    /// memory.
+    fn settle(&mut self, window: Window) -> Result<(), AllocError>
+        ensures { OnOk result (self.new ≡ jobs_settled window self.old) }
     {
-        let Some(job) = self.waiting.pop_front() else {
+        let Some(job) = self.newest.take() else {
             return Ok(());
         };
-        if job.is_shown(window, clock) {
-            self.finished.push(ChartJob {
-                number: job.number,
-                came: job.came,
-                units: job.units,
-                within: job.within,
-                promised: job.promised,
-                finish: Some(clock),
-            })?;
+        if job.is_shown(window) {
+            self.finished.push(job)?;
         }
         Ok(())
+    }
+
+    /// Adds a run, after which the clock is at `clock`. The last unit of a job finishes the oldest one that waits.
+    /// Refuses if out of memory.
+    fn run(&mut self, window: Window, clock: u64, ran: Ran) -> Result<(), AllocError>
+        ensures { OnOk result (self.new ≡ jobs_after_run window clock ran self.old) }
+    {
+        self.settle(window)?;
+        if let Ran::Done(_) = ran {
+            self.newest = self.waiting.pop_front().map(|job| job.finished_at(clock));
+        }
+        Ok(())
+    }
+
+    /// Puts the end of the newest finished job off to the tick `clock`, if there is such a job.
+    fn put_off(&mut self, clock: u64)
+        ensures { self.new ≡ record self.old { newest = option_map (finished_at clock) self.old.newest } }
+    {
+        self.newest = self.newest.map(|job| job.finished_at(clock));
     }
 
     /// Adds a step, after which the clock is at `clock`. Refuses if out of memory.
@@ -135,29 +185,33 @@ impl Jobs {
                 self.waiting.push_back(job_of(job, number, promised))?;
                 Ok(())
             }
-            Event::Ran(Ran::Done(_)) => self.finish(window, clock),
-            Event::Ran(_)
-            | Event::NotAccepted { .. }
+            Event::Ran(ran) => self.run(window, clock, ran),
+            Event::Charged { .. } => {
+                self.put_off(clock);
+                Ok(())
+            }
+            Event::NotAccepted { .. }
             | Event::Advanced(_)
             | Event::NotAdvanced(..)
             | Event::Closed(_)
             | Event::NotClosed(..)
-            | Event::Charged { .. }
             | Event::NotCharged { .. } => Ok(()),
         }
     }
 
-    /// Returns the finished jobs, and after them the waiting jobs that came before the window's end. The only error is
-    /// out of memory.
-    pub fn into_all(self, window: Window) -> Result<Vec<ChartJob>, AllocError>
+    /// Returns the jobs that the window shows: the finished ones, and after them those that wait. The only error is out
+    /// of memory.
+    pub fn into_all(mut self, window: Window) -> Result<Vec<ChartJob>, AllocError>
         ensures { IfOk result (λ all. all.items ≡ all_jobs window self) }
     {
+        self.settle(window)?;
         let Jobs {
             finished: mut all,
+            newest: _,
             mut waiting,
         } = self;
         while let Some(job) = waiting.pop_front() {
-            if job.came < window.to {
+            if job.is_shown(window) {
                 all.push(job)?;
             }
         }

@@ -1,11 +1,10 @@
-//! The ticks at which jobs come and are finished, and the number of refused releases.
+//! The ticks at which jobs come, and the number of refused releases.
 
 ghost use Rattle.std.specs.Prelude.{◌≡◌, OnOk};
-ghost use Rattle.cbs_chart.specs.Marks.{arrivals_after, completions_after, refusals_after};
+ghost use Rattle.cbs_chart.specs.Marks.{arrivals_after, refusals_after};
 
-use cbs_steps::Ran;
 use cbs_stretches::Window;
-use cbs_views::{Event, Seen};
+use cbs_views::Event;
 use std::alloc::AllocError;
 
 /// Returns how many releases were refused in the window, after one more step: at most 2^64 - 1.
@@ -49,34 +48,6 @@ pub(crate) fn add_arrival(
         }
         Event::NotAccepted { .. }
         | Event::Ran(_)
-        | Event::Advanced(_)
-        | Event::NotAdvanced(..)
-        | Event::Closed(_)
-        | Event::NotClosed(..)
-        | Event::Charged { .. }
-        | Event::NotCharged { .. } => Ok(()),
-    }
-}
-
-/// Adds the tick at which a job was finished, if the step finished a job and the window shows that tick.
-#[inline]
-pub(crate) fn add_completion(
-    window: Window,
-    seen: &Seen,
-    completions: &mut Vec<u64>,
-) -> Result<(), AllocError>
-    ensures { OnOk result (completions.new.items ≡ completions_after window seen.now.clock seen.now.event completions.old.items) }
-{
-    match seen.event {
-        Event::Ran(Ran::Done(_)) => {
-            if window.from < seen.clock && seen.clock <= window.to {
-                completions.push(seen.clock)?;
-            }
-            Ok(())
-        }
-        Event::Ran(_)
-        | Event::Accepted { .. }
-        | Event::NotAccepted { .. }
         | Event::Advanced(_)
         | Event::NotAdvanced(..)
         | Event::Closed(_)

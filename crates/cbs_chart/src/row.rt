@@ -7,7 +7,7 @@ ghost use Rattle.cbs_chart.specs.Rows.{refused_after, spans_until};
 use crate::course::Course;
 use crate::deadlines::{add_deadlines, add_renewed};
 use crate::jobs::Jobs;
-use crate::marks::{add_arrival, add_completion, refusals_after};
+use crate::marks::{add_arrival, refusals_after};
 use crate::steps::stretch_of;
 use crate::waits::Last;
 use cbs_rate::Reservation;
@@ -25,7 +25,6 @@ pub(crate) struct Row {
     pub(crate) refused: Stretches,
     pub(crate) refusals: u64,
     pub(crate) arrivals: Vec<u64>,
-    pub(crate) completions: Vec<u64>,
     pub(crate) jobs: Jobs,
     pub(crate) deadlines: Vec<u64>,
     pub(crate) course: Course,
@@ -43,7 +42,6 @@ impl Model for Row {
       refused = r.refused;
       refusals = r.refusals;
       arrivals = r.arrivals.items;
-      completions = r.completions.items;
       jobs = r.jobs;
       deadlines = r.deadlines.items;
       course = r.course;
@@ -104,7 +102,6 @@ impl Row {
             refused: Stretches::new(alloc),
             refusals: 0,
             arrivals: Vec::new(alloc),
-            completions: Vec::new(alloc),
             jobs: Jobs::new(alloc),
             deadlines: Vec::new(alloc),
             course: Course::new(alloc),
@@ -122,7 +119,6 @@ impl Row {
         add_refused(window, &seen.event, &mut self.refused)?;
         self.refusals = refusals_after(window, &seen.event, self.refusals);
         add_arrival(window, &seen.event, &mut self.arrivals)?;
-        add_completion(window, seen, &mut self.completions)?;
         self.jobs.add(window, seen.clock, seen.event)?;
         add_deadlines(window, self.reservation, last, seen, &mut self.deadlines)?;
         self.course.add(window, self.reservation, last, seen)?;

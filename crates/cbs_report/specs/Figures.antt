@@ -1,6 +1,7 @@
 -- The figures of one server, as functions of its steps. The steps stand with the newest first.
 use Rattle.std.specs.Prelude.{◌≡◌, ℕ, ◌+◌, ◌-◌, Bool, false, ◌&&◌, ◌||◌, eqb, leb, ltb, min, max}
-use Rattle.std.specs.Prelude.{if◌then◌else◌, List, [], ◌∷◌, ◌++◌, length, map, drop, filter, flat_map, Option, Some, None, MatchOption}
+use Rattle.std.specs.Prelude.{if◌then◌else◌, List, [], ◌∷◌, ◌++◌, length, map, drop, filter, flat_map, slice_get, Option, Some, None, MatchOption}
+use Rattle.std.specs.Option.{option_map, option_to_list}
 use Rattle.cbs_steps.specs.declared.reply.Ran.TheVariants as ran
 use Rattle.cbs_steps.specs.declared.view.ServerView.{ServerView}
 use Rattle.cbs_views.specs.Events.{server_of, ticks_of_run, begun}
@@ -11,6 +12,7 @@ use Rattle.cbs_views.specs.declared.seen.Seen.{Seen}
 use Rattle.cbs_report.specs.Percentiles.{AreRanks}
 use Rattle.cbs_report.specs.declared.figures.Figures.{Figures}
 use Rattle.cbs_report.specs.declared.job.AcceptedJob.{AcceptedJob}
+use Rattle.cbs_report.specs.declared.job.Finish.{Finish}
 
 -- the server is server s
 abbrev pub is_server : ℕ → Option ℕ → Bool
@@ -107,26 +109,40 @@ abbrev pub greatest_backlog : List Seen → ℕ
 greatest_backlog [] = 0
 greatest_backlog (o ∷ own) = max (greatest_backlog own) (length (waiting (o ∷ own)))
 
--- a finished job, with the tick at which it was finished
-pub record Finish : Type 0 where
-  pub job : AcceptedJob
-  pub at : ℕ
+-- the oldest job that waits, finished at a tick
+abbrev pub oldest_finished : ℕ → List AcceptedJob → Option Finish
+oldest_finished now jobs = option_map (λ job. record { job = job; at = now }) (slice_get jobs 0)
 
--- the finished jobs after the oldest job that waits is finished at a tick, if a job waits
-abbrev pub with_first : ℕ → List AcceptedJob → List Finish → List Finish
-with_first now [] done = done
-with_first now (job ∷ jobs) done = done ++ record { job = job; at = now } ∷ []
+-- the same finished job, if there is one, with its end put off to a tick
+abbrev pub put_off : ℕ → Option Finish → Option Finish
+put_off now f = option_map (λ f. record { job = f.job; at = now }) f
 
--- the finished jobs after a step that leaves the clock at `now`. The last unit of a job finishes the oldest job that
--- waited
-abbrev pub finished_after : ℕ → Event → List AcceptedJob → List Finish → List Finish
-finished_after now (event.Ran (ran.Done c)) jobs done = with_first now jobs done
-finished_after now _ jobs done = done
+-- The job that the newest unit of the server finished, if it finished one, after a step that leaves the clock at `now`.
+-- The job ends with the last charge for that unit: each such charge puts its end off
+abbrev pub newest_after : ℕ → Event → List AcceptedJob → Option Finish → Option Finish
+newest_after now (event.Ran (ran.Done c)) jobs newest = oldest_finished now jobs
+newest_after now (event.Ran r) jobs newest = None
+newest_after now (event.Charged s n) jobs newest = put_off now newest
+newest_after now _ jobs newest = newest
+
+-- that job after all steps
+abbrev pub newest : List Seen → Option Finish
+newest [] = None
+newest (o ∷ own) = newest_after o.clock o.event (waiting own) (newest own)
+
+-- the jobs that units before the newest finished, after a step: a further unit settles when the newest ended
+abbrev pub settled_after : Event → Option Finish → List Finish → List Finish
+settled_after (event.Ran r) newest settled = settled ++ option_to_list newest
+settled_after _ newest settled = settled
+
+-- those jobs after all steps, in order
+abbrev pub settled : List Seen → List Finish
+settled [] = []
+settled (o ∷ own) = settled_after o.event (newest own) (settled own)
 
 -- the finished jobs, in order
 abbrev pub finished : List Seen → List Finish
-finished [] = []
-finished (o ∷ own) = finished_after o.clock o.event (waiting own) (finished own)
+finished own = settled own ++ option_to_list (newest own)
 
 -- the response time of a finished job
 abbrev pub response : Finish → ℕ

@@ -1,7 +1,7 @@
 -- What a report keeps of the steps of one server, and how one more step changes it. The steps stand with the newest
 -- first. For the code alone.
 use Rattle.std.specs.Prelude.{◌≡◌, ◌≢◌, ℕ, ◌+◌, ◌-◌, ◌<◌, ◌&&◌, ltb, max, min, if◌then◌else◌, List, [], ◌∷◌}
-use Rattle.std.specs.Prelude.{◌++◌, length, drop, get_or, map, slice_get, Option, Some, None}
+use Rattle.std.specs.Prelude.{◌++◌, length, drop, get_or, map, Option, Some, None}
 use Rattle.cbs_steps.specs.declared.reply.Ran.{Ran}
 use Rattle.cbs_steps.specs.declared.reply.Ran.TheVariants as ran
 use Rattle.cbs_steps.specs.declared.view.ServerView.{ServerView}
@@ -11,12 +11,14 @@ use Rattle.cbs_views.specs.declared.seen.Event.TheVariants as event
 use Rattle.cbs_views.specs.declared.seen.Seen.{Seen}
 use Rattle.cbs_report.specs.Figures.{AreFigures, steps_of, told, told_sum, total, greatest, refusals}
 use Rattle.cbs_report.specs.Figures.{units_asked, units_run, is_used_up, units_exhausting, ticks_charged, throttled}
-use Rattle.cbs_report.specs.Figures.{accepted_job, waiting, greatest_backlog, finished, responses, exceeds, one_if, late, earliness, sum_of, least_of, lesser}
+use Rattle.cbs_report.specs.Figures.{accepted_job, waiting, greatest_backlog, oldest_finished, put_off, newest, settled, response}
+use Rattle.cbs_report.specs.Figures.{exceeds, one_if, late_among, earliness, sum_of, least_of, lesser}
 use Rattle.cbs_report.specs.declared.early.Early.{Early}
 use Rattle.cbs_report.specs.declared.figures.Figures.{Figures}
 use Rattle.cbs_report.specs.declared.held.Held.{Held}
 use Rattle.cbs_report.specs.declared.held.Wait.{Wait}
 use Rattle.cbs_report.specs.declared.job.AcceptedJob.{AcceptedJob}
+use Rattle.cbs_report.specs.declared.job.Finish.{Finish}
 use Rattle.cbs_report.specs.declared.sums.Sums.{Sums}
 
 -- the sums over steps
@@ -77,44 +79,61 @@ early_with (Some promised) at e = record {
   least = Some (lesser (promised - at) e.least);
 }
 
--- the tally of the jobs: those that wait, the response times of those that were finished, and sums over both
+-- the tally of the jobs: those that wait, the one that the newest unit finished, the response times of those finished
+-- before it, and sums
 pub record Jobs : Type 0 where
   pub waiting : List AcceptedJob
+  pub newest : Option Finish
   pub responses : List ℕ
   pub response_total : ℕ
   pub greatest_backlog : ℕ
   pub late : ℕ
   pub early : Early
 
-abbrev pub jobs_of : List Seen → Jobs
-jobs_of own = record {
-  waiting = waiting own;
-  responses = responses own;
-  response_total = told_sum (sum_of (responses own));
-  greatest_backlog = greatest_backlog own;
-  late = told (late own);
-  early = early_of (earliness (finished own));
+-- the tally of these jobs
+abbrev pub tally : List AcceptedJob → Option Finish → ℕ → List Finish → Jobs
+tally waiting newest greatest_backlog settled = record {
+  waiting = waiting;
+  newest = newest;
+  responses = map response settled;
+  response_total = told_sum (sum_of (map response settled));
+  greatest_backlog = greatest_backlog;
+  late = told (late_among settled);
+  early = early_of (earliness settled);
 }
+
+abbrev pub jobs_of : List Seen → Jobs
+jobs_of own = tally (waiting own) (newest own) (greatest_backlog own) (settled own)
 
 -- the tally after a job was accepted
 abbrev pub jobs_with : AcceptedJob → Jobs → Jobs
 jobs_with job t = record t { waiting = t.waiting ++ job ∷ []; greatest_backlog = max t.greatest_backlog (length (t.waiting ++ job ∷ [])) }
 
--- the tally after the oldest job was finished, if there is one
-abbrev pub jobs_without : ℕ → Option AcceptedJob → Jobs → Jobs
-jobs_without now None t = t
-jobs_without now (Some job) t = record t {
-  waiting = drop 1 t.waiting;
-  responses = t.responses ++ (now - job.came) ∷ [];
-  response_total = told_sum (t.response_total + (now - job.came));
-  late = told (t.late + one_if (exceeds (now - job.came) job.within));
-  early = early_with job.promised now t.early;
+-- the tally after the newest finished job was counted, if there is one
+abbrev pub jobs_settled : Option Finish → Jobs → Jobs
+jobs_settled None t = t
+jobs_settled (Some f) t = record t {
+  newest = None;
+  responses = t.responses ++ response f ∷ [];
+  response_total = told_sum (t.response_total + response f);
+  late = told (t.late + one_if (exceeds (response f) f.job.within));
+  early = early_with f.job.promised f.at t.early;
 }
+
+-- the tally after the oldest job was finished, if there is one
+abbrev pub jobs_without : ℕ → Jobs → Jobs
+jobs_without now t = record t { waiting = drop 1 t.waiting; newest = oldest_finished now t.waiting }
+
+-- the tally after a run
+abbrev pub jobs_after_run : ℕ → Ran → Jobs → Jobs
+jobs_after_run now (ran.Done c) t = jobs_without now (jobs_settled t.newest t)
+jobs_after_run now r t = jobs_settled t.newest t
 
 -- the tally after a step
 abbrev pub jobs_after : ℕ → Event → Jobs → Jobs
 jobs_after now (event.Accepted job number promised) t = jobs_with (accepted_job job promised) t
-jobs_after now (event.Ran (ran.Done c)) t = jobs_without now (slice_get t.waiting 0) t
+jobs_after now (event.Ran r) t = jobs_after_run now r t
+jobs_after now (event.Charged s n) t = record t { newest = put_off now t.newest }
 jobs_after now _ t = t
 
 -- the tally of one server, over its steps

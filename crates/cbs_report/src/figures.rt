@@ -44,7 +44,7 @@ pub struct Figures {
     /// The greatest charge, in ticks.
     pub greatest_charge: u64,
     /// The response times of the finished jobs by their ranks, if there are any. A response time is the ticks from a
-    /// job's arrival to its end.
+    /// job's arrival to its end: the clock after its last unit and all that was charged for that unit.
     pub responses: Option<Ranks>,
     /// The response times added up.
     pub response_total: u128,

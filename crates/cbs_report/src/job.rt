@@ -1,6 +1,7 @@
-//! Jobs that wait to be finished.
+//! Jobs that wait to be finished, and jobs that are.
 
 ghost use Rattle.std.specs.Prelude.{◌≡◌, ◌-◌};
+ghost use Rattle.cbs_report.specs.Figures.{response};
 
 /// An accepted job.
 #[derive(Clone, Copy)]
@@ -19,5 +20,23 @@ impl AcceptedJob {
         ensures { result ≡ now - self.now.came }
     {
         now.saturating_sub(self.came)
+    }
+}
+
+/// A finished job, with the tick at which it ended.
+#[derive(Clone, Copy)]
+pub struct Finish {
+    /// The job.
+    pub job: AcceptedJob,
+    /// The clock after the job's last unit and all that was charged for that unit.
+    pub at: u64,
+}
+
+impl Finish {
+    /// Returns the job's response time: how many ticks after its arrival it ended.
+    pub fn response(&self) -> u64
+        ensures { result ≡ response self.now }
+    {
+        self.job.age(self.at)
     }
 }

@@ -1,13 +1,14 @@
 //! The jobs of one server.
 
-ghost use Rattle.std.specs.Prelude.{◌≡◌, ℕ, List, [], IfOk, OnOk, slice_get};
+ghost use Rattle.std.specs.Prelude.{◌≡◌, ℕ, List, [], IfOk, None, OnOk};
 ghost use Rattle.cbs_views.specs.declared.seen.Seen.{Seen};
-ghost use Rattle.cbs_report.specs.Figures.{AreFigures, exceeds, overdue, throttled, told, uses};
-ghost use Rattle.cbs_report.specs.Tallies.{jobs_of, jobs_with, jobs_without, jobs_after, sums_of};
+ghost use Rattle.cbs_report.specs.Figures.{AreFigures, exceeds, finished, greatest_backlog, overdue, put_off};
+ghost use Rattle.cbs_report.specs.Figures.{throttled, told, uses, waiting};
+ghost use Rattle.cbs_report.specs.Tallies.{jobs_of, jobs_with, jobs_settled, jobs_after, jobs_after_run, sums_of, tally};
 
 use crate::early::Early;
 use crate::figures::Figures;
-use crate::job::AcceptedJob;
+use crate::job::{AcceptedJob, Finish};
 use crate::ranks::ranks_of;
 use crate::sums::Sums;
 use cbs_steps::Ran;
@@ -16,11 +17,14 @@ use std::alloc::{AllocError, Allocator, Global};
 use std::collections::VecDeque;
 use std::marker::Model;
 
-/// The jobs of one server: those that wait, the response times of those that were finished, and sums over both.
+/// The jobs of one server: those that wait, the one that the newest unit finished, the response times of those finished
+/// before it, and sums.
 #[derive(Drop)]
 pub struct JobTally<A: Allocator = Global> {
     // The oldest first.
     waiting: VecDeque<AcceptedJob, A>,
+    // Not counted yet: a charge for the unit that finished it puts its end off.
+    newest: Option<Finish>,
     responses: Vec<u64, A>,
     response_total: u128,
     greatest_backlog: usize,
@@ -35,6 +39,7 @@ impl<A: Allocator> Model for JobTally<A> {
 
     ghost view = { λ t. record {
       waiting = t.waiting.items;
+      newest = t.newest;
       responses = t.responses.items;
       response_total = t.response_total;
       greatest_backlog = t.greatest_backlog;
@@ -71,6 +76,7 @@ impl<A: Allocator + Clone> JobTally<A> {
         let other = alloc.clone()?;
         Ok(JobTally {
             waiting: VecDeque::new(other),
+            newest: None,
             responses: Vec::new(alloc),
             response_total: 0,
             greatest_backlog: 0,
@@ -91,23 +97,45 @@ impl<A: Allocator> JobTally<A> {
         Ok(())
     }
 
-    /// Removes the oldest job that waits, which was finished at the tick `now`, and adds its response time. Refuses if
-    /// out of memory.
+    /// Counts the newest finished job, if there is one: nothing can put its end off any more. Refuses if out of memory.
     #[inline(always)]
-    fn finish(&mut self, now: u64) -> Result<(), AllocError>
-        ensures { OnOk result (self.new ≡ jobs_without now (slice_get self.old.waiting 0) self.old) }
+    fn settle(&mut self) -> Result<(), AllocError>
+        ensures { OnOk result (self.new ≡ jobs_settled self.old.newest self.old) }
     {
-        let Some(job) = self.waiting.pop_front() else {
+        let Some(finish) = self.newest.take() else {
             return Ok(());
         };
-        let response = job.age(now);
+        let response = finish.response();
         self.responses.push(response)?;
         self.response_total = self.response_total.saturating_add(u128::from(response));
         self.late = self
             .late
-            .saturating_add(u64::from(exceeds(response, job.within)));
-        self.early.add(job.promised, now);
+            .saturating_add(u64::from(exceeds(response, finish.job.within)));
+        self.early.add(finish.job.promised, finish.at);
         Ok(())
+    }
+
+    /// Adds a run, after which the clock is at `now`. The last unit of a job finishes the oldest job that waits. Refuses
+    /// if out of memory.
+    #[inline(always)]
+    fn run(&mut self, now: u64, ran: Ran) -> Result<(), AllocError>
+        ensures { OnOk result (self.new ≡ jobs_after_run now ran self.old) }
+    {
+        self.settle()?;
+        if let Ran::Done(_) = ran {
+            self.newest = self.waiting.pop_front().map(|job| Finish { job, at: now });
+        }
+        Ok(())
+    }
+
+    /// Puts the end of the newest finished job off to the tick `now`, if there is such a job.
+    #[inline(always)]
+    fn put_off(&mut self, now: u64)
+        ensures { self.new ≡ record self.old { newest = put_off now self.old.newest } }
+    {
+        if let Some(finish) = &mut self.newest {
+            finish.at = now;
+        }
     }
 
     /// Adds a step, after which the clock is at `now`. Refuses if out of memory.
@@ -121,7 +149,11 @@ impl<A: Allocator> JobTally<A> {
                 within: job.within,
                 promised,
             }),
-            Event::Ran(Ran::Done(_)) => self.finish(now),
+            Event::Ran(ran) => self.run(now, ran),
+            Event::Charged { .. } => {
+                self.put_off(now);
+                Ok(())
+            }
             _ => Ok(()),
         }
     }
@@ -137,11 +169,10 @@ impl<A: Allocator> JobTally<A> {
         late.count() as u64
     }
 
-    /// Returns the figures up to the tick `now`, with these sums and this many ticks in which the server was throttled
-    /// and had a job. Sorts the response times.
-    pub fn figures(&mut self, now: u64, sums: &Sums, held: u64) -> Figures
-        ensures { (budget : ℕ) (own : List Seen) → self.old ≡ jobs_of own → sums.now ≡ sums_of budget own
-            → held ≡ told (throttled now own) → AreFigures budget now own result }
+    /// Returns the figures up to the tick `now`, if each finished job is counted. Sorts the response times.
+    fn settled_figures(&mut self, now: u64, sums: &Sums, held: u64) -> Figures
+        ensures { (budget : ℕ) (own : List Seen) → self.old ≡ tally (waiting own) None (greatest_backlog own) (finished own)
+            → sums.now ≡ sums_of budget own → held ≡ told (throttled now own) → AreFigures budget now own result }
     {
         Figures {
             refused: sums.refused,
@@ -162,5 +193,15 @@ impl<A: Allocator> JobTally<A> {
             early_least: self.early.least,
             responses: ranks_of(&mut self.responses),
         }
+    }
+
+    /// Returns the figures up to the tick `now`, with these sums and this many ticks in which the server was throttled
+    /// and had a job. Counts the newest finished job, and sorts the response times. The only error is out of memory.
+    pub fn figures(&mut self, now: u64, sums: &Sums, held: u64) -> Result<Figures, AllocError>
+        ensures { IfOk result (λ figures. (budget : ℕ) (own : List Seen) → self.old ≡ jobs_of own
+            → sums.now ≡ sums_of budget own → held ≡ told (throttled now own) → AreFigures budget now own figures) }
+    {
+        self.settle()?;
+        Ok(self.settled_figures(now, sums, held))
     }
 }

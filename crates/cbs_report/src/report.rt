@@ -52,7 +52,8 @@ impl<A: Allocator + Clone> Report<A> {
     {
         let mut figures = Vec::with_capacity(alloc, self.tallies.len())?;
         for mut tally in self.tallies {
-            figures.push(tally.figures(now))?;
+            let own = tally.figures(now)?;
+            figures.push(own)?;
         }
         Ok(figures)
     }

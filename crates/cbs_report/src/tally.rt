@@ -57,9 +57,10 @@ impl<A: Allocator> Tally<A> {
         self.jobs.add(seen.clock, seen.event)
     }
 
-    /// Returns the figures up to the tick `now`. Sorts the response times.
-    pub fn figures(&mut self, now: u64) -> Figures
-        ensures { (own : List Seen) → self.old ≡ kept_of self.old.budget own → AreFigures self.old.budget now own result }
+    /// Returns the figures up to the tick `now`. Sorts the response times. The only error is out of memory.
+    pub fn figures(&mut self, now: u64) -> Result<Figures, AllocError>
+        ensures { IfOk result (λ figures. (own : List Seen) → self.old ≡ kept_of self.old.budget own
+            → AreFigures self.old.budget now own figures) }
     {
         let throttled = self.held.until(now);
         self.jobs.figures(now, &self.sums, throttled)

@@ -1,7 +1,7 @@
 use Rattle.std.proofs.Common.{◌≡◌, ◌++◌}
 use Rattle.std.specs.Prelude.{filter}
 use Rattle.std.specs.VecDeque.{deque_len}
-use Rattle.cbs_chart.specs.Jobs.{came_before_end}
+use Rattle.cbs_chart.specs.Jobs.{is_shown, jobs_settled}
 use Rattle.cbs_chart.proofs.jobs.Jobs.into_all.Given as goal
 
 abbrev pub decreases-loop-job : goal.decreases-loop-job
@@ -10,4 +10,5 @@ decreases-loop-job l = deque_len l.waiting
 -- the jobs that were taken, and those that are still to be taken
 abbrev pub invariant-loop-job : goal.invariant-loop-job
 invariant-loop-job l =
-    l.all.items ++ filter (came_before_end l.window) l.waiting.items ≡ l.fn.self.finished ++ filter (came_before_end l.window) l.fn.self.waiting
+    l.all.items ++ filter (is_shown l.window) l.waiting.items
+    ≡ (jobs_settled l.window l.fn.self).finished ++ filter (is_shown l.window) l.fn.self.waiting

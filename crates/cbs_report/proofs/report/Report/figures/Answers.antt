@@ -6,8 +6,8 @@ use Rattle.cbs_report.proofs.report.Report.figures.Goals as goal
 
 pub loop-tally-preserved : goal.loop-tally-preserved
 loop-tally-preserved g c =
-    let told = tell_more c.args.now c.loop-tally.yielded c.loop-tally.figures.items c.in-Some.tally c.figures.result c.loop-tally.invariant.told
-    c.figures.ensures in
+    let told = tell_more c.args.now c.loop-tally.yielded c.loop-tally.figures.items c.in-Some.tally c.in_ok-own.own c.loop-tally.invariant.told
+    c.in_ok-own.ensures in
     record {
       count = omega (arith, ap length c.in-Some.ensures.steps.0, c.in-Some.ensures.steps.1, c.loop-tally.invariant.count);
       all = c.loop-tally.invariant.all ∙ ap (λ xs. c.loop-tally.yielded ++ xs) c.in-Some.ensures.steps.0
