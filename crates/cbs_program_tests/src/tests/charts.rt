@@ -105,7 +105,7 @@ static SPANS: [(Kind, u64, u64); 5] = [
 /// When a release is refused, and when a job is late.
 static REFUSALS: [(Kind, u64, u64); 1] = [(Kind::Refused, 4, 5)];
 
-static LATE: [(Kind, u64, u64); 1] = [(Kind::Late, 9, 12)];
+static LATE: [(Kind, u64, u64); 1] = [(Kind::Late, 9, 14)];
 
 /// Returns the chart of the steps.
 fn chart_of_steps(alloc: Global) -> Result<Chart, Fail> {
@@ -130,7 +130,9 @@ fn a_chart_by_hand(rt: HostRuntime) -> Result<(), Fail> {
     same_stretches(&rt, "late", &server.late, &LATE);
     // The job came before the window.
     same(&rt, "arrivals", server.arrivals.len(), 0);
-    same(&rt, "completions", server.completions.as_slice(), &[12]);
+    // The job ends with the charge for its last unit.
+    same(&rt, "completions", server.completions.as_slice(), &[14]);
+    same(&rt, "finish", server.jobs[0].finish, Some(14));
     same(&rt, "deadlines", server.deadlines.as_slice(), &[11]);
     same(&rt, "opening", server.opening, 1);
     same(&rt, "runs", Counts::of(&server.spans, 2, 20).runs, 2);

@@ -1,5 +1,6 @@
 //! The figures of steps that are made by hand.
 
+use super::same;
 use cbs_job::Completion;
 use cbs_rate::{Bound, Plan, Reservation};
 use cbs_report::{Figures, Ranks, Report};
@@ -165,6 +166,73 @@ fn a_late_job_a_refused_one_and_a_charge_are_told(rt: HostRuntime) {
                 early_least: Some(4),
             }
     );
+}
+
+/// A charge of the server 0.
+fn charge(ticks: u64) -> Event {
+    Event::Charged { server: 0, ticks }
+}
+
+/// Tests how long the jobs of server 0 took at least and at most, how many were late, and the least of the ticks by
+/// which they were early. Each step is given with the clock after it.
+fn ends(
+    rt: &impl Abort,
+    label: &str,
+    steps: &[(u64, Event)],
+    (least, greatest): (u64, u64),
+    late: u64,
+    early: u128,
+) {
+    let alloc = rt.alloc();
+    let plan = plan_of(rt, &[(5, 10), (2, 6)]);
+    let mut report = Report::new(alloc, &plan).ok().expect(rt, "memory");
+    for &(clock, event) in steps {
+        let seen = Seen {
+            clock,
+            event,
+            view: None,
+        };
+        report.see(&mut (), seen).ok().expect(rt, "memory");
+    }
+    let figures = report.figures(alloc, 60).ok().expect(rt, "memory");
+    let first = at(rt, &figures, 0);
+    let responses = first.responses.expect(rt, "responses");
+    same(rt, label, (responses.least, responses.greatest), (least, greatest));
+    same(rt, label, first.late_finished, late);
+    same(rt, label, first.early_least, Some(early));
+}
+
+#[test]
+fn a_job_ends_with_the_last_charge_for_its_last_unit(rt: HostRuntime) {
+    let came = accepted(job(0, 0, 1, Some(4)), 0, 10);
+    let once = [(0, came), (1, last(0, 0)), (5, charge(4))];
+    ends(&rt, "one charge", &once, (5, 5), 1, 5);
+    let cut = [(0, came), (1, last(0, 0)), (4, charge(3))];
+    ends(&rt, "in time", &cut, (4, 4), 0, 6);
+    let parts = [(0, came), (1, last(0, 0)), (3, charge(2)), (5, charge(2))];
+    ends(&rt, "two parts", &parts, (5, 5), 1, 5);
+    let next = accepted(job(0, 1, 1, None), 1, 20);
+    let between = [(0, came), (1, last(0, 0)), (1, next), (5, charge(4))];
+    ends(&rt, "a submit between", &between, (5, 5), 1, 5);
+    let first = [(0, came), (1, unit(0, 0)), (3, charge(2)), (4, last(0, 0))];
+    ends(&rt, "an earlier unit", &first, (4, 4), 0, 6);
+    // The second job came at 1, and its unit runs from 1 to 2. Its charge is none of the first one's.
+    let backlog = [
+        (0, came),
+        (1, last(0, 0)),
+        (1, next),
+        (2, last(0, 1)),
+        (8, charge(6)),
+    ];
+    ends(&rt, "the last of two", &backlog, (1, 7), 0, 9);
+    let others = [
+        (0, came),
+        (1, last(0, 0)),
+        (3, charge(2)),
+        (4, last(1, 0)),
+        (9, Event::Charged { server: 1, ticks: 5 }),
+    ];
+    ends(&rt, "another server", &others, (3, 3), 0, 7);
 }
 
 #[test]
