@@ -1,17 +1,19 @@
 -- Worked examples of charges, computed from the definitions: states, the bound on lateness, refusals, promises, shares
 -- and due ticks. A job is the number of its units.
 use Rattle.std.proofs.Common.{◌≡◌, ℕ, ◌+◌, ◌-◌, ◌*◌, Bool, List, [], ◌∷◌, refl, true, false, Option, Some}
+use Rattle.std.specs.List.{sum_by}
 use Rattle.cbs_job.specs.Work.{Meaning}
 use Rattle.cbs_rules.specs.Rules.{State, Terms}
 use Rattle.cbs_rules.specs.declared.mode.Mode.{Mode}
 use Rattle.cbs_rules.specs.declared.mode.Mode.TheVariants.{Soft, Throttled}
 use Rattle.cbs_steps.specs.Accounts.{Account, face_of, finished, taken}
 use Rattle.cbs_steps.specs.Charged.{Due, due_tick, charged_due}
-use Rattle.cbs_steps.specs.History.{Setup, World, ticks, account, after, reply_to}
+use Rattle.cbs_steps.specs.History.{Setup, World, ticks, account, faces, after, reply_to}
 use Rattle.cbs_steps.specs.Lateness.{later_charges}
-use Rattle.cbs_steps.specs.OnTime.{is_late}
+use Rattle.cbs_steps.specs.OnTime.{demand, is_late}
 use Rattle.cbs_steps.specs.Promises.{promised}
 use Rattle.cbs_steps.specs.Quiet.{AdvanceQuietly}
+use Rattle.cbs_steps.specs.StrictlyOnTime.{strict_demand}
 use Rattle.cbs_steps.specs.declared.error.CoreError.TheVariants as error
 use Rattle.cbs_steps.specs.declared.step.Step.{Step}
 use Rattle.cbs_steps.specs.declared.step.Step.TheVariants.{Submit, Run, Advance, Charge}
@@ -318,3 +320,33 @@ finished_due : (finished_at shared (Run ∷ Run ∷ Run ∷ Run ∷ charged_firs
     ≡ (8, 2) ∷ (8, 1) ∷ (9, 2) ∷ []
 unfolding ticks
 finished_due = refl
+
+-- a throttled server of 2 in 4, and one of 4 in 8, with a job each; all take every tick, which has 8 parts
+abbrev unlike : List Terms
+unlike = server Throttled 2 4 ∷ server Soft 4 8 ∷ []
+
+abbrev one_of_two : List (Step ℕ)
+one_of_two = Run ∷ Submit 1 4 ∷ Submit 0 3 ∷ []
+
+-- what is left up to tick x after the steps; all demands, and all strict ones
+abbrev demands : List (Step ℕ) → ℕ → List ℕ
+demands M x =
+    let w = world unlike M in
+    (x - w.now) * 8 ∷ sum_by (demand 8 w.now x) (faces units w) ∷ sum_by (strict_demand 8 w.now x) (faces units w) ∷ []
+
+-- A second unit throttles the first server at tick 2, with deadline 4. Up to tick 6 it asks strictly for one tick, its
+-- share of the two after 4. Else it asks for nothing before 8, where both are the same again.
+throttled_strictly : (demands (Run ∷ one_of_two) 6 ∷ demands (Run ∷ one_of_two) 8 ∷ []) ≡ (32 ∷ 0 ∷ 8 ∷ []) ∷ (48 ∷ 48 ∷ 48 ∷ []) ∷ []
+unfolding ticks
+throttled_strictly = refl
+
+-- A charge need not leave all strictly on time. One of 2 is a tick more than the budget of the first server, which
+-- waits for 4 with an overrun of 1. Up to tick 8 five ticks are left. It asks for the one that its next budget then has,
+-- and the other server for four; strictly it asks for its share of the four ticks after 4, which are two.
+charged_strictly : (row unlike (Charge 0 2 ∷ one_of_two) 0 ∷ []) ≡ (3, waits 4 1) ∷ []
+unfolding ticks
+charged_strictly = refl
+
+charged_too_much : demands (Charge 0 2 ∷ one_of_two) 8 ≡ 5 * 8 ∷ 5 * 8 ∷ 6 * 8 ∷ []
+unfolding ticks
+charged_too_much = refl

@@ -119,3 +119,14 @@ asked_mono P u c e d x h = elim (cases_lt x d) [
 -- some budget asks for a tick at least, from the deadline on
 pub asked_some : (P u c d x : ℕ) → 0 < c → d ≤ x → P ≤ asked P u c d x
 asked_some P u c d x some h = let m = mul-le 1 P c P some (omega arith) in omega (arith, asked_from P u c d x h)
+
+-- before the deadline there is no time after it
+pub line_before : (u d x : ℕ) → x < d → (x - d) * u ≡ 0
+line_before u d x h = let z : x - d ≡ 0 = omega arith in rw z (omega arith)
+
+-- with no budget it is the share of the time after the deadline
+pub asked_spent : (P u d x : ℕ) → asked P u 0 d x ≡ (x - d) * u
+asked_spent P u d x = elim (cases_lt x d) [
+  | inl lt ↦ omega (arith, asked_before P u 0 d x lt, line_before u d x lt)
+  | inr ge ↦ omega (arith, asked_from P u 0 d x ge)
+]

@@ -109,7 +109,7 @@ module _ (P : ℕ) (r : Rate) (e : r.period * (P / r.period) ≡ P) where
   replenished_full now s x is = rw (replenished_funds r now s is, replenished_until r now s) refl
 
   -- a throttled server stays below its share from now on, if its deadline has not come
-  throttled_line : (s : State) (now x : ℕ) → s.throttled ≡ true → now ≤ s.deadline → full_demand P r s x ≤ share_until P r now x
+  pub throttled_line : (s : State) (now x : ℕ) → s.throttled ≡ true → now ≤ s.deadline → full_demand P r s x ≤ share_until P r now x
   throttled_line s now x t ahead =
       let u = share P r in
       let full : full_demand P r s x ≡ asked P u (r.budget - s.overrun) (s.deadline + r.period) x = rw t refl in

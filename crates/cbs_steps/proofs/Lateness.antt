@@ -16,11 +16,12 @@ use Rattle.cbs_steps.specs.Accounts.{Account, face_of, no_account, new_account}
 use Rattle.cbs_steps.specs.Charged.{others_charges}
 use Rattle.cbs_steps.specs.History.{World, Setup, History, account, start, after, world_after}
 use Rattle.cbs_steps.specs.Lateness.{later_charges, IsLateByLess, KeepsLateness}
-use Rattle.cbs_steps.specs.OnTime.{demand, full_demand, IsAhead}
+use Rattle.cbs_steps.specs.OnTime.{demand, demand_of, full_demand, IsAhead}
 use Rattle.cbs_steps.specs.Quiet.{AreQuiet, AdvanceQuietly, IsQuietStep, IsQuietAdvance}
 use Rattle.cbs_steps.specs.declared.step.Step.{Step}
 use Rattle.cbs_steps.specs.declared.step.Step.TheVariants.{Submit, Run, Advance, Close, Charge}
 use Rattle.cbs_steps.proofs.DemandLines.{asked_from}
+use Rattle.cbs_steps.proofs.DemandRules.{demand_ruled}
 use Rattle.cbs_steps.proofs.Demands.{demand_busy}
 use Rattle.cbs_steps.proofs.Faces.{runnable}
 use Rattle.cbs_steps.proofs.LawfulServers.{ready_budget}
@@ -134,7 +135,7 @@ module _ {W : Type 0} (work : Meaning W) where
   paced_start : (setup : Setup) → IsAdmitted (given work setup) → IsPaced work (all_periods (given work setup)) 0 (start setup)
   paced_start setup ok =
       let P = all_periods (given work setup) in
-      let on = timely_start work setup ok in
+      let on = timely_start work demand_of demand_ruled setup ok in
       record {
         within = λ x some.
             let b = on.within x (omega arith) in

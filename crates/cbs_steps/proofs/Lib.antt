@@ -4,6 +4,7 @@ pub mod ClosedServers
 pub mod Completions
 pub mod Covers
 pub mod DemandLines
+pub mod DemandRules
 pub mod Demands
 pub mod Dues
 pub mod Ends
@@ -32,6 +33,7 @@ pub mod StepLists
 pub mod SubmitRefusals
 pub mod Supplies
 pub mod Ticks
+pub mod TimelySteps
 pub mod Uncharged
 pub mod Waiting
 pub mod Windows

@@ -1,5 +1,5 @@
 -- What holds on time after whole lists of steps.
-use Rattle.std.proofs.Common.{◌≡◌, ℕ, zero, suc, ◌+◌, ◌-◌, ◌*◌, ◌≤◌, ◌<◌, true, false, leb, List, [], ◌∷◌, length, map, arith, refl, inl, inr, ◌∙◌}
+use Rattle.std.proofs.Common.{◌≡◌, ℕ, zero, suc, ◌+◌, ◌-◌, ◌*◌, ◌≤◌, ◌<◌, Bool, true, false, leb, List, [], ◌∷◌, length, map, arith, refl, inl, inr, ◌∙◌}
 use Rattle.std.proofs.Common.{Option, Some, None}
 use Rattle.std.specs.List.{sum_by, AllByRecursion}
 use Rattle.std.proofs.lemmas.Bool.{cases_lt, cases_Bool}
@@ -16,26 +16,29 @@ use Rattle.cbs_job.specs.Work.{Meaning}
 use Rattle.cbs_rate.specs.Rate.{Rate}
 use Rattle.cbs_rate.specs.Plan.{share, all_periods, total_share, IsCommonMultiple}
 use Rattle.cbs_rate.proofs.Multiples.{AllLawful, all_periods_some, all_periods-common}
-use Rattle.cbs_rules.specs.Rules.{clock_end, Terms}
+use Rattle.cbs_rules.specs.Rules.{State, clock_end, fresh_state, Terms}
 use Rattle.cbs_rules.proofs.States.{IsState-fresh_state}
 use Rattle.cbs_lists.specs.Lists.{changed_at}
 use Rattle.cbs_steps.specs.declared.view.ServerView.{ServerView}
 use Rattle.cbs_steps.proofs.Histories.{account_face}
-use Rattle.cbs_steps.specs.Faces.{Face, no_face, is_ready, reservations, view_reply, submit_refusal, close_refusal}
+use Rattle.cbs_steps.specs.Faces.{Face, no_face, is_active, is_ready, reservations, view_reply, submit_refusal, close_refusal}
 use Rattle.cbs_steps.specs.Accounts.{Account, face_of, new_account, no_account, account_with_job, account_with_unit, account_with_charge, account_with_replenishment, account_let_go}
 use Rattle.cbs_steps.specs.Accounts.{account_with_close}
 use Rattle.cbs_steps.specs.History.{World, Setup, History, account, faces, tick, ticks, start, runner, after_submit, after_run, after_closing, after_advance, after_charging, charge_refusal, let_go, next}
-use Rattle.cbs_steps.specs.History.{after, world_after}
-use Rattle.cbs_steps.specs.OnTime.{demand, IsAhead, IsOnTimeIn, is_late, IsNobodyLate, IsWorldOnTime, NeverLate, KeepsTime, KeepsTimeAll}
+use Rattle.cbs_steps.specs.History.{after, world_after, ◌⊕◌}
+use Rattle.cbs_steps.specs.OnTime.{demand_of, IsAhead, IsOnTimeBy, is_late, IsNobodyLate, IsWorldOnTime, NeverLate, KeepsTime, KeepsTimeAll}
 use Rattle.cbs_steps.specs.Quiet.{IsQuietStep, AreQuiet}
+use Rattle.cbs_steps.specs.StrictlyOnTime.{strict_demand_of, KeepsStrictlyOnTime, KeepsStrictTime, IsStricter}
 use Rattle.cbs_steps.specs.Replies.{is_lack, grown}
 use Rattle.cbs_steps.specs.declared.error.CoreError.{CoreError}
 use Rattle.cbs_steps.specs.declared.reply.Reply.{Reply}
 use Rattle.cbs_steps.specs.declared.step.Step.{Step}
 use Rattle.cbs_steps.specs.declared.step.Step.TheVariants.{Submit, Run, Advance, Close, Charge}
 use Rattle.cbs_lists.proofs.Lists.{map_kept, changed_kept, AllByRecursion-map, AllByRecursion-mapped, AllByRecursion-make}
-use Rattle.cbs_steps.proofs.OnTimeSteps.{IsSound, AllSound, IsTimely, sound_next, timely_next, not_late}
-use Rattle.cbs_lists.proofs.Sums.{sum_map, sum_times}
+use Rattle.cbs_steps.proofs.DemandRules.{IsRuled, demand_ruled, strict_ruled, demand-le-strict}
+use Rattle.cbs_steps.proofs.OnTimeSteps.{IsSound, AllSound, sound_at, sound_next}
+use Rattle.cbs_steps.proofs.TimelySteps.{asks, IsTimely, timely_next, not_late}
+use Rattle.cbs_lists.proofs.Sums.{sum_map, sum_times, sum-mono}
 
 -- what admission promises of reservations: each is within its limits, and their total bandwidth is at most one
 pub record IsAdmitted (rates : List Rate) : Type 0 where
@@ -132,85 +135,131 @@ module _ {W : Type 0} (work : Meaning W) where
         fits = rw (← sum_map (share P) reservation (start setup).accounts) ok.at_most_one;
       }
 
-  -- and asks for no more than its share
-  new_demand : (P x : ℕ) (ts : List Terms) → sum_by (λ a. demand P 0 x (face_of work a)) (map new_account ts)
-      ≤ sum_by (λ a. (x - 0) * share P (reservation a)) (map new_account ts)
-  new_demand P x [] = omega arith
-  new_demand P x (t ∷ ts) =
-      let rest = new_demand P x ts in
-      omega (
-        arith,
-        sum_by-cons (λ a. demand P 0 x (face_of work a)) (new_account t) (map new_account ts),
-        sum_by-cons (λ a. (x - 0) * share P (reservation a)) (new_account t) (map new_account ts),
-      )
-
-  -- and is not throttled
+  -- a new server is not throttled
   new_ahead : (ts : List Terms) → AllByRecursion (λ a. IsAhead 0 (face_of work a)) (map new_account ts)
   new_ahead [] = tt
   new_ahead (t ∷ ts) = (λ marked. cc, new_ahead ts)
-
-  -- so the start is on time
-  pub timely_start : (setup : Setup) → IsAdmitted (given setup) → IsTimely work (all_periods (given setup)) (start setup)
-  timely_start setup ok =
-      let P = all_periods (given setup) in
-      record {
-        within = λ x early.
-            let accounts = (start setup).accounts in
-            let a = new_demand P x setup.servers in
-            let e = sum_times (λ (a : Account W). share P (reservation a)) (x - 0) accounts in
-            let f = (sound_start setup ok).fits in
-            let m = mul-le (x - 0) (sum_by (λ (a : Account W). share P (reservation a)) accounts) (x - 0) P (omega arith) f in
-            omega arith;
-        ahead = new_ahead setup.servers;
-      }
 
   -- each list of steps leaves a sound world
   pub sound_after : (setup : Setup) (M : List (Step W)) → IsAdmitted (given setup) → AllSound work (all_periods (given setup)) (after work setup M)
   sound_after setup [] ok = sound_start setup ok
   sound_after setup (x ∷ M) ok = sound_next work (all_periods (given setup)) setup.backlog (after work setup M) x (sound_after setup M ok)
 
-  -- and one on time, if each step takes nobody's time
-  pub timely_after : (setup : Setup) (M : List (Step W)) → IsAdmitted (given setup) → AreQuiet work setup M
-      → IsTimely work (all_periods (given setup)) (after work setup M)
-  timely_after setup [] ok quiet = timely_start setup ok
-  timely_after setup (x ∷ M) ok quiet = timely_next work (all_periods (given setup)) setup.backlog (after work setup M) x
-      (sound_after setup M ok) quiet.1 (timely_after setup M ok quiet.0)
+  -- on time by a demand D that is ruled
+  module _ (D : ℕ → Rate → ℕ → ℕ → Bool → State → ℕ) (ruled : IsRuled D) where
+    -- D of what a server shows
+    abbrev pub shown_by : ℕ → ℕ → ℕ → Face → ℕ
+    shown_by P now x f = D P f.terms.reservation now x (is_active f) f.state
 
-  -- on time, said of what the servers show and of the accounts
-  shown_on_time : (setup : Setup) (M : List (Step W)) → IsTimely work (all_periods (given setup)) (after work setup M) → IsWorldOnTime work (after work setup M)
-  shown_on_time setup M on =
-      let w = after work setup M in
-      let same : reservations (faces work w) ≡ given setup = rates_are w.accounts ∙ rates_after setup M in
-      let here : IsOnTimeIn (all_periods (given setup)) w.now (faces work w) = record {
-        within = λ x early. rw (sum_map (demand (all_periods (given setup)) w.now x) (face_of work) w.accounts) (on.within x early);
-        ahead = AllByRecursion-map (λ a. IsAhead w.now (face_of work a)) (IsAhead w.now) (face_of work) w.accounts on.ahead (λ a h. h);
-      } in
-      rw same here
+    -- a new server asks for no more than its share
+    new_demand : (P x : ℕ) (ts : List Terms) → sum_by (asks work P D 0 x) (map new_account ts)
+        ≤ sum_by (λ a. (x - 0) * share P (reservation a)) (map new_account ts)
+    new_demand P x [] = omega arith
+    new_demand P x (t ∷ ts) =
+        let rest = new_demand P x ts in
+        let one = ruled.idle P t.reservation 0 x fresh_state refl in
+        omega (
+          arith,
+          sum_by-cons (asks work P D 0 x) (new_account t) (map new_account ts),
+          sum_by-cons (λ a. (x - 0) * share P (reservation a)) (new_account t) (map new_account ts),
+        )
+
+    -- so the start is on time
+    pub timely_start : (setup : Setup) → IsAdmitted (given setup) → IsTimely work (all_periods (given setup)) D (start setup)
+    timely_start setup ok =
+        let P = all_periods (given setup) in
+        record {
+          within = λ x early.
+              let accounts = (start setup).accounts in
+              let a = new_demand P x setup.servers in
+              let e = sum_times (λ (a : Account W). share P (reservation a)) (x - 0) accounts in
+              let f = (sound_start setup ok).fits in
+              let m = mul-le (x - 0) (sum_by (λ (a : Account W). share P (reservation a)) accounts) (x - 0) P (omega arith) f in
+              omega arith;
+          ahead = new_ahead setup.servers;
+        }
+
+    -- and so is what a list of steps leaves, if each takes nobody's time
+    pub timely_after : (setup : Setup) (M : List (Step W)) → IsAdmitted (given setup) → AreQuiet work setup M
+        → IsTimely work (all_periods (given setup)) D (after work setup M)
+    timely_after setup [] ok quiet = timely_start setup ok
+    timely_after setup (x ∷ M) ok quiet = timely_next work (all_periods (given setup)) D ruled setup.backlog (after work setup M) x
+        (sound_after setup M ok) quiet.1 (timely_after setup M ok quiet.0)
+
+    -- on time, said of what the servers show and of the accounts
+    shown_on_time : (setup : Setup) (M : List (Step W)) → IsTimely work (all_periods (given setup)) D (after work setup M)
+        → (let fs = faces work (after work setup M) in IsOnTimeBy shown_by (all_periods (reservations fs)) (after work setup M).now fs)
+    shown_on_time setup M on =
+        let w = after work setup M in
+        let same : reservations (faces work w) ≡ given setup = rates_are w.accounts ∙ rates_after setup M in
+        let here : IsOnTimeBy shown_by (all_periods (given setup)) w.now (faces work w) = record {
+          within = λ x early. rw (sum_map (shown_by (all_periods (given setup)) w.now x) (face_of work) w.accounts) (on.within x early);
+          ahead = AllByRecursion-map (λ a. IsAhead w.now (face_of work a)) (IsAhead w.now) (face_of work) w.accounts on.ahead (λ a h. h);
+        } in
+        rw same here
+
+    -- and the other way round
+    known_timely : (setup : Setup) (M : List (Step W))
+        → (let fs = faces work (after work setup M) in IsOnTimeBy shown_by (all_periods (reservations fs)) (after work setup M).now fs)
+        → IsTimely work (all_periods (given setup)) D (after work setup M)
+    known_timely setup M on =
+        let w = after work setup M in
+        let same : reservations (faces work w) ≡ given setup = rates_are w.accounts ∙ rates_after setup M in
+        let here : IsOnTimeBy shown_by (all_periods (given setup)) w.now (faces work w) = rw same at on in
+        record {
+          within = λ x early. rw (← sum_map (shown_by (all_periods (given setup)) w.now x) (face_of work) w.accounts) (here.within x early);
+          ahead = AllByRecursion-mapped (IsAhead w.now) (face_of work) w.accounts here.ahead;
+        }
+
+    -- each step that takes nobody's time keeps what the servers show so
+    shown_next : (M : History W) (x : Step W) → IsAdmitted (given M.setup) → IsQuietStep work (world_after work M) x
+        → (let fs = faces work (world_after work M) in IsOnTimeBy shown_by (all_periods (reservations fs)) (world_after work M).now fs)
+        → (let fs = faces work (world_after work (M ⊕ x)) in IsOnTimeBy shown_by (all_periods (reservations fs)) (world_after work (M ⊕ x)).now fs)
+    shown_next M x ok quiet on = shown_on_time M.setup (x ∷ M.steps)
+        (timely_next work (all_periods (given M.setup)) D ruled M.setup.backlog (world_after work M) x (sound_after M.setup M.steps ok) quiet
+        (known_timely M.setup M.steps on))
 
   -- so all are on time after each list of steps that takes nobody's time
   pub on_time_after : (setup : Setup) (M : List (Step W)) → IsAdmitted (given setup) → AreQuiet work setup M → IsWorldOnTime work (after work setup M)
-  on_time_after setup M ok quiet = shown_on_time setup M (timely_after setup M ok quiet)
+  on_time_after setup M ok quiet = shown_on_time demand_of demand_ruled setup M (timely_after demand_of demand_ruled setup M ok quiet)
 
-  -- and the other way round
+  -- and strictly on time
+  pub strictly_after : (N : History W) → IsAdmitted (given N.setup) → KeepsStrictlyOnTime work N
+  strictly_after N ok = λ quiet. shown_on_time strict_demand_of strict_ruled N.setup N.steps
+      (timely_after strict_demand_of strict_ruled N.setup N.steps ok quiet)
+
+  -- what is known of a world that is on time
   pub known_on_time : (setup : Setup) (M : List (Step W)) → IsWorldOnTime work (after work setup M)
-      → IsTimely work (all_periods (given setup)) (after work setup M)
-  known_on_time setup M on =
-      let w = after work setup M in
-      let same : reservations (faces work w) ≡ given setup = rates_are w.accounts ∙ rates_after setup M in
-      let here : IsOnTimeIn (all_periods (given setup)) w.now (faces work w) = rw same at on in
-      record {
-        within = λ x early. rw (← sum_map (demand (all_periods (given setup)) w.now x) (face_of work) w.accounts) (here.within x early);
-        ahead = AllByRecursion-mapped (IsAhead w.now) (face_of work) w.accounts here.ahead;
-      }
+      → IsTimely work (all_periods (given setup)) demand_of (after work setup M)
+  known_on_time = known_timely demand_of demand_ruled
 
   -- each step that takes nobody's time keeps a world on time
   pub on_time_next : (M : History W) (x : Step W) → IsAdmitted (given M.setup) → KeepsTime work M x
-  on_time_next M x ok = λ quiet on.
-      shown_on_time M.setup (x ∷ M.steps)
-      (timely_next work (all_periods (given M.setup)) M.setup.backlog (world_after work M) x (sound_after M.setup M.steps ok) quiet
-      (known_on_time M.setup M.steps on))
+  on_time_next M x ok = shown_next demand_of demand_ruled M x ok
 
-  -- also if memory refused it
+  -- also one that is strictly on time
+  pub strict_next : (M : History W) (x : Step W) → IsAdmitted (given M.setup) → KeepsStrictTime work M x
+  strict_next M x ok = shown_next strict_demand_of strict_ruled M x ok
+
+  -- what is strictly on time is on time
+  pub strict_is_stricter : (M : History W) → IsAdmitted (given M.setup) → IsStricter work M
+  strict_is_stricter M ok = λ strict.
+      let P = all_periods (given M.setup) in
+      let w = world_after work M in
+      let on = known_timely strict_demand_of strict_ruled M.setup M.steps strict in
+      let sound = sound_after M.setup M.steps ok in
+      shown_on_time demand_of demand_ruled M.setup M.steps record {
+        within = λ x early.
+            let a = on.within x early in
+            let le = sum-mono (asks work P demand_of w.now x) (asks work P strict_demand_of w.now x) w.accounts no_account (λ i lt.
+            let b = account w.accounts i in
+            let one = sound_at work P w sound i lt in
+            demand-le-strict P b.terms.reservation w.now x (is_active (face_of work b)) b.state one.divides one.lawful.state) in
+            omega arith;
+        ahead = on.ahead;
+      }
+
+  -- a step keeps a world on time also if memory refused it
   on_time_one : (M : History W) (x : Step W) (r : Reply W) → IsAdmitted (given M.setup) → IsQuietStep work (world_after work M) x
       → IsWorldOnTime work (world_after work M)
       → IsAdmitted (given (grown M x r).setup) × IsWorldOnTime work (world_after work (grown M x r))
@@ -224,10 +273,10 @@ module _ {W : Type 0} (work : Meaning W) where
 
   -- a new executor is on time
   pub on_time_start : (setup : Setup) → IsAdmitted (given setup) → IsWorldOnTime work (start setup)
-  on_time_start setup ok = shown_on_time setup [] (timely_start setup ok)
+  on_time_start setup ok = shown_on_time demand_of demand_ruled setup [] (timely_start demand_of demand_ruled setup ok)
 
   -- after a list of such steps a ready server's deadline has not come
-  pub ready_early : (setup : Setup) (M : List (Step W)) → IsAdmitted (given setup) → IsTimely work (all_periods (given setup)) (after work setup M)
+  pub ready_early : (setup : Setup) (M : List (Step W)) → IsAdmitted (given setup) → IsTimely work (all_periods (given setup)) demand_of (after work setup M)
       → (s : ℕ) → s < length (after work setup M).accounts
       → is_ready (face_of work (account (after work setup M).accounts s)) ≡ true
       → (after work setup M).now < (account (after work setup M).accounts s).state.deadline
@@ -258,7 +307,7 @@ module _ {W : Type 0} (work : Meaning W) where
   ]
 
   -- so nobody is late
-  none_late : (setup : Setup) (M : List (Step W)) → IsAdmitted (given setup) → IsTimely work (all_periods (given setup)) (after work setup M)
+  none_late : (setup : Setup) (M : List (Step W)) → IsAdmitted (given setup) → IsTimely work (all_periods (given setup)) demand_of (after work setup M)
       → IsNobodyLate (after work setup M).now (faces work (after work setup M))
   none_late setup M ok on =
       let w = after work setup M in
@@ -274,5 +323,5 @@ module _ {W : Type 0} (work : Meaning W) where
 
   -- nor was anybody from the start on
   pub never_late : (setup : Setup) (M : List (Step W)) → IsAdmitted (given setup) → AreQuiet work setup M → NeverLate work setup M
-  never_late setup [] ok quiet = none_late setup [] ok (timely_start setup ok)
-  never_late setup (x ∷ M) ok quiet = (never_late setup M ok quiet.0, none_late setup (x ∷ M) ok (timely_after setup (x ∷ M) ok quiet))
+  never_late setup [] ok quiet = none_late setup [] ok (timely_start demand_of demand_ruled setup ok)
+  never_late setup (x ∷ M) ok quiet = (never_late setup M ok quiet.0, none_late setup (x ∷ M) ok (timely_after demand_of demand_ruled setup (x ∷ M) ok quiet))

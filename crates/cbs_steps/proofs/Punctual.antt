@@ -13,7 +13,7 @@ use Rattle.cbs_steps.proofs.Dues.{due_kept, charged_due_kept, charged_due_end_ke
 use Rattle.cbs_steps.proofs.Ends.{charged_end_kept}
 use Rattle.cbs_steps.proofs.HardTasks.{hard_kept}
 use Rattle.cbs_steps.proofs.Lateness.{lateness_kept}
-use Rattle.cbs_steps.proofs.OnTime.{IsAdmitted, reservation, given, on_time_after, never_late}
+use Rattle.cbs_steps.proofs.OnTime.{IsAdmitted, reservation, given, on_time_after, never_late, strictly_after, strict_next, strict_is_stricter}
 use Rattle.cbs_steps.proofs.Promises.{promise_kept, bound_kept, charged_promise_kept}
 use Rattle.cbs_steps.proofs.Supplies.{supply_kept, charged_supply_kept}
 use Rattle.cbs_steps.proofs.Windows.{share_kept, cap_kept}
@@ -23,6 +23,9 @@ module _ {W : Type 0} (work : Meaning W) where
   punctual N ok = record {
     on_time = on_time_after work N.setup N.steps ok;
     never_late = never_late work N.setup N.steps ok;
+    strictly_on_time = strictly_after work N ok;
+    strict_steps = λ x. strict_next work N x ok;
+    stricter = strict_is_stricter work N ok;
     promise = promise_kept work N ok;
     bound = bound_kept work N ok;
     due = due_kept work N ok;

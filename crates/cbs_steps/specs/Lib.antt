@@ -16,6 +16,7 @@ pub mod Replies
 pub mod Searches
 pub mod Servers
 pub mod Setups
+pub mod StrictlyOnTime
 pub mod Supplies
 pub mod Waiting
 pub mod Windows

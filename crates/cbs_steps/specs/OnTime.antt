@@ -40,15 +40,15 @@ demand parts now x f = demand_of parts f.terms.reservation now x (is_active f) f
 abbrev pub IsAhead : ℕ → Face → Type 0
 IsAhead now f = f.state.throttled ≡ true → now < f.state.deadline
 
--- With so many parts in a tick, the servers together ask for no more up to any tick than the time until then. Each
--- throttled server still waits for its deadline
-pub record IsOnTimeIn (parts now : ℕ) (fs : List Face) : Type 0 where
+-- With so many parts in a tick, the servers together ask for no more up to any tick than the time until then, by this
+-- demand. Each throttled server still waits for its deadline
+pub record IsOnTimeBy (demand : ℕ → ℕ → ℕ → Face → ℕ) (parts now : ℕ) (fs : List Face) : Type 0 where
   pub within : (x : ℕ) → now ≤ x → sum_by (demand parts now x) fs ≤ (x - now) * parts
   pub ahead : AllByRecursion (IsAhead now) fs
 
 -- on time: the demands are within the time that is left, with as many parts in a tick as every period divides
 abbrev pub IsOnTime : ℕ → List Face → Type 0
-IsOnTime now fs = IsOnTimeIn (all_periods (reservations fs)) now fs
+IsOnTime now fs = IsOnTimeBy demand (all_periods (reservations fs)) now fs
 
 -- late: ready, and its deadline has come
 abbrev pub is_late : ℕ → Face → Bool
