@@ -1,7 +1,7 @@
 -- Bars cover exactly the ticks of units.
 use Rattle.std.proofs.Common.{◌≡◌, ◌∙◌, ℕ, ◌<◌, ◌≤◌, Bool, true, false, ◌&&◌, ◌||◌, eqb, ltb, cond, List, []}
 use Rattle.std.proofs.Common.{◌∷◌, length, Option, Some, None, arith, refl, sym, ap, subst, inl, inr}
-use Rattle.std.specs.Prelude.{set}
+use Rattle.std.specs.Prelude.{set, slice_get}
 use Rattle.std.proofs.lemmas.Bool.{cases_Bool}
 use Rattle.std.proofs.lemmas.Bool.Decides.{nat_tests}
 use Rattle.std.proofs.lemmas.List.{get_or-map, get_or-set_same, get_or-set_other, length-map, length-set}
@@ -28,6 +28,7 @@ use Rattle.cbs_stretches.specs.declared.window.Window.{Window}
 use Rattle.cbs_chart.proofs.Apart.{apart_at_end}
 use Rattle.cbs_chart.proofs.Covers.{with_covers}
 use Rattle.cbs_chart.proofs.Rows.{AreRowCharts, charts_count, chart_at}
+use Rattle.cbs_chart.proofs.Ticks.{own_in_turn, ticks_covered}
 
 -- a server that is throttled or waits runs no unit
 not_held : (j t : ℕ) (b x : Bool) → (same_kind (cond b kind.Held kind.Resting) (kind.Runs j) && x) ≡ false
@@ -193,22 +194,28 @@ pub chart_seen : (w : Window) (rates : List Rate) (end : ℕ) (seen : List Seen)
     → c.idle.items ≡ all_of k.idle → AreRowCharts w end k.rows c.servers.items → IsChart rates end seen c
 chart_seen w rates end seen k c is window idle charts =
     let rows : AreRows w rates seen k = subst (AreRows w rates seen) (sym is) (rows_seen w rates seen) in
+    let spans = spans_of w rates end seen k c.servers.items rows charts in
     rw window (record {
       idle = idle ∙ ap all_of rows.idle;
       count = charts_count w end k.rows c.servers.items charts ∙ rows.count;
       each = λ s server e. server_chart w rates end seen k s server rows (chart_at w end k.rows c.servers.items s server charts e);
-      bars = λ s j t server e a b.
-          let at = chart_at w end k.rows c.servers.items s server charts e in
-          let lt : s < length rates = let h = at.0 in omega (arith, rows.count) in
-          let row = rows.rows s lt in
-          ap (is_covered (kind.Runs j) t) (at.1.spans ∙ ap (λ r. all_of (spans_until w r.last end r.spans)) row) ∙ bars_at_end w s j t end seen a b;
-      apart = λ s server e.
-          let at = chart_at w end k.rows c.servers.items s server charts e in
-          let lt : s < length rates = let h = at.0 in omega (arith, rows.count) in
-          let spans = at.1.spans ∙ ap (λ r. all_of (spans_until w r.last end r.spans)) (rows.rows s lt) in
-          rw spans (apart_at_end w end (steps_of s seen));
+      bars = λ s j t server e a b. ap (is_covered (kind.Runs j) t) (spans s server e) ∙ bars_at_end w s j t end seen a b;
+      ticks = λ turn ended s t server e a b early does.
+          let own = own_in_turn s seen turn in
+          let last = own.1 in
+          let before : ltb t end ≡ true = grind (arith, nat_tests) in
+          ap (is_covered does t) (spans s server e) ∙ (ticks_covered w does t end (steps_of s seen) a b own.0 (omega arith) ∙ rw before refl);
+      apart = λ s server e. rw (spans s server e) (apart_at_end w end (steps_of s seen));
     })
   where
+    spans_of : (w : Window) (rates : List Rate) (end : ℕ) (seen : List Seen) (k : Kept) (cs : List ServerChart) → AreRows w rates seen k
+        → AreRowCharts w end k.rows cs → (s : ℕ) (server : ServerChart) → slice_get cs s ≡ Some server
+        → server.spans.items ≡ all_of (spans_until w (last_of (steps_of s seen)) end (spans_seen w (steps_of s seen)))
+    spans_of w rates end seen k cs rows charts s server e =
+        let at = chart_at w end k.rows cs s server charts e in
+        let lt : s < length rates = let h = at.0 in omega (arith, rows.count) in
+        at.1.spans ∙ ap (λ r. all_of (spans_until w r.last end r.spans)) (rows.rows s lt)
+
     server_chart : (w : Window) (rates : List Rate) (end : ℕ) (seen : List Seen) (k : Kept) (s : ℕ) (server : ServerChart) → AreRows w rates seen k
         → (s < length k.rows) × IsRowChart w end (row_at k.rows s) server → IsServerChart w (rate_at rates s) end (steps_of s seen) server
     server_chart w rates end seen k s server rows at =

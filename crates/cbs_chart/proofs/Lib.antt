@@ -2,3 +2,4 @@ pub mod Apart
 pub mod Bars
 pub mod Covers
 pub mod Rows
+pub mod Ticks

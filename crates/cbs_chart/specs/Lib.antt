@@ -5,3 +5,4 @@ pub mod Jobs
 pub mod Marks
 pub mod Rendered
 pub mod Rows
+pub mod Ticks
