@@ -28,7 +28,7 @@ use Rattle.cbs_stretches.specs.declared.window.Window.{Window}
 use Rattle.cbs_chart.proofs.Apart.{apart_at_end}
 use Rattle.cbs_chart.proofs.Covers.{with_covers}
 use Rattle.cbs_chart.proofs.Rows.{AreRowCharts, charts_count, chart_at}
-use Rattle.cbs_chart.proofs.Ticks.{own_in_turn, ticks_covered}
+use Rattle.cbs_chart.proofs.Ticks.{ticks_covered}
 
 -- a server that is throttled or waits runs no unit
 not_held : (j t : ℕ) (b x : Bool) → (same_kind (cond b kind.Held kind.Resting) (kind.Runs j) && x) ≡ false
@@ -200,11 +200,9 @@ chart_seen w rates end seen k c is window idle charts =
       count = charts_count w end k.rows c.servers.items charts ∙ rows.count;
       each = λ s server e. server_chart w rates end seen k s server rows (chart_at w end k.rows c.servers.items s server charts e);
       bars = λ s j t server e a b. ap (is_covered (kind.Runs j) t) (spans s server e) ∙ bars_at_end w s j t end seen a b;
-      ticks = λ turn ended s t server e a b early does.
-          let own = own_in_turn s seen turn in
-          let last = own.1 in
+      ticks = λ s t server e turn a b early does.
           let before : ltb t end ≡ true = grind (arith, nat_tests) in
-          ap (is_covered does t) (spans s server e) ∙ (ticks_covered w does t end (steps_of s seen) a b own.0 (omega arith) ∙ rw before refl);
+          ap (is_covered does t) (spans s server e) ∙ (ticks_covered w does t end (steps_of s seen) a b turn ∙ rw before refl);
       apart = λ s server e. rw (spans s server e) (apart_at_end w end (steps_of s seen));
     })
   where

@@ -12,7 +12,7 @@ use Rattle.cbs_stretches.specs.declared.stretch.Kind.{Kind}
 use Rattle.cbs_stretches.specs.declared.stretch.Kind.TheVariants as kind
 use Rattle.cbs_stretches.specs.declared.window.Window.{Window}
 use Rattle.cbs_chart.specs.Rows.{has_job, kind_of, last_of, last_seen, spans_seen, spans_until, step_stretch, throttled_stretch, waiting_stretch}
-use Rattle.cbs_chart.specs.Ticks.{kind_shown, kind_between, kind_at, is_kind, clock_of, AreInTurn}
+use Rattle.cbs_chart.specs.Ticks.{kind_shown, kind_between, kind_at, is_kind, AreInTurn}
 use Rattle.cbs_chart.specs.declared.waits.Last.{Last}
 use Rattle.cbs_chart.proofs.Covers.{with_covers}
 
@@ -158,17 +158,18 @@ step_not_taken false true c e = e
 step_not_taken false false c e = refl
 
 -- up to a tick, each tick is covered by what the server does in it, and by nothing else
-pub ticks_covered : (w : Window) (k : Kind) (t to : ℕ) (own : List Seen) → w.from ≤ t → t < w.to → AreInTurn own → clock_of own ≤ to
+pub ticks_covered : (w : Window) (k : Kind) (t to : ℕ) (own : List Seen) → w.from ≤ t → t < w.to → AreInTurn to own
     → is_covered k t (all_of (spans_until w (last_of own) to (spans_seen w own))) ≡ (ltb t to && is_kind k (kind_at t own))
-ticks_covered w k t to [] a b turn le = sym (and_none (ltb t to))
-ticks_covered w k t to (o ∷ own) a b turn le =
+ticks_covered w k t to [] a b turn = sym (and_none (ltb t to))
+ticks_covered w k t to (o ∷ own) a b turn =
+    let le = turn.1 in
     let before = spans_until w (last_of own) (begun o) (spans_seen w own) in
     let j = with_stretch w (step_stretch o) before in
     let same = same_kind (kind_of o.event) k in
     let x = is_kind k (kind_at t own) in
     let began : begun o ≤ o.clock = omega arith in
     let covered : is_covered k t (all_of j) ≡ ((ltb t (begun o) && x) || shows k t (step_stretch o)) =
-    with_covers w k t (step_stretch o) before a b ∙ ap (λ c. c || shows k t (step_stretch o)) (ticks_covered w k t (begun o) own a b turn.0 turn.1) in
+    with_covers w k t (step_stretch o) before a b ∙ ap (λ c. c || shows k t (step_stretch o)) (ticks_covered w k t (begun o) own a b turn.0) in
     elim (cases_Bool (ltb t (begun o))) [
       | inl y ↦
           let gone : t < o.clock = grind (arith, nat_tests) in
@@ -187,16 +188,4 @@ ticks_covered w k t to (o ∷ own) a b turn le =
             let nothing : is_covered k t (all_of j) ≡ false = covered ∙ rw n (step_not_taken false same (takes t (step_stretch o)) none) in
             between_takes w k t to o.clock a b le o.view j here ∙ rw (nothing, n, m) refl
       ]
-    ]
-
--- the steps of one server are in turn, if all are, and they end no later
-pub own_in_turn : (s : ℕ) (seen : List Seen) → AreInTurn seen → AreInTurn (steps_of s seen) × (clock_of (steps_of s seen) ≤ clock_of seen)
-own_in_turn s [] turn = (tt, omega arith)
-own_in_turn s (o ∷ seen) turn =
-    let before = own_in_turn s seen turn.0 in
-    let last = before.1 in
-    let next = turn.1 in
-    elim (cases_Bool (is_server s (server_of o.event))) [
-      | inl y ↦ rw y ((before.0, omega arith), omega arith)
-      | inr n ↦ rw n (before.0, omega arith)
     ]

@@ -15,7 +15,7 @@ use Rattle.cbs_chart.specs.Deadlines.{deadlines_after, deadlines_until, deadline
 use Rattle.cbs_chart.specs.Jobs.{JobsSeen, jobs_after, jobs_seen, no_jobs, all_jobs, completions, late_stretch}
 use Rattle.cbs_chart.specs.Marks.{arrivals_after, arrivals_seen, refusals_after, refusals_seen}
 use Rattle.cbs_chart.specs.Rows.{idle_after, last_of, last_seen, refused_after, refused_seen, spans_after, spans_until, spans_seen}
-use Rattle.cbs_chart.specs.Ticks.{AreInTurn, clock_of, is_kind, kind_at}
+use Rattle.cbs_chart.specs.Ticks.{AreInTurn, is_kind, kind_at}
 use Rattle.cbs_stretches.specs.Stretches.{AreApart, Joined, all_of, is_covered, nothing_joined, takes}
 use Rattle.cbs_chart.specs.declared.chart.Chart.{Chart}
 use Rattle.cbs_chart.specs.declared.chart.ServerChart.{ServerChart}
@@ -172,8 +172,9 @@ pub record IsChart (rates : List Rate) (end : ℕ) (seen : List Seen) (c : Chart
   -- a bar of server s with the number j covers tick t exactly if the steps ran a unit of its job j in tick t
   pub bars : (s j t : ℕ) (server : ServerChart) → slice_get c.servers.items s ≡ Some server → c.window.from ≤ t → t < c.window.to
       → is_covered (kind.Runs j) t server.spans.items ≡ ran s j t seen
-  -- if the steps took their ticks one after another, each tick is covered by what the server does in it, and by nothing else
-  pub ticks : AreInTurn seen → clock_of seen ≤ end → (s t : ℕ) (server : ServerChart) → slice_get c.servers.items s ≡ Some server
+  -- if the steps of server s took their ticks one after another, each tick is covered by what the server does in it, and by
+  -- nothing else
+  pub ticks : (s t : ℕ) (server : ServerChart) → slice_get c.servers.items s ≡ Some server → AreInTurn end (steps_of s seen)
       → c.window.from ≤ t → t < c.window.to → t < end → (k : Kind) → is_covered k t server.spans.items ≡ is_kind k (kind_at t (steps_of s seen))
   -- neighbouring units of one job are one bar
   pub apart : (s : ℕ) (server : ServerChart) → slice_get c.servers.items s ≡ Some server → AreApart server.spans.items

@@ -35,12 +35,7 @@ abbrev pub is_kind : Kind → Option Kind → Bool
 is_kind k None = false
 is_kind k (Some does) = same_kind does k
 
--- the clock after the newest step
-abbrev pub clock_of : List Seen → ℕ
-clock_of [] = 0
-clock_of (o ∷ seen) = o.clock
-
--- each step began when the clock had come to the end of the step before, or later
-abbrev pub AreInTurn : List Seen → Type 0
-AreInTurn [] = Unit {0}
-AreInTurn (o ∷ seen) = AreInTurn seen × (clock_of seen ≤ begun o)
+-- the steps took their ticks one after another, up to a tick: each ended when the next one began, or before
+abbrev pub AreInTurn : ℕ → List Seen → Type 0
+AreInTurn to [] = Unit {0}
+AreInTurn to (o ∷ own) = AreInTurn (begun o) own × (o.clock ≤ to)

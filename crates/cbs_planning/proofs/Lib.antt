@@ -4,4 +4,5 @@ mod WaitingMoves
 mod ThrottledTicks
 mod Servers
 mod TaskSteps
+mod TaskTurns
 mod Drawings

@@ -19,6 +19,7 @@ use Rattle.cbs_steps.specs.History.{History, ◌⊕◌}
 use Rattle.cbs_steps.specs.declared.step.Step.{Step}
 use Rattle.cbs_views.specs.declared.seen.Seen.{Seen}
 use Rattle.cbs_planning.specs.Pictures.{IsChartPicture, IsTaskPicture}
+use Rattle.cbs_planning.proofs.TaskTurns.{tasks_in_turn}
 use Rattle.cbs_planning.specs.Tasks.{clock_after, clock_of_tasks, name_of, seen_after, seen_from, seen_in_tasks, start_with}
 
 -- before the first step
@@ -69,5 +70,6 @@ file_picture name f s backlog ring steps w called moded plan c p is window end s
       window = window;
       end = end;
       shows = shows;
+      in_turn = λ t lt. tasks_in_turn t (start_with s backlog) steps [] tt;
       picture = picture_by name called (map name_of (range_with_len 0 (length s.plan.rates))) moded s.modes plan s.plan c p names modes plans picture;
     })

@@ -31,7 +31,8 @@ use Rattle.cbs_report.specs.Figures.{steps_of, throttled, waited}
 use Rattle.cbs_views.specs.Events.{begun}
 use Rattle.cbs_views.specs.declared.seen.Event.TheVariants as event
 use Rattle.cbs_views.specs.declared.seen.Seen.{Seen}
-use Rattle.cbs_planning.specs.Loads.{start_of, withins, AreThrottled}
+use Rattle.cbs_chart.specs.Ticks.{AreInTurn}
+use Rattle.cbs_planning.specs.Loads.{start_of, withins, AreInOrder, AreThrottled}
 use Rattle.cbs_planning.specs.Sights.{seen_of}
 use Rattle.cbs_planning.specs.Throttled.{is_waiting, shows, is_charge_of, waits_in, waits_at, count_ticks}
 use Rattle.cbs_planning.proofs.Runs.{simulation}
@@ -76,6 +77,11 @@ counted N = omega (
   length-map N.setup.servers (new_account {W = LoadJob}),
 )
 
+-- steps that end by a tick end by a later one
+pub in_turn_later : (a b : ℕ) (own : List Seen) → a ≤ b → AreInTurn a own → AreInTurn b own
+in_turn_later a b [] le turn = tt
+in_turn_later a b (o ∷ own) le turn = (turn.0, let h = turn.1 in omega arith)
+
 module _ (s : ℕ) (within : List (Option ℕ)) where
   -- what a move leaves of server s
   leaves : (sim : Simulation LoadJob) (m : Move) → IsGranted loading job_of sim m → s < length (world_after loading sim.history).accounts
@@ -102,6 +108,7 @@ module _ (s : ℕ) (within : List (Option ℕ)) where
     so_far : (n : ℕ) → throttled (clock_of loading job_of sim + n) (steps_of s (map (seen_of within) seen))
         ≡ count + wait (clock_of loading job_of sim) n (shows (world_after loading sim.history) s)
     ahead : IsAhead (clock_of loading job_of sim) (shows (world_after loading sim.history) s)
+    turn : AreInTurn (clock_of loading job_of sim) (steps_of s (map (seen_of within) seen))
 
   -- the view when this many ticks have passed
   shown_ticks : (j : ℕ) (w : World LoadJob) → shows (ticks j w) s ≡ passed w.now j (shows w s)
@@ -139,6 +146,7 @@ module _ (s : ℕ) (within : List (Option ℕ)) where
               omega (arith, view, from, none) in
               rw h.own total;
           ahead = ahead;
+          turn = rw h.own (in_turn_later w.now (begun o) own (omega (arith, h.begun)) old.turn, omega arith);
         }
 
     -- after a step of another server
@@ -166,6 +174,7 @@ module _ (s : ℕ) (within : List (Option ℕ)) where
               omega (arith, same, old.so_far (k + n), wait_more w.now k n f old.ahead, counted, rest) in
               rw h.other total;
           ahead = ahead;
+          turn = rw h.other (in_turn_later w.now v.now own (omega arith) old.turn);
         }
 
     -- after a step of any server
@@ -176,12 +185,16 @@ module _ (s : ℕ) (within : List (Option ℕ)) where
       | inr h ↦ after_other l.ticks l.clock l.ahead h
     ]
 
-  -- the same holds up to the end
+  -- the same up to the end, after these moves more
+  record Reckoned (until : ℕ) (sim : Simulation LoadJob) (ms : List Move) (seen : List Sight) (count : ℕ) : Type 0 where
+    soon : clock_of loading job_of sim ≤ until
+    ticks : throttled until (steps_of s (map (seen_of within) (shown loading job_of sim ms seen)))
+        ≡ count + count_ticks (waits_at sim ms s) (clock_of loading job_of sim) (until - clock_of loading job_of sim)
+    turn : AreInTurn until (steps_of s (map (seen_of within) (shown loading job_of sim ms seen)))
+
   reckoned : (until : ℕ) (sim : Simulation LoadJob) (ms : List Move) (seen : List Sight) (count : ℕ) → s < length sim.history.setup.servers
       → Reckons sim seen count → AllMoves loading job_of (IsGranted loading job_of) sim ms → clock_of loading job_of (after_moves loading job_of sim ms) ≡ until
-      → (clock_of loading job_of sim ≤ until)
-      × (throttled until (steps_of s (map (seen_of within) (shown loading job_of sim ms seen)))
-      ≡ count + count_ticks (waits_at sim ms s) (clock_of loading job_of sim) (until - clock_of loading job_of sim))
+      → Reckoned until sim ms seen count
   reckoned until sim [] seen count lt old granted end =
       let c = clock_of loading job_of sim in
       let own = steps_of s (map (seen_of within) seen) in
@@ -189,7 +202,11 @@ module _ (s : ℕ) (within : List (Option ℕ)) where
       let e : until ≡ c + 0 = omega arith in
       let same = ap (λ t. throttled t own) e in
       let none : count_ticks (waits_at sim [] s) c (until - c) ≡ 0 = rw z refl in
-      (omega arith, omega (arith, same, old.so_far 0, wait_none c (shows (world_after loading sim.history) s), none))
+      record {
+        soon = omega arith;
+        ticks = omega (arith, same, old.so_far 0, wait_none c (shows (world_after loading sim.history) s), none);
+        turn = in_turn_later c until own (omega arith) old.turn;
+      }
   reckoned until sim (m ∷ ms) seen count lt old granted end =
       let c = clock_of loading job_of sim in
       let next = after_move loading job_of sim m in
@@ -200,7 +217,7 @@ module _ (s : ℕ) (within : List (Option ℕ)) where
       let clock : d ≡ c + k = l.clock in
       let rest = reckoned until next ms (sight_of loading job_of sim m ∷ seen) (count + count_ticks (waits_in sim m s) c k) lt
       (after_it sim m seen count old l) granted.1 end in
-      let le = rest.0 in
+      let le = rest.soon in
       let split : until - c ≡ k + (until - d) = omega arith in
       let all = ap (count_ticks (waits_at sim (m ∷ ms) s) c) split ∙ count_split (waits_at sim (m ∷ ms) s) c k (until - d) in
       let first : count_ticks (waits_at sim (m ∷ ms) s) c k ≡ count_ticks (waits_in sim m s) c k =
@@ -208,7 +225,7 @@ module _ (s : ℕ) (within : List (Option ℕ)) where
       let then_ : count_ticks (waits_at sim (m ∷ ms) s) d (until - d) ≡ count_ticks (waits_at next ms s) d (until - d) =
       count_same (waits_at sim (m ∷ ms) s) (waits_at next ms s) d (until - d) (λ i from to. let f : ltb i d ≡ false = grind (arith, nat_tests) in rw f refl) in
       let from = ap (λ t. count_ticks (waits_at sim (m ∷ ms) s) t (until - d)) clock in
-      (omega arith, omega (arith, rest.1, all, first, then_, from))
+      record { soon = omega arith; ticks = omega (arith, rest.ticks, all, first, then_, from); turn = rest.turn }
 
 -- no server waits at the start
 at_start : (ts : List Terms) (s : ℕ)
@@ -248,9 +265,10 @@ pub whole_of : (f : LoadFile) (modes : List Mode) (plan : Planned) (backlog unti
     → IsWhole until (simulation modes plan backlog coming) → IsWhole f.until (start_of f)
 whole_of f modes plan backlog until coming a b c d e whole = rw (a, b, c, d, e) at whole
 
--- the throttled ticks that are computed from a server's own steps are those in which it is throttled and has a job
-pub throttled_is : (f : LoadFile) → length f.modes ≡ length f.plan.rates → IsWhole f.until (start_of f) → AreThrottled f
-throttled_is f moded whole s lt =
+-- all is reckoned up to the end of a load
+reckoned_of : (f : LoadFile) → length f.modes ≡ length f.plan.rates → IsWhole f.until (start_of f) → (s : ℕ) → s < length f.plan.rates
+    → Reckoned s (withins f) f.until (start_of f) (moves_of loading job_of f.until (start_of f)) [] 0
+reckoned_of f moded whole s lt =
     let sim = start_of f in
     let w = world_after loading sim.history in
     let start = at_start sim.history.setup.servers s in
@@ -258,8 +276,19 @@ throttled_is f moded whole s lt =
     let old : Reckons s (withins f) sim [] 0 = record {
       so_far = λ n. let none : wait 0 n (shows w s) ≡ 0 = rw (start.0) refl in omega (arith, none);
       ahead = start.1;
+      turn = tt;
     } in
-    let all = reckoned s (withins f) f.until sim (moves_of loading job_of f.until sim) [] 0 there old whole.granted whole.ends in
+    reckoned s (withins f) f.until sim (moves_of loading job_of f.until sim) [] 0 there old whole.granted whole.ends
+
+-- the throttled ticks that are computed from a server's own steps are those in which it is throttled and has a job
+pub throttled_is : (f : LoadFile) → length f.modes ≡ length f.plan.rates → IsWhole f.until (start_of f) → AreThrottled f
+throttled_is f moded whole s lt =
+    let sim = start_of f in
+    let all = reckoned_of f moded whole s lt in
     let z : f.until - 0 ≡ f.until = omega arith in
     let same = ap (count_ticks (waits_at sim (moves_of loading job_of f.until sim) s) 0) z in
-    omega (arith, all.1, same)
+    omega (arith, all.ticks, same)
+
+-- the steps of each server took their ticks one after another
+pub in_order : (f : LoadFile) → length f.modes ≡ length f.plan.rates → IsWhole f.until (start_of f) → AreInOrder f
+in_order f moded whole s lt = (reckoned_of f moded whole s lt).turn

@@ -1,5 +1,6 @@
 -- The outcome of a load: its steps as a view sees them, and its reports.
 use Rattle.std.specs.Prelude.{◌≡◌, ℕ, ◌<◌, eqb, min, max, if◌then◌else◌, List, [], ◌∷◌, length, map, sum_by, slice_get, string_bytes, Option, Some, None}
+use Rattle.cbs_chart.specs.Ticks.{AreInTurn}
 use Rattle.cbs_load.specs.Loads.{LoadFile}
 use Rattle.cbs_rate.specs.Plan.{common_multiple, share}
 use Rattle.cbs_report.specs.Figures.{AreFigures, steps_of, throttled, told, total}
@@ -55,6 +56,10 @@ within_of s (t ∷ ts) = if eqb t.server s then widened t.within (within_of s ts
 -- has a job
 abbrev pub AreThrottled : LoadFile → Type 0
 AreThrottled f = (s : ℕ) → s < length f.plan.rates → throttled f.until (steps_of s (seen_in f)) ≡ throttled_ticks f s
+
+-- the steps of each server took their ticks one after another
+abbrev pub AreInOrder : LoadFile → Type 0
+AreInOrder f = (s : ℕ) → s < length f.plan.rates → AreInTurn f.until (steps_of s (seen_in f))
 
 -- the report of server s of a load
 pub record IsServerReport (f : LoadFile) (s : ℕ) (r : ServerReport) : Type 0 where

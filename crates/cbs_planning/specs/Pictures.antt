@@ -1,13 +1,15 @@
 -- The pictures of a load and of a task file.
-use Rattle.std.specs.Prelude.{◌≡◌, ℕ, List, length, map, sum_by, string_bytes}
+use Rattle.std.specs.Prelude.{◌≡◌, ℕ, ◌<◌, List, length, map, sum_by, string_bytes}
 use Rattle.std.specs.List.{range_with_len}
 use Rattle.cbs_chart.specs.Charts.{IsChart}
+use Rattle.cbs_chart.specs.Ticks.{AreInTurn}
 use Rattle.cbs_chart.specs.declared.chart.Chart.{Chart}
 use Rattle.cbs_chart.specs.declared.picture.Picture.{Picture}
 use Rattle.cbs_stretches.specs.declared.window.Window.{Window}
 use Rattle.cbs_file.specs.TaskFiles.{File}
 use Rattle.cbs_load.specs.Loads.{LoadFile}
 use Rattle.cbs_rate.specs.Plan.{Planned, common_multiple, share}
+use Rattle.cbs_report.specs.Figures.{steps_of}
 use Rattle.cbs_rules.specs.declared.mode.Mode.{Mode}
 use Rattle.cbs_views.specs.declared.seen.Seen.{Seen}
 use Rattle.cbs_planning.specs.Loads.{seen_in}
@@ -26,13 +28,15 @@ pub record IsChartPicture (name : List ℕ) (called : List (List ℕ)) (moded : 
   pub reservations : map (λ d. d.reservation) p.servers.items ≡ plan.rates
   pub charts : map (λ d. d.chart) p.servers.items ≡ c.servers.items
 
--- a picture of a window of a run that ends at this tick, in which these steps were seen
+-- a picture of a window of a run that ends at this tick, in which these steps were seen. Those of each server took
+-- their ticks one after another, so that each tick of the chart shows what the server does in it
 pub record IsRunPicture (name : List ℕ) (called : List (List ℕ)) (moded : List Mode) (plan : Planned) (w : Window) (until : ℕ) (seen : List Seen)
     (p : Picture) : Type 0 where
   pub chart : Chart
   pub window : chart.window ≡ w
   pub end : chart.end ≡ until
   pub shows : IsChart plan.rates until seen chart
+  pub in_turn : (s : ℕ) → s < length plan.rates → AreInTurn until (steps_of s seen)
   pub picture : IsChartPicture name called moded plan chart p
 
 -- the picture of a window of a load, with this name for its file

@@ -1,8 +1,8 @@
 //! The picture of a load.
 
-ghost use Rattle.std.specs.Prelude.{◌≡◌, ◌≤◌, IfOk, length};
+ghost use Rattle.std.specs.Prelude.{◌≡◌, ◌≤◌, IfOk, OnOk, length};
 ghost use Rattle.cbs_chart.specs.Charts.{IsChart};
-ghost use Rattle.cbs_planning.specs.Loads.{seen_in};
+ghost use Rattle.cbs_planning.specs.Loads.{AreInOrder, seen_in};
 ghost use Rattle.cbs_planning.specs.Pictures.{IsPictureOf};
 
 use crate::drawn::picture_of_chart;
@@ -22,6 +22,7 @@ fn chart_of<P: Progress>(
     ensures window { IfOk result (λ chart. chart.window ≡ window) }
     ensures end { IfOk result (λ chart. chart.end ≡ load.now.until) }
     ensures chart { IfOk result (IsChart load.now.plan.rates load.now.until (seen_in load.now)) }
+    ensures in_order { OnOk result (AreInOrder load.now) }
 {
     let view = ChartView::new(alloc, window, load.plan())?;
     let telling = Telling::new(view, load.until());

@@ -1,7 +1,7 @@
 //! The steps of a load, shown to a view.
 
 ghost use Rattle.std.specs.Prelude.{[], IfOk, IfErr, OnOk};
-ghost use Rattle.cbs_planning.specs.Loads.{AreThrottled, seen_in};
+ghost use Rattle.cbs_planning.specs.Loads.{AreInOrder, AreThrottled, seen_in};
 ghost use Rattle.cbs_planning.specs.Showing.{SawSome};
 
 use crate::watched::Watched;
@@ -31,6 +31,7 @@ pub fn show_load<C, V: View<C>>(
     requires { V.ready view lent.old }
     ensures seen { IfOk result (λ shown. (first : (V × C)) → V.saw first (view, lent.old) [] → V.saw first (shown, lent.new) (seen_in load.now)) }
     ensures throttled { OnOk result (AreThrottled load.now) }
+    ensures in_order { OnOk result (AreInOrder load.now) }
     ensures stopped { IfErr result (λ e. (first : (V × C)) → V.saw first (view, lent.old) []
         → SawSome V.saw V.failed first (e.view, lent.new) (seen_in load.now)) }
 {

@@ -11,6 +11,7 @@ returns-clause-picture g c =
       window = c.in_ok-chart.ensures.window;
       end = c.in_ok-chart.ensures.end;
       shows = c.in_ok-chart.ensures.chart;
+      in_turn = c.in_ok-chart.ensures.in_order;
       picture = rw (← c.names.ensures.value, ← c.modes.ensures, ← c.plan.ensures) h;
     }) c.picture_of_chart.ensures.picture
 

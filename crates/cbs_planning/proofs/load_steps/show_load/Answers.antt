@@ -2,9 +2,11 @@ use Rattle.std.proofs.Common.{◌≡◌, ◌∙◌, [], ap, inl, inr, map, refl}
 use Rattle.cbs_simulate.specs.Drawing.{pending, released_by_all}
 use Rattle.cbs_simulate.specs.Merging.{merged}
 use Rattle.cbs_simulate.specs.declared.terms.SourceTerms.{SourceTerms}
-use Rattle.cbs_planning.specs.Loads.{withins}
+use Rattle.cbs_planning.specs.Loads.{start_of, withins}
 use Rattle.cbs_planning.proofs.Runs.{simulation, same_seen, saw_none, saw_some}
-use Rattle.cbs_planning.proofs.ThrottledTicks.{whole_if_made, whole_of, throttled_is}
+use Rattle.cbs_planning.proofs.ThrottledTicks.{IsWhole, in_order, whole_if_made, whole_of, throttled_is}
+use Rattle.cbs_planning.proofs.load_steps.show_load.Given as given
+use Rattle.cbs_planning.proofs.load_steps.show_load.Goals.{After-drop-releases-in-Ok-simulate_plan}
 use Rattle.cbs_planning.proofs.load_steps.show_load.Goals as goal
 
 pub returns-in-Ok-simulate_plan-clause-seen : goal.returns-in-Ok-simulate_plan-clause-seen
@@ -19,16 +21,22 @@ returns-in-Ok-simulate_plan-clause-seen g c = λ first was.
     (merged (map pending c.in-Ok.releases)) within c.modes.ensures c.plan.ensures c.backlog.ensures.value c.until-2.ensures.value (ap merged releases) in
     rw (← same) seen.1
 
-pub returns-in-Ok-simulate_plan-clause-throttled : goal.returns-in-Ok-simulate_plan-clause-throttled
-returns-in-Ok-simulate_plan-clause-throttled g c =
+-- the simulation is that of the load, to its end
+abbrev whole : (g : given.Over) (c : After-drop-releases-in-Ok-simulate_plan g) → IsWhole c.args.load.now.until (start_of c.args.load.now)
+whole g c =
     let f = c.args.load.now in
     let releases : map pending c.in-Ok.releases ≡ released_by_all 0 f.sources f.until f.seed =
     rw (← c.sources.ensures.value, ← c.until.ensures.value, ← c.seed.ensures) c.in-Ok.ensures in
-    let whole = whole_if_made _ c.until-2.result (simulation c.modes.result.now c.plan.result.now c.backlog.result (merged (map pending c.in-Ok.releases)))
-    _ _ _ c.in-Ok-simulate_plan.ensures.simulates.simulates in
-    throttled_is f c.sources.ensures.lawful.moded
-    (whole_of f c.modes.result.now c.plan.result.now c.backlog.result c.until-2.result (merged (map pending c.in-Ok.releases)) c.modes.ensures
-    c.plan.ensures c.backlog.ensures.value c.until-2.ensures.value (ap merged releases) whole)
+    whole_of f c.modes.result.now c.plan.result.now c.backlog.result c.until-2.result (merged (map pending c.in-Ok.releases)) c.modes.ensures
+    c.plan.ensures c.backlog.ensures.value c.until-2.ensures.value (ap merged releases)
+    (whole_if_made _ c.until-2.result (simulation c.modes.result.now c.plan.result.now c.backlog.result (merged (map pending c.in-Ok.releases)))
+    _ _ _ c.in-Ok-simulate_plan.ensures.simulates.simulates)
+
+pub returns-in-Ok-simulate_plan-clause-throttled : goal.returns-in-Ok-simulate_plan-clause-throttled
+returns-in-Ok-simulate_plan-clause-throttled g c = throttled_is c.args.load.now c.sources.ensures.lawful.moded (whole g c)
+
+pub returns-in-Ok-simulate_plan-clause-in_order : goal.returns-in-Ok-simulate_plan-clause-in_order
+returns-in-Ok-simulate_plan-clause-in_order g c = in_order c.args.load.now c.sources.ensures.lawful.moded (whole g c)
 
 pub returns-clause-stopped : goal.returns-clause-stopped
 returns-clause-stopped g c = λ first was.
