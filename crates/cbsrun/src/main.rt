@@ -2,15 +2,14 @@
 #![tactic(auto)]
 
 mod bytes;
-mod paint;
 mod progress;
 
 ghost use Rattle.std.specs.Prelude.{◌-◌, ◌<◌, ◌^◌};
 
 use crate::bytes::{bytes_of, write_reason};
-use crate::paint::Painted;
 use crate::progress::Teller;
 use cbs_file::MEMORY;
+use cbs_paint::Painted;
 use cbs_run::{
     Action, Asked, BAD_FILE, ByteOutput, DONE, Form, MEMORY_VARIABLE, Progress, RUN_FAULT,
     RunError, ToWrite, WRONG_WORDS, WordsFault, check_bytes_within, draw_load_within,

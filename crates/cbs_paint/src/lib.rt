@@ -1,8 +1,13 @@
 //! Colours for a terminal. A text that has a colour also has a mark, so no information is in the colour alone.
+#![tactic(auto)]
+
+ghost use Rattle.std.specs.Prelude.{◌≡◌};
+ghost use Rattle.std.specs.Io.{WritesAtMost};
 
 use std::alloc::{AllocError, Global};
 use std::io;
 use std::io::Write;
+use std::marker::Model;
 
 /// The style in which a piece of text is painted.
 #[derive(Clone, Copy)]
@@ -133,18 +138,29 @@ pub struct Painted<W> {
     may: bool,
 }
 
+impl<W> Model for Painted<W> {
+    ghost use Rattle.cbs_paint.specs.Painting.{Painting};
+
+    ghost Value = { Painting W };
+
+    ghost view = { λ p. record { writer = p.writer; may = p.may } };
+}
+
 impl<W> Painted<W> {
-    /// Returns a writer that paints its text if `may` is true.
-    pub fn new(writer: W, alloc: Global, may: bool) -> Painted<W> {
+    /// Returns a writer that paints its text if `may` is true, and otherwise passes it on as it is.
+    pub fn new(writer: W, alloc: Global, may: bool) -> Painted<W>
+        ensures { result ≡ record { writer = writer; may = may } }
+    {
         Painted { writer, alloc, may }
     }
 }
 
-impl<W: Write> Write for Painted<W> {
-    fn write(&mut self, buf: &[u8]) -> io::Result<usize> {
-        if !self.may {
-            return self.writer.write(buf);
-        }
+impl<W: Write> Painted<W> {
+    /// Writes a text with its colours. A piece that is no text, or for which there is no memory, is written as it is.
+    fn write_painted(&mut self, buf: &[u8]) -> io::Result<usize>
+        ensures bound { WritesAtMost result buf.now }
+        ensures may { self.new.may ≡ self.old.may }
+    {
         let Ok(text) = str::from_utf8(buf) else {
             return self.writer.write(buf);
         };
@@ -154,6 +170,20 @@ impl<W: Write> Write for Painted<W> {
                 Ok(buf.len())
             }
             Err(_) => self.writer.write(buf),
+        }
+    }
+}
+
+impl<W: Write> Write for Painted<W> {
+    ghost use Rattle.cbs_paint.specs.Painting.{contents_of};
+
+    // What is painted is not known.
+    ghost contents = { contents_of W.contents };
+
+    fn write(&mut self, buf: &[u8]) -> io::Result<usize> {
+        match self.may {
+            true => self.write_painted(buf),
+            false => self.writer.write(buf),
         }
     }
 
