@@ -1,7 +1,11 @@
 -- The steps of a task file, as a view sees them, one after another.
-use Rattle.std.proofs.Common.{◌≡◌, ℕ, List, [], ◌∷◌, ◌++◌, length, map, Result, Ok, Err, refl, subst}
-use Rattle.std.specs.Prelude.{OnOk}
+use Rattle.std.proofs.Common.{◌≡◌, ◌∙◌, ℕ, List, [], ◌∷◌, ◌++◌, append_assoc, length, map, Result, Ok, Err, ap, refl, subst, sym}
+use Rattle.std.specs.Prelude.{OnErr, OnOk}
 use Rattle.std.specs.List.{range_with_len}
+use Rattle.cbs_core.specs.Agreement.{Agrees}
+use Rattle.cbs_core.specs.Held.{CoreHeld}
+use Rattle.cbs_job.specs.FileJobs.{of_files}
+use Rattle.cbs_steps.proofs.Laws.{after-append}
 use Rattle.cbs_chart.specs.Charts.{IsChart}
 use Rattle.cbs_chart.specs.declared.chart.Chart.{Chart}
 use Rattle.cbs_chart.specs.declared.picture.Picture.{Picture}
@@ -20,7 +24,7 @@ use Rattle.cbs_steps.specs.declared.step.Step.{Step}
 use Rattle.cbs_views.specs.declared.seen.Seen.{Seen}
 use Rattle.cbs_planning.specs.Pictures.{IsChartPicture, IsTaskPicture}
 use Rattle.cbs_planning.proofs.TaskTurns.{tasks_in_turn}
-use Rattle.cbs_planning.specs.Tasks.{clock_after, clock_of_tasks, name_of, seen_after, seen_from, seen_in_tasks, start_with}
+use Rattle.cbs_planning.specs.Tasks.{clock_after, clock_of_tasks, name_of, seen_after, seen_from, seen_in_tasks, start_with, StopsAmong}
 
 -- before the first step
 pub none_seen : (M : History FileJob) (seen : List Seen) → seen_from M [] seen ≡ seen
@@ -34,10 +38,44 @@ unfolding seen_from
 seen_more M [] x seen = refl
 seen_more M (y ∷ ys) x seen = seen_more (M ⊕ y) ys x (seen_after M y ∷ seen)
 
+-- one step alone
+pub one_seen : (M : History FileJob) (x : Step FileJob) (seen : List Seen) → seen_from M (x ∷ []) seen ≡ seen_after M x ∷ seen
+unfolding seen_from
+one_seen M x seen = refl
+
+-- some steps, and then some more
+pub seen_both : (M : History FileJob) (xs ys : List (Step FileJob)) (seen : List Seen) → seen_from M (xs ++ ys) seen ≡ seen_from (M ⊕⊕ xs) ys (seen_from M xs seen)
+unfolding seen_from
+seen_both M [] ys seen = refl
+seen_both M (x ∷ xs) ys seen = seen_both (M ⊕ x) xs ys (seen_after M x ∷ seen)
+
+-- a core of which only room changed agrees with the same histories
+pub lacking_agrees : (old new : CoreHeld FileJob) (M : History FileJob) → new ≡ record old { rooms = new.rooms } → Agrees of_files old M → Agrees of_files new M
+lacking_agrees old new M same agrees = let a = agrees.world in
+    subst (λ core. Agrees of_files core M) (sym same) (record {
+      world = record { same_backlog = a.same_backlog; clock = a.clock; shown = a.shown; jobs = a.jobs; runs = a.runs; latest = a.latest };
+    })
+
+-- a core and a view that were stopped at a step, after some steps before it
+pub stops_later : {S : Type 0} (saw failed : S → S → List Seen → Type 0) (M : History FileJob) (xs ys zs all : List (Step FileJob)) (new : CoreHeld FileJob)
+    (old between now : S) → xs ++ (ys ++ zs) ≡ all → ((first : S) (seen : List Seen) → saw first old seen → saw first between (seen_from M xs seen))
+    → StopsAmong saw failed (M ⊕⊕ xs) ys new between now → StopsAmong saw failed M all new old now
+stops_later saw failed M xs ys zs all new old between now whole sees h = record {
+  made = xs ++ h.made;
+  left = h.left ++ zs;
+  all = append_assoc xs h.made (h.left ++ zs) ∙ ap (λ l. xs ++ l) (sym (append_assoc h.made h.left zs) ∙ ap (λ l. l ++ zs) h.all) ∙ whole;
+  state = rw (after-append M xs h.made) h.state;
+  seen = λ first seen saw_old. rw (seen_both M xs h.made seen) (h.seen first (seen_from M xs seen) (sees first seen saw_old));
+}
+
 -- what always holds also holds for a result
 pub on_ok_always : {T E : Type 0} {P : Type 0} (r : Result T E) → P → OnOk r P
 on_ok_always (Ok x) p = p
 on_ok_always (Err e) p = tt
+
+pub on_err_always : {T E : Type 0} {P : Type 0} (r : Result T E) → P → OnErr r P
+on_err_always (Ok x) p = tt
+on_err_always (Err e) p = p
 
 -- a task file of these parts
 abbrev pub file_of : ModedPlan → ℕ → ℕ → List (Step FileJob) → File

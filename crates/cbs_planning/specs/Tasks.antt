@@ -1,5 +1,7 @@
 -- The outcome of a task file: its steps as a view sees them, and its reports.
-use Rattle.std.specs.Prelude.{◌≡◌, ℕ, List, [], ◌∷◌, ◌++◌, codes, decimal, length, sum_by, slice_get, string_bytes, Option, Some, None, Result, Ok, Err}
+use Rattle.std.specs.Prelude.{◌≡◌, ◌⊎◌, ℕ, List, [], ◌∷◌, ◌++◌, codes, decimal, length, sum_by, slice_get, string_bytes, Option, Some, None, Result, Ok, Err}
+use Rattle.cbs_core.specs.Agreement.{Agrees}
+use Rattle.cbs_core.specs.Held.{CoreHeld}
 use Rattle.cbs_file.specs.TaskFiles.{File}
 use Rattle.cbs_job.specs.FileJobs.{of_files}
 use Rattle.cbs_job.specs.declared.file.FileJob.{FileJob}
@@ -87,6 +89,16 @@ seen_after M x = seen_of_step (world_after of_files (M ⊕ x)) (asked_of x) (rep
 unfoldable pub seen_from : History FileJob → List (Step FileJob) → List Seen → List Seen
 seen_from M [] seen = seen
 seen_from M (x ∷ xs) seen = seen_from (M ⊕ x) xs (seen_after M x ∷ seen)
+
+-- A core and a view were stopped among steps after the history M. The core made the first of them, up to some step. The
+-- view saw these, or it failed to see the last of these
+pub record StopsAmong {S : Type 0} (saw failed : S → S → List Seen → Type 0) (M : History FileJob) (xs : List (Step FileJob)) (new : CoreHeld FileJob)
+    (old now : S) : Type 0 where
+  pub made : List (Step FileJob)
+  pub left : List (Step FileJob)
+  pub all : made ++ left ≡ xs
+  pub state : Agrees of_files new (M ⊕⊕ made)
+  pub seen : (first : S) (seen : List Seen) → saw first old seen → saw first now (seen_from M made seen) ⊎ failed first now (seen_from M made seen)
 
 -- servers with this backlog, before the first step
 abbrev pub start_with : ModedPlan → ℕ → History FileJob

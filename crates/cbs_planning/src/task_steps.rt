@@ -1,6 +1,6 @@
 //! The steps of a task file, as a view sees them.
 
-ghost use Rattle.std.specs.Prelude.{◌≡◌, ◌∷◌, List, OnOk};
+ghost use Rattle.std.specs.Prelude.{◌≡◌, ◌∷◌, [], List, OnOk, OnErr};
 ghost use Rattle.cbs_core.specs.Agreement.{Agrees, TellsOf};
 ghost use Rattle.cbs_job.specs.FileJobs.{of_files};
 ghost use Rattle.cbs_simulate.specs.Moves.{ran_in};
@@ -10,6 +10,7 @@ ghost use Rattle.cbs_steps.specs.History.{History, ◌⊕◌};
 ghost use Rattle.cbs_steps.specs.Replies.{is_lack};
 ghost use Rattle.cbs_views.specs.declared.seen.Seen.{Seen};
 ghost use Rattle.cbs_planning.specs.Tasks.{asked_of, refusal_in, advance_seen, close_seen, charge_seen, submit_seen, task_arrival, event_of_step, seen_of_step, seen_after, seen_from};
+ghost use Rattle.cbs_planning.specs.Tasks.{StopsAmong};
 
 use crate::watched::view_seen;
 use cbs_core::{Core, CoreError, Ran, Reply, Step};
@@ -182,6 +183,8 @@ fn show_step<C, V: View<C>>(
     ensures state { OnOk result ((M : History FileJob) → Agrees of_files core.old M → Agrees of_files core.new (M ⊕ step)) }
     ensures seen { OnOk result ((M : History FileJob) → Agrees of_files core.old M → (first : (V × C)) (seen : List Seen)
         → V.saw first (view.old, lent.old) seen → V.saw first (view.new, lent.new) (seen_after M step ∷ seen)) }
+    ensures stopped { OnErr result ((M : History FileJob) → Agrees of_files core.old M
+        → StopsAmong V.saw V.failed M (step ∷ []) core.new (view.old, lent.old) (view.new, lent.new)) }
 {
     let asked = asked_of(&step);
     let reply = core.step(step);
@@ -193,7 +196,8 @@ fn show_step<C, V: View<C>>(
 
 /// Makes steps, in order, and shows each to the view. The view has to be ready.
 ///
-/// Refuses if out of memory, or if the view fails. The core has then made the first steps, up to some step.
+/// Refuses if out of memory, or if the view fails. The core has then made the first steps, up to some step. The view saw
+/// these, or failed to see the last of these.
 pub fn show_steps<C, V: View<C>>(
     core: &mut Core<FileJob>,
     steps: Vec<Step<FileJob>>,
@@ -204,6 +208,8 @@ pub fn show_steps<C, V: View<C>>(
     ensures state { OnOk result ((M : History FileJob) → Agrees of_files core.old M → Agrees of_files core.new (M ⊕⊕ steps.items)) }
     ensures seen { OnOk result ((M : History FileJob) → Agrees of_files core.old M → (first : (V × C)) (seen : List Seen)
         → V.saw first (view.old, lent.old) seen → V.saw first (view.new, lent.new) (seen_from M steps.items seen)) }
+    ensures stopped { OnErr result ((M : History FileJob) → Agrees of_files core.old M
+        → StopsAmong V.saw V.failed M steps.items core.new (view.old, lent.old) (view.new, lent.new)) }
 {
     for step in steps {
         show_step(core, step, view, lent)?;

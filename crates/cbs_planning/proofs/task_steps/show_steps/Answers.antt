@@ -4,7 +4,7 @@ use Rattle.std.specs.Vec.Iter.{into_iter_items}
 use Rattle.cbs_core.proofs.Laws.{after-push, all_yielded}
 use Rattle.cbs_job.specs.FileJobs.{of_files}
 use Rattle.cbs_steps.specs.Continuations.{◌⊕⊕◌}
-use Rattle.cbs_planning.proofs.TaskSteps.{none_seen, seen_more}
+use Rattle.cbs_planning.proofs.TaskSteps.{none_seen, on_err_always, seen_more, stops_later}
 use Rattle.cbs_planning.proofs.task_steps.show_steps.Goals as goal
 
 pub loop-step-init : goal.loop-step-init
@@ -40,3 +40,12 @@ pub returns-clause-seen : goal.returns-clause-seen
 returns-clause-seen g c = λ M agrees first seen saw.
     let none : into_iter_items c.loop-step.step-iterator ≡ [] = nil_from_length _ (sym c.loop-step.invariant.count ∙ c.in-None.ensures.steps.0) in
     rw (all_yielded c.args.steps.items c.loop-step.yielded _ c.loop-step.invariant.split none) (c.loop-step.invariant.seen M agrees first seen saw)
+
+pub returns-in_err-show_step-clause-stopped : goal.returns-in_err-show_step-clause-stopped
+returns-in_err-show_step-clause-stopped g c = on_err_always c.from_residual.result (λ M agrees.
+    let done = c.loop-step.yielded in
+    let rest = into_iter_items c.next.new.self in
+    let here = c.in_err-show_step.ensures.stopped (M ⊕⊕ done) (c.loop-step.invariant.state M agrees) in
+    let all : done ++ c.in-Some.step ∷ rest ≡ c.args.steps.items =
+    sym (c.loop-step.invariant.split ∙ ap (λ xs. done ++ xs) c.in-Some.ensures.steps.0) in
+    stops_later g.V.View.saw g.V.View.failed M done (c.in-Some.step ∷ []) rest c.args.steps.items _ _ _ _ all (c.loop-step.invariant.seen M agrees) here)
