@@ -55,42 +55,51 @@ module _ {W : Type 0} (work : Meaning W) where
   held_paced {core} M agrees on = subst (λ n. IsPaced n (paces_from core 0 core.faces)) (sym agrees.world.clock)
       (subst (λ ps. IsPaced (world_after work M).now ps) (sym (paces_agree M agrees)) on)
 
-  -- what is so of a core if it is so of the world that it agrees with, and what each of some steps keeps
-  module _ (Held : CoreHeld W → Type 0) (On : World W → Type 0) (May : History W → Step W → Type 0)
-      (agreed : (core : CoreHeld W) (M : History W) → Agrees work core M → Held core → On (world_after work M))
-      (held : (core : CoreHeld W) (M : History W) → Agrees work core M → On (world_after work M) → Held core)
-      (stable : (core : CoreHeld W) → (¬ ¬ Held core) → Held core) where
-    -- is so from a core on
-    all_kept_on : (a : CoreHeld W) (xs : List (Step W)) → AllAllowed work (Keeps work On May) a xs → AllAllowed work May a xs → Held a
+  -- what is so of a core exactly if it is so of the world that it agrees with
+  pub record IsCarried (Held : CoreHeld W → Type 0) (On : World W → Type 0) : Type 0 where
+    pub agreed : (core : CoreHeld W) (M : History W) → Agrees work core M → Held core → On (world_after work M)
+    pub held : (core : CoreHeld W) (M : History W) → Agrees work core M → On (world_after work M) → Held core
+    pub stable : (core : CoreHeld W) → (¬ ¬ Held core) → Held core
+
+  -- so is that it is on time
+  pub on_time_carried : IsCarried IsCoreOnTime (IsWorldOnTime work)
+  on_time_carried = record {
+    agreed = λ core M. agreed_on_time M;
+    held = λ core M. held_on_time M;
+    stable = λ core. on_time_stable core.clock core.faces;
+  }
+
+  -- and that it is paced
+  pub paced_carried : IsCarried IsCorePaced (IsWorldPaced work)
+  paced_carried = record {
+    agreed = λ core M. agreed_paced M;
+    held = λ core M. held_paced M;
+    stable = λ core. paced_stable core.clock (paces_from core 0 core.faces);
+  }
+
+  module _ {Held : CoreHeld W → Type 0} {On : World W → Type 0} (carried : IsCarried Held On) (May : History W → Step W → Type 0) where
+    -- if each of some steps keeps it, each of them leaves it so, from such a core on
+    pub all_kept_on : (a : CoreHeld W) (xs : List (Step W)) → AllAllowed work (Keeps work On May) a xs → AllAllowed work May a xs → Held a
         → AllAllowed work (λ N x. On (world_after work (N ⊕ x))) a xs
-    all_kept_on a xs keep may = λ on M agrees. each_kept work On May M xs (keep M agrees) (may M agrees) (agreed a M agrees on)
+    all_kept_on a xs keep may = λ on M agrees. each_kept work On May M xs (keep M agrees) (may M agrees) (carried.agreed a M agrees on)
 
-    -- and of the core that they lead to
-    kept_on : (a b : CoreHeld W) (xs : List (Step W)) → HasHistory work a → Follows work a b xs → AllAllowed work (Keeps work On May) a xs
+    -- and so is the core that they lead to
+    pub kept_on : (a b : CoreHeld W) (xs : List (Step W)) → HasHistory work a → Follows work a b xs → AllAllowed work (Keeps work On May) a xs
         → AllAllowed work May a xs → Held a → Held b
-    kept_on a b xs history follows keep may on = stable b (λ no. history (λ M agrees.
-        no (held b (M ⊕⊕ xs) (follows M agrees) (last_kept work On May M xs (keep M agrees) (may M agrees) (agreed a M agrees on)))))
+    kept_on a b xs history follows keep may on = carried.stable b (λ no. history (λ M agrees.
+        no (carried.held b (M ⊕⊕ xs) (follows M agrees) (last_kept work On May M xs (keep M agrees) (may M agrees) (carried.agreed a M agrees on)))))
 
-  -- so it is on time
+    -- of one step
+    pub step_kept : (a b : CoreHeld W) (x : Step W) → HasHistory work a → Follows work a b (x ∷ [])
+        → ((M : History W) → Agrees work a M → Keeps work On May M x) → ((M : History W) → Agrees work a M → May M x) → Held a → Held b
+    step_kept a b x history follows keep may = kept_on a b (x ∷ []) history follows (λ M agrees. (keep M agrees, tt)) (λ M agrees. (may M agrees, tt))
+
+  -- from a core on time on
   pub all_on_time : (a : CoreHeld W) (xs : List (Step W)) → AllAllowed work (KeepsTime work) a xs → AllAllowed work (IsQuietAfter work) a xs
       → AllOnTime work a xs
-  all_on_time = all_kept_on IsCoreOnTime (IsWorldOnTime work) (IsQuietAfter work) (λ core M. agreed_on_time M) (λ core M. held_on_time M)
-      (λ core. on_time_stable core.clock core.faces)
+  all_on_time = all_kept_on on_time_carried (IsQuietAfter work)
 
-  pub on_time_on : (a b : CoreHeld W) (xs : List (Step W)) → HasHistory work a → Follows work a b xs → AllAllowed work (KeepsTime work) a xs
-      → AllAllowed work (IsQuietAfter work) a xs
-      → IsCoreOnTime a → IsCoreOnTime b
-  on_time_on = kept_on IsCoreOnTime (IsWorldOnTime work) (IsQuietAfter work) (λ core M. agreed_on_time M) (λ core M. held_on_time M)
-      (λ core. on_time_stable core.clock core.faces)
-
-  -- and paced
+  -- and from a paced one
   pub all_paced : (a : CoreHeld W) (xs : List (Step W)) → AllAllowed work (KeepsPace work) a xs → AllAllowed work (IsQuietAdvanceAfter work) a xs
       → AllPaced work a xs
-  all_paced = all_kept_on IsCorePaced (IsWorldPaced work) (IsQuietAdvanceAfter work) (λ core M. agreed_paced M) (λ core M. held_paced M)
-      (λ core. paced_stable core.clock (paces_from core 0 core.faces))
-
-  pub paced_on : (a b : CoreHeld W) (xs : List (Step W)) → HasHistory work a → Follows work a b xs → AllAllowed work (KeepsPace work) a xs
-      → AllAllowed work (IsQuietAdvanceAfter work) a xs
-      → IsCorePaced a → IsCorePaced b
-  paced_on = kept_on IsCorePaced (IsWorldPaced work) (IsQuietAdvanceAfter work) (λ core M. agreed_paced M) (λ core M. held_paced M)
-      (λ core. paced_stable core.clock (paces_from core 0 core.faces))
+  all_paced = all_kept_on paced_carried (IsQuietAdvanceAfter work)

@@ -176,7 +176,7 @@ module _ {W : Type 0} (work : Meaning W) where
   due_late setup M ok quiet s lt active = due_busy setup M ok quiet s lt (grind (arith, nat_tests))
 
   -- a step that takes nobody's time advances quietly
-  quiet_advance : (w : World W) (x : Step W) → IsQuietStep work w x → IsQuietAdvance work w x
+  pub quiet_advance : (w : World W) (x : Step W) → IsQuietStep work w x → IsQuietAdvance work w x
   quiet_advance w (Submit s job) q = tt
   quiet_advance w Run q = tt
   quiet_advance w (Advance n) q = q
