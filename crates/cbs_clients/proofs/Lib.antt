@@ -15,6 +15,7 @@ pub mod PolledServers
 pub mod Turns
 pub mod NamedJobs
 pub mod OpenServers
+pub mod PacedMoves
 pub mod Tells
 pub mod Runs
 pub mod NewHouses

@@ -14,6 +14,7 @@ use Rattle.cbs_core.specs.Agreement.{Agrees, Follows, HasHistory}
 use Rattle.cbs_core.specs.Held.{CoreHeld, Accepts}
 use Rattle.cbs_steps.specs.History.{History, world_after}
 use Rattle.cbs_steps.specs.OnTime.{KeepsTime}
+use Rattle.cbs_steps.specs.Paced.{KeepsPace}
 use Rattle.cbs_steps.specs.Quiet.{IsIdleSpan}
 use Rattle.cbs_steps.specs.declared.reply.Ran.{Ran}
 use Rattle.cbs_steps.specs.declared.reply.Ran.TheVariants as ran
@@ -76,6 +77,7 @@ module _ {W A : Type 0} {g : Ghosts W} (work : Meaning W) where
   made_both a b c xs ys p q = record {
     steps = follows_both work (core_of a) (core_of b) (core_of c) xs ys p.steps q.steps;
     keeps_time = allowed_both work (KeepsTime work) (core_of a) (core_of b) xs ys p.steps p.keeps_time q.keeps_time;
+    keeps_pace = allowed_both work (KeepsPace work) (core_of a) (core_of b) xs ys p.steps p.keeps_pace q.keeps_pace;
     rings = q.rings ∙ p.rings;
     seats = λ s. record {
       received = (q.seats s).received ∙ (ap (λ ms. ms ++ messages_of s ys) (p.seats s).received
@@ -91,6 +93,7 @@ module _ {W A : Type 0} {g : Ghosts W} (work : Meaning W) where
   made_nothing a = record {
     steps = λ M agrees. agrees;
     keeps_time = λ M agrees. tt;
+    keeps_pace = λ M agrees. tt;
     rings = refl;
     seats = λ s. record { received = sym (append-nil (received a s)); known = ([], append-nil (known a s)); handed = refl };
   }
@@ -100,6 +103,7 @@ module _ {W A : Type 0} {g : Ghosts W} (work : Meaning W) where
   made_look a b l = record {
     steps = λ M agrees. rw l.core agrees;
     keeps_time = λ M agrees. tt;
+    keeps_pace = λ M agrees. tt;
     rings = l.rings;
     seats = λ s. record {
       received = looks_received a b l s ∙ sym (append-nil (received a s));
@@ -114,6 +118,7 @@ module _ {W A : Type 0} {g : Ghosts W} (work : Meaning W) where
   made_room a b l steps shelves = record {
     steps = steps;
     keeps_time = λ M agrees. tt;
+    keeps_pace = λ M agrees. tt;
     rings = l.rings;
     seats = λ s. record {
       received = l.received s ∙ sym (append-nil (received a s));
@@ -125,10 +130,12 @@ module _ {W A : Type 0} {g : Ghosts W} (work : Meaning W) where
   -- a step that takes no message
   pub made_time : (a b : House W A g) (x : Step W) → ((s : ℕ) → message_of s x ≡ []) → Follows work (core_of a) (core_of b) (x ∷ [])
       → ((M : History W) → Agrees work (core_of a) M → KeepsTime work M x)
+      → ((M : History W) → Agrees work (core_of a) M → KeepsPace work M x)
       → b.rings ≡ a.rings → ((s : ℕ) → handed_of b s ≡ handed_of a s) → Made work a b (x ∷ [])
-  made_time a b x none f keep e handed = record {
+  made_time a b x none f keep pace e handed = record {
     steps = f;
     keeps_time = λ M agrees. (keep M agrees, tt);
+    keeps_pace = λ M agrees. (pace M agrees, tt);
     rings = rw e refl;
     seats = λ s. record {
       received = rw (e, none s) (sym (append-nil (received a s)));
@@ -143,10 +150,12 @@ module _ {W A : Type 0} {g : Ghosts W} (work : Meaning W) where
       → rings_of b ≡ rings_of a → received b t ≡ received a t ++ m ∷ [] → known a t ≡ m ∷ known b t
       → ((s : ℕ) → s ≢ t → (received b s ≡ received a s) × (known b s ≡ known a s))
       → ((s : ℕ) → handed_of b s ≡ handed_of a s) → Follows work (core_of a) (core_of b) (x ∷ [])
-      → ((M : History W) → Agrees work (core_of a) M → KeepsTime work M x) → Made work a b (x ∷ [])
-  made_one a b t m x here elsewhere same taken first others handed f keep = record {
+      → ((M : History W) → Agrees work (core_of a) M → KeepsTime work M x)
+      → ((M : History W) → Agrees work (core_of a) M → KeepsPace work M x) → Made work a b (x ∷ [])
+  made_one a b t m x here elsewhere same taken first others handed f keep pace = record {
     steps = f;
     keeps_time = λ M agrees. (keep M agrees, tt);
+    keeps_pace = λ M agrees. (pace M agrees, tt);
     rings = same;
     seats = λ s. record {
       received = elim (cases_eq s t) [
@@ -166,7 +175,8 @@ module _ {W A : Type 0} {g : Ghosts W} (work : Meaning W) where
       → rings_of b ≡ rings_of a → received b t ≡ received a t ++ Job job ∷ [] → known a t ≡ Job job ∷ known b t
       → ((s : ℕ) → s ≢ t → (received b s ≡ received a s) × (known b s ≡ known a s))
       → ((s : ℕ) → handed_of b s ≡ handed_of a s) → Follows work (core_of a) (core_of b) (step.Submit t job ∷ [])
-      → ((M : History W) → Agrees work (core_of a) M → KeepsTime work M (step.Submit t job)) → Made work a b (step.Submit t job ∷ [])
+      → ((M : History W) → Agrees work (core_of a) M → KeepsTime work M (step.Submit t job))
+      → ((M : History W) → Agrees work (core_of a) M → KeepsPace work M (step.Submit t job)) → Made work a b (step.Submit t job ∷ [])
   made_job a b t job = made_one a b t (Job job) (step.Submit t job) (rw (eqb_same t) refl) (λ s n. rw (eqb_other t s n) refl)
 
   pub made_end :
@@ -174,7 +184,8 @@ module _ {W A : Type 0} {g : Ghosts W} (work : Meaning W) where
       → rings_of b ≡ rings_of a → received b t ≡ received a t ++ End ∷ [] → known a t ≡ End ∷ known b t
       → ((s : ℕ) → s ≢ t → (received b s ≡ received a s) × (known b s ≡ known a s))
       → ((s : ℕ) → handed_of b s ≡ handed_of a s) → Follows work (core_of a) (core_of b) (step.Close t ∷ [])
-      → ((M : History W) → Agrees work (core_of a) M → KeepsTime work M (step.Close t)) → Made work a b (step.Close t ∷ [])
+      → ((M : History W) → Agrees work (core_of a) M → KeepsTime work M (step.Close t))
+      → ((M : History W) → Agrees work (core_of a) M → KeepsPace work M (step.Close t)) → Made work a b (step.Close t ∷ [])
   made_end a b t = made_one a b t End (step.Close t) (rw (eqb_same t) refl) (λ s n. rw (eqb_other t s n) refl)
 
   -- a run that finished no job leaves the results

@@ -11,13 +11,16 @@ use Rattle.cbs_steps.specs.declared.reply.Ran.TheVariants as ran
 use Rattle.cbs_steps.specs.declared.step.Step.{Step}
 use Rattle.cbs_steps.specs.declared.step.Step.TheVariants.{Run}
 use Rattle.cbs_clients.specs.Calls.{RunOf, RunBy}
-use Rattle.cbs_clients.specs.Houses.{core_of, received, IsHouseOnTime, KeepsResults, Made, Collects, ComesTo, NamesJob}
+use Rattle.cbs_clients.specs.Houses.{core_of, received, IsHouseOnTime, IsHousePaced, KeepsResults, Made, Collects, ComesTo, NamesJob}
 use Rattle.cbs_host.specs.Meters.{NeverCharges}
 use Rattle.cbs_clients.specs.Meters.{ticks_charged, charge_steps, IsUnitPaid, IsRunPaid}
 use Rattle.cbs_clients.specs.declared.house.House.{House}
 use Rattle.cbs_clients.proofs.MadeSteps.{made_both}
 use Rattle.cbs_clients.proofs.Metered.{GaveUnit, unit_clock, charge_messages, never_paid}
-use Rattle.cbs_clients.proofs.Moves.{step_on_time}
+use Rattle.cbs_core.proofs.OnTimeCores.{step_kept, on_time_carried}
+use Rattle.cbs_clients.proofs.PacedMoves.{made_paced, paid_quietly}
+use Rattle.cbs_steps.specs.History.{◌⊕◌}
+use Rattle.cbs_steps.specs.Quiet.{IsQuietAfter}
 
 module _ {W : Type 0} where
   -- the unit of a run that gave one is paid for
@@ -65,7 +68,12 @@ module _ {W A : Type 0} {g : Ghosts W} (work : Meaning W) (may : ℕ → ℕ →
   paid_on_time never =
       let none = never_paid may (core_of a).clock told _ never pays in
       let made : Made work a c (Run ∷ []) = subst (λ (xs : List (Step W)). Made work a c (Run ∷ xs)) none run_paid in
-      step_on_time work (core_of a) (core_of c) Run history made.steps (λ M agrees. (made.keeps_time M agrees).0) (λ M agrees. tt)
+      step_kept work (on_time_carried work) (IsQuietAfter work) (core_of a) (core_of c) Run history made.steps
+      (λ M agrees. (made.keeps_time M agrees).0) (λ M agrees. tt)
+
+  paid_paced : IsHousePaced a → IsHousePaced c
+  paid_paced = made_paced work a c (Run ∷ charge_steps s (ticks_charged (core_of a).clock beyond)) history run_paid
+      (λ M. (tt, paid_quietly work may (M ⊕ Run) (core_of a).clock told _ pays))
 
   -- a unit that is paid for
   pub run_by : KeepsResults b c → AllSame (core_of b) (core_of c) → RunBy work may a told c
@@ -75,6 +83,7 @@ module _ {W A : Type 0} {g : Ghosts W} (work : Meaning W) (may : ℕ → ℕ →
     pays = pays;
     made = run_paid;
     on_time = paid_on_time;
+    paced = paid_paced;
     collects = collects_before told a b c runs.collects same;
     job = names_on work told b c
         (λ t. (charged_so.seats t).received ∙ (ap (λ ms. received b t ++ ms) (charge_messages t s (ticks_charged (core_of a).clock beyond)) ∙ append-nil (received b t)))

@@ -3,11 +3,10 @@ use Rattle.std.proofs.Common.{◌≡◌, ℕ, ◌+◌, List, [], ◌∷◌, ◌+
 use Rattle.std.proofs.lemmas.List.{append-nil}
 use Rattle.cbs_job.specs.Work.{Meaning}
 use Rattle.cbs_job.specs.declared.work.Work.{Ghosts}
-use Rattle.cbs_core.specs.Agreement.{Agrees, HasHistory, Follows, AllAllowed}
-use Rattle.cbs_core.specs.Held.{CoreHeld, IsCoreOnTime}
-use Rattle.cbs_steps.specs.History.{History, reply_in}
-use Rattle.cbs_steps.specs.OnTime.{KeepsTime}
-use Rattle.cbs_steps.specs.Quiet.{IsQuietAfter}
+use Rattle.cbs_core.specs.Agreement.{Agrees, HasHistory, AllAllowed}
+use Rattle.cbs_steps.specs.History.{History, world_after, reply_in}
+use Rattle.cbs_steps.specs.Quiet.{IsQuietAfter, IsQuietAdvanceAfter}
+use Rattle.cbs_steps.proofs.Lateness.{quiet_advance}
 use Rattle.cbs_steps.specs.declared.reply.Ran.{Ran}
 use Rattle.cbs_steps.specs.declared.reply.Reply.TheVariants as reply
 use Rattle.cbs_steps.specs.declared.step.Step.{Step}
@@ -24,7 +23,7 @@ use Rattle.cbs_clients.proofs.MadeSteps.{made_both, made_nothing, made_look}
 use Rattle.cbs_clients.proofs.StepMessages.{pops-append}
 use Rattle.cbs_clients.proofs.Metered.{all_steps-append, moves-append, never_moves, weaker_moves, paid_pops}
 use Rattle.cbs_core.proofs.Laws.{allowed_weaker}
-use Rattle.cbs_core.proofs.OnTimeCores.{all_on_time, on_time_on}
+use Rattle.cbs_core.proofs.OnTimeCores.{all_on_time, all_paced, kept_on, on_time_carried}
 
 pub none_taken : {W : Type 0} (s : ℕ) (xs : List (Step W)) → pops xs ≡ 0 → messages_of s xs ≡ []
 none_taken s [] e = refl
@@ -49,7 +48,8 @@ module _ {W A : Type 0} {g : Ghosts W} (work : Meaning W) (P : History W → Ste
 
   -- a house that is on time is so after moves that take nobody's time
   pub moves_on_time : (a b : House W A g) (n : ℕ) → HasHistory work (core_of a) → Moves work P a b n → IsHouseOnTime a → IsHouseOnTime b
-  moves_on_time a b n history m = on_time_on work (core_of a) (core_of b) m.steps history m.made.steps m.made.keeps_time m.quiet
+  moves_on_time a b n history m =
+      kept_on work (on_time_carried work) (IsQuietAfter work) (core_of a) (core_of b) m.steps history m.made.steps m.made.keeps_time m.quiet
 
 module _ {W A : Type 0} {g : Ghosts W} (work : Meaning W) (may : ℕ → ℕ → Type 0) (P : History W → Step W → Type 0) where
   -- no step
@@ -105,6 +105,8 @@ module _ {W A : Type 0} {g : Ghosts W} (work : Meaning W) (may : ℕ → ℕ →
         each = each;
         quiet = still;
         on_time = all_on_time work (core_of a) xs m.made.keeps_time still;
+        paced = all_paced work (core_of a) xs m.made.keeps_pace
+            (allowed_weaker work (IsQuietAfter work) (IsQuietAdvanceAfter work) (core_of a) xs (λ N x. quiet_advance work (world_after work N) x) still);
         count = m.count;
       }
 
@@ -207,10 +209,3 @@ module _ {W A : Type 0} {g : Ghosts W} (work : Meaning W) where
   -- a house that is on time is so after a poll
   pub polled_on_time : (a b : House W A g) (s : ℕ) (p : Poll) → HasHistory work (core_of a) → Polled work a s p b → IsHouseOnTime a → IsHouseOnTime b
   polled_on_time a b s p history k = serves_on_time work NothingBeyond a b never_beyond history (serves_poll work NothingBeyond a b s p k)
-
-module _ {W : Type 0} (work : Meaning W) where
-  -- a core that is on time is so after a step that takes nobody's time
-  pub step_on_time : (a b : CoreHeld W) (x : Step W) → HasHistory work a → Follows work a b (x ∷ []) → ((M : History W) → Agrees work a M → KeepsTime work M x)
-      → ((M : History W) → Agrees work a M → IsQuietAfter work M x) → IsCoreOnTime a → IsCoreOnTime b
-  step_on_time a b x history follows keep quiet = on_time_on work a b (x ∷ []) history follows (λ M agrees. (keep M agrees, tt))
-      (λ M agrees. (quiet M agrees, tt))

@@ -9,6 +9,8 @@ use Rattle.cbs_steps.specs.Faces.{face_at, view_reply, charges_reply}
 use Rattle.cbs_steps.specs.History.{Setup, History, faces, world_after, reply_in, charge_refusal}
 use Rattle.cbs_steps.specs.Laws.{account_in, IsWithinBudget}
 use Rattle.cbs_steps.specs.OnTime.{IsWorldOnTime}
+use Rattle.cbs_steps.specs.Lateness.{later_charges}
+use Rattle.cbs_steps.specs.Paced.{IsWorldPaced, AllFinishedLate}
 use Rattle.cbs_steps.specs.Promises.{promised, AllFinishedBy}
 use Rattle.cbs_steps.specs.Punctual.{IsPunctual}
 use Rattle.cbs_steps.specs.Quiet.{IsAtRest, IsIdleSpan, IsQuietAfter}
@@ -22,7 +24,7 @@ use Rattle.cbs_core.specs.Agreement.{Agrees}
 use Rattle.cbs_core.specs.Held.{running, AllSame}
 use Rattle.cbs_clients.specs.Errors.{charge_answer}
 use Rattle.cbs_clients.specs.Clients.{sent_by, free, most_jobs, SameClient}
-use Rattle.cbs_clients.specs.Houses.{core_of, rings_of, seat_at, new_seat, IsHouseOnTime, KeepsResults, told_answer, Made, SameHouse, Polled}
+use Rattle.cbs_clients.specs.Houses.{core_of, rings_of, seat_at, new_seat, IsHouseOnTime, IsHousePaced, KeepsResults, told_answer, Made, SameHouse, Polled}
 use Rattle.cbs_clients.specs.Houses.{ServesOn, ServesBy, Collects, NamesJob}
 use Rattle.cbs_clients.specs.Messages.{jobs_among, has_end}
 use Rattle.cbs_host.specs.Meters.{NothingBeyond, NeverCharges}
@@ -41,17 +43,19 @@ use Rattle.cbs_clients.specs.declared.turn.Turn.{Turn}
 
 module _ {W A : Type 0} {g : Ghosts W} where
   -- A house that was opened with these servers. Its core agrees with the history of no steps, nothing was received, and
-  -- no result is kept or was handed out. It is on time, and every list of steps that it may make is punctual.
+  -- no result is kept or was handed out. It is on time and paced, and every list of steps that it may make is punctual.
   pub record IsNewHouse (work : Meaning W) (setup : Setup) (h : House W A g) : Type 0 where
     pub agrees : Agrees work (core_of h) (record { setup = setup; steps = [] })
     pub empty : (s : ℕ) → seat_at h s ≡ new_seat
     pub on_time : IsHouseOnTime h
+    pub paced : IsHousePaced h
     pub punctual : (steps : List (Step W)) → IsPunctual work (record { setup = setup; steps = steps })
 
   -- a poll of server s: it makes one step or none, by its result, and keeps the results of all servers
   pub record PollOf (work : Meaning W) (s : ℕ) (old : House W A g) (answer : Poll) (new : House W A g) : Type 0 where
     pub polled : Polled work old s answer new
     pub on_time : IsHouseOnTime old → IsHouseOnTime new
+    pub paced : IsHousePaced old → IsHousePaced new
     pub rings : rings_of new ≡ rings_of old
     pub results : KeepsResults old new
 
@@ -60,6 +64,7 @@ module _ {W A : Type 0} {g : Ghosts W} where
     pub reply : (M : History W) → Agrees work (core_of old) M → reply.Ran told ≡ reply_in work M step.Run
     pub made : Made work old new (step.Run ∷ [])
     pub on_time : IsHouseOnTime old → IsHouseOnTime new
+    pub paced : IsHousePaced old → IsHousePaced new
     pub collects : Collects told old new
     pub job : NamesJob work told new
 
@@ -71,24 +76,27 @@ module _ {W A : Type 0} {g : Ghosts W} where
     pub pays : IsRunPaid may (core_of old).clock told paid
     pub made : Made work old new (step.Run ∷ paid)
     pub on_time : NeverCharges may → IsHouseOnTime old → IsHouseOnTime new
+    pub paced : IsHousePaced old → IsHousePaced new
     pub collects : Collects told old new
     pub job : NamesJob work told new
 
-  -- An advance by n makes this one step, and keeps a house on time if it takes nobody's time. If the clock would pass
+  -- An advance by n makes this one step, and keeps a house on time, or paced, if it takes nobody's time. If the clock would pass
   -- its end, the advance is refused, and nothing changed
   pub record AdvanceOf (work : Meaning W) (n : ℕ) (old : House W A g) (answer : Result (Unit {0}) HouseError) (new : House W A g) : Type 0 where
     pub made : OnOk answer (Made work old new (step.Advance n ∷ []))
     pub on_time : ((M : History W) → Agrees work (core_of old) M → IsQuietAfter work M (step.Advance n)) → IsHouseOnTime old → IsHouseOnTime new
+    pub paced : ((M : History W) → Agrees work (core_of old) M → IsQuietAfter work M (step.Advance n)) → IsHousePaced old → IsHousePaced new
     pub rings : rings_of new ≡ rings_of old
     pub results : KeepsResults old new
     pub refused : IfErr answer (λ error. (error ≡ house_error.ClockEnd) × SameHouse old new)
     pub end : (M : History W) → Agrees work (core_of old) M
         → MatchResult answer (λ _. (world_after work M).now + n ≤ clock_end) (λ _. clock_end < (world_after work M).now + n)
 
-  -- A charge of a server makes this one step, which leaves every job. If the core refuses it, the charge is refused by
+  -- A charge of a server makes this one step, which leaves every job, and keeps a house paced. If the core refuses it, the charge is refused by
   -- that reason, and nothing changed
   pub record ChargeOf (work : Meaning W) (server ticks : ℕ) (old : House W A g) (answer : Result (Unit {0}) HouseError) (new : House W A g) : Type 0 where
     pub made : OnOk answer (Made work old new (step.Charge server ticks ∷ []))
+    pub paced : IsHousePaced old → IsHousePaced new
     pub rings : rings_of new ≡ rings_of old
     pub results : KeepsResults old new
     pub jobs : AllSame (core_of old) (core_of new)
@@ -106,6 +114,7 @@ module _ {W A : Type 0} {g : Ghosts W} where
     pub turn : TakesOwnTurn work NothingBeyond old new told
     pub steps : ServesOn work old new
     pub on_time : IsHouseOnTime old → IsHouseOnTime new
+    pub paced : IsHousePaced old → IsHousePaced new
     pub few : told.took ≤ length (core_of old).faces
     pub rings : rings_of new ≡ rings_of old
     pub collects : Collects told.ran old new
@@ -117,6 +126,7 @@ module _ {W A : Type 0} {g : Ghosts W} where
     pub turn : TakesOwnTurn work may old new told
     pub steps : ServesBy work may old new
     pub on_time : NeverCharges may → IsHouseOnTime old → IsHouseOnTime new
+    pub paced : IsHousePaced old → IsHousePaced new
     pub few : told.took ≤ length (core_of old).faces
     pub rings : rings_of new ≡ rings_of old
     pub collects : Collects told.ran old new
@@ -135,13 +145,16 @@ module _ {W A : Type 0} {g : Ghosts W} where
       → MatchOption span (¬ IsAtRest work (world_after work M)) (IsIdleSpan work (world_after work M))
 
   -- The result is what server s shows, or that there is no such server. If all is on time, the deadline of a ready
-  -- server is still to come.
+  -- server is still to come. If all is paced, it has passed by less than the servers with later deadlines were charged,
+  -- the most of each for one unit.
   pub record ViewOf (work : Meaning W) (s : ℕ) (h : House W A g) (answer : Result ServerView HouseError) : Type 0 where
     pub view : (M : History W) → Agrees work (core_of h) M → answer ≡ told_answer (view_reply (slice_get (faces work (world_after work M)) s))
     pub early : (M : History W) → Agrees work (core_of h) M → IfOk answer (λ v. let now = (world_after work M).now in v.deadline ≤ now + (now + 1) * longest_period)
     pub budget : (M : History W) → Agrees work (core_of h) M → OnOk answer (IsWithinBudget (face_at (faces work (world_after work M)) s))
     pub in_time : (M : History W) → Agrees work (core_of h) M → IsWorldOnTime work (world_after work M)
         → IfOk answer (λ v. v.finished < v.accepted → v.throttled ≡ false → (world_after work M).now < v.deadline)
+    pub late_by : (M : History W) → Agrees work (core_of h) M → (let w = world_after work M in
+        IsWorldPaced work w → IfOk answer (λ v. v.finished < v.accepted → v.throttled ≡ false → w.now < v.deadline + later_charges v.deadline w.accounts))
 
   -- the result is what server s was charged, or that there is no such server
   abbrev pub ChargesOf : Meaning W → ℕ → House W A g → Result Charges HouseError → Type 0
@@ -149,10 +162,12 @@ module _ {W A : Type 0} {g : Ghosts W} where
       → answer ≡ told_answer (charges_reply (slice_get (faces work (world_after work M)) s))
 
   -- The result is the tick by which all that server s accepted is finished, if some units are owed. If the house is on
-  -- time and no step to come takes anybody's time, the tick is kept, whatever is asked for later.
+  -- time and no step to come takes anybody's time, the tick is kept, whatever is asked for later. If the house is paced
+  -- and each advance to come is quiet, it is kept but for what is charged.
   pub record PromiseOf (work : Meaning W) (s : ℕ) (h : House W A g) (tick : Option ℕ) : Type 0 where
     pub value : (M : History W) → Agrees work (core_of h) M → tick ≡ promised work (account_in work M s)
     pub kept : IsHouseOnTime h → IfSome tick (λ t. (M : History W) → Agrees work (core_of h) M → AllFinishedBy work M s t)
+    pub kept_charged : IsHousePaced h → IfSome tick (λ t. (M : History W) → Agrees work (core_of h) M → AllFinishedLate work M s t)
 
   -- the client looked at its ring anew, and sent nothing
   pub record LooksAtRing (old new : Client W A g) : Type 0 where

@@ -4,9 +4,10 @@ use mathlib.Core.List.{IsPrefix}
 use Rattle.cbs_job.specs.Work.{Meaning, whole}
 use Rattle.cbs_job.specs.declared.work.Work.{Ghosts}
 use Rattle.cbs_steps.specs.Faces.{face_at, backlog_of}
-use Rattle.cbs_core.specs.Held.{CoreHeld, held_at, IsOpen, Accepts, HasRoom, IsCoreOnTime}
+use Rattle.cbs_core.specs.Held.{CoreHeld, held_at, IsOpen, Accepts, HasRoom, IsCoreOnTime, IsCorePaced}
 use Rattle.cbs_steps.specs.History.{History}
 use Rattle.cbs_steps.specs.OnTime.{KeepsTime}
+use Rattle.cbs_steps.specs.Paced.{KeepsPace}
 use Rattle.cbs_steps.specs.Quiet.{IsQuietAfter}
 use Rattle.cbs_steps.specs.declared.error.CoreError.{CoreError}
 use Rattle.cbs_steps.specs.declared.reply.Ran.{Ran}
@@ -24,7 +25,7 @@ use Rattle.cbs_clients.specs.Messages.{jobs_among}
 use Rattle.cbs_clients.specs.Meters.{AreMoves, all_steps}
 use Rattle.cbs_clients.specs.Rings.{rings_in, received_in, known_in, Ring}
 use Rattle.cbs_clients.specs.Steps.{messages_of, pops, MayServe}
-use Rattle.cbs_core.specs.Agreement.{Agrees, Follows, AllAllowed, AllOnTime}
+use Rattle.cbs_core.specs.Agreement.{Agrees, Follows, AllAllowed, AllOnTime, AllPaced}
 
 -- What a house has of one server. First the messages received and the messages that it knows to wait in the ring, each
 -- oldest first. Then how many results were handed out, and the results that are kept, in order.
@@ -59,6 +60,10 @@ module _ {W A : Type 0} {g : Ghosts W} where
   -- the house is on time: its core is on time
   abbrev pub IsHouseOnTime : House W A g → Type 0
   IsHouseOnTime h = IsCoreOnTime (core_of h)
+
+  -- the house is paced: its core is
+  abbrev pub IsHousePaced : House W A g → Type 0
+  IsHousePaced h = IsCorePaced (core_of h)
 
   -- the ring that was opened for each server
   abbrev pub rings_of : House W A g → List (Ring A)
@@ -99,10 +104,12 @@ module _ {W A : Type 0} {g : Ghosts W} where
 
   -- The house made these steps. Each history that its core agreed with, followed by the steps, is one that its core
   -- agrees with now. The rings are the same, each server's messages among the steps were taken, and no result was
-  -- handed out. If all was on time, each step that takes nobody's time keeps all on time.
+  -- handed out. If all was on time, each step that takes nobody's time keeps all on time. If all was paced, each step that
+  -- advances quietly keeps all paced.
   pub record Made (work : Meaning W) (old new : House W A g) (xs : List (Step W)) : Type 0 where
     pub steps : Follows work (core_of old) (core_of new) xs
     pub keeps_time : AllAllowed work (KeepsTime work) (core_of old) xs
+    pub keeps_pace : AllAllowed work (KeepsPace work) (core_of old) xs
     pub rings : rings_of new ≡ rings_of old
     pub seats : (s : ℕ) → TakesMessages (messages_of s xs) (seat_at old s) (seat_at new s)
 
@@ -138,13 +145,14 @@ module _ {W A : Type 0} {g : Ghosts W} where
 
 module _ {W A : Type 0} {g : Ghosts W} where
   -- The house made some steps, each of which is allowed at its place, and the steps took n messages. No advance among
-  -- them took anybody's time. So from a house that is on time each step leaves all on time.
+  -- them took anybody's time. So from a house that is on time each step leaves all on time, and from a paced one all paced.
   pub record Moves (work : Meaning W) (allowed : History W → Step W → Type 0) (old new : House W A g) (n : ℕ) : Type 0 where
     pub steps : List (Step W)
     pub made : Made work old new steps
     pub each : AllAllowed work allowed (core_of old) steps
     pub quiet : AllAllowed work (IsQuietAfter work) (core_of old) steps
     pub on_time : AllOnTime work (core_of old) steps
+    pub paced : AllPaced work (core_of old) steps
     pub count : pops steps ≡ n
 
   -- The house made some steps, each allowed at its place, with a meter that may return what `may` allows. Right after

@@ -9,7 +9,7 @@ use std::alloc::Allocator;
 
 impl<W: Work, A: Allocator> House<W, A> {
     ghost use Rattle.std.specs.Prelude.{ℕ, ◌≡◌, true, false, OnOk, IfErr};
-    ghost use Rattle.cbs_clients.specs.Houses.{core_of, rings_of, received, IsHouseOnTime, AllFinished, Moves, MovesBy};
+    ghost use Rattle.cbs_clients.specs.Houses.{core_of, rings_of, received, IsHouseOnTime, IsHousePaced, AllFinished, Moves, MovesBy};
     ghost use Rattle.cbs_host.specs.Meters.{NeverCharges};
     ghost use Rattle.cbs_core.specs.Held.{HoldsJob, HoldsNoJob, IsAtEnd};
     ghost use Rattle.cbs_steps.specs.Continuations.{MayDrain};
@@ -23,6 +23,7 @@ impl<W: Work, A: Allocator> House<W, A> {
     pub fn drain(&mut self) -> Result<(), HouseError>
         ensures moves { Moves W.meaning (MayDrain W.meaning) self.old self.new 0 }
         ensures on_time { IsHouseOnTime self.old → IsHouseOnTime self.new }
+        ensures paced { IsHousePaced self.old → IsHousePaced self.new }
         ensures received { (s : ℕ) → received self.new s ≡ received self.old s }
         ensures rings { rings_of self.new ≡ rings_of self.old }
         ensures ok { OnOk result (HoldsNoJob (core_of self.new)) }
@@ -40,6 +41,7 @@ impl<W: Work, A: Allocator> House<W, A> {
     pub fn drain_metered<M: Meter>(&mut self, meter: &mut M) -> Result<(), HouseError>
         ensures moves { MovesBy W.meaning M.may_tell (MayDrain W.meaning) self.old self.new 0 }
         ensures on_time { NeverCharges M.may_tell → IsHouseOnTime self.old → IsHouseOnTime self.new }
+        ensures paced { IsHousePaced self.old → IsHousePaced self.new }
         ensures received { (s : ℕ) → received self.new s ≡ received self.old s }
         ensures rings { rings_of self.new ≡ rings_of self.old }
         ensures ok { OnOk result (HoldsNoJob (core_of self.new)) }

@@ -39,7 +39,7 @@ impl<W: Work, A: Allocator> House<W, A> {
     ghost use Rattle.cbs_core.specs.Held.{front_output, held_at, is_running, AllSame, IsClosed};
     ghost use Rattle.cbs_clients.specs.Calls.{PollOf, RunOf, RunBy, AdvanceOf, ChargeOf, ChargesLast, ChargesOf, ClockOf, SpanOf, ViewOf, PromiseOf, LooksAtRing};
     ghost use Rattle.cbs_clients.specs.Clients.{server_of, sent_by, IsOpened};
-    ghost use Rattle.cbs_clients.specs.Houses.{core_of, rings_of, received, known, KeepsResults, Made, LooksOnly, Polled, CanTake};
+    ghost use Rattle.cbs_clients.specs.Houses.{core_of, rings_of, received, known, IsHousePaced, KeepsResults, Made, LooksOnly, Polled, CanTake};
     ghost use Rattle.cbs_clients.specs.Meters.{charge_steps};
 
     /// Returns how many servers there are, at most 64. They are numbered from 0.
@@ -238,7 +238,8 @@ impl<W: Work, A: Allocator> House<W, A> {
     /// was not charged for the unit. Refuses by [`HouseError::ClockEnd`] if the clock would pass [`LIMIT`]. A refusal
     /// changes nothing.
     pub fn charge(&mut self, ticks: u64) -> Result<(), HouseError>
-        ensures { ChargesLast W.meaning ticks self.old result self.new }
+        ensures charged { ChargesLast W.meaning ticks self.old result self.new }
+        ensures paced { IsHousePaced self.old → IsHousePaced self.new }
     {
         match self.core.running() {
             Some(server) => self.charge_server(server, ticks),

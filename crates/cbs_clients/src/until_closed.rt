@@ -17,7 +17,7 @@ use std::time::Clock;
 impl<W: Work, A: Allocator> House<W, A> {
     ghost use Rattle.std.specs.Prelude.{◌≡◌, ◌≤◌, ◌↔◌, max, true, false, IsTrue, OnOk, IfOk, IfErr};
     ghost use Rattle.cbs_core.specs.Held.{HoldsNoJob};
-    ghost use Rattle.cbs_clients.specs.Houses.{core_of, rings_of, IsHouseOnTime, AllFinished, ServesOn, ServesBy};
+    ghost use Rattle.cbs_clients.specs.Houses.{core_of, rings_of, IsHouseOnTime, IsHousePaced, AllFinished, ServesOn, ServesBy};
     ghost use Rattle.cbs_host.specs.Meters.{NothingBeyond, NeverCharges};
     ghost use Rattle.cbs_clients.specs.UntilClosed.{open_servers, AllClosed, IsOver, RunEnds, RunsTelling, IsWaiting, RunStops, TakesTurnOfRun};
     ghost use Rattle.cbs_clients.specs.Sinks.{Tells};
@@ -42,6 +42,7 @@ impl<W: Work, A: Allocator> House<W, A> {
         ensures ends { RunEnds W.meaning NothingBeyond (max idle_turns 1) self.old result self.new }
         ensures steps { ServesOn W.meaning self.old self.new }
         ensures on_time { IsHouseOnTime self.old → IsHouseOnTime self.new }
+        ensures paced { IsHousePaced self.old → IsHousePaced self.new }
         ensures rings { rings_of self.new ≡ rings_of self.old }
         ensures told { Tells S.hears self.old self.new sink.old sink.new }
         ensures finished { OnOk result (AllFinished W.meaning self.new) }
@@ -65,6 +66,7 @@ impl<W: Work, A: Allocator> House<W, A> {
         ensures ends { RunEnds W.meaning M.may_tell (max idle_turns 1) self.old result self.new }
         ensures steps { ServesBy W.meaning M.may_tell self.old self.new }
         ensures on_time { NeverCharges M.may_tell → IsHouseOnTime self.old → IsHouseOnTime self.new }
+        ensures paced { IsHousePaced self.old → IsHousePaced self.new }
         ensures rings { rings_of self.new ≡ rings_of self.old }
         ensures told { Tells S.hears self.old self.new sink.old sink.new }
         ensures finished { OnOk result (AllFinished W.meaning self.new) }

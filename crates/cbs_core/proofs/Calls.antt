@@ -24,6 +24,7 @@ module _ {W : Type 0} (work : Meaning W) where
     reply = λ M agrees. made.reply M (agrees_same old mid e M agrees);
     state = λ M agrees. made.state M (agrees_same old mid e M agrees);
     on_time = λ M agrees. made.on_time M (agrees_same old mid e M agrees);
+    paced = λ M agrees. made.paced M (agrees_same old mid e M agrees);
     count = made.count ∙ ap (λ (c : CoreHeld W). length c.faces) e;
     budgets = made.budgets;
   }

@@ -7,8 +7,9 @@ use Rattle.cbs_steps.specs.Accounts.{Account, finished, need, unfinished}
 use Rattle.cbs_steps.specs.History.{World, History, ◌⊕◌, account, faces, world_after}
 use Rattle.cbs_steps.specs.Continuations.{◌⊕⊕◌, EachAllowed}
 use Rattle.cbs_steps.specs.OnTime.{IsWorldOnTime}
+use Rattle.cbs_steps.specs.Paced.{IsWorldPaced}
 use Rattle.cbs_steps.specs.declared.step.Step.{Step}
-use Rattle.cbs_core.specs.Held.{CoreHeld, is_running, charged_at, IsCoreOnTime}
+use Rattle.cbs_core.specs.Held.{CoreHeld, is_running, charged_at, IsCoreOnTime, IsCorePaced}
 
 -- the list with its first number replaced
 abbrev pub with_first_number : ℕ → List ℕ → List ℕ
@@ -54,3 +55,7 @@ module _ {W : Type 0} where
   -- if this core is on time, each of the steps leaves all on time
   abbrev pub AllOnTime : Meaning W → CoreHeld W → List (Step W) → Type 0
   AllOnTime work old xs = IsCoreOnTime old → AllAllowed work (λ N x. IsWorldOnTime work (world_after work (N ⊕ x))) old xs
+
+  -- if this core is paced, each of the steps leaves all paced
+  abbrev pub AllPaced : Meaning W → CoreHeld W → List (Step W) → Type 0
+  AllPaced work old xs = IsCorePaced old → AllAllowed work (λ N x. IsWorldPaced work (world_after work (N ⊕ x))) old xs

@@ -4,6 +4,7 @@ use Rattle.std.specs.Bool.{MatchBool}
 use Rattle.cbs_job.specs.Work.{Meaning}
 use Rattle.cbs_steps.specs.History.{History, ◌⊕◌, reply_in}
 use Rattle.cbs_steps.specs.OnTime.{KeepsTime, KeepsTimeAll}
+use Rattle.cbs_steps.specs.Paced.{KeepsPace, KeepsPaceAll}
 use Rattle.cbs_steps.specs.Replies.{IsAccepted, is_lack, HandsBack, grown_by, AnswersAll}
 use Rattle.cbs_steps.specs.declared.reply.Reply.{Reply}
 use Rattle.cbs_steps.specs.declared.step.Step.{Step}
@@ -13,12 +14,13 @@ use Rattle.cbs_core.specs.Held.{CoreHeld, KeepsBudgets}
 module _ {W : Type 0} where
   -- The step x, with reply r, led from the old core to the new. For every history that the old core agrees with, r is
   -- the rules' reply to x after it. The new core agrees with that history and x. If all was on time, and x takes
-  -- nobody's time, all stays on time. The number of servers is the same, and each budget is at most the budget of its
-  -- reservation.
+  -- nobody's time, all stays on time. If all was paced, and x advances quietly, all stays paced, whatever x charges. The
+  -- number of servers is the same, and each budget is at most the budget of its reservation.
   pub record Makes (work : Meaning W) (old new : CoreHeld W) (x : Step W) (r : Reply W) : Type 0 where
     pub reply : (M : History W) → Agrees work old M → r ≡ reply_in work M x
     pub state : (M : History W) → Agrees work old M → Agrees work new (M ⊕ x)
     pub on_time : (M : History W) → Agrees work old M → KeepsTime work M x
+    pub paced : (M : History W) → Agrees work old M → KeepsPace work M x
     pub count : length new.faces ≡ length old.faces
     pub budgets : KeepsBudgets new
 
@@ -39,5 +41,6 @@ module _ {W : Type 0} where
     pub replies : (M : History W) → Agrees work old M → AnswersAll work M xs rs
     pub state : (M : History W) → Agrees work old M → Agrees work new (grown_by M xs rs)
     pub on_time : (M : History W) → Agrees work old M → KeepsTimeAll work M xs rs
+    pub paced : (M : History W) → Agrees work old M → KeepsPaceAll work M xs rs
     pub count : length new.faces ≡ length old.faces
     pub budgets : KeepsBudgets new

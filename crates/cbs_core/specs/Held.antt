@@ -7,6 +7,7 @@ use Rattle.cbs_steps.specs.Faces.{Face, face_at, backlog_of}
 pub use Rattle.cbs_queues.specs.Queues.{room_of, KeepsRoom, front_output}
 use Rattle.cbs_steps.specs.Laws.{IsWithinBudget}
 use Rattle.cbs_steps.specs.OnTime.{IsOnTime}
+use Rattle.cbs_steps.specs.Paced.{Pace, IsPaced}
 use Rattle.cbs_core.specs.declared.last_unit.LastUnit.{LastUnit}
 use Rattle.cbs_steps.specs.declared.error.CoreError.{CoreError}
 use Rattle.cbs_steps.specs.declared.error.CoreError.TheVariants as error
@@ -172,3 +173,17 @@ KeepsBudgets core = (s : ℕ) → s < length core.faces → IsWithinBudget (face
 -- the core is on time
 abbrev pub IsCoreOnTime : {W : Type 0} → CoreHeld W → Type 0
 IsCoreOnTime core = IsOnTime core.clock core.faces
+
+module _ {W : Type 0} where
+  -- what pacing looks at in server s, which shows this
+  abbrev pub pace_at : CoreHeld W → ℕ → Face → Pace
+  pace_at core s f = record { face = f; runs = is_running core s; holds = if is_running core s then charged_at core.clock core.last else f.charges.most }
+
+  -- what it looks at in the servers from number s on, which show these
+  abbrev pub paces_from : CoreHeld W → ℕ → List Face → List Pace
+  paces_from core s [] = []
+  paces_from core s (f ∷ fs) = pace_at core s f ∷ paces_from core (s + 1) fs
+
+  -- the core is paced: on time but for charges
+  abbrev pub IsCorePaced : CoreHeld W → Type 0
+  IsCorePaced core = IsPaced core.clock (paces_from core 0 core.faces)

@@ -8,13 +8,15 @@ ghost use Rattle.cbs_steps.specs.Faces.{face_at, ranks, submit_refusal, view_rep
 ghost use Rattle.cbs_steps.specs.History.{History, ◌⊕◌, account, faces, world_after, chosen};
 ghost use Rattle.cbs_steps.specs.Replies.{submitted, advanced, closed, charged, is_lack, grown_by};
 ghost use Rattle.cbs_steps.specs.Laws.{account_in, completion_in, completion_of, completions_of, Completes, NoneAfterClose, IsWithinBudget};
+ghost use Rattle.cbs_steps.specs.Lateness.{later_charges};
 ghost use Rattle.cbs_steps.specs.OnTime.{IsWorldOnTime};
+ghost use Rattle.cbs_steps.specs.Paced.{IsWorldPaced, AllFinishedLate};
 ghost use Rattle.cbs_steps.specs.Promises.{promised, AllFinishedBy};
 ghost use Rattle.cbs_steps.specs.Punctual.{IsPunctual};
 ghost use Rattle.cbs_steps.specs.Setups.{terms_of, new_refusal};
 ghost use Rattle.cbs_core.specs.Agreement.{Agrees, TellsOf};
 ghost use Rattle.cbs_core.specs.Calls.{Makes, Tries, TriesAll};
-ghost use Rattle.cbs_core.specs.Held.{room_of, KeepsRoom, IsOpen, HasRoom, IsRefusedBy, IsCoreOnTime, front_output, held_at, TakesJob, ClosesServer, OthersSame, AllSame, DoesRun, CountsOn, running, is_running};
+ghost use Rattle.cbs_core.specs.Held.{room_of, KeepsRoom, IsOpen, HasRoom, IsRefusedBy, IsCoreOnTime, IsCorePaced, front_output, held_at, TakesJob, ClosesServer, OthersSame, AllSame, DoesRun, CountsOn, running, is_running};
 ghost use Rattle.cbs_rate.specs.Limits.{longest_period, most_servers};
 
 use crate::last_unit::LastUnit;
@@ -81,6 +83,7 @@ impl<W: Work, A: Allocator + Clone> Core<W, A> {
         requires { length modes ≡ length plan.rates }
         ensures start { IfOk result (λ core. Agrees W.meaning core (record { setup = record { servers = terms_of modes plan.rates; backlog = backlog }; steps = [] })) }
         ensures on_time { IfOk result (λ core. IsCoreOnTime core) }
+        ensures paced { IfOk result (λ core. IsCorePaced core) }
         ensures punctual { OnOk result ((steps : List (Step W)) → IsPunctual W.meaning (record { setup = record { servers = terms_of modes plan.rates; backlog = backlog }; steps = steps })) }
         ensures refusal { RefusesByOrMemory CoreError.OutOfMemory result (new_refusal backlog) }
     {
@@ -93,6 +96,7 @@ impl<W: Work, A: Allocator + Clone> Core<W, A> {
         requires { length modes.now ≡ length plan.now.rates }
         ensures start { IfOk result (λ core. Agrees W.meaning core (record { setup = record { servers = terms_of modes.now plan.now.rates; backlog = backlog }; steps = [] })) }
         ensures on_time { IfOk result (λ core. IsCoreOnTime core) }
+        ensures paced { IfOk result (λ core. IsCorePaced core) }
         ensures punctual { OnOk result ((steps : List (Step W)) → IsPunctual W.meaning (record { setup = record { servers = terms_of modes.now plan.now.rates; backlog = backlog }; steps = steps })) }
         ensures refusal { RefusesByOrMemory CoreError.OutOfMemory result (new_refusal backlog) }
     {
@@ -375,6 +379,10 @@ impl<W: Work, A: Allocator> Core<W, A> {
         ensures budget { TellsOf W.meaning self.now (λ w. OnOk result (IsWithinBudget (face_at (faces W.meaning w) server))) }
         ensures in_time { TellsOf W.meaning self.now (λ w. IsWorldOnTime W.meaning w
             → IfOk result (λ view. view.finished < view.accepted → view.throttled ≡ false → w.now < view.deadline)) }
+
+        // With charges: late by less than those with later deadlines were charged, the most of each for one unit.
+        ensures late_by { TellsOf W.meaning self.now (λ w. IsWorldPaced W.meaning w → IfOk result (λ view. view.finished < view.accepted
+            → view.throttled ≡ false → w.now < view.deadline + later_charges view.deadline w.accounts)) }
     {
         self.servers.view(server)
     }
@@ -401,7 +409,11 @@ impl<W: Work, A: Allocator> Core<W, A> {
     ///
     /// The tick is kept if all servers are on time now, and no advance and no charge to come takes time from any
     /// server. Both hold of a core without charges whose advances are all by [`idle_span`](Core::idle_span). After an
-    /// advance or a charge that took a server's time, a server may be late already, and the tick may have passed.
+    /// advance that took a server's time, a server may be late already, and the tick may have passed.
+    ///
+    /// With charges, before or after, the jobs are finished by a later tick, if each advance is by the idle span. It is
+    /// later by a period for each budget's ticks that this server is charged from now on. It is also later by the most
+    /// that each other server was charged for one unit, added up.
     ///
     /// Let c, d and o be the budget, deadline and overrun of the server, with Q ticks in every T. Let its jobs need
     /// `owed` more units. Then the tick is `d + ceil((owed + o - c) / Q) * T`, or d if c suffices. No later step makes
@@ -409,6 +421,7 @@ impl<W: Work, A: Allocator> Core<W, A> {
     pub fn promised(&self, server: u16) -> Option<u128>
         ensures value { TellsOf W.meaning self.now (λ w. result ≡ promised W.meaning (account w.accounts server)) }
         ensures kept { IsCoreOnTime self.now → IfSome result (λ tick. (M : History W) → Agrees W.meaning self.now M → AllFinishedBy W.meaning M server tick) }
+        ensures kept_charged { IsCorePaced self.now → IfSome result (λ tick. (M : History W) → Agrees W.meaning self.now M → AllFinishedLate W.meaning M server tick) }
     {
         if server >= self.servers.len() {
             return None;

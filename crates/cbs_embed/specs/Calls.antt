@@ -7,7 +7,7 @@ use Rattle.cbs_steps.specs.declared.reply.Ran.{Ran}
 use Rattle.cbs_steps.specs.declared.reply.Ran.TheVariants as ran
 use Rattle.cbs_clients.specs.Calls.{PollOf, RunOf, TurnOf, AdvanceOf, ChargeOf, ChargesOf, ClockOf, SpanOf, ViewOf, PromiseOf, LooksAtRing, SendOf, EndOf}
 use Rattle.cbs_clients.specs.Clients.{free, slots_of}
-use Rattle.cbs_clients.specs.Houses.{core_of, IsHouseOnTime, received, HandsOutResults}
+use Rattle.cbs_clients.specs.Houses.{core_of, IsHouseOnTime, IsHousePaced, received, HandsOutResults}
 use Rattle.cbs_clients.specs.Messages.{jobs_among}
 use Rattle.cbs_clients.specs.UntilClosed.{IsOver}
 use Rattle.cbs_clients.specs.declared.client.Client as client
@@ -85,6 +85,7 @@ pub record RunsAndDrops (old : TheHouse) (told : Ran) (token : ℕ) (new : TheHo
   pub named : NamesToken told token between
   pub drops : Drops told between new
   pub on_time : IsHouseOnTime old → IsHouseOnTime new
+  pub paced : IsHousePaced old → IsHousePaced new
 
 abbrev pub Runs : TheHouse → Result Ticked Refusal → TheHouse → Type 0
 Runs old (Ok ticked) new = RunsAndDrops old ticked.ran ticked.token new
@@ -99,6 +100,7 @@ pub record TurnsAndDrops (old : TheHouse) (told : Turned) (new : TheHouse) : Typ
   pub drops : Drops told.turn.ran between new
   pub over : IsTrue told.over ↔ IsOver (core_of new)
   pub on_time : IsHouseOnTime old → IsHouseOnTime new
+  pub paced : IsHousePaced old → IsHousePaced new
 
 abbrev pub Turns : TheHouse → Result Turned Refusal → TheHouse → Type 0
 Turns old (Ok turned) new = TurnsAndDrops old turned new

@@ -18,7 +18,7 @@ use Rattle.cbs_core.specs.Held.{HoldsNoJob, IsAtEnd, IsClosed}
 use Rattle.cbs_host.specs.Meters.{NeverCharges}
 use Rattle.cbs_clients.specs.Meters.{IsRunPaid}
 use Rattle.cbs_clients.specs.Steps.{pops}
-use Rattle.cbs_core.specs.Agreement.{Agrees, AllAllowed, AllOnTime}
+use Rattle.cbs_core.specs.Agreement.{Agrees, AllAllowed, AllOnTime, AllPaced}
 use Rattle.cbs_steps.specs.Continuations.{◌⊕⊕◌}
 use Rattle.cbs_steps.specs.History.{History, world_after, reply_in}
 use Rattle.cbs_steps.specs.Quiet.{IsQuietAfter}
@@ -90,6 +90,7 @@ module _ {W A : Type 0} {g : Ghosts W} where
     pub taken : TakesExactly work may turns old new n
     pub quiet : NeverCharges may → AllAllowed work (IsQuietAfter work) (core_of old) (steps_in taken.turns)
     pub on_time : NeverCharges may → AllOnTime work (core_of old) (steps_in taken.turns)
+    pub paced : AllPaced work (core_of old) (steps_in taken.turns)
 
 module _ {W A : Type 0} {g : Ghosts W} where
   -- the house may serve these feeds: they are at most 64, each with a client that was opened with the house

@@ -4,7 +4,7 @@ ghost use Rattle.std.specs.Prelude.{◌≡◌, ◌+◌, ◌*◌, ◌≤◌, ◌�
 ghost use Rattle.std.specs.List.{All};
 ghost use Rattle.std.specs.Thread.{IsSync, IsSend};
 ghost use Rattle.cbs_house.specs.Feeds.{KeepsFeeds, EachSendsAtMost, SendsFeeds, servers_of, all_sent};
-ghost use Rattle.cbs_clients.specs.Houses.{core_of, IsHouseOnTime};
+ghost use Rattle.cbs_clients.specs.Houses.{core_of, IsHouseOnTime, IsHousePaced};
 ghost use Rattle.cbs_host.specs.Meters.{NothingBeyond, NeverCharges};
 ghost use Rattle.cbs_core.specs.Held.{IsClosed};
 ghost use Rattle.cbs_house.specs.Rounds.{Ready, TakesTurn, TakesTurns};
@@ -58,6 +58,7 @@ pub fn serve_round<R: Threads + Clock + Sync, G: Gate + Sync, W: Work + Send>(
     ensures most { result.sent ≤ turns * length feeds.old }
     ensures took { TakesTurns W.meaning NothingBeyond turns (servers_of feeds.old) house.old house.new result.took }
     ensures on_time { IsHouseOnTime house.old → IsHouseOnTime house.new }
+    ensures paced { IsHousePaced house.old → IsHousePaced house.new }
     ensures few { result.took ≤ turns * length (core_of house.old).faces }
 {
     serve_round_metered(rt, house, feeds, turns, gate, &mut NoMeter)
@@ -86,6 +87,7 @@ pub fn serve_round_metered<R: Threads + Clock + Sync, G: Gate + Sync, W: Work + 
     ensures most { result.sent ≤ turns * length feeds.old }
     ensures took { TakesTurns W.meaning M.may_tell turns (servers_of feeds.old) house.old house.new result.took }
     ensures on_time { NeverCharges M.may_tell → IsHouseOnTime house.old → IsHouseOnTime house.new }
+    ensures paced { IsHousePaced house.old → IsHousePaced house.new }
     ensures few { result.took ≤ turns * length (core_of house.old).faces }
 {
     let mut servers = [0u16; 64];

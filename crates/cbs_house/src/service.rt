@@ -3,7 +3,7 @@
 ghost use Rattle.std.specs.Prelude.{ℕ, suc, ◌≡◌, ◌≢◌, ◌+◌, ◌≤◌, ◌↔◌, true, length, IsTrue, IfOk, OnOk, IfErr, MatchResult};
 ghost use Rattle.std.specs.List.{All};
 ghost use Rattle.cbs_house.specs.Feeds.{IsDone, KeepsFeed, KeepsFeeds, all_unsent};
-ghost use Rattle.cbs_clients.specs.Houses.{core_of, rings_of, IsHouseOnTime, LooksOnly, ServesOn, ServesBy};
+ghost use Rattle.cbs_clients.specs.Houses.{core_of, rings_of, IsHouseOnTime, IsHousePaced, LooksOnly, ServesOn, ServesBy};
 ghost use Rattle.cbs_host.specs.Meters.{NeverCharges};
 ghost use Rattle.cbs_core.specs.Held.{HoldsNoJob};
 ghost use Rattle.cbs_clients.specs.Clients.{IsOpened};
@@ -49,6 +49,7 @@ pub fn serve<R: Threads + Clock + Sync, G: Gate + Sync, W: Work + Send>(
     ensures feeds { KeepsFeeds feeds.old feeds.new }
     ensures steps { ServesOn W.meaning house.old house.new }
     ensures on_time { IsHouseOnTime house.old → IsHouseOnTime house.new }
+    ensures paced { IsHousePaced house.old → IsHousePaced house.new }
     ensures served { OnOk result (All (IsServed W.meaning house.new) feeds.new) }
     ensures drained { OnOk result (HoldsNoJob (core_of house.new)) }
     ensures stops { IfErr result (λ error. Stops error house.new feeds.new) }
@@ -74,6 +75,7 @@ pub fn serve_metered<R: Threads + Clock + Sync, G: Gate + Sync, W: Work + Send, 
     ensures feeds { KeepsFeeds feeds.old feeds.new }
     ensures steps { ServesBy W.meaning M.may_tell house.old house.new }
     ensures on_time { NeverCharges M.may_tell → IsHouseOnTime house.old → IsHouseOnTime house.new }
+    ensures paced { IsHousePaced house.old → IsHousePaced house.new }
     ensures served { OnOk result (All (IsServed W.meaning house.new) feeds.new) }
     ensures drained { OnOk result (HoldsNoJob (core_of house.new)) }
     ensures stops { IfErr result (λ error. Stops error house.new feeds.new) }

@@ -28,7 +28,7 @@ use Rattle.cbs_steps.proofs.LawfulServers.{ready_budget}
 use Rattle.cbs_steps.proofs.OnTime.{IsAdmitted, given, sound_after, timely_start}
 use Rattle.cbs_rate.proofs.Multiples.{all_periods_some}
 use Rattle.cbs_steps.proofs.OnTimeSteps.{IsSound, AllSound, sound_at}
-use Rattle.cbs_steps.proofs.Paced.{asks, blocks, blocks_none, IsPaced, shared_out, paced_next}
+use Rattle.cbs_steps.proofs.Paced.{asks, blocks, blocks_none, IsPacedIn, shared_out, paced_next}
 use Rattle.cbs_steps.proofs.Uncharged.{uncharged_after}
 
 module _ {W : Type 0} (work : Meaning W) where
@@ -47,7 +47,7 @@ module _ {W : Type 0} (work : Meaning W) where
       ]
 
   -- what it may still take fits, but for what those that are due later hold up
-  funds_fit : (P : ℕ) (w : World W) → 0 < P → AllSound work P w → IsPaced work P 0 w → (s : ℕ) → s < length w.accounts
+  funds_fit : (P : ℕ) (w : World W) → 0 < P → AllSound work P w → IsPacedIn work P 0 w → (s : ℕ) → s < length w.accounts
       → (let a = account w.accounts s in
       let x = until a.terms.reservation a.state in
       (a.runs || is_active (face_of work a)) ≡ true → w.now + funds a.terms.reservation a.state ≤ x + sum_by (blocks work x) w.accounts)
@@ -75,7 +75,7 @@ module _ {W : Type 0} (work : Meaning W) where
   blocks-most P x a ok = let l = ok.lawful.within in grind (arith, nat_tests)
 
   -- so it is due no earlier than the clock, but for the charges of the others
-  due_soon : (P : ℕ) (w : World W) → 0 < P → AllSound work P w → IsPaced work P 0 w → (s : ℕ) → s < length w.accounts
+  pub due_soon : (P : ℕ) (w : World W) → 0 < P → AllSound work P w → IsPacedIn work P 0 w → (s : ℕ) → s < length w.accounts
       → (let a = account w.accounts s in
       (a.runs || is_active (face_of work a)) ≡ true → w.now < until a.terms.reservation a.state + others_charges w.accounts s)
   due_soon P w pos ok on s lt busy =
@@ -109,7 +109,7 @@ module _ {W : Type 0} (work : Meaning W) where
       ]
 
   -- so a ready server is late by no more than those may have been charged
-  late_by : (P : ℕ) (w : World W) → 0 < P → AllSound work P w → IsPaced work P 0 w → (s : ℕ) → IsLateByLess work w s
+  pub late_by : (P : ℕ) (w : World W) → 0 < P → AllSound work P w → IsPacedIn work P 0 w → (s : ℕ) → IsLateByLess work w s
   late_by P w pos ok on s lt ready =
       let a = account w.accounts s in
       let x = a.state.deadline in
@@ -132,7 +132,7 @@ module _ {W : Type 0} (work : Meaning W) where
       ]
 
   -- the start is on time
-  paced_start : (setup : Setup) → IsAdmitted (given work setup) → IsPaced work (all_periods (given work setup)) 0 (start setup)
+  paced_start : (setup : Setup) → IsAdmitted (given work setup) → IsPacedIn work (all_periods (given work setup)) 0 (start setup)
   paced_start setup ok =
       let P = all_periods (given work setup) in
       let on = timely_start work demand_of demand_ruled setup ok in
@@ -150,8 +150,8 @@ module _ {W : Type 0} (work : Meaning W) where
           omega (arith, sum_by-cons (asks work P 0 x) (new_account t) (map new_account ts), sum_by-cons (λ a. demand P 0 x (face_of work a)) (new_account t) (map new_account ts))
 
   -- and so is each list of steps that advances quietly
-  paced_after : (setup : Setup) (M : List (Step W)) → IsAdmitted (given work setup) → AdvanceQuietly work setup M
-      → IsPaced work (all_periods (given work setup)) 0 (after work setup M)
+  pub paced_after : (setup : Setup) (M : List (Step W)) → IsAdmitted (given work setup) → AdvanceQuietly work setup M
+      → IsPacedIn work (all_periods (given work setup)) 0 (after work setup M)
   paced_after setup [] ok quiet = paced_start setup ok
   paced_after setup (x ∷ M) ok quiet = paced_next work (all_periods (given work setup)) setup.backlog (after work setup M) x
       (sound_after work setup M ok) quiet.1 (paced_after setup M ok quiet.0)
@@ -176,7 +176,7 @@ module _ {W : Type 0} (work : Meaning W) where
   due_late setup M ok quiet s lt active = due_busy setup M ok quiet s lt (grind (arith, nat_tests))
 
   -- a step that takes nobody's time advances quietly
-  quiet_advance : (w : World W) (x : Step W) → IsQuietStep work w x → IsQuietAdvance work w x
+  pub quiet_advance : (w : World W) (x : Step W) → IsQuietStep work w x → IsQuietAdvance work w x
   quiet_advance w (Submit s job) q = tt
   quiet_advance w Run q = tt
   quiet_advance w (Advance n) q = q

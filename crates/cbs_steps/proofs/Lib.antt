@@ -22,6 +22,7 @@ pub mod OnTime
 pub mod OnTimeLists
 pub mod OnTimeSteps
 pub mod Paced
+pub mod PacedWorlds
 pub mod PaidUnits
 pub mod Plans
 pub mod Promised

@@ -27,15 +27,15 @@ use Rattle.cbs_steps.specs.Accounts.{account_with_close}
 use Rattle.cbs_steps.specs.History.{World, Setup, History, account, faces, tick, ticks, start, runner, after_submit, after_run, after_closing, after_advance, after_charging, charge_refusal, let_go, next}
 use Rattle.cbs_steps.specs.History.{after, world_after, ◌⊕◌}
 use Rattle.cbs_steps.specs.OnTime.{demand_of, IsAhead, IsOnTimeBy, is_late, IsNobodyLate, IsWorldOnTime, NeverLate, KeepsTime, KeepsTimeAll}
-use Rattle.cbs_steps.specs.Quiet.{IsQuietStep, AreQuiet}
+use Rattle.cbs_steps.specs.Quiet.{IsQuietStep, IsQuietAfter, AreQuiet}
 use Rattle.cbs_steps.specs.StrictlyOnTime.{strict_demand_of, KeepsStrictlyOnTime, KeepsStrictTime, IsStricter}
-use Rattle.cbs_steps.specs.Replies.{is_lack, grown}
 use Rattle.cbs_steps.specs.declared.error.CoreError.{CoreError}
 use Rattle.cbs_steps.specs.declared.reply.Reply.{Reply}
 use Rattle.cbs_steps.specs.declared.step.Step.{Step}
 use Rattle.cbs_steps.specs.declared.step.Step.TheVariants.{Submit, Run, Advance, Close, Charge}
 use Rattle.cbs_lists.proofs.Lists.{map_kept, changed_kept, AllByRecursion-map, AllByRecursion-mapped, AllByRecursion-make}
 use Rattle.cbs_steps.proofs.DemandRules.{IsRuled, demand_ruled, strict_ruled, demand-le-strict}
+use Rattle.cbs_steps.proofs.OnTimeLists.{all_grown}
 use Rattle.cbs_steps.proofs.OnTimeSteps.{IsSound, AllSound, sound_at, sound_next}
 use Rattle.cbs_steps.proofs.TimelySteps.{asks, IsTimely, timely_next, not_late}
 use Rattle.cbs_lists.proofs.Sums.{sum_map, sum_times, sum-mono}
@@ -259,17 +259,9 @@ module _ {W : Type 0} (work : Meaning W) where
         ahead = on.ahead;
       }
 
-  -- a step keeps a world on time also if memory refused it
-  on_time_one : (M : History W) (x : Step W) (r : Reply W) → IsAdmitted (given M.setup) → IsQuietStep work (world_after work M) x
-      → IsWorldOnTime work (world_after work M)
-      → IsAdmitted (given (grown M x r).setup) × IsWorldOnTime work (world_after work (grown M x r))
-  on_time_one M x r ok quiet on = elim (cases_Bool (is_lack r)) [ inl t ↦ rw t (ok, on) | inr f ↦ rw f (ok, on_time_next M x ok quiet on) ]
-
-  -- so does each list of such steps
+  -- so does each list of such steps, with its replies
   pub on_time_grown : (M : History W) (xs : List (Step W)) (rs : List (Reply W)) → IsAdmitted (given M.setup) → KeepsTimeAll work M xs rs
-  on_time_grown M [] rs ok = λ quiet on. on
-  on_time_grown M (x ∷ xs) [] ok = λ quiet on. on
-  on_time_grown M (x ∷ xs) (r ∷ rs) ok = λ quiet on. let one = on_time_one M x r ok quiet.0 on in on_time_grown (grown M x r) xs rs one.0 quiet.1 one.1
+  on_time_grown M xs rs ok = all_grown work (IsWorldOnTime work) (IsQuietAfter work) (λ setup. IsAdmitted (given setup)) on_time_next M xs rs ok
 
   -- a new executor is on time
   pub on_time_start : (setup : Setup) → IsAdmitted (given setup) → IsWorldOnTime work (start setup)
@@ -283,21 +275,27 @@ module _ {W : Type 0} (work : Meaning W) where
   ready_early setup M ok on s lt ready = not_late work (all_periods (given setup)) (after work setup M)
       (all_periods_some (given setup) ok.lawful) (sound_after setup M ok) on s lt ready
 
-  -- what a server shows to a caller, in a world that is on time: a deadline that has not come, if it could run
-  pub view_in_time : (M : History W) → IsAdmitted (given M.setup) → IsWorldOnTime work (world_after work M) → (s : ℕ) (r : Result ServerView CoreError)
-      → r ≡ view_reply (slice_get (faces work (world_after work M)) s)
-      → IfOk r (λ v. v.finished < v.accepted → v.throttled ≡ false → (world_after work M).now < v.deadline)
-  view_in_time M ok on s r e =
-      let w = world_after work M in
+  -- what is so of the deadline of each ready server is so of what a server shows to a caller, if it could run
+  pub view_by : (w : World W) (s : ℕ) (r : Result ServerView CoreError) (Soon : ℕ → Type 0)
+      → (s < length w.accounts → is_ready (face_of work (account w.accounts s)) ≡ true → Soon (account w.accounts s).state.deadline)
+      → r ≡ view_reply (slice_get (faces work w) s) → IfOk r (λ v. v.finished < v.accepted → v.throttled ≡ false → Soon v.deadline)
+  view_by w s r Soon ready e =
       let a = account w.accounts s in
       elim (cases_lt s (length (faces work w))) [
         | inl lt ↦
             let within : s < length w.accounts = omega (arith, length-map w.accounts (face_of work)) in
-            let early : (face_of work a).finished < (face_of work a).accepted → a.state.throttled ≡ false → w.now < a.state.deadline =
-            λ some free. ready_early M.setup M.steps ok (known_on_time M.setup M.steps on) s within (grind (arith, nat_tests)) in
-            rw (e, slice_get-get_or (faces work w) s no_face lt, account_face work w.accounts s) early
+            let soon : (face_of work a).finished < (face_of work a).accepted → a.state.throttled ≡ false → Soon a.state.deadline =
+            λ some free. ready within (grind (arith, nat_tests)) in
+            rw (e, slice_get-get_or (faces work w) s no_face lt, account_face work w.accounts s) soon
         | inr ge ↦ rw (e, slice_get_past (faces work w) s ge) tt
       ]
+
+  -- in a world that is on time such a deadline has not come
+  pub view_in_time : (M : History W) → IsAdmitted (given M.setup) → IsWorldOnTime work (world_after work M) → (s : ℕ) (r : Result ServerView CoreError)
+      → r ≡ view_reply (slice_get (faces work (world_after work M)) s)
+      → IfOk r (λ v. v.finished < v.accepted → v.throttled ≡ false → (world_after work M).now < v.deadline)
+  view_in_time M ok on s r e = view_by (world_after work M) s r (λ d. (world_after work M).now < d)
+      (λ lt ready. ready_early M.setup M.steps ok (known_on_time M.setup M.steps on) s lt ready) e
 
   -- a ready server whose deadline has not come is not late
   not_late-false : (now : ℕ) (f : Face) → (is_ready f ≡ true → now < f.state.deadline) → is_late now f ≡ false

@@ -18,6 +18,7 @@ use Rattle.cbs_steps.specs.Faces.{is_active, is_ready, submit_refusal, close_ref
 use Rattle.cbs_steps.specs.Accounts.{Account, face_of, no_account, account_with_job, account_with_unit, account_with_charge, account_with_replenishment, account_with_close, account_let_go}
 use Rattle.cbs_steps.specs.History.{World, account, faces, chosen, tick, ticks, runner, after_submit, after_run, after_closing, after_advance, after_charging, charge_refusal, let_go, next}
 use Rattle.cbs_steps.specs.OnTime.{demand_of, full_demand, share_until, IsAhead}
+use Rattle.cbs_steps.specs.Paced.{asked, held_up, pace_of}
 use Rattle.cbs_steps.specs.Quiet.{IsAtRest, IsQuiet, IsQuietAdvance}
 use Rattle.cbs_steps.specs.declared.error.CoreError.{CoreError}
 use Rattle.cbs_steps.specs.declared.step.Step.{Step}
@@ -31,15 +32,14 @@ use Rattle.cbs_steps.proofs.OnTimeSteps.{IsSound, AllSound, ahead_arrived, all_a
 module _ {W : Type 0} (work : Meaning W) where
   -- the demand of a server, which counts as active while it runs
   abbrev pub asks : ℕ → ℕ → ℕ → Account W → ℕ
-  asks P now x a = demand_of P a.terms.reservation now x (a.runs || is_active (face_of work a)) a.state
+  asks P now x a = asked P now x (pace_of work a)
 
-  -- the ticks by which charges of a server may have held the clock up for those whose deadline is x: none if its own is
-  -- not later
+  -- the ticks by which charges of a server may have held up those whose deadline is x
   abbrev pub blocks : ℕ → Account W → ℕ
-  blocks x a = if ltb x (until a.terms.reservation a.state) then (if a.runs then a.latest else a.charges.most) else 0
+  blocks x a = held_up x (pace_of work a)
 
-  -- on time but for charges, after k ticks more
-  pub record IsPaced (P k : ℕ) (w : World W) : Type 0 where
+  -- paced after k ticks more
+  pub record IsPacedIn (P k : ℕ) (w : World W) : Type 0 where
     pub within : (x : ℕ) → 0 < sum_by (asks P w.now x) w.accounts
         → sum_by (asks P w.now x) w.accounts + (w.now + k) * P ≤ x * P + sum_by (blocks x) w.accounts * P
     pub ahead : k ≡ 0 → AllByRecursion (λ a. IsAhead w.now (face_of work a)) w.accounts
@@ -160,7 +160,7 @@ module _ {W : Type 0} (work : Meaning W) (P now x : ℕ) (a : Account W) (ok : I
 
 module _ {W : Type 0} (work : Meaning W) (P : ℕ) where
   -- a submit keeps it
-  paced_submit : (w : World W) (s : ℕ) (job : W) (o : Option CoreError) → AllSound work P w → IsPaced work P 0 w → IsPaced work P 0 (after_submit work w s job o)
+  paced_submit : (w : World W) (s : ℕ) (job : W) (o : Option CoreError) → AllSound work P w → IsPacedIn work P 0 w → IsPacedIn work P 0 (after_submit work w s job o)
   paced_submit w s job None ok on = record {
     within = λ x some.
         let c = sum_changed-le (asks work P w.now x) (asks work P w.now x) (account_with_job work w.now job) w.accounts s no_account (λ i lt. omega arith)
@@ -176,7 +176,7 @@ module _ {W : Type 0} (work : Meaning W) (P : ℕ) where
   paced_submit w s job (Some e) ok on = on
 
   -- so does a close
-  paced_close : (w : World W) (s : ℕ) (o : Option CoreError) → IsPaced work P 0 w → IsPaced work P 0 (after_closing w s o)
+  paced_close : (w : World W) (s : ℕ) (o : Option CoreError) → IsPacedIn work P 0 w → IsPacedIn work P 0 (after_closing w s o)
   paced_close w s None on = record {
     within = λ x some. rw (sum_changed_same (asks work P w.now x) account_with_close w.accounts s (λ a. refl), sum_changed_same (blocks work x) account_with_close w.accounts s (λ a. refl))
         (on.within x (rw (sum_changed_same (asks work P w.now x) account_with_close w.accounts s (λ a. refl)) at some));
@@ -186,7 +186,7 @@ module _ {W : Type 0} (work : Meaning W) (P : ℕ) where
   paced_close w s (Some e) on = on
 
   -- so does it that all are let go
-  paced_let_go : (w : World W) → AllSound work P w → IsPaced work P 0 w → IsPaced work P 0 (let_go w)
+  paced_let_go : (w : World W) → AllSound work P w → IsPacedIn work P 0 w → IsPacedIn work P 0 (let_go w)
   paced_let_go w ok on = record {
     within = λ x some.
         let e = sum_map (asks work P w.now x) account_let_go w.accounts in
@@ -202,7 +202,7 @@ module _ {W : Type 0} (work : Meaning W) (P : ℕ) where
   }
 
   -- and a tick that is counted already
-  paced_tick : (k : ℕ) (w : World W) → AllSound work P w → IsPaced work P (suc k) w → IsPaced work P k (tick w)
+  paced_tick : (k : ℕ) (w : World W) → AllSound work P w → IsPacedIn work P (suc k) w → IsPacedIn work P k (tick w)
   paced_tick k w ok on = record {
     within = λ x some.
         let e = sum_map (asks work P (w.now + 1) x) (account_with_replenishment (w.now + 1)) w.accounts in
@@ -219,7 +219,7 @@ module _ {W : Type 0} (work : Meaning W) (P : ℕ) where
   }
 
   -- and n of them
-  paced_ticks : (n : ℕ) (w : World W) → AllSound work P w → IsPaced work P n w → IsPaced work P 0 (ticks n w)
+  paced_ticks : (n : ℕ) (w : World W) → AllSound work P w → IsPacedIn work P n w → IsPacedIn work P 0 (ticks n w)
   unfolding ticks
   paced_ticks zero w ok on = on
   paced_ticks (suc n) w ok on = paced_ticks n (tick w) (sound_tick work P w ok) (paced_tick n w ok on)
@@ -239,7 +239,7 @@ module _ {W : Type 0} (work : Meaning W) (P : ℕ) where
   loose_tick w loose = AllByRecursion-map (λ a. a.runs ≡ false) (λ a. a.runs ≡ false) (account_with_replenishment (w.now + 1)) w.accounts loose (λ a h. h)
 
   -- a tick in which no server is ready, and none runs
-  paced_rest : (w : World W) → AllSound work P w → IsPaced work P 0 w → AllLoose w → IsAtRest work w → IsPaced work P 0 (tick w)
+  paced_rest : (w : World W) → AllSound work P w → IsPacedIn work P 0 w → AllLoose w → IsAtRest work w → IsPacedIn work P 0 (tick w)
   paced_rest w ok on loose rest =
       let rests = AllByRecursion-mapped (λ f. is_ready f ≡ false) (face_of work) w.accounts rest in
       record {
@@ -260,15 +260,15 @@ module _ {W : Type 0} (work : Meaning W) (P : ℕ) where
       }
 
   -- n such ticks
-  paced_rests : (n : ℕ) (w : World W) → AllSound work P w → IsPaced work P 0 w → AllLoose w → IsQuiet work w n → IsPaced work P 0 (ticks n w)
+  paced_rests : (n : ℕ) (w : World W) → AllSound work P w → IsPacedIn work P 0 w → AllLoose w → IsQuiet work w n → IsPacedIn work P 0 (ticks n w)
   unfolding ticks
   paced_rests zero w ok on loose q = on
   paced_rests (suc n) w ok on loose q = paced_rests n (tick w) (sound_tick work P w ok) (paced_rest w ok on loose (q 0 (omega arith))) (loose_tick w loose)
       (quiet_more work P w n q)
 
   -- a unit of the chosen server, if no server runs, and the tick after it
-  paced_run_one : (w : World W) (s : ℕ) → chosen work w ≡ Some s → AllSound work P w → IsPaced work P 0 w → AllLoose w
-      → IsPaced work P 0 (tick (record w { accounts = changed_at account_with_unit w.accounts s }))
+  paced_run_one : (w : World W) (s : ℕ) → chosen work w ≡ Some s → AllSound work P w → IsPacedIn work P 0 w → AllLoose w
+      → IsPacedIn work P 0 (tick (record w { accounts = changed_at account_with_unit w.accounts s }))
   paced_run_one w s chose ok on loose =
       let best = chosen_least work P w s chose in
       let ready = chosen_is_ready work w s chose in
@@ -316,8 +316,8 @@ module _ {W : Type 0} (work : Meaning W) (P : ℕ) where
       }
 
   -- a charge of a server that runs, whose ticks are still to pass
-  paced_charged : (w : World W) (s n : ℕ) → s < length w.accounts → (account w.accounts s).runs ≡ true → AllSound work P w → IsPaced work P 0 w
-      → IsPaced work P (suc n) (record w { accounts = changed_at (account_with_charge (suc n)) w.accounts s })
+  paced_charged : (w : World W) (s n : ℕ) → s < length w.accounts → (account w.accounts s).runs ≡ true → AllSound work P w → IsPacedIn work P 0 w
+      → IsPacedIn work P (suc n) (record w { accounts = changed_at (account_with_charge (suc n)) w.accounts s })
   paced_charged w s n place runs ok on = record {
     within = λ x some.
         let m = suc n in
@@ -343,20 +343,20 @@ module _ {W : Type 0} (work : Meaning W) (P : ℕ) where
   }
 
   -- a run, whether a server runs or none
-  paced_run : (w : World W) (o : Option ℕ) → ((s : ℕ) → o ≡ Some s → chosen work w ≡ Some s) → AllSound work P w → IsPaced work P 0 w → IsPaced work P 0 (after_run w o)
+  paced_run : (w : World W) (o : Option ℕ) → ((s : ℕ) → o ≡ Some s → chosen work w ≡ Some s) → AllSound work P w → IsPacedIn work P 0 w → IsPacedIn work P 0 (after_run w o)
   paced_run w None chose ok on = on
   paced_run w (Some s) chose ok on =
       let same : chosen work (let_go w) ≡ chosen work w = rw (let_go_faces work w) refl in
       paced_run_one (let_go w) s (same ∙ chose s refl) (sound_let_go work P w ok) (paced_let_go w ok on) (all_loose w)
 
   -- an advance
-  paced_advance : (w : World W) (n : ℕ) → AllSound work P w → IsPaced work P 0 w → IsQuiet work w n → IsPaced work P 0 (after_advance w n)
+  paced_advance : (w : World W) (n : ℕ) → AllSound work P w → IsPacedIn work P 0 w → IsQuiet work w n → IsPacedIn work P 0 (after_advance w n)
   paced_advance w zero ok on q = on
   paced_advance w (suc n) ok on q = paced_rests (suc n) (let_go w) (sound_let_go work P w ok) (paced_let_go w ok on) (all_loose w) (quiet_let_go work P w (suc n) q)
 
   -- a charge
   paced_charge : (w : World W) (s n : ℕ) (o : Option CoreError) → (o ≡ None → (s < length w.accounts) × ((account w.accounts s).runs ≡ true))
-      → AllSound work P w → IsPaced work P 0 w → IsPaced work P 0 (after_charging w s n o)
+      → AllSound work P w → IsPacedIn work P 0 w → IsPacedIn work P 0 (after_charging w s n o)
   paced_charge w s zero None may ok on = on
   paced_charge w s (suc n) None may ok on =
       let m = may refl in
@@ -366,7 +366,7 @@ module _ {W : Type 0} (work : Meaning W) (P : ℕ) where
   paced_charge w s (suc n) (Some e) may ok on = on
 
   -- each step, if it advances quietly
-  pub paced_next : (backlog : ℕ) (w : World W) (x : Step W) → AllSound work P w → IsQuietAdvance work w x → IsPaced work P 0 w → IsPaced work P 0 (next work backlog w x)
+  pub paced_next : (backlog : ℕ) (w : World W) (x : Step W) → AllSound work P w → IsQuietAdvance work w x → IsPacedIn work P 0 w → IsPacedIn work P 0 (next work backlog w x)
   paced_next backlog w (Submit s job) ok q on = paced_submit w s job (submit_refusal backlog (faces work w) s) ok on
   paced_next backlog w Run ok q on = paced_run w (runner work w) (runner_chosen work P w) ok on
   paced_next backlog w (Advance n) ok q on = elim (cases_Bool (leb (w.now + n) clock_end)) [

@@ -14,6 +14,8 @@ use Rattle.cbs_steps.proofs.Ends.{charged_end_kept}
 use Rattle.cbs_steps.proofs.HardTasks.{hard_kept}
 use Rattle.cbs_steps.proofs.Lateness.{lateness_kept}
 use Rattle.cbs_steps.proofs.OnTime.{IsAdmitted, reservation, given, on_time_after, never_late, strictly_after, strict_next, strict_is_stricter}
+use Rattle.cbs_steps.proofs.PacedWorlds.{paced_kept, pace_next, paced_late}
+use Rattle.cbs_steps.proofs.Promised.{paced_promise_kept}
 use Rattle.cbs_steps.proofs.Promises.{promise_kept, bound_kept, charged_promise_kept}
 use Rattle.cbs_steps.proofs.Supplies.{supply_kept, charged_supply_kept}
 use Rattle.cbs_steps.proofs.Windows.{share_kept, cap_kept}
@@ -39,6 +41,10 @@ module _ {W : Type 0} (work : Meaning W) where
     charged_due = charged_due_kept work N ok;
     charged_end = charged_end_kept work N ok;
     charged_due_end = charged_due_end_kept work N ok;
+    paced = paced_kept work N ok;
+    paced_steps = λ x. pace_next work N x ok;
+    paced_late = paced_late work N ok;
+    paced_promise = paced_promise_kept work N ok;
   }
 
   -- new servers have the reservations that they were given

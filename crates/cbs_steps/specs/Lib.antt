@@ -9,6 +9,7 @@ pub mod History
 pub mod Lateness
 pub mod Laws
 pub mod OnTime
+pub mod Paced
 pub mod Promises
 pub mod Punctual
 pub mod Quiet

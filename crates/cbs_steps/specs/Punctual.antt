@@ -7,6 +7,7 @@ use Rattle.cbs_steps.specs.Promises.{KeepsPromise, KeepsBound, KeepsDue}
 use Rattle.cbs_steps.specs.HardTasks.{KeepsHard}
 use Rattle.cbs_steps.specs.Supplies.{KeepsSupply}
 use Rattle.cbs_steps.specs.Lateness.{KeepsLateness}
+use Rattle.cbs_steps.specs.Paced.{KeepsPaced, KeepsPace, KeepsPacedLateness, KeepsPacedPromise}
 use Rattle.cbs_steps.specs.Charged.{KeepsChargedSupply, KeepsChargedPromise, KeepsChargedDue, KeepsChargedEnd, KeepsChargedDueEnd}
 use Rattle.cbs_steps.specs.Windows.{KeepsShare, KeepsCap}
 use Rattle.cbs_steps.specs.declared.step.Step.{Step}
@@ -31,3 +32,7 @@ pub record IsPunctual {W : Type 0} (work : Meaning W) (N : History W) : Type 0 w
   pub charged_due : KeepsChargedDue work N
   pub charged_end : KeepsChargedEnd work N
   pub charged_due_end : KeepsChargedDueEnd work N
+  pub paced : KeepsPaced work N
+  pub paced_steps : (x : Step W) → KeepsPace work N x
+  pub paced_late : KeepsPacedLateness work N
+  pub paced_promise : KeepsPacedPromise work N

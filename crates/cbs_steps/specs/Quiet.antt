@@ -40,6 +40,10 @@ module _ {W : Type 0} where
   abbrev pub IsQuietAfter : Meaning W → History W → Step W → Type 0
   IsQuietAfter work M x = IsQuietStep work (world_after work M) x
 
+  -- a step that advances quietly if it comes next after M
+  abbrev pub IsQuietAdvanceAfter : Meaning W → History W → Step W → Type 0
+  IsQuietAdvanceAfter work M x = IsQuietAdvance work (world_after work M) x
+
   -- each step of a list, the newest first, takes nobody's time at its place
   abbrev pub AreQuiet : Meaning W → Setup → List (Step W) → Type 0
   AreQuiet work setup [] = Unit {0}
@@ -50,8 +54,16 @@ module _ {W : Type 0} where
   AdvanceQuietly work setup [] = Unit {0}
   AdvanceQuietly work setup (x ∷ M) = AdvanceQuietly work setup M × IsQuietAdvance work (after work setup M) x
 
-  -- each of the steps takes nobody's time at its place, after M and the steps before it, whose replies are given
+  -- each of the steps may stand at its place, after M and the steps before it, whose replies are given
+  abbrev pub EachPlaced : (History W → Step W → Type 0) → History W → List (Step W) → List (Reply W) → Type 0
+  EachPlaced may M [] rs = Unit {0}
+  EachPlaced may M (x ∷ xs) [] = Unit {0}
+  EachPlaced may M (x ∷ xs) (r ∷ rs) = may M x × EachPlaced may (grown M x r) xs rs
+
+  -- each of the steps takes nobody's time at its place
   abbrev pub EachQuiet : Meaning W → History W → List (Step W) → List (Reply W) → Type 0
-  EachQuiet work M [] rs = Unit {0}
-  EachQuiet work M (x ∷ xs) [] = Unit {0}
-  EachQuiet work M (x ∷ xs) (r ∷ rs) = IsQuietStep work (world_after work M) x × EachQuiet work (grown M x r) xs rs
+  EachQuiet work M xs rs = EachPlaced (IsQuietAfter work) M xs rs
+
+  -- each of the steps advances quietly at its place
+  abbrev pub EachAdvancesQuietly : Meaning W → History W → List (Step W) → List (Reply W) → Type 0
+  EachAdvancesQuietly work M xs rs = EachPlaced (IsQuietAdvanceAfter work) M xs rs

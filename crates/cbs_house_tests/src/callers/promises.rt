@@ -3,6 +3,7 @@
 ghost use Rattle.std.specs.Prelude.{◌≡◌, Some, IfOk, IfSome, length};
 ghost use Rattle.cbs_core.specs.Agreement.{Agrees};
 ghost use Rattle.cbs_steps.specs.History.{History};
+ghost use Rattle.cbs_steps.specs.Paced.{AllFinishedLate};
 ghost use Rattle.cbs_steps.specs.Promises.{AllFinishedBy};
 ghost use Rattle.cbs_clients.specs.Houses.{core_of};
 ghost use Rattle.cbs_embed.specs.Calls.{TheHouse};
@@ -33,6 +34,30 @@ pub fn promised_after_turns<W: Work>(
     for _ in 0..turns {
         house.turn();
     }
+    let tick = house.promised(0);
+    Ok((house, tick))
+}
+
+/// Opens a house, which takes `turns` turns, and then charges `ticks` ticks for the last unit. Returns the house with the
+/// tick by which all jobs that server 0 then has are finished, but for charges. The tick is `None` if the server has no
+/// job.
+///
+/// Refuses as [`open_house`] and [`House::charge`] do.
+pub fn promised_after_charge<W: Work>(
+    alloc: Global,
+    plan: Plan,
+    modes: Modes,
+    turns: u64,
+    ticks: u64,
+) -> Result<(House<W>, Option<u128>), HouseError>
+    requires { length modes ≡ length plan.rates }
+    ensures { IfOk result (λ r. IfSome r.1 (λ tick. (M : History W) → Agrees W.meaning (core_of r.0) M → AllFinishedLate W.meaning M 0 tick)) }
+{
+    let (mut house, _clients) = open_house(alloc, plan, modes, 4, 4)?;
+    for _ in 0..turns {
+        house.turn();
+    }
+    house.charge(ticks)?;
     let tick = house.promised(0);
     Ok((house, tick))
 }

@@ -28,6 +28,7 @@ returns-clause-new g c =
       agrees = rw made.same c.in-Ok.ensures.start;
       empty = made.empty;
       on_time = rw made.same c.in-Ok.ensures.on_time;
+      paced = rw made.same c.in-Ok.ensures.paced;
       punctual = c.in-Ok.ensures.punctual;
     }) c.house_of.ensures.made
 

@@ -1,4 +1,5 @@
-use Rattle.cbs_embed.proofs.Drops.{drops_on_time}
+use Rattle.cbs_core.specs.Held.{IsCoreOnTime, IsCorePaced}
+use Rattle.cbs_embed.proofs.Drops.{drops_keep}
 use Rattle.cbs_embed.proofs.calls.run_house.Goals as goal
 
 pub returns : goal.returns
@@ -9,5 +10,6 @@ returns c =
       run = r.ensures;
       named = c.token_of-token.ensures;
       drops = c.forget.ensures;
-      on_time = λ on. drops_on_time r.result r.new.self c.forget.new.house c.forget.ensures (r.ensures.on_time on);
+      on_time = λ on. drops_keep (λ core. IsCoreOnTime core) r.result r.new.self c.forget.new.house c.forget.ensures (r.ensures.on_time on);
+      paced = λ on. drops_keep (λ core. IsCorePaced core) r.result r.new.self c.forget.new.house c.forget.ensures (r.ensures.paced on);
     }

@@ -9,3 +9,6 @@ returns-clause-steps g c =
 
 pub returns-clause-on_time : goal.returns-clause-on_time
 returns-clause-on_time g c = c.serve_metered.ensures.on_time never_beyond
+
+pub returns-clause-paced : goal.returns-clause-paced
+returns-clause-paced g c = c.serve_metered.ensures.paced

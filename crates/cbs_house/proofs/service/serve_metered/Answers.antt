@@ -2,6 +2,7 @@ use Rattle.std.proofs.Common.{sym, ◌∙◌, arith, rules}
 use Rattle.std.proofs.lemmas.Bool.{false≢true}
 use Rattle.cbs_house.specs.Feeds.{servers_of}
 use Rattle.cbs_house.proofs.Feeds.{feeds_same, feeds_on}
+use Rattle.cbs_clients.proofs.PacedMoves.{serves_paced}
 use Rattle.cbs_clients.proofs.Moves.{serves_none, serves_on_time}
 use Rattle.cbs_house.proofs.ServedFeeds.{all_served}
 use Rattle.cbs_house.proofs.Rounds.{serves_round}
@@ -63,15 +64,30 @@ loop-preserved g c =
 pub returns-then-branch-clause-stops : goal.returns-then-branch-clause-stops
 returns-then-branch-clause-stops g c = search rules
 
+pub returns-in_err-finish_round-clause-paced : goal.returns-in_err-finish_round-clause-paced
+returns-in_err-finish_round-clause-paced g c =
+    let a = c.args.house.now in
+    serves_paced g.W.Work.meaning g.M.Meter.may_tell a c.finish_round.new.house a.housed.history (returns-in_err-finish_round-clause-steps g c)
+
 pub returns-in_err-finish_round-clause-on_time : goal.returns-in_err-finish_round-clause-on_time
 returns-in_err-finish_round-clause-on_time g c = λ never.
     let a = c.args.house.now in
     serves_on_time g.W.Work.meaning g.M.Meter.may_tell a c.finish_round.new.house never a.housed.history (returns-in_err-finish_round-clause-steps g c)
 
+pub returns-then-branch-clause-paced : goal.returns-then-branch-clause-paced
+returns-then-branch-clause-paced g c =
+    let a = c.args.house.now in
+    serves_paced g.W.Work.meaning g.M.Meter.may_tell a c.finish_round.new.house a.housed.history (returns-then-branch-clause-steps g c)
+
 pub returns-then-branch-clause-on_time : goal.returns-then-branch-clause-on_time
 returns-then-branch-clause-on_time g c = λ never.
     let a = c.args.house.now in
     serves_on_time g.W.Work.meaning g.M.Meter.may_tell a c.finish_round.new.house never a.housed.history (returns-then-branch-clause-steps g c)
+
+pub returns-clause-paced : goal.returns-clause-paced
+returns-clause-paced g c =
+    let a = c.args.house.now in
+    serves_paced g.W.Work.meaning g.M.Meter.may_tell a c.loop.house a.housed.history c.loop.invariant.steps
 
 pub returns-clause-on_time : goal.returns-clause-on_time
 returns-clause-on_time g c = λ never.

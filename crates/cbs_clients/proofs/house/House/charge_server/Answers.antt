@@ -1,8 +1,11 @@
-use Rattle.std.proofs.Common.{◌∷◌, [], refl}
+use Rattle.std.proofs.Common.{subst, sym, ◌∷◌, [], refl}
 use Rattle.cbs_steps.specs.declared.step.Step.TheVariants.{Charge}
 use Rattle.cbs_clients.proofs.Charged.{charge_made, charge_refused}
 use Rattle.cbs_clients.proofs.HouseInvariant.{housed_all, same_shelf}
 use Rattle.cbs_clients.proofs.MadeSteps.{made_time}
+use Rattle.cbs_core.specs.Held.{IsCorePaced}
+use Rattle.cbs_core.proofs.OnTimeCores.{step_kept, paced_carried}
+use Rattle.cbs_steps.specs.Quiet.{IsQuietAdvanceAfter}
 use Rattle.cbs_clients.proofs.house.House.charge_server.Goals as goal
 
 pub invariant_of-self : goal.invariant_of-self
@@ -18,6 +21,7 @@ invariant_of-self g c =
 pub returns-in-Err : goal.returns-in-Err
 returns-in-Err g c = record {
   made = tt;
+  paced = λ on. subst (λ (core : _). IsCorePaced core) (sym c.in-Err.ensures.unchanged) on;
   rings = refl;
   results = λ s. refl;
   jobs = c.charge.ensures.jobs;
@@ -31,10 +35,13 @@ returns-in-Err g c = record {
 
 pub returns-in-Ok : goal.returns-in-Ok
 returns-in-Ok g c =
+    let work = g.W.Work.meaning in
     let old = c.args.self.now in
     let a = c.charge.ensures in
     record {
-      made = made_time g.W.Work.meaning old _ (Charge c.args.server c.args.ticks) (λ s. refl) a.makes.state a.makes.on_time refl (λ s. refl);
+      made = made_time work old _ (Charge c.args.server c.args.ticks) (λ s. refl) a.makes.state a.makes.on_time a.makes.paced refl (λ s. refl);
+      paced = step_kept work (paced_carried work) (IsQuietAdvanceAfter work) old.core c.charge.new.self (Charge c.args.server c.args.ticks) old.housed.history
+          a.makes.state a.makes.paced (λ M agrees. tt);
       rings = refl;
       results = λ s. refl;
       jobs = a.jobs;

@@ -1,6 +1,7 @@
 use Rattle.std.proofs.Common.{◌∙◌, refl, sym, arith, rules}
 use Rattle.cbs_steps.specs.Continuations.{MayDrain}
 use Rattle.cbs_clients.proofs.Moves.{by_nothing, by_both, by_none, serves_drain, serves_on_time}
+use Rattle.cbs_clients.proofs.PacedMoves.{serves_paced}
 use Rattle.cbs_clients.proofs.HouseInvariant.{none_held}
 use Rattle.cbs_clients.proofs.Turns.{drained_on}
 use Rattle.cbs_clients.proofs.house.House.drain_metered.Goals as goal
@@ -49,6 +50,20 @@ returns-clause-on_time g c = λ never.
     let a = c.args.self.now in
     let b = c.loop-self.self in
     serves_on_time work may a b never a.housed.history (serves_drain work may a b 0 c.loop-self.invariant)
+
+pub returns-then-now-eq-LIMIT-clause-paced : goal.returns-then-now-eq-LIMIT-clause-paced
+returns-then-now-eq-LIMIT-clause-paced g c =
+    let work = g.W.Work.meaning in
+    let may = g.M.Meter.may_tell in
+    let a = c.args.self.now in
+    serves_paced work may a c.loop-self.self a.housed.history (serves_drain work may a c.loop-self.self 0 c.loop-self.invariant)
+
+pub returns-clause-paced : goal.returns-clause-paced
+returns-clause-paced g c =
+    let work = g.W.Work.meaning in
+    let may = g.M.Meter.may_tell in
+    let a = c.args.self.now in
+    serves_paced work may a c.loop-self.self a.housed.history (serves_drain work may a c.loop-self.self 0 c.loop-self.invariant)
 
 pub returns-then-now-eq-LIMIT-clause-moves : goal.returns-then-now-eq-LIMIT-clause-moves
 returns-then-now-eq-LIMIT-clause-moves g c = c.loop-self.invariant

@@ -3,12 +3,13 @@ use Rattle.std.proofs.lemmas.List.{nil_from_length}
 use Rattle.cbs_clients.proofs.HouseInvariant.{same_shelf}
 use Rattle.cbs_clients.proofs.MadeSteps.{made_nothing, made_room, polled_after}
 use Rattle.cbs_clients.proofs.Moves.{polled_on_time}
+use Rattle.cbs_clients.proofs.PacedMoves.{polled_paced}
 use Rattle.cbs_clients.proofs.house.House.poll.Goals as goal
 
 pub returns-then-index-len : goal.returns-then-index-len
 returns-then-index-len g c =
     let rings = c.args.self.now.housed.ring_count in
-    record { polled = (made_nothing g.W.Work.meaning _, omega arith); on_time = λ on. on; rings = refl; results = λ s. refl }
+    record { polled = (made_nothing g.W.Work.meaning _, omega arith); on_time = λ on. on; paced = λ on. on; rings = refl; results = λ s. refl }
 
 pub returns-then-is_empty : goal.returns-then-is_empty
 returns-then-is_empty g c =
@@ -21,6 +22,7 @@ returns-then-is_empty g c =
         inr (nil_from_length _ none),
       );
       on_time = λ on. on;
+      paced = λ on. on;
       rings = c.is_empty.ensures.looked.rings;
       results = λ s. refl;
     }
@@ -35,6 +37,7 @@ returns g c =
     record {
       polled = polled;
       on_time = polled_on_time work a t.new.self c.args.server t.result a.housed.history polled;
+      paced = polled_paced work a t.new.self c.args.server t.result a.housed.history polled;
       rings = t.ensures.rings ∙ c.is_empty.ensures.looked.rings;
       results = t.ensures.results;
     }

@@ -4,6 +4,7 @@ use Rattle.std.proofs.Common.{◌<◌, length, refl, subst, sym, ◌∙◌, arit
 use Rattle.cbs_core.specs.Held.{IsClosed}
 use Rattle.cbs_clients.proofs.Beside.{Shown, shown, all_taken, nothing_polled, none_shown, polled_behind, nothing_seen, closed_polled}
 use Rattle.cbs_clients.proofs.Moves.{polled_on_time}
+use Rattle.cbs_clients.proofs.PacedMoves.{polled_paced}
 use Rattle.cbs_clients.proofs.RingLooks.{opened_within}
 use Rattle.cbs_clients.specs.Clients.{server_of, sent_by}
 use Rattle.cbs_clients.specs.Houses.{core_of, rings_of, known, Polled}
@@ -31,6 +32,7 @@ returns-then-settle-eq0-clause-poll g c =
     record {
       polled = polled;
       on_time = polled_on_time g.W.Work.meaning a s.new.self (server_of client) Nothing a.housed.history polled;
+      paced = polled_paced g.W.Work.meaning a s.new.self (server_of client) Nothing a.housed.history polled;
       rings = s.ensures.looked.rings;
       results = looks_results a s.new.self s.ensures.looked;
     }
@@ -66,6 +68,7 @@ returns-clause-poll g c =
     record {
       polled = behind;
       on_time = polled_on_time g.W.Work.meaning a p.new.self t p.result a.housed.history behind;
+      paced = polled_paced g.W.Work.meaning a p.new.self t p.result a.housed.history behind;
       rings = p.ensures.rings ∙ s.ensures.looked.rings;
       results = λ r. p.ensures.results r ∙ looks_results a s.new.self s.ensures.looked r;
     }

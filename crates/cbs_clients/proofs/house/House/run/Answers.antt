@@ -3,7 +3,8 @@ use Rattle.cbs_steps.specs.declared.step.Step.TheVariants.{Run}
 use Rattle.cbs_steps.specs.declared.reply.Ran.TheVariants as ran
 use Rattle.cbs_clients.proofs.HouseInvariant.{housed_one, housed_ran, keeps_done, finished_next, none_handed}
 use Rattle.cbs_clients.proofs.MadeSteps.{made_time, collects_none}
-use Rattle.cbs_clients.proofs.Moves.{step_on_time}
+use Rattle.cbs_core.proofs.OnTimeCores.{step_kept, on_time_carried, paced_carried}
+use Rattle.cbs_steps.specs.Quiet.{IsQuietAfter, IsQuietAdvanceAfter}
 use Rattle.cbs_clients.proofs.NamedJobs.{names}
 use Rattle.cbs_clients.proofs.house.House.run.Goals as goal
 
@@ -24,11 +25,14 @@ returns-in_default g c =
     let old = c.args.self.now in
     let r = c.run-ran.ensures in
     let kept = collects_none work c.run-ran.result old _ c.in_default.not-Done (λ s. refl) in
-    let made = made_time work old _ Run (λ s. refl) r.makes.state r.makes.on_time refl (λ s. refl) in
+    let made = made_time work old _ Run (λ s. refl) r.makes.state r.makes.on_time r.makes.paced refl (λ s. refl) in
     record {
       reply = r.makes.reply;
       made = made;
-      on_time = step_on_time work old.core c.run-ran.new.self Run old.housed.history r.makes.state r.makes.on_time (λ M agrees. tt);
+      on_time = step_kept work (on_time_carried work) (IsQuietAfter work) old.core c.run-ran.new.self Run old.housed.history r.makes.state
+          r.makes.on_time (λ M agrees. tt);
+      paced = step_kept work (paced_carried work) (IsQuietAdvanceAfter work) old.core c.run-ran.new.self Run old.housed.history r.makes.state
+          r.makes.paced (λ M agrees. tt);
       collects = kept;
       job = names old _ c.run-ran.result r.job kept;
     }
@@ -63,9 +67,12 @@ returns-in-Done g c =
     let t = c.take_expected.ensures in
     record {
       reply = r.makes.reply;
-      made = made_time work old _ Run (λ s. refl) r.makes.state r.makes.on_time refl
+      made = made_time work old _ Run (λ s. refl) r.makes.state r.makes.on_time r.makes.paced refl
           (none_handed old.collector c.take_expected.new.self c.in-Done.done.server t.taken.handed t.others.0);
-      on_time = step_on_time work old.core c.run-ran.new.self Run old.housed.history r.makes.state r.makes.on_time (λ M agrees. tt);
+      on_time = step_kept work (on_time_carried work) (IsQuietAfter work) old.core c.run-ran.new.self Run old.housed.history r.makes.state
+          r.makes.on_time (λ M agrees. tt);
+      paced = step_kept work (paced_carried work) (IsQuietAdvanceAfter work) old.core c.run-ran.new.self Run old.housed.history r.makes.state
+          r.makes.paced (λ M agrees. tt);
       collects = (t.taken.results, λ s ne. (t.others.0 s ne).results);
       job = names old _ (ran.Done c.in-Done.done) r.job (t.taken.results, λ s ne. (t.others.0 s ne).results);
     }

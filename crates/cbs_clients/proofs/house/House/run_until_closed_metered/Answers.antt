@@ -4,6 +4,7 @@ use Rattle.std.proofs.lemmas.Bool.{false≢true}
 use Rattle.cbs_clients.specs.Houses.{core_of}
 use Rattle.cbs_clients.specs.UntilClosed.{moves_on, turn_stop, IsDue, RunStops}
 use Rattle.cbs_clients.proofs.HouseInvariant.{none_held}
+use Rattle.cbs_clients.proofs.PacedMoves.{serves_paced}
 use Rattle.cbs_clients.proofs.Moves.{serves_on_time}
 use Rattle.cbs_clients.proofs.Runs.{run_none, run_then, result_behind, run_begins, run_goes_on, run_stopped, less_left, left_of, fewer_turns}
 use Rattle.cbs_clients.proofs.house.House.run_until_closed_metered.Goals as goal
@@ -18,10 +19,20 @@ turns-init g c = record {
   few = c.open_servers-unclosed.ensures.few;
 }
 
+pub returns-then-idle-most-clause-paced : goal.returns-then-idle-most-clause-paced
+returns-then-idle-most-clause-paced g c =
+    let a = c.args.self.now in
+    serves_paced g.W.Work.meaning g.M.Meter.may_tell a c.turns.self a.housed.history c.turns.invariant.run.steps
+
 pub returns-then-idle-most-clause-on_time : goal.returns-then-idle-most-clause-on_time
 returns-then-idle-most-clause-on_time g c = λ never.
     let a = c.args.self.now in
     serves_on_time g.W.Work.meaning g.M.Meter.may_tell a c.turns.self never a.housed.history c.turns.invariant.run.steps
+
+pub returns-clause-paced : goal.returns-clause-paced
+returns-clause-paced g c =
+    let a = c.args.self.now in
+    serves_paced g.W.Work.meaning g.M.Meter.may_tell a c.turns.self a.housed.history c.turns.invariant.run.steps
 
 pub returns-clause-on_time : goal.returns-clause-on_time
 returns-clause-on_time g c = λ never.
@@ -39,6 +50,11 @@ returns-in_err-move_on-clause-told g c =
     let l = c.turns in
     let m = c.move_on in
     (run_then g.W.Work.meaning g.M.Meter.may_tell g.S.Sink.hears c.args.self.now l.self m.new.self c.args.sink.now l.sink m.new.sink l.invariant.run m.ensures.run).told
+
+pub returns-in_err-move_on-clause-paced : goal.returns-in_err-move_on-clause-paced
+returns-in_err-move_on-clause-paced g c =
+    let a = c.args.self.now in
+    serves_paced g.W.Work.meaning g.M.Meter.may_tell a c.move_on.new.self a.housed.history (returns-in_err-move_on-clause-steps g c)
 
 pub returns-in_err-move_on-clause-on_time : goal.returns-in_err-move_on-clause-on_time
 returns-in_err-move_on-clause-on_time g c = λ never.

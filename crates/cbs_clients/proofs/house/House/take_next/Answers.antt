@@ -49,7 +49,7 @@ returns-in-Job-clause-polled g c =
     let accepts = c.requires.room.accepts in (
       c.in-Job.task,
       made_job g.W.Work.meaning old _ s c.in-Job.task t.rings t.received t.known t.others
-          (none_handed old.collector e.new.self s e.ensures.announced.handed e.ensures.others.0) u.makes.state u.makes.on_time,
+          (none_handed old.collector e.new.self s e.ensures.announced.handed e.ensures.others.0) u.makes.state u.makes.on_time u.makes.paced,
       accepts,
       u.job.0.number ∙ (old.housed.servers s accepts.is_open.within).accepted,
     )
@@ -59,7 +59,7 @@ returns-in-End-clause-polled g c =
     let t = c.in-End.ensures in
     let accepts = c.requires.room.accepts in (
       made_end g.W.Work.meaning c.args.self.now _ c.args.server t.rings t.received t.known t.others (λ s. refl)
-          c.close_open.ensures.makes.state c.close_open.ensures.makes.on_time,
+          c.close_open.ensures.makes.state c.close_open.ensures.makes.on_time c.close_open.ensures.makes.paced,
       accepts,
     )
 

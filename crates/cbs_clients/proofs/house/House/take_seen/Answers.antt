@@ -1,6 +1,7 @@
 use Rattle.std.proofs.Common.{◌∙◌}
 use Rattle.cbs_clients.proofs.MadeSteps.{polled_after}
 use Rattle.cbs_clients.proofs.Moves.{polled_on_time}
+use Rattle.cbs_clients.proofs.PacedMoves.{polled_paced}
 use Rattle.cbs_clients.proofs.house.House.take_seen.Goals as goal
 
 pub returns : goal.returns
@@ -12,6 +13,7 @@ returns g c =
     record {
       polled = polled;
       on_time = polled_on_time g.W.Work.meaning a t.new.self c.args.server t.result a.housed.history polled;
+      paced = polled_paced g.W.Work.meaning a t.new.self c.args.server t.result a.housed.history polled;
       rings = t.ensures.rings ∙ p.ensures.made.rings;
       results = λ s. t.ensures.results s ∙ p.ensures.results s;
     }
@@ -23,6 +25,7 @@ returns-in-Some g c =
     record {
       polled = c.in-Some.ensures.some;
       on_time = polled_on_time g.W.Work.meaning a p.new.self c.args.server c.in-Some.answer a.housed.history c.in-Some.ensures.some;
+      paced = polled_paced g.W.Work.meaning a p.new.self c.args.server c.in-Some.answer a.housed.history c.in-Some.ensures.some;
       rings = p.ensures.made.rings;
       results = p.ensures.results;
     }

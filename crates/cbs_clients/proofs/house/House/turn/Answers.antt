@@ -10,6 +10,7 @@ returns g c =
       turn = e.turn;
       steps = serves_never g.W.Work.meaning NothingBeyond c.args.self.now t.new.self never_beyond e.steps;
       on_time = e.on_time never_beyond;
+      paced = e.paced;
       few = e.few;
       rings = e.rings;
       collects = e.collects;

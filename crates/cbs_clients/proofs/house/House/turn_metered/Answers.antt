@@ -1,5 +1,6 @@
 use Rattle.std.proofs.Common.{◌∙◌}
 use Rattle.cbs_clients.proofs.Moves.{serves_on_time}
+use Rattle.cbs_clients.proofs.PacedMoves.{serves_paced}
 use Rattle.cbs_clients.proofs.Turns.{collects_behind, numbered_behind, polls_serve}
 use Rattle.cbs_clients.proofs.house.House.turn_metered.Goals as goal
 
@@ -15,6 +16,7 @@ returns g c =
       turn = record { between = p.new.house; polled = p.ensures.polled; goes_on = o.ensures.goes_on };
       steps = steps;
       on_time = λ never. serves_on_time work may a o.new.self never a.housed.history steps;
+      paced = serves_paced work may a o.new.self a.housed.history steps;
       few = p.ensures.few;
       rings = o.ensures.rings ∙ p.ensures.polled.made.rings;
       collects = collects_behind o.result.0 a p.new.house o.new.self p.ensures.results o.ensures.collects;

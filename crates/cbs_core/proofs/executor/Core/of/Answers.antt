@@ -2,7 +2,7 @@ use Rattle.std.proofs.Common.{arith}
 use Rattle.cbs_steps.specs.Setups.{terms_of}
 use Rattle.cbs_core.proofs.Agreements.{start_agrees}
 use Rattle.cbs_core.proofs.Cores.{core_new}
-use Rattle.cbs_core.proofs.LawfulCores.{new_on_time, new_punctual}
+use Rattle.cbs_core.proofs.LawfulCores.{new_on_time, new_paced, new_punctual}
 use Rattle.cbs_core.proofs.executor.Core.of.Goals as goal
 
 pub invariant_of-result : goal.invariant_of-result
@@ -19,6 +19,9 @@ returns-clause-start g c = rw c.new-3.ensures record {
 
 pub returns-clause-on_time : goal.returns-clause-on_time
 returns-clause-on_time g c = new_on_time g.W.Work.meaning (invariant_of-result g c) (returns-clause-start g c)
+
+pub returns-clause-paced : goal.returns-clause-paced
+returns-clause-paced g c = new_paced g.W.Work.meaning (invariant_of-result g c) (returns-clause-start g c)
 
 pub returns-clause-punctual : goal.returns-clause-punctual
 returns-clause-punctual g c = new_punctual g.W.Work.meaning (invariant_of-result g c) (returns-clause-start g c)

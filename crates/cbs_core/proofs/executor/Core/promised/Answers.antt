@@ -1,7 +1,7 @@
 use Rattle.std.proofs.Common.{arith}
 use Rattle.cbs_core.proofs.Agreements.{promised_held}
 use Rattle.cbs_core.proofs.Cores.{server_at, queue_count}
-use Rattle.cbs_core.proofs.LawfulCores.{promised_kept}
+use Rattle.cbs_core.proofs.LawfulCores.{promised_kept, promised_late}
 use Rattle.cbs_core.proofs.executor.Core.promised.Goals as goal
 
 pub owed-requires : goal.owed-requires
@@ -19,3 +19,6 @@ returns-clause-value g c = λ M agrees.
 
 pub returns-clause-kept : goal.returns-clause-kept
 returns-clause-kept g c = promised_kept g.W.Work.meaning c.self.view_is c.self.invariant c.args.server c.promised.result (returns-clause-value g c)
+
+pub returns-clause-kept_charged : goal.returns-clause-kept_charged
+returns-clause-kept_charged g c = promised_late g.W.Work.meaning c.self.view_is c.self.invariant c.args.server c.promised.result (returns-clause-value g c)

@@ -10,6 +10,7 @@ use Rattle.cbs_core.proofs.Calls.{tries_answers, tries_state, tries_count, tries
 use Rattle.cbs_core.proofs.Cores.{budgets_kept}
 use Rattle.cbs_steps.proofs.ClosedServers.{NoneAfterClose-all}
 use Rattle.cbs_steps.proofs.OnTime.{on_time_grown}
+use Rattle.cbs_steps.proofs.PacedWorlds.{paced_grown}
 use Rattle.cbs_core.proofs.LawfulCores.{admitted_by, core_punctual}
 use Rattle.cbs_core.proofs.executor.Core.run_steps.Goals as goal
 
@@ -64,6 +65,8 @@ returns-clause-tries g c =
       state = λ M agrees. rw all (c.loop-step.invariant.state M agrees);
       on_time = λ M agrees.
           on_time_grown g.W.Work.meaning M c.args.steps.items c.loop-step.replies.items (admitted_by g.W.Work.meaning c.self.view_is c.self.invariant agrees);
+      paced = λ M agrees.
+          paced_grown g.W.Work.meaning M c.args.steps.items c.loop-step.replies.items (admitted_by g.W.Work.meaning c.self.view_is c.self.invariant agrees);
       count = c.loop-step.invariant.servers;
       budgets = c.loop-step.invariant.budgets;
     }
