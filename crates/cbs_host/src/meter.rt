@@ -2,7 +2,7 @@
 
 ghost use Rattle.std.specs.Prelude.{ℕ, ◌≡◌, ◌<◌, ◌↔◌, IsSome};
 ghost use Rattle.std.specs.Duration.{as_nanos};
-ghost use Rattle.cbs_host.specs.Meters.{NothingBeyond, ticks_beyond};
+ghost use Rattle.cbs_host.specs.Meters.{NothingBeyond, IsMeasuredFrom, ticks_between};
 
 use std::time::{Clock, Duration};
 
@@ -82,23 +82,31 @@ impl<'a, R: Clock> ClockMeter<'a, R> {
 }
 
 impl<'a, R: Clock> Meter for ClockMeter<'a, R> {
-    fn begin(&mut self) {
+    fn begin(&mut self)
+        ensures { self.new.tick ≡ self.old.tick }
+    {
         self.begun = self.rt.monotonic().ok();
     }
 
-    fn beyond(&mut self, _server: u16) -> u64 {
-        match (self.begun, self.rt.monotonic()) {
-            (Some(begun), Ok(now)) => beyond_first(now.saturating_sub(begun), self.tick),
-            (None, _) | (_, Err(_)) => 0,
-        }
+    fn beyond(&mut self, _server: u16) -> u64
+        ensures told { IsMeasuredFrom self.old.begun self.old.tick result }
+        ensures kept { self.new ≡ self.old }
+    {
+        let now = self.rt.monotonic().ok();
+        beyond_between(self.begun, now, self.tick)
     }
 }
 
-/// Returns how many ticks a unit took after its first tick, rounded up, and at most `u64::MAX`.
-fn beyond_first(took: Duration, tick: Duration) -> u64
+/// Returns how many ticks a unit took after its first tick, by the readings of a clock before and after it: rounded up,
+/// and at most `u64::MAX`. It is 0 if a reading is missing, or if the clock went back.
+fn beyond_between(begun: Option<Duration>, ended: Option<Duration>, tick: Duration) -> u64
     requires { 0 < as_nanos tick }
-    ensures { result ≡ ticks_beyond (as_nanos took) (as_nanos tick) }
+    ensures { result ≡ ticks_between begun ended tick }
 {
+    let (Some(begun), Some(ended)) = (begun, ended) else {
+        return 0;
+    };
+    let took = ended.saturating_sub(begun);
     let further = took.as_nanos().saturating_sub(1) / tick.as_nanos();
     further.min(u128::from(u64::MAX)) as u64
 }
