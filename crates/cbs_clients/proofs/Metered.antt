@@ -27,7 +27,7 @@ use Rattle.cbs_steps.proofs.Running.{runs_run}
 use Rattle.cbs_clients.specs.Errors.{charge_answer}
 use Rattle.cbs_host.specs.Meters.{NeverCharges}
 use Rattle.cbs_clients.specs.Meters.{ticks_charged, charge_steps, IsUnitPaid, IsRunPaid, IsMove, AreMoves, all_steps}
-use Rattle.cbs_clients.specs.Steps.{messages_of, pops}
+use Rattle.cbs_clients.specs.Steps.{messages_of, pops, AdvancesQuietly}
 use Rattle.cbs_clients.specs.declared.error.HouseError.{HouseError}
 
 module _ {W : Type 0} where
@@ -53,6 +53,16 @@ module _ {W : Type 0} where
 
   pub paid_pops : (may : ℕ → ℕ → Type 0) (start : ℕ) (told : Ran) (paid : List (Step W)) → IsRunPaid may start told paid → pops paid ≡ 0
   paid_pops may start told paid p = let is = paid_is may start told paid p in charge_pops paid is.0 is.1 is.2
+
+  charge_quiet : (work : Meaning W) (M : History W) (s n : ℕ) → EachAllowed (AdvancesQuietly work) M (charge_steps s n)
+  charge_quiet work M s zero = tt
+  charge_quiet work M s (suc n) = (tt, tt)
+
+  -- what is paid for a run advances nothing
+  pub paid_quiet : (work : Meaning W) (may : ℕ → ℕ → Type 0) (M : History W) (start : ℕ) (told : Ran) (paid : List (Step W)) → IsRunPaid may start told paid
+      → EachAllowed (AdvancesQuietly work) M paid
+  paid_quiet work may M start told paid p =
+      let is = paid_is may start told paid p in subst (EachAllowed (AdvancesQuietly work) M) (sym is.2) (charge_quiet work M is.0 is.1)
 
   -- if a meter never charges, nothing is paid
   never_unit : (may : ℕ → ℕ → Type 0) (start s : ℕ) (paid : List (Step W)) → NeverCharges may → IsUnitPaid may start s paid → paid ≡ []

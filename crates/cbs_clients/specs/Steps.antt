@@ -3,6 +3,7 @@ use Rattle.std.specs.Prelude.{ℕ, ◌+◌, eqb, if◌then◌else◌, List, [], 
 use Rattle.cbs_job.specs.Work.{Meaning}
 use Rattle.cbs_steps.specs.Continuations.{IsNeeded}
 use Rattle.cbs_steps.specs.History.{History, world_after}
+use Rattle.cbs_steps.specs.Quiet.{IsQuietAdvance}
 use Rattle.cbs_steps.specs.declared.step.Step.{Step}
 use Rattle.cbs_steps.specs.declared.step.Step.TheVariants.{Submit, Run, Advance, Close, Charge}
 use Rattle.cbs_clients.specs.declared.message.Message.{Message}
@@ -34,6 +35,10 @@ module _ {W : Type 0} where
   abbrev pub pops : List (Step W) → ℕ
   pops [] = 0
   pops (x ∷ xs) = pops_of x + pops xs
+
+  -- a step that advances quietly if it comes next after M
+  abbrev pub AdvancesQuietly : Meaning W → History W → Step W → Type 0
+  AdvancesQuietly work M x = IsQuietAdvance work (world_after work M) x
 
   -- when serving may make a step: an advance as a drain makes it, and no charge
   abbrev pub MayServe : Meaning W → History W → Step W → Type 0
