@@ -120,6 +120,21 @@ module _ {W : Type 0} where
     weaker_moves M [] p = tt
     weaker_moves M (m ∷ ms) p = (weaker_move M m p.0, weaker_moves (M ⊕⊕ m) ms p.1)
 
+  module _ (work : Meaning W) (may : ℕ → ℕ → Type 0) (P : History W → Step W → Type 0)
+      (quiet : (N : History W) (n : ℕ) → P N (Advance n) → AdvancesQuietly work N (Advance n)) where
+    -- moves advance quietly if the rule allows no other advance
+    quiet_move : (M : History W) (m : List (Step W)) → IsMove work may P M m → EachAllowed (AdvancesQuietly work) M m
+    quiet_move M [] p = absurd p
+    quiet_move M (Submit s job ∷ xs) p = (tt, subst (EachAllowed (AdvancesQuietly work) (M ⊕ Submit s job)) (sym p.1) tt)
+    quiet_move M (Run ∷ paid) p = (tt, paid_quiet work may (M ⊕ Run) (world_after work M).now p.1.told paid p.1.pays)
+    quiet_move M (Advance n ∷ xs) p = (quiet M n p.0, subst (EachAllowed (AdvancesQuietly work) (M ⊕ Advance n)) (sym p.1) tt)
+    quiet_move M (Close s ∷ xs) p = (tt, subst (EachAllowed (AdvancesQuietly work) (M ⊕ Close s)) (sym p.1) tt)
+    quiet_move M (Charge s n ∷ xs) p = absurd p
+
+    pub quiet_moves : (M : History W) (ms : List (List (Step W))) → AreMoves work may P M ms → EachAllowed (AdvancesQuietly work) M (all_steps ms)
+    quiet_moves M [] p = tt
+    quiet_moves M (m ∷ ms) p = allowed-append (AdvancesQuietly work) M m (all_steps ms) (quiet_move M m p.0) (quiet_moves (M ⊕⊕ m) ms p.1)
+
 -- a run gave a unit to server s, by the run's result
 abbrev pub GaveUnit : Ran → ℕ → Type 0
 GaveUnit ran.Idle s = ⊥

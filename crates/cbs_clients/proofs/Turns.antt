@@ -146,8 +146,13 @@ module _ {W A : Type 0} {g : Ghosts W} (work : Meaning W) (may : ℕ → ℕ →
   -- what a turn does after its polls are steps of serving
   serves_on : (a b : House W A g) (r : Ran) (n : ℕ) → GoesOn work may a b r n → ServesBy work may a b
   serves_on a b r n (inl k) = record { moves = (0, by_run work may (MayServe work) a b r k.0.paid k.0.pays k.0.made k.0.answer (λ M agrees. tt)) }
-  serves_on a b r n (inr (inl k)) = record { moves = (0, by_step work may (MayServe work) a b (Advance n) k.0.made (λ M agrees. (k.0.needed M agrees, refl))
-      (λ M agrees. (needed_quiet work M n (k.0.needed M agrees), tt))) }
+  serves_on a b r n (inr (inl k)) = record {
+    moves = (
+      0,
+      by_step work may (MayServe work) a b (Advance n) k.0.made (λ M agrees. (k.0.needed M agrees, refl))
+          (λ M agrees. (needed_quiet work M n (k.0.needed M agrees), tt)),
+    );
+  }
   serves_on a b r n (inr (inr k)) = rw k.0 (serves_none work may a)
 
   -- what a turn does after its polls is a step of a drain, if the clock is later

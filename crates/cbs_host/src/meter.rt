@@ -13,15 +13,24 @@ pub trait Meter {
     /// otherwise, it may return any number.
     ghost may_tell: { ℕ → ℕ → Type 0 } = { λ s n. Unit {0} };
 
+    /// What a begin does to the meter. If a meter does not say otherwise, nothing is known about it.
+    ghost begins: { Self → Self → Type 0 } = { λ _ _. Unit {0} };
+
+    /// What an answer of `n` ticks for a unit of server `s` does to the meter. If a meter does not say otherwise,
+    /// nothing is known about it.
+    ghost tells: { Self → ℕ → ℕ → Self → Type 0 } = { λ _ _ _ _. Unit {0} };
+
     /// Begins a measurement: a unit is about to run, or no unit if no server is ready.
-    fn begin(&mut self);
+    fn begin(&mut self)
+        ensures { begins self.old self.new };
 
     /// Returns how many ticks the unit that `server` just got took after its first tick. It is called once after each
     /// unit.
     ///
     /// Round up: a unit that took part of a tick took all of it.
     fn beyond(&mut self, server: u16) -> u64
-        ensures { may_tell server result };
+        ensures may { may_tell server result }
+        ensures tells { tells self.old server result self.new };
 }
 
 /// The meter that never charges: each unit counts as one tick, however long it takes.
@@ -31,13 +40,15 @@ pub struct NoMeter;
 impl Meter for NoMeter {
     ghost may_tell = { NothingBeyond };
 
+    ghost begins = { λ old new. new ≡ old };
+
+    ghost tells = { λ old s n new. new ≡ old };
+
     #[inline(always)]
     fn begin(&mut self) {}
 
     #[inline(always)]
-    fn beyond(&mut self, _server: u16) -> u64
-        ensures { result ≡ 0 }
-    {
+    fn beyond(&mut self, _server: u16) -> u64 {
         0
     }
 }
@@ -82,16 +93,15 @@ impl<'a, R: Clock> ClockMeter<'a, R> {
 }
 
 impl<'a, R: Clock> Meter for ClockMeter<'a, R> {
-    fn begin(&mut self)
-        ensures { self.new.tick ≡ self.old.tick }
-    {
+    ghost begins = { λ old new. new.tick ≡ old.tick };
+
+    ghost tells = { λ old s n new. IsMeasuredFrom old.begun old.tick n × (new ≡ old) };
+
+    fn begin(&mut self) {
         self.begun = self.rt.monotonic().ok();
     }
 
-    fn beyond(&mut self, _server: u16) -> u64
-        ensures told { IsMeasuredFrom self.old.begun self.old.tick result }
-        ensures kept { self.new ≡ self.old }
-    {
+    fn beyond(&mut self, _server: u16) -> u64 {
         let now = self.rt.monotonic().ok();
         beyond_between(self.begun, now, self.tick)
     }

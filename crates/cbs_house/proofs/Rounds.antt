@@ -21,8 +21,8 @@ use Rattle.cbs_core.specs.Held.{IsClosed}
 use Rattle.cbs_steps.specs.Quiet.{IsQuietAfter}
 use Rattle.cbs_house.specs.Rounds.{RoundTurn, turn_steps, steps_in, IsTurn, RunsAfter, EachRuns, TakesTurn, TakesExactly, TakesTurns}
 use Rattle.cbs_clients.proofs.MadeSteps.{made_nothing, made_both}
-use Rattle.cbs_clients.proofs.Metered.{all_steps-append, moves-append, never_moves, paid_pops}
-use Rattle.cbs_clients.proofs.Moves.{serves_then, serve_quiet}
+use Rattle.cbs_clients.proofs.Metered.{all_steps-append, moves-append, never_moves, quiet_moves, paid_pops}
+use Rattle.cbs_clients.proofs.Moves.{serves_then, needed_quiet, serve_quiet}
 use Rattle.cbs_steps.proofs.Laws.{after-append}
 use Rattle.cbs_core.proofs.Laws.{allowed_weaker}
 use Rattle.cbs_core.proofs.OnTimeCores.{all_on_time}
@@ -170,7 +170,16 @@ module _ {W A : Type 0} {g : Ghosts W} (work : Meaning W) (may : ℕ → ℕ →
       let k = t.taken in
       let all = moves_all k.turns in
       record {
-        moves = (n, record { moves = moves_in k.turns; made = rw all k.made; each = all_move t.turns n a b k; count = rw all k.count });
+        moves = (
+          n,
+          record {
+            moves = moves_in k.turns;
+            made = rw all k.made;
+            each = all_move t.turns n a b k;
+            quiet = λ M agrees. quiet_moves work may (MayServe work) (needed_quiet work) M (moves_in k.turns) (all_move t.turns n a b k M agrees);
+            count = rw all k.count;
+          },
+        );
       }
 
   -- a round, and what is done after it
