@@ -27,6 +27,7 @@ use Rattle.cbs_steps.proofs.Running.{runs_run}
 use Rattle.cbs_clients.specs.Errors.{charge_answer}
 use Rattle.cbs_host.specs.Meters.{NeverCharges}
 use Rattle.cbs_clients.specs.Meters.{ticks_charged, charge_steps, IsUnitPaid, IsRunPaid, IsMove, AreMoves, all_steps}
+use Rattle.cbs_steps.specs.Quiet.{IsQuietAdvanceAfter}
 use Rattle.cbs_clients.specs.Steps.{messages_of, pops}
 use Rattle.cbs_clients.specs.declared.error.HouseError.{HouseError}
 
@@ -53,6 +54,16 @@ module _ {W : Type 0} where
 
   pub paid_pops : (may : ℕ → ℕ → Type 0) (start : ℕ) (told : Ran) (paid : List (Step W)) → IsRunPaid may start told paid → pops paid ≡ 0
   paid_pops may start told paid p = let is = paid_is may start told paid p in charge_pops paid is.0 is.1 is.2
+
+  charge_quiet : (work : Meaning W) (M : History W) (s n : ℕ) → EachAllowed (IsQuietAdvanceAfter work) M (charge_steps s n)
+  charge_quiet work M s zero = tt
+  charge_quiet work M s (suc n) = (tt, tt)
+
+  -- what is paid for a run advances nothing
+  pub paid_quiet : (work : Meaning W) (may : ℕ → ℕ → Type 0) (M : History W) (start : ℕ) (told : Ran) (paid : List (Step W)) → IsRunPaid may start told paid
+      → EachAllowed (IsQuietAdvanceAfter work) M paid
+  paid_quiet work may M start told paid p =
+      let is = paid_is may start told paid p in subst (EachAllowed (IsQuietAdvanceAfter work) M) (sym is.2) (charge_quiet work M is.0 is.1)
 
   -- if a meter never charges, nothing is paid
   never_unit : (may : ℕ → ℕ → Type 0) (start s : ℕ) (paid : List (Step W)) → NeverCharges may → IsUnitPaid may start s paid → paid ≡ []
@@ -109,6 +120,21 @@ module _ {W : Type 0} where
     pub weaker_moves : (M : History W) (ms : List (List (Step W))) → AreMoves work may P M ms → AreMoves work may Q M ms
     weaker_moves M [] p = tt
     weaker_moves M (m ∷ ms) p = (weaker_move M m p.0, weaker_moves (M ⊕⊕ m) ms p.1)
+
+  module _ (work : Meaning W) (may : ℕ → ℕ → Type 0) (P : History W → Step W → Type 0)
+      (quiet : (N : History W) (n : ℕ) → P N (Advance n) → IsQuietAdvanceAfter work N (Advance n)) where
+    -- moves advance quietly if the rule allows no other advance
+    quiet_move : (M : History W) (m : List (Step W)) → IsMove work may P M m → EachAllowed (IsQuietAdvanceAfter work) M m
+    quiet_move M [] p = absurd p
+    quiet_move M (Submit s job ∷ xs) p = (tt, subst (EachAllowed (IsQuietAdvanceAfter work) (M ⊕ Submit s job)) (sym p.1) tt)
+    quiet_move M (Run ∷ paid) p = (tt, paid_quiet work may (M ⊕ Run) (world_after work M).now p.1.told paid p.1.pays)
+    quiet_move M (Advance n ∷ xs) p = (quiet M n p.0, subst (EachAllowed (IsQuietAdvanceAfter work) (M ⊕ Advance n)) (sym p.1) tt)
+    quiet_move M (Close s ∷ xs) p = (tt, subst (EachAllowed (IsQuietAdvanceAfter work) (M ⊕ Close s)) (sym p.1) tt)
+    quiet_move M (Charge s n ∷ xs) p = absurd p
+
+    pub quiet_moves : (M : History W) (ms : List (List (Step W))) → AreMoves work may P M ms → EachAllowed (IsQuietAdvanceAfter work) M (all_steps ms)
+    quiet_moves M [] p = tt
+    quiet_moves M (m ∷ ms) p = allowed-append (IsQuietAdvanceAfter work) M m (all_steps ms) (quiet_move M m p.0) (quiet_moves (M ⊕⊕ m) ms p.1)
 
 -- a run gave a unit to server s, by the run's result
 abbrev pub GaveUnit : Ran → ℕ → Type 0

@@ -1,5 +1,5 @@
 -- A run with a meter: a unit, and what is paid for it.
-use Rattle.std.proofs.Common.{◌≡◌, ℕ, ◌-◌, min, List, [], ◌∷◌, ◌++◌, refl, ap, sym, ◌∙◌, subst}
+use Rattle.std.proofs.Common.{◌≡◌, ◌⊎◌, inl, inr, ℕ, ◌-◌, min, List, [], ◌∷◌, ◌++◌, refl, ap, sym, ◌∙◌, subst}
 use Rattle.std.proofs.lemmas.List.{append-nil}
 use Rattle.cbs_job.specs.Work.{Meaning, whole}
 use Rattle.cbs_job.specs.declared.work.Work.{Ghosts}
@@ -10,17 +10,28 @@ use Rattle.cbs_steps.specs.declared.reply.Ran.{Ran}
 use Rattle.cbs_steps.specs.declared.reply.Ran.TheVariants as ran
 use Rattle.cbs_steps.specs.declared.step.Step.{Step}
 use Rattle.cbs_steps.specs.declared.step.Step.TheVariants.{Run}
-use Rattle.cbs_clients.specs.Calls.{RunOf, RunBy}
+use Rattle.cbs_clients.specs.Calls.{RunOf, RunBy, AsksMeter}
 use Rattle.cbs_clients.specs.Houses.{core_of, received, IsHouseOnTime, IsHousePaced, KeepsResults, Made, Collects, ComesTo, NamesJob}
 use Rattle.cbs_host.specs.Meters.{NeverCharges}
-use Rattle.cbs_clients.specs.Meters.{ticks_charged, charge_steps, IsUnitPaid, IsRunPaid}
+use Rattle.cbs_clients.specs.Meters.{ticks_charged, charge_steps, IsUnitPaid, IsRunPaid, IsSameUnlessUnit}
 use Rattle.cbs_clients.specs.declared.house.House.{House}
 use Rattle.cbs_clients.proofs.MadeSteps.{made_both}
-use Rattle.cbs_clients.proofs.Metered.{GaveUnit, unit_clock, charge_messages, never_paid}
+use Rattle.cbs_clients.proofs.Metered.{GaveUnit, unit_clock, charge_messages, never_paid, paid_quiet}
 use Rattle.cbs_core.proofs.OnTimeCores.{step_kept, on_time_carried}
-use Rattle.cbs_clients.proofs.PacedMoves.{made_paced, paid_quietly}
+use Rattle.cbs_clients.proofs.PacedMoves.{made_paced}
 use Rattle.cbs_steps.specs.History.{◌⊕◌}
 use Rattle.cbs_steps.specs.Quiet.{IsQuietAfter}
+
+-- what is so of both results without a unit
+without_unit : (P : Ran → Type 0) → P ran.Idle → P ran.ClockEnd → (told : Ran) → (told ≡ ran.Idle) ⊎ (told ≡ ran.ClockEnd) → P told
+without_unit P p q told (inl e) = subst P (sym e) p
+without_unit P p q told (inr e) = subst P (sym e) q
+
+asked : {T : Type 0} (told : Ran) (s : ℕ) (v w : T) → GaveUnit told s → IsSameUnlessUnit told v w
+asked ran.Idle s v w unit = absurd unit
+asked ran.ClockEnd s v w unit = absurd unit
+asked (ran.Unit t q) s v w unit = tt
+asked (ran.Done c) s v w unit = tt
 
 module _ {W : Type 0} where
   -- the unit of a run that gave one is paid for
@@ -49,6 +60,20 @@ module _ {W A : Type 0} {g : Ghosts W} where
   names_on work (ran.Unit s q) a b same jobs k = (k.0, k.1, (jobs s).jobs ∙ k.2, comes_on work a b s q (whole work k.0) (same s) k.3)
   names_on work (ran.Done c) a b same jobs k = comes_on work a b c.server c.seq c.result (same c.server) k
 
+module _ {W A : Type 0} {g : Ghosts W} (work : Meaning W) (may : ℕ → ℕ → Type 0) (a b : House W A g) where
+  -- a run that gave no unit
+  run_unpaid : (told : Ran) → (told ≡ ran.Idle) ⊎ (told ≡ ran.ClockEnd) → RunOf work a told b → RunBy work may a told b
+  run_unpaid told none r = record {
+    reply = r.reply;
+    paid = [];
+    pays = without_unit (λ (t : Ran). IsRunPaid {W = W} may (core_of a).clock t []) refl refl told none;
+    made = r.made;
+    on_time = λ never. r.on_time;
+    paced = r.paced;
+    collects = r.collects;
+    job = r.job;
+  }
+
 module _ {W A : Type 0} {g : Ghosts W} (work : Meaning W) (may : ℕ → ℕ → Type 0) (a b c : House W A g) (told : Ran) (s beyond : ℕ)
     (history : HasHistory work (core_of a)) (runs : RunOf work a told b) (unit : GaveUnit told s) (tells : may s beyond)
     (charged : Made work b c (charge_steps s (min beyond (clock_end - (core_of b).clock)))) where
@@ -73,7 +98,7 @@ module _ {W A : Type 0} {g : Ghosts W} (work : Meaning W) (may : ℕ → ℕ →
 
   paid_paced : IsHousePaced a → IsHousePaced c
   paid_paced = made_paced work a c (Run ∷ charge_steps s (ticks_charged (core_of a).clock beyond)) history run_paid
-      (λ M. (tt, paid_quietly work may (M ⊕ Run) (core_of a).clock told _ pays))
+      (λ M. (tt, paid_quiet work may (M ⊕ Run) (core_of a).clock told _ pays))
 
   -- a unit that is paid for
   pub run_by : KeepsResults b c → AllSame (core_of b) (core_of c) → RunBy work may a told c
@@ -89,3 +114,20 @@ module _ {W A : Type 0} {g : Ghosts W} (work : Meaning W) (may : ℕ → ℕ →
         (λ t. (charged_so.seats t).received ∙ (ap (λ ms. received b t ++ ms) (charge_messages t s (ticks_charged (core_of a).clock beyond)) ∙ append-nil (received b t)))
         jobs runs.job;
   }
+
+module _ {W A T : Type 0} {g : Ghosts W} (work : Meaning W) (begin : T → T → Type 0) (tell : T → ℕ → ℕ → T → Type 0) (a : House W A g) (u v : T)
+    (begins : begin u v) where
+  -- the meter of a run that gave no unit
+  pub asks_nothing : (b : House W A g) (told : Ran) → (told ≡ ran.Idle) ⊎ (told ≡ ran.ClockEnd) → RunOf work a told b
+      → AsksMeter work begin tell a told b u v
+  asks_nothing b told none r = record {
+    begun = v;
+    begins = begins;
+    charges = run_unpaid work (λ s n. tell v s n v) a b told none r;
+    unasked = without_unit (λ (t : Ran). IsSameUnlessUnit t v v) refl refl told none;
+  }
+
+  -- the meter of a run that gave one
+  pub asks_once : (b : House W A g) (told : Ran) (s : ℕ) (w : T) → GaveUnit told s → RunBy work (λ t n. tell v t n w) a told b
+      → AsksMeter work begin tell a told b u w
+  asks_once b told s w unit r = record { begun = v; begins = begins; charges = r; unasked = asked told s v w unit }

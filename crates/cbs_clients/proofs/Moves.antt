@@ -4,7 +4,7 @@ use Rattle.std.proofs.lemmas.List.{append-nil}
 use Rattle.cbs_job.specs.Work.{Meaning}
 use Rattle.cbs_job.specs.declared.work.Work.{Ghosts}
 use Rattle.cbs_core.specs.Agreement.{Agrees, HasHistory, AllAllowed}
-use Rattle.cbs_steps.specs.History.{History, world_after, reply_in}
+use Rattle.cbs_steps.specs.History.{History, world_after, reply_in, ◌⊕◌}
 use Rattle.cbs_steps.specs.Quiet.{IsQuietAfter, IsQuietAdvanceAfter}
 use Rattle.cbs_steps.proofs.Lateness.{quiet_advance}
 use Rattle.cbs_steps.specs.declared.reply.Ran.{Ran}
@@ -18,10 +18,11 @@ use Rattle.cbs_clients.specs.Houses.{core_of, rings_of, received, handed_of, IsH
 use Rattle.cbs_host.specs.Meters.{NothingBeyond, NeverCharges}
 use Rattle.cbs_clients.specs.Meters.{IsRunPaid, IsMove, all_steps}
 use Rattle.cbs_clients.specs.Steps.{messages_of, pops_of, pops, MayServe}
-use Rattle.cbs_steps.specs.Continuations.{◌⊕⊕◌, MayDrain}
+use Rattle.cbs_steps.specs.Continuations.{◌⊕⊕◌, IsNeeded, MayDrain}
+use Rattle.cbs_steps.proofs.Laws.{allowed-append}
 use Rattle.cbs_clients.proofs.MadeSteps.{made_both, made_nothing, made_look}
 use Rattle.cbs_clients.proofs.StepMessages.{pops-append}
-use Rattle.cbs_clients.proofs.Metered.{all_steps-append, moves-append, never_moves, weaker_moves, paid_pops}
+use Rattle.cbs_clients.proofs.Metered.{all_steps-append, moves-append, never_moves, weaker_moves, paid_pops, paid_quiet}
 use Rattle.cbs_core.proofs.Laws.{allowed_weaker}
 use Rattle.cbs_core.proofs.OnTimeCores.{all_on_time, all_paced, kept_on, on_time_carried}
 
@@ -54,7 +55,7 @@ module _ {W A : Type 0} {g : Ghosts W} (work : Meaning W) (P : History W → Ste
 module _ {W A : Type 0} {g : Ghosts W} (work : Meaning W) (may : ℕ → ℕ → Type 0) (P : History W → Step W → Type 0) where
   -- no step
   pub by_nothing : (a : House W A g) → MovesBy work may P a a 0
-  by_nothing a = record { moves = []; made = made_nothing work a; each = λ M agrees. tt; count = refl }
+  by_nothing a = record { moves = []; made = made_nothing work a; each = λ M agrees. tt; quiet = λ M agrees. tt; count = refl }
 
   -- moves one after another
   pub by_both : (a b c : House W A g) (m n : ℕ) → MovesBy work may P a b m → MovesBy work may P b c n → MovesBy work may P a c (m + n)
@@ -66,13 +67,15 @@ module _ {W A : Type 0} {g : Ghosts W} (work : Meaning W) (may : ℕ → ℕ →
         moves = p.moves ++ q.moves;
         made = rw all (made_both work a b c xs ys p.made q.made);
         each = λ M agrees. moves-append work may P M p.moves q.moves (p.each M agrees) (q.each (M ⊕⊕ xs) (p.made.steps M agrees));
+        quiet = λ M agrees. rw all (allowed-append (IsQuietAdvanceAfter work) M xs ys (p.quiet M agrees) (q.quiet (M ⊕⊕ xs) (p.made.steps M agrees)));
         count = rw all (pops-append xs ys ∙ ap₂ ◌+◌ p.count q.count);
       }
 
-  -- one step
+  -- one step, which advances quietly if it advances
   pub by_step : (a b : House W A g) (x : Step W) → Made work a b (x ∷ [])
-      → ((M : History W) → Agrees work (core_of a) M → IsMove work may P M (x ∷ [])) → MovesBy work may P a b (pops_of x)
-  by_step a b x m p = record { moves = (x ∷ []) ∷ []; made = m; each = λ M agrees. (p M agrees, tt); count = omega arith }
+      → ((M : History W) → Agrees work (core_of a) M → IsMove work may P M (x ∷ []))
+      → AllAllowed work (IsQuietAdvanceAfter work) (core_of a) (x ∷ []) → MovesBy work may P a b (pops_of x)
+  by_step a b x m p quiet = record { moves = (x ∷ []) ∷ []; made = m; each = λ M agrees. (p M agrees, tt); quiet = quiet; count = omega arith }
 
   -- one run, and what is paid for it
   pub by_run : (a b : House W A g) (told : Ran) (paid : List (Step W)) → IsRunPaid may (core_of a).clock told paid → Made work a b (Run ∷ paid)
@@ -82,6 +85,7 @@ module _ {W A : Type 0} {g : Ghosts W} (work : Meaning W) (may : ℕ → ℕ →
     moves = (Run ∷ paid) ∷ [];
     made = rw (append-nil paid) made;
     each = λ M agrees. ((p M agrees, record { told = told; answer = answer M agrees; pays = rw agrees.world.clock at pays }), tt);
+    quiet = rw (append-nil paid) (λ M agrees. (tt, paid_quiet work may (M ⊕ Run) (core_of a).clock told paid pays));
     count = let none = paid_pops may (core_of a).clock told paid pays in rw (append-nil paid) (omega (arith, none));
   }
 
@@ -91,7 +95,7 @@ module _ {W A : Type 0} {g : Ghosts W} (work : Meaning W) (may : ℕ → ℕ →
 
   -- what makes no step
   by_made : (a b : House W A g) → Made work a b [] → MovesBy work may P a b 0
-  by_made a b m = record { moves = []; made = m; each = λ M agrees. tt; count = refl }
+  by_made a b m = record { moves = []; made = m; each = λ M agrees. tt; quiet = λ M agrees. tt; count = refl }
 
   -- if a meter never charges, moves with it are moves without it
   pub by_never : (a b : House W A g) (n : ℕ) → NeverCharges may → TakesNoTime work P → MovesBy work may P a b n → Moves work P a b n
@@ -117,6 +121,7 @@ module _ {W A : Type 0} {g : Ghosts W} (work : Meaning W) (may : ℕ → ℕ →
     moves = p.moves;
     made = p.made;
     each = λ M agrees. weaker_moves work may P Q w M p.moves (p.each M agrees);
+    quiet = p.quiet;
     count = p.count;
   }
 
@@ -135,6 +140,10 @@ module _ {W : Type 0} (work : Meaning W) where
   serve_quiet N (Advance n) p = λ early. p.span.quiet
   serve_quiet N (Close t) p = tt
   serve_quiet N (Charge t n) p = absurd p
+
+  -- so such an advance is quiet
+  pub needed_quiet : (N : History W) (n : ℕ) → IsNeeded work (world_after work N) n → IsQuietAdvanceAfter work N (Advance n)
+  needed_quiet N n p = serve_quiet N (Advance n) p
 
   pub drain_quiet : TakesNoTime work (MayDrain work)
   drain_quiet N x p = serve_quiet N x (drain_serves N x p)
@@ -170,8 +179,8 @@ module _ {W A : Type 0} {g : Ghosts W} (work : Meaning W) (may : ℕ → ℕ →
   serves_poll a b s Full k = serves_made a b k.0
   serves_poll a b s OutOfMemory k = serves_made a b k.0
   serves_poll a b s NoSuchServer k = serves_made a b k.0
-  serves_poll a b s (Took q) k = record { moves = (1, by_step work may (MayServe work) a b (Submit s k.0) k.1 (λ M agrees. (tt, refl))) }
-  serves_poll a b s Closed k = record { moves = (1, by_step work may (MayServe work) a b (Close s) k.0 (λ M agrees. (tt, refl))) }
+  serves_poll a b s (Took q) k = record { moves = (1, by_step work may (MayServe work) a b (Submit s k.0) k.1 (λ M agrees. (tt, refl)) (λ M agrees. (tt, tt))) }
+  serves_poll a b s Closed k = record { moves = (1, by_step work may (MayServe work) a b (Close s) k.0 (λ M agrees. (tt, refl)) (λ M agrees. (tt, tt))) }
 
   -- and a look at the rings
   pub serves_look : (a b : House W A g) → LooksOnly a b → ServesBy work may a b

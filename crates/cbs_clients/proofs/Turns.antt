@@ -37,7 +37,7 @@ use Rattle.cbs_clients.specs.Turns.{GoesOn, StaysBy, IsNumbered, TakesOwnTurn, l
 use Rattle.cbs_clients.specs.UntilClosed.{meets_end, turn_stop, LackedMemory, RunStops}
 use Rattle.cbs_clients.specs.Steps.{MayServe}
 use Rattle.cbs_clients.proofs.Metered.{paid_is, unit_later}
-use Rattle.cbs_clients.proofs.Moves.{by_step, by_run, serves_none, serves_then, serves_poll}
+use Rattle.cbs_clients.proofs.Moves.{by_step, by_run, needed_quiet, serves_none, serves_then, serves_poll}
 
 module _ {W A : Type 0} {g : Ghosts W} where
   -- what a run did to the results, after calls that left them
@@ -146,7 +146,13 @@ module _ {W A : Type 0} {g : Ghosts W} (work : Meaning W) (may : ℕ → ℕ →
   -- what a turn does after its polls are steps of serving
   serves_on : (a b : House W A g) (r : Ran) (n : ℕ) → GoesOn work may a b r n → ServesBy work may a b
   serves_on a b r n (inl k) = record { moves = (0, by_run work may (MayServe work) a b r k.0.paid k.0.pays k.0.made k.0.answer (λ M agrees. tt)) }
-  serves_on a b r n (inr (inl k)) = record { moves = (0, by_step work may (MayServe work) a b (Advance n) k.0.made (λ M agrees. (k.0.needed M agrees, refl))) }
+  serves_on a b r n (inr (inl k)) = record {
+    moves = (
+      0,
+      by_step work may (MayServe work) a b (Advance n) k.0.made (λ M agrees. (k.0.needed M agrees, refl))
+          (λ M agrees. (needed_quiet work M n (k.0.needed M agrees), tt)),
+    );
+  }
   serves_on a b r n (inr (inr k)) = rw k.0 (serves_none work may a)
 
   -- what a turn does after its polls is a step of a drain, if the clock is later
@@ -154,6 +160,7 @@ module _ {W A : Type 0} {g : Ghosts W} (work : Meaning W) (may : ℕ → ℕ →
       → MovesBy work may (MayDrain work) a b 0
   drained_on a b r n (inl k) later = by_run work may (MayDrain work) a b r k.0.paid k.0.pays k.0.made k.0.answer k.0.useful
   drained_on a b r n (inr (inl k)) later = by_step work may (MayDrain work) a b (Advance n) k.0.made (λ M agrees. (k.0.needed M agrees, refl))
+      (λ M agrees. (needed_quiet work M n (k.0.needed M agrees), tt))
   drained_on a b r n (inr (inr k)) later =
       let e : (core_of b).clock ≡ (core_of a).clock = ap (λ (x : House W A g). (core_of x).clock) k.0 in absurd (omega (arith, later, e))
 

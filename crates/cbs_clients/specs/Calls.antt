@@ -28,7 +28,7 @@ use Rattle.cbs_clients.specs.Houses.{core_of, rings_of, seat_at, new_seat, IsHou
 use Rattle.cbs_clients.specs.Houses.{ServesOn, ServesBy, Collects, NamesJob}
 use Rattle.cbs_clients.specs.Messages.{jobs_among, has_end}
 use Rattle.cbs_host.specs.Meters.{NothingBeyond, NeverCharges}
-use Rattle.cbs_clients.specs.Meters.{IsRunPaid}
+use Rattle.cbs_clients.specs.Meters.{IsRunPaid, IsSameUnlessUnit}
 use Rattle.cbs_clients.specs.Turns.{IsNumbered, TakesOwnTurn}
 use Rattle.cbs_clients.specs.declared.client.Client.{Client}
 use Rattle.cbs_clients.specs.declared.client.SendRefused.{SendRefused}
@@ -79,6 +79,16 @@ module _ {W A : Type 0} {g : Ghosts W} where
     pub paced : IsHousePaced old → IsHousePaced new
     pub collects : Collects told old new
     pub job : NamesJob work told new
+
+  -- What a run does with its meter: `begin` and `tell` say what a begin and an answer do to it. A measurement begins.
+  -- If a unit runs, the meter is then asked once for its server, and the unit is charged the number that it returns.
+  -- If none runs, the meter is not asked.
+  pub record AsksMeter {T : Type 0} (work : Meaning W) (begin : T → T → Type 0) (tell : T → ℕ → ℕ → T → Type 0) (old : House W A g) (told : Ran)
+      (new : House W A g) (old_meter new_meter : T) : Type 0 where
+    pub begun : T
+    pub begins : begin old_meter begun
+    pub charges : RunBy work (λ s n. tell begun s n new_meter) old told new
+    pub unasked : IsSameUnlessUnit told begun new_meter
 
   -- An advance by n makes this one step, and keeps a house on time, or paced, if it takes nobody's time. If the clock would pass
   -- its end, the advance is refused, and nothing changed

@@ -26,6 +26,7 @@ use Rattle.cbs_clients.specs.Meters.{AreMoves, all_steps}
 use Rattle.cbs_clients.specs.Rings.{rings_in, received_in, known_in, Ring}
 use Rattle.cbs_clients.specs.Steps.{messages_of, pops, MayServe}
 use Rattle.cbs_core.specs.Agreement.{Agrees, Follows, AllAllowed, AllOnTime, AllPaced}
+use Rattle.cbs_steps.specs.Quiet.{IsQuietAdvanceAfter}
 
 -- What a house has of one server. First the messages received and the messages that it knows to wait in the ring, each
 -- oldest first. Then how many results were handed out, and the results that are kept, in order.
@@ -156,11 +157,13 @@ module _ {W A : Type 0} {g : Ghosts W} where
     pub count : pops steps ≡ n
 
   -- The house made some steps, each allowed at its place, with a meter that may return what `may` allows. Right after
-  -- each unit it was charged what the meter returned for it, and nothing else was charged. The steps took n messages.
+  -- each unit it was charged what the meter returned for it, and nothing else was charged. Each advance among the steps
+  -- is quiet. The steps took n messages.
   pub record MovesBy (work : Meaning W) (may : ℕ → ℕ → Type 0) (allowed : History W → Step W → Type 0) (old new : House W A g) (n : ℕ) : Type 0 where
     pub moves : List (List (Step W))
     pub made : Made work old new (all_steps moves)
     pub each : (M : History W) → Agrees work (core_of old) M → AreMoves work may allowed M moves
+    pub quiet : AllAllowed work (IsQuietAdvanceAfter work) (core_of old) (all_steps moves)
     pub count : pops (all_steps moves) ≡ n
 
   -- the house made some steps of serving

@@ -15,6 +15,13 @@ use Rattle.cbs_steps.specs.declared.step.Step.TheVariants.{Submit, Run, Advance,
 abbrev pub ticks_charged : ℕ → ℕ → ℕ
 ticks_charged start beyond = min beyond (clock_end - (start + 1))
 
+-- a value that did not change, if no unit ran, by the result of a run
+abbrev pub IsSameUnlessUnit : {T : Type 0} → Ran → T → T → Type 0
+IsSameUnlessUnit ran.Idle old new = new ≡ old
+IsSameUnlessUnit ran.ClockEnd old new = new ≡ old
+IsSameUnlessUnit (ran.Unit s q) old new = Unit {0}
+IsSameUnlessUnit (ran.Done c) old new = Unit {0}
+
 module _ {W : Type 0} where
   -- the steps that charge server s so many ticks: one step, or none for 0 ticks
   abbrev pub charge_steps : ℕ → ℕ → List (Step W)

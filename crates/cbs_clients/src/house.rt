@@ -37,7 +37,7 @@ impl<W: Work, A: Allocator> Drop for House<W, A> {
 impl<W: Work, A: Allocator> House<W, A> {
     ghost use Rattle.std.specs.Prelude.{ℕ, ◌≡◌, ◌↔◌, ◌⊎◌, IsTrue, ◌<◌, ◌≤◌, ◌-◌, min, true, [], ◌++◌, length, IfSome, IfNone, IfOk, IfErr};
     ghost use Rattle.cbs_core.specs.Held.{front_output, held_at, is_running, AllSame, IsClosed};
-    ghost use Rattle.cbs_clients.specs.Calls.{PollOf, RunOf, RunBy, AdvanceOf, ChargeOf, ChargesLast, ChargesOf, ClockOf, SpanOf, ViewOf, PromiseOf, LooksAtRing};
+    ghost use Rattle.cbs_clients.specs.Calls.{PollOf, RunOf, RunBy, AsksMeter, AdvanceOf, ChargeOf, ChargesLast, ChargesOf, ClockOf, SpanOf, ViewOf, PromiseOf, LooksAtRing};
     ghost use Rattle.cbs_clients.specs.Clients.{server_of, sent_by, IsOpened};
     ghost use Rattle.cbs_clients.specs.Houses.{core_of, rings_of, received, known, IsHousePaced, KeepsResults, Made, LooksOnly, Polled, CanTake};
     ghost use Rattle.cbs_clients.specs.Meters.{charge_steps};
@@ -190,7 +190,8 @@ impl<W: Work, A: Allocator> House<W, A> {
     /// charged the ticks that the meter returns, as by [`charge`](House::charge). Ticks past [`LIMIT`] are not charged,
     /// so the clock stops there.
     pub fn run_metered<M: Meter>(&mut self, meter: &mut M) -> Ran
-        ensures { RunBy W.meaning M.may_tell self.old result self.new }
+        ensures run { RunBy W.meaning M.may_tell self.old result self.new }
+        ensures meter { AsksMeter W.meaning M.begins M.tells self.old result self.new meter.old meter.new }
     {
         meter.begin();
         let ran = self.run();

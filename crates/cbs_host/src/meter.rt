@@ -2,7 +2,7 @@
 
 ghost use Rattle.std.specs.Prelude.{ℕ, ◌≡◌, ◌<◌, ◌↔◌, IsSome};
 ghost use Rattle.std.specs.Duration.{as_nanos};
-ghost use Rattle.cbs_host.specs.Meters.{NothingBeyond, ticks_beyond};
+ghost use Rattle.cbs_host.specs.Meters.{NothingBeyond, IsMeasuredFrom, ticks_between};
 
 use std::time::{Clock, Duration};
 
@@ -13,15 +13,24 @@ pub trait Meter {
     /// otherwise, it may return any number.
     ghost may_tell: { ℕ → ℕ → Type 0 } = { λ s n. Unit {0} };
 
+    /// What a begin does to the meter. If a meter does not say otherwise, nothing is known about it.
+    ghost begins: { Self → Self → Type 0 } = { λ _ _. Unit {0} };
+
+    /// What an answer of `n` ticks for a unit of server `s` does to the meter. If a meter does not say otherwise,
+    /// nothing is known about it.
+    ghost tells: { Self → ℕ → ℕ → Self → Type 0 } = { λ _ _ _ _. Unit {0} };
+
     /// Begins a measurement: a unit is about to run, or no unit if no server is ready.
-    fn begin(&mut self);
+    fn begin(&mut self)
+        ensures { begins self.old self.new };
 
     /// Returns how many ticks the unit that `server` just got took after its first tick. It is called once after each
     /// unit.
     ///
     /// Round up: a unit that took part of a tick took all of it.
     fn beyond(&mut self, server: u16) -> u64
-        ensures { may_tell server result };
+        ensures may { may_tell server result }
+        ensures tells { tells self.old server result self.new };
 }
 
 /// The meter that never charges: each unit counts as one tick, however long it takes.
@@ -31,13 +40,15 @@ pub struct NoMeter;
 impl Meter for NoMeter {
     ghost may_tell = { NothingBeyond };
 
+    ghost begins = { λ old new. new ≡ old };
+
+    ghost tells = { λ old s n new. new ≡ old };
+
     #[inline(always)]
     fn begin(&mut self) {}
 
     #[inline(always)]
-    fn beyond(&mut self, _server: u16) -> u64
-        ensures { result ≡ 0 }
-    {
+    fn beyond(&mut self, _server: u16) -> u64 {
         0
     }
 }
@@ -82,23 +93,30 @@ impl<'a, R: Clock> ClockMeter<'a, R> {
 }
 
 impl<'a, R: Clock> Meter for ClockMeter<'a, R> {
+    ghost begins = { λ old new. new.tick ≡ old.tick };
+
+    ghost tells = { λ old s n new. IsMeasuredFrom old.begun old.tick n × (new ≡ old) };
+
     fn begin(&mut self) {
         self.begun = self.rt.monotonic().ok();
     }
 
     fn beyond(&mut self, _server: u16) -> u64 {
-        match (self.begun, self.rt.monotonic()) {
-            (Some(begun), Ok(now)) => beyond_first(now.saturating_sub(begun), self.tick),
-            (None, _) | (_, Err(_)) => 0,
-        }
+        let now = self.rt.monotonic().ok();
+        beyond_between(self.begun, now, self.tick)
     }
 }
 
-/// Returns how many ticks a unit took after its first tick, rounded up, and at most `u64::MAX`.
-fn beyond_first(took: Duration, tick: Duration) -> u64
+/// Returns how many ticks a unit took after its first tick, by the readings of a clock before and after it: rounded up,
+/// and at most `u64::MAX`. It is 0 if a reading is missing, or if the clock went back.
+fn beyond_between(begun: Option<Duration>, ended: Option<Duration>, tick: Duration) -> u64
     requires { 0 < as_nanos tick }
-    ensures { result ≡ ticks_beyond (as_nanos took) (as_nanos tick) }
+    ensures { result ≡ ticks_between begun ended tick }
 {
+    let (Some(begun), Some(ended)) = (begun, ended) else {
+        return 0;
+    };
+    let took = ended.saturating_sub(begun);
     let further = took.as_nanos().saturating_sub(1) / tick.as_nanos();
     further.min(u128::from(u64::MAX)) as u64
 }

@@ -1,6 +1,8 @@
 //! How the two sides of a round let other threads run.
 
-ghost use Rattle.std.specs.Prelude.{◌≤◌};
+ghost use Rattle.std.specs.Prelude.{◌≡◌, ◌≤◌, ◌*◌};
+ghost use Rattle.std.specs.Duration.{as_nanos};
+ghost use Rattle.cbs_host.specs.Pauses.{slept};
 
 use std::thread::{sleep, yield_now};
 use std::time::{Clock, Duration};
@@ -35,12 +37,22 @@ pub enum Rest {
 }
 
 impl Rest {
+    /// Returns how long it sleeps.
+    fn length(self) -> Duration
+        ensures { as_nanos result ≡ slept self * 1_000 }
+    {
+        match self {
+            Rest::GoOn | Rest::Yield => Duration::ZERO,
+            Rest::Sleep(micros) => Duration::from_micros(micros),
+        }
+    }
+
     /// Rests in this way.
     fn take<R: Clock>(self, rt: &R) {
         match self {
             Rest::GoOn => {}
             Rest::Yield => yield_now(),
-            Rest::Sleep(micros) => sleep(rt, Duration::from_micros(micros)),
+            Rest::Sleep(_) => sleep(rt, self.length()),
         }
     }
 }
@@ -56,11 +68,14 @@ pub struct Pause {
 }
 
 impl Pause {
-    ghost use Rattle.std.specs.Prelude.{◌≤◌};
-    ghost use Rattle.cbs_host.specs.Pauses.{slept};
+    ghost use Rattle.std.specs.Prelude.{◌≡◌, ◌≤◌};
+    ghost use Rattle.cbs_host.specs.Pauses.{one_more, rest_after, slept};
 
     /// Returns the pauses of a side that has taken no turn.
-    pub fn new() -> Pause {
+    pub fn new() -> Pause
+        ensures still { result.still ≡ 0 }
+        ensures longest { result.longest ≡ 2_000 }
+    {
         Pause {
             still: 0,
             longest: LONGEST,
@@ -68,13 +83,19 @@ impl Pause {
     }
 
     /// Records that a turn moved a message.
-    pub fn moved(&mut self) {
+    pub fn moved(&mut self)
+        ensures still { self.new.still ≡ 0 }
+        ensures longest { self.new.longest ≡ 20 }
+    {
         self.still = 0;
         self.longest = LONGEST_AFTER_WORK;
     }
 
     /// Records that a turn moved no message, but did something, and yields: the side may be ahead of the other.
-    pub fn ran(&mut self) {
+    pub fn ran(&mut self)
+        ensures still { self.new.still ≡ one_more self.old.still }
+        ensures longest { self.new.longest ≡ 20 }
+    {
         self.still = self.still.saturating_add(1);
         self.longest = LONGEST_AFTER_WORK;
         if self.still <= YIELDS {
@@ -84,7 +105,10 @@ impl Pause {
 
     /// Returns how the side rests after a turn that did nothing. No sleep is longer than 2 milliseconds.
     pub fn next(&mut self) -> Rest
-        ensures { slept result ≤ 2000 }
+        ensures still { self.new.still ≡ one_more self.old.still }
+        ensures longest { self.new.longest ≡ self.old.longest }
+        ensures rests { result ≡ rest_after self.new.still self.new.longest }
+        ensures short { slept result ≤ 2_000 }
     {
         self.still = self.still.saturating_add(1);
         let after_yields = self.still.saturating_sub(YIELDS);
@@ -99,7 +123,10 @@ impl Pause {
     }
 
     /// Rests after a turn that did nothing, as [`next`](Pause::next) returns.
-    pub fn idle<R: Clock>(&mut self, rt: &R) {
+    pub fn idle<R: Clock>(&mut self, rt: &R)
+        ensures still { self.new.still ≡ one_more self.old.still }
+        ensures longest { self.new.longest ≡ self.old.longest }
+    {
         self.next().take(rt);
     }
 }

@@ -19,11 +19,10 @@ use Rattle.cbs_steps.specs.Continuations.{◌⊕⊕◌, EachAllowed}
 use Rattle.cbs_core.specs.Agreement.{Agrees, AllAllowed}
 use Rattle.cbs_core.specs.Held.{IsClosed}
 use Rattle.cbs_steps.specs.Quiet.{IsQuietAfter, IsQuietAdvanceAfter}
-use Rattle.cbs_clients.proofs.PacedMoves.{all_moved_quietly}
 use Rattle.cbs_house.specs.Rounds.{RoundTurn, turn_steps, steps_in, IsTurn, RunsAfter, EachRuns, TakesTurn, TakesExactly, TakesTurns}
 use Rattle.cbs_clients.proofs.MadeSteps.{made_nothing, made_both}
-use Rattle.cbs_clients.proofs.Metered.{all_steps-append, moves-append, never_moves, paid_pops}
-use Rattle.cbs_clients.proofs.Moves.{serves_then, serve_quiet}
+use Rattle.cbs_clients.proofs.Metered.{all_steps-append, moves-append, never_moves, quiet_moves, paid_pops}
+use Rattle.cbs_clients.proofs.Moves.{serves_then, needed_quiet, serve_quiet}
 use Rattle.cbs_steps.proofs.Laws.{after-append}
 use Rattle.cbs_core.proofs.Laws.{allowed_weaker}
 use Rattle.cbs_core.proofs.OnTimeCores.{all_on_time, all_paced}
@@ -161,7 +160,7 @@ module _ {W A : Type 0} {g : Ghosts W} (work : Meaning W) (may : ℕ → ℕ →
         quiet = quiet;
         on_time = λ never. all_on_time work (core_of a) xs k.made.keeps_time (quiet never);
         paced = all_paced work (core_of a) xs k.made.keeps_pace (λ M agrees. subst (EachAllowed (IsQuietAdvanceAfter work) M) (moves_all k.turns)
-            (all_moved_quietly work may (MayServe work) (serve_quiet work) M (moves_in k.turns) (all_move turns n a b k M agrees)));
+            (quiet_moves work may (MayServe work) (needed_quiet work) M (moves_in k.turns) (all_move turns n a b k M agrees)));
       }
 
   pub turns_rings : (most : ℕ) (servers : List ℕ) (a b : House W A g) (n : ℕ) → TakesTurns work may most servers a b n → rings_of b ≡ rings_of a
@@ -173,7 +172,16 @@ module _ {W A : Type 0} {g : Ghosts W} (work : Meaning W) (may : ℕ → ℕ →
       let k = t.taken in
       let all = moves_all k.turns in
       record {
-        moves = (n, record { moves = moves_in k.turns; made = rw all k.made; each = all_move t.turns n a b k; count = rw all k.count });
+        moves = (
+          n,
+          record {
+            moves = moves_in k.turns;
+            made = rw all k.made;
+            each = all_move t.turns n a b k;
+            quiet = λ M agrees. quiet_moves work may (MayServe work) (needed_quiet work) M (moves_in k.turns) (all_move t.turns n a b k M agrees);
+            count = rw all k.count;
+          },
+        );
       }
 
   -- a round, and what is done after it

@@ -341,6 +341,27 @@ fn a_unit_that_takes_no_time_is_charged_nothing(rt: HostRuntime) {
     same(&rt, "a tick of no length is refused", none, true);
 }
 
+/// A clock that cannot be read.
+#[derive(Drop)]
+struct Broken;
+
+impl Clock for Broken {
+    fn monotonic(&self) -> io::Result<Duration> {
+        Err(io::Error::from(io::ErrorKind::Unsupported))
+    }
+
+    fn since_1970(&self) -> io::Result<Duration> {
+        Ok(Duration::ZERO)
+    }
+}
+
+#[test]
+fn a_clock_that_cannot_be_read_charges_nothing(rt: HostRuntime) {
+    let tick = Duration::from_nanos(1);
+    let mut meter = ClockMeter::new(&Broken, tick).expect(&rt, "a meter");
+    meters(&rt, rt.alloc(), &mut meter, &DRAINS, &SHORT);
+}
+
 /// A job whose units each take 25 microseconds of a clock.
 #[derive(Drop)]
 struct SlowJob<'a> {

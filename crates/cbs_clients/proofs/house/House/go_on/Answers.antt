@@ -13,7 +13,7 @@ pub returns-in-None-clause-goes_on : goal.returns-in-None-clause-goes_on
 returns-in-None-clause-goes_on g c =
     let work = g.W.Work.meaning in
     let core = c.args.self.now.core in
-    let r = c.run_metered.ensures in
+    let r = c.run_metered.ensures.run in
     inl (
       record {
         paid = r.paid;
@@ -34,14 +34,14 @@ returns-in-None-clause-later g c =
     let work = g.W.Work.meaning in
     let old = c.args.self.now in
     let new = c.run_metered.new.self in
-    let r = c.run_metered.ensures in
+    let r = c.run_metered.ensures.run in
     let is = paid_is g.M.Meter.may_tell old.core.clock c.run_metered.result r.paid r.pays in
     unit_later work old.core new.core is.0 is.1 old.housed.history
     (subst (λ (xs : List (Step g.row.W.Denot)). Follows work old.core new.core (Run ∷ xs)) is.2 r.made.steps)
     (λ M agrees. run_later work M.setup.backlog (world_after work M) (c.in-None.ensures M agrees) (rw agrees.world.clock at c.requires.early))
 
 pub returns-in-None-clause-numbered : goal.returns-in-None-clause-numbered
-returns-in-None-clause-numbered g c = numbered g.W.Work.meaning c.args.self.now c.args.self.now.housed c.run_metered.result c.run_metered.ensures.reply
+returns-in-None-clause-numbered g c = numbered g.W.Work.meaning c.args.self.now c.args.self.now.housed c.run_metered.result c.run_metered.ensures.run.reply
 
 pub returns-in-Some-clause-goes_on : goal.returns-in-Some-clause-goes_on
 returns-in-Some-clause-goes_on g c =
@@ -71,13 +71,13 @@ returns-in-Some-clause-later g c =
     (rw agrees.world.clock at c.requires.early))
 
 pub returns-in-None-clause-rings : goal.returns-in-None-clause-rings
-returns-in-None-clause-rings g c = c.run_metered.ensures.made.rings
+returns-in-None-clause-rings g c = c.run_metered.ensures.run.made.rings
 
 pub returns-in-None-clause-collects : goal.returns-in-None-clause-collects
-returns-in-None-clause-collects g c = c.run_metered.ensures.collects
+returns-in-None-clause-collects g c = c.run_metered.ensures.run.collects
 
 pub returns-in-None-clause-job : goal.returns-in-None-clause-job
-returns-in-None-clause-job g c = c.run_metered.ensures.job
+returns-in-None-clause-job g c = c.run_metered.ensures.run.job
 
 pub returns-in-Some-clause-rings : goal.returns-in-Some-clause-rings
 returns-in-Some-clause-rings g c = c.advance.ensures.rings
