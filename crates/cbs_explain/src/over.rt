@@ -1,19 +1,36 @@
 //! The explanation of a server that takes the plan over its bound: by how much, and what would fit.
 
 use crate::page::Page;
-use cbs_findings::{Document, Fraction, Percent, Refused, Spot, excess, reservations, share};
+use cbs_findings::{Document, Fraction, Percent, Refused, Spot, reservations};
 use cbs_guarantee::{Part, SplitError, split};
+use cbs_rate::{Bound, Ratio, Reservation};
 
 /// The columns before the bar.
 const MARGIN: usize = 3;
 
+/// Returns a bound as a fraction.
+fn ratio_of_bound(bound: Bound) -> Ratio {
+    Ratio {
+        part: u128::from(bound.num()),
+        whole: u128::from(bound.den()),
+    }
+}
+
+/// Returns the bandwidth of a reservation as a fraction.
+fn ratio_of(reservation: Reservation) -> Ratio {
+    Ratio {
+        part: u128::from(reservation.budget()),
+        whole: u128::from(reservation.period()),
+    }
+}
+
 /// Appends a row of the sum.
-fn append_row(page: &mut Page, label: &str, fraction: Fraction, end: &str) {
-    let percent = Percent(fraction).to_string(page.alloc);
+fn append_row(page: &mut Page, label: &str, ratio: Ratio, end: &str) {
+    let percent = Percent(ratio).to_string(page.alloc);
     let Some(percent) = page.accept(percent) else {
         return;
     };
-    let fraction = fraction.to_string(page.alloc);
+    let fraction = Fraction(ratio).to_string(page.alloc);
     let Some(fraction) = page.accept(fraction) else {
         return;
     };
@@ -28,7 +45,7 @@ fn append_before(page: &mut Page, refused: &Refused) {
         number => format!(in page.alloc; "servers 0 to {}", number - 1),
     };
     if let Some(label) = page.accept(label) {
-        append_row(page, &label, refused.before(), "");
+        append_row(page, &label, refused.plan.total(), "");
     }
 }
 
@@ -40,9 +57,9 @@ fn append_sum(page: &mut Page, refused: &Refused) {
     page.push_bar(MARGIN);
     append_before(page, refused);
     if let Some(label) = page.accept(label) {
-        append_row(page, &label, refused.own(), "");
+        append_row(page, &label, ratio_of(refused.reservation), "");
     }
-    if let Some(excess) = excess(refused.total(), refused.bound()) {
+    if let Some(excess) = refused.plan.excess_with(refused.reservation) {
         append_row(page, "", excess, "  too much");
     }
     page.push_bar(MARGIN);
@@ -65,8 +82,8 @@ fn append_greatest(page: &mut Page, refused: &Refused) {
 
 /// Appends the least period for this budget, if there is one.
 fn append_least(page: &mut Page, refused: &Refused) {
-    if let Some(period) = refused.least_period() {
-        let budget = refused.reservation.budget();
+    let budget = refused.reservation.budget();
+    if let Some(period) = refused.plan.least_period(budget) {
         let words = format!(in page.alloc; "a budget of {budget} fits at period {period}");
         page.push_note(MARGIN, "help", words);
     }
@@ -75,7 +92,7 @@ fn append_least(page: &mut Page, refused: &Refused) {
 /// Appends a part of a split, with its number, the names of its servers and their sum. A server that has no name has
 /// its number.
 fn append_part(page: &mut Page, document: Document<'_>, number: u64, part: &Part) {
-    let sum = share(part.plan.bandwidth());
+    let sum = Fraction(part.plan.total());
     page.push_number("           ", number);
     page.push(": ");
     for (place, server) in part.servers.iter().enumerate() {
@@ -119,8 +136,8 @@ fn append_split(page: &mut Page, document: Document<'_>, refused: &Refused) {
 /// Appends the explanation of a server that takes the plan over its bound.
 pub(crate) fn append_over(page: &mut Page, spot: &Spot<'_>, refused: &Refused) {
     let number = refused.number;
-    let total = refused.total();
-    let bound = refused.bound();
+    let total = Fraction(refused.plan.total_with(refused.reservation));
+    let bound = Fraction(ratio_of_bound(refused.plan.bound()));
     write!(
         page,
         "error: over the bound: {total} of the time with server {number}, and the bound is {bound}"
