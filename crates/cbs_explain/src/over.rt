@@ -1,9 +1,14 @@
 //! The explanation of a server that takes the plan over its bound: by how much, and what would fit.
 
+ghost use Rattle.std.specs.Prelude.{◌≡◌, ℕ, IfOk, MatchOption, string_bytes};
+ghost use Rattle.cbs_rate.specs.Room.{IsLeastPeriod};
+ghost use Rattle.cbs_explain.specs.Over.{TellsGreatest, TellsLeast};
+
 use crate::page::Page;
 use cbs_findings::{Document, Fraction, Percent, Refused, Spot, reservations};
 use cbs_guarantee::{Part, SplitError, split};
-use cbs_rate::{Bound, Ratio, Reservation};
+use cbs_rate::{Bound, Plan, Ratio, Reservation};
+use std::alloc::{AllocError, Global};
 
 /// The columns before the bar.
 const MARGIN: usize = 3;
@@ -65,27 +70,44 @@ fn append_sum(page: &mut Page, refused: &Refused) {
     page.push_bar(MARGIN);
 }
 
+/// Returns the words on the greatest budget that a plan takes at a period. The only error is out of memory.
+fn greatest_words(alloc: Global, plan: &Plan, period: u64) -> Result<String, AllocError>
+    ensures { IfOk result (λ words. TellsGreatest plan.now period (string_bytes words)) }
+{
+    let budget = plan.greatest_budget(period);
+    if budget == 0 {
+        return format!(in alloc; "at period {period} no budget fits");
+    }
+    let words =
+        format!(in alloc; "at period {period} a budget of {budget} fits, and no greater one")?;
+    Ok(words)
+}
+
+/// Returns the words on the least period at which a plan takes a budget, or `None` if there is none. The only error is
+/// out of memory.
+fn least_words(alloc: Global, plan: &Plan, budget: u64) -> Result<Option<String>, AllocError>
+    ensures { IfOk result (λ words. MatchOption words
+        ((period : ℕ) → ¬ (IsLeastPeriod plan.now budget period))
+        (λ words. TellsLeast plan.now budget (string_bytes words))) }
+{
+    let Some(period) = plan.least_period(budget) else {
+        return Ok(None);
+    };
+    let words = format!(in alloc; "a budget of {budget} fits at period {period}")?;
+    Ok(Some(words))
+}
+
 /// Appends the greatest budget at this period.
 fn append_greatest(page: &mut Page, refused: &Refused) {
-    let period = refused.reservation.period();
-    let mut words = Page::new(page.alloc);
-    words.push_number("at period ", period);
-    match refused.plan.greatest_budget(period) {
-        0 => words.push(" no budget fits"),
-        budget => {
-            words.push_number(" a budget of ", budget);
-            words.push(" fits, and no greater one");
-        }
-    }
-    page.push_note(MARGIN, "help", words.finish());
+    let words = greatest_words(page.alloc, &refused.plan, refused.reservation.period());
+    page.push_note(MARGIN, "help", words);
 }
 
 /// Appends the least period for this budget, if there is one.
 fn append_least(page: &mut Page, refused: &Refused) {
-    let budget = refused.reservation.budget();
-    if let Some(period) = refused.plan.least_period(budget) {
-        let words = format!(in page.alloc; "a budget of {budget} fits at period {period}");
-        page.push_note(MARGIN, "help", words);
+    let words = least_words(page.alloc, &refused.plan, refused.reservation.budget());
+    if let Some(Some(words)) = page.accept(words) {
+        page.push_note(MARGIN, "help", Ok(words));
     }
 }
 
