@@ -38,7 +38,7 @@ fn append_period(page: &mut Page, refused: &Refused) {
 /// Appends that the period of a server makes the periods too fine.
 fn append_too_fine(page: &mut Page, spot: &Spot<'_>, refused: &Refused) {
     let number = refused.number;
-    let multiple = refused.common_multiple();
+    let multiple = refused.plan.common_multiple_with(refused.reservation);
     write!(
         page,
         "error: with server {number} the periods come together every {multiple} ticks only, and at most {MAX_COMMON_MULTIPLE} are allowed"

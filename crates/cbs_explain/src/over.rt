@@ -1,19 +1,41 @@
 //! The explanation of a server that takes the plan over its bound: by how much, and what would fit.
 
+ghost use Rattle.std.specs.Prelude.{◌≡◌, ℕ, IfOk, MatchOption, string_bytes};
+ghost use Rattle.cbs_rate.specs.Room.{IsLeastPeriod};
+ghost use Rattle.cbs_explain.specs.Over.{TellsGreatest, TellsLeast};
+
 use crate::page::Page;
-use cbs_findings::{Document, Fraction, Percent, Refused, Spot, excess, reservations, share};
+use cbs_findings::{Document, Fraction, Percent, Refused, Spot, reservations};
 use cbs_guarantee::{Part, SplitError, split};
+use cbs_rate::{Bound, Plan, Ratio, Reservation};
+use std::alloc::{AllocError, Global};
 
 /// The columns before the bar.
 const MARGIN: usize = 3;
 
+/// Returns a bound as a fraction.
+fn ratio_of_bound(bound: Bound) -> Ratio {
+    Ratio {
+        part: u128::from(bound.num()),
+        whole: u128::from(bound.den()),
+    }
+}
+
+/// Returns the bandwidth of a reservation as a fraction.
+fn ratio_of(reservation: Reservation) -> Ratio {
+    Ratio {
+        part: u128::from(reservation.budget()),
+        whole: u128::from(reservation.period()),
+    }
+}
+
 /// Appends a row of the sum.
-fn append_row(page: &mut Page, label: &str, fraction: Fraction, end: &str) {
-    let percent = Percent(fraction).to_string(page.alloc);
+fn append_row(page: &mut Page, label: &str, ratio: Ratio, end: &str) {
+    let percent = Percent(ratio).to_string(page.alloc);
     let Some(percent) = page.accept(percent) else {
         return;
     };
-    let fraction = fraction.to_string(page.alloc);
+    let fraction = Fraction(ratio).to_string(page.alloc);
     let Some(fraction) = page.accept(fraction) else {
         return;
     };
@@ -28,7 +50,7 @@ fn append_before(page: &mut Page, refused: &Refused) {
         number => format!(in page.alloc; "servers 0 to {}", number - 1),
     };
     if let Some(label) = page.accept(label) {
-        append_row(page, &label, refused.before(), "");
+        append_row(page, &label, refused.plan.total(), "");
     }
 }
 
@@ -40,42 +62,59 @@ fn append_sum(page: &mut Page, refused: &Refused) {
     page.push_bar(MARGIN);
     append_before(page, refused);
     if let Some(label) = page.accept(label) {
-        append_row(page, &label, refused.own(), "");
+        append_row(page, &label, ratio_of(refused.reservation), "");
     }
-    if let Some(excess) = excess(refused.total(), refused.bound()) {
+    if let Some(excess) = refused.plan.excess_with(refused.reservation) {
         append_row(page, "", excess, "  too much");
     }
     page.push_bar(MARGIN);
 }
 
+/// Returns the words on the greatest budget that a plan takes at a period. The only error is out of memory.
+fn greatest_words(alloc: Global, plan: &Plan, period: u64) -> Result<String, AllocError>
+    ensures { IfOk result (λ words. TellsGreatest plan.now period (string_bytes words)) }
+{
+    let budget = plan.greatest_budget(period);
+    if budget == 0 {
+        return format!(in alloc; "at period {period} no budget fits");
+    }
+    let words =
+        format!(in alloc; "at period {period} a budget of {budget} fits, and no greater one")?;
+    Ok(words)
+}
+
+/// Returns the words on the least period at which a plan takes a budget, or `None` if there is none. The only error is
+/// out of memory.
+fn least_words(alloc: Global, plan: &Plan, budget: u64) -> Result<Option<String>, AllocError>
+    ensures { IfOk result (λ words. MatchOption words
+        ((period : ℕ) → ¬ (IsLeastPeriod plan.now budget period))
+        (λ words. TellsLeast plan.now budget (string_bytes words))) }
+{
+    let Some(period) = plan.least_period(budget) else {
+        return Ok(None);
+    };
+    let words = format!(in alloc; "a budget of {budget} fits at period {period}")?;
+    Ok(Some(words))
+}
+
 /// Appends the greatest budget at this period.
 fn append_greatest(page: &mut Page, refused: &Refused) {
-    let period = refused.reservation.period();
-    let mut words = Page::new(page.alloc);
-    words.push_number("at period ", period);
-    match refused.plan.greatest_budget(period) {
-        0 => words.push(" no budget fits"),
-        budget => {
-            words.push_number(" a budget of ", budget);
-            words.push(" fits, and no greater one");
-        }
-    }
-    page.push_note(MARGIN, "help", words.finish());
+    let words = greatest_words(page.alloc, &refused.plan, refused.reservation.period());
+    page.push_note(MARGIN, "help", words);
 }
 
 /// Appends the least period for this budget, if there is one.
 fn append_least(page: &mut Page, refused: &Refused) {
-    if let Some(period) = refused.least_period() {
-        let budget = refused.reservation.budget();
-        let words = format!(in page.alloc; "a budget of {budget} fits at period {period}");
-        page.push_note(MARGIN, "help", words);
+    let words = least_words(page.alloc, &refused.plan, refused.reservation.budget());
+    if let Some(Some(words)) = page.accept(words) {
+        page.push_note(MARGIN, "help", Ok(words));
     }
 }
 
 /// Appends a part of a split, with its number, the names of its servers and their sum. A server that has no name has
 /// its number.
 fn append_part(page: &mut Page, document: Document<'_>, number: u64, part: &Part) {
-    let sum = share(part.plan.bandwidth());
+    let sum = Fraction(part.plan.total());
     page.push_number("           ", number);
     page.push(": ");
     for (place, server) in part.servers.iter().enumerate() {
@@ -119,8 +158,8 @@ fn append_split(page: &mut Page, document: Document<'_>, refused: &Refused) {
 /// Appends the explanation of a server that takes the plan over its bound.
 pub(crate) fn append_over(page: &mut Page, spot: &Spot<'_>, refused: &Refused) {
     let number = refused.number;
-    let total = refused.total();
-    let bound = refused.bound();
+    let total = Fraction(refused.plan.total_with(refused.reservation));
+    let bound = Fraction(ratio_of_bound(refused.plan.bound()));
     write!(
         page,
         "error: over the bound: {total} of the time with server {number}, and the bound is {bound}"

@@ -1,1 +1,2 @@
 mod Ratios
+mod Refusals

@@ -10,7 +10,6 @@ mod keys;
 mod nearest;
 mod refused;
 mod spot;
-mod sums;
 mod wants;
 
 pub use broken::{Broken, Position, Quote, broken_at};
@@ -21,5 +20,4 @@ pub use keys::{Key, Subject, Want, Words};
 pub use nearest::{nearest_key, nearest_word};
 pub use refused::{Refused, refused_at, reservations};
 pub use spot::{Spot, spot_at};
-pub use sums::{excess, share};
 pub use wants::{MAX_NUMBER, first_bad_unit, period_of, two_numbers};

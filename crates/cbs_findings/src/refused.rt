@@ -1,11 +1,14 @@
-//! A server that a plan does not take, and what would fit in its place.
+//! A server that a plan does not take.
 
-use crate::document::{Document, value_at};
-use crate::fractions::Fraction;
-use crate::sums::{excess, least_period, share, total};
+ghost use Rattle.std.specs.Prelude.{◌≡◌, List, [], map, IfOk, IfSome, IfNone, MatchOption, Some, None};
+ghost use Rattle.toml.specs.View.{view, table_view};
+ghost use Rattle.cbs_rate.specs.Rate.{Rate};
+ghost use Rattle.cbs_findings.specs.declared.refused.Refused.{Refused as ARefused};
+ghost use Rattle.cbs_findings.specs.Refused.{bound_at, reservation_of, AreReservations, plan_of, IsRefused, IsNotRefused, IsRefusedAt};
+
+use crate::document::Document;
 use cbs_rate::{AdmitError, Bound, Plan, Reservation};
-use cbs_size::greatest_common_divisor;
-use cbs_tables::{FileKind, bound_of, integer, items, pair, present, reservation};
+use cbs_tables::{FileKind, bound_of, integer_at, members, pair_at, reservation};
 use std::alloc::{AllocError, Global};
 use toml::{Table, Value};
 
@@ -22,76 +25,38 @@ pub struct Refused {
     pub reservation: Reservation,
 }
 
-impl Refused {
-    /// Returns the share of the time that the servers before it have.
-    pub fn before(&self) -> Fraction {
-        share(self.plan.bandwidth())
-    }
-
-    /// Returns the share of the time that it would have.
-    pub fn own(&self) -> Fraction {
-        Fraction {
-            part: u128::from(self.reservation.budget()),
-            whole: u128::from(self.reservation.period()),
-        }
-    }
-
-    /// Returns the share of the time that all of them would have together.
-    pub fn total(&self) -> Fraction {
-        total(self.plan.bandwidth(), self.reservation)
-    }
-
-    /// Returns the bound.
-    pub fn bound(&self) -> Fraction {
-        let bound = self.plan.bound();
-        Fraction {
-            part: u128::from(bound.num()),
-            whole: u128::from(bound.den()),
-        }
-    }
-
-    /// Returns the least period in which the server's budget fits into what is left, or `None` if the plan does not
-    /// take that.
-    pub fn least_period(&self) -> Option<u64> {
-        let budget = self.reservation.budget();
-        let period = least_period(budget, excess(self.bound(), self.before())?)?;
-        if self.plan.greatest_budget(period) < budget {
-            return None;
-        }
-        Some(period)
-    }
-
-    /// Returns after how many ticks all periods begin together again.
-    pub fn common_multiple(&self) -> u128 {
-        let common = u128::from(self.plan.bandwidth().of);
-        let period = u128::from(self.reservation.period());
-        match greatest_common_divisor(common, period) {
-            0 => 0,
-            divisor => (common / divisor).saturating_mul(period),
-        }
-    }
-}
-
 /// Returns the bound of a document.
-fn bound_at(top: &Table) -> Result<Bound, FileKind> {
-    bound_of(pair(items(present(top, "bound")?)?)?)
+#[tactic(auto, unfolding(crate::specs::Refused::bound_at))]
+fn bound_at(top: &Table) -> Result<Bound, FileKind>
+    ensures { result ≡ bound_at (table_view top.now) }
+{
+    bound_of(pair_at(top, "bound")?)
 }
 
-/// Returns the number at a key of a server, or `None` if there is none.
-fn number_at(entry: &Value, key: &str) -> Option<i64> {
-    integer(value_at(entry, key)?).ok()
+/// Returns the reservation of a server.
+#[tactic(auto, unfolding(crate::specs::Refused::reservation_of))]
+fn reservation_of(entry: &Value) -> Result<Reservation, FileKind>
+    ensures { result ≡ reservation_of (view entry.now) }
+{
+    let server = members(entry)?;
+    let budget = integer_at(server, "budget")?;
+    let period = integer_at(server, "period")?;
+    reservation(budget, period)
 }
 
-/// Returns the reservation of a server, or `None` if it has none.
-fn reservation_of(entry: &Value) -> Option<Reservation> {
-    reservation(number_at(entry, "budget")?, number_at(entry, "period")?).ok()
-}
-
-/// Returns the plan of servers, or `None` if it does not take them all.
-fn plan_of(bound: Bound, servers: &[Value]) -> Option<Plan> {
+/// Returns the plan of servers, or `None` if one has no reservation or the plan does not take it.
+fn plan_of(bound: Bound, servers: &[Value]) -> Option<Plan>
+    ensures value { result ≡ plan_of bound (map view servers.now) }
+    ensures bound { IfSome result (λ plan. plan.bound ≡ bound) }
+{
     let mut plan = Plan::new(bound);
     for entry in servers {
-        plan.admit(reservation_of(entry)?).ok()?;
+        let Ok(reservation) = reservation_of(entry) else {
+            return None;
+        };
+        if plan.admit(reservation).is_err() {
+            return None;
+        }
     }
     Some(plan)
 }
@@ -102,9 +67,16 @@ fn refused_after(
     bound: Bound,
     number: usize,
     reservation: Reservation,
-) -> Option<Refused> {
+) -> Option<Refused>
+    ensures { MatchOption result
+        (IsNotRefused bound (map view before.now) reservation)
+        (λ refused. IsRefused bound (map view before.now) reservation refused
+        × (refused.number ≡ number) × (refused.plan.bound ≡ bound)) }
+{
     let mut plan = plan_of(bound, before)?;
-    let why = plan.admit(reservation).err()?;
+    let Err(why) = plan.admit(reservation) else {
+        return None;
+    };
     Some(Refused {
         number,
         why,
@@ -113,22 +85,50 @@ fn refused_after(
     })
 }
 
+/// Returns the server with this number, by the top table and the entries of `server`, or `None` unless the plan of the
+/// servers before it refuses it.
+fn refused_in(top: &Table, servers: &[Value], number: usize) -> Option<Refused>
+    ensures { let top = table_view top.now in
+        let entries = map view servers.now in
+        MatchOption result
+        ((refused : ARefused) → ¬ (IsRefusedAt top entries number refused))
+        (IsRefusedAt top entries number) }
+{
+    let Some(entry) = servers.get(number) else {
+        return None;
+    };
+    let Ok(reservation) = reservation_of(entry) else {
+        return None;
+    };
+    let Ok(bound) = bound_at(top) else {
+        return None;
+    };
+    refused_after(&servers[..number], bound, number, reservation)
+}
+
 /// Returns the server with this number, or `None` unless the plan of the servers before it refuses it.
-pub fn refused_at(document: Document<'_>, number: u64) -> Option<Refused> {
-    let number = usize::try_from(number).ok()?;
-    let reservation = reservation_of(document.servers.get(number)?)?;
-    let bound = bound_at(document.top).ok()?;
-    refused_after(document.servers.get(..number)?, bound, number, reservation)
+pub fn refused_at(document: Document<'_>, number: u64) -> Option<Refused>
+    ensures { let top = table_view document.entry.top.now in
+        let entries = map view document.entry.servers.now in
+        MatchOption result
+        ((refused : ARefused) → ¬ (IsRefusedAt top entries number refused))
+        (IsRefusedAt top entries number) }
+{
+    refused_in(document.top, document.servers, number as usize)
 }
 
 /// Returns the reservations of all servers, or `None` if one has none. The only error is out of memory.
 pub fn reservations(
     alloc: Global,
     servers: &[Value],
-) -> Result<Option<Vec<Reservation>>, AllocError> {
+) -> Result<Option<Vec<Reservation>>, AllocError>
+    ensures { IfOk result (λ all. MatchOption all
+        ((rates : List Rate) → ¬ (AreReservations (map view servers.now) rates))
+        (λ all. AreReservations (map view servers.now) all.items)) }
+{
     let mut all = Vec::new(alloc);
     for entry in servers {
-        let Some(reservation) = reservation_of(entry) else {
+        let Ok(reservation) = reservation_of(entry) else {
             return Ok(None);
         };
         all.push(reservation)?;

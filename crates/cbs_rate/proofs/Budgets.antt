@@ -66,7 +66,7 @@ module _ (a b : Rate) (same : a.period ≡ b.period) where
   ]
 
 -- what is none is `None`
-none_is : (o : Option AdmitError) → is_none o ≡ true → o ≡ None
+pub none_is : (o : Option AdmitError) → is_none o ≡ true → o ≡ None
 none_is None e = refl
 none_is (Some x) e = cc
 

@@ -3,3 +3,4 @@ pub mod Multiples
 pub mod Shares
 pub mod Plans
 pub mod Budgets
+pub mod Rooms

@@ -35,7 +35,7 @@ sum_scaled m n (r ∷ rs) all common =
     rw (sum_by-cons (share (n * m)) r rs, sum_by-cons (share m) r rs, here, rest) (omega arith)
 
 -- a common factor may be left out
-cancel : (m a b : ℕ) → 0 < m → m * a ≤ m * b → a ≤ b
+pub cancel : (m a b : ℕ) → 0 < m → m * a ≤ m * b → a ≤ b
 cancel m a b some h = elim (cases_lt b a) [
   | inl lt ↦ let k = mul-le m (b + 1) m a (omega arith) (omega arith) in absurd (omega arith)
   | inr le ↦ le

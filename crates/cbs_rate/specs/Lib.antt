@@ -4,4 +4,5 @@ pub mod Errors
 pub mod Plan
 pub mod Rate
 pub mod Refusals
+pub mod Room
 pub mod Sums

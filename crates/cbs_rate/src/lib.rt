@@ -8,11 +8,14 @@ mod error;
 mod limits;
 mod multiple;
 mod plan;
+mod ratio;
 mod reservation;
+mod room;
 
 pub use bandwidth::Bandwidth;
 pub use bound::{Bound, MAX_DENOMINATOR};
 pub use error::{AdmitError, RateError};
 pub use limits::MAX_RING;
 pub use plan::{MAX_COMMON_MULTIPLE, MAX_SERVERS, Plan};
+pub use ratio::Ratio;
 pub use reservation::{MAX_PERIOD, Reservation};

@@ -131,6 +131,7 @@ impl Plan {
           of = common_multiple self.now.rates;
         } }
         ensures multiple { IsLeastCommonMultiple result.of self.now.rates }
+        ensures lawful { IsPlan self.now }
     {
         Bandwidth {
             ticks: self.taken,
@@ -156,7 +157,7 @@ impl Plan {
     }
 
     /// Returns whether a server of this budget and period would be admitted.
-    fn takes(&self, budget: u64, period: u64) -> bool
+    pub(crate) fn takes(&self, budget: u64, period: u64) -> bool
         ensures { result ≡ takes self.now budget period }
     {
         match Reservation::new(budget, period) {

@@ -1,0 +1,26 @@
+-- What is told of a server that takes a plan over its bound: which budget and which period would fit.
+use Rattle.std.specs.Prelude.{◌≡◌, ℕ, eqb, if◌then◌else◌, List, ◌++◌, codes, decimal}
+use Rattle.cbs_rate.specs.Plan.{Planned, IsGreatestBudget}
+use Rattle.cbs_rate.specs.Room.{IsLeastPeriod}
+
+-- the words on the greatest budget at a period; 0 if no budget fits
+abbrev pub greatest_words : ℕ → ℕ → List ℕ
+greatest_words period budget =
+    if eqb budget 0 then codes "at period " ++ decimal period ++ codes " no budget fits"
+    else codes "at period " ++ decimal period ++ codes " a budget of " ++ decimal budget ++ codes " fits, and no greater one"
+
+-- the words on the least period for a budget
+abbrev pub least_words : ℕ → ℕ → List ℕ
+least_words budget period = codes "a budget of " ++ decimal budget ++ codes " fits at period " ++ decimal period
+
+-- a text tells the greatest budget that the plan takes at this period
+pub record TellsGreatest (plan : Planned) (period : ℕ) (text : List ℕ) : Type 0 where
+  pub budget : ℕ
+  pub greatest : IsGreatestBudget plan period budget
+  pub words : text ≡ greatest_words period budget
+
+-- a text tells the least period at which the plan takes this budget
+pub record TellsLeast (plan : Planned) (budget : ℕ) (text : List ℕ) : Type 0 where
+  pub period : ℕ
+  pub least : IsLeastPeriod plan budget period
+  pub words : text ≡ least_words budget period
