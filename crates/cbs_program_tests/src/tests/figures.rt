@@ -177,13 +177,13 @@ fn charge(ticks: u64) -> Event {
 /// which they were early. Each step is given with the clock after it.
 fn ends(
     rt: &impl Abort,
+    alloc: Global,
     label: &str,
     steps: &[(u64, Event)],
     (least, greatest): (u64, u64),
     late: u64,
     early: u128,
 ) {
-    let alloc = rt.alloc();
     let plan = plan_of(rt, &[(5, 10), (2, 6)]);
     let mut report = Report::new(alloc, &plan).ok().expect(rt, "memory");
     for &(clock, event) in steps {
@@ -197,25 +197,31 @@ fn ends(
     let figures = report.figures(alloc, 60).ok().expect(rt, "memory");
     let first = at(rt, &figures, 0);
     let responses = first.responses.expect(rt, "responses");
-    same(rt, label, (responses.least, responses.greatest), (least, greatest));
+    same(
+        rt,
+        label,
+        (responses.least, responses.greatest),
+        (least, greatest),
+    );
     same(rt, label, first.late_finished, late);
     same(rt, label, first.early_least, Some(early));
 }
 
 #[test]
 fn a_job_ends_with_the_last_charge_for_its_last_unit(rt: HostRuntime) {
+    let alloc = rt.alloc();
     let came = accepted(job(0, 0, 1, Some(4)), 0, 10);
     let once = [(0, came), (1, last(0, 0)), (5, charge(4))];
-    ends(&rt, "one charge", &once, (5, 5), 1, 5);
+    ends(&rt, alloc, "one charge", &once, (5, 5), 1, 5);
     let cut = [(0, came), (1, last(0, 0)), (4, charge(3))];
-    ends(&rt, "in time", &cut, (4, 4), 0, 6);
+    ends(&rt, alloc, "in time", &cut, (4, 4), 0, 6);
     let parts = [(0, came), (1, last(0, 0)), (3, charge(2)), (5, charge(2))];
-    ends(&rt, "two parts", &parts, (5, 5), 1, 5);
+    ends(&rt, alloc, "two parts", &parts, (5, 5), 1, 5);
     let next = accepted(job(0, 1, 1, None), 1, 20);
     let between = [(0, came), (1, last(0, 0)), (1, next), (5, charge(4))];
-    ends(&rt, "a submit between", &between, (5, 5), 1, 5);
+    ends(&rt, alloc, "a submit between", &between, (5, 5), 1, 5);
     let first = [(0, came), (1, unit(0, 0)), (3, charge(2)), (4, last(0, 0))];
-    ends(&rt, "an earlier unit", &first, (4, 4), 0, 6);
+    ends(&rt, alloc, "an earlier unit", &first, (4, 4), 0, 6);
     // The second job came at 1, and its unit runs from 1 to 2. Its charge is none of the first one's.
     let backlog = [
         (0, came),
@@ -224,15 +230,21 @@ fn a_job_ends_with_the_last_charge_for_its_last_unit(rt: HostRuntime) {
         (2, last(0, 1)),
         (8, charge(6)),
     ];
-    ends(&rt, "the last of two", &backlog, (1, 7), 0, 9);
+    ends(&rt, alloc, "the last of two", &backlog, (1, 7), 0, 9);
     let others = [
         (0, came),
         (1, last(0, 0)),
         (3, charge(2)),
         (4, last(1, 0)),
-        (9, Event::Charged { server: 1, ticks: 5 }),
+        (
+            9,
+            Event::Charged {
+                server: 1,
+                ticks: 5,
+            },
+        ),
     ];
-    ends(&rt, "another server", &others, (3, 3), 0, 7);
+    ends(&rt, alloc, "another server", &others, (3, 3), 0, 7);
 }
 
 #[test]
