@@ -18,14 +18,15 @@ pub type Sleeps = (u64, u64, u64);
 
 /// A clock that only counts: how often it was asked to sleep, the longest sleep, and the sum of all, in microseconds.
 #[derive(Drop)]
-struct Naps {
+pub struct Naps {
     count: AtomicU64,
     longest: AtomicU64,
     all: AtomicU64,
 }
 
 impl Naps {
-    fn none() -> Naps {
+    /// Returns a clock that was not asked to sleep.
+    pub fn none() -> Naps {
         Naps {
             count: AtomicU64::new(0),
             longest: AtomicU64::new(0),
@@ -34,7 +35,7 @@ impl Naps {
     }
 
     /// Returns how many sleeps there were, the longest, and the sum of all.
-    fn seen(&self) -> Sleeps {
+    pub fn seen(&self) -> Sleeps {
         (
             self.count.load(Ordering::SeqCst),
             self.longest.load(Ordering::SeqCst),

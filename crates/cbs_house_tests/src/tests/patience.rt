@@ -1,12 +1,15 @@
 //! Tests of how long an idle side waits: its turns, and its sleeps.
 
-use super::naps::Sleeps;
+use super::naps::{Naps, Sleeps};
 use super::rows::{Case, Phase, Row, plays_all, plays_in_heap};
 use super::same;
-use super::serving::{Fed, Step};
-use cbs_house::{Gate, HouseError, Poll, SendError};
+use super::serving::{Fed, Step, opened};
+use cbs_house::{Gate, HouseError, Poll, SendError, serve_round};
 use cbs_rules::Mode;
+use std::io;
 use std::sync::atomic::{AtomicU64, Ordering};
+use std::thread::Threads;
+use std::time::{Clock, Duration};
 
 /// A gate that holds every message back. It counts how often it was asked, and how many results of polls it got.
 #[derive(Drop)]
@@ -152,4 +155,120 @@ fn each_side_of_a_round_takes_all_its_turns(rt: HostRuntime) {
     let gate = Counted::new();
     fed.goes(&rt, "four rounds", &FOUR_ROUNDS, &gate);
     same(&rt, "four rounds", gate.seen(), (40_000, 40_000));
+}
+
+/// A gate that holds every message back, and counts the results of polls by their servers.
+#[derive(Drop)]
+struct ByServer {
+    first: AtomicU64,
+    second: AtomicU64,
+}
+
+impl Gate for ByServer {
+    fn before_send(&self, _server: u16, _number: u64) -> bool {
+        false
+    }
+
+    fn answered(&self, server: u16, _poll: Poll) {
+        if server == 0 {
+            self.first.fetch_add(1, Ordering::SeqCst);
+        } else if server == 1 {
+            self.second.fetch_add(1, Ordering::SeqCst);
+        }
+    }
+}
+
+#[test]
+fn each_poll_is_told_with_its_server(rt: HostRuntime) {
+    let servers = [(Mode::Soft, 2, 5), (Mode::Soft, 2, 5)];
+    let mut fed = Fed::new(&rt, rt.alloc(), &servers, 4, &[&[&[1]], &[&[2]]]);
+    let gate = ByServer {
+        first: AtomicU64::new(0),
+        second: AtomicU64::new(0),
+    };
+    fed.goes(&rt, "two servers", &ONE_ROUND, &gate);
+    let told = (
+        gate.first.load(Ordering::SeqCst),
+        gate.second.load(Ordering::SeqCst),
+    );
+    same(&rt, "two servers", told, (10, 10));
+}
+
+/// How often a sender looks whether the house has taken its turns, and how often it looks once more, until it has left.
+const LOOKS: u64 = 1_000_000_000;
+
+const LAST_LOOKS: u64 = 50_000_000;
+
+/// A gate that holds every message back. The first call of the sender waits until the house has taken all its turns.
+#[derive(Drop)]
+struct AfterTheHouse {
+    turns: u64,
+    asked: AtomicU64,
+    told: AtomicU64,
+}
+
+impl AfterTheHouse {
+    /// Looks so often, or until the house has taken so many turns.
+    fn look(&self, times: u64, turns: u64) {
+        for _look in 0..times {
+            if self.told.load(Ordering::SeqCst) >= turns {
+                return;
+            }
+        }
+    }
+}
+
+impl Gate for AfterTheHouse {
+    fn before_send(&self, _server: u16, _number: u64) -> bool {
+        if self.asked.fetch_add(1, Ordering::SeqCst) == 0 {
+            self.look(LOOKS, self.turns);
+            self.look(LAST_LOOKS, u64::MAX);
+        }
+        false
+    }
+
+    fn answered(&self, _server: u16, _poll: Poll) {
+        self.told.fetch_add(1, Ordering::SeqCst);
+    }
+}
+
+/// A runtime with the threads of another one, and a clock that only counts its sleeps.
+#[derive(Drop)]
+struct Napping<R> {
+    _threads: R,
+    naps: Naps,
+}
+
+impl<R: Threads> Threads for Napping<R> {}
+
+impl<R> Clock for Napping<R> {
+    fn monotonic(&self) -> io::Result<Duration> {
+        self.naps.monotonic()
+    }
+
+    fn since_1970(&self) -> io::Result<Duration> {
+        self.naps.since_1970()
+    }
+
+    fn sleep(&self, duration: Duration) {
+        self.naps.sleep(duration);
+    }
+}
+
+// The house sleeps as in 1600 idle turns of its own, and the sender not at all.
+#[test]
+fn a_sender_does_not_wait_for_a_house_that_has_left(rt: HostRuntime) {
+    let (mut house, mut feeds) = opened(&rt, rt.alloc(), &[(Mode::Soft, 2, 5)], 4, &[&[&[1]]]);
+    let gate = AfterTheHouse {
+        turns: 1600,
+        asked: AtomicU64::new(0),
+        told: AtomicU64::new(0),
+    };
+    let napping = Napping {
+        _threads: &rt,
+        naps: Naps::none(),
+    };
+    let round = serve_round(&napping, &mut house, &mut feeds, 1600, &gate);
+    same(&rt, "sent, took", (round.sent, round.took), (0, 0));
+    same(&rt, "sleeps", napping.naps.seen(), (12, 240, 1560));
 }
