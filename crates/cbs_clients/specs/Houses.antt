@@ -104,8 +104,8 @@ module _ {W A : Type 0} {g : Ghosts W} where
 
   -- The house made these steps. Each history that its core agreed with, followed by the steps, is one that its core
   -- agrees with now. The rings are the same, each server's messages among the steps were taken, and no result was
-  -- handed out. If all was on time, each step that takes nobody's time keeps all on time. If all was paced, each step that
-  -- advances quietly keeps all paced.
+  -- handed out. If all was on time, each step that takes nobody's time keeps all on time. If all was paced, each step
+  -- that advances quietly keeps all paced.
   pub record Made (work : Meaning W) (old new : House W A g) (xs : List (Step W)) : Type 0 where
     pub steps : Follows work (core_of old) (core_of new) xs
     pub keeps_time : AllAllowed work (KeepsTime work) (core_of old) xs
@@ -145,7 +145,8 @@ module _ {W A : Type 0} {g : Ghosts W} where
 
 module _ {W A : Type 0} {g : Ghosts W} where
   -- The house made some steps, each of which is allowed at its place, and the steps took n messages. No advance among
-  -- them took anybody's time. So from a house that is on time each step leaves all on time, and from a paced one all paced.
+  -- them took anybody's time. So from a house that is on time each step leaves all on time, and from a paced one all
+  -- paced.
   pub record Moves (work : Meaning W) (allowed : History W → Step W → Type 0) (old new : House W A g) (n : ℕ) : Type 0 where
     pub steps : List (Step W)
     pub made : Made work old new steps
