@@ -11,13 +11,14 @@ use Rattle.cbs_steps.specs.declared.reply.Ran.TheVariants as ran
 use Rattle.cbs_steps.specs.declared.step.Step.{Step}
 use Rattle.cbs_steps.specs.declared.step.Step.TheVariants.{Run}
 use Rattle.cbs_clients.specs.Calls.{RunOf, RunBy}
-use Rattle.cbs_clients.specs.Houses.{core_of, received, IsHouseOnTime, IsHousePaced, KeepsResults, Made, Collects, ComesTo, NamesJob}
+use Rattle.cbs_clients.specs.Houses.{core_of, received, IsHouseOnTime, KeepsResults, Made, Collects, ComesTo, NamesJob}
 use Rattle.cbs_host.specs.Meters.{NeverCharges}
 use Rattle.cbs_clients.specs.Meters.{ticks_charged, charge_steps, IsUnitPaid, IsRunPaid}
 use Rattle.cbs_clients.specs.declared.house.House.{House}
 use Rattle.cbs_clients.proofs.MadeSteps.{made_both}
 use Rattle.cbs_clients.proofs.Metered.{GaveUnit, unit_clock, charge_messages, never_paid}
 use Rattle.cbs_core.proofs.OnTimeCores.{step_kept, on_time_carried}
+use Rattle.cbs_clients.specs.Houses.{IsHousePaced}
 use Rattle.cbs_clients.proofs.PacedMoves.{made_paced, paid_quietly}
 use Rattle.cbs_steps.specs.History.{◌⊕◌}
 use Rattle.cbs_steps.specs.Quiet.{IsQuietAfter}

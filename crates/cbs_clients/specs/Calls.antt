@@ -80,8 +80,8 @@ module _ {W A : Type 0} {g : Ghosts W} where
     pub collects : Collects told old new
     pub job : NamesJob work told new
 
-  -- An advance by n makes this one step, and keeps a house on time, or paced, if it takes nobody's time. If the clock
-  -- would pass its end, the advance is refused, and nothing changed
+  -- An advance by n makes this one step, and keeps a house on time if it takes nobody's time. If the clock would pass
+  -- its end, the advance is refused, and nothing changed. It keeps a house paced, too, if it takes nobody's time
   pub record AdvanceOf (work : Meaning W) (n : ℕ) (old : House W A g) (answer : Result (Unit {0}) HouseError) (new : House W A g) : Type 0 where
     pub made : OnOk answer (Made work old new (step.Advance n ∷ []))
     pub on_time : ((M : History W) → Agrees work (core_of old) M → IsQuietAfter work M (step.Advance n)) → IsHouseOnTime old → IsHouseOnTime new

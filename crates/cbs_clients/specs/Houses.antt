@@ -8,6 +8,7 @@ use Rattle.cbs_core.specs.Held.{CoreHeld, held_at, IsOpen, Accepts, HasRoom, IsC
 use Rattle.cbs_steps.specs.History.{History}
 use Rattle.cbs_steps.specs.OnTime.{KeepsTime}
 use Rattle.cbs_steps.specs.Paced.{KeepsPace}
+use Rattle.cbs_core.specs.Agreement.{AllPaced}
 use Rattle.cbs_steps.specs.Quiet.{IsQuietAfter}
 use Rattle.cbs_steps.specs.declared.error.CoreError.{CoreError}
 use Rattle.cbs_steps.specs.declared.reply.Ran.{Ran}
@@ -25,7 +26,7 @@ use Rattle.cbs_clients.specs.Messages.{jobs_among}
 use Rattle.cbs_clients.specs.Meters.{AreMoves, all_steps}
 use Rattle.cbs_clients.specs.Rings.{rings_in, received_in, known_in, Ring}
 use Rattle.cbs_clients.specs.Steps.{messages_of, pops, MayServe}
-use Rattle.cbs_core.specs.Agreement.{Agrees, Follows, AllAllowed, AllOnTime, AllPaced}
+use Rattle.cbs_core.specs.Agreement.{Agrees, Follows, AllAllowed, AllOnTime}
 
 -- What a house has of one server. First the messages received and the messages that it knows to wait in the ring, each
 -- oldest first. Then how many results were handed out, and the results that are kept, in order.
