@@ -10,7 +10,7 @@ use Rattle.cbs_steps.specs.History.{Setup, History, faces, world_after, reply_in
 use Rattle.cbs_steps.specs.Laws.{account_in, IsWithinBudget}
 use Rattle.cbs_steps.specs.OnTime.{IsWorldOnTime}
 use Rattle.cbs_steps.specs.Lateness.{later_charges}
-use Rattle.cbs_steps.specs.Paced.{IsWorldPaced, AllFinishedLate}
+use Rattle.cbs_steps.specs.Paced.{AllFinishedLate}
 use Rattle.cbs_steps.specs.Promises.{promised, AllFinishedBy}
 use Rattle.cbs_steps.specs.Punctual.{IsPunctual}
 use Rattle.cbs_steps.specs.Quiet.{IsAtRest, IsIdleSpan, IsQuietAfter}
@@ -90,8 +90,8 @@ module _ {W A : Type 0} {g : Ghosts W} where
     pub charges : RunBy work (λ s n. tell begun s n new_meter) old told new
     pub unasked : IsSameUnlessUnit told begun new_meter
 
-  -- An advance by n makes this one step, and keeps a house on time, or paced, if it takes nobody's time. If the clock would pass
-  -- its end, the advance is refused, and nothing changed
+  -- An advance by n makes this one step, and keeps a house on time if it takes nobody's time. If the clock would pass
+  -- its end, the advance is refused, and nothing changed. It keeps a house paced, too, if it takes nobody's time
   pub record AdvanceOf (work : Meaning W) (n : ℕ) (old : House W A g) (answer : Result (Unit {0}) HouseError) (new : House W A g) : Type 0 where
     pub made : OnOk answer (Made work old new (step.Advance n ∷ []))
     pub on_time : ((M : History W) → Agrees work (core_of old) M → IsQuietAfter work M (step.Advance n)) → IsHouseOnTime old → IsHouseOnTime new
@@ -102,8 +102,8 @@ module _ {W A : Type 0} {g : Ghosts W} where
     pub end : (M : History W) → Agrees work (core_of old) M
         → MatchResult answer (λ _. (world_after work M).now + n ≤ clock_end) (λ _. clock_end < (world_after work M).now + n)
 
-  -- A charge of a server makes this one step, which leaves every job, and keeps a house paced. If the core refuses it, the charge is refused by
-  -- that reason, and nothing changed
+  -- A charge of a server makes this one step, which leaves every job, and keeps a house paced. If the core refuses it,
+  -- the charge is refused by that reason, and nothing changed
   pub record ChargeOf (work : Meaning W) (server ticks : ℕ) (old : House W A g) (answer : Result (Unit {0}) HouseError) (new : House W A g) : Type 0 where
     pub made : OnOk answer (Made work old new (step.Charge server ticks ∷ []))
     pub paced : IsHousePaced old → IsHousePaced new
@@ -155,16 +155,16 @@ module _ {W A : Type 0} {g : Ghosts W} where
       → MatchOption span (¬ IsAtRest work (world_after work M)) (IsIdleSpan work (world_after work M))
 
   -- The result is what server s shows, or that there is no such server. If all is on time, the deadline of a ready
-  -- server is still to come. If all is paced, it has passed by less than the servers with later deadlines were charged,
-  -- the most of each for one unit.
+  -- server is still to come. If the house is paced, it has passed by less than the servers with later deadlines were
+  -- charged, the most of each for one unit.
   pub record ViewOf (work : Meaning W) (s : ℕ) (h : House W A g) (answer : Result ServerView HouseError) : Type 0 where
     pub view : (M : History W) → Agrees work (core_of h) M → answer ≡ told_answer (view_reply (slice_get (faces work (world_after work M)) s))
     pub early : (M : History W) → Agrees work (core_of h) M → IfOk answer (λ v. let now = (world_after work M).now in v.deadline ≤ now + (now + 1) * longest_period)
     pub budget : (M : History W) → Agrees work (core_of h) M → OnOk answer (IsWithinBudget (face_at (faces work (world_after work M)) s))
     pub in_time : (M : History W) → Agrees work (core_of h) M → IsWorldOnTime work (world_after work M)
         → IfOk answer (λ v. v.finished < v.accepted → v.throttled ≡ false → (world_after work M).now < v.deadline)
-    pub late_by : (M : History W) → Agrees work (core_of h) M → (let w = world_after work M in
-        IsWorldPaced work w → IfOk answer (λ v. v.finished < v.accepted → v.throttled ≡ false → w.now < v.deadline + later_charges v.deadline w.accounts))
+    pub late_by : IsHousePaced h → (M : History W) → Agrees work (core_of h) M → (let w = world_after work M in
+        IfOk answer (λ v. v.finished < v.accepted → v.throttled ≡ false → w.now < v.deadline + later_charges v.deadline w.accounts))
 
   -- the result is what server s was charged, or that there is no such server
   abbrev pub ChargesOf : Meaning W → ℕ → House W A g → Result Charges HouseError → Type 0

@@ -8,7 +8,7 @@ use Rattle.cbs_core.specs.Held.{CoreHeld, held_at, IsOpen, Accepts, HasRoom, IsC
 use Rattle.cbs_steps.specs.History.{History}
 use Rattle.cbs_steps.specs.OnTime.{KeepsTime}
 use Rattle.cbs_steps.specs.Paced.{KeepsPace}
-use Rattle.cbs_steps.specs.Quiet.{IsQuietAfter}
+use Rattle.cbs_steps.specs.Quiet.{IsQuietAfter, IsQuietAdvanceAfter}
 use Rattle.cbs_steps.specs.declared.error.CoreError.{CoreError}
 use Rattle.cbs_steps.specs.declared.reply.Ran.{Ran}
 use Rattle.cbs_steps.specs.declared.reply.Ran.TheVariants as ran
@@ -26,7 +26,6 @@ use Rattle.cbs_clients.specs.Meters.{AreMoves, all_steps}
 use Rattle.cbs_clients.specs.Rings.{rings_in, received_in, known_in, Ring}
 use Rattle.cbs_clients.specs.Steps.{messages_of, pops, MayServe}
 use Rattle.cbs_core.specs.Agreement.{Agrees, Follows, AllAllowed, AllOnTime, AllPaced}
-use Rattle.cbs_steps.specs.Quiet.{IsQuietAdvanceAfter}
 
 -- What a house has of one server. First the messages received and the messages that it knows to wait in the ring, each
 -- oldest first. Then how many results were handed out, and the results that are kept, in order.
@@ -105,8 +104,8 @@ module _ {W A : Type 0} {g : Ghosts W} where
 
   -- The house made these steps. Each history that its core agreed with, followed by the steps, is one that its core
   -- agrees with now. The rings are the same, each server's messages among the steps were taken, and no result was
-  -- handed out. If all was on time, each step that takes nobody's time keeps all on time. If all was paced, each step that
-  -- advances quietly keeps all paced.
+  -- handed out. If all was on time, each step that takes nobody's time keeps all on time. If all was paced, each step
+  -- that advances quietly keeps all paced.
   pub record Made (work : Meaning W) (old new : House W A g) (xs : List (Step W)) : Type 0 where
     pub steps : Follows work (core_of old) (core_of new) xs
     pub keeps_time : AllAllowed work (KeepsTime work) (core_of old) xs
@@ -146,7 +145,8 @@ module _ {W A : Type 0} {g : Ghosts W} where
 
 module _ {W A : Type 0} {g : Ghosts W} where
   -- The house made some steps, each of which is allowed at its place, and the steps took n messages. No advance among
-  -- them took anybody's time. So from a house that is on time each step leaves all on time, and from a paced one all paced.
+  -- them took anybody's time. So from a house that is on time each step leaves all on time, and from a paced one all
+  -- paced.
   pub record Moves (work : Meaning W) (allowed : History W → Step W → Type 0) (old new : House W A g) (n : ℕ) : Type 0 where
     pub steps : List (Step W)
     pub made : Made work old new steps

@@ -300,6 +300,10 @@ impl<W: Work, A: Allocator> House<W, A> {
     /// The tick is kept if all servers are on time now, and no advance and no charge to come takes anybody's time. A
     /// house is on time when it is opened. Each call keeps it on time, except an [`advance`](House::advance) while a
     /// server is ready, and a [`charge`](House::charge). Calls with a meter make charges.
+    ///
+    /// With charges the jobs are finished by a later tick, if no advance before or after took anybody's time. It is
+    /// later by a period for each budget's ticks that this server is charged from now on. It is also later by the most
+    /// that each other server was charged for one unit, added up.
     pub fn promised(&self, server: u16) -> Option<u128>
         ensures { PromiseOf W.meaning server self.now result }
     {

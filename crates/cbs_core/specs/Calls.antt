@@ -14,8 +14,8 @@ use Rattle.cbs_core.specs.Held.{CoreHeld, KeepsBudgets}
 module _ {W : Type 0} where
   -- The step x, with reply r, led from the old core to the new. For every history that the old core agrees with, r is
   -- the rules' reply to x after it. The new core agrees with that history and x. If all was on time, and x takes
-  -- nobody's time, all stays on time. If all was paced, and x advances quietly, all stays paced, whatever x charges. The
-  -- number of servers is the same, and each budget is at most the budget of its reservation.
+  -- nobody's time, all stays on time. If all was paced, and x advances quietly, all stays paced, whatever x charges.
+  -- The number of servers is the same, and each budget is at most the budget of its reservation.
   pub record Makes (work : Meaning W) (old new : CoreHeld W) (x : Step W) (r : Reply W) : Type 0 where
     pub reply : (M : History W) → Agrees work old M → r ≡ reply_in work M x
     pub state : (M : History W) → Agrees work old M → Agrees work new (M ⊕ x)

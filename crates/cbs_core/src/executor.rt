@@ -10,7 +10,7 @@ ghost use Rattle.cbs_steps.specs.Replies.{submitted, advanced, closed, charged, 
 ghost use Rattle.cbs_steps.specs.Laws.{account_in, completion_in, completion_of, completions_of, Completes, NoneAfterClose, IsWithinBudget};
 ghost use Rattle.cbs_steps.specs.Lateness.{later_charges};
 ghost use Rattle.cbs_steps.specs.OnTime.{IsWorldOnTime};
-ghost use Rattle.cbs_steps.specs.Paced.{IsWorldPaced, AllFinishedLate};
+ghost use Rattle.cbs_steps.specs.Paced.{AllFinishedLate};
 ghost use Rattle.cbs_steps.specs.Promises.{promised, AllFinishedBy};
 ghost use Rattle.cbs_steps.specs.Punctual.{IsPunctual};
 ghost use Rattle.cbs_steps.specs.Setups.{terms_of, new_refusal};
@@ -381,8 +381,9 @@ impl<W: Work, A: Allocator> Core<W, A> {
             → IfOk result (λ view. view.finished < view.accepted → view.throttled ≡ false → w.now < view.deadline)) }
 
         // With charges: late by less than those with later deadlines were charged, the most of each for one unit.
-        ensures late_by { TellsOf W.meaning self.now (λ w. IsWorldPaced W.meaning w → IfOk result (λ view. view.finished < view.accepted
-            → view.throttled ≡ false → w.now < view.deadline + later_charges view.deadline w.accounts)) }
+        ensures late_by { IsCorePaced self.now → TellsOf W.meaning self.now (λ w. IfOk result (λ view.
+            view.finished < view.accepted → view.throttled ≡ false
+            → w.now < view.deadline + later_charges view.deadline w.accounts)) }
     {
         self.servers.view(server)
     }
@@ -421,7 +422,8 @@ impl<W: Work, A: Allocator> Core<W, A> {
     pub fn promised(&self, server: u16) -> Option<u128>
         ensures value { TellsOf W.meaning self.now (λ w. result ≡ promised W.meaning (account w.accounts server)) }
         ensures kept { IsCoreOnTime self.now → IfSome result (λ tick. (M : History W) → Agrees W.meaning self.now M → AllFinishedBy W.meaning M server tick) }
-        ensures kept_charged { IsCorePaced self.now → IfSome result (λ tick. (M : History W) → Agrees W.meaning self.now M → AllFinishedLate W.meaning M server tick) }
+        ensures kept_charged { IsCorePaced self.now → IfSome result (λ tick. (M : History W)
+            → Agrees W.meaning self.now M → AllFinishedLate W.meaning M server tick) }
     {
         if server >= self.servers.len() {
             return None;

@@ -1,6 +1,6 @@
 -- Worked examples of charges, computed from the definitions: states, the bound on lateness, refusals, promises, shares
 -- and due ticks. A job is the number of its units.
-use Rattle.std.proofs.Common.{◌≡◌, ℕ, ◌+◌, ◌-◌, ◌*◌, Bool, List, [], ◌∷◌, refl, true, false, Option, Some}
+use Rattle.std.proofs.Common.{◌≡◌, ℕ, ◌+◌, ◌-◌, ◌*◌, Bool, List, [], ◌∷◌, map, arith, refl, true, false, Option, Some}
 use Rattle.std.specs.List.{sum_by}
 use Rattle.cbs_job.specs.Work.{Meaning}
 use Rattle.cbs_rules.specs.Rules.{State, Terms}
@@ -11,6 +11,7 @@ use Rattle.cbs_steps.specs.Charged.{Due, due_tick, charged_due}
 use Rattle.cbs_steps.specs.History.{Setup, World, ticks, account, faces, after, reply_to}
 use Rattle.cbs_steps.specs.Lateness.{later_charges}
 use Rattle.cbs_steps.specs.OnTime.{demand, is_late}
+use Rattle.cbs_steps.specs.Paced.{pace_of, asked, held_up, IsWorldPaced}
 use Rattle.cbs_steps.specs.Promises.{promised}
 use Rattle.cbs_steps.specs.Quiet.{AdvanceQuietly}
 use Rattle.cbs_steps.specs.StrictlyOnTime.{strict_demand}
@@ -133,6 +134,31 @@ halves_late = refl
 bound_met_equally : lateness halves long_unit 1 ≡ 3 ∷ 2 ∷ 2 ∷ []
 unfolding ticks
 bound_met_equally = refl
+
+-- what all servers ask for up to tick x, and the time gone, and beside it x with what may have held them up: both in
+-- parts of a tick
+abbrev paces : List Terms → List (Step ℕ) → ℕ → ℕ → List ℕ
+paces servers M parts x =
+    let w = world servers M in
+    let ps = map (pace_of units) w.accounts in
+    (sum_by (asked parts w.now x) ps + w.now * parts) ∷ ((x + sum_by (held_up x) ps) * parts) ∷ []
+
+-- Up to its deadline, 2, the second one asks for its budget of 1, at tick 3, and the first may have held it up by 2. So
+-- nothing is to spare: in parts, of which a tick has two, 2 * (1 + 3) is 2 * (2 + 2).
+paced_to_the_tick : paces halves long_unit 2 2 ≡ 8 ∷ 8 ∷ []
+unfolding ticks
+paced_to_the_tick = refl
+
+-- An advance while a server is ready leaves what is not paced: a server of 1 in 10 asks for its budget by 10, at tick 20.
+abbrev loud : List (Step ℕ)
+loud = Advance 20 ∷ Submit 0 1 ∷ []
+
+abbrev soft_tenth : List Terms
+soft_tenth = server Soft 1 10 ∷ []
+
+not_paced : ¬ IsWorldPaced units (world soft_tenth loud)
+unfolding ticks
+not_paced on = let b = on.within 10 (omega arith) in absurd (omega arith)
 
 -- three servers of 1 in 4; a unit of the first is charged 2, and then one of the second 4
 abbrev quarters : List Terms

@@ -38,9 +38,9 @@ pub fn promised_after_turns<W: Work>(
     Ok((house, tick))
 }
 
-/// Opens a house, which takes `turns` turns, and then charges `ticks` ticks for the last unit. Returns the house with the
-/// tick by which all jobs that server 0 then has are finished, but for charges. The tick is `None` if the server has no
-/// job.
+/// Opens a house, which takes `turns` turns, and then charges `ticks` ticks for the last unit. Returns the house with
+/// the tick by which all jobs that server 0 then has are finished, but for charges. The tick is `None` if the server
+/// has no job.
 ///
 /// Refuses as [`open_house`] and [`House::charge`] do.
 pub fn promised_after_charge<W: Work>(
@@ -51,7 +51,8 @@ pub fn promised_after_charge<W: Work>(
     ticks: u64,
 ) -> Result<(House<W>, Option<u128>), HouseError>
     requires { length modes ≡ length plan.rates }
-    ensures { IfOk result (λ r. IfSome r.1 (λ tick. (M : History W) → Agrees W.meaning (core_of r.0) M → AllFinishedLate W.meaning M 0 tick)) }
+    ensures { IfOk result (λ r. IfSome r.1 (λ tick. (M : History W)
+        → Agrees W.meaning (core_of r.0) M → AllFinishedLate W.meaning M 0 tick)) }
 {
     let (mut house, _clients) = open_house(alloc, plan, modes, 4, 4)?;
     for _ in 0..turns {
