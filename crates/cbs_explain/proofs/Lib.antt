@@ -1,1 +1,4 @@
+mod Helps
+mod Laid
+mod Pages
 mod Words

@@ -2,7 +2,7 @@
 
 ghost use Rattle.std.specs.Prelude.{◌≡◌, ℕ, IfOk, MatchOption, string_bytes};
 ghost use Rattle.cbs_rate.specs.Room.{IsLeastPeriod};
-ghost use Rattle.cbs_explain.specs.Over.{TellsGreatest, TellsLeast};
+ghost use Rattle.cbs_explain.specs.Over.{TellsGreatest, TellsLeast, AppendsHelp, AppendsLeast};
 
 use crate::page::Page;
 use cbs_findings::{Document, Fraction, Percent, Refused, Spot, reservations};
@@ -78,8 +78,9 @@ fn greatest_words(alloc: Global, plan: &Plan, period: u64) -> Result<String, All
     if budget == 0 {
         return format!(in alloc; "at period {period} no budget fits");
     }
-    let words =
-        format!(in alloc; "at period {period} a budget of {budget} fits, and no greater one")?;
+    let words = format!(in alloc;
+        "at period {period} a budget of {budget} fits, and no greater one"
+    )?;
     Ok(words)
 }
 
@@ -98,15 +99,23 @@ fn least_words(alloc: Global, plan: &Plan, budget: u64) -> Result<Option<String>
 }
 
 /// Appends the greatest budget at this period.
-fn append_greatest(page: &mut Page, refused: &Refused) {
+fn append_greatest(page: &mut Page, refused: &Refused)
+    ensures { AppendsHelp page.old page.new
+        (TellsGreatest refused.now.plan refused.now.reservation.period) }
+{
     let words = greatest_words(page.alloc, &refused.plan, refused.reservation.period());
     page.push_note(MARGIN, "help", words);
 }
 
 /// Appends the least period for this budget, if there is one.
-fn append_least(page: &mut Page, refused: &Refused) {
+fn append_least(page: &mut Page, refused: &Refused)
+    ensures { AppendsLeast page.old page.new refused.now.plan refused.now.reservation.budget }
+{
     let words = least_words(page.alloc, &refused.plan, refused.reservation.budget());
-    if let Some(Some(words)) = page.accept(words) {
+    let Some(words) = page.accept(words) else {
+        return;
+    };
+    if let Some(words) = words {
         page.push_note(MARGIN, "help", Ok(words));
     }
 }

@@ -1,5 +1,9 @@
 //! A text that is put together, in lines as rustc and cargo lay them out.
 
+ghost use Rattle.std.specs.Prelude.{◌≡◌, ◌+◌, ◌++◌, ◌≤◌, Bool, true, false, [], List, ℕ, codes, decimal, map, IfOk, MatchResult, MatchOption, Some, None, string_bytes};
+ghost use Rattle.std.specs.List.{concat};
+ghost use Rattle.cbs_explain.specs.Pages.{Appends, times, words_of, spaced, IsLaid, AppendsNote};
+
 use cbs_findings::Spot;
 use cbs_tables::FileKind;
 use cbs_text::append_pair;
@@ -20,7 +24,9 @@ pub(crate) struct Page {
 
 impl Page {
     /// Returns an empty page.
-    pub(crate) fn new(alloc: Global) -> Page {
+    pub(crate) fn new(alloc: Global) -> Page
+        ensures { (result.failed ≡ false) × (string_bytes result.text ≡ []) }
+    {
         Page {
             alloc,
             text: String::new(alloc),
@@ -37,12 +43,18 @@ impl Page {
     }
 
     /// Notes that the page is out of memory.
-    pub(crate) fn fail(&mut self) {
+    pub(crate) fn fail(&mut self)
+        ensures { self.new.failed ≡ true }
+    {
         self.failed = true;
     }
 
     /// Returns what was made for the page, or `None` if that is out of memory. Then the page fails, too.
-    pub(crate) fn accept<T>(&mut self, made: Result<T, AllocError>) -> Option<T> {
+    pub(crate) fn accept<T>(&mut self, made: Result<T, AllocError>) -> Option<T>
+        ensures { MatchResult made
+            (λ value. (result ≡ Some value) × (self.new ≡ self.old))
+            (λ _. (result ≡ None) × (self.new.failed ≡ true)) }
+    {
         match made {
             Ok(value) => Some(value),
             Err(AllocError) => {
@@ -53,28 +65,36 @@ impl Page {
     }
 
     /// Appends a text.
-    pub(crate) fn push(&mut self, part: &str) {
+    pub(crate) fn push(&mut self, part: &str)
+        ensures { Appends self.old self.new part.now }
+    {
         if !self.failed {
             self.failed = self.text.push_str(part).is_err();
         }
     }
 
     /// Appends texts, one after another.
-    pub(crate) fn push_all(&mut self, parts: &[&str]) {
+    pub(crate) fn push_all(&mut self, parts: &[&str])
+        ensures { Appends self.old self.new (concat (map (λ part. part.now) parts.now)) }
+    {
         for part in parts {
             self.push(part);
         }
     }
 
     /// Appends a text this many times.
-    fn push_times(&mut self, part: &str, count: usize) {
+    fn push_times(&mut self, part: &str, count: usize)
+        ensures { Appends self.old self.new (times count part.now) }
+    {
         for _time in 0..count {
             self.push(part);
         }
     }
 
     /// Appends words, and a number after them.
-    pub(crate) fn push_number(&mut self, words: &str, number: u64) {
+    pub(crate) fn push_number(&mut self, words: &str, number: u64)
+        ensures { Appends self.old self.new (words.now ++ decimal number) }
+    {
         if !self.failed {
             self.failed = append_pair(&mut self.text, words, number).is_err();
         }
@@ -130,14 +150,19 @@ impl Page {
         self.push_times("^", count.max(1));
     }
 
-    /// Appends a word at a column, or on a new line if it does not fit. Returns the column after the word.
-    fn push_word(&mut self, indent: usize, column: usize, word: &str) -> usize {
+    /// Appends a word at a column, or on a new line if it does not fit. The first word has no column, and nothing
+    /// before it. Returns the column after the word.
+    fn push_word(&mut self, indent: usize, column: Option<usize>, word: &str) -> usize
+        ensures { MatchOption column
+            (Appends self.old self.new word.now)
+            (λ _. (breaks : Bool) × Appends self.old self.new (spaced indent (breaks, word.now))) }
+    {
         let width = word.chars().count();
-        let after = column.saturating_add(width);
-        if column == indent {
+        let Some(column) = column else {
             self.push(word);
-            return after;
-        }
+            return indent.saturating_add(width);
+        };
+        let after = column.saturating_add(width);
         if after < COLUMNS {
             self.push_all(&[" ", word]);
             return after.saturating_add(1);
@@ -149,22 +174,30 @@ impl Page {
     }
 
     /// Appends a note or a help with these words, in lines of at most [`COLUMNS`] columns.
-    pub(crate) fn push_note(
-        &mut self,
-        margin: usize,
-        kind: &str,
-        words: Result<String, AllocError>,
-    ) {
+    pub(crate) fn push_note(&mut self, margin: usize, kind: &str, words: Result<String, AllocError>)
+        requires { margin ≤ 80 }
+        ensures { MatchResult words
+            (λ words. AppendsNote margin kind.now self.old self.new (string_bytes words))
+            (λ _. self.new.failed ≡ true) }
+    {
         let Some(words) = self.accept(words) else {
             return;
         };
-        let indent = margin.saturating_add(kind.len()).saturating_add(4);
-        let mut column = indent;
+        let indent = margin + kind.len() + 4;
         self.push_times(" ", margin);
         self.push_all(&["= ", kind, ": "]);
-        for word in words.split(' ') {
-            column = self.push_word(indent, column, word);
-        }
+        self.push_words(indent, &words);
         self.push("\n");
+    }
+
+    /// Appends the words of a text, in lines of at most [`COLUMNS`] columns, each but the first after `indent` blanks.
+    fn push_words(&mut self, indent: usize, text: &str)
+        ensures { self.new.failed ≡ false → (laid : List ℕ) × IsLaid indent (words_of text.now) laid
+            × (self.old.failed ≡ false) × (string_bytes self.new.text ≡ string_bytes self.old.text ++ laid) }
+    {
+        let mut column = None;
+        for word in text.split(' ') {
+            column = Some(self.push_word(indent, column, word));
+        }
     }
 }
