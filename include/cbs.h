@@ -254,9 +254,11 @@ uint32_t cbs_idle_span(struct cbs_handle *house, uint64_t *out);
 /* Writes what a server shows. Refuses by CBS_HOUSE_NO_SUCH_SERVER. */
 uint32_t cbs_view(struct cbs_handle *house, uint16_t server, struct cbs_shown *out);
 
-/* Writes the tick by which all that a server has taken is finished, whatever the others ask for: 128 bits. It is kept if
- * nothing was charged, and no advance took anybody's time, before the call or after it. An advance while somebody is ready
- * takes time, and so does a charge: the tick may then have passed already. Both halves are UINT64_MAX if nothing is unfinished. Refuses by CBS_HOUSE_NO_SUCH_SERVER. */
+/* Writes the tick by which all that a server has taken is finished, whatever the others ask for: 128 bits. It is kept if no
+ * advance took anybody's time, before the call or after it, and nothing was charged. An advance while somebody is ready takes
+ * time: the tick may then have passed already. With charges it is kept later: by a period of the server for each budget's ticks
+ * that the server is charged after the call, and by the most that each other server was charged for one unit, added up.
+ * Both halves are UINT64_MAX if nothing is unfinished. Refuses by CBS_HOUSE_NO_SUCH_SERVER. */
 uint32_t cbs_promised(struct cbs_handle *house, uint16_t server, uint64_t *low, uint64_t *high);
 
 /* ---- Of a client: by one thread at a time, beside calls on the house and on other clients ---- */

@@ -391,8 +391,12 @@ impl<T> House<T> {
         })
     }
 
-    /// Returns the tick by which all that a server has taken is finished, whatever the others ask for, as long as no advance
-    /// takes anybody's time and nothing is charged; `None` if nothing is unfinished.
+    /// Returns the tick by which all that a server has taken is finished, whatever the others ask for; `None` if nothing is
+    /// unfinished.
+    ///
+    /// The tick is kept if no advance takes anybody's time, before the call or after it, and nothing is charged. With charges
+    /// it is kept later: by a period of the server for each budget's ticks that the server is charged after the call, and by
+    /// the most that each other server was charged for one unit, added up.
     ///
     /// # Errors
     ///
