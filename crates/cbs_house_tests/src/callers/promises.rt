@@ -81,3 +81,24 @@ pub fn told_after_turns(
     }
     calls::promised(house, 0)
 }
+
+/// Opens a house in a handle, which takes `turns` turns, and then charges server 0 `ticks` ticks for its last unit.
+/// Returns the tick by which all jobs that server 0 then has are finished, but for charges, or `None` if it has no job.
+pub fn told_after_charge(
+    alloc: Global,
+    servers: &[Server],
+    house: &mut Handle,
+    clients: &mut [Handle],
+    turns: u64,
+    ticks: u64,
+) -> Result<Option<u128>, Refusal>
+    ensures { IfOk result (λ told. (h : TheHouse) → held_by house.new ≡ Some (held.House h)
+        → IfSome told (λ tick. (M : History job.UnitJob) → Agrees counting (core_of h) M → AllFinishedLate counting M 0 tick)) }
+{
+    open(alloc, servers, 4, 4, house, clients)?;
+    for _ in 0..turns {
+        calls::turn(house)?;
+    }
+    calls::charge(house, 0, ticks)?;
+    calls::promised(house, 0)
+}

@@ -1,0 +1,7 @@
+use Rattle.cbs_clients.specs.Houses.{IsHousePaced}
+use Rattle.cbs_embed.specs.Handles.{held_by}
+use Rattle.cbs_house_tests.proofs.HeldHouses.{IsHeld}
+use Rattle.cbs_house_tests.proofs.callers.promises.told_after_charge.Given as goal
+
+abbrev pub invariant-loop : goal.invariant-loop
+invariant-loop l = IsHeld (λ h. IsHousePaced h) (held_by l.house)
