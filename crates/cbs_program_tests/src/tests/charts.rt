@@ -132,7 +132,6 @@ fn a_chart_by_hand(rt: HostRuntime) -> Result<(), Fail> {
     same(&rt, "arrivals", server.arrivals.len(), 0);
     // The job ends with the charge for its last unit.
     same(&rt, "completions", server.completions.as_slice(), &[14]);
-    same(&rt, "finish", server.jobs[0].finish, Some(14));
     same(&rt, "deadlines", server.deadlines.as_slice(), &[11]);
     same(&rt, "opening", server.opening, 1);
     same(&rt, "runs", Counts::of(&server.spans, 2, 20).runs, 2);
