@@ -7,6 +7,9 @@ use Rattle.std.proofs.lemmas.Bool.Decides.{nat_tests}
 use Rattle.rand_pcg.specs.Lcg.{Lcg}
 use Rattle.cbs_lists.proofs.Lists.{AllByRecursion-weaker}
 use Rattle.cbs_simulate.specs.Drawing.{drawn, release_of, released, released_by, released_by_all}
+use Rattle.cbs_simulate.specs.Ordering.{order_from, order_merged}
+use Rattle.cbs_simulate.specs.Releases.{IsInOrder}
+use Rattle.cbs_simulate.specs.SourceOrder.{ordered_released}
 use Rattle.cbs_simulate.specs.Merging.{put, put_all, merged}
 use Rattle.cbs_simulate.specs.declared.release.Release.{Release}
 use Rattle.cbs_simulate.specs.declared.terms.SourceTerms.{SourceTerms}
@@ -132,3 +135,13 @@ pub least_at : (ts : List SourceTerms) (j : ℕ) (t : SourceTerms) → slice_get
 least_at [] j t e = cc
 least_at (u ∷ ts) zero t e = let same : u ≡ t = cc in ap (λ (v : SourceTerms). v.every.least) same
 least_at (u ∷ ts) (suc j) t e = least_at ts j t e
+
+-- the releases of each source are in order
+pub each_ordered : (until seed first : ℕ) (ts : List SourceTerms) → AllByRecursion (IsInOrder 0) (released_by_all first ts until seed)
+each_ordered until seed first [] = tt
+each_ordered until seed first (t ∷ ts) =
+    (order_from 0 t.first (released_by first t until seed) (omega arith) (ordered_released first t until _ t.first _), each_ordered until seed (first + 1) ts)
+
+-- so are all releases
+pub all_in_order : (until seed first : ℕ) (ts : List SourceTerms) → IsInOrder 0 (merged (released_by_all first ts until seed))
+all_in_order until seed first ts = order_merged 0 (released_by_all first ts until seed) (each_ordered until seed first ts)
