@@ -280,12 +280,12 @@ module _ (until : ℕ) (ends : until ≤ clock_end) (s : ℕ) (released of place
   kept_move since sim run given well h =
       let w = world_after loading sim.history in
       let rest = other_rest since sim given h run refl
-      (run_same count (λ a. refl) (λ now a. refl) (λ a. refl) (λ n a. refl) sim.history.setup.backlog w s) refl in
+      (run_same count (λ now a. refl) (λ a. refl) (λ a. refl) sim.history.setup.backlog w s) refl in
       record {
         going = well.going;
         soon = omega arith;
         bounded = bounded_move b until ends since sim run well h.bounded;
-        free = run_same shut (λ a. refl) (λ now a. refl) (λ a. refl) (λ n a. refl) sim.history.setup.backlog w s ∙ h.free;
+        free = run_same shut (λ now a. refl) (λ a. refl) (λ a. refl) sim.history.setup.backlog w s ∙ h.free;
         quiet = (h.quiet, well.quiet);
         are = (h.are, tt);
         jobs = rest.0;
@@ -296,12 +296,12 @@ module _ (until : ℕ) (ends : until ≤ clock_end) (s : ℕ) (released of place
   kept_move since sim (pass n) given well h =
       let w = world_after loading sim.history in
       let rest = other_rest since sim given h (pass n) refl
-      (advance_same count (λ a. refl) (λ now a. refl) (λ a. refl) (λ n a. refl) sim.history.setup.backlog w n s) refl in
+      (advance_same count (λ now a. refl) (λ a. refl) sim.history.setup.backlog w n s) refl in
       record {
         going = well.going;
         soon = omega arith;
         bounded = bounded_move b until ends since sim (pass n) well h.bounded;
-        free = advance_same shut (λ a. refl) (λ now a. refl) (λ a. refl) (λ n a. refl) sim.history.setup.backlog w n s ∙ h.free;
+        free = advance_same shut (λ now a. refl) (λ a. refl) sim.history.setup.backlog w n s ∙ h.free;
         quiet = (h.quiet, well.quiet);
         are = (h.are, tt);
         jobs = rest.0;
@@ -312,7 +312,7 @@ module _ (until : ℕ) (ends : until ≤ clock_end) (s : ℕ) (released of place
   kept_move since sim (charge t n) given well h =
       let w = world_after loading sim.history in
       let rest = other_rest since sim given h (charge t n) refl
-      (charge_same count (λ a. refl) (λ now a. refl) (λ a. refl) (λ n a. refl) sim.history.setup.backlog w t n s) refl in
+      (charge_same count (λ now a. refl) (λ a. refl) (λ n a. refl) sim.history.setup.backlog w t n s) refl in
       let less = (charge_bounded b until sim t n well.charges h.bounded).0 in
       let most = given.most t in
       let none = granted_none (charge_refusal w t n) well.charges.granted in
@@ -321,7 +321,7 @@ module _ (until : ℕ) (ends : until ≤ clock_end) (s : ℕ) (released of place
         going = well.going;
         soon = omega arith;
         bounded = bounded_move b until ends since sim (charge t n) well h.bounded;
-        free = charge_same shut (λ a. refl) (λ now a. refl) (λ a. refl) (λ n a. refl) sim.history.setup.backlog w t n s ∙ h.free;
+        free = charge_same shut (λ now a. refl) (λ a. refl) (λ n a. refl) sim.history.setup.backlog w t n s ∙ h.free;
         quiet = (h.quiet, well.quiet);
         are = (h.are, tt);
         jobs = rest.0;

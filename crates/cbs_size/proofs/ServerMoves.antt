@@ -23,44 +23,47 @@ use Rattle.cbs_simulate.specs.Loading.{loading}
 use Rattle.cbs_simulate.specs.declared.load_job.LoadJob.{LoadJob}
 use Rattle.cbs_simulate.proofs.Clocks.{charge-now}
 
--- a part of each account that units, replenishments, charges and letting go keep
-module _ {X : Type 0} (g : Account LoadJob → X) (unit : (a : Account LoadJob) → g (account_with_unit a) ≡ g a)
-    (fill : (now : ℕ) (a : Account LoadJob) → g (account_with_replenishment now a) ≡ g a)
-    (loose : (a : Account LoadJob) → g (account_let_go a) ≡ g a) (charged : (n : ℕ) (a : Account LoadJob) → g (account_with_charge n a) ≡ g a) where
+-- a part of each account that replenishments and letting go keep
+module _ {X : Type 0} (g : Account LoadJob → X) (fill : (now : ℕ) (a : Account LoadJob) → g (account_with_replenishment now a) ≡ g a)
+    (loose : (a : Account LoadJob) → g (account_let_go a) ≡ g a) where
   same_at : (xs ys : List (Account LoadJob)) (s : ℕ) → map g ys ≡ map g xs → g (account ys s) ≡ g (account xs s)
   same_at xs ys s e = sym (get_or-map g ys s no_account) ∙ ap (λ l. get_or l s (g no_account)) e ∙ get_or-map g xs s no_account
-
-  after_run_same : (w : World LoadJob) (o : Option ℕ) → map g (after_run w o).accounts ≡ map g w.accounts
-  after_run_same w None = refl
-  after_run_same w (Some t) = map_kept g (account_with_replenishment (w.now + 1)) (changed_at account_with_unit (let_go w).accounts t) (fill (w.now + 1))
-      ∙ changed_kept g account_with_unit (let_go w).accounts t unit ∙ map_kept g account_let_go w.accounts loose
 
   after_advance_same : (w : World LoadJob) (n : ℕ) → map g (after_advance w n).accounts ≡ map g w.accounts
   after_advance_same w zero = refl
   after_advance_same w (suc n) = rw (advance_jumps w (suc n) (omega arith))
       (map_kept g (account_with_replenishment (w.now + suc n)) (let_go w).accounts (fill (w.now + suc n)) ∙ map_kept g account_let_go w.accounts loose)
 
-  after_charging_same : (w : World LoadJob) (t n : ℕ) (o : Option CoreError) → map g (after_charging w t n o).accounts ≡ map g w.accounts
-  after_charging_same w t zero None = refl
-  after_charging_same w t zero (Some e) = refl
-  after_charging_same w t (suc n) (Some e) = refl
-  after_charging_same w t (suc n) None = rw (charge_jumps w t (suc n) (omega arith))
-      (map_kept g (account_with_replenishment (w.now + suc n)) (changed_at (account_with_charge (suc n)) w.accounts t) (fill (w.now + suc n))
-      ∙ changed_kept g (account_with_charge (suc n)) w.accounts t (charged (suc n)))
-
-  -- so it is kept by each step of a simulation that is no submit
-  pub run_same : (backlog : ℕ) (w : World LoadJob) (s : ℕ) → g (account (next loading backlog w Run).accounts s) ≡ g (account w.accounts s)
-  run_same backlog w s = same_at w.accounts (next loading backlog w Run).accounts s (after_run_same w (runner loading w))
-
+  -- an advance keeps it
   pub advance_same : (backlog : ℕ) (w : World LoadJob) (n s : ℕ) → g (account (next loading backlog w (Advance n)).accounts s) ≡ g (account w.accounts s)
   advance_same backlog w n s = elim (cases_Bool (leb (w.now + n) clock_end)) [
     | inl t ↦ rw t (same_at w.accounts (after_advance w n).accounts s (after_advance_same w n))
     | inr f ↦ rw f refl
   ]
 
-  pub charge_same : (backlog : ℕ) (w : World LoadJob) (t n s : ℕ) → g (account (next loading backlog w (Charge t n)).accounts s) ≡ g (account w.accounts s)
-  charge_same backlog w t n s =
-      same_at w.accounts (next loading backlog w (Charge t n)).accounts s (after_charging_same w t n (charge_refusal w t n))
+  module _ (unit : (a : Account LoadJob) → g (account_with_unit a) ≡ g a) where
+    after_run_same : (w : World LoadJob) (o : Option ℕ) → map g (after_run w o).accounts ≡ map g w.accounts
+    after_run_same w None = refl
+    after_run_same w (Some t) = map_kept g (account_with_replenishment (w.now + 1)) (changed_at account_with_unit (let_go w).accounts t) (fill (w.now + 1))
+        ∙ changed_kept g account_with_unit (let_go w).accounts t unit ∙ map_kept g account_let_go w.accounts loose
+
+    -- so does a run, if a unit does
+    pub run_same : (backlog : ℕ) (w : World LoadJob) (s : ℕ) → g (account (next loading backlog w Run).accounts s) ≡ g (account w.accounts s)
+    run_same backlog w s = same_at w.accounts (next loading backlog w Run).accounts s (after_run_same w (runner loading w))
+
+  module _ (charged : (n : ℕ) (a : Account LoadJob) → g (account_with_charge n a) ≡ g a) where
+    after_charging_same : (w : World LoadJob) (t n : ℕ) (o : Option CoreError) → map g (after_charging w t n o).accounts ≡ map g w.accounts
+    after_charging_same w t zero None = refl
+    after_charging_same w t zero (Some e) = refl
+    after_charging_same w t (suc n) (Some e) = refl
+    after_charging_same w t (suc n) None = rw (charge_jumps w t (suc n) (omega arith))
+        (map_kept g (account_with_replenishment (w.now + suc n)) (changed_at (account_with_charge (suc n)) w.accounts t) (fill (w.now + suc n))
+        ∙ changed_kept g (account_with_charge (suc n)) w.accounts t (charged (suc n)))
+
+    -- and a charge
+    pub charge_same : (backlog : ℕ) (w : World LoadJob) (t n s : ℕ) → g (account (next loading backlog w (Charge t n)).accounts s) ≡ g (account w.accounts s)
+    charge_same backlog w t n s =
+        same_at w.accounts (next loading backlog w (Charge t n)).accounts s (after_charging_same w t n (charge_refusal w t n))
 
 -- whether a server is closed, and how many jobs it has accepted
 abbrev pub shut : Account LoadJob → Bool
@@ -72,7 +75,7 @@ count a = length a.accepted
 module _ (w : World LoadJob) (s : ℕ) where
   -- a submit closes no server
   pub submit_shut : (t : ℕ) (j : LoadJob) (o : Option CoreError) → (account (after_submit loading w t j o).accounts s).closed ≡ (account w.accounts s).closed
-  submit_shut t j None = same_at shut (λ a. refl) (λ now a. refl) (λ a. refl) (λ n a. refl) w.accounts (after_submit loading w t j None).accounts s
+  submit_shut t j None = same_at shut (λ now a. refl) (λ a. refl) w.accounts (after_submit loading w t j None).accounts s
       (changed_kept shut (account_with_job loading w.now j) w.accounts t (λ a. refl))
   submit_shut t j (Some e) = refl
 
@@ -137,14 +140,19 @@ done_is w (Some t) c e = elim (cases_Bool (leb clock_end w.now)) [
       ]
 ]
 
--- it was accepted
+-- the chosen server has an unfinished job
+pub chosen_owes : (w : World LoadJob) (t : ℕ) → chosen loading w ≡ Some t → finished loading (account w.accounts t) < length (account w.accounts t).accepted
+chosen_owes w t e =
+    let a = account w.accounts t in
+    let ready = chosen_is_ready loading w t e in
+    let f = face_of loading a in
+    let active : ltb f.finished f.accepted ≡ true = grind (arith, nat_tests) in
+    grind (arith, nat_tests)
+
+-- so a job that is finished was accepted
 pub done_there : (w : World LoadJob) (c : _) → run_reply loading w (chosen loading w) ≡ ran.Done c → c.seq < length (account w.accounts c.server).accepted
 done_there w c e =
     let is = done_is w (chosen loading w) c e in
-    let a = account w.accounts c.server in
-    let ready = chosen_is_ready loading w c.server is.0 in
-    let f = face_of loading a in
-    let active : ltb f.finished f.accepted ≡ true = grind (arith, nat_tests) in
+    let owes = chosen_owes w c.server is.0 in
     let seq = is.1 in
-    let lt : finished loading a < length a.accepted = grind (arith, nat_tests) in
     omega arith
