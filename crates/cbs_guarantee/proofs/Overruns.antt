@@ -46,7 +46,7 @@ ceil-mono q m n le = elim (cases_lt 0 q) [
 ]
 
 -- so more ticks have no shorter span
-span-mono : (r : Rate) (m n : ℕ) → m ≤ n → span_of r m ≤ span_of r n
+pub span-mono : (r : Rate) (m n : ℕ) → m ≤ n → span_of r m ≤ span_of r n
 span-mono r m n le = mul-le (div_ceil m r.budget) r.period (div_ceil n r.budget) r.period (ceil-mono r.budget m n le) (omega arith)
 
 module _ {W : Type 0} where

@@ -5,6 +5,7 @@ use Rattle.cbs_rate.specs.Plan.{Planned}
 use Rattle.cbs_rules.specs.Rules.{clock_end}
 use Rattle.cbs_rules.specs.declared.mode.Mode.{Mode}
 use Rattle.cbs_simulate.specs.Drawing.{IsLawful}
+use Rattle.cbs_simulate.specs.Released.{HasRanges}
 use Rattle.cbs_simulate.specs.declared.terms.SourceTerms.{SourceTerms}
 
 -- the names, modes and plan of the servers, the greatest backlog of each, the sources, the tick at which a simulation
@@ -22,10 +23,11 @@ pub record LoadFile : Type 0 where
 abbrev pub most_sources : ℕ
 most_sources = 65536
 
--- the source is within its limits, and gives jobs to one of this many servers
+-- the source is within its limits, none of its ranges is empty, and it gives jobs to one of this many servers
 pub record IsSource (servers : ℕ) (t : SourceTerms) : Type 0 where
   pub named : t.server < servers
   pub lawful : IsLawful t
+  pub ranges : HasRanges t
   pub within : IsSome t.within
 
 -- what holds of every load file

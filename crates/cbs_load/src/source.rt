@@ -65,6 +65,7 @@ fn optional_numbers_at(table: &Table, key: &str) -> Result<Option<Option<(i64, i
 fn range_within(low: u64, high: u64, numbers: Option<(i64, i64)>) -> Result<Range, FileKind>
     ensures value { result ≡ range_within low high numbers }
     ensures bounds { IfOk result (λ r. (low ≤ r.least) × (r.greatest ≤ high)) }
+    ensures ordered { IfOk result (λ r. r.least ≤ r.greatest) }
 {
     let (least, greatest) = numbers.ok_or(FileKind::OutOfRange)?;
     let least = within(low, high, least)?;
@@ -83,6 +84,7 @@ fn optional_range(
 ) -> Result<Option<Range>, FileKind>
     ensures value { result ≡ of_some (range_within low high) numbers }
     ensures bounds { IfOk result (λ o. IfSome o (λ r. (low ≤ r.least) × (r.greatest ≤ high))) }
+    ensures ordered { IfOk result (λ o. IfSome o (λ r. r.least ≤ r.greatest)) }
 {
     match numbers {
         Some(numbers) => Ok(Some(range_within(low, high, numbers)?)),

@@ -3,6 +3,8 @@ mod Waits
 mod WaitingMoves
 mod ThrottledTicks
 mod Servers
+mod KeptReports
+mod KeptMoves
 mod TaskSteps
 mod TaskTurns
 mod Drawings

@@ -6,7 +6,6 @@ use Rattle.std.proofs.lemmas.List.{length-map}
 use Rattle.cbs_core.specs.Held.{CoreHeld}
 use Rattle.cbs_load.specs.Loads.{LoadFile}
 use Rattle.cbs_rate.specs.Plan.{Planned}
-use Rattle.cbs_rate.specs.Rate.{Rate}
 use Rattle.cbs_rules.specs.Rules.{Terms, clock_end}
 use Rattle.cbs_rules.specs.declared.mode.Mode.{Mode}
 use Rattle.cbs_simulate.specs.Loading.{loading, job_of}
@@ -22,12 +21,12 @@ use Rattle.cbs_steps.specs.Accounts.{face_of, new_account}
 use Rattle.cbs_steps.specs.Faces.{submit_refusal}
 use Rattle.cbs_steps.specs.History.{World, History, account, chosen, faces, ticks, after_charging, charge_refusal, charge_reply, world_after, reply_in}
 use Rattle.cbs_steps.specs.OnTime.{IsAhead}
-use Rattle.cbs_steps.specs.Setups.{terms_of}
 use Rattle.cbs_steps.specs.declared.error.CoreError.{CoreError}
 use Rattle.cbs_steps.specs.declared.reply.Reply.TheVariants as reply
 use Rattle.cbs_steps.proofs.OnTime.{reservation, rates_after}
 use Rattle.cbs_steps.proofs.Ticks.{ticks_none, ticks_some}
 use Rattle.cbs_report.specs.Figures.{steps_of, throttled, waited}
+use Rattle.cbs_size.proofs.LateServers.{as_many}
 use Rattle.cbs_views.specs.Events.{begun}
 use Rattle.cbs_views.specs.declared.seen.Event.TheVariants as event
 use Rattle.cbs_views.specs.declared.seen.Seen.{Seen}
@@ -63,12 +62,12 @@ count_split p t (suc k) n =
     rw (e, f) (omega arith)
 
 -- a charge that is granted is not refused
-not_refused : (o : Option CoreError) → charge_reply {W = LoadJob} o ≡ reply.Charged → o ≡ None
+pub not_refused : (o : Option CoreError) → charge_reply {W = LoadJob} o ≡ reply.Charged → o ≡ None
 not_refused None e = refl
 not_refused (Some x) e = cc
 
 -- there are as many servers as were given
-counted : (N : History LoadJob) → length (world_after loading N).accounts ≡ length N.setup.servers
+pub counted : (N : History LoadJob) → length (world_after loading N).accounts ≡ length N.setup.servers
 counted N = omega (
   arith,
   ap length (rates_after loading N.setup N.steps),
@@ -233,13 +232,6 @@ at_start : (ts : List Terms) (s : ℕ)
 at_start [] s = (refl, λ e. cc)
 at_start (t ∷ ts) zero = (refl, λ e. cc)
 at_start (t ∷ ts) (suc s) = at_start ts s
-
--- there are terms for as many servers as reservations
-as_many : (modes : List Mode) (rates : List Rate) → length modes ≡ length rates → length (terms_of modes rates) ≡ length rates
-as_many [] [] e = refl
-as_many [] (r ∷ rates) e = e
-as_many (m ∷ modes) [] e = absurd (omega arith)
-as_many (m ∷ modes) (r ∷ rates) e = let rest = as_many modes rates (omega arith) in omega arith
 
 -- a simulation whose charges are granted, and which ends at a tick
 pub record IsWhole (until : ℕ) (sim : Simulation LoadJob) : Type 0 where

@@ -112,7 +112,7 @@ module _ (s : ℕ) where
   }
 
   -- a unit of server t
-  of_unit : (t : ℕ) (a : Account LoadJob) → (server_of_unit (unit_reply loading a t) ≡ Some t) × (ticks_of_run (unit_reply loading a t) ≡ 1)
+  pub of_unit : (t : ℕ) (a : Account LoadJob) → (server_of_unit (unit_reply loading a t) ≡ Some t) × (ticks_of_run (unit_reply loading a t) ≡ 1)
   of_unit t a =
       let k = finished loading a in
       of_either (eqb (need loading a (k + 1)) (a.got + 1)) t k (get_or (map (whole loading) a.accepted) k 0)
@@ -213,7 +213,7 @@ module _ (s : ℕ) where
       rw (charge_jumps w t (suc n) (omega arith)) goal
 
   -- a submit is a step of its server, and takes no tick
-  of_submit : (within : List (Option ℕ)) (r : Release) (a : Result ℕ CoreError) (p : Option ℕ)
+  pub of_submit : (within : List (Option ℕ)) (r : Release) (a : Result ℕ CoreError) (p : Option ℕ)
       → (let e = event_seen within (happening.Submitted r a p) in (server_of e ≡ Some r.server) × (ticks_of e ≡ 0))
   of_submit within r (Ok q) p = (refl, refl)
   of_submit within r (Err e) p = (refl, refl)

@@ -4,3 +4,4 @@ pub mod Loads
 pub mod Tasks
 pub mod Showing
 pub mod Pictures
+pub mod Kept

@@ -1,5 +1,8 @@
 pub mod AloneLaws
+pub mod Apart
+pub mod Bounded
 pub mod Clocks
+pub mod Draws
 pub mod Goes
 pub mod Loads
 pub mod Loop

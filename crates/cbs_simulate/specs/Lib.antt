@@ -5,6 +5,7 @@ pub mod Merging
 pub mod MoveLaws
 pub mod Moves
 pub mod Ordering
+pub mod Released
 pub mod Releases
 pub mod Shown
 pub mod Simulating

@@ -14,7 +14,7 @@ one_ordered : (until : ℕ) (r : Release) (rs : List Release) → IsInOrder r.ti
 one_ordered until r rs order = elim (cases_Bool (ltb r.tick until)) [ inl y ↦ rw y ((omega arith), order) | inr n ↦ rw n tt ]
 
 -- the releases of a source are at the tick or later, in order
-ordered_released : (place : ℕ) (t : SourceTerms) (until k tick : ℕ) (g : Lcg) → IsInOrder tick (released place t until k tick g)
+pub ordered_released : (place : ℕ) (t : SourceTerms) (until k tick : ℕ) (g : Lcg) → IsInOrder tick (released place t until k tick g)
 ordered_released place t until zero tick g = tt
 ordered_released place t until (suc k) tick g =
     let u = drawn t.units g in

@@ -57,7 +57,7 @@ module _ {X : Type 0} (f : X → ℕ) (g : ℕ → ℕ) (d : X) where
       omega (arith, sum_by-cons f x xs, sum_by-cons (λ (n : ℕ). n) (g b) (map g (range_with_len (b + 1) (length xs))))
 
   -- if a number is 0, the sum of the others is greater by at least the number beside it
-  spared : (xs : List X) (b s : ℕ) → s < length xs → ((i : ℕ) → i < length xs → f (get_or xs i d) ≤ g (b + i)) → f (get_or xs s d) ≡ 0
+  pub spared : (xs : List X) (b s : ℕ) → s < length xs → ((i : ℕ) → i < length xs → f (get_or xs i d) ≤ g (b + i)) → f (get_or xs s d) ≡ 0
       → sum_by f xs + g (b + s) ≤ sum (map g (range_with_len b (length xs)))
   spared [] b s lt each none = absurd (omega arith)
   spared (x ∷ xs) b zero lt each none =
@@ -72,7 +72,7 @@ module _ {X : Type 0} (f : X → ℕ) (g : ℕ → ℕ) (d : X) where
       rw i (omega (arith, sum_by-cons f x xs, sum_by-cons (λ (n : ℕ). n) (g b) (map g (range_with_len (b + 1) (length xs)))))
 
 -- there are as many servers as reservations
-as_many : (modes : List Mode) (rates : List Rate) → length modes ≡ length rates → length (terms_of modes rates) ≡ length rates
+pub as_many : (modes : List Mode) (rates : List Rate) → length modes ≡ length rates → length (terms_of modes rates) ≡ length rates
 as_many [] [] e = refl
 as_many [] (r ∷ rates) e = e
 as_many (m ∷ modes) [] e = absurd (omega arith)

@@ -4,3 +4,8 @@ pub mod Joins
 pub mod Charges
 pub mod Greatest
 pub mod LateServers
+pub mod KeptMoves
+pub mod ServerMoves
+pub mod OwnSources
+pub mod KeptLoads
+pub mod Counted

@@ -2,6 +2,7 @@ use Rattle.std.proofs.Common.{◌≡◌, ◌<◌, ◌+◌, ◌∙◌, ◌∷◌,
 use Rattle.std.proofs.lemmas.Grind.{common_steps}
 use Rattle.std.specs.Prelude.{slice_get}
 use Rattle.cbs_planning.specs.Loads.{IsServerReport, seen_in}
+use Rattle.cbs_planning.proofs.KeptMoves.{promises_kept}
 use Rattle.cbs_planning.proofs.Servers.{each_is, each_more, figure_count, server_is, some_at}
 use Rattle.cbs_planning.proofs.load_report.report_of.Goals as goal
 
@@ -50,6 +51,9 @@ returns-clause-report g c =
       count = omega (arith, l.invariant.count, c.len-server-end.ensures.value, c.loop-server-test.false, ap (λ p. length p.rates) c.plan.ensures);
       each = λ s r e. each_is (IsServerReport f) l.servers.items s r l.invariant.each e;
     }
+
+pub returns-clause-kept : goal.returns-clause-kept
+returns-clause-kept g c = promises_kept c.args.load.now c.until.ensures.lawful (rw c.plan.ensures at c.len-server-end.ensures.lawful)
 
 pub loop-server-init : goal.loop-server-init
 loop-server-init g c = grind (arith, common_steps)
