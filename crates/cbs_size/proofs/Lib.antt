@@ -9,3 +9,6 @@ pub mod ServerMoves
 pub mod OwnSources
 pub mod KeptLoads
 pub mod Counted
+pub mod AloneMoves
+pub mod AloneLoads
+pub mod Promises
