@@ -12,3 +12,4 @@ pub mod Counted
 pub mod AloneMoves
 pub mod AloneLoads
 pub mod Promises
+pub mod LateMoves
