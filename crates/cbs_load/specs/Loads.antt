@@ -1,6 +1,6 @@
 -- What a load file holds.
 use Rattle.std.specs.Prelude.{◌≡◌, ℕ, ◌≤◌, ◌<◌, List, length, All, IsSome}
-use Rattle.cbs_rate.specs.Limits.{most_backlog}
+use Rattle.cbs_rate.specs.Limits.{most_backlog, longest_period}
 use Rattle.cbs_rate.specs.Plan.{Planned}
 use Rattle.cbs_rules.specs.Rules.{clock_end}
 use Rattle.cbs_rules.specs.declared.mode.Mode.{Mode}
@@ -23,11 +23,13 @@ pub record LoadFile : Type 0 where
 abbrev pub most_sources : ℕ
 most_sources = 65536
 
--- the source is within its limits, none of its ranges is empty, and it gives jobs to one of this many servers
+-- the source is within its limits, none of its ranges is empty, and it gives jobs to one of this many servers. No unit of
+-- it overruns by more than the longest period
 pub record IsSource (servers : ℕ) (t : SourceTerms) : Type 0 where
   pub named : t.server < servers
   pub lawful : IsLawful t
   pub ranges : HasRanges t
+  pub short : t.overrun.greatest ≤ longest_period
   pub within : IsSome t.within
 
 -- what holds of every load file

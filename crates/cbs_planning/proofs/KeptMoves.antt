@@ -1,6 +1,6 @@
--- The report of a load keeps what is promised for a server whose units never overrun.
+-- The report of a load keeps what is promised for a server.
 use Rattle.std.proofs.Common.{◌≡◌, ◌≢◌, ℕ, zero, suc, ◌+◌, ◌≤◌, ◌<◌, true, false, eqb, leb, ltb, List, [], ◌∷◌, length, map, get_or, arith, refl}
-use Rattle.std.proofs.Common.{sym, ap, ◌∙◌, inl, inr, Option, Some, None}
+use Rattle.std.proofs.Common.{sym, ap, subst, ◌∙◌, inl, inr, Option, Some, None}
 use Rattle.std.specs.Prelude.{if◌then◌else◌, Result}
 use Rattle.std.specs.List.{sum_by}
 use Rattle.std.proofs.lemmas.Bool.{cases_Bool}
@@ -17,7 +17,7 @@ use Rattle.cbs_rules.specs.Rules.{Terms, clock_end}
 use Rattle.cbs_steps.specs.Accounts.{Account, need, finished, new_account, no_account, account_with_job, account_with_unit, account_with_replenishment}
 use Rattle.cbs_steps.specs.Accounts.{account_let_go}
 use Rattle.cbs_steps.specs.Faces.{submit_refusal}
-use Rattle.cbs_steps.specs.History.{World, account, faces, chosen, after_submit, after_run, run_reply, unit_reply, submit_reply, world_after}
+use Rattle.cbs_steps.specs.History.{World, account, after, faces, chosen, after_submit, after_run, run_reply, unit_reply, submit_reply, world_after}
 use Rattle.cbs_steps.specs.declared.error.CoreError.{CoreError}
 use Rattle.cbs_steps.specs.declared.reply.Ran.TheVariants as ran
 use Rattle.cbs_steps.specs.declared.view.ServerView.{ServerView}
@@ -30,10 +30,15 @@ use Rattle.cbs_simulate.specs.Shown.{Sight, answer_in, promised_in, sight_of, sh
 use Rattle.cbs_simulate.specs.declared.event.Event.TheVariants as happening
 use Rattle.cbs_simulate.specs.declared.load_job.LoadJob.{LoadJob}
 use Rattle.cbs_simulate.specs.declared.release.Release.{Release}
-use Rattle.cbs_report.specs.Figures.{steps_of, is_server, response, finished as ended_of}
+use Rattle.cbs_report.specs.Figures.{steps_of, is_server, response, newest, settled, waiting, oldest_finished, finished as ended_of}
+use Rattle.cbs_report.specs.declared.job.AcceptedJob.{AcceptedJob}
+use Rattle.cbs_report.specs.declared.job.Finish.{Finish}
+use Rattle.cbs_steps.specs.declared.step.Step.{Step}
+use Rattle.cbs_steps.specs.declared.step.Step.TheVariants.{Run}
+use Rattle.std.specs.Option.{option_to_list}
 use Rattle.cbs_size.specs.Kept.{IsKeptMove}
 use Rattle.cbs_size.proofs.Counted.{finished_job, finished_unit, run_here, run_elsewhere}
-use Rattle.cbs_size.proofs.KeptLoads.{load_kept, released}
+use Rattle.cbs_size.proofs.Promises.{promise_kept, released_at}
 use Rattle.cbs_size.proofs.ServerMoves.{advance_same, charge_same, submit_elsewhere, chosen_owes}
 use Rattle.cbs_size.proofs.LateServers.{as_many}
 use Rattle.cbs_views.specs.Events.{server_of}
@@ -43,7 +48,7 @@ use Rattle.cbs_views.specs.declared.seen.Seen.{Seen}
 use Rattle.cbs_planning.specs.Kept.{KeepsPromises}
 use Rattle.cbs_planning.specs.Loads.{start_of, withins, seen_in}
 use Rattle.cbs_planning.specs.Sights.{event_seen, seen_of, arrival_of, view_seen}
-use Rattle.cbs_planning.proofs.KeptReports.{IsSoon, Tells, tells_still, tells_job, tells_unit, tells_done}
+use Rattle.cbs_planning.proofs.KeptReports.{IsSoon, CameFrom, Tells, all_append, listed, tells_still, tells_job, tells_unit, tells_done, tells_charge}
 use Rattle.cbs_planning.proofs.ThrottledTicks.{counted}
 use Rattle.cbs_planning.proofs.WaitingMoves.{of_unit, of_submit}
 
@@ -146,10 +151,42 @@ module _ (s : ℕ) (released : ℕ → ℕ) (time : ℕ) where
             (ap (λ (x : Account LoadJob). x.accepted) here) (ap (finished loading) here ∙ count) k.2 (sym k.1) h)
       ]
 
+  -- after a run of the server, the newest job that was finished is the one that the run finished
+  abbrev IsLast : World LoadJob → List Seen → Type 0
+  IsLast w own = (job : Finish) → newest own ≡ Some job
+      → (c : Completion) × (run_reply loading w (chosen loading w) ≡ ran.Done c) × (job.job.came ≡ released c.seq)
+
+  last_run : (w : World LoadJob) (clock : ℕ) (view : Option ServerView) (own : List Seen) → chosen loading w ≡ Some s → w.now < clock_end
+      → Tells released time (account w.accounts s) (steps_of s own)
+      → IsLast w (steps_of s (record { clock = clock; event = event.Ran (run_reply loading w (chosen loading w)); view = view } ∷ own))
+  last_run w clock view own e early h job told =
+      let a = account w.accounts s in
+      let k = finished loading a in
+      let f : leb clock_end w.now ≡ false = grind (arith, nat_tests) in
+      let itself : eqb s s ≡ true = grind (arith, nat_tests) in
+      elim (cases_Bool (eqb (need loading a (k + 1)) (a.got + 1))) [
+        | inl done ↦
+            let c : Completion = record { server = s; seq = k; result = get_or (map (whole loading) a.accepted) k 0 } in
+            let reply : run_reply loading w (chosen loading w) ≡ ran.Done c = rw (e, f, done) refl in
+            let oldest : oldest_finished clock (waiting (steps_of s own)) ≡ Some job = rw (e, f, done, itself) at told in
+            (c, reply, first (waiting (steps_of s own)) h.came oldest)
+        | inr more ↦ let none : None ≡ Some job = rw (e, f, more, itself) at told in cc
+      ]
+    where
+      first : (jobs : List AcceptedJob) → CameFrom released time (finished loading (account w.accounts s)) jobs → oldest_finished clock jobs ≡ Some job
+          → job.job.came ≡ released (finished loading (account w.accounts s))
+      first [] came oldest = cc
+      first (x ∷ jobs) came oldest =
+          let ended : Finish = record { job = x; at = clock } in
+          let is : ended ≡ job = cc in
+          subst (λ (j : Finish). j.job.came ≡ released (finished loading (account w.accounts s))) is came.0
+
   module _ (within : List (Option ℕ)) where
     -- what the server's steps tell so far
-    abbrev IsTold : Simulation LoadJob → List Sight → Type 0
-    IsTold sim seen = Tells released time (account (world_after loading sim.history).accounts s) (steps_of s (map (seen_of within) seen))
+    pub record IsTold (sim : Simulation LoadJob) (seen : List Sight) : Type 0 where
+      pub tells : Tells released time (account (world_after loading sim.history).accounts s) (steps_of s (map (seen_of within) seen))
+      pub last : (M : List (Step LoadJob)) → sim.history.steps ≡ Run ∷ M → chosen loading (after loading sim.history.setup M) ≡ Some s
+          → (after loading sim.history.setup M).now < clock_end → IsLast (after loading sim.history.setup M) (steps_of s (map (seen_of within) seen))
 
     -- after one more move
     told_move : (sim : Simulation LoadJob) (m : Move) (seen : List Sight) → s < length (world_after loading sim.history).accounts
@@ -157,26 +194,58 @@ module _ (s : ℕ) (released : ℕ → ℕ) (time : ℕ) where
     told_move sim (submit r) seen lt kept h =
         let w = world_after loading sim.history in
         let v = world_after loading (after_move loading job_of sim (submit r)).history in
-        told_submit w v within r (submit_refusal sim.history.setup.backlog (faces loading w) r.server) (promised_in loading v r.server) (view_seen (faces loading v))
-        (map (seen_of within) seen) lt (paid_after loading sim.history.setup sim.history.steps s) (λ same. let k = kept same in (rw same k.0, k.1, k.2)) h
+        record {
+          tells = told_submit w v within r (submit_refusal sim.history.setup.backlog (faces loading w) r.server) (promised_in loading v r.server)
+              (view_seen (faces loading v)) (map (seen_of within) seen) lt (paid_after loading sim.history.setup sim.history.steps s)
+              (λ same. let k = kept same in (rw same k.0, k.1, k.2)) h.tells;
+          last = λ M e. cc;
+        }
     told_move sim run seen lt kept h =
         let w = world_after loading sim.history in
-        told_run w (chosen loading w) (λ v. view_seen (faces loading v) (event.Ran (run_reply loading w (chosen loading w)))) (map (seen_of within) seen) refl lt kept h
+        let v = world_after loading (after_move loading job_of sim run).history in
+        let view = view_seen (faces loading v) (event.Ran (run_reply loading w (chosen loading w))) in
+        let own = map (seen_of within) seen in
+        record {
+          tells = told_run w (chosen loading w) (λ v. view_seen (faces loading v) (event.Ran (run_reply loading w (chosen loading w)))) own refl lt kept h.tells;
+          last = λ M e server early.
+              let same : sim.history.steps ≡ M = cc in
+              let o = seen_of within (sight_of loading job_of sim run) in
+              subst (λ A. chosen loading (after loading sim.history.setup A) ≡ Some s → (after loading sim.history.setup A).now < clock_end
+              → IsLast (after loading sim.history.setup A) (steps_of s (o ∷ own))) same
+              (λ server early. last_run w v.now view own server early h.tells) server early;
+        }
     told_move sim (pass n) seen lt kept h =
         let w = world_after loading sim.history in
         let backlog = sim.history.setup.backlog in
-        tells_other (account w.accounts s) (account (world_after loading (after_move loading job_of sim (pass n)).history).accounts s)
-        (seen_of within (sight_of loading job_of sim (pass n))) (map (seen_of within) seen) refl
-        (advance_same (λ (a : Account LoadJob). a.accepted) (λ now a. refl) (λ a. refl) backlog w n s)
-        (advance_same (finished loading) (λ now a. refl) (λ a. refl) backlog w n s) h
+        record {
+          tells = tells_other (account w.accounts s) (account (world_after loading (after_move loading job_of sim (pass n)).history).accounts s)
+              (seen_of within (sight_of loading job_of sim (pass n))) (map (seen_of within) seen) refl
+              (advance_same (λ (a : Account LoadJob). a.accepted) (λ now a. refl) (λ a. refl) backlog w n s)
+              (advance_same (finished loading) (λ now a. refl) (λ a. refl) backlog w n s) h.tells;
+          last = λ M e. cc;
+        }
     told_move sim (charge t n) seen lt kept h =
         let w = world_after loading sim.history in
+        let v = world_after loading (after_move loading job_of sim (charge t n)).history in
         let backlog = sim.history.setup.backlog in
-        let other : eqb t s ≡ false = grind (arith, nat_tests) in
-        tells_other (account w.accounts s) (account (world_after loading (after_move loading job_of sim (charge t n)).history).accounts s)
-        (seen_of within (sight_of loading job_of sim (charge t n))) (map (seen_of within) seen) other
-        (charge_same (λ (a : Account LoadJob). a.accepted) (λ now a. refl) (λ a. refl) (λ n a. refl) backlog w t n s)
-        (charge_same (finished loading) (λ now a. refl) (λ a. refl) (λ n a. refl) backlog w t n s) h
+        let own = map (seen_of within) seen in
+        let jobs = charge_same (λ (a : Account LoadJob). a.accepted) (λ now a. refl) (λ a. refl) (λ n a. refl) backlog w t n s in
+        let done = charge_same (finished loading) (λ now a. refl) (λ a. refl) (λ n a. refl) backlog w t n s in
+        record {
+          tells = elim (cases_Bool (eqb t s)) [
+            | inr other ↦ tells_other (account w.accounts s) (account v.accounts s) (seen_of within (sight_of loading job_of sim (charge t n))) own other jobs done h.tells
+            | inl y ↦
+                let same : t ≡ s = grind (arith, nat_tests) in
+                let k = kept same in
+                rw y (tells_charge released time (account w.accounts s) (account v.accounts s) (steps_of s own) v.now t n _ jobs done
+                (λ job told.
+                let l = h.last k.before k.steps k.server k.early job told in
+                let soon = k.soon l.0 l.1 in
+                let came = l.2 in
+                omega arith) h.tells)
+          ];
+          last = λ M e. cc;
+        }
 
     -- after more moves
     told_moves : (sim : Simulation LoadJob) (ms : List Move) (seen : List Sight) → s < length sim.history.setup.servers
@@ -195,18 +264,21 @@ no_jobs_at (t ∷ ts) (suc s) = no_jobs_at ts s
 
 -- the report of a load keeps what is promised
 pub promises_kept : (f : LoadFile) → IsLoad f → IsPlan f.plan → KeepsPromises f
-promises_kept f load plan = λ s within lt promised plain.
+promises_kept f load plan = λ s within lt promised.
     let sim = start_of f in
-    let tick = released f load plan s within lt promised plain in
+    let tick = released_at f s in
     let a = account (world_after loading sim.history).accounts s in
     let empty : a.accepted ≡ [] = no_jobs_at sim.history.setup.servers s in
     let none : finished loading a ≤ length a.accepted = count_done-le loading.left a.accepted a.got in
     let zero_jobs : length a.accepted ≡ 0 = ap length empty in
-    let old : Tells tick within a [] = record { some = rw empty tt; refused = refl; ended = tt; came = tt; count = omega arith } in
+    let old : Tells tick within a [] = record { some = rw empty tt; refused = refl; before = tt; last = λ job e. cc; came = tt; count = omega arith } in
     let there : s < length sim.history.setup.servers = omega (arith, as_many f.modes f.plan.rates load.moded) in
-    let h = told_moves s tick within (withins f) sim (moves_of loading job_of f.until sim) [] there (load_kept f load plan s within lt promised plain) old in
+    let h = told_moves s tick within (withins f) sim (moves_of loading job_of f.until sim) [] there (promise_kept f load plan s within lt promised)
+    (record { tells = old; last = λ M e. cc }) in
+    let own = steps_of s (seen_in f) in
+    let all = all_append (IsSoon tick within) (settled own) (option_to_list (newest own)) h.tells.before (listed tick within (newest own) h.tells.last) in
     record {
-      accepted = h.refused;
-      ended = All-from_recursion (λ job. response job ≤ within) (ended_of (steps_of s (seen_in f)))
-          (AllByRecursion-weaker (IsSoon tick within) (λ job. response job ≤ within) (ended_of (steps_of s (seen_in f))) h.ended (λ job soon. omega arith));
+      accepted = h.tells.refused;
+      ended = All-from_recursion (λ job. response job ≤ within) (ended_of own)
+          (AllByRecursion-weaker (IsSoon tick within) (λ job. response job ≤ within) (ended_of own) all (λ job soon. omega arith));
     }

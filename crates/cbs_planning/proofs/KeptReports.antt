@@ -1,9 +1,9 @@
 -- What a report counts of a server whose moves keep what is promised.
-use Rattle.std.proofs.Common.{◌≡◌, ℕ, ◌+◌, ◌≤◌, ◌<◌, List, [], ◌∷◌, ◌++◌, length, arith, refl}
-use Rattle.std.proofs.Common.{Option, append-nil, length-append}
+use Rattle.std.proofs.Common.{Some, None, subst, ◌≡◌, ℕ, ◌+◌, ◌≤◌, ◌<◌, List, [], ◌∷◌, ◌++◌, length, arith, refl}
+use Rattle.std.proofs.Common.{Option, length-append}
 use Rattle.std.specs.List.{AllByRecursion}
 use Rattle.std.specs.Option.{option_to_list}
-use Rattle.cbs_report.specs.Figures.{accepted_job, waiting, newest, settled, total, refusals, finished as ended_of}
+use Rattle.cbs_report.specs.Figures.{accepted_job, waiting, put_off, newest, settled, total, refusals}
 use Rattle.cbs_report.specs.declared.job.AcceptedJob.{AcceptedJob}
 use Rattle.cbs_report.specs.declared.job.Finish.{Finish}
 use Rattle.cbs_simulate.specs.Loading.{loading}
@@ -16,7 +16,7 @@ use Rattle.cbs_views.specs.declared.seen.Event.TheVariants as event
 use Rattle.cbs_views.specs.declared.seen.Seen.{Seen}
 
 -- what holds of all of a list, and of all of another, holds of all of both
-all_append : (P : Finish → Type 0) (xs ys : List Finish) → AllByRecursion P xs → AllByRecursion P ys → AllByRecursion P (xs ++ ys)
+pub all_append : (P : Finish → Type 0) (xs ys : List Finish) → AllByRecursion P xs → AllByRecursion P ys → AllByRecursion P (xs ++ ys)
 all_append P [] ys some rest = rest
 all_append P (x ∷ xs) ys some rest = (some.0, all_append P xs ys some.1 rest)
 
@@ -24,6 +24,11 @@ module _ (released : ℕ → ℕ) (time : ℕ) where
   -- the job ended in time
   abbrev pub IsSoon : Finish → Type 0
   IsSoon job = job.at ≤ job.job.came + time
+
+  -- so it is of a list of it
+  pub listed : (o : Option Finish) → ((job : Finish) → o ≡ Some job → IsSoon job) → AllByRecursion IsSoon (option_to_list o)
+  listed None all = tt
+  listed (Some job) all = (all job refl, tt)
 
   -- the jobs that wait are those with the numbers from k on
   abbrev pub CameFrom : ℕ → List AcceptedJob → Type 0
@@ -41,7 +46,8 @@ module _ (released : ℕ → ℕ) (time : ℕ) where
   pub record Tells (a : Account LoadJob) (own : List Seen) : Type 0 where
     pub some : AllByRecursion (λ j. 0 < loading.left j) a.accepted
     pub refused : total (λ o. refusals o.event) own ≡ 0
-    pub ended : AllByRecursion IsSoon (ended_of own)
+    pub before : AllByRecursion IsSoon (settled own)
+    pub last : (job : Finish) → newest own ≡ Some job → IsSoon job
     pub came : CameFrom (finished loading a) (waiting own)
     pub count : finished loading a + length (waiting own) ≡ length a.accepted
 
@@ -50,7 +56,8 @@ module _ (released : ℕ → ℕ) (time : ℕ) where
   tells_still a b own jobs done h = record {
     some = rw jobs h.some;
     refused = h.refused;
-    ended = h.ended;
+    before = h.before;
+    last = h.last;
     came = rw done h.came;
     count = rw (done, jobs) h.count;
   }
@@ -71,7 +78,8 @@ module _ (released : ℕ → ℕ) (time : ℕ) where
       record {
         some = rw jobs (all_push a.accepted j h.some some);
         refused = let r = h.refused in omega arith;
-        ended = h.ended;
+        before = h.before;
+        last = h.last;
         came = rw done (came_more k (waiting own) _ h.came is);
         count = rw (done, jobs) (omega (arith, length-append (waiting own) (accepted_job job promised ∷ []), length-append a.accepted (j ∷ [])));
       }
@@ -83,7 +91,8 @@ module _ (released : ℕ → ℕ) (time : ℕ) where
   tells_unit a b own clock t q view jobs done h = record {
     some = rw jobs h.some;
     refused = let r = h.refused in omega arith;
-    ended = rw (append-nil (settled own ++ option_to_list (newest own))) h.ended;
+    before = all_append IsSoon (settled own) (option_to_list (newest own)) h.before (listed (newest own) h.last);
+    last = λ job told. cc;
     came = rw done h.came;
     count = rw (done, jobs) h.count;
   }
@@ -104,7 +113,32 @@ module _ (released : ℕ → ℕ) (time : ℕ) where
           record {
             some = rw jobs h.some;
             refused = let r = h.refused in omega arith;
-            ended = rw e (all_append IsSoon (settled own ++ option_to_list (newest own)) _ h.ended (omega arith, tt));
+            before = all_append IsSoon (settled own) (option_to_list (newest own)) h.before (listed (newest own) h.last);
+            last = λ job told.
+                let ended : Finish = record { job = j; at = clock } in
+                let g : Some ended ≡ Some job = rw e at told in
+                let is : ended ≡ job = cc in
+                subst IsSoon is (omega arith);
             came = rw (e, done) came.1;
             count = rw (e, done, jobs) (omega arith);
           }
+
+  -- a charge of the server puts off the end of the job that its unit finished
+  pub tells_charge : (a b : Account LoadJob) (own : List Seen) (clock t n : ℕ) (view : Option ServerView)
+      → b.accepted ≡ a.accepted → finished loading b ≡ finished loading a → ((job : Finish) → newest own ≡ Some job → clock ≤ job.job.came + time)
+      → Tells a own → Tells b (record { clock = clock; event = event.Charged t n; view = view } ∷ own)
+  tells_charge a b own clock t n view jobs done soon h = record {
+    some = rw jobs h.some;
+    refused = let r = h.refused in omega arith;
+    before = h.before;
+    last = later (newest own) soon;
+    came = rw done h.came;
+    count = rw (done, jobs) h.count;
+  }
+    where
+      later : (o : Option Finish) → ((job : Finish) → o ≡ Some job → clock ≤ job.job.came + time) → (job : Finish) → put_off clock o ≡ Some job → IsSoon job
+      later None soon job told = cc
+      later (Some x) soon job told =
+          let ended : Finish = record { job = x.job; at = clock } in
+          let is : ended ≡ job = cc in
+          subst IsSoon is (soon x refl)

@@ -1,19 +1,29 @@
--- What is promised for the servers of a load is kept by the load's simulation.
+-- What `cbsrun check` tells of the servers of a load is kept by the load's simulation.
 use Rattle.std.specs.Prelude.{◌≡◌, ℕ, ◌≤◌, ◌<◌, length, All}
 use Rattle.cbs_guarantee.specs.Parts.{rate_at}
-use Rattle.cbs_guarantee.specs.Sources.{NoneOverruns, IsPromised}
+use Rattle.cbs_guarantee.specs.Sources.{IsPromised}
 use Rattle.cbs_load.specs.Loads.{LoadFile}
 use Rattle.cbs_report.specs.Figures.{steps_of, total, refusals, finished, response}
+use Rattle.cbs_simulate.specs.Loading.{loading, job_of}
+use Rattle.cbs_simulate.specs.MoveLaws.{AllMoves}
+use Rattle.cbs_simulate.specs.Moves.{moves_of}
+use Rattle.cbs_steps.specs.History.{world_after}
+use Rattle.cbs_size.specs.Lateness.{greatest_delay, AreLateByLess}
 use Rattle.cbs_size.specs.ServerLoads.{sources_of, delay_from_release}
-use Rattle.cbs_planning.specs.Loads.{seen_in}
+use Rattle.cbs_planning.specs.Loads.{seen_in, start_of}
 
 -- no job of server s was refused, and each that was finished took at most `within` ticks from its release on
 pub record KeepsWithin (f : LoadFile) (s within : ℕ) : Type 0 where
   pub accepted : total (λ o. refusals o.event) (steps_of s (seen_in f)) ≡ 0
   pub ended : All (λ job. response job ≤ within) (finished (steps_of s (seen_in f)))
 
--- What `IsServerLoad` promises for the sources of a server is kept, if no unit of them overruns. The others may overrun
+-- what `IsServerLoad` promises for the sources of a server is kept
 abbrev pub KeepsPromises : LoadFile → Type 0
 KeepsPromises f = (s within : ℕ) → s < length f.plan.rates
-    → IsPromised (rate_at f.plan.rates s) (sources_of s f.sources) (delay_from_release f s) f.backlog within
-    → NoneOverruns (sources_of s f.sources) → KeepsWithin f s within
+    → IsPromised (rate_at f.plan.rates s) (sources_of s f.sources) (delay_from_release f s) f.backlog within → KeepsWithin f s within
+
+-- what `BoundsLateness` bounds is kept: before each move of the simulation, the deadline of each ready server has passed by
+-- less than `greatest_delay`
+abbrev pub KeepsLateness : LoadFile → Type 0
+KeepsLateness f = AllMoves loading job_of (λ sim m. AreLateByLess (greatest_delay f) (world_after loading sim.history)) (start_of f)
+    (moves_of loading job_of f.until (start_of f))

@@ -4,7 +4,7 @@ ghost use Rattle.std.specs.Prelude.{◌≡◌, ◌≤◌, ◌<◌, ℕ, IfOk, On
 ghost use Rattle.cbs_report.specs.Figures.{told, total};
 ghost use Rattle.cbs_report.specs.Reports.{AreAllFigures};
 ghost use Rattle.cbs_report.specs.Tallies.{ticks_idle};
-ghost use Rattle.cbs_planning.specs.Kept.{KeepsPromises};
+ghost use Rattle.cbs_planning.specs.Kept.{KeepsLateness, KeepsPromises};
 ghost use Rattle.cbs_planning.specs.Loads.{AreThrottled, IsReportOf, seen_in, within_of};
 
 use crate::load_steps::show_load;
@@ -72,6 +72,7 @@ pub fn report_of<P: Progress>(
 ) -> Result<RunReport, AllocError>
     ensures report { IfOk result (IsReportOf file.now load.now) }
     ensures kept { OnOk result (KeepsPromises load.now) }
+    ensures late { OnOk result (KeepsLateness load.now) }
     ensures few { IfOk result (λ r. length r.servers.items ≤ 64) }
 {
     let (figures, idle) = simulated(alloc, load, progress)?;

@@ -1,5 +1,5 @@
 -- Each server of a simulation is charged for one unit at most what its jobs may overrun.
-use Rattle.std.proofs.Common.{◌≡◌, ℕ, zero, suc, ◌+◌, ◌-◌, ◌≤◌, ◌<◌, true, ltb, leb, List, [], ◌∷◌, ◌++◌, map, get_or, arith, refl, ap, subst}
+use Rattle.std.proofs.Common.{false, sym, ◌∙◌, ◌≡◌, ℕ, zero, suc, ◌+◌, ◌-◌, ◌≤◌, ◌<◌, true, ltb, leb, List, [], ◌∷◌, ◌++◌, map, get_or, arith, refl, ap, subst}
 use Rattle.std.proofs.Common.{inl, inr, Option, Some, None, ◌∙◌}
 use Rattle.std.specs.Prelude.{drop, min, if◌then◌else◌}
 use Rattle.std.specs.List.{AllByRecursion}
@@ -10,7 +10,7 @@ use Rattle.cbs_rules.specs.Rules.{Terms, clock_end}
 use Rattle.cbs_steps.specs.Accounts.{Account, new_account, account_with_job, account_with_unit, account_with_charge}
 use Rattle.cbs_steps.specs.Faces.{submit_refusal}
 use Rattle.cbs_steps.specs.History.{World, account, faces, chosen, let_go, run_reply, after_submit, after_run, after_charging, charge_refusal, charge_reply}
-use Rattle.cbs_steps.specs.History.{next, world_after, reply_in}
+use Rattle.cbs_steps.specs.History.{after, unit_reply, next, world_after, reply_in}
 use Rattle.cbs_steps.specs.declared.error.CoreError.{CoreError}
 use Rattle.cbs_steps.specs.declared.reply.Ran.{Ran}
 use Rattle.cbs_steps.specs.declared.reply.Ran.TheVariants as ran
@@ -23,7 +23,9 @@ use Rattle.cbs_simulate.specs.Moves.{Move, submit, run, pass, charge, owing_of, 
 use Rattle.cbs_simulate.specs.MoveLaws.{owed_before, ChargesOwed}
 use Rattle.cbs_simulate.specs.Releases.{before}
 use Rattle.cbs_simulate.specs.declared.release.Release.{Release}
+use Rattle.cbs_steps.specs.declared.step.Step.{Step}
 use Rattle.cbs_simulate.proofs.Clocks.{submit-now}
+use Rattle.cbs_simulate.proofs.Owing.{owing_is, unit_owes}
 use Rattle.cbs_simulate.proofs.MoveSteps.{MovesWell}
 use Rattle.cbs_simulate.specs.declared.charge.Charge.{Charge as Owed}
 use Rattle.cbs_simulate.specs.declared.load_job.LoadJob.{LoadJob}
@@ -155,6 +157,30 @@ first_coming until (q ∷ qs) r rest e = elim (cases_Bool (ltb q.tick until)) [
   | inr f ↦ let g : [] ≡ r ∷ rest = rw f at e in cc
 ]
 
+-- if a move makes no charge before `until`, none is owed
+owed_none : (until now : ℕ) (o : Option Owed) (c : Owed) → None ≡ owed_before until now o → o ≡ Some c → now < until → ⊥
+owed_none until now None c e is early = cc
+owed_none until now (Some d) c e is early =
+    let f : leb until now ≡ false = grind (arith, nat_tests) in
+    let g : None ≡ Some (record d { ticks = min d.ticks (until - now) }) = rw f at e in
+    cc
+
+-- a charge that is owed for a run is of the server that ran
+owing_server : (w : World LoadJob) (o : Option ℕ) (c : Owed) → owing_for loading w (run_reply loading w o) ≡ Some c → o ≡ Some c.server
+owing_server w None c e = cc
+owing_server w (Some t) c e = elim (cases_Bool (leb clock_end w.now)) [
+  | inl y ↦ let g : None ≡ Some c = rw y at e in cc
+  | inr f ↦
+      let unit : owing_for loading w (unit_reply loading (account w.accounts t) t) ≡ Some c = rw f at e in
+      ap Some (owing_is t _ c (sym (unit_owes loading w t) ∙ unit)).0
+]
+
+-- the last step was a run, of server t
+pub record IsAfterRun (sim : Simulation LoadJob) (t : ℕ) : Type 0 where
+  pub before : List (Step LoadJob)
+  pub steps : sim.history.steps ≡ Run ∷ before
+  pub server : chosen loading (after loading sim.history.setup before) ≡ Some t
+
 module _ (b : ℕ → ℕ) (until : ℕ) where
   -- no release to come, no job and no charge is beyond the bound of its server. Nothing is charged yet for a unit for
   -- which a charge is owed
@@ -163,6 +189,13 @@ module _ (b : ℕ → ℕ) (until : ℕ) where
     pub coming : AllByRecursion (λ r. r.overrun ≤ b r.server) sim.coming
     pub owing : (c : Owed) → sim.owing ≡ Some c
         → (c.ticks ≤ b c.server) × (clock_of loading job_of sim < until → (account (world_after loading sim.history).accounts c.server).latest ≡ 0)
+    pub ran : (c : Owed) → sim.owing ≡ Some c → clock_of loading job_of sim < until → IsAfterRun sim c.server
+
+  -- a charge follows the run that it is for
+  pub charge_after_run : (sim : Simulation LoadJob) (t n : ℕ) → ChargesOwed loading job_of until sim (charge t n) → IsBounded sim → IsAfterRun sim t
+  charge_after_run sim t n charges h =
+      let o = owed_most until (clock_of loading job_of sim) sim.owing (record { server = t; ticks = n }) charges.charge in
+      rw (o.2) (h.ran o.0 o.1 o.4)
 
   -- a charge is within the bound of its server
   pub charge_bounded : (sim : Simulation LoadJob) (t n : ℕ) → ChargesOwed loading job_of until sim (charge t n) → IsBounded sim
@@ -190,6 +223,7 @@ module _ (b : ℕ → ℕ) (until : ℕ) where
           coming = all.1;
           owing = λ c is. let k = h.owing c is in
               (k.0, λ early. latest_submit w r.server c.server (job_of r) o ∙ k.1 (omega arith));
+          ran = λ c is early. absurd (owed_none until w.now sim.owing c well.charges.charge is (omega arith));
         }
     bounded_move sim run well h =
         let w = world_after loading sim.history in
@@ -201,11 +235,13 @@ module _ (b : ℕ → ℕ) (until : ℕ) where
             owed_within b w (ran_in (reply_in loading sim.history Run)) c h.within is,
             λ early. fresh_run w (chosen loading w) c (omega arith) is (well.going.owed early c is).1.runs,
           );
+          ran = λ c is early. record { before = sim.history.steps; steps = refl; server = owing_server w (chosen loading w) c is };
         }
     bounded_move sim (pass n) well h = record {
       within = within_advance b sim.history.setup.backlog (world_after loading sim.history) n h.within;
       coming = h.coming;
       owing = λ c is. cc;
+      ran = λ c is early. cc;
     }
     bounded_move sim (charge t n) well h =
         let k = charge_bounded sim t n well.charges h in
@@ -213,9 +249,10 @@ module _ (b : ℕ → ℕ) (until : ℕ) where
           within = within_charge b sim.history.setup.backlog (world_after loading sim.history) t n k.0 k.1 h.within;
           coming = h.coming;
           owing = λ c is. cc;
+          ran = λ c is early. cc;
         }
 
   -- a new simulation is bounded if its releases are
   pub bounded_new : (ts : List Terms) (backlog : ℕ) (coming : List Release) → AllByRecursion (λ r. r.overrun ≤ b r.server) coming
       → IsBounded (record { history = record { setup = record { servers = ts; backlog = backlog }; steps = [] }; coming = coming; owing = None })
-  bounded_new ts backlog coming all = record { within = within_start b ts; coming = all; owing = λ c is. cc }
+  bounded_new ts backlog coming all = record { within = within_start b ts; coming = all; owing = λ c is. cc; ran = λ c is early. cc }

@@ -37,13 +37,13 @@ length_ranks [] = refl
 length_ranks (f ∷ fs) = ap suc (length_ranks fs)
 
 -- a charge that is owed is of that server, and of at least one tick
-owing_is : (s n : ℕ) (c : Charge) → owing_of s n ≡ Some c → (s ≡ c.server) × (0 < c.ticks)
+pub owing_is : (s n : ℕ) (c : Charge) → owing_of s n ≡ Some c → (s ≡ c.server) × (0 < c.ticks)
 owing_is s zero c e = cc
 owing_is s (suc n) c e = (cc, let f : suc n ≡ c.ticks = cc in omega arith)
 
 module _ {W : Type 0} (work : Meaning W) where
   -- a unit of server s leaves the overrun of its first unfinished job owed
-  unit_owes : (w : World W) (s : ℕ) → (let a = account w.accounts s in
+  pub unit_owes : (w : World W) (s : ℕ) → (let a = account w.accounts s in
       owing_for work w (unit_reply work a s) ≡ owing_of s (overrun_in work w s (finished work a)))
   unit_owes w s =
       let a = account w.accounts s in

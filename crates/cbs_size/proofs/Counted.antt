@@ -1,5 +1,5 @@
 -- How many jobs a server has finished, after a job more and after a unit.
-use Rattle.std.proofs.Common.{◌≡◌, ◌≢◌, ℕ, ◌+◌, ◌≤◌, ◌<◌, true, eqb, [], ◌∷◌, ◌++◌, length, take, arith, sym, ap, ◌∙◌}
+use Rattle.std.proofs.Common.{false, ◌≡◌, ◌≢◌, ℕ, ◌+◌, ◌≤◌, ◌<◌, true, eqb, [], ◌∷◌, ◌++◌, length, take, arith, sym, ap, ◌∙◌}
 use Rattle.std.proofs.Common.{inl, inr, Some, length-append}
 use Rattle.std.specs.Prelude.{if◌then◌else◌}
 use Rattle.std.specs.List.{sum_by, AllByRecursion}
@@ -36,6 +36,17 @@ finished_job now j a paid some =
     ] in
     count_done-is loading.left (xs ++ j ∷ []) a.got k (omega arith) within (λ lt. beyond)
 
+-- a unit that does not suffice for the first unfinished job finishes none
+pub finished_same : (a : Account LoadJob) → finished loading a < length a.accepted
+    → eqb (need loading a (finished loading a + 1)) (a.got + 1) ≡ false → finished loading (account_with_unit a) ≡ finished loading a
+finished_same a lt n =
+    let xs = a.accepted in
+    let k = finished loading a in
+    let within = count_done_within loading.left xs a.got in
+    let beyond = count_done_beyond loading.left xs a.got lt in
+    let other : need loading a (k + 1) ≢ a.got + 1 = λ e. let y : eqb (need loading a (k + 1)) (a.got + 1) ≡ true = grind (arith, nat_tests) in cc in
+    count_done-is loading.left xs (a.got + 1) k (omega arith) (omega arith) (λ more. omega (arith, other))
+
 -- a unit finishes the first unfinished job, if that needs no more
 pub finished_unit : (a : Account LoadJob) → AllByRecursion (λ j. 0 < loading.left j) a.accepted → finished loading a < length a.accepted
     → finished loading (account_with_unit a)
@@ -53,9 +64,7 @@ finished_unit a some lt =
           let next = sum_by_more loading.left xs (k + 1) d more in
           let positive = AllByRecursion-get (λ (j : LoadJob). 0 < loading.left j) xs (k + 1) d some more in
           omega arith))
-      | inr n ↦
-          let other : need loading a (k + 1) ≢ a.got + 1 = λ e. let y : eqb (need loading a (k + 1)) (a.got + 1) ≡ true = grind (arith, nat_tests) in cc in
-          rw n (count_done-is loading.left xs (a.got + 1) k (omega arith) (omega arith) (λ more. omega (arith, other)))
+      | inr n ↦ rw n (finished_same a lt n)
     ]
 
 -- the account of the server that got a unit, and that of another one

@@ -44,7 +44,7 @@ use Rattle.cbs_size.proofs.LateServers.{as_many, spared}
 use Rattle.cbs_size.proofs.OwnSources.{place_of, own, own_releases, IsOwnSource, stream_at, places_apart, none_more, charged_at, passed_more, tick_at, ticks_grow, numbered}
 
 -- the server of a plan has the reservation of its place
-reservation_at : (modes : List Mode) (rates : List Rate) (s : ℕ) → length modes ≡ length rates
+pub reservation_at : (modes : List Mode) (rates : List Rate) (s : ℕ) → length modes ≡ length rates
     → (let a : Account LoadJob = account (map new_account (terms_of modes rates)) s in a.terms.reservation ≡ rate_at rates s)
 reservation_at [] [] s e = refl
 reservation_at [] (r ∷ rates) s e = absurd (omega arith)
@@ -53,7 +53,7 @@ reservation_at (m ∷ modes) (r ∷ rates) zero e = refl
 reservation_at (m ∷ modes) (r ∷ rates) (suc s) e = reservation_at modes rates s (omega arith)
 
 -- it is not closed at the start
-free_at : (modes : List Mode) (rates : List Rate) (s : ℕ) → length modes ≡ length rates → s < length rates
+pub free_at : (modes : List Mode) (rates : List Rate) (s : ℕ) → length modes ≡ length rates → s < length rates
     → (let a : Account LoadJob = account (map new_account (terms_of modes rates)) s in a.closed ≡ false)
 free_at modes [] s e lt = absurd (omega arith)
 free_at [] (r ∷ rates) s e lt = absurd (omega arith)
@@ -67,7 +67,7 @@ open_new (r ∷ rates) zero = refl
 open_new (r ∷ rates) (suc i) = open_new rates i
 
 -- what holds of each source holds of one
-at_place : (P : SourceTerms → Type 0) (ts : List SourceTerms) (i : ℕ) (t : SourceTerms) → AllByRecursion P ts → slice_get ts i ≡ Some t → P t
+pub at_place : (P : SourceTerms → Type 0) (ts : List SourceTerms) (i : ℕ) (t : SourceTerms) → AllByRecursion P ts → slice_get ts i ≡ Some t → P t
 at_place P [] i t all e = cc
 at_place P (u ∷ ts) zero t all e = let is : u ≡ t = cc in subst P is all.0
 at_place P (u ∷ ts) (suc i) t all e = at_place P ts i t all.1 e
@@ -77,6 +77,46 @@ all_open : (rates : List Rate) (s : ℕ) (place : ℕ → ℕ) (rs : List Releas
     → AllByRecursion (λ r. r.server ≡ s → (get_or (new_streams rates) (place r.source) no_stream).open_at ≤ r.tick) rs
 all_open rates s place [] = tt
 all_open rates s place (r ∷ rs) = (λ same. rw (open_new rates (place r.source)) (omega arith), all_open rates s place rs)
+
+module _ (f : LoadFile) (load : IsLoad f) where
+  -- what holds of the sources of a load
+  pub lawful_sources : AllByRecursion (IsSource (length f.plan.rates)) f.sources
+  lawful_sources = recursion_from_All (IsSource (length f.plan.rates)) f.sources load.lawful
+
+  drawable : AllByRecursion (λ t. (0 < t.units.least) × HasRanges t) f.sources
+  drawable = AllByRecursion-weaker (IsSource (length f.plan.rates)) (λ t. (0 < t.units.least) × HasRanges t) f.sources lawful_sources
+      (λ t h. (h.lawful.some_units, h.ranges))
+
+  -- and of their releases
+  pub releases_are : AllByRecursion (IsOfSource f.until 0 f.sources) (merged (released_by_all 0 f.sources f.until f.seed))
+  releases_are = merged_are f.until f.seed 0 f.sources drawable
+
+  pub releases_apart : AreApart (least_every f.sources) (merged (released_by_all 0 f.sources f.until f.seed))
+  releases_apart = merged_apart (least_every f.sources) f.until f.seed 0 f.sources drawable
+      (AllByRecursion-weaker (IsSource (length f.plan.rates)) (λ t. 0 < t.every.least) f.sources lawful_sources (λ t h. h.lawful.some_ticks))
+      (λ j t e. let z : 0 + j ≡ j = omega arith in rw z (least_at f.sources j t e))
+
+  pub overruns_within : AllByRecursion (λ r. r.overrun ≤ most_charged f.sources r.server) (merged (released_by_all 0 f.sources f.until f.seed))
+  overruns_within = AllByRecursion-weaker (IsOfSource f.until 0 f.sources) (λ r. r.overrun ≤ most_charged f.sources r.server)
+      (merged (released_by_all 0 f.sources f.until f.seed)) releases_are
+      (λ r h.
+      let at = charged_at r.server f.sources h.place 0 h.terms h.stands (sym h.is.server) in
+      let le = h.is.overrun in
+      omega arith)
+
+-- the others are charged no more than the delay
+pub others_within : (f : LoadFile) → IsLoad f → (s : ℕ) → s < length f.plan.rates → (w : World LoadJob)
+    → length w.accounts ≡ length (terms_of f.modes f.plan.rates) → ((t : ℕ) → (account w.accounts t).charges.most ≤ most_charged f.sources t)
+    → others_charges w.accounts s ≤ delay_of f s
+others_within f load s lt w count within_bound =
+    let charge : Account LoadJob → ℕ = λ a. a.charges.most in
+    let servers : length w.accounts ≡ length f.plan.rates = count ∙ as_many f.modes f.plan.rates load.moded in
+    let sum_is = spared charge (most_charged f.sources) no_account w.accounts 0 s (omega arith)
+    (λ i l. let e : 0 + i ≡ i = omega arith in rw e (within_bound i)) in
+    let total : sum_by charge w.accounts + most_charged f.sources s ≤ all_charges f.sources (length f.plan.rates) + charge (account w.accounts s) =
+    let z : 0 + s ≡ s = omega arith in
+    rw (z, servers) at sum_is in
+    omega arith
 
 module _ (f : LoadFile) (load : IsLoad f) (plan : IsPlan f.plan) (s within : ℕ) (lt : s < length f.plan.rates)
     (promised : IsPromised (rate_at f.plan.rates s) (sources_of s f.sources) (delay_from_release f s) f.backlog within)
@@ -109,21 +149,6 @@ module _ (f : LoadFile) (load : IsLoad f) (plan : IsPlan f.plan) (s within : ℕ
   abbrev passed : ℕ
   passed = most_passed f.sources s
 
-  lawful : AllByRecursion (IsSource (length f.plan.rates)) f.sources
-  lawful = recursion_from_All (IsSource (length f.plan.rates)) f.sources load.lawful
-
-  drawable : AllByRecursion (λ t. (0 < t.units.least) × HasRanges t) f.sources
-  drawable = AllByRecursion-weaker (IsSource (length f.plan.rates)) (λ t. (0 < t.units.least) × HasRanges t) f.sources lawful
-      (λ t h. (h.lawful.some_units, h.ranges))
-
-  each : AllByRecursion (IsOfSource f.until 0 f.sources) releases
-  each = merged_are f.until f.seed 0 f.sources drawable
-
-  apart : AreApart (least_every f.sources) releases
-  apart = merged_apart (least_every f.sources) f.until f.seed 0 f.sources drawable
-      (AllByRecursion-weaker (IsSource (length f.plan.rates)) (λ t. 0 < t.every.least) f.sources lawful (λ t h. h.lawful.some_ticks))
-      (λ j t e. let z : 0 + j ≡ j = omega arith in rw z (least_at f.sources j t e))
-
   -- the server is charged nothing
   none : most_charged f.sources s ≡ 0
   none = none_more s f.sources 0 (AllByRecursion-mapped (λ source. source.overrun ≡ 0) at_most (own s f.sources)
@@ -136,32 +161,10 @@ module _ (f : LoadFile) (load : IsLoad f) (plan : IsPlan f.plan) (s within : ℕ
     | inr n ↦ passed_more s f.sources t 0 0 (λ same. let y : eqb t s ≡ _ = refl in grind (arith, nat_tests)) (omega arith)
   ]
 
-  -- the others are charged no more than the delay
-  others : (w : World LoadJob) → length w.accounts ≡ length setup.servers → ((t : ℕ) → (account w.accounts t).charges.most ≤ most_charged f.sources t)
-      → others_charges w.accounts s ≤ delay_of f s
-  others w count within_bound =
-      let charge : Account LoadJob → ℕ = λ a. a.charges.most in
-      let servers : length w.accounts ≡ length f.plan.rates = count ∙ as_many f.modes f.plan.rates load.moded in
-      let mine = within_bound s in
-      let zero_here : charge (account w.accounts s) ≡ 0 = omega (arith, none) in
-      let sum_is = spared charge (most_charged f.sources) no_account w.accounts 0 s (omega arith)
-      (λ i l. let e : 0 + i ≡ i = omega arith in rw e (within_bound i)) zero_here in
-      let total : sum_by charge w.accounts + most_charged f.sources s ≤ all_charges f.sources (length f.plan.rates) =
-      let z : 0 + s ≡ s = omega arith in
-      rw (z, servers) at sum_is in
-      omega arith
-
-  coming : AllByRecursion (λ r. r.overrun ≤ most_charged f.sources r.server) releases
-  coming = AllByRecursion-weaker (IsOfSource f.until 0 f.sources) (λ r. r.overrun ≤ most_charged f.sources r.server) releases each
-      (λ r h.
-      let at = charged_at r.server f.sources h.place 0 h.terms h.stands (sym h.is.server) in
-      let le = h.is.overrun in
-      omega arith)
-
   -- a release of the server is one of a stream
   owned : AllByRecursion (λ r. r.server ≡ s → IsOwn f.until load.few_ticks s released of place (least_every f.sources) (most_charged f.sources) rates passed
       (delay_of f s) (IsOwnSource s f.sources) setup r) releases
-  owned = AllByRecursion-weaker (IsOfSource f.until 0 f.sources) _ releases each
+  owned = AllByRecursion-weaker (IsOfSource f.until 0 f.sources) _ releases (releases_are f load)
       (λ r h same.
       let t = h.terms in
       let e : r.source ≡ h.place = let at = h.source in omega arith in
@@ -170,7 +173,7 @@ module _ (f : LoadFile) (load : IsLoad f) (plan : IsPlan f.plan) (s within : ℕ
       let stream = stream_at s rate f.sources r.source t stands server in
       let there = slice_get_within rates (place r.source) (stream_of rate (at_most t)) stream in
       let is = get_or_from_slice_get rates (place r.source) (stream_of rate (at_most t)) (no_stream.rate) stream in
-      let few = (at_place (IsSource (length f.plan.rates)) f.sources h.place t lawful h.stands).lawful.few_units in
+      let few = (at_place (IsSource (length f.plan.rates)) f.sources h.place t (lawful_sources f load) h.stands).lawful.few_units in
       let units = h.is.units in
       let n = held t.units.greatest in
       let o = held t.overrun.greatest in
@@ -187,7 +190,7 @@ module _ (f : LoadFile) (load : IsLoad f) (plan : IsPlan f.plan) (s within : ℕ
   given : IsGiven f.until load.few_ticks s released of place (least_every f.sources) (most_charged f.sources) rates passed (delay_of f s)
       (IsOwnSource s f.sources) setup
   given =
-      let early = AllByRecursion-weaker (IsOfSource f.until 0 f.sources) (λ r. r.tick < f.until) releases each (λ r h. h.is.early) in
+      let early = AllByRecursion-weaker (IsOfSource f.until 0 f.sources) (λ r. r.tick < f.until) releases (releases_are f load) (λ r h. h.is.early) in
       let time = promised.time in
       let sum : within ≡ all_spans rates + delay_of f s + passed = omega arith in
       record {
@@ -198,7 +201,7 @@ module _ (f : LoadFile) (load : IsLoad f) (plan : IsPlan f.plan) (s within : ℕ
             (λ steps. plan_punctual loading f.plan f.modes f.backlog plan load.moded steps);
         none = none;
         most = most;
-        others = others;
+        others = others_within f load s lt;
         apart_places = places_apart s f.sources;
       }
 
@@ -210,13 +213,13 @@ module _ (f : LoadFile) (load : IsLoad f) (plan : IsPlan f.plan) (s within : ℕ
   start = record {
     going = going;
     soon = omega arith;
-    bounded = bounded_new (most_charged f.sources) f.until (terms_of f.modes f.plan.rates) f.backlog releases coming;
+    bounded = bounded_new (most_charged f.sources) f.until (terms_of f.modes f.plan.rates) f.backlog releases (overruns_within f load);
     free = free_at f.modes f.plan.rates s load.moded lt;
     quiet = tt;
     are = tt;
     jobs = rw (no_jobs loading setup s) (numbered s f.until released of place 0 releases
         (λ i. let z : 0 + i ≡ i = omega arith in rw z refl) (λ i. let z : 0 + i ≡ i = omega arith in rw z refl));
-    apart = apart;
+    apart = releases_apart f load;
     opened = all_open rates s place releases;
     own = owned;
   }

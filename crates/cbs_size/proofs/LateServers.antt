@@ -56,19 +56,19 @@ module _ {X : Type 0} (f : X → ℕ) (g : ℕ → ℕ) (d : X) where
       let rest = no_more xs (b + 1) (λ i lt. let s : b + suc i ≡ b + 1 + i = omega arith in rw s at (each (suc i) (omega arith))) in
       omega (arith, sum_by-cons f x xs, sum_by-cons (λ (n : ℕ). n) (g b) (map g (range_with_len (b + 1) (length xs))))
 
-  -- if a number is 0, the sum of the others is greater by at least the number beside it
-  pub spared : (xs : List X) (b s : ℕ) → s < length xs → ((i : ℕ) → i < length xs → f (get_or xs i d) ≤ g (b + i)) → f (get_or xs s d) ≡ 0
-      → sum_by f xs + g (b + s) ≤ sum (map g (range_with_len b (length xs)))
-  spared [] b s lt each none = absurd (omega arith)
-  spared (x ∷ xs) b zero lt each none =
+  -- the sum of the others is no greater than the sum of those beside them
+  pub spared : (xs : List X) (b s : ℕ) → s < length xs → ((i : ℕ) → i < length xs → f (get_or xs i d) ≤ g (b + i))
+      → sum_by f xs + g (b + s) ≤ sum (map g (range_with_len b (length xs))) + f (get_or xs s d)
+  spared [] b s lt each = absurd (omega arith)
+  spared (x ∷ xs) b zero lt each =
       let e : b + 0 ≡ b = omega arith in
       let rest = no_more xs (b + 1) (λ i lt. let s : b + suc i ≡ b + 1 + i = omega arith in rw s at (each (suc i) (omega arith))) in
       rw e (omega (arith, sum_by-cons f x xs, sum_by-cons (λ (n : ℕ). n) (g b) (map g (range_with_len (b + 1) (length xs)))))
-  spared (x ∷ xs) b (suc s) lt each none =
+  spared (x ∷ xs) b (suc s) lt each =
       let e : b + 0 ≡ b = omega arith in
       let here : f x ≤ g b = rw e at (each 0 (omega arith)) in
       let i : b + suc s ≡ b + 1 + s = omega arith in
-      let rest = spared xs (b + 1) s (omega arith) (λ i lt. let s : b + suc i ≡ b + 1 + i = omega arith in rw s at (each (suc i) (omega arith))) none in
+      let rest = spared xs (b + 1) s (omega arith) (λ i lt. let s : b + suc i ≡ b + 1 + i = omega arith in rw s at (each (suc i) (omega arith))) in
       rw i (omega (arith, sum_by-cons f x xs, sum_by-cons (λ (n : ℕ). n) (g b) (map g (range_with_len (b + 1) (length xs)))))
 
 -- there are as many servers as reservations
@@ -98,7 +98,7 @@ bounded f ok same steps quiet within s lt ready =
     let none : charge (account w.accounts s) ≡ 0 = let t : ltb d d ≡ _ = refl in grind (arith, nat_tests) in
     let each : (i : ℕ) → i < length w.accounts → charge (account w.accounts i) ≤ most_charged f.sources i =
     λ i l. let h = within i l in grind (arith, nat_tests) in
-    let sum_is = spared charge (most_charged f.sources) no_account w.accounts 0 s lt (λ i l. let e : 0 + i ≡ i = omega arith in rw e (each i l)) none in
+    let sum_is = spared charge (most_charged f.sources) no_account w.accounts 0 s lt (λ i l. let e : 0 + i ≡ i = omega arith in rw e (each i l)) in
     let most = greatest_at (delay_of f) 0 0 (length f.plan.rates) s (omega arith) in
     let total = rw count at sum_is in
     omega arith

@@ -9,3 +9,7 @@ pub mod ServerMoves
 pub mod OwnSources
 pub mod KeptLoads
 pub mod Counted
+pub mod AloneMoves
+pub mod AloneLoads
+pub mod Promises
+pub mod LateMoves

@@ -33,7 +33,7 @@ module _ (s : ℕ) where
   is_own : (t : SourceTerms) → t.server ≡ s → eqb t.server s ≡ true
   is_own t same = grind (arith, nat_tests)
 
-  own_at : (ts : List SourceTerms) (i : ℕ) (t : SourceTerms) → slice_get ts i ≡ Some t → t.server ≡ s → slice_get (own ts) (place_of ts i) ≡ Some t
+  pub own_at : (ts : List SourceTerms) (i : ℕ) (t : SourceTerms) → slice_get ts i ≡ Some t → t.server ≡ s → slice_get (own ts) (place_of ts i) ≡ Some t
   own_at [] i t e same = cc
   own_at (u ∷ ts) zero t e same =
       let is : u ≡ t = cc in
@@ -104,6 +104,26 @@ module _ (s : ℕ) where
   charged_at (u ∷ ts) (suc i) most t e same = elim (cases_Bool (eqb u.server s)) [
     | inl y ↦ rw y (charged_at ts i (max most u.overrun.greatest) t e same)
     | inr n ↦ rw n (charged_at ts i most t e same)
+  ]
+
+  -- and at most what all of them may overrun at most
+  pub charged_most : (ts : List SourceTerms) (most bound : ℕ) → most ≤ bound → AllByRecursion (λ t. t.overrun.greatest ≤ bound) (own ts)
+      → fold (λ most t. if eqb t.server s then max most t.overrun.greatest else most) most ts ≤ bound
+  charged_most [] most bound le all = le
+  charged_most (u ∷ ts) most bound le all = elim (cases_Bool (eqb u.server s)) [
+    | inl y ↦
+        let both : AllByRecursion (λ t. t.overrun.greatest ≤ bound) (u ∷ own ts) = rw y at all in
+        let here = both.0 in
+        rw y (charged_most ts (max most u.overrun.greatest) bound (omega arith) both.1)
+    | inr n ↦ rw n (charged_most ts most bound le (rw n at all))
+  ]
+
+  -- what holds of each source holds of each of the server's
+  pub all_own_sources : (P : SourceTerms → Type 0) (ts : List SourceTerms) → AllByRecursion P ts → AllByRecursion P (own ts)
+  all_own_sources P [] all = tt
+  all_own_sources P (u ∷ ts) all = elim (cases_Bool (eqb u.server s)) [
+    | inl y ↦ rw y (all.0, all_own_sources P ts all.1)
+    | inr n ↦ rw n (all_own_sources P ts all.1)
   ]
 
   -- what another server is charged for one unit passes a release for server s by no more than the most

@@ -2,6 +2,7 @@ use Rattle.std.proofs.Common.{◌≡◌, ◌<◌, ◌+◌, ◌∙◌, ◌∷◌,
 use Rattle.std.proofs.lemmas.Grind.{common_steps}
 use Rattle.std.specs.Prelude.{slice_get}
 use Rattle.cbs_planning.specs.Loads.{IsServerReport, seen_in}
+use Rattle.cbs_size.proofs.LateMoves.{lateness_kept}
 use Rattle.cbs_planning.proofs.KeptMoves.{promises_kept}
 use Rattle.cbs_planning.proofs.Servers.{each_is, each_more, figure_count, server_is, some_at}
 use Rattle.cbs_planning.proofs.load_report.report_of.Goals as goal
@@ -54,6 +55,9 @@ returns-clause-report g c =
 
 pub returns-clause-kept : goal.returns-clause-kept
 returns-clause-kept g c = promises_kept c.args.load.now c.until.ensures.lawful (rw c.plan.ensures at c.len-server-end.ensures.lawful)
+
+pub returns-clause-late : goal.returns-clause-late
+returns-clause-late g c = lateness_kept c.args.load.now c.until.ensures.lawful (rw c.plan.ensures at c.len-server-end.ensures.lawful)
 
 pub loop-server-init : goal.loop-server-init
 loop-server-init g c = grind (arith, common_steps)
