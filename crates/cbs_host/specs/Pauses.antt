@@ -9,6 +9,11 @@ slept GoOn = 0
 slept Yield = 0
 slept (Sleep micros) = micros
 
+-- how long a side has stood still: how many turns in a row moved no message; and its longest sleep, in microseconds
+pub record Stillness : Type 0 where
+  pub still : ℕ
+  pub longest : ℕ
+
 -- one turn more, up to the greatest number of 64 bits
 abbrev pub one_more : ℕ → ℕ
 one_more turns = min (turns + 1) (2 ^ 64 - 1)

@@ -4,6 +4,7 @@ ghost use Rattle.std.specs.Prelude.{◌≡◌, ◌≤◌, ◌*◌};
 ghost use Rattle.std.specs.Duration.{as_nanos};
 ghost use Rattle.cbs_host.specs.Pauses.{slept};
 
+use std::marker::Model;
 use std::thread::{sleep, yield_now};
 use std::time::{Clock, Duration};
 
@@ -65,6 +66,14 @@ pub struct Pause {
     // The longest sleep, in microseconds.
     longest: u64,
     ghost short: { longest ≤ 2000 },
+}
+
+impl Model for Pause {
+    ghost use Rattle.cbs_host.specs.Pauses.{Stillness};
+
+    ghost Value = { Stillness };
+
+    ghost view = { λ p. record { still = p.still; longest = p.longest } };
 }
 
 impl Pause {

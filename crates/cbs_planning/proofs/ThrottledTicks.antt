@@ -1,8 +1,7 @@
 -- The throttled ticks that are computed from a server's own steps are the ticks at which it waits.
 use Rattle.std.proofs.Common.{◌≡◌, ℕ, zero, suc, ◌+◌, ◌-◌, ◌≤◌, ◌<◌, Bool, true, false, not, ◌&&◌, leb, ltb}
-use Rattle.std.proofs.Common.{List, [], ◌∷◌, length, map, arith, refl, ap, sym, subst, ◌∙◌, inl, inr, Option, Some, None}
+use Rattle.std.proofs.Common.{List, [], ◌∷◌, length, map, arith, refl, ap, sym, subst, ◌∙◌, inl, inr, Option}
 use Rattle.std.proofs.lemmas.Bool.Decides.{nat_tests}
-use Rattle.std.proofs.lemmas.List.{length-map}
 use Rattle.cbs_core.specs.Held.{CoreHeld}
 use Rattle.cbs_load.specs.Loads.{LoadFile}
 use Rattle.cbs_rate.specs.Plan.{Planned}
@@ -19,14 +18,13 @@ use Rattle.cbs_simulate.specs.declared.load_job.LoadJob.{LoadJob}
 use Rattle.cbs_simulate.specs.declared.release.Release.{Release}
 use Rattle.cbs_steps.specs.Accounts.{face_of, new_account}
 use Rattle.cbs_steps.specs.Faces.{submit_refusal}
-use Rattle.cbs_steps.specs.History.{World, History, account, chosen, faces, ticks, after_charging, charge_refusal, charge_reply, world_after, reply_in}
+use Rattle.cbs_steps.specs.History.{World, History, account, chosen, faces, ticks, after_charging, charge_refusal, world_after, reply_in}
 use Rattle.cbs_steps.specs.OnTime.{IsAhead}
-use Rattle.cbs_steps.specs.declared.error.CoreError.{CoreError}
-use Rattle.cbs_steps.specs.declared.reply.Reply.TheVariants as reply
-use Rattle.cbs_steps.proofs.OnTime.{reservation, rates_after}
 use Rattle.cbs_steps.proofs.Ticks.{ticks_none, ticks_some}
 use Rattle.cbs_report.specs.Figures.{steps_of, throttled, waited}
+use Rattle.cbs_simulate.proofs.Bounded.{granted_none}
 use Rattle.cbs_size.proofs.LateServers.{as_many}
+use Rattle.cbs_size.proofs.ServerMoves.{count_of}
 use Rattle.cbs_views.specs.Events.{begun}
 use Rattle.cbs_views.specs.declared.seen.Event.TheVariants as event
 use Rattle.cbs_views.specs.declared.seen.Seen.{Seen}
@@ -61,20 +59,9 @@ count_split p t (suc k) n =
     let rest = count_split p (t + 1) k n in
     rw (e, f) (omega arith)
 
--- a charge that is granted is not refused
-pub not_refused : (o : Option CoreError) → charge_reply {W = LoadJob} o ≡ reply.Charged → o ≡ None
-not_refused None e = refl
-not_refused (Some x) e = cc
-
 -- there are as many servers as were given
 pub counted : (N : History LoadJob) → length (world_after loading N).accounts ≡ length N.setup.servers
-counted N = omega (
-  arith,
-  ap length (rates_after loading N.setup N.steps),
-  length-map (world_after loading N).accounts (reservation loading),
-  length-map (map new_account N.setup.servers) (reservation loading),
-  length-map N.setup.servers (new_account {W = LoadJob}),
-)
+counted N = count_of N.setup N.steps
 
 -- steps that end by a tick end by a later one
 pub in_turn_later : (a b : ℕ) (own : List Seen) → a ≤ b → AreInTurn a own → AreInTurn b own
@@ -97,7 +84,7 @@ module _ (s : ℕ) (within : List (Option ℕ)) where
   leaves sim (pass n) granted lt ahead = let w = world_after loading sim.history in pass_leaves s w n (leb (w.now + n) clock_end) ahead
   leaves sim (charge t n) granted lt ahead =
       let w = world_after loading sim.history in
-      let none = not_refused (charge_refusal w t n) granted in
+      let none = granted_none (charge_refusal w t n) granted in
       subst (λ o. Leaves s w (after_charging w t n o) (seen_as s (event.Charged t n) (after_charging w t n o)) (is_charge_of s (charge t n))) (sym none)
       (charge_leaves s w t n lt ahead)
 

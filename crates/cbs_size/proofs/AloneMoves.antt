@@ -4,7 +4,6 @@ use Rattle.std.proofs.Common.{subst, ◌∙◌, inl, inr, Some, None}
 use Rattle.std.specs.List.{AllByRecursion}
 use Rattle.std.proofs.lemmas.Bool.{cases_Bool, cases_lt}
 use Rattle.std.proofs.lemmas.Bool.Decides.{nat_tests}
-use Rattle.std.proofs.lemmas.List.{length-map}
 use Rattle.cbs_job.specs.declared.completion.Completion.{Completion}
 use Rattle.cbs_rules.specs.Rules.{clock_end}
 use Rattle.cbs_simulate.specs.Loading.{loading, job_of}
@@ -18,7 +17,7 @@ use Rattle.cbs_simulate.proofs.Bounded.{IsBounded, IsAfterRun, charge_bounded, c
 use Rattle.cbs_simulate.proofs.Clocks.{submit-now}
 use Rattle.cbs_simulate.proofs.MoveSteps.{IsGoing, MovesWell}
 use Rattle.cbs_simulate.proofs.Simulations.{well_next}
-use Rattle.cbs_steps.specs.Accounts.{Account, need, finished, new_account, account_with_unit, account_with_replenishment, account_let_go}
+use Rattle.cbs_steps.specs.Accounts.{Account, need, finished, account_with_unit, account_with_replenishment, account_let_go}
 use Rattle.cbs_steps.specs.Charged.{others_charges, IsEndOf}
 use Rattle.cbs_steps.specs.Faces.{submit_refusal}
 use Rattle.cbs_steps.specs.History.{World, Setup, History, account, faces, chosen, after, charge_refusal, run_reply, world_after, reply_in}
@@ -28,7 +27,6 @@ use Rattle.cbs_steps.specs.declared.reply.Reply.TheVariants as reply
 use Rattle.cbs_steps.specs.declared.reply.Ran.TheVariants as ran
 use Rattle.cbs_steps.specs.declared.step.Step.{Step}
 use Rattle.cbs_steps.specs.declared.step.Step.TheVariants.{Submit, Run, Advance, Charge}
-use Rattle.cbs_steps.proofs.OnTime.{reservation, rates_after}
 use Rattle.cbs_steps.proofs.Promises.{submitted}
 use Rattle.cbs_simulate.specs.Ordering.{order_from}
 use Rattle.cbs_lists.proofs.Lists.{AllByRecursion-weaker}
@@ -43,21 +41,11 @@ use Rattle.cbs_guarantee.proofs.Steps.{jobs_given, by_step}
 use Rattle.cbs_guarantee.proofs.Streams.{reserved, reserved_after}
 use Rattle.cbs_size.specs.Kept.{IsKeptMove}
 use Rattle.cbs_size.proofs.KeptMoves.{AreNumbered}
-use Rattle.cbs_size.proofs.ServerMoves.{run_same, advance_same, charge_same, shut, count, submit_shut, submit_elsewhere, charge_most, found, done_is, done_there, chosen_owes}
+use Rattle.cbs_size.proofs.ServerMoves.{count_of, run_same, advance_same, charge_same, shut, count, submit_shut, submit_elsewhere, charge_most, found, done_is, done_there, chosen_owes}
 
 -- no place is told apart
 abbrev pub no_place : ℕ → ℕ
 no_place i = 0
-
--- there are as many accounts as servers
-count_of : (setup : Setup) (M : List (Step LoadJob)) → length (after loading setup M).accounts ≡ length setup.servers
-count_of setup M = omega (
-  arith,
-  ap length (rates_after loading setup M),
-  length-map (after loading setup M).accounts (reservation loading),
-  length-map (map new_account setup.servers) (reservation loading),
-  length-map setup.servers (new_account {W = LoadJob}),
-)
 
 -- what holds of each of two lists of facts holds of both
 all_two : (P Q S : Release → Type 0) (rs : List Release) → AllByRecursion P rs → AllByRecursion Q rs → ((r : Release) → P r → Q r → S r) → AllByRecursion S rs

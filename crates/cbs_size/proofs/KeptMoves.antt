@@ -1,5 +1,5 @@
 -- Each move of a simulation keeps what is promised for a server whose units never overrun.
-use Rattle.std.proofs.Common.{◌≡◌, ◌≢◌, ℕ, ◌+◌, ◌≤◌, ◌<◌, true, false, eqb, List, [], ◌∷◌, ◌++◌, length, map, drop, get_or, arith, refl}
+use Rattle.std.proofs.Common.{◌≡◌, ◌≢◌, ℕ, ◌+◌, ◌≤◌, ◌<◌, true, false, eqb, List, [], ◌∷◌, ◌++◌, length, drop, get_or, arith, refl}
 use Rattle.std.proofs.Common.{sym, ap, subst, ◌∙◌, inl, inr, None}
 use Rattle.std.specs.Prelude.{if◌then◌else◌}
 use Rattle.std.specs.List.{AllByRecursion}
@@ -20,8 +20,6 @@ use Rattle.cbs_steps.specs.declared.reply.Reply.TheVariants as reply
 use Rattle.cbs_steps.specs.declared.reply.Ran.TheVariants as ran
 use Rattle.cbs_steps.specs.declared.step.Step.{Step}
 use Rattle.cbs_steps.specs.declared.step.Step.TheVariants.{Submit, Run}
-use Rattle.cbs_steps.specs.Accounts.{new_account}
-use Rattle.cbs_steps.proofs.OnTime.{reservation, rates_after}
 use Rattle.cbs_guarantee.specs.Guarantees.{IsGuaranteed}
 use Rattle.cbs_guarantee.specs.Late.{AreInOrder, released_after, IsReleasedJob, AreReleased}
 use Rattle.cbs_guarantee.specs.Streams.{Stream, no_stream, came, span_of, IsBearable, all_spans, backlog_for, jobs_of}
@@ -39,7 +37,7 @@ use Rattle.cbs_simulate.proofs.Clocks.{submit-now}
 use Rattle.cbs_simulate.proofs.MoveSteps.{IsGoing, MovesWell}
 use Rattle.cbs_simulate.proofs.Simulations.{well_next}
 use Rattle.cbs_size.specs.Kept.{IsKeptMove}
-use Rattle.cbs_size.proofs.ServerMoves.{run_same, advance_same, charge_same, shut, count, submit_shut, submit_elsewhere, charge_most, found, done_there}
+use Rattle.cbs_size.proofs.ServerMoves.{count_of, run_same, advance_same, charge_same, shut, count, submit_shut, submit_elsewhere, charge_most, found, done_there}
 
 -- the first of released jobs
 released_front : (setup : Setup) (s : ℕ) (released : ℕ → ℕ) (rates : List Rate) (of : ℕ → ℕ) (passed : ℕ) (K L : List (Step LoadJob))
@@ -110,16 +108,7 @@ module _ (until : ℕ) (ends : until ≤ clock_end) (s : ℕ) (released of place
 
     -- the others no more than the delay
     others_charged : others_charges w.accounts s ≤ delay
-    others_charged = given.others w (count_is) (λ t. (h.bounded.within t).1)
-      where
-        count_is : length w.accounts ≡ length setup.servers
-        count_is = omega (
-          arith,
-          ap length (rates_after loading setup M),
-          length-map w.accounts (reservation loading),
-          length-map (map new_account setup.servers) (reservation loading),
-          length-map setup.servers (new_account {W = LoadJob}),
-        )
+    others_charged = given.others w (count_of setup M) (λ t. (h.bounded.within t).1)
 
     -- the streams have their rates
     rate_is : (i : ℕ) → (get_or (released_after loading setup s released rates of M) i no_stream).rate ≡ get_or rates i (no_stream.rate)

@@ -4,10 +4,11 @@ use Rattle.std.proofs.Common.{sym, ap, ◌∙◌, inl, inr, Option, Some, None}
 use Rattle.std.proofs.Math.ListN.{get_or-map}
 use Rattle.std.proofs.lemmas.Bool.{cases_Bool, cases_lt}
 use Rattle.std.proofs.lemmas.Bool.Decides.{nat_tests}
+use Rattle.std.proofs.lemmas.List.{length-map}
 use Rattle.cbs_lists.specs.Lists.{changed_at}
 use Rattle.cbs_lists.proofs.Lists.{changed_elsewhere, changed_kept, map_kept}
 use Rattle.cbs_rules.specs.Rules.{clock_end}
-use Rattle.cbs_steps.specs.Accounts.{Account, need, finished, face_of, no_account, account_with_job, account_with_unit, account_with_charge, account_with_replenishment, account_let_go}
+use Rattle.cbs_steps.specs.Accounts.{Account, need, finished, face_of, new_account, no_account, account_with_job, account_with_unit, account_with_charge, account_with_replenishment, account_let_go}
 use Rattle.cbs_steps.specs.Faces.{submit_refusal}
 use Rattle.cbs_steps.specs.History.{World, Setup, account, faces, chosen, let_go, runner, run_reply, unit_reply, after, after_submit, after_run, after_advance}
 use Rattle.cbs_steps.specs.History.{after_charging, charge_refusal, next}
@@ -16,12 +17,23 @@ use Rattle.cbs_steps.specs.declared.reply.Ran.TheVariants as ran
 use Rattle.cbs_steps.specs.declared.step.Step.{Step}
 use Rattle.cbs_steps.specs.declared.step.Step.TheVariants.{Submit, Run, Advance, Charge}
 use Rattle.cbs_steps.proofs.Histories.{chosen_is_ready}
+use Rattle.cbs_steps.proofs.OnTime.{reservation, rates_after}
 use Rattle.cbs_steps.proofs.Running.{advance_jumps, charge_jumps}
 use Rattle.cbs_guarantee.specs.Streams.{jobs_of}
 use Rattle.cbs_guarantee.proofs.Steps.{no_jobs, jobs_given, charge_counts, by_step}
 use Rattle.cbs_simulate.specs.Loading.{loading}
 use Rattle.cbs_simulate.specs.declared.load_job.LoadJob.{LoadJob}
 use Rattle.cbs_simulate.proofs.Clocks.{charge-now}
+
+-- there are as many accounts as servers
+pub count_of : (setup : Setup) (M : List (Step LoadJob)) → length (after loading setup M).accounts ≡ length setup.servers
+count_of setup M = omega (
+  arith,
+  ap length (rates_after loading setup M),
+  length-map (after loading setup M).accounts (reservation loading),
+  length-map (map new_account setup.servers) (reservation loading),
+  length-map setup.servers (new_account {W = LoadJob}),
+)
 
 -- a part of each account that replenishments and letting go keep
 module _ {X : Type 0} (g : Account LoadJob → X) (fill : (now : ℕ) (a : Account LoadJob) → g (account_with_replenishment now a) ≡ g a)
