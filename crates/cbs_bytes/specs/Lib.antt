@@ -1,3 +1,4 @@
 pub mod Counted
 pub mod Reads
+pub mod Writers
 pub mod Writes

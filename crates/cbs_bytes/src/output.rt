@@ -1,9 +1,9 @@
 //! Writers that count their failed calls, and calls that write a whole text.
 
-ghost use Rattle.std.specs.Prelude.{◌≡◌, ℕ, ◌+◌, ◌<◌, ◌≤◌, ◌^◌, ◌-◌, List, length, take, Option, IfOk, OnOk, OnErr};
-ghost use Rattle.std.specs.Io.KnownBytes.{Appends, Keeps};
+ghost use Rattle.std.specs.Prelude.{◌≡◌, ◌<◌, ◌≤◌, length, take, IfOk, OnOk, OnErr};
 ghost use Rattle.cbs_bytes.specs.Counted.{Counted};
-ghost use Rattle.cbs_bytes.specs.Writes.{AppendsFront, joined};
+ghost use Rattle.cbs_bytes.specs.Writers.{Writer, MayWrite, Writes, Fails, FailsToWrite};
+ghost use Rattle.cbs_bytes.specs.Writes.{joined};
 
 use std::io;
 use std::io::{ErrorKind, Write};
@@ -11,19 +11,16 @@ use std::marker::Model;
 
 /// A writer of bytes, which counts its calls that failed.
 pub trait ByteOutput {
-    // The bytes that were written so far, if they are known.
-    ghost written: { Self → Option (List ℕ) };
-
-    // How many calls failed.
-    ghost failed: { Self → ℕ };
+    // What was written so far, and how many calls failed.
+    ghost state: { Self → Writer };
 
     /// Writes a prefix of the bytes, and returns its length. It is 0 only if there are no bytes. A call that fails has
     /// written nothing.
     fn write(&mut self, bytes: &[u8]) -> io::Result<usize>
-        requires { failed self.old < 2 ^ 64 - 1 }
+        requires { MayWrite (state self.old) }
         ensures took { IfOk result (λ n. (n ≤ length bytes.now) × (0 < length bytes.now → 0 < n)) }
-        ensures ok { IfOk result (λ n. Appends (written self.old) (written self.new) (take n bytes.now) × (failed self.new ≡ failed self.old)) }
-        ensures err { OnErr result (Keeps (written self.old) (written self.new) × (failed self.new ≡ failed self.old + 1)) };
+        ensures ok { IfOk result (λ n. Writes (state self.old) (state self.new) (take n bytes.now)) }
+        ensures err { OnErr result (Fails (state self.old) (state self.new)) };
 }
 
 /// Any writer of the library, with a count of its calls that failed.
@@ -49,9 +46,7 @@ impl<W> ToWrite<W> {
 }
 
 impl<W: Write> ByteOutput for ToWrite<W> {
-    ghost written = { λ s. W.contents s.inner };
-
-    ghost failed = { λ s. s.failed };
+    ghost state = { λ s. record { written = W.contents s.inner; failed = s.failed } };
 
     fn write(&mut self, bytes: &[u8]) -> io::Result<usize> {
         let error = match self.writer.write(bytes) {
@@ -66,10 +61,9 @@ impl<W: Write> ByteOutput for ToWrite<W> {
 
 /// Writes the whole text. If it refuses, a prefix of the text is written.
 pub fn write_text<O: ByteOutput>(out: &mut O, text: &[u8]) -> io::Result<()>
-    requires { O.failed out.old < 2 ^ 64 - 1 }
-    ensures ok { OnOk result (Appends (O.written out.old) (O.written out.new) text.now × (O.failed out.new ≡ O.failed out.old)) }
-    ensures err { OnErr result ((O.failed out.new ≡ O.failed out.old + 1)
-        × AppendsFront (O.written out.old) (O.written out.new) text.now) }
+    requires { MayWrite (O.state out.old) }
+    ensures ok { OnOk result (Writes (O.state out.old) (O.state out.new) text.now) }
+    ensures err { OnErr result (FailsToWrite (O.state out.old) (O.state out.new) text.now) }
 {
     let mut done = 0;
     while done < text.len() {
@@ -80,10 +74,9 @@ pub fn write_text<O: ByteOutput>(out: &mut O, text: &[u8]) -> io::Result<()>
 
 /// Writes the pieces in turn, and takes no memory. If it refuses, a prefix of them is written.
 pub fn write_pieces<O: ByteOutput>(out: &mut O, pieces: &[&str]) -> io::Result<()>
-    requires { O.failed out.old < 2 ^ 64 - 1 }
-    ensures ok { OnOk result (Appends (O.written out.old) (O.written out.new) (joined pieces.now) × (O.failed out.new ≡ O.failed out.old)) }
-    ensures err { OnErr result ((O.failed out.new ≡ O.failed out.old + 1)
-        × AppendsFront (O.written out.old) (O.written out.new) (joined pieces.now)) }
+    requires { MayWrite (O.state out.old) }
+    ensures ok { OnOk result (Writes (O.state out.old) (O.state out.new) (joined pieces.now)) }
+    ensures err { OnErr result (FailsToWrite (O.state out.old) (O.state out.new) (joined pieces.now)) }
 {
     for piece in pieces {
         write_text(out, piece.as_bytes())?;

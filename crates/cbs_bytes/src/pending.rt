@@ -1,8 +1,7 @@
 //! Text that waits to be written.
 
-ghost use Rattle.std.specs.Prelude.{◌≡◌, ◌+◌, ◌-◌, ◌<◌, ◌^◌, [], ◌++◌, OnOk, OnErr, IfOk};
-ghost use Rattle.std.specs.Io.KnownBytes.{Appends};
-ghost use Rattle.cbs_bytes.specs.Writes.{AppendsFront, AppendsAllBut};
+ghost use Rattle.std.specs.Prelude.{◌≡◌, [], ◌++◌, OnOk, OnErr, IfOk};
+ghost use Rattle.cbs_bytes.specs.Writers.{MayWrite, Writes, WritesAllBut, FailsToWrite};
 
 use crate::output::{ByteOutput, write_text};
 use std::alloc::{AllocError, Global};
@@ -37,10 +36,9 @@ impl Pending {
 
     /// Writes all text that waits. If it refuses, a prefix of that text is written.
     pub fn flush<O: ByteOutput>(&mut self, out: &mut O) -> io::Result<()>
-        requires { O.failed out.old < 2 ^ 64 - 1 }
-        ensures ok { OnOk result (Appends (O.written out.old) (O.written out.new) self.old × (self.new ≡ []) × (O.failed out.new ≡ O.failed out.old)) }
-        ensures err { OnErr result ((O.failed out.new ≡ O.failed out.old + 1)
-            × AppendsFront (O.written out.old) (O.written out.new) self.old) }
+        requires { MayWrite (O.state out.old) }
+        ensures ok { OnOk result (Writes (O.state out.old) (O.state out.new) self.old × (self.new ≡ [])) }
+        ensures err { OnErr result (FailsToWrite (O.state out.old) (O.state out.new) self.old) }
     {
         write_text(out, self.text.as_bytes())?;
         self.text.clear();
@@ -49,10 +47,9 @@ impl Pending {
 
     /// Writes the text that waits if this many more bytes would not fit.
     fn make_room<O: ByteOutput>(&mut self, bytes: usize, out: &mut O) -> io::Result<()>
-        requires { O.failed out.old < 2 ^ 64 - 1 }
-        ensures ok { OnOk result (AppendsAllBut (O.written out.old) (O.written out.new) self.new self.old × (O.failed out.new ≡ O.failed out.old)) }
-        ensures err { OnErr result ((O.failed out.new ≡ O.failed out.old + 1)
-            × AppendsFront (O.written out.old) (O.written out.new) self.old) }
+        requires { MayWrite (O.state out.old) }
+        ensures ok { OnOk result (WritesAllBut (O.state out.old) (O.state out.new) self.new self.old) }
+        ensures err { OnErr result (FailsToWrite (O.state out.old) (O.state out.new) self.old) }
     {
         if bytes > CAPACITY.saturating_sub(self.text.len()) {
             self.flush(out)?;
@@ -63,10 +60,9 @@ impl Pending {
     /// Adds the text to what waits. If it does not fit, what waits is written first. A text for which there is neither
     /// room nor memory is written at once.
     pub fn push<O: ByteOutput>(&mut self, text: &str, out: &mut O) -> io::Result<()>
-        requires { O.failed out.old < 2 ^ 64 - 1 }
-        ensures ok { OnOk result (AppendsAllBut (O.written out.old) (O.written out.new) self.new (self.old ++ text.now) × (O.failed out.new ≡ O.failed out.old)) }
-        ensures err { OnErr result ((O.failed out.new ≡ O.failed out.old + 1)
-            × AppendsFront (O.written out.old) (O.written out.new) (self.old ++ text.now)) }
+        requires { MayWrite (O.state out.old) }
+        ensures ok { OnOk result (WritesAllBut (O.state out.old) (O.state out.new) self.new (self.old ++ text.now)) }
+        ensures err { OnErr result (FailsToWrite (O.state out.old) (O.state out.new) (self.old ++ text.now)) }
     {
         self.make_room(text.len(), out)?;
         let Err(_) = self.text.push_str(text) else {

@@ -26,8 +26,8 @@ use Rattle.cbs_steps.proofs.PaidUnits.{paid_after}
 use Rattle.cbs_simulate.specs.Loading.{loading, job_of}
 use Rattle.cbs_simulate.specs.MoveLaws.{AllMoves}
 use Rattle.cbs_simulate.specs.Moves.{Move, submit, run, pass, charge, Simulation, after_move, after_moves, moves_of}
-use Rattle.cbs_simulate.specs.Shown.{Sight, answer_in, promised_in, sight_of, shown}
-use Rattle.cbs_simulate.specs.declared.event.Event.TheVariants as happening
+use Rattle.cbs_simulate.specs.Shown.{arrival_of, seen_of, shown}
+use Rattle.cbs_views.specs.Steps.{answer_in, promised_in, submit_seen, view_seen}
 use Rattle.cbs_simulate.specs.declared.load_job.LoadJob.{LoadJob}
 use Rattle.cbs_simulate.specs.declared.release.Release.{Release}
 use Rattle.cbs_report.specs.Figures.{steps_of, is_server, response, newest, settled, waiting, oldest_finished, finished as ended_of}
@@ -46,8 +46,7 @@ use Rattle.cbs_views.specs.declared.seen.Event.{Event}
 use Rattle.cbs_views.specs.declared.seen.Event.TheVariants as event
 use Rattle.cbs_views.specs.declared.seen.Seen.{Seen}
 use Rattle.cbs_planning.specs.Kept.{KeepsPromises}
-use Rattle.cbs_planning.specs.Loads.{start_of, withins, seen_in}
-use Rattle.cbs_planning.specs.Sights.{event_seen, seen_of, arrival_of, view_seen}
+use Rattle.cbs_planning.specs.Loads.{start_of, seen_in}
 use Rattle.cbs_planning.proofs.KeptReports.{IsSoon, CameFrom, Tells, all_append, listed, tells_still, tells_job, tells_unit, tells_done, tells_charge}
 use Rattle.cbs_planning.proofs.ThrottledTicks.{counted}
 use Rattle.cbs_planning.proofs.WaitingMoves.{of_unit, of_submit}
@@ -121,24 +120,24 @@ module _ (s : ℕ) (released : ℕ → ℕ) (time : ℕ) where
   ]
 
   -- a submit
-  told_submit : (w v : World LoadJob) (within : List (Option ℕ)) (r : Release) (o : Option CoreError) (promised : Result ℕ CoreError → Option ℕ)
+  told_submit : (w v : World LoadJob) (r : Release) (o : Option CoreError) (promised : Result ℕ CoreError → Option ℕ)
       (view : Event → Option ServerView) (own : List Seen)
       → s < length w.accounts → (let a = account w.accounts s in a.got ≤ need loading a (length a.accepted))
       → (r.server ≡ s → (o ≡ None) × (released (length (account w.accounts s).accepted) ≡ r.tick) × (0 < r.units))
       → Tells released time (account w.accounts s) (steps_of s own)
       → (let answer = answer_in (submit_reply w r.server (job_of r) o) in
-      let e = event_seen within (happening.Submitted r answer (promised answer)) in
+      let e = submit_seen (arrival_of r) answer (promised answer) in
       Tells released time (account (after_submit loading w r.server (job_of r) o).accounts s) (steps_of s (record { clock = v.now; event = e; view = view e } ∷ own)))
-  told_submit w v within r o promised view own lt paid kept h =
+  told_submit w v r o promised view own lt paid kept h =
       let a = account w.accounts s in
       let answer = answer_in (submit_reply w r.server (job_of r) o) in
-      let e = event_seen within (happening.Submitted r answer (promised answer)) in
+      let e = submit_seen (arrival_of r) answer (promised answer) in
       elim (cases_Bool (eqb r.server s)) [
         | inr n ↦
             let ne : r.server ≢ s = λ same. let y : eqb r.server s ≡ true = grind (arith, nat_tests) in cc in
             let there = submit_elsewhere w s r.server (job_of r) o ne in
             tells_other a (account (after_submit loading w r.server (job_of r) o).accounts s) (record { clock = v.now; event = e; view = view e }) own
-            (ap (is_server s) (of_submit s within r answer (promised answer)).0 ∙ n)
+            (ap (is_server s) (of_submit s r answer (promised answer)).0 ∙ n)
             (ap (λ (x : Account LoadJob). x.accepted) there) (ap (finished loading) there) h
         | inl y ↦
             let same : r.server ≡ s = grind (arith, nat_tests) in
@@ -147,7 +146,7 @@ module _ (s : ℕ) (released : ℕ → ℕ) (time : ℕ) where
             let here : account (changed_at f w.accounts r.server) s ≡ f a = rw same (changed_here f w.accounts s no_account lt) in
             let all : need loading a (length a.accepted) ≡ sum_by loading.left a.accepted = rw (take_all (length a.accepted) a.accepted (omega arith)) refl in
             let count = finished_job w.now (job_of r) a (omega arith) k.2 in
-            rw (k.0, y) (tells_job released time a (account (changed_at f w.accounts r.server) s) (steps_of s own) (job_of r) v.now _ (arrival_of within r) _ _
+            rw (k.0, y) (tells_job released time a (account (changed_at f w.accounts r.server) s) (steps_of s own) (job_of r) v.now _ (arrival_of r) _ _
             (ap (λ (x : Account LoadJob). x.accepted) here) (ap (finished loading) here ∙ count) k.2 (sym k.1) h)
       ]
 
@@ -181,80 +180,79 @@ module _ (s : ℕ) (released : ℕ → ℕ) (time : ℕ) where
           let is : ended ≡ job = cc in
           subst (λ (j : Finish). j.job.came ≡ released (finished loading (account w.accounts s))) is came.0
 
-  module _ (within : List (Option ℕ)) where
-    -- what the server's steps tell so far
-    pub record IsTold (sim : Simulation LoadJob) (seen : List Sight) : Type 0 where
-      pub tells : Tells released time (account (world_after loading sim.history).accounts s) (steps_of s (map (seen_of within) seen))
-      pub last : (M : List (Step LoadJob)) → sim.history.steps ≡ Run ∷ M → chosen loading (after loading sim.history.setup M) ≡ Some s
-          → (after loading sim.history.setup M).now < clock_end → IsLast (after loading sim.history.setup M) (steps_of s (map (seen_of within) seen))
+  -- what the server's steps tell so far
+  pub record IsTold (sim : Simulation LoadJob) (seen : List Seen) : Type 0 where
+    pub tells : Tells released time (account (world_after loading sim.history).accounts s) (steps_of s seen)
+    pub last : (M : List (Step LoadJob)) → sim.history.steps ≡ Run ∷ M → chosen loading (after loading sim.history.setup M) ≡ Some s
+        → (after loading sim.history.setup M).now < clock_end → IsLast (after loading sim.history.setup M) (steps_of s seen)
 
-    -- after one more move
-    told_move : (sim : Simulation LoadJob) (m : Move) (seen : List Sight) → s < length (world_after loading sim.history).accounts
-        → IsKeptMove s released time sim m → IsTold sim seen → IsTold (after_move loading job_of sim m) (sight_of loading job_of sim m ∷ seen)
-    told_move sim (submit r) seen lt kept h =
-        let w = world_after loading sim.history in
-        let v = world_after loading (after_move loading job_of sim (submit r)).history in
-        record {
-          tells = told_submit w v within r (submit_refusal sim.history.setup.backlog (faces loading w) r.server) (promised_in loading v r.server)
-              (view_seen (faces loading v)) (map (seen_of within) seen) lt (paid_after loading sim.history.setup sim.history.steps s)
-              (λ same. let k = kept same in (rw same k.0, k.1, k.2)) h.tells;
-          last = λ M e. cc;
-        }
-    told_move sim run seen lt kept h =
-        let w = world_after loading sim.history in
-        let v = world_after loading (after_move loading job_of sim run).history in
-        let view = view_seen (faces loading v) (event.Ran (run_reply loading w (chosen loading w))) in
-        let own = map (seen_of within) seen in
-        record {
-          tells = told_run w (chosen loading w) (λ v. view_seen (faces loading v) (event.Ran (run_reply loading w (chosen loading w)))) own refl lt kept h.tells;
-          last = λ M e server early.
-              let same : sim.history.steps ≡ M = cc in
-              let o = seen_of within (sight_of loading job_of sim run) in
-              subst (λ A. chosen loading (after loading sim.history.setup A) ≡ Some s → (after loading sim.history.setup A).now < clock_end
-              → IsLast (after loading sim.history.setup A) (steps_of s (o ∷ own))) same
-              (λ server early. last_run w v.now view own server early h.tells) server early;
-        }
-    told_move sim (pass n) seen lt kept h =
-        let w = world_after loading sim.history in
-        let backlog = sim.history.setup.backlog in
-        record {
-          tells = tells_other (account w.accounts s) (account (world_after loading (after_move loading job_of sim (pass n)).history).accounts s)
-              (seen_of within (sight_of loading job_of sim (pass n))) (map (seen_of within) seen) refl
-              (advance_same (λ (a : Account LoadJob). a.accepted) (λ now a. refl) (λ a. refl) backlog w n s)
-              (advance_same (finished loading) (λ now a. refl) (λ a. refl) backlog w n s) h.tells;
-          last = λ M e. cc;
-        }
-    told_move sim (charge t n) seen lt kept h =
-        let w = world_after loading sim.history in
-        let v = world_after loading (after_move loading job_of sim (charge t n)).history in
-        let backlog = sim.history.setup.backlog in
-        let own = map (seen_of within) seen in
-        let jobs = charge_same (λ (a : Account LoadJob). a.accepted) (λ now a. refl) (λ a. refl) (λ n a. refl) backlog w t n s in
-        let done = charge_same (finished loading) (λ now a. refl) (λ a. refl) (λ n a. refl) backlog w t n s in
-        record {
-          tells = elim (cases_Bool (eqb t s)) [
-            | inr other ↦ tells_other (account w.accounts s) (account v.accounts s) (seen_of within (sight_of loading job_of sim (charge t n))) own other jobs done h.tells
-            | inl y ↦
-                let same : t ≡ s = grind (arith, nat_tests) in
-                let k = kept same in
-                rw y (tells_charge released time (account w.accounts s) (account v.accounts s) (steps_of s own) v.now t n _ jobs done
-                (λ job told.
-                let l = h.last k.before k.steps k.server k.early job told in
-                let soon = k.soon l.0 l.1 in
-                let came = l.2 in
-                omega arith) h.tells)
-          ];
-          last = λ M e. cc;
-        }
+  -- after one more move
+  told_move : (sim : Simulation LoadJob) (m : Move) (seen : List Seen) → s < length (world_after loading sim.history).accounts
+      → IsKeptMove s released time sim m → IsTold sim seen → IsTold (after_move loading job_of sim m) (seen_of loading job_of sim m ∷ seen)
+  told_move sim (submit r) seen lt kept h =
+      let w = world_after loading sim.history in
+      let v = world_after loading (after_move loading job_of sim (submit r)).history in
+      record {
+        tells = told_submit w v r (submit_refusal sim.history.setup.backlog (faces loading w) r.server) (promised_in loading v r.server)
+            (view_seen (faces loading v)) seen lt (paid_after loading sim.history.setup sim.history.steps s)
+            (λ same. let k = kept same in (rw same k.0, k.1, k.2)) h.tells;
+        last = λ M e. cc;
+      }
+  told_move sim run seen lt kept h =
+      let w = world_after loading sim.history in
+      let v = world_after loading (after_move loading job_of sim run).history in
+      let view = view_seen (faces loading v) (event.Ran (run_reply loading w (chosen loading w))) in
+      let own = seen in
+      record {
+        tells = told_run w (chosen loading w) (λ v. view_seen (faces loading v) (event.Ran (run_reply loading w (chosen loading w)))) own refl lt kept h.tells;
+        last = λ M e server early.
+            let same : sim.history.steps ≡ M = cc in
+            let o = seen_of loading job_of sim run in
+            subst (λ A. chosen loading (after loading sim.history.setup A) ≡ Some s → (after loading sim.history.setup A).now < clock_end
+            → IsLast (after loading sim.history.setup A) (steps_of s (o ∷ own))) same
+            (λ server early. last_run w v.now view own server early h.tells) server early;
+      }
+  told_move sim (pass n) seen lt kept h =
+      let w = world_after loading sim.history in
+      let backlog = sim.history.setup.backlog in
+      record {
+        tells = tells_other (account w.accounts s) (account (world_after loading (after_move loading job_of sim (pass n)).history).accounts s)
+            (seen_of loading job_of sim (pass n)) seen refl
+            (advance_same (λ (a : Account LoadJob). a.accepted) (λ now a. refl) (λ a. refl) backlog w n s)
+            (advance_same (finished loading) (λ now a. refl) (λ a. refl) backlog w n s) h.tells;
+        last = λ M e. cc;
+      }
+  told_move sim (charge t n) seen lt kept h =
+      let w = world_after loading sim.history in
+      let v = world_after loading (after_move loading job_of sim (charge t n)).history in
+      let backlog = sim.history.setup.backlog in
+      let own = seen in
+      let jobs = charge_same (λ (a : Account LoadJob). a.accepted) (λ now a. refl) (λ a. refl) (λ n a. refl) backlog w t n s in
+      let done = charge_same (finished loading) (λ now a. refl) (λ a. refl) (λ n a. refl) backlog w t n s in
+      record {
+        tells = elim (cases_Bool (eqb t s)) [
+          | inr other ↦ tells_other (account w.accounts s) (account v.accounts s) (seen_of loading job_of sim (charge t n)) own other jobs done h.tells
+          | inl y ↦
+              let same : t ≡ s = grind (arith, nat_tests) in
+              let k = kept same in
+              rw y (tells_charge released time (account w.accounts s) (account v.accounts s) (steps_of s own) v.now t n _ jobs done
+              (λ job told.
+              let l = h.last k.before k.steps k.server k.early job told in
+              let soon = k.soon l.0 l.1 in
+              let came = l.2 in
+              omega arith) h.tells)
+        ];
+        last = λ M e. cc;
+      }
 
-    -- after more moves
-    told_moves : (sim : Simulation LoadJob) (ms : List Move) (seen : List Sight) → s < length sim.history.setup.servers
-        → AllMoves loading job_of (IsKeptMove s released time) sim ms → IsTold sim seen
-        → IsTold (after_moves loading job_of sim ms) (shown loading job_of sim ms seen)
-    told_moves sim [] seen lt kept h = h
-    told_moves sim (m ∷ ms) seen lt kept h =
-        let there : s < length (world_after loading sim.history).accounts = omega (arith, counted sim.history) in
-        told_moves (after_move loading job_of sim m) ms (sight_of loading job_of sim m ∷ seen) lt kept.1 (told_move sim m seen there kept.0 h)
+  -- after more moves
+  told_moves : (sim : Simulation LoadJob) (ms : List Move) (seen : List Seen) → s < length sim.history.setup.servers
+      → AllMoves loading job_of (IsKeptMove s released time) sim ms → IsTold sim seen
+      → IsTold (after_moves loading job_of sim ms) (shown loading job_of sim ms seen)
+  told_moves sim [] seen lt kept h = h
+  told_moves sim (m ∷ ms) seen lt kept h =
+      let there : s < length (world_after loading sim.history).accounts = omega (arith, counted sim.history) in
+      told_moves (after_move loading job_of sim m) ms (seen_of loading job_of sim m ∷ seen) lt kept.1 (told_move sim m seen there kept.0 h)
 
 -- at the start there is no job
 no_jobs_at : (ts : List Terms) (s : ℕ) → (let a : Account LoadJob = account (map new_account ts) s in a.accepted ≡ [])
@@ -273,7 +271,7 @@ promises_kept f load plan = λ s within lt promised.
     let zero_jobs : length a.accepted ≡ 0 = ap length empty in
     let old : Tells tick within a [] = record { some = rw empty tt; refused = refl; before = tt; last = λ job e. cc; came = tt; count = omega arith } in
     let there : s < length sim.history.setup.servers = omega (arith, as_many f.modes f.plan.rates load.moded) in
-    let h = told_moves s tick within (withins f) sim (moves_of loading job_of f.until sim) [] there (promise_kept f load plan s within lt promised)
+    let h = told_moves s tick within sim (moves_of loading job_of f.until sim) [] there (promise_kept f load plan s within lt promised)
     (record { tells = old; last = λ M e. cc }) in
     let own = steps_of s (seen_in f) in
     let all = all_append (IsSoon tick within) (settled own) (option_to_list (newest own)) h.tells.before (listed tick within (newest own) h.tells.last) in

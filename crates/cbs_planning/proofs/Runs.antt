@@ -1,6 +1,6 @@
 -- The steps of a load, as a view sees them.
-use Rattle.std.proofs.Common.{◌≡◌, ◌⊎◌, ◌∙◌, ℕ, List, [], ◌++◌, ap, inl, map, sym, Option, None, refl}
-use Rattle.std.proofs.lemmas.List.{append-nil, map-append}
+use Rattle.std.proofs.Common.{◌≡◌, ◌⊎◌, ◌∙◌, ℕ, List, [], ◌++◌, ap, inl, sym, None, refl}
+use Rattle.std.proofs.lemmas.List.{append-nil}
 use Rattle.cbs_load.specs.Loads.{LoadFile}
 use Rattle.cbs_rate.specs.Plan.{Planned}
 use Rattle.cbs_rules.specs.declared.mode.Mode.{Mode}
@@ -16,8 +16,7 @@ use Rattle.cbs_steps.specs.Setups.{terms_of}
 use Rattle.cbs_report.specs.Reports.{AreAllFigures}
 use Rattle.cbs_report.specs.declared.figures.Figures.{Figures}
 use Rattle.cbs_views.specs.declared.seen.Seen.{Seen}
-use Rattle.cbs_planning.specs.Sights.{seen_of}
-use Rattle.cbs_planning.specs.Loads.{seen_in, withins}
+use Rattle.cbs_planning.specs.Loads.{seen_in}
 use Rattle.cbs_planning.specs.Showing.{SawSome}
 
 -- a simulation of these servers and releases
@@ -29,13 +28,11 @@ simulation modes plan backlog coming = record {
 }
 
 -- a view sees it as it sees the load with these servers and releases
-pub same_seen : (f : LoadFile) (within : List (Option ℕ)) (modes : List Mode) (plan : Planned) (backlog until : ℕ) (coming : List Release)
-    → within ≡ withins f → modes ≡ f.modes → plan ≡ f.plan → backlog ≡ f.backlog → until ≡ f.until
+pub same_seen : (f : LoadFile) (modes : List Mode) (plan : Planned) (backlog until : ℕ) (coming : List Release)
+    → modes ≡ f.modes → plan ≡ f.plan → backlog ≡ f.backlog → until ≡ f.until
     → coming ≡ merged (released_by_all 0 f.sources f.until f.seed)
-    → map (seen_of within) (shown loading job_of (simulation modes plan backlog coming)
-    (moves_of loading job_of until (simulation modes plan backlog coming)) [])
-    ≡ seen_in f
-same_seen f within modes plan backlog until coming a b c d e g = rw (a, b, c, d, e, g) refl
+    → (let sim = simulation modes plan backlog coming in shown loading job_of sim (moves_of loading job_of until sim) [] ≡ seen_in f)
+same_seen f modes plan backlog until coming b c d e g = rw (b, c, d, e, g) refl
 
 -- figures with the same budgets up to the same tick
 pub same_figures : (bs cs : List ℕ) (m n : ℕ) (seen : List Seen) (fs : List Figures) → bs ≡ cs → m ≡ n → AreAllFigures bs m seen fs → AreAllFigures cs n seen fs
@@ -47,20 +44,18 @@ pub saw_none : {S : Type 0} (saw failed : S → S → List Seen → Type 0) (fir
 saw_none saw failed first now steps was = record { later = steps; done = []; all = append-nil steps; seen = inl was }
 
 -- a view of the first moves of a simulation, up to some move, saw the first steps, up to some step
-pub saw_some : {S : Type 0} (saw failed : S → S → List Seen → Type 0) (first now : S) (within : List (Option ℕ)) (until : ℕ) (sim : Simulation LoadJob)
+pub saw_some : {S : Type 0} (saw failed : S → S → List Seen → Type 0) (first now : S) (until : ℕ) (sim : Simulation LoadJob)
     (done left : List Move) (steps : List Seen) → done ++ left ≡ moves_of loading job_of until sim
-    → map (seen_of within) (shown loading job_of sim (moves_of loading job_of until sim) []) ≡ steps
-    → saw first now (map (seen_of within) (shown loading job_of sim done [])) ⊎ failed first now (map (seen_of within) (shown loading job_of sim done []))
+    → shown loading job_of sim (moves_of loading job_of until sim) [] ≡ steps
+    → saw first now (shown loading job_of sim done []) ⊎ failed first now (shown loading job_of sim done [])
     → SawSome saw failed first now steps
-saw_some saw failed first now within until sim done left steps all same seen =
+saw_some saw failed first now until sim done left steps all same seen =
     let rest = after_moves loading job_of sim done in
     let before = shown loading job_of sim done [] in
-    let later = shown loading job_of rest left [] in
     record {
-      later = map (seen_of within) later;
-      done = map (seen_of within) before;
-      all = sym (map-append (seen_of within) later before)
-          ∙ ap (map (seen_of within)) (sym (shown_before loading job_of rest left before) ∙ sym (shown_on loading job_of sim done left []))
-          ∙ ap (λ ms. map (seen_of within) (shown loading job_of sim ms [])) all ∙ same;
+      later = shown loading job_of rest left [];
+      done = before;
+      all = sym (shown_before loading job_of rest left before) ∙ sym (shown_on loading job_of sim done left [])
+          ∙ ap (λ ms. shown loading job_of sim ms []) all ∙ same;
       seen = seen;
     }

@@ -12,7 +12,8 @@ use Rattle.cbs_simulate.specs.MoveLaws.{AllMoves, ChargesOwed, IsGranted}
 use Rattle.cbs_simulate.specs.Drawing.{released_by_all}
 use Rattle.cbs_simulate.specs.Merging.{merged}
 use Rattle.cbs_simulate.specs.Moves.{Move, submit, run, pass, charge, step_of, Simulation, clock_of, after_move, after_moves, moves_of}
-use Rattle.cbs_simulate.specs.Shown.{Sight, answer_in, promised_in, sight_of, shown}
+use Rattle.cbs_simulate.specs.Shown.{seen_of, shown}
+use Rattle.cbs_views.specs.Steps.{answer_in, promised_in}
 use Rattle.cbs_simulate.specs.Simulating.{Simulates}
 use Rattle.cbs_simulate.specs.declared.load_job.LoadJob.{LoadJob}
 use Rattle.cbs_simulate.specs.declared.release.Release.{Release}
@@ -29,8 +30,7 @@ use Rattle.cbs_views.specs.Events.{begun}
 use Rattle.cbs_views.specs.declared.seen.Event.TheVariants as event
 use Rattle.cbs_views.specs.declared.seen.Seen.{Seen}
 use Rattle.cbs_chart.specs.Ticks.{AreInTurn}
-use Rattle.cbs_planning.specs.Loads.{start_of, withins, AreInOrder, AreThrottled}
-use Rattle.cbs_planning.specs.Sights.{seen_of}
+use Rattle.cbs_planning.specs.Loads.{start_of, AreInOrder, AreThrottled}
 use Rattle.cbs_planning.specs.Throttled.{is_waiting, shows, is_charge_of, waits_in, waits_at, count_ticks}
 use Rattle.cbs_planning.proofs.Runs.{simulation}
 use Rattle.cbs_planning.proofs.Waits.{passed, wait, waited_is, wait_none, wait_more, wait_counted}
@@ -68,17 +68,17 @@ pub in_turn_later : (a b : ℕ) (own : List Seen) → a ≤ b → AreInTurn a ow
 in_turn_later a b [] le turn = tt
 in_turn_later a b (o ∷ own) le turn = (turn.0, let h = turn.1 in omega arith)
 
-module _ (s : ℕ) (within : List (Option ℕ)) where
+module _ (s : ℕ) where
   -- what a move leaves of server s
   leaves : (sim : Simulation LoadJob) (m : Move) → IsGranted loading job_of sim m → s < length (world_after loading sim.history).accounts
       → IsAhead (clock_of loading job_of sim) (shows (world_after loading sim.history) s)
       → Leaves s (world_after loading sim.history) (world_after loading (after_move loading job_of sim m).history)
-      (seen_of within (sight_of loading job_of sim m))
+      (seen_of loading job_of sim m)
       (is_charge_of s m)
   leaves sim (submit r) granted lt ahead =
       let w = world_after loading sim.history in
       let answer = answer_in (reply_in loading sim.history (step_of loading job_of (submit r))) in
-      submit_leaves s w within r answer (promised_in loading (world_after loading (after_move loading job_of sim (submit r)).history) r.server answer)
+      submit_leaves s w r answer (promised_in loading (world_after loading (after_move loading job_of sim (submit r)).history) r.server answer)
       (submit_refusal sim.history.setup.backlog (faces loading w) r.server) lt ahead
   leaves sim run granted lt ahead = let w = world_after loading sim.history in run_leaves s w (chosen loading w) refl lt ahead
   leaves sim (pass n) granted lt ahead = let w = world_after loading sim.history in pass_leaves s w n (leb (w.now + n) clock_end) ahead
@@ -90,18 +90,18 @@ module _ (s : ℕ) (within : List (Option ℕ)) where
 
   -- The ticks so far are counted, and what is computed from its steps is right, however many ticks pass before its next
   -- step.
-  record Reckons (sim : Simulation LoadJob) (seen : List Sight) (count : ℕ) : Type 0 where
-    so_far : (n : ℕ) → throttled (clock_of loading job_of sim + n) (steps_of s (map (seen_of within) seen))
+  record Reckons (sim : Simulation LoadJob) (seen : List Seen) (count : ℕ) : Type 0 where
+    so_far : (n : ℕ) → throttled (clock_of loading job_of sim + n) (steps_of s seen)
         ≡ count + wait (clock_of loading job_of sim) n (shows (world_after loading sim.history) s)
     ahead : IsAhead (clock_of loading job_of sim) (shows (world_after loading sim.history) s)
-    turn : AreInTurn (clock_of loading job_of sim) (steps_of s (map (seen_of within) seen))
+    turn : AreInTurn (clock_of loading job_of sim) (steps_of s seen)
 
   -- the view when this many ticks have passed
   shown_ticks : (j : ℕ) (w : World LoadJob) → shows (ticks j w) s ≡ passed w.now j (shows w s)
   shown_ticks zero w = ap (λ v. shows v s) (ticks_none w)
   shown_ticks (suc j) w = ap (λ v. shows v s) (ticks_some (suc j) w (omega arith)) ∙ shown_jump s (suc j) w
 
-  module _ (sim : Simulation LoadJob) (m : Move) (seen : List Sight) (count : ℕ) (old : Reckons sim seen count) where
+  module _ (sim : Simulation LoadJob) (m : Move) (seen : List Seen) (count : ℕ) (old : Reckons sim seen count) where
     abbrev w : World LoadJob
     w = world_after loading sim.history
 
@@ -109,14 +109,14 @@ module _ (s : ℕ) (within : List (Option ℕ)) where
     v = world_after loading (after_move loading job_of sim m).history
 
     abbrev o : Seen
-    o = seen_of within (sight_of loading job_of sim m)
+    o = seen_of loading job_of sim m
 
     abbrev own : List Seen
-    own = steps_of s (map (seen_of within) seen)
+    own = steps_of s seen
 
     -- after a step of its own
     after_own : (k : ℕ) → v.now ≡ w.now + k → IsAhead v.now (shows v s) → IsOwn s w v o (is_charge_of s m)
-        → Reckons (after_move loading job_of sim m) (sight_of loading job_of sim m ∷ seen) (count + count_ticks (waits_in sim m s) w.now k)
+        → Reckons (after_move loading job_of sim m) (seen_of loading job_of sim m ∷ seen) (count + count_ticks (waits_in sim m s) w.now k)
     after_own k clock ahead h =
         let none : count_ticks (waits_in sim m s) w.now k ≡ 0 = count_none (waits_in sim m s) w.now k (λ i from to. h.none i from (omega arith)) in
         let z : w.now + 0 ≡ w.now = omega arith in
@@ -137,7 +137,7 @@ module _ (s : ℕ) (within : List (Option ℕ)) where
 
     -- after a step of another server
     after_other : (k : ℕ) → v.now ≡ w.now + k → IsAhead v.now (shows v s) → IsOther s k w v o (is_charge_of s m)
-        → Reckons (after_move loading job_of sim m) (sight_of loading job_of sim m ∷ seen) (count + count_ticks (waits_in sim m s) w.now k)
+        → Reckons (after_move loading job_of sim m) (seen_of loading job_of sim m ∷ seen) (count + count_ticks (waits_in sim m s) w.now k)
     after_other k clock ahead h =
         let f = shows w s in
         let each : (j : ℕ) → 0 ≤ j → j < 0 + k → waits_in sim m s (w.now + j) ≡ is_waiting (passed w.now j f) =
@@ -165,25 +165,25 @@ module _ (s : ℕ) (within : List (Option ℕ)) where
 
     -- after a step of any server
     after_it : (l : Leaves s w v o (is_charge_of s m))
-        → Reckons (after_move loading job_of sim m) (sight_of loading job_of sim m ∷ seen) (count + count_ticks (waits_in sim m s) w.now l.ticks)
+        → Reckons (after_move loading job_of sim m) (seen_of loading job_of sim m ∷ seen) (count + count_ticks (waits_in sim m s) w.now l.ticks)
     after_it l = elim l.sort [
       | inl h ↦ after_own l.ticks l.clock l.ahead h
       | inr h ↦ after_other l.ticks l.clock l.ahead h
     ]
 
   -- the same up to the end, after these moves more
-  record Reckoned (until : ℕ) (sim : Simulation LoadJob) (ms : List Move) (seen : List Sight) (count : ℕ) : Type 0 where
+  record Reckoned (until : ℕ) (sim : Simulation LoadJob) (ms : List Move) (seen : List Seen) (count : ℕ) : Type 0 where
     soon : clock_of loading job_of sim ≤ until
-    ticks : throttled until (steps_of s (map (seen_of within) (shown loading job_of sim ms seen)))
+    ticks : throttled until (steps_of s (shown loading job_of sim ms seen))
         ≡ count + count_ticks (waits_at sim ms s) (clock_of loading job_of sim) (until - clock_of loading job_of sim)
-    turn : AreInTurn until (steps_of s (map (seen_of within) (shown loading job_of sim ms seen)))
+    turn : AreInTurn until (steps_of s (shown loading job_of sim ms seen))
 
-  reckoned : (until : ℕ) (sim : Simulation LoadJob) (ms : List Move) (seen : List Sight) (count : ℕ) → s < length sim.history.setup.servers
+  reckoned : (until : ℕ) (sim : Simulation LoadJob) (ms : List Move) (seen : List Seen) (count : ℕ) → s < length sim.history.setup.servers
       → Reckons sim seen count → AllMoves loading job_of (IsGranted loading job_of) sim ms → clock_of loading job_of (after_moves loading job_of sim ms) ≡ until
       → Reckoned until sim ms seen count
   reckoned until sim [] seen count lt old granted end =
       let c = clock_of loading job_of sim in
-      let own = steps_of s (map (seen_of within) seen) in
+      let own = steps_of s seen in
       let z : until - c ≡ 0 = omega arith in
       let e : until ≡ c + 0 = omega arith in
       let same = ap (λ t. throttled t own) e in
@@ -201,7 +201,7 @@ module _ (s : ℕ) (within : List (Option ℕ)) where
       let l = leaves sim m granted.0 there old.ahead in
       let k = l.ticks in
       let clock : d ≡ c + k = l.clock in
-      let rest = reckoned until next ms (sight_of loading job_of sim m ∷ seen) (count + count_ticks (waits_in sim m s) c k) lt
+      let rest = reckoned until next ms (seen_of loading job_of sim m ∷ seen) (count + count_ticks (waits_in sim m s) c k) lt
       (after_it sim m seen count old l) granted.1 end in
       let le = rest.soon in
       let split : until - c ≡ k + (until - d) = omega arith in
@@ -231,7 +231,7 @@ all_granted until sim [] charges = tt
 all_granted until sim (m ∷ ms) charges = (charges.0.granted, all_granted until (after_move loading job_of sim m) ms charges.1)
 
 -- each simulation that a core made is such a one
-pub whole_if_made : {S : Type 0} (saw : S → S → List Sight → Type 0) (until : ℕ) (sim : Simulation LoadJob) (new : CoreHeld LoadJob) (w v : S)
+pub whole_if_made : {S : Type 0} (saw : S → S → List Seen → Type 0) (until : ℕ) (sim : Simulation LoadJob) (new : CoreHeld LoadJob) (w v : S)
     → Simulates loading job_of until saw sim new w v → IsWhole until sim
 whole_if_made saw until sim new w v made = record {
   granted = all_granted until sim (moves_of loading job_of until sim) made.charges;
@@ -246,18 +246,18 @@ whole_of f modes plan backlog until coming a b c d e whole = rw (a, b, c, d, e) 
 
 -- all is reckoned up to the end of a load
 reckoned_of : (f : LoadFile) → length f.modes ≡ length f.plan.rates → IsWhole f.until (start_of f) → (s : ℕ) → s < length f.plan.rates
-    → Reckoned s (withins f) f.until (start_of f) (moves_of loading job_of f.until (start_of f)) [] 0
+    → Reckoned s f.until (start_of f) (moves_of loading job_of f.until (start_of f)) [] 0
 reckoned_of f moded whole s lt =
     let sim = start_of f in
     let w = world_after loading sim.history in
     let start = at_start sim.history.setup.servers s in
     let there : s < length sim.history.setup.servers = omega (arith, as_many f.modes f.plan.rates moded) in
-    let old : Reckons s (withins f) sim [] 0 = record {
+    let old : Reckons s sim [] 0 = record {
       so_far = λ n. let none : wait 0 n (shows w s) ≡ 0 = rw (start.0) refl in omega (arith, none);
       ahead = start.1;
       turn = tt;
     } in
-    reckoned s (withins f) f.until sim (moves_of loading job_of f.until sim) [] 0 there old whole.granted whole.ends
+    reckoned s f.until sim (moves_of loading job_of f.until sim) [] 0 there old whole.granted whole.ends
 
 -- the throttled ticks that are computed from a server's own steps are those in which it is throttled and has a job
 pub throttled_is : (f : LoadFile) → length f.modes ≡ length f.plan.rates → IsWhole f.until (start_of f) → AreThrottled f

@@ -11,7 +11,7 @@ use Rattle.cbs_lists.proofs.Lists.{length-changed_at, changed_here, changed_else
 use Rattle.cbs_job.specs.Work.{whole}
 use Rattle.cbs_rules.specs.Rules.{clock_end}
 use Rattle.cbs_simulate.specs.Loading.{loading, job_of}
-use Rattle.cbs_simulate.specs.declared.event.Event.TheVariants as happening
+use Rattle.cbs_simulate.specs.Shown.{arrival_of}
 use Rattle.cbs_simulate.specs.declared.load_job.LoadJob.{LoadJob}
 use Rattle.cbs_simulate.specs.declared.release.Release.{Release}
 use Rattle.cbs_steps.specs.Accounts.{Account, need, finished, face_of, no_account, account_with_job}
@@ -28,10 +28,10 @@ use Rattle.cbs_steps.proofs.Running.{replenished_account, advance_jumps, charge_
 use Rattle.cbs_steps.proofs.Ticks.{jumped, ticks_none}
 use Rattle.cbs_report.specs.Figures.{is_server}
 use Rattle.cbs_views.specs.Events.{server_of, server_of_unit, ticks_of, ticks_of_run, begun}
+use Rattle.cbs_views.specs.Steps.{submit_seen, view_at, view_seen, seen_at}
 use Rattle.cbs_views.specs.declared.seen.Event.{Event}
 use Rattle.cbs_views.specs.declared.seen.Event.TheVariants as event
 use Rattle.cbs_views.specs.declared.seen.Seen.{Seen}
-use Rattle.cbs_planning.specs.Sights.{event_seen, view_at, view_seen}
 use Rattle.cbs_planning.specs.Throttled.{is_waiting, shows}
 use Rattle.cbs_planning.proofs.Waits.{passed, ready_waits_not}
 
@@ -59,7 +59,7 @@ module _ (s : ℕ) where
 
   -- a view sees the step so
   abbrev pub seen_as : Event → World LoadJob → Seen
-  seen_as e v = record { clock = v.now; event = e; view = view_seen (faces loading v) e }
+  seen_as e v = seen_at v.now (faces loading v) e
 
   -- the view of a server that exists
   view_there : (accounts : List (Account LoadJob)) (i : ℕ) → i < length accounts
@@ -213,10 +213,10 @@ module _ (s : ℕ) where
       rw (charge_jumps w t (suc n) (omega arith)) goal
 
   -- a submit is a step of its server, and takes no tick
-  pub of_submit : (within : List (Option ℕ)) (r : Release) (a : Result ℕ CoreError) (p : Option ℕ)
-      → (let e = event_seen within (happening.Submitted r a p) in (server_of e ≡ Some r.server) × (ticks_of e ≡ 0))
-  of_submit within r (Ok q) p = (refl, refl)
-  of_submit within r (Err e) p = (refl, refl)
+  pub of_submit : (r : Release) (a : Result ℕ CoreError) (p : Option ℕ)
+      → (let e = submit_seen (arrival_of r) a p in (server_of e ≡ Some r.server) × (ticks_of e ≡ 0))
+  of_submit r (Ok q) p = (refl, refl)
+  of_submit r (Err e) p = (refl, refl)
 
   -- what a step of a server leaves, if it takes no tick
   at_once : (w v : World LoadJob) (t : ℕ) (e : Event) → v.now ≡ w.now → server_of e ≡ Some t → ticks_of e ≡ 0 → s < length v.accounts
@@ -255,15 +255,15 @@ module _ (s : ℕ) where
     | inr f ↦ subst (λ g. IsAhead w.now g) (sym (shown_changed (account_with_job loading w.now j) w t f)) ahead
   ]
 
-  pub submit_leaves : (w : World LoadJob) (within : List (Option ℕ)) (r : Release) (a : Result ℕ CoreError) (p : Option ℕ) (o : Option CoreError)
+  pub submit_leaves : (w : World LoadJob) (r : Release) (a : Result ℕ CoreError) (p : Option ℕ) (o : Option CoreError)
       → s < length w.accounts → IsAhead w.now (shows w s)
-      → (let v = after_submit loading w r.server (job_of r) o in Leaves w v (seen_as (event_seen within (happening.Submitted r a p)) v) false)
-  submit_leaves w within r a p (Some e) lt ahead =
-      let of = of_submit within r a p in
-      at_once w w r.server (event_seen within (happening.Submitted r a p)) refl of.0 of.1 lt ahead (λ f. refl)
-  submit_leaves w within r a p None lt ahead =
-      let of = of_submit within r a p in
+      → (let v = after_submit loading w r.server (job_of r) o in Leaves w v (seen_as (submit_seen (arrival_of r) a p) v) false)
+  submit_leaves w r a p (Some e) lt ahead =
+      let of = of_submit r a p in
+      at_once w w r.server (submit_seen (arrival_of r) a p) refl of.0 of.1 lt ahead (λ f. refl)
+  submit_leaves w r a p None lt ahead =
+      let of = of_submit r a p in
       let v : World LoadJob = record w { accounts = changed_at (account_with_job loading w.now (job_of r)) w.accounts r.server } in
       let there : s < length v.accounts = omega (arith, length-changed_at (account_with_job loading w.now (job_of r)) w.accounts r.server) in
-      at_once w v r.server (event_seen within (happening.Submitted r a p)) refl of.0 of.1 there (ahead_with_job w r.server (job_of r) lt ahead)
+      at_once w v r.server (submit_seen (arrival_of r) a p) refl of.0 of.1 there (ahead_with_job w r.server (job_of r) lt ahead)
       (shown_changed (account_with_job loading w.now (job_of r)) w r.server)

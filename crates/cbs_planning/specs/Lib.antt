@@ -1,4 +1,3 @@
-pub mod Sights
 pub mod Throttled
 pub mod Loads
 pub mod Tasks

@@ -1,5 +1,5 @@
 -- The outcome of a load: its steps as a view sees them, and its reports.
-use Rattle.std.specs.Prelude.{◌≡◌, ℕ, ◌<◌, eqb, min, max, if◌then◌else◌, List, [], ◌∷◌, length, map, sum_by, slice_get, string_bytes, Option, Some, None}
+use Rattle.std.specs.Prelude.{◌≡◌, ℕ, ◌<◌, eqb, min, max, if◌then◌else◌, List, [], ◌∷◌, length, sum_by, slice_get, string_bytes, Option, Some, None}
 use Rattle.cbs_chart.specs.Ticks.{AreInTurn}
 use Rattle.cbs_load.specs.Loads.{LoadFile}
 use Rattle.cbs_rate.specs.Plan.{common_multiple, share}
@@ -17,7 +17,6 @@ use Rattle.cbs_steps.specs.Setups.{terms_of}
 use Rattle.cbs_print.specs.declared.report.RunReport.{RunReport}
 use Rattle.cbs_print.specs.declared.report.ServerReport.{ServerReport}
 use Rattle.cbs_views.specs.declared.seen.Seen.{Seen}
-use Rattle.cbs_planning.specs.Sights.{seen_of}
 use Rattle.cbs_planning.specs.Throttled.{ticks_waiting}
 
 -- the start of a load: no step is made yet, and all releases of its sources are still to come
@@ -32,13 +31,9 @@ start_of f = record {
 abbrev pub throttled_ticks : LoadFile → ℕ → ℕ
 throttled_ticks f s = ticks_waiting f.until (start_of f) s
 
--- for each source, within how many ticks its jobs are to be finished
-abbrev pub withins : LoadFile → List (Option ℕ)
-withins f = map (λ t. t.within) f.sources
-
 -- the steps of a load, as a view sees them, the newest first
 abbrev pub seen_in : LoadFile → List Seen
-seen_in f = map (seen_of (withins f)) (shown loading job_of (start_of f) (moves_of loading job_of f.until (start_of f)) [])
+seen_in f = shown loading job_of (start_of f) (moves_of loading job_of f.until (start_of f)) []
 
 -- a range that also contains one number more, if there is one
 abbrev pub widened : Option ℕ → Option Bounds → Option Bounds

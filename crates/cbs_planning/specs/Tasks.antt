@@ -1,5 +1,5 @@
 -- The outcome of a task file: its steps as a view sees them, and its reports.
-use Rattle.std.specs.Prelude.{◌≡◌, ◌⊎◌, ℕ, List, [], ◌∷◌, ◌++◌, codes, decimal, length, sum_by, slice_get, string_bytes, Option, Some, None, Result, Ok, Err}
+use Rattle.std.specs.Prelude.{◌≡◌, ◌⊎◌, ℕ, List, [], ◌∷◌, ◌++◌, codes, decimal, length, sum_by, slice_get, string_bytes, Some, None}
 use Rattle.cbs_core.specs.Agreement.{Agrees}
 use Rattle.cbs_core.specs.Held.{CoreHeld}
 use Rattle.cbs_file.specs.TaskFiles.{File}
@@ -9,23 +9,19 @@ use Rattle.cbs_rate.specs.Plan.{common_multiple, share}
 use Rattle.cbs_report.specs.Figures.{AreFigures, steps_of, told, total}
 use Rattle.cbs_report.specs.Tallies.{ticks_idle}
 use Rattle.cbs_rules.specs.Setups.{ModedPlan}
-use Rattle.cbs_simulate.specs.Moves.{ran_in}
-use Rattle.cbs_simulate.specs.Shown.{answer_in, promised_in}
 use Rattle.cbs_steps.specs.Continuations.{◌⊕⊕◌}
 use Rattle.cbs_steps.specs.History.{World, History, ◌⊕◌, faces, world_after, reply_in}
 use Rattle.cbs_steps.specs.Setups.{terms_of}
-use Rattle.cbs_steps.specs.declared.error.CoreError.{CoreError}
 use Rattle.cbs_steps.specs.declared.reply.Reply.{Reply}
-use Rattle.cbs_steps.specs.declared.reply.Reply.TheVariants as reply
 use Rattle.cbs_steps.specs.declared.step.Step.{Step}
 use Rattle.cbs_steps.specs.declared.step.Step.TheVariants as step
+use Rattle.cbs_views.specs.Steps.{answer_in, ran_in, refusal_in, promised_in, submit_seen, advance_seen, close_seen, charge_seen, seen_at}
 use Rattle.cbs_views.specs.declared.seen.Arrival.{Arrival}
 use Rattle.cbs_views.specs.declared.seen.Event.{Event}
 use Rattle.cbs_views.specs.declared.seen.Event.TheVariants as event
 use Rattle.cbs_views.specs.declared.seen.Seen.{Seen}
 use Rattle.cbs_print.specs.declared.report.RunReport.{RunReport}
 use Rattle.cbs_print.specs.declared.report.ServerReport.{ServerReport}
-use Rattle.cbs_planning.specs.Sights.{view_seen}
 use Rattle.cbs_planning.specs.declared.task_steps.Asked.{Asked}
 use Rattle.cbs_planning.specs.declared.task_steps.Asked.TheVariants.{Submit, Run, Advance, Close, Charge}
 
@@ -37,34 +33,9 @@ asked_of (step.Advance n) = Advance n
 asked_of (step.Close s) = Close s
 asked_of (step.Charge s n) = Charge s n
 
--- why a reply refuses an advance, a close or a charge, if it does
-abbrev pub refusal_in : Reply FileJob → Option CoreError
-refusal_in (reply.Refused e) = Some e
-refusal_in _ = None
-
 -- a job that is submitted at a tick. There is no number of ticks within which it is to be finished
 abbrev pub task_arrival : ℕ → ℕ → ℕ → Arrival
 task_arrival now s units = record { server = s; came = now; units = units; within = None }
-
--- the event of a submit, by its result and by the tick that is promised then
-abbrev pub submit_seen : Arrival → Result ℕ CoreError → Option ℕ → Event
-submit_seen job (Ok q) promised = event.Accepted job q promised
-submit_seen job (Err e) promised = event.NotAccepted job e
-
--- the event of an advance, by why it is refused, if it is
-abbrev pub advance_seen : ℕ → Option CoreError → Event
-advance_seen n None = event.Advanced n
-advance_seen n (Some e) = event.NotAdvanced n e
-
--- the event of a close, by why it is refused, if it is
-abbrev pub close_seen : ℕ → Option CoreError → Event
-close_seen s None = event.Closed s
-close_seen s (Some e) = event.NotClosed s e
-
--- the event of a charge, by why it is refused, if it is
-abbrev pub charge_seen : ℕ → ℕ → Option CoreError → Event
-charge_seen s n None = event.Charged s n
-charge_seen s n (Some e) = event.NotCharged s n e
 
 -- the event of a step, by its reply and by the world after it. A submit takes no tick, so the clock after it is the
 -- tick at which it came
@@ -77,9 +48,7 @@ event_of_step w (Charge s n) r = charge_seen s n (refusal_in r)
 
 -- a step, as a view sees it, by its reply and by the world after it
 abbrev pub seen_of_step : World FileJob → Asked → Reply FileJob → Seen
-seen_of_step w x r =
-    let e = event_of_step w x r in
-    record { clock = w.now; event = e; view = view_seen (faces of_files w) e }
+seen_of_step w x r = seen_at w.now (faces of_files w) (event_of_step w x r)
 
 -- the step x after the history M, as a view sees it
 abbrev pub seen_after : History FileJob → Step FileJob → Seen

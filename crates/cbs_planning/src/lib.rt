@@ -9,13 +9,12 @@ mod progress;
 mod task_picture;
 mod task_report;
 mod task_steps;
-mod watched;
 mod within;
 
 pub use cbs_stretches::{NothingShown, shown_of};
 pub use load_picture::picture_of;
 pub use load_report::report_of;
-pub use load_steps::{Stopped, show_load};
+pub use load_steps::show_load;
 pub use progress::{NoProgress, Progress};
 pub use task_picture::{clock_of, task_picture_of};
 pub use task_report::task_report_of;

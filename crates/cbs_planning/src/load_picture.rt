@@ -25,13 +25,11 @@ fn chart_of<P: Progress>(
     ensures in_order { OnOk result (AreInOrder load.now) }
 {
     let view = ChartView::new(alloc, window, load.plan())?;
-    let telling = Telling::new(view, load.until());
-    let shown = show_load(alloc, load, telling, progress);
+    let mut telling = Telling::new(view, load.until());
+    let shown = show_load(alloc, load, &mut telling, progress);
     progress.end();
-    let Ok(told) = shown else {
-        return Err(AllocError);
-    };
-    told.view.into_chart(alloc, load.until())
+    shown?;
+    telling.view.into_chart(alloc, load.until())
 }
 
 /// Returns the picture of a window of a load, which it simulates up to its end. The picture names the file `file`.

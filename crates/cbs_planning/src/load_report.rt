@@ -27,14 +27,12 @@ fn simulated<P: Progress>(
     ensures throttled { OnOk result (AreThrottled load.now) }
 {
     let report = Report::new(alloc, load.plan())?;
-    let telling = Telling::new(report, load.until());
-    let shown = show_load(alloc, load, telling, progress);
+    let mut telling = Telling::new(report, load.until());
+    let shown = show_load(alloc, load, &mut telling, progress);
     progress.end();
-    let Ok(told) = shown else {
-        return Err(AllocError);
-    };
-    let idle = told.view.idle();
-    let figures = told.view.figures(alloc, load.until())?;
+    shown?;
+    let idle = telling.view.idle();
+    let figures = telling.view.figures(alloc, load.until())?;
     Ok((figures, idle))
 }
 

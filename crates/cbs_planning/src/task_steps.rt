@@ -3,18 +3,18 @@
 ghost use Rattle.std.specs.Prelude.{◌≡◌, ◌∷◌, [], List, OnOk, OnErr};
 ghost use Rattle.cbs_core.specs.Agreement.{Agrees, TellsOf};
 ghost use Rattle.cbs_job.specs.FileJobs.{of_files};
-ghost use Rattle.cbs_simulate.specs.Moves.{ran_in};
-ghost use Rattle.cbs_simulate.specs.Shown.{answer_in, promised_in};
 ghost use Rattle.cbs_steps.specs.Continuations.{◌⊕⊕◌};
 ghost use Rattle.cbs_steps.specs.History.{History, ◌⊕◌};
 ghost use Rattle.cbs_steps.specs.Replies.{is_lack};
+ghost use Rattle.cbs_views.specs.Steps.{answer_in, ran_in, refusal_in, promised_in};
+ghost use Rattle.cbs_views.specs.Steps.{submit_seen, advance_seen, close_seen, charge_seen};
 ghost use Rattle.cbs_views.specs.declared.seen.Seen.{Seen};
-ghost use Rattle.cbs_planning.specs.Tasks.{asked_of, refusal_in, advance_seen, close_seen, charge_seen, submit_seen, task_arrival, event_of_step, seen_of_step, seen_after, seen_from};
+ghost use Rattle.cbs_planning.specs.Tasks.{asked_of, task_arrival, event_of_step, seen_of_step, seen_after, seen_from};
 ghost use Rattle.cbs_planning.specs.Tasks.{StopsAmong};
 
-use crate::watched::view_seen;
 use cbs_core::{Core, CoreError, Ran, Reply, Step};
 use cbs_job::FileJob;
+use cbs_simulate::seen_by;
 use cbs_views::{Arrival, Event, Seen, View};
 use std::alloc::AllocError;
 
@@ -163,12 +163,7 @@ fn event_of_step(core: &Core<FileJob>, asked: Asked, reply: &Reply<FileJob>) -> 
 fn seen_of_step(core: &Core<FileJob>, asked: Asked, reply: &Reply<FileJob>) -> Seen
     ensures { TellsOf of_files core.now (λ w. result ≡ seen_of_step w asked reply.now) }
 {
-    let event = event_of_step(core, asked, reply);
-    Seen {
-        clock: core.now(),
-        event,
-        view: view_seen(core, &event),
-    }
+    seen_by(core, event_of_step(core, asked, reply))
 }
 
 /// Makes a step, and shows it to the view. Refuses if out of memory, or if the view fails.

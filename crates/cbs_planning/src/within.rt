@@ -1,10 +1,9 @@
 //! The ticks within which jobs are to be finished.
 
-ghost use Rattle.std.specs.Prelude.{◌≡◌, IfOk, map};
+ghost use Rattle.std.specs.Prelude.{◌≡◌};
 ghost use Rattle.cbs_planning.specs.Loads.{widened, within_of};
 
 use cbs_simulate::{Range, SourceTerms};
-use std::alloc::{AllocError, Global};
 
 /// Returns a range that also contains one number more, if there is one.
 fn widened(number: Option<u64>, range: Option<Range>) -> Option<Range>
@@ -34,18 +33,4 @@ pub(crate) fn within_of(server: u16, sources: &[SourceTerms]) -> Option<Range>
         }
     }
     range
-}
-
-/// Returns, for each source, within how many ticks its jobs are to be finished, if that is wanted.
-pub(crate) fn by_source(
-    alloc: Global,
-    sources: &[SourceTerms],
-) -> Result<Vec<Option<u64>>, AllocError>
-    ensures { IfOk result (λ within. within.items ≡ map (λ t. t.within) sources.now) }
-{
-    let mut within = Vec::with_capacity(alloc, sources.len())?;
-    for source in sources {
-        within.push(source.within)?;
-    }
-    Ok(within)
 }

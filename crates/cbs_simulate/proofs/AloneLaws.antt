@@ -10,7 +10,7 @@ use Rattle.cbs_steps.specs.declared.step.Step.{Step}
 use Rattle.cbs_simulate.specs.Moves.{Move, charged_by, Simulation, after_move, after_moves, moves_of}
 use Rattle.cbs_simulate.specs.MoveLaws.{AllMoves}
 use Rattle.cbs_simulate.specs.Releases.{IsInOrder}
-use Rattle.cbs_simulate.specs.Shown.{Sight}
+use Rattle.cbs_views.specs.declared.seen.Seen.{Seen}
 use Rattle.cbs_simulate.specs.Simulating.{Simulates, SimulatesAlone, Stops, SeesSome}
 use Rattle.cbs_simulate.specs.declared.release.Release.{Release}
 use Rattle.cbs_simulate.proofs.Loop.{first_moves}
@@ -26,7 +26,7 @@ module _ {W : Type 0} (work : Meaning W) (job : Release → W) where
 
   -- from a new core on
   pub alone : (output : (r : Release) → work.output (job r) ≡ r.overrun) (until : ℕ) → until ≤ clock_end
-      → {S : Type 0} (saw : S → S → List Sight → Type 0) (ts : List Terms) (backlog : ℕ) (coming : List Release)
+      → {S : Type 0} (saw : S → S → List Seen → Type 0) (ts : List Terms) (backlog : ℕ) (coming : List Release)
       (new : CoreHeld W) (w v : S) → IsInOrder 0 coming
       → (let setup : Setup = record { servers = ts; backlog = backlog } in
       let sim : Simulation W = record { history = record { setup = setup; steps = [] }; coming = coming; owing = None } in
@@ -51,13 +51,13 @@ module _ {W : Type 0} (work : Meaning W) (job : Release → W) where
         uncharged = λ plain. free_steps work job sim ms (none plain) h.quiet tt;
       }
 
-  -- a watcher saw no move
-  pub sees_none : (until : ℕ) {S : Type 0} (saw failed : S → S → List Sight → Type 0) (sim : Simulation W) (w : S)
+  -- a view saw no move
+  pub sees_none : (until : ℕ) {S : Type 0} (saw failed : S → S → List Seen → Type 0) (sim : Simulation W) (w : S)
       → SeesSome work job until saw failed sim w w
   sees_none until saw failed sim w = record { done = []; left = moves_of work job until sim; all = refl; seen = λ first seen was. inl was }
 
   -- a new core that stopped stopped after the first moves, up to some move
-  pub sees_some : (until : ℕ) → until ≤ clock_end → {S : Type 0} (saw failed : S → S → List Sight → Type 0) (ts : List Terms) (backlog : ℕ)
+  pub sees_some : (until : ℕ) → until ≤ clock_end → {S : Type 0} (saw failed : S → S → List Seen → Type 0) (ts : List Terms) (backlog : ℕ)
       (coming : List Release) (new : CoreHeld W) (w v : S) → IsInOrder 0 coming
       → (let sim : Simulation W = record {
         history = record { setup = record { servers = ts; backlog = backlog }; steps = [] };

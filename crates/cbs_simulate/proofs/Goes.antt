@@ -13,11 +13,13 @@ use Rattle.cbs_steps.specs.declared.reply.Ran.{Ran}
 use Rattle.cbs_steps.specs.declared.reply.Reply.TheVariants as reply
 use Rattle.cbs_steps.specs.declared.step.Step.TheVariants as step
 use Rattle.cbs_simulate.specs.Moves.{Move, submit, run, charge, idle_span, move_on, ran_in, owing_for, Simulation, next_of, coming_after}
-use Rattle.cbs_simulate.specs.Shown.{Sight, sight_of}
+use Rattle.cbs_simulate.specs.Shown.{arrival_of, seen_of}
+use Rattle.cbs_views.specs.Steps.{seen_at}
+use Rattle.cbs_views.specs.declared.seen.Seen.{Seen}
 use Rattle.cbs_simulate.specs.Simulating.{DoesMove, Stops, MakesMove, MakesNext, move_to, owing_told, stop_at}
 use Rattle.cbs_simulate.specs.declared.charge.Charge.{Charge}
-use Rattle.cbs_simulate.specs.declared.event.Event.{Event}
-use Rattle.cbs_simulate.specs.declared.event.Event.TheVariants as event
+use Rattle.cbs_views.specs.declared.seen.Event.{Event}
+use Rattle.cbs_views.specs.declared.seen.Event.TheVariants as event
 use Rattle.cbs_simulate.specs.declared.release.Release.{Release}
 use Rattle.cbs_simulate.proofs.Owing.{told_is}
 
@@ -52,38 +54,38 @@ module _ {W : Type 0} (work : Meaning W) (job : Release → W) where
   -- a submit that was accepted
   pub accepts : (sim : Simulation W) (r : Release) (task : W) (old new : CoreHeld W) (q : ℕ) (p : Option ℕ) → Agrees work old sim.history → task ≡ job r
       → Makes work old new (step.Submit r.server task) (reply.Accepted q) → TellsOf work new (λ w. p ≡ promised work (account w.accounts r.server))
-      → DoesMove work job sim (submit r) new (event.Submitted r (Ok q) p) sim.owing
+      → DoesMove work job sim (submit r) new (event.Accepted (arrival_of r) q p) sim.owing
   accepts sim r task old new q p agrees is makes told =
       let state : Agrees work new (sim.history ⊕ step.Submit r.server (job r)) = rw is at (makes.state sim.history agrees) in
       let answer : reply.Accepted q ≡ reply_in work sim.history (step.Submit r.server (job r)) = rw is at (makes.reply sim.history agrees) in
-      record { event = rw (← answer) (ap (event.Submitted r (Ok q)) (told _ state)); state = state; owed = refl }
+      record { event = rw (← answer) (ap (event.Accepted (arrival_of r) q) (told _ state)); state = state; owed = refl }
 
-  -- what a core shows of a move that it made
-  sight_is : (sim : Simulation W) (m : Move) (new : CoreHeld W) (e : Event) (o : Option Charge) → DoesMove work job sim m new e o
-      → record { moment = record { clock = new.clock; event = e }; faces = new.faces } ≡ sight_of work job sim m
-  sight_is sim m new e o moves =
+  -- what a view is shown of a move that it made
+  seen_is : (sim : Simulation W) (m : Move) (new : CoreHeld W) (e : Event) (o : Option Charge) → DoesMove work job sim m new e o
+      → seen_at new.clock new.faces e ≡ seen_of work job sim m
+  seen_is sim m new e o moves =
       let at = moves.state.world.clock in
-      let shown = moves.state.world.shown in
-      rw (at, shown, moves.event) refl
+      let faces = moves.state.world.shown in
+      rw (at, faces, moves.event) refl
 
-  -- a move that a core made, and that a watcher saw
-  pub sees : {S : Type 0} (saw : S → S → List Sight → Type 0) (sim : Simulation W) (m : Move) (new : CoreHeld W) (e : Event) (o : Option Charge) (w v : S)
+  -- a move that a core made, and that a view saw
+  pub sees : {S : Type 0} (saw : S → S → List Seen → Type 0) (sim : Simulation W) (m : Move) (new : CoreHeld W) (e : Event) (o : Option Charge) (w v : S)
       → DoesMove work job sim m new e o
-      → ((first : S) (seen : List Sight) → saw first w seen → saw first v
-      (record { moment = record { clock = new.clock; event = e }; faces = new.faces } ∷ seen))
+      → ((first : S) (seen : List Seen) → saw first w seen → saw first v
+      (seen_at new.clock new.faces e ∷ seen))
       → MakesMove work job saw sim m new o w v
   sees saw sim m new e o w v moves sight =
-      record { state = moves.state; owed = moves.owed; seen = λ first seen was. rw (sight_is sim m new e o moves) at (sight first seen was) }
+      record { state = moves.state; owed = moves.owed; seen = λ first seen was. rw (seen_is sim m new e o moves) at (sight first seen was) }
 
   -- a core that did nothing stopped before any move, and one that made the next move stopped after it
-  pub stops_first : {S : Type 0} (saw failed : S → S → List Sight → Type 0) (until : ℕ) (sim : Simulation W) (new : CoreHeld W) (w : S)
+  pub stops_first : {S : Type 0} (saw failed : S → S → List Seen → Type 0) (until : ℕ) (sim : Simulation W) (new : CoreHeld W) (w : S)
       → Agrees work new sim.history → Stops work job until saw failed sim new w w
   stops_first saw failed until sim new w state = record { moves = []; each = tt; state = state; seen = λ first seen was. inl was }
 
-  pub stops_after : {S : Type 0} (saw failed : S → S → List Sight → Type 0) (until : ℕ) (sim : Simulation W) (m : Move) (new : CoreHeld W) (e : Event)
+  pub stops_after : {S : Type 0} (saw failed : S → S → List Seen → Type 0) (until : ℕ) (sim : Simulation W) (m : Move) (new : CoreHeld W) (e : Event)
       (o : Option Charge) (w v : S) → next_of work job until sim ≡ Some m → DoesMove work job sim m new e o
-      → ((first : S) (seen : List Sight) → saw first w seen → failed first v
-      (record { moment = record { clock = new.clock; event = e }; faces = new.faces } ∷ seen))
+      → ((first : S) (seen : List Seen) → saw first w seen → failed first v
+      (seen_at new.clock new.faces e ∷ seen))
       → Stops work job until saw failed sim new w v
   stops_after saw failed until sim m new e o w v next moves fails =
       record {
@@ -91,7 +93,7 @@ module _ {W : Type 0} (work : Meaning W) (job : Release → W) where
         each = (next, tt);
         state = moves.state;
         seen =
-            λ first seen was. inr (rw (sight_is sim m new e o moves) at (fails first seen was));
+            λ first seen was. inr (rw (seen_is sim m new e o moves) at (fails first seen was));
       }
 
   -- a core that agrees differs from this one only in its room for jobs
@@ -142,7 +144,7 @@ module _ {W : Type 0} (work : Meaning W) (job : Release → W) where
         rw (f, same, t) refl
 
     -- a core that made a move up to `stop` made the next move, if that is the next move
-    pub makes_next : {S : Type 0} (saw : S → S → List Sight → Type 0) (stop : ℕ) (coming : List Release) (new : CoreHeld W) (o : Option Charge) (w v : S)
+    pub makes_next : {S : Type 0} (saw : S → S → List Seen → Type 0) (stop : ℕ) (coming : List Release) (new : CoreHeld W) (o : Option Charge) (w v : S)
         → (let sim : Simulation W = record { history = M; coming = coming; owing = None } in
         next_of work job until sim ≡ Some (move_to work job stop sim) → MakesMove work job saw sim (move_to work job stop sim) new o w v
         → MakesNext work job until saw sim new coming o w v)
@@ -209,7 +211,7 @@ module _ {W : Type 0} (work : Meaning W) (job : Release → W) where
     charge_next coming c early = let f : leb until (world_after work M).now ≡ false = grind (arith, nat_tests) in rw f refl
 
     -- a core that made this charge made the next move
-    pub makes_charge : {S : Type 0} (saw : S → S → List Sight → Type 0) (coming : List Release) (c : Charge) (new : CoreHeld W) (w v : S)
+    pub makes_charge : {S : Type 0} (saw : S → S → List Seen → Type 0) (coming : List Release) (c : Charge) (new : CoreHeld W) (w v : S)
         → (world_after work M).now < until
         → (let sim : Simulation W = record { history = M; coming = coming; owing = Some c } in
         MakesMove work job saw sim (charge c.server (min c.ticks (until - (world_after work M).now))) new None w v

@@ -9,7 +9,8 @@ use Rattle.cbs_core.specs.Held.{CoreHeld}
 use Rattle.cbs_steps.specs.History.{History}
 use Rattle.cbs_simulate.specs.Moves.{Move, Simulation, next_of, after_move, after_moves, AreNext, AreMoves, moves_of}
 use Rattle.cbs_simulate.specs.Releases.{IsInOrder}
-use Rattle.cbs_simulate.specs.Shown.{Sight, sight_of, shown}
+use Rattle.cbs_simulate.specs.Shown.{seen_of, shown}
+use Rattle.cbs_views.specs.declared.seen.Seen.{Seen}
 use Rattle.cbs_simulate.specs.Simulating.{MakesNext, MakesSome, Stops, Ended, Simulates}
 use Rattle.cbs_simulate.specs.declared.charge.Charge.{Charge}
 use Rattle.cbs_simulate.specs.declared.release.Release.{Release}
@@ -29,23 +30,23 @@ module _ {W : Type 0} (work : Meaning W) (job : Release → W) where
   next_more until sim (m ∷ ms) ns each more = (each.0, next_more until (after_move work job sim m) ms ns each.1 more)
 
   -- one more move is shown before those that were made earlier
-  shown_more : (sim : Simulation W) (ms : List Move) (m : Move) (seen : List Sight)
-      → shown work job sim (ms ++ m ∷ []) seen ≡ sight_of work job (after_moves work job sim ms) m ∷ shown work job sim ms seen
+  shown_more : (sim : Simulation W) (ms : List Move) (m : Move) (seen : List Seen)
+      → shown work job sim (ms ++ m ∷ []) seen ≡ seen_of work job (after_moves work job sim ms) m ∷ shown work job sim ms seen
   shown_more sim [] m seen = refl
-  shown_more sim (n ∷ ms) m seen = shown_more (after_move work job sim n) ms m (sight_of work job sim n ∷ seen)
+  shown_more sim (n ∷ ms) m seen = shown_more (after_move work job sim n) ms m (seen_of work job sim n ∷ seen)
 
   -- what is shown of some moves, and then of others
-  pub shown_on : (sim : Simulation W) (ms ns : List Move) (seen : List Sight)
+  pub shown_on : (sim : Simulation W) (ms ns : List Move) (seen : List Seen)
       → shown work job sim (ms ++ ns) seen ≡ shown work job (after_moves work job sim ms) ns (shown work job sim ms seen)
   shown_on sim [] ns seen = refl
-  shown_on sim (m ∷ ms) ns seen = shown_on (after_move work job sim m) ms ns (sight_of work job sim m ∷ seen)
+  shown_on sim (m ∷ ms) ns seen = shown_on (after_move work job sim m) ms ns (seen_of work job sim m ∷ seen)
 
   -- what is shown stands before what was seen
-  pub shown_before : (sim : Simulation W) (ms : List Move) (seen : List Sight) → shown work job sim ms seen ≡ shown work job sim ms [] ++ seen
+  pub shown_before : (sim : Simulation W) (ms : List Move) (seen : List Seen) → shown work job sim ms seen ≡ shown work job sim ms [] ++ seen
   shown_before sim [] seen = refl
   shown_before sim (m ∷ ms) seen =
       let next = after_move work job sim m in
-      let s = sight_of work job sim m in
+      let s = seen_of work job sim m in
       shown_before next ms (s ∷ seen) ∙ sym (append_assoc (shown work job next ms []) (s ∷ []) seen)
       ∙ ap (λ x. x ++ seen) (sym (shown_before next ms (s ∷ [])))
 
@@ -59,7 +60,7 @@ module _ {W : Type 0} (work : Meaning W) (job : Release → W) where
       are_moves work job until ends since sim (ms ++ left) going
       (record { each = next_more until sim ms left each rest.each; ended = rw (after_more sim ms left) rest.ended })
 
-  module _ (until : ℕ) {S : Type 0} (saw : S → S → List Sight → Type 0) where
+  module _ (until : ℕ) {S : Type 0} (saw : S → S → List Seen → Type 0) where
     -- no move yet
     pub none_made : (sim : Simulation W) (core : CoreHeld W) (w : S) → Agrees work core sim.history
         → MakesSome work job until saw sim core sim.coming sim.owing w w
@@ -78,7 +79,7 @@ module _ {W : Type 0} (work : Meaning W) (job : Release → W) where
           each = next_more until sim h.moves (m ∷ []) h.each (at, tt);
           state = rw e (rw is at k.makes.state);
           seen = λ first seen was. rw (shown_more sim h.moves m seen)
-              (subst (λ (x : Simulation W). saw first v (sight_of work job x m ∷ shown work job sim h.moves seen)) is
+              (subst (λ (x : Simulation W). saw first v (seen_of work job x m ∷ shown work job sim h.moves seen)) is
               (k.makes.seen first (shown work job sim h.moves seen) (h.seen first seen was)));
           rest = rw e (rw is at k.rest);
           owed = rw e (rw is at k.makes.owed);
@@ -103,7 +104,7 @@ module _ {W : Type 0} (work : Meaning W) (job : Release → W) where
       going_first M agrees = let e = agrees.world.clock in record { early = rw (← e) early; waited = omega arith; order = order; owed = λ lt c e. cc }
 
       -- if the core stopped, it stopped after these moves and some more
-      pub stopped : (failed : S → S → List Sight → Type 0) (v : S)
+      pub stopped : (failed : S → S → List Seen → Type 0) (v : S)
           → ((M : History W) → Agrees work mid M → Stops work job until saw failed (record { history = M; coming = now; owing = o }) new u v)
           → (M : History W) → Agrees work first M → Stops work job until saw failed (record { history = M; coming = coming; owing = None }) new w v
       stopped failed v stops M agrees =
@@ -165,7 +166,7 @@ module _ {W : Type 0} (work : Meaning W) (job : Release → W) where
               state = rw (k.core, sym same) h.state;
               all = moves_are work job until ends first.clock (sim_from M) going;
               only = λ ns every. are_moves work job until ends first.clock (sim_from M) ns going every;
-              seen = λ first seen was. rw (k.watcher, sym same) (h.seen first seen was);
+              seen = λ first seen was. rw (k.view, sym same) (h.seen first seen was);
               submits = rw (sym same) (all_submits work job until ends first.clock (sim_from M) h.moves going all);
               on_tick = rw (sym same, sym agrees.world.clock) laws.on_tick;
               charges = rw (sym same) laws.charges;

@@ -22,7 +22,8 @@ pub record IsLawful (t : SourceTerms) : Type 0 where
 
 -- the release of a source at a place, at a tick
 abbrev pub release_of : ℕ → SourceTerms → ℕ → ℕ → ℕ → Release
-release_of place t tick units overrun = record { tick = tick; source = place; server = t.server; units = units; overrun = overrun }
+release_of place t tick units overrun =
+    record { tick = tick; source = place; server = t.server; units = units; overrun = overrun; within = t.within }
 
 -- at most k releases of a source, the first at a tick, all before the tick `until`. For each, the units are drawn, then
 -- the overrun, and then the ticks to the next release

@@ -8,10 +8,9 @@ use Rattle.cbs_steps.specs.History.{World, History, ◌⊕◌, account, faces, w
 use Rattle.cbs_steps.specs.Waiting.{span_of}
 use Rattle.cbs_steps.specs.declared.reply.Ran.{Ran}
 use Rattle.cbs_steps.specs.declared.reply.Ran.TheVariants as ran
-use Rattle.cbs_steps.specs.declared.reply.Reply.{Reply}
-use Rattle.cbs_steps.specs.declared.reply.Reply.TheVariants as reply
 use Rattle.cbs_steps.specs.declared.step.Step.{Step}
 use Rattle.cbs_steps.specs.declared.step.Step.TheVariants as step
+pub use Rattle.cbs_views.specs.Steps.{ran_in}
 use Rattle.cbs_simulate.specs.declared.charge.Charge.{Charge}
 use Rattle.cbs_simulate.specs.declared.release.Release.{Release}
 
@@ -77,11 +76,6 @@ charged_by _ = None
 abbrev pub owing_of : ℕ → ℕ → Option Charge
 owing_of s zero = None
 owing_of s (suc n) = Some (record { server = s; ticks = suc n })
-
--- the result of a run, from its reply. No other reply comes
-abbrev pub ran_in : {W : Type 0} → Reply W → Ran
-ran_in (reply.Ran r) = r
-ran_in _ = ran.Idle
 
 -- a simulation: the steps made so far, the releases to come, and what is owed for the last unit
 pub record Simulation (W : Type 0) : Type 0 where

@@ -10,13 +10,14 @@ use Rattle.cbs_steps.specs.Punctual.{IsPunctual}
 use Rattle.cbs_steps.specs.Quiet.{AreQuiet, AdvanceQuietly}
 use Rattle.cbs_steps.specs.declared.reply.Ran.{Ran}
 use Rattle.cbs_steps.specs.declared.reply.Ran.TheVariants as ran
+use Rattle.cbs_views.specs.declared.seen.Event.{Event}
+use Rattle.cbs_views.specs.declared.seen.Seen.{Seen}
 use Rattle.cbs_simulate.specs.Moves.{Move, move_on, idle_span, owing_of, step_of, Simulation, clock_of, next_of, owing_after, after_move}
 use Rattle.cbs_simulate.specs.Moves.{after_moves, AreNext, AreMoves, moves_of, submitted}
 use Rattle.cbs_simulate.specs.MoveLaws.{AllMoves, MovesQuietly, ChargesOwed, EachOnTick, IsOnTick}
 use Rattle.cbs_simulate.specs.Releases.{before}
-use Rattle.cbs_simulate.specs.Shown.{Sight, event_of, sight_of, shown}
+use Rattle.cbs_simulate.specs.Shown.{event_of, seen_of, shown}
 use Rattle.cbs_simulate.specs.declared.charge.Charge.{Charge}
-use Rattle.cbs_simulate.specs.declared.event.Event.{Event}
 use Rattle.cbs_simulate.specs.declared.release.Release.{Release}
 
 -- the tick up to which no release comes, but no later than `until`
@@ -41,15 +42,15 @@ module _ {W : Type 0} (work : Meaning W) (job : Release → W) where
   abbrev pub move_to : ℕ → Simulation W → Move
   move_to stop sim = let w = world_after work sim.history in move_on w.now stop (idle_span w.now (faces work w))
 
-  -- a core made this move of the simulation, a watcher saw it, and this charge is then owed
-  pub record MakesMove {S : Type 0} (saw : S → S → List Sight → Type 0) (sim : Simulation W) (m : Move) (new : CoreHeld W) (owing : Option Charge)
+  -- a core made this move of the simulation, a view saw it, and this charge is then owed
+  pub record MakesMove {S : Type 0} (saw : S → S → List Seen → Type 0) (sim : Simulation W) (m : Move) (new : CoreHeld W) (owing : Option Charge)
       (w v : S) : Type 0 where
     pub state : Agrees work new (after_move work job sim m).history
     pub owed : owing ≡ owing_after work job sim m
-    pub seen : (first : S) (seen : List Sight) → saw first w seen → saw first v (sight_of work job sim m ∷ seen)
+    pub seen : (first : S) (seen : List Seen) → saw first w seen → saw first v (seen_of work job sim m ∷ seen)
 
   -- a core made the next move of the simulation. After it these releases are to come, and this charge is owed
-  pub record MakesNext {S : Type 0} (until : ℕ) (saw : S → S → List Sight → Type 0) (sim : Simulation W) (new : CoreHeld W) (coming : List Release)
+  pub record MakesNext {S : Type 0} (until : ℕ) (saw : S → S → List Seen → Type 0) (sim : Simulation W) (new : CoreHeld W) (coming : List Release)
       (owing : Option Charge) (w v : S) : Type 0 where
     pub move : Move
     pub next : next_of work job until sim ≡ Some move
@@ -57,34 +58,34 @@ module _ {W : Type 0} (work : Meaning W) (job : Release → W) where
     pub rest : coming ≡ (after_move work job sim move).coming
 
   -- a core made some moves of the simulation, each the next one where it stands
-  pub record MakesSome {S : Type 0} (until : ℕ) (saw : S → S → List Sight → Type 0) (sim : Simulation W) (new : CoreHeld W) (coming : List Release)
+  pub record MakesSome {S : Type 0} (until : ℕ) (saw : S → S → List Seen → Type 0) (sim : Simulation W) (new : CoreHeld W) (coming : List Release)
       (owing : Option Charge) (w v : S) : Type 0 where
     pub moves : List Move
     pub each : AreNext work job until sim moves
     pub state : Agrees work new (after_moves work job sim moves).history
-    pub seen : (first : S) (seen : List Sight) → saw first w seen → saw first v (shown work job sim moves seen)
+    pub seen : (first : S) (seen : List Seen) → saw first w seen → saw first v (shown work job sim moves seen)
     pub rest : coming ≡ (after_moves work job sim moves).coming
     pub owed : owing ≡ (after_moves work job sim moves).owing
 
-  -- a watcher that had seen some moments then saw what the moves show, or failed to see the last of them
-  abbrev pub SawOrFailed : {S : Type 0} → (S → S → List Sight → Type 0) → (S → S → List Sight → Type 0) → Simulation W → List Move → S → S → Type 0
+  -- a view that had seen some steps then saw what the moves show, or failed to see the last of them
+  abbrev pub SawOrFailed : {S : Type 0} → (S → S → List Seen → Type 0) → (S → S → List Seen → Type 0) → Simulation W → List Move → S → S → Type 0
   SawOrFailed {S} saw failed sim ms w v =
-      (first : S) (seen : List Sight) → saw first w seen → saw first v (shown work job sim ms seen) ⊎ failed first v (shown work job sim ms seen)
+      (first : S) (seen : List Seen) → saw first w seen → saw first v (shown work job sim ms seen) ⊎ failed first v (shown work job sim ms seen)
 
-  -- a core stopped after some moves of the simulation, each the next one where it stands. The watcher saw them, or
+  -- a core stopped after some moves of the simulation, each the next one where it stands. The view saw them, or
   -- failed to see the last one
-  pub record Stops {S : Type 0} (until : ℕ) (saw failed : S → S → List Sight → Type 0) (sim : Simulation W) (new : CoreHeld W) (w v : S) : Type 0 where
+  pub record Stops {S : Type 0} (until : ℕ) (saw failed : S → S → List Seen → Type 0) (sim : Simulation W) (new : CoreHeld W) (w v : S) : Type 0 where
     pub moves : List Move
     pub each : AreNext work job until sim moves
     pub state : Agrees work new (after_moves work job sim moves).history
     pub seen : SawOrFailed saw failed sim moves w v
 
   -- if this is the next move, the core stopped at the latest after it
-  abbrev pub StopsAt : {S : Type 0} → (S → S → List Sight → Type 0) → (S → S → List Sight → Type 0) → Simulation W → Move → CoreHeld W → S → S → Type 0
+  abbrev pub StopsAt : {S : Type 0} → (S → S → List Seen → Type 0) → (S → S → List Seen → Type 0) → Simulation W → Move → CoreHeld W → S → S → Type 0
   StopsAt saw failed sim m new w v = (until : ℕ) → next_of work job until sim ≡ Some m → Stops until saw failed sim new w v
 
-  -- a watcher saw the first moves of the simulation, up to some move, or failed to see the last of these
-  pub record SeesSome {S : Type 0} (until : ℕ) (saw failed : S → S → List Sight → Type 0) (sim : Simulation W) (w v : S) : Type 0 where
+  -- a view saw the first moves of the simulation, up to some move, or failed to see the last of these
+  pub record SeesSome {S : Type 0} (until : ℕ) (saw failed : S → S → List Seen → Type 0) (sim : Simulation W) (w v : S) : Type 0 where
     pub done : List Move
     pub left : List Move
     pub all : done ++ left ≡ moves_of work job until sim
@@ -96,17 +97,17 @@ module _ {W : Type 0} (work : Meaning W) (job : Release → W) where
     pub core : new ≡ old
     pub rest : coming ≡ sim.coming
     pub owed : owing ≡ sim.owing
-    pub watcher : v ≡ w
+    pub view : v ≡ w
 
-  -- A core simulated a load. Its steps are the moves of the definition, all of them and no others, and the watcher saw
+  -- A core simulated a load. Its steps are the moves of the definition, all of them and no others, and the view saw
   -- what they show. Each release before `until` was submitted once, in order. It was submitted at its tick, or as soon
   -- as a charge ended that had carried the clock past its tick. Each unit was charged its overrun, every advance was
   -- quiet, and the clock is at `until`.
-  pub record Simulates {S : Type 0} (until : ℕ) (saw : S → S → List Sight → Type 0) (sim : Simulation W) (new : CoreHeld W) (w v : S) : Type 0 where
+  pub record Simulates {S : Type 0} (until : ℕ) (saw : S → S → List Seen → Type 0) (sim : Simulation W) (new : CoreHeld W) (w v : S) : Type 0 where
     pub state : Agrees work new (after_moves work job sim (moves_of work job until sim)).history
     pub all : AreMoves work job until sim (moves_of work job until sim)
     pub only : (ms : List Move) → AreMoves work job until sim ms → ms ≡ moves_of work job until sim
-    pub seen : (first : S) (seen : List Sight) → saw first w seen → saw first v (shown work job sim (moves_of work job until sim) seen)
+    pub seen : (first : S) (seen : List Seen) → saw first w seen → saw first v (shown work job sim (moves_of work job until sim) seen)
     pub submits : submitted (moves_of work job until sim) ≡ before until sim.coming
     pub on_tick : EachOnTick work job (clock_of work job sim) sim (moves_of work job until sim)
     pub charges : AllMoves work job (ChargesOwed work job until) sim (moves_of work job until sim)
@@ -119,7 +120,7 @@ module _ {W : Type 0} (work : Meaning W) (job : Release → W) where
 
   -- A core that was made for a load simulated it. The laws of a history then hold with no premise left. If no release
   -- has an overrun, each is submitted exactly at its tick, and no step takes any server's time.
-  pub record SimulatesAlone {S : Type 0} (until : ℕ) (saw : S → S → List Sight → Type 0) (sim : Simulation W) (new : CoreHeld W) (w v : S) : Type 0 where
+  pub record SimulatesAlone {S : Type 0} (until : ℕ) (saw : S → S → List Seen → Type 0) (sim : Simulation W) (new : CoreHeld W) (w v : S) : Type 0 where
     pub simulates : Simulates until saw sim new w v
     pub punctual : IsPunctual work (after_moves work job sim (moves_of work job until sim)).history
     pub advances : let N = (after_moves work job sim (moves_of work job until sim)).history in AdvanceQuietly work N.setup N.steps

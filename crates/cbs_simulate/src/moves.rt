@@ -9,12 +9,12 @@ ghost use Rattle.cbs_simulate.specs.Releases.{MakesJob};
 ghost use Rattle.cbs_simulate.specs.Simulating.{DoesMove, move_to, owing_told};
 
 use crate::charge::Charge;
-use crate::event::Event;
 use crate::load_job::LoadJob;
 use crate::release::Release;
 use cbs_core::Core;
 use cbs_job::Task;
 use cbs_steps::{CoreError, Ran};
+use cbs_views::Event;
 use std::alloc::{AllocError, Allocator};
 
 /// Submits the job of a release. Refuses if out of memory: then the core is unchanged.
@@ -36,17 +36,16 @@ pub(crate) fn submit<A: Allocator>(
         return Err(AllocError);
     };
     match core.submit(release.server, task) {
-        Ok(number) => Ok(Event::Submitted {
-            release,
-            answer: Ok(number),
+        Ok(number) => Ok(Event::Accepted {
+            job: release.arrival(),
+            number,
             promised: core.promised(release.server),
         }),
         Err(refused) => match refused.error {
             CoreError::OutOfMemory => Err(AllocError),
-            error => Ok(Event::Submitted {
-                release,
-                answer: Err(error),
-                promised: None,
+            error => Ok(Event::NotAccepted {
+                job: release.arrival(),
+                error,
             }),
         },
     }
@@ -78,7 +77,7 @@ pub(crate) fn pass<A: Allocator>(core: &mut Core<LoadJob, A>, ticks: u64) -> Eve
     ensures { (sim : Simulation LoadJob) → Agrees loading core.old sim.history → DoesMove loading job_of sim (pass ticks) core.new result None }
 {
     let _passed = core.advance(ticks);
-    Event::Passed(ticks)
+    Event::Advanced(ticks)
 }
 
 /// Charges the server that ran the last unit. Returns the event.

@@ -92,6 +92,7 @@ impl Releases for Source {
             server: self.terms.server,
             units: self.units,
             overrun: self.overrun,
+            within: self.terms.within,
         })
     }
 

@@ -15,8 +15,8 @@ pub struct SourceTerms {
     pub units: Range,
     /// How many jobs the source releases at most, or `None` if it releases jobs until the simulation ends.
     pub jobs: Option<u64>,
-    /// Within how many ticks of its release each job is to be finished, if that is wanted. The simulation does not use
-    /// it.
+    /// Within how many ticks of its release each job is to be finished, if that is wanted. It
+    /// changes no move.
     pub within: Option<u64>,
     /// The ticks that each unit of a job takes beyond its first.
     pub overrun: Range,

@@ -4,6 +4,6 @@ use Rattle.cbs_bytes.proofs.output.write_pieces.Given as goal
 
 abbrev pub invariant-loop-piece : goal.invariant-loop-piece
 invariant-loop-piece g l = record {
-  so_far : AppendsAllBut (g.O.ByteOutput.written l.fn.out) (g.O.ByteOutput.written l.out) (joined (drop l.piece-index l.pieces)) (joined l.pieces);
-  none_failed : g.O.ByteOutput.failed l.out ≡ g.O.ByteOutput.failed l.fn.out;
+  so_far : AppendsAllBut (g.O.ByteOutput.state l.fn.out).written (g.O.ByteOutput.state l.out).written (joined (drop l.piece-index l.pieces)) (joined l.pieces);
+  none_failed : (g.O.ByteOutput.state l.out).failed ≡ (g.O.ByteOutput.state l.fn.out).failed;
 }

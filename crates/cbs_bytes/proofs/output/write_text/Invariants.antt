@@ -5,8 +5,8 @@ use Rattle.cbs_bytes.proofs.output.write_text.Given as goal
 abbrev pub invariant-loop-done : goal.invariant-loop-done
 invariant-loop-done g l = record {
   within : l.done ≤ length l.text;
-  so_far : Appends (g.O.ByteOutput.written l.initial.out) (g.O.ByteOutput.written l.out) (take l.done l.text);
-  none_failed : g.O.ByteOutput.failed l.out ≡ g.O.ByteOutput.failed l.initial.out;
+  so_far : Appends (g.O.ByteOutput.state l.initial.out).written (g.O.ByteOutput.state l.out).written (take l.done l.text);
+  none_failed : (g.O.ByteOutput.state l.out).failed ≡ (g.O.ByteOutput.state l.initial.out).failed;
 }
 
 abbrev pub decreases-loop-done : goal.decreases-loop-done

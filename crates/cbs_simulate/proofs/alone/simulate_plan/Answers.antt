@@ -9,12 +9,12 @@ simulate-requires-clause-order g c = let e : c.in_ok-core.core.clock ≡ 0 = c.i
 
 pub returns-in-Ok-clause-simulates : goal.returns-in-Ok-clause-simulates
 returns-in-Ok-clause-simulates g c =
-    alone loading job_of (λ r. refl) c.args.until c.requires.end g.S.Watcher.saw _ c.args.backlog _ _ _ _ (g.R.Releases.ordered c.args.releases.now)
+    alone loading job_of (λ r. refl) c.args.until c.requires.end g.V.View.saw _ c.args.backlog _ _ _ _ (g.R.Releases.ordered c.args.releases.now)
     c.in_ok-core.ensures.punctual (c.in-Ok.ensures.simulates _ c.in_ok-core.ensures.start)
 
 pub returns-in-Err-clause-stopped : goal.returns-in-Err-clause-stopped
 returns-in-Err-clause-stopped g c =
-    sees_some loading job_of c.args.until c.requires.end g.S.Watcher.saw g.S.Watcher.failed _ c.args.backlog _ _ _ _ (g.R.Releases.ordered c.args.releases.now)
+    sees_some loading job_of c.args.until c.requires.end g.V.View.saw g.V.View.failed _ c.args.backlog _ _ _ _ (g.R.Releases.ordered c.args.releases.now)
     (c.in-Err.ensures.stopped _ c.in_ok-core.ensures.start)
 
 pub simulate-requires-clause-history : goal.simulate-requires-clause-history

@@ -14,7 +14,7 @@ returns-then-now-stop-clause-moved g c = λ t M agrees.
     let before = c.if-now-stop.true in
     let early : (world_after loading M).now < stop_at c.args.until coming = omega arith in
     let next = before_stop loading job_of c.args.until M coming early in
-    rw c.in-None.is (makes_next loading job_of c.args.until M g.S.Watcher.saw c.args.stop.now coming c.show_next.new.core _ _ _ (rw is next)
+    rw c.in-None.is (makes_next loading job_of c.args.until M g.V.View.saw c.args.stop.now coming c.show_next.new.core _ _ _ (rw is next)
     (c.in_ok-owing-in-None.ensures.makes (record { history = M; coming = coming; owing = None }) agrees))
 
 pub returns-then-now-until-clause-moved : goal.returns-then-now-until-clause-moved
@@ -23,7 +23,7 @@ returns-then-now-until-clause-moved g c = λ t M agrees.
     let now : c.now-in-Some.result ≡ (world_after loading M).now = c.now-in-Some.ensures.now M agrees in
     let early : (world_after loading M).now < c.args.until = omega arith in
     let coming = g.R.Releases.coming c.args.releases.now in
-    rw c.in-Some.is (makes_charge loading job_of c.args.until M g.S.Watcher.saw coming c.in-Some.owed _ _ _ early
+    rw c.in-Some.is (makes_charge loading job_of c.args.until M g.V.View.saw coming c.in-Some.owed _ _ _ early
     (c.in_ok-show_charge-in-Some.ensures.makes (record { history = M; coming = coming; owing = Some c.in-Some.owed }) agrees))
 
 pub returns-clause-ended : goal.returns-clause-ended

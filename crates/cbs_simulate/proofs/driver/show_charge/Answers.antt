@@ -10,6 +10,6 @@ returns-clause-stopped g c = on_err_with c.show.result (λ fails sim agrees unti
     let is : c.min.result ≡ min c.args.owed.ticks (c.args.until - clock_of loading job_of sim) =
     c.min.ensures ∙ ap (λ n. min c.args.owed.ticks (c.args.until - n)) (c.now.ensures.now sim.history agrees) in
     let move = charge c.args.owed.server (min c.args.owed.ticks (c.args.until - clock_of loading job_of sim)) in
-    stops_after loading job_of g.S.Watcher.saw g.S.Watcher.failed until sim move c.charge-event.new.core c.charge-event.result None
-    (c.args.watcher.now, c.args.lent.now) (c.show.new.watcher, c.show.new.lent) next
+    stops_after loading job_of g.V.View.saw g.V.View.failed until sim move c.charge-event.new.core c.charge-event.result None
+    (c.args.view.now, c.args.lent.now) (c.show.new.view, c.show.new.lent) next
     (rw (← is) (c.charge-event.ensures sim agrees)) fails) c.show.ensures.failed

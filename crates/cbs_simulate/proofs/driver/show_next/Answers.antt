@@ -5,5 +5,5 @@ use Rattle.cbs_simulate.proofs.driver.show_next.Goals as goal
 pub returns-in_err-show-clause-stopped : goal.returns-in_err-show-clause-stopped
 returns-in_err-show-clause-stopped g c =
     on_err c.from_residual.result (λ sim agrees until next.
-    stops_after loading job_of g.S.Watcher.saw g.S.Watcher.failed until sim _ c.go_on-event.new.core _ _ _ _ next (c.go_on-event.ensures sim agrees)
+    stops_after loading job_of g.V.View.saw g.V.View.failed until sim _ c.go_on-event.new.core _ _ _ _ next (c.go_on-event.ensures sim agrees)
     c.in_err-show.ensures.failed)

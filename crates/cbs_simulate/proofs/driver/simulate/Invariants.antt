@@ -10,9 +10,9 @@ use Rattle.cbs_simulate.proofs.driver.simulate.Given as goal
 abbrev pub invariant-loop : goal.invariant-loop
 invariant-loop g l = record {
   made : (M : History LoadJob) → Agrees loading l.initial.core M
-      → MakesSome loading job_of l.until g.S.Watcher.saw (record { history = M; coming = g.R.Releases.coming l.initial.releases; owing = None }) l.core
-      (g.R.Releases.coming l.releases) l.owing (l.initial.watcher, l.initial.lent) (l.watcher, l.lent);
-  ready : g.S.Watcher.ready l.watcher l.lent;
+      → MakesSome loading job_of l.until g.V.View.saw (record { history = M; coming = g.R.Releases.coming l.initial.releases; owing = None }) l.core
+      (g.R.Releases.coming l.releases) l.owing (l.initial.view, l.initial.lent) (l.view, l.lent);
+  ready : g.V.View.ready l.view l.lent;
   stop : l.stop ≡ stop_at l.until (g.R.Releases.coming l.releases);
 }
 

@@ -24,22 +24,22 @@ pub returns-clause-ok : goal.returns-clause-ok
 returns-clause-ok g c =
     let so_far = waits_too _ _ _ _ c.args.text.now c.in_ok-make_room.ensures.ok.0 in
     let kept : c.make_room.new.self ≡ string_bytes c.push_str.new.self = sym (c.in-Err.ensures.bytes ∙ c.self.view_is) in
-    let flushed = part_goes_on _ _ _ _ c.args.text.now _ _ (ap (λ t. t ++ c.args.text.now) kept) so_far c.in_ok-flush.ensures.ok.0 in
+    let flushed = part_goes_on _ _ _ _ c.args.text.now _ _ (ap (λ t. t ++ c.args.text.now) kept) so_far c.in_ok-flush.ensures.ok.0.0 in
     let whole : c.args.text.now ≡ c.as_bytes.result.now ++ [] = sym (append-nil c.as_bytes.result.now ∙ c.as_bytes.ensures.value) in
     let none : c.flush.new.self ≡ [] = c.in_ok-flush.ensures.ok.1 in
     on_ok_weaker c.write_text.result (λ wrote. (
       rw none (part_goes_on _ _ _ _ [] _ _ whole flushed wrote.0),
-      wrote.1 ∙ (c.in_ok-flush.ensures.ok.2 ∙ c.in_ok-make_room.ensures.ok.1),
+      wrote.1 ∙ (c.in_ok-flush.ensures.ok.0.1 ∙ c.in_ok-make_room.ensures.ok.1),
     )) c.write_text.ensures.ok
 
 pub returns-clause-err : goal.returns-clause-err
 returns-clause-err g c =
     let so_far = waits_too _ _ _ _ c.args.text.now c.in_ok-make_room.ensures.ok.0 in
     let kept : c.make_room.new.self ≡ string_bytes c.push_str.new.self = sym (c.in-Err.ensures.bytes ∙ c.self.view_is) in
-    let flushed = part_goes_on _ _ _ _ c.args.text.now _ _ (ap (λ t. t ++ c.args.text.now) kept) so_far c.in_ok-flush.ensures.ok.0 in
+    let flushed = part_goes_on _ _ _ _ c.args.text.now _ _ (ap (λ t. t ++ c.args.text.now) kept) so_far c.in_ok-flush.ensures.ok.0.0 in
     let whole : c.args.text.now ≡ c.as_bytes.result.now ++ [] = sym (append-nil c.as_bytes.result.now ∙ c.as_bytes.ensures.value) in
     on_err_weaker c.write_text.result (λ wrote. (
-      wrote.0 ∙ ap (λ n. n + 1) (c.in_ok-flush.ensures.ok.2 ∙ c.in_ok-make_room.ensures.ok.1),
+      wrote.0 ∙ ap (λ n. n + 1) (c.in_ok-flush.ensures.ok.0.1 ∙ c.in_ok-make_room.ensures.ok.1),
       part_ends _ _ _ _ [] _ _ whole flushed wrote.1,
     )) c.write_text.ensures.err
 
