@@ -1,3 +1,2 @@
 pub mod Writers
-pub mod StepTexts
-pub mod LoadLineSteps
+pub mod LineSteps

@@ -1,37 +1,36 @@
--- The trace of a task file: the lines of its steps.
-use Rattle.std.specs.Prelude.{ℕ, List, slice_get, Option, Some, None, Result, Ok, Err}
-use Rattle.cbs_job.specs.FileJobs.{of_files}
-use Rattle.cbs_job.specs.declared.file.FileJob.{FileJob}
-use Rattle.cbs_steps.specs.History.{World, faces}
-use Rattle.cbs_steps.specs.Faces.{view_reply}
-use Rattle.cbs_steps.specs.declared.error.CoreError.{CoreError}
-use Rattle.cbs_steps.specs.declared.view.ServerView.{ServerView}
+-- The lines of a task file and of a load: those of their steps.
+use Rattle.std.specs.Prelude.{◌≡◌, ℕ, List, ◌++◌}
+use Rattle.cbs_load.specs.Loads.{LoadFile}
 use Rattle.cbs_file.specs.TaskFiles.{File}
-use Rattle.cbs_lines.specs.Lines.{line_text, shown_server}
-use Rattle.cbs_planning.specs.Tasks.{start_of_tasks}
-use Rattle.cbs_lines.specs.StepTexts.{StepText, texts_of, WritesSteps}
-use Rattle.cbs_lines.specs.Writers.{Writer, StopsWriting}
+use Rattle.cbs_planning.specs.Loads.{seen_in}
+use Rattle.cbs_planning.specs.Tasks.{seen_in_tasks}
+use Rattle.cbs_views.specs.declared.seen.Seen.{Seen}
+use Rattle.cbs_lines.specs.Lines.{lines_of}
+use Rattle.cbs_bytes.specs.Writes.{AppendsFront}
+use Rattle.cbs_lines.specs.Writers.{Writer, Writes, StopsWriting}
 use Rattle.cbs_lines.specs.declared.run_error.RunError.{RunError}
 
--- the view, if there is one
-abbrev pub view_if_any : Result ServerView CoreError → Option ServerView
-view_if_any (Ok view) = Some view
-view_if_any (Err error) = None
-
--- the state of a server that a line shows, if it shows one
-abbrev pub shown : World FileJob → Option ℕ → Option ServerView
-shown w None = None
-shown w (Some s) = view_if_any (view_reply (slice_get (faces of_files w) s))
-
--- the line of a step, after which the world is w
-unfoldable pub line_of : StepText
-line_of call reply w = line_text w.now call reply (shown w (shown_server call reply))
-
--- the lines of all steps
+-- the lines of a task file
 abbrev pub trace : File → List ℕ
-trace f = texts_of line_of f
+trace f = lines_of (seen_in_tasks f)
 
--- how a replay stops. If memory ran out, the lines of the first steps were written, up to some step. If a write failed,
--- a prefix of the trace was written. There is no other cause
-abbrev pub TraceStops : File → RunError → Writer → Writer → Type 0
-TraceStops f = StopsWriting (trace f) (WritesSteps line_of (start_of_tasks f) f.steps)
+-- the lines of a load
+abbrev pub load_lines : LoadFile → List ℕ
+load_lines f = lines_of (seen_in f)
+
+-- the text is the lines of the load
+abbrev pub AreLoadLines : LoadFile → List ℕ → Type 0
+AreLoadLines f text = text ≡ load_lines f
+
+-- The lines of the first steps were written, up to some step, and no call failed. They are a prefix of all lines
+pub record WritesSomeLines (steps : List Seen) (old new : Writer) : Type 0 where
+  pub later : List Seen
+  pub done : List Seen
+  pub all : later ++ done ≡ steps
+  pub written : Writes old new (lines_of done)
+  pub front : AppendsFront old.written new.written (lines_of steps)
+
+-- how the writing of the lines of steps stops. If memory ran out, the lines of the first steps were written, up to some
+-- step. If a write failed, a prefix of the lines was written. There is no other cause
+abbrev pub LinesStop : List Seen → RunError → Writer → Writer → Type 0
+LinesStop steps = StopsWriting (lines_of steps) (WritesSomeLines steps)

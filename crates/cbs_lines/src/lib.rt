@@ -1,11 +1,10 @@
 //! The lines of steps, written while the steps are made: the steps of a task file, or of a load's simulation.
 #![tactic(auto)]
 
-mod call;
 mod line;
+mod lines;
 mod load_lines;
 mod run_error;
-mod steps;
 mod trace;
 
 pub use load_lines::write_load_lines;

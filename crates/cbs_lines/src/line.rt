@@ -1,16 +1,38 @@
-//! One line of a trace.
+//! The line of a step.
 
 ghost use Rattle.std.specs.Prelude.{◌≡◌, ◌++◌, OnOk, string_bytes};
-ghost use Rattle.cbs_lines.specs.Lines.{error_text, ran_text, reply_text, state_text, line_text, shown_server};
+ghost use Rattle.cbs_lines.specs.Lines.{call_text, error_text, ran_text, result_text};
+ghost use Rattle.cbs_lines.specs.Lines.{state_text, line_of, view_told};
 
-use crate::call::Call;
-use cbs_core::{CoreError, Ran, Reply, ServerView};
-use cbs_job::FileJob;
+use cbs_core::{CoreError, Ran, ServerView};
 use cbs_text::append_pair;
+use cbs_views::{Event, Seen};
 use std::alloc::AllocError;
 
-/// Appends an error to a text. The only error is out of memory.
-pub(crate) fn append_error(text: &mut String, error: CoreError) -> Result<(), AllocError>
+/// Appends the call of a step to a text. The only error is out of memory.
+fn append_call(text: &mut String, event: Event) -> Result<(), AllocError>
+    ensures { OnOk result (string_bytes text.new ≡ string_bytes text.old ++ call_text event) }
+{
+    match event {
+        Event::Accepted { job, .. } | Event::NotAccepted { job, .. } => {
+            append_pair(text, "submit ", u64::from(job.server))
+        }
+        Event::Ran(_) => text.push_str("run"),
+        Event::Advanced(ticks) | Event::NotAdvanced(ticks, _) => {
+            append_pair(text, "advance ", ticks)
+        }
+        Event::Closed(server) | Event::NotClosed(server, _) => {
+            append_pair(text, "close ", u64::from(server))
+        }
+        Event::Charged { server, ticks } | Event::NotCharged { server, ticks, .. } => {
+            append_pair(text, "charge ", u64::from(server))?;
+            append_pair(text, " ", ticks)
+        }
+    }
+}
+
+/// Appends the error of a refused call to a text. The only error is out of memory.
+fn append_error(text: &mut String, error: CoreError) -> Result<(), AllocError>
     ensures { OnOk result (string_bytes text.new ≡ string_bytes text.old ++ error_text error) }
 {
     text.push_str(" refused ")?;
@@ -18,7 +40,7 @@ pub(crate) fn append_error(text: &mut String, error: CoreError) -> Result<(), Al
 }
 
 /// Appends the result of a run to a text. The only error is out of memory.
-pub(crate) fn append_ran(text: &mut String, ran: Ran) -> Result<(), AllocError>
+fn append_ran(text: &mut String, ran: Ran) -> Result<(), AllocError>
     ensures { OnOk result (string_bytes text.new ≡ string_bytes text.old ++ ran_text ran) }
 {
     match ran {
@@ -36,24 +58,26 @@ pub(crate) fn append_ran(text: &mut String, ran: Ran) -> Result<(), AllocError>
     }
 }
 
-/// Appends the reply to a call to a text. The only error is out of memory.
-fn append_reply(text: &mut String, reply: &Reply<FileJob>) -> Result<(), AllocError>
-    ensures { OnOk result (string_bytes text.new ≡ string_bytes text.old ++ reply_text reply.now) }
+/// Appends the result of a step to a text. The only error is out of memory.
+fn append_result(text: &mut String, event: Event) -> Result<(), AllocError>
+    ensures { OnOk result (string_bytes text.new ≡ string_bytes text.old ++ result_text event) }
 {
-    match reply {
-        Reply::Accepted(seq) => {
-            append_pair(text, " job ", *seq)?;
+    match event {
+        Event::Accepted { number, .. } => {
+            append_pair(text, " job ", number)?;
             text.push_str(" accepted")
         }
-        Reply::NotAccepted(refused) => append_error(text, refused.error),
-        Reply::Ran(ran) => append_ran(text, *ran),
-        Reply::Advanced | Reply::Closed | Reply::Charged => Ok(()),
-        Reply::Refused(error) => append_error(text, *error),
+        Event::Ran(ran) => append_ran(text, ran),
+        Event::NotAccepted { error, .. }
+        | Event::NotAdvanced(_, error)
+        | Event::NotClosed(_, error)
+        | Event::NotCharged { error, .. } => append_error(text, error),
+        Event::Advanced(_) | Event::Closed(_) | Event::Charged { .. } => Ok(()),
     }
 }
 
 /// Appends the state of a server, if there is one, to a text. The only error is out of memory.
-pub(crate) fn append_state(text: &mut String, server: Option<ServerView>) -> Result<(), AllocError>
+fn append_state(text: &mut String, server: Option<ServerView>) -> Result<(), AllocError>
     ensures { OnOk result (string_bytes text.new ≡ string_bytes text.old ++ state_text server) }
 {
     let Some(view) = server else {
@@ -67,36 +91,26 @@ pub(crate) fn append_state(text: &mut String, server: Option<ServerView>) -> Res
     Ok(())
 }
 
-/// Returns the server whose state a line shows: the one that accepted a job, ran, or was charged. Returns `None` if the
-/// line shows none.
-pub fn shown_server(call: Call, reply: &Reply<FileJob>) -> Option<u16>
-    ensures { result ≡ shown_server call reply.now }
+/// Returns the view of the server that the line of a step shows: none, if a job was refused.
+fn view_told(event: Event, view: Option<ServerView>) -> Option<ServerView>
+    ensures { result ≡ view_told event view }
 {
-    match (call, reply) {
-        (Call::Submit(server), Reply::Accepted(_)) => Some(server),
-        (Call::Charge(server, _), Reply::Charged) => Some(server),
-        (_, Reply::Ran(Ran::Unit { server, .. })) => Some(*server),
-        (_, Reply::Ran(Ran::Done(done))) => Some(done.server),
-        _ => None,
+    match event {
+        Event::NotAccepted { .. } => None,
+        _ => view,
     }
 }
 
-/// Writes the line of a call into `text`, in place of its old content. The line has the clock after the call, the call,
-/// the reply, and the state of a server if it shows one. The only error is out of memory.
-pub fn write_line(
-    text: &mut String,
-    clock: u64,
-    call: Call,
-    reply: &Reply<FileJob>,
-    server: Option<ServerView>,
-) -> Result<(), AllocError>
-    ensures { OnOk result (string_bytes text.new ≡ line_text clock call reply.now server) }
+/// Writes the line of a step into `text`, in place of its old content. The line has the clock after the step, the call,
+/// its result, and the state of a server if it shows one. The only error is out of memory.
+pub fn write_line(text: &mut String, seen: Seen) -> Result<(), AllocError>
+    ensures { OnOk result (string_bytes text.new ≡ line_of seen) }
 {
     text.clear();
-    append_pair(text, "@", clock)?;
+    append_pair(text, "@", seen.clock)?;
     text.push_str(" ")?;
-    call.append_to(text)?;
-    append_reply(text, reply)?;
-    append_state(text, server)?;
+    append_call(text, seen.event)?;
+    append_result(text, seen.event)?;
+    append_state(text, view_told(seen.event, seen.view))?;
     text.push_str("\n")
 }

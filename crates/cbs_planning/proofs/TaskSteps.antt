@@ -49,6 +49,15 @@ unfolding seen_from
 seen_both M [] ys seen = refl
 seen_both M (x ∷ xs) ys seen = seen_both (M ⊕ x) xs ys (seen_after M x ∷ seen)
 
+-- what is seen of steps stands before what was seen earlier
+pub seen_before : (M : History FileJob) (xs : List (Step FileJob)) (seen : List Seen) → seen_from M xs seen ≡ seen_from M xs [] ++ seen
+unfolding seen_from
+seen_before M [] seen = refl
+seen_before M (x ∷ xs) seen =
+    let o = seen_after M x in
+    seen_before (M ⊕ x) xs (o ∷ seen) ∙ sym (append_assoc (seen_from (M ⊕ x) xs []) (o ∷ []) seen)
+    ∙ ap (λ os. os ++ seen) (sym (seen_before (M ⊕ x) xs (o ∷ [])))
+
 -- a core of which only room changed agrees with the same histories
 pub lacking_agrees : (old new : CoreHeld FileJob) (M : History FileJob) → new ≡ record old { rooms = new.rooms } → Agrees of_files old M → Agrees of_files new M
 lacking_agrees old new M same agrees = let a = agrees.world in

@@ -11,6 +11,7 @@ use Rattle.cbs_report.specs.Tallies.{ticks_idle}
 use Rattle.cbs_rules.specs.Setups.{ModedPlan}
 use Rattle.cbs_steps.specs.Continuations.{◌⊕⊕◌}
 use Rattle.cbs_steps.specs.History.{World, History, ◌⊕◌, faces, world_after, reply_in}
+use Rattle.cbs_steps.specs.Laws.{account_in, completions_of, replies_after, Completes}
 use Rattle.cbs_steps.specs.Setups.{terms_of}
 use Rattle.cbs_steps.specs.declared.reply.Reply.{Reply}
 use Rattle.cbs_steps.specs.declared.step.Step.{Step}
@@ -68,6 +69,12 @@ pub record StopsAmong {S : Type 0} (saw failed : S → S → List Seen → Type 
   pub all : made ++ left ≡ xs
   pub state : Agrees of_files new (M ⊕⊕ made)
   pub seen : (first : S) (seen : List Seen) → saw first old seen → saw first now (seen_from M made seen) ⊎ failed first now (seen_from M made seen)
+
+-- the completions of server s among the replies to these steps after M go on from its finished jobs, without gap or
+-- repeat. Each has the whole result of the job with its number
+abbrev pub CompletesAll : History FileJob → List (Step FileJob) → ℕ → Type 0
+CompletesAll M steps s =
+    Completes of_files (account_in of_files M s) (account_in of_files (M ⊕⊕ steps) s) (completions_of s (replies_after of_files M steps))
 
 -- servers with this backlog, before the first step
 abbrev pub start_with : ModedPlan → ℕ → History FileJob

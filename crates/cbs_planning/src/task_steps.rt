@@ -1,16 +1,17 @@
 //! The steps of a task file, as a view sees them.
 
-ghost use Rattle.std.specs.Prelude.{◌≡◌, ◌∷◌, [], List, OnOk, OnErr};
+ghost use Rattle.std.specs.Prelude.{ℕ, ◌≡◌, ◌∷◌, [], List, OnOk, OnErr};
 ghost use Rattle.cbs_core.specs.Agreement.{Agrees, TellsOf};
 ghost use Rattle.cbs_job.specs.FileJobs.{of_files};
 ghost use Rattle.cbs_steps.specs.Continuations.{◌⊕⊕◌};
-ghost use Rattle.cbs_steps.specs.History.{History, ◌⊕◌};
+ghost use Rattle.cbs_steps.specs.History.{History, ◌⊕◌, reply_in};
+ghost use Rattle.cbs_steps.specs.Laws.{account_in, completion_in, completion_of, Completes};
 ghost use Rattle.cbs_steps.specs.Replies.{is_lack};
 ghost use Rattle.cbs_views.specs.Steps.{answer_in, ran_in, refusal_in, promised_in};
 ghost use Rattle.cbs_views.specs.Steps.{submit_seen, advance_seen, close_seen, charge_seen};
 ghost use Rattle.cbs_views.specs.declared.seen.Seen.{Seen};
 ghost use Rattle.cbs_planning.specs.Tasks.{asked_of, task_arrival, event_of_step, seen_of_step, seen_after, seen_from};
-ghost use Rattle.cbs_planning.specs.Tasks.{StopsAmong};
+ghost use Rattle.cbs_planning.specs.Tasks.{CompletesAll, StopsAmong};
 
 use cbs_core::{Core, CoreError, Ran, Reply, Step};
 use cbs_job::FileJob;
@@ -178,6 +179,9 @@ fn show_step<C, V: View<C>>(
     ensures state { OnOk result ((M : History FileJob) → Agrees of_files core.old M → Agrees of_files core.new (M ⊕ step)) }
     ensures seen { OnOk result ((M : History FileJob) → Agrees of_files core.old M → (first : (V × C)) (seen : List Seen)
         → V.saw first (view.old, lent.old) seen → V.saw first (view.new, lent.new) (seen_after M step ∷ seen)) }
+    ensures completes { OnOk result ((M : History FileJob) → Agrees of_files core.old M → (s : ℕ)
+        → Completes of_files (account_in of_files M s) (account_in of_files (M ⊕ step) s)
+        (completion_of s (completion_in (reply_in of_files M step)))) }
     ensures stopped { OnErr result ((M : History FileJob) → Agrees of_files core.old M
         → StopsAmong V.saw V.failed M (step ∷ []) core.new (view.old, lent.old) (view.new, lent.new)) }
 {
@@ -203,6 +207,7 @@ pub fn show_steps<C, V: View<C>>(
     ensures state { OnOk result ((M : History FileJob) → Agrees of_files core.old M → Agrees of_files core.new (M ⊕⊕ steps.items)) }
     ensures seen { OnOk result ((M : History FileJob) → Agrees of_files core.old M → (first : (V × C)) (seen : List Seen)
         → V.saw first (view.old, lent.old) seen → V.saw first (view.new, lent.new) (seen_from M steps.items seen)) }
+    ensures completes { OnOk result ((M : History FileJob) → Agrees of_files core.old M → (s : ℕ) → CompletesAll M steps.items s) }
     ensures stopped { OnErr result ((M : History FileJob) → Agrees of_files core.old M
         → StopsAmong V.saw V.failed M steps.items core.new (view.old, lent.old) (view.new, lent.new)) }
 {

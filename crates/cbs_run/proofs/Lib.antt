@@ -2,4 +2,4 @@ pub mod JobLists
 pub mod HouseResults
 pub mod ResultLines
 pub mod Printings
-pub mod Drawings
+pub mod Endings

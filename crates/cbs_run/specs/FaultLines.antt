@@ -19,3 +19,8 @@ file_line f = codes "cbsrun: file fault " ++ (decimal (file_kind_number f.kind)
 -- the line of a run fault: its number and its name
 unfoldable pub run_line : RunError → List ℕ
 run_line e = codes "cbsrun: run fault " ++ (decimal (run_error_number e) ++ (codes " " ++ (run_error_name e ++ codes "\n")))
+
+-- the line of a run that has none of the ticks to show: the first of these ticks, and the end of the run
+unfoldable pub nothing_shown_line : ℕ → ℕ → List ℕ
+nothing_shown_line from end = codes "error: there is no tick to show from " ++
+    (decimal from ++ (codes " on: the run ends at tick " ++ (decimal end ++ codes "\n")))

@@ -1,4 +1,5 @@
 pub mod Checked
+pub mod Commands
 pub mod FaultLines
 pub mod JobsByServer
 pub mod Pictured
@@ -7,4 +8,5 @@ pub mod Reported
 pub mod ResultLines
 pub mod ServingStops
 pub mod Statuses
+pub mod Stepped
 pub mod Verbs

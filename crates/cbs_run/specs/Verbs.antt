@@ -3,7 +3,8 @@ use Rattle.std.specs.Prelude.{ℕ, List}
 use Rattle.cbs_file.specs.TaskFiles.{File}
 use Rattle.cbs_run.specs.ResultLines.{result_lines}
 use Rattle.cbs_run.specs.ServingStops.{ServeStops}
-use Rattle.cbs_lines.specs.Traces.{trace, TraceStops}
+use Rattle.cbs_lines.specs.Traces.{trace, LinesStop}
+use Rattle.cbs_planning.specs.Tasks.{seen_in_tasks}
 use Rattle.cbs_lines.specs.Writers.{Writer}
 use Rattle.cbs_lines.specs.declared.run_error.RunError.{RunError}
 use Rattle.cbs_words.specs.declared.actions.Verb.{Verb}
@@ -16,5 +17,5 @@ output_of Serve f = result_lines f
 
 -- how a verb stops early
 abbrev pub StopsShort : Verb → File → RunError → Writer → Writer → Type 0
-StopsShort Replay f = TraceStops f
+StopsShort Replay f = LinesStop (seen_in_tasks f)
 StopsShort Serve f = ServeStops f

@@ -1,20 +1,18 @@
 //! The command `check`: from the bytes of a load or a task file to a status.
 
-ghost use Rattle.std.specs.Prelude.{◌≡◌, ◌+◌, ◌-◌, ◌<◌, ◌^◌, Err, IfOk, string_bytes};
+ghost use Rattle.std.specs.Prelude.{◌≡◌, IfOk, string_bytes};
 ghost use Rattle.cbs_tables.specs.Documents.{no_memory};
 ghost use Rattle.cbs_tables.specs.Fields.{Gives};
 ghost use Rattle.cbs_run.specs.Checked.{any_file, IsCheckText};
-ghost use Rattle.cbs_run.specs.Printing.{EndsPrinting, Prints};
-ghost use Rattle.cbs_lines.specs.Writers.{IsUntouched};
+ghost use Rattle.cbs_run.specs.Commands.{Does, printing_command};
+ghost use Rattle.cbs_run.specs.Printing.{EndsPrinting};
+ghost use Rattle.cbs_lines.specs.Writers.{IsUntouched, MayWrite};
 
-use crate::explained::write_explained;
-use crate::fault_lines::write_run_fault;
+use crate::ending::{Stopped, print, status_of};
 use crate::reading::{load_file, task_file};
-use crate::run::{BAD_FILE, DONE, RUN_FAULT};
-use cbs_bytes::{ByteOutput, write_text};
+use cbs_bytes::ByteOutput;
 use cbs_check::{check_load, check_plan};
 use cbs_file::{FileFault, TaskFile, is_load_within};
-use cbs_lines::RunError;
 use cbs_load::Load;
 use std::alloc::{AllocError, Global};
 
@@ -53,14 +51,19 @@ fn check_text(alloc: Global, file: &AnyFile) -> Result<String, AllocError>
     }
 }
 
-/// Prints the text that `check` prints about a file.
-fn print_check<O: ByteOutput>(alloc: Global, file: &AnyFile, out: &mut O) -> Result<(), RunError>
-    requires { O.failed out.old < 2 ^ 64 - 1 }
-    ensures { Prints (IsCheckText file.now) result
-        (record { written = O.written out.old; failed = O.failed out.old }) (record { written = O.written out.new; failed = O.failed out.new }) }
+/// Prints the text that `check` prints about the file that the bytes spell.
+fn check<O: ByteOutput>(
+    alloc: Global,
+    memory: u64,
+    bytes: &[u8],
+    out: &mut O,
+) -> Result<(), Stopped>
+    requires { MayWrite (O.state out.old) }
+    ensures { Does (printing_command any_file IsCheckText) bytes.now result (O.state out.old) (O.state out.new) }
 {
-    let text = check_text(alloc, file)?;
-    write_text(out, text.as_bytes())?;
+    let file = read_any(alloc, memory, bytes)?;
+    let text = check_text(alloc, &file)?;
+    print(&text, out)?;
     Ok(())
 }
 
@@ -82,25 +85,11 @@ pub fn check_bytes_within<O: ByteOutput, E: ByteOutput>(
     out: &mut O,
     err: &mut E,
 ) -> u8
-    requires out { O.failed out.old < 2 ^ 64 - 1 }
-    requires err { E.failed err.old < 2 ^ 64 - 1 }
+    requires out { MayWrite (O.state out.old) }
+    requires err { MayWrite (E.state err.old) }
     ensures { EndsPrinting any_file IsCheckText (λ f. IsUntouched) bytes.now
-        (record { written = O.written out.old; failed = O.failed out.old }) (record { written = O.written out.new; failed = O.failed out.new })
-        (record { written = E.written err.old; failed = E.failed err.old }) (record { written = E.written err.new; failed = E.failed err.new })
-        result }
+        (O.state out.old) (O.state out.new) (E.state err.old) (E.state err.new) result }
 {
-    let file = match read_any(alloc, memory, bytes) {
-        Ok(file) => file,
-        Err(fault) => {
-            write_explained(alloc, memory, name, bytes, fault, err);
-            return BAD_FILE;
-        }
-    };
-    match print_check(alloc, &file, out) {
-        Ok(()) => DONE,
-        Err(error) => {
-            let _written = write_run_fault(err, error);
-            RUN_FAULT
-        }
-    }
+    let ended = check(alloc, memory, bytes, out);
+    status_of(alloc, memory, name, bytes, ended, err)
 }

@@ -1,22 +1,22 @@
 //! The lines of faults on standard error. They take no memory.
 
-ghost use Rattle.std.specs.Prelude.{◌≡◌, ◌+◌, ◌-◌, ◌<◌, ◌^◌, OnOk, OnErr};
-ghost use Rattle.std.specs.Io.KnownBytes.{Appends};
-ghost use Rattle.cbs_run.specs.FaultLines.{read_line, file_line, run_line};
-ghost use Rattle.cbs_bytes.specs.Writes.{AppendsFront};
+ghost use Rattle.std.specs.Prelude.{OnOk, OnErr};
+ghost use Rattle.cbs_run.specs.FaultLines.{read_line, file_line, run_line, nothing_shown_line};
+ghost use Rattle.cbs_lines.specs.Writers.{MayWrite, Writes, FailsToWrite};
 
 use cbs_bytes::{ByteOutput, ReadError, write_pieces};
 use cbs_file::{FileFault, Place};
 use cbs_lines::RunError;
+use cbs_planning::NothingShown;
 use itoa::Buffer;
 use std::io;
 
 /// Writes the line of a read that failed.
 #[tactic(auto, unfolding(crate::specs::FaultLines::read_line))]
 pub fn write_read_fault<E: ByteOutput>(err: &mut E, fault: ReadError) -> io::Result<()>
-    requires { E.failed err.old < 2 ^ 64 - 1 }
-    ensures ok { OnOk result (Appends (E.written err.old) (E.written err.new) (read_line fault) × (E.failed err.new ≡ E.failed err.old)) }
-    ensures err { OnErr result ((E.failed err.new ≡ E.failed err.old + 1) × AppendsFront (E.written err.old) (E.written err.new) (read_line fault)) }
+    requires { MayWrite (E.state err.old) }
+    ensures ok { OnOk result (Writes (E.state err.old) (E.state err.new) (read_line fault)) }
+    ensures err { OnErr result (FailsToWrite (E.state err.old) (E.state err.new) (read_line fault)) }
 {
     let mut digits = Buffer::new();
     let number = digits.format(fault.number());
@@ -27,9 +27,9 @@ pub fn write_read_fault<E: ByteOutput>(err: &mut E, fault: ReadError) -> io::Res
 /// Writes the line of a file's fault.
 #[tactic(auto, unfolding(crate::specs::FaultLines::file_line))]
 pub fn write_file_fault<E: ByteOutput>(err: &mut E, fault: FileFault) -> io::Result<()>
-    requires { E.failed err.old < 2 ^ 64 - 1 }
-    ensures ok { OnOk result (Appends (E.written err.old) (E.written err.new) (file_line fault) × (E.failed err.new ≡ E.failed err.old)) }
-    ensures err { OnErr result ((E.failed err.new ≡ E.failed err.old + 1) × AppendsFront (E.written err.old) (E.written err.new) (file_line fault)) }
+    requires { MayWrite (E.state err.old) }
+    ensures ok { OnOk result (Writes (E.state err.old) (E.state err.new) (file_line fault)) }
+    ensures err { OnErr result (FailsToWrite (E.state err.old) (E.state err.new) (file_line fault)) }
 {
     let mut digits = Buffer::new();
     let number = digits.format(fault.kind.number());
@@ -56,12 +56,35 @@ pub fn write_file_fault<E: ByteOutput>(err: &mut E, fault: FileFault) -> io::Res
 /// Writes the line of a run that ended early.
 #[tactic(auto, unfolding(crate::specs::FaultLines::run_line))]
 pub fn write_run_fault<E: ByteOutput>(err: &mut E, fault: RunError) -> io::Result<()>
-    requires { E.failed err.old < 2 ^ 64 - 1 }
-    ensures ok { OnOk result (Appends (E.written err.old) (E.written err.new) (run_line fault) × (E.failed err.new ≡ E.failed err.old)) }
-    ensures err { OnErr result ((E.failed err.new ≡ E.failed err.old + 1) × AppendsFront (E.written err.old) (E.written err.new) (run_line fault)) }
+    requires { MayWrite (E.state err.old) }
+    ensures ok { OnOk result (Writes (E.state err.old) (E.state err.new) (run_line fault)) }
+    ensures err { OnErr result (FailsToWrite (E.state err.old) (E.state err.new) (run_line fault)) }
 {
     let mut digits = Buffer::new();
     let number = digits.format(fault.number());
     let name = fault.name();
     write_pieces(err, &["cbsrun: run fault ", number, " ", name, "\n"])
+}
+
+/// Writes the line of a run that has none of the ticks to show.
+#[tactic(auto, unfolding(crate::specs::FaultLines::nothing_shown_line))]
+pub(crate) fn write_nothing_shown<E: ByteOutput>(err: &mut E, nothing: NothingShown) -> io::Result<()>
+    requires { MayWrite (E.state err.old) }
+    ensures ok { OnOk result (Writes (E.state err.old) (E.state err.new) (nothing_shown_line nothing.from nothing.end)) }
+    ensures err { OnErr result (FailsToWrite (E.state err.old) (E.state err.new) (nothing_shown_line nothing.from nothing.end)) }
+{
+    let mut first = Buffer::new();
+    let from = first.format(nothing.from);
+    let mut last = Buffer::new();
+    let end = last.format(nothing.end);
+    write_pieces(
+        err,
+        &[
+            "error: there is no tick to show from ",
+            from,
+            " on: the run ends at tick ",
+            end,
+            "\n",
+        ],
+    )
 }

@@ -3,17 +3,17 @@
 #![tactic(auto)]
 
 mod check;
+mod ending;
 mod environment;
-mod explained;
 mod fault_lines;
 mod jobs_by_server;
+mod load_steps;
 mod pictures;
 mod reading;
 mod report;
 mod result_lines;
 mod run;
 mod serve;
-mod simulate;
 
 pub use cbs_bytes::{
     ByteInput, ByteOutput, FromRead, MAX_BYTES, ReadError, ToWrite, read_all, write_pieces,
@@ -23,10 +23,11 @@ pub use cbs_lines::{RunError, replay};
 pub use cbs_planning::{NoProgress, Progress};
 pub use cbs_words::{Action, Asked, Drawing, Form, Verb, Window, WordsFault, read_words};
 pub use check::check_bytes_within;
+pub use ending::{BAD_FILE, DONE, RUN_FAULT, WRONG_WORDS};
 pub use environment::{MEMORY_VARIABLE, memory_bound};
 pub use fault_lines::{write_file_fault, write_read_fault, write_run_fault};
+pub use load_steps::simulate_lines_within;
 pub use pictures::{draw_load_within, draw_tasks_within};
-pub use report::report_bytes_within;
-pub use run::{BAD_FILE, DONE, RUN_FAULT, WRONG_WORDS, run_bytes, run_bytes_within};
+pub use report::{report_bytes_within, simulate_bytes_within};
+pub use run::{run_bytes, run_bytes_within};
 pub use serve::serve_file;
-pub use simulate::{simulate_bytes_within, simulate_lines_within};

@@ -1,44 +1,23 @@
 //! Pictures of loads and task files: from their bytes to a status.
 
-ghost use Rattle.std.specs.Prelude.{◌≡◌, ◌+◌, ◌-◌, ◌<◌, ◌≤◌, ◌^◌, Err, IfOk, OnOk, OnErr, length, string_bytes};
-ghost use Rattle.std.specs.Io.KnownBytes.{Appends};
+ghost use Rattle.std.specs.Prelude.{◌≤◌, IfOk, length, string_bytes};
 ghost use Rattle.cbs_file.specs.Spelling.{file};
 ghost use Rattle.cbs_load.specs.Spelling.{load};
-ghost use Rattle.cbs_bytes.specs.Writes.{AppendsFront};
-ghost use Rattle.cbs_planning.specs.Pictures.{IsPictureOf, IsTaskPicture};
 ghost use Rattle.cbs_planning.specs.Tasks.{clock_of_tasks};
-ghost use Rattle.cbs_tables.specs.Documents.{no_memory};
-ghost use Rattle.cbs_run.specs.Pictured.{end_of, nothing_shown_line, Draws, EndsDrawing, IsDrawingOf, IsDrawn, IsLoadDrawing, IsTaskDrawing, TellsUndrawn};
-ghost use Rattle.cbs_run.specs.Printing.{Prints};
+ghost use Rattle.cbs_run.specs.Commands.{Does};
+ghost use Rattle.cbs_run.specs.Pictured.{drawing_command, end_of, EndsDrawing, IsDrawn, IsLoadDrawing, IsTaskDrawing};
+ghost use Rattle.cbs_lines.specs.Writers.{MayWrite};
 
-use crate::explained::write_explained;
-use crate::fault_lines::write_run_fault;
+use crate::ending::{Stopped, print, status_of};
 use crate::reading::{load_file, task_file};
-use crate::run::{BAD_FILE, DONE, RUN_FAULT, WRONG_WORDS};
-use cbs_bytes::{ByteOutput, write_pieces, write_text};
+use cbs_bytes::ByteOutput;
 use cbs_chart::{Picture, Window};
-use cbs_file::{FileFault, TaskFile};
-use cbs_lines::RunError;
-use cbs_load::Load;
-use cbs_planning::{NothingShown, Progress, clock_of, picture_of, shown_of, task_picture_of};
+use cbs_planning::{Progress, clock_of, picture_of, shown_of, task_picture_of};
 use cbs_svg::svg_text;
 use cbs_timeline::timeline_text;
 use cbs_trace::trace_json;
 use cbs_words::Drawing;
-use itoa::Buffer;
 use std::alloc::{AllocError, Global};
-use std::io;
-
-/// The reason why nothing is drawn.
-#[derive(Clone, Copy)]
-enum Undrawn {
-    /// The file has a fault.
-    Unread(FileFault),
-    /// The run ends before the first tick to show.
-    Ended(NothingShown),
-    /// The run ended early.
-    Stopped(RunError),
-}
 
 /// Returns the text of a picture of at most 64 servers, in this drawing.
 fn drawn_text(alloc: Global, drawing: Drawing, picture: &Picture) -> Result<String, AllocError>
@@ -52,58 +31,6 @@ fn drawn_text(alloc: Global, drawing: Drawing, picture: &Picture) -> Result<Stri
     }
 }
 
-/// Prints a picture of at most 64 servers, in this drawing.
-fn print_picture<O: ByteOutput>(
-    alloc: Global,
-    drawing: Drawing,
-    picture: &Picture,
-    out: &mut O,
-) -> Result<(), RunError>
-    requires few { length picture.now.servers.items ≤ 64 }
-    requires out { O.failed out.old < 2 ^ 64 - 1 }
-    ensures { Prints (IsDrawn drawing picture.now) result
-        (record { written = O.written out.old; failed = O.failed out.old }) (record { written = O.written out.new; failed = O.failed out.new }) }
-{
-    let text = drawn_text(alloc, drawing, picture)?;
-    write_text(out, text.as_bytes())?;
-    Ok(())
-}
-
-/// Simulates a load, and prints the picture of a window of its run. The picture names the file `name`.
-fn print_load<P: Progress, O: ByteOutput>(
-    alloc: Global,
-    drawing: Drawing,
-    window: Window,
-    name: &str,
-    load: &Load,
-    progress: &mut P,
-    out: &mut O,
-) -> Result<(), RunError>
-    requires { O.failed out.old < 2 ^ 64 - 1 }
-    ensures { Prints (IsDrawingOf drawing (IsPictureOf name.now load.now window)) result
-        (record { written = O.written out.old; failed = O.failed out.old }) (record { written = O.written out.new; failed = O.failed out.new }) }
-{
-    let picture = picture_of(alloc, name, load, window, progress)?;
-    print_picture(alloc, drawing, &picture, out)
-}
-
-/// Makes the steps of a task file, and prints the picture of a window of its run. The picture names the file `name`.
-fn print_tasks<O: ByteOutput>(
-    alloc: Global,
-    drawing: Drawing,
-    window: Window,
-    name: &str,
-    tasks: TaskFile,
-    out: &mut O,
-) -> Result<(), RunError>
-    requires { O.failed out.old < 2 ^ 64 - 1 }
-    ensures { Prints (IsDrawingOf drawing (IsTaskPicture name.now tasks window)) result
-        (record { written = O.written out.old; failed = O.failed out.old }) (record { written = O.written out.new; failed = O.failed out.new }) }
-{
-    let picture = task_picture_of(alloc, name, tasks, window)?;
-    print_picture(alloc, drawing, &picture, out)
-}
-
 /// Draws the ticks of a window of the load that the bytes spell.
 fn draw_load<P: Progress, O: ByteOutput>(
     alloc: Global,
@@ -114,23 +41,17 @@ fn draw_load<P: Progress, O: ByteOutput>(
     bytes: &[u8],
     progress: &mut P,
     out: &mut O,
-) -> Result<(), Undrawn>
-    requires { O.failed out.old < 2 ^ 64 - 1 }
-    ensures { Draws load (IsLoadDrawing drawing asked name.now) end_of asked bytes.now result
-        (record { written = O.written out.old; failed = O.failed out.old }) (record { written = O.written out.new; failed = O.failed out.new }) }
+) -> Result<(), Stopped>
+    requires { MayWrite (O.state out.old) }
+    ensures { Does (drawing_command load (IsLoadDrawing drawing asked name.now) end_of asked) bytes.now result
+        (O.state out.old) (O.state out.new) }
 {
-    let load = match load_file(alloc, memory, bytes) {
-        Ok(load) => load,
-        Err(fault) => return Err(Undrawn::Unread(fault)),
-    };
-    let window = match shown_of(asked, load.until()) {
-        Ok(window) => window,
-        Err(nothing) => return Err(Undrawn::Ended(nothing)),
-    };
-    match print_load(alloc, drawing, window, name, &load, progress, out) {
-        Ok(()) => Ok(()),
-        Err(error) => Err(Undrawn::Stopped(error)),
-    }
+    let load = load_file(alloc, memory, bytes)?;
+    let window = shown_of(asked, load.until())?;
+    let picture = picture_of(alloc, name, &load, window, progress)?;
+    let text = drawn_text(alloc, drawing, &picture)?;
+    print(&text, out)?;
+    Ok(())
 }
 
 /// Draws the ticks of a window of the task file that the bytes spell. The file is read twice, and its steps are made
@@ -143,83 +64,19 @@ fn draw_tasks<O: ByteOutput>(
     name: &str,
     bytes: &[u8],
     out: &mut O,
-) -> Result<(), Undrawn>
-    requires { O.failed out.old < 2 ^ 64 - 1 }
-    ensures { Draws file (IsTaskDrawing drawing asked name.now) clock_of_tasks asked bytes.now result
-        (record { written = O.written out.old; failed = O.failed out.old }) (record { written = O.written out.new; failed = O.failed out.new }) }
+) -> Result<(), Stopped>
+    requires { MayWrite (O.state out.old) }
+    ensures { Does (drawing_command file (IsTaskDrawing drawing asked name.now) clock_of_tasks asked) bytes.now result
+        (O.state out.old) (O.state out.new) }
 {
-    let first = match task_file(alloc, memory, bytes) {
-        Ok(tasks) => tasks,
-        Err(fault) => return Err(Undrawn::Unread(fault)),
-    };
-    let Ok(end) = clock_of(alloc, first) else {
-        return Err(Undrawn::Stopped(RunError::OutOfMemory));
-    };
-    let window = match shown_of(asked, end) {
-        Ok(window) => window,
-        Err(nothing) => return Err(Undrawn::Ended(nothing)),
-    };
-    let tasks = match task_file(alloc, memory, bytes) {
-        Ok(tasks) => tasks,
-        Err(fault) => return Err(Undrawn::Unread(fault)),
-    };
-    match print_tasks(alloc, drawing, window, name, tasks, out) {
-        Ok(()) => Ok(()),
-        Err(error) => Err(Undrawn::Stopped(error)),
-    }
-}
-
-/// Writes the line of a run that has none of the ticks to show.
-#[tactic(auto, unfolding(crate::specs::Pictured::nothing_shown_line))]
-fn write_nothing_shown<E: ByteOutput>(err: &mut E, nothing: NothingShown) -> io::Result<()>
-    requires { E.failed err.old < 2 ^ 64 - 1 }
-    ensures ok { OnOk result (Appends (E.written err.old) (E.written err.new) (nothing_shown_line nothing.from nothing.end) × (E.failed err.new ≡ E.failed err.old)) }
-    ensures err { OnErr result ((E.failed err.new ≡ E.failed err.old + 1) × AppendsFront (E.written err.old) (E.written err.new) (nothing_shown_line nothing.from nothing.end)) }
-{
-    let mut first = Buffer::new();
-    let from = first.format(nothing.from);
-    let mut last = Buffer::new();
-    let end = last.format(nothing.end);
-    write_pieces(
-        err,
-        &[
-            "error: there is no tick to show from ",
-            from,
-            " on: the run ends at tick ",
-            end,
-            "\n",
-        ],
-    )
-}
-
-/// Writes why nothing is drawn of the file that the bytes spell. Returns the status.
-fn write_undrawn<E: ByteOutput>(
-    alloc: Global,
-    memory: u64,
-    name: &str,
-    bytes: &[u8],
-    undrawn: Undrawn,
-    err: &mut E,
-) -> u8
-    requires { E.failed err.old < 2 ^ 64 - 1 }
-    ensures { TellsUndrawn undrawn
-        (record { written = E.written err.old; failed = E.failed err.old }) (record { written = E.written err.new; failed = E.failed err.new })
-        result }
-{
-    match undrawn {
-        Undrawn::Unread(fault) => {
-            write_explained(alloc, memory, name, bytes, fault, err);
-            BAD_FILE
-        }
-        Undrawn::Ended(nothing) => {
-            let _written = write_nothing_shown(err, nothing);
-            WRONG_WORDS
-        }
-        Undrawn::Stopped(error) => {
-            let _written = write_run_fault(err, error);
-            RUN_FAULT
-        }
-    }
+    let first = task_file(alloc, memory, bytes)?;
+    let end = clock_of(alloc, first)?;
+    let window = shown_of(asked, end)?;
+    let tasks = task_file(alloc, memory, bytes)?;
+    let picture = task_picture_of(alloc, name, tasks, window)?;
+    let text = drawn_text(alloc, drawing, &picture)?;
+    print(&text, out)?;
+    Ok(())
 }
 
 /// Simulates the load that the bytes spell, and draws the ticks that are asked for, as far as the run has them. The
@@ -244,17 +101,13 @@ pub fn draw_load_within<P: Progress, O: ByteOutput, E: ByteOutput>(
     out: &mut O,
     err: &mut E,
 ) -> u8
-    requires out { O.failed out.old < 2 ^ 64 - 1 }
-    requires err { E.failed err.old < 2 ^ 64 - 1 }
+    requires out { MayWrite (O.state out.old) }
+    requires err { MayWrite (E.state err.old) }
     ensures { EndsDrawing load (IsLoadDrawing drawing asked name.now) end_of asked bytes.now
-        (record { written = O.written out.old; failed = O.failed out.old }) (record { written = O.written out.new; failed = O.failed out.new })
-        (record { written = E.written err.old; failed = E.failed err.old }) (record { written = E.written err.new; failed = E.failed err.new })
-        result }
+        (O.state out.old) (O.state out.new) (E.state err.old) (E.state err.new) result }
 {
-    match draw_load(alloc, memory, drawing, asked, name, bytes, progress, out) {
-        Ok(()) => DONE,
-        Err(undrawn) => write_undrawn(alloc, memory, name, bytes, undrawn, err),
-    }
+    let ended = draw_load(alloc, memory, drawing, asked, name, bytes, progress, out);
+    status_of(alloc, memory, name, bytes, ended, err)
 }
 
 /// Makes the steps of the task file that the bytes spell. Draws the ticks that are asked for, as far as the run has
@@ -272,15 +125,11 @@ pub fn draw_tasks_within<O: ByteOutput, E: ByteOutput>(
     out: &mut O,
     err: &mut E,
 ) -> u8
-    requires out { O.failed out.old < 2 ^ 64 - 1 }
-    requires err { E.failed err.old < 2 ^ 64 - 1 }
+    requires out { MayWrite (O.state out.old) }
+    requires err { MayWrite (E.state err.old) }
     ensures { EndsDrawing file (IsTaskDrawing drawing asked name.now) clock_of_tasks asked bytes.now
-        (record { written = O.written out.old; failed = O.failed out.old }) (record { written = O.written out.new; failed = O.failed out.new })
-        (record { written = E.written err.old; failed = E.failed err.old }) (record { written = E.written err.new; failed = E.failed err.new })
-        result }
+        (O.state out.old) (O.state out.new) (E.state err.old) (E.state err.new) result }
 {
-    match draw_tasks(alloc, memory, drawing, asked, name, bytes, out) {
-        Ok(()) => DONE,
-        Err(undrawn) => write_undrawn(alloc, memory, name, bytes, undrawn, err),
-    }
+    let ended = draw_tasks(alloc, memory, drawing, asked, name, bytes, out);
+    status_of(alloc, memory, name, bytes, ended, err)
 }

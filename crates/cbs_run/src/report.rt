@@ -1,26 +1,24 @@
-//! Reports in a form, and the report of a task file: from its bytes to a status.
+//! Reports of the runs of loads and task files: from their bytes to a status.
 
-ghost use Rattle.std.specs.Prelude.{◌≡◌, ◌+◌, ◌-◌, ◌<◌, ◌≤◌, ◌^◌, IfOk, length, string_bytes};
+ghost use Rattle.std.specs.Prelude.{◌≡◌, ◌≤◌, IfOk, length, string_bytes};
 ghost use Rattle.cbs_file.specs.Spelling.{file};
-ghost use Rattle.cbs_run.specs.Printing.{EndsPrinting, Prints};
-ghost use Rattle.cbs_run.specs.Reported.{IsTaskReportText, text_in};
-ghost use Rattle.cbs_lines.specs.Writers.{IsUntouched};
+ghost use Rattle.cbs_load.specs.Spelling.{load};
+ghost use Rattle.cbs_run.specs.Commands.{Does, printing_command};
+ghost use Rattle.cbs_run.specs.Printing.{EndsPrinting};
+ghost use Rattle.cbs_run.specs.Reported.{IsReportText, IsTaskReportText, text_in};
+ghost use Rattle.cbs_lines.specs.Writers.{IsUntouched, MayWrite};
 
-use crate::explained::write_explained;
-use crate::fault_lines::write_run_fault;
-use crate::reading::task_file;
-use crate::run::{BAD_FILE, DONE, RUN_FAULT};
-use cbs_bytes::{ByteOutput, write_text};
-use cbs_file::TaskFile;
+use crate::ending::{Stopped, print, status_of};
+use crate::reading::{load_file, task_file};
+use cbs_bytes::ByteOutput;
 use cbs_json::report_json;
-use cbs_lines::RunError;
-use cbs_planning::task_report_of;
+use cbs_planning::{Progress, report_of, task_report_of};
 use cbs_print::{RunReport, report_text};
 use cbs_words::Form;
 use std::alloc::{AllocError, Global};
 
 /// Returns the text of a report of at most 64 servers, in this form.
-pub(crate) fn text_of(alloc: Global, form: Form, report: &RunReport) -> Result<String, AllocError>
+fn text_of(alloc: Global, form: Form, report: &RunReport) -> Result<String, AllocError>
     requires { length report.now.servers.items ≤ 64 }
     ensures { IfOk result (λ text. string_bytes text ≡ text_in form report.now) }
 {
@@ -30,21 +28,23 @@ pub(crate) fn text_of(alloc: Global, form: Form, report: &RunReport) -> Result<S
     }
 }
 
-/// Makes the steps of a task file, and prints the report of its run in this form. The report names the file `name`.
-fn print_task_report<O: ByteOutput>(
+/// Makes the steps of the task file that the bytes spell, and prints the report of its run in this form.
+fn report_tasks<O: ByteOutput>(
     alloc: Global,
+    memory: u64,
     form: Form,
     name: &str,
-    file: TaskFile,
+    bytes: &[u8],
     out: &mut O,
-) -> Result<(), RunError>
-    requires { O.failed out.old < 2 ^ 64 - 1 }
-    ensures { Prints (IsTaskReportText form name.now file) result
-        (record { written = O.written out.old; failed = O.failed out.old }) (record { written = O.written out.new; failed = O.failed out.new }) }
+) -> Result<(), Stopped>
+    requires { MayWrite (O.state out.old) }
+    ensures { Does (printing_command file (IsTaskReportText form name.now)) bytes.now result
+        (O.state out.old) (O.state out.new) }
 {
-    let report = task_report_of(alloc, name, file)?;
+    let tasks = task_file(alloc, memory, bytes)?;
+    let report = task_report_of(alloc, name, tasks)?;
     let text = text_of(alloc, form, &report)?;
-    write_text(out, text.as_bytes())?;
+    print(&text, out)?;
     Ok(())
 }
 
@@ -67,25 +67,55 @@ pub fn report_bytes_within<O: ByteOutput, E: ByteOutput>(
     out: &mut O,
     err: &mut E,
 ) -> u8
-    requires out { O.failed out.old < 2 ^ 64 - 1 }
-    requires err { E.failed err.old < 2 ^ 64 - 1 }
+    requires out { MayWrite (O.state out.old) }
+    requires err { MayWrite (E.state err.old) }
     ensures { EndsPrinting file (IsTaskReportText form name.now) (λ f. IsUntouched) bytes.now
-        (record { written = O.written out.old; failed = O.failed out.old }) (record { written = O.written out.new; failed = O.failed out.new })
-        (record { written = E.written err.old; failed = E.failed err.old }) (record { written = E.written err.new; failed = E.failed err.new })
-        result }
+        (O.state out.old) (O.state out.new) (E.state err.old) (E.state err.new) result }
 {
-    let file = match task_file(alloc, memory, bytes) {
-        Ok(file) => file,
-        Err(fault) => {
-            write_explained(alloc, memory, name, bytes, fault, err);
-            return BAD_FILE;
-        }
-    };
-    match print_task_report(alloc, form, name, file, out) {
-        Ok(()) => DONE,
-        Err(error) => {
-            let _written = write_run_fault(err, error);
-            RUN_FAULT
-        }
-    }
+    let ended = report_tasks(alloc, memory, form, name, bytes, out);
+    status_of(alloc, memory, name, bytes, ended, err)
+}
+
+/// Simulates the load that the bytes spell, and prints the report of its run in this form.
+fn report_load<P: Progress, O: ByteOutput>(
+    alloc: Global,
+    memory: u64,
+    form: Form,
+    name: &str,
+    bytes: &[u8],
+    progress: &mut P,
+    out: &mut O,
+) -> Result<(), Stopped>
+    requires { MayWrite (O.state out.old) }
+    ensures { Does (printing_command load (IsReportText form name.now)) bytes.now result
+        (O.state out.old) (O.state out.new) }
+{
+    let load = load_file(alloc, memory, bytes)?;
+    let report = report_of(alloc, name, &load, progress)?;
+    let text = text_of(alloc, form, &report)?;
+    print(&text, out)?;
+    Ok(())
+}
+
+/// Simulates the load that the bytes spell, and prints the report of its run in this form. The report names the file
+/// `name`. Reports to `progress` now and then how far the simulation is. Returns the status.
+///
+/// The statuses are those of [`report_bytes_within`].
+pub fn simulate_bytes_within<P: Progress, O: ByteOutput, E: ByteOutput>(
+    alloc: Global,
+    memory: u64,
+    form: Form,
+    name: &str,
+    bytes: &[u8],
+    progress: &mut P,
+    out: &mut O,
+    err: &mut E,
+) -> u8
+    requires out { MayWrite (O.state out.old) }
+    requires err { MayWrite (E.state err.old) }
+    ensures { EndsPrinting load (IsReportText form name.now) (λ f. IsUntouched) bytes.now
+        (O.state out.old) (O.state out.new) (E.state err.old) (E.state err.new) result }
+{
+    let ended = report_load(alloc, memory, form, name, bytes, progress, out);
+    status_of(alloc, memory, name, bytes, ended, err)
 }

@@ -1,10 +1,10 @@
 //! One run: from the bytes of a file to a status.
 
-ghost use Rattle.std.specs.Prelude.{◌+◌, ◌-◌, ◌<◌, ◌^◌};
 ghost use Rattle.cbs_run.specs.Statuses.{Ends};
 ghost use Rattle.cbs_run.specs.Verbs.{output_of, StopsShort};
-ghost use Rattle.cbs_lines.specs.Writers.{Leaves};
+ghost use Rattle.cbs_lines.specs.Writers.{Leaves, MayWrite};
 
+use crate::ending::{BAD_FILE, DONE, RUN_FAULT};
 use crate::fault_lines::{write_file_fault, write_run_fault};
 use crate::reading::task_file;
 use crate::serve::serve_file;
@@ -16,18 +16,6 @@ use std::alloc::Global;
 use std::thread::Threads;
 use std::time::Clock;
 
-/// The status of a run that is complete, and of a request for help.
-pub const DONE: u8 = 0;
-
-/// The status of a wrong command line.
-pub const WRONG_WORDS: u8 = 2;
-
-/// The status if the file could not be read, or has a fault.
-pub const BAD_FILE: u8 = 3;
-
-/// The status of a run that ended early.
-pub const RUN_FAULT: u8 = 4;
-
 /// Replays or serves a task file, as the verb says.
 fn run_file<R: Threads + Clock + Sync, O: ByteOutput>(
     rt: &R,
@@ -36,9 +24,8 @@ fn run_file<R: Threads + Clock + Sync, O: ByteOutput>(
     file: TaskFile,
     out: &mut O,
 ) -> Result<(), RunError>
-    requires { O.failed out.old < 2 ^ 64 - 1 }
-    ensures { Leaves (output_of verb file) (StopsShort verb file) result
-        (record { written = O.written out.old; failed = O.failed out.old }) (record { written = O.written out.new; failed = O.failed out.new }) }
+    requires { MayWrite (O.state out.old) }
+    ensures { Leaves (output_of verb file) (StopsShort verb file) result (O.state out.old) (O.state out.new) }
 {
     match verb {
         Verb::Replay => replay(alloc, file, out),
@@ -59,12 +46,9 @@ pub fn run_bytes_within<R: Threads + Clock + Sync, O: ByteOutput, E: ByteOutput>
     out: &mut O,
     err: &mut E,
 ) -> u8
-    requires out { O.failed out.old < 2 ^ 64 - 1 }
-    requires err { E.failed err.old < 2 ^ 64 - 1 }
-    ensures { Ends verb bytes.now
-        (record { written = O.written out.old; failed = O.failed out.old }) (record { written = O.written out.new; failed = O.failed out.new })
-        (record { written = E.written err.old; failed = E.failed err.old }) (record { written = E.written err.new; failed = E.failed err.new })
-        result }
+    requires out { MayWrite (O.state out.old) }
+    requires err { MayWrite (E.state err.old) }
+    ensures { Ends verb bytes.now (O.state out.old) (O.state out.new) (E.state err.old) (E.state err.new) result }
 {
     let file = match task_file(alloc, memory, bytes) {
         Ok(file) => file,
@@ -98,12 +82,9 @@ pub fn run_bytes<R: Threads + Clock + Sync, O: ByteOutput, E: ByteOutput>(
     out: &mut O,
     err: &mut E,
 ) -> u8
-    requires out { O.failed out.old < 2 ^ 64 - 1 }
-    requires err { E.failed err.old < 2 ^ 64 - 1 }
-    ensures { Ends verb bytes.now
-        (record { written = O.written out.old; failed = O.failed out.old }) (record { written = O.written out.new; failed = O.failed out.new })
-        (record { written = E.written err.old; failed = E.failed err.old }) (record { written = E.written err.new; failed = E.failed err.new })
-        result }
+    requires out { MayWrite (O.state out.old) }
+    requires err { MayWrite (E.state err.old) }
+    ensures { Ends verb bytes.now (O.state out.old) (O.state out.new) (E.state err.old) (E.state err.new) result }
 {
     run_bytes_within(rt, alloc, MEMORY, verb, bytes, out, err)
 }

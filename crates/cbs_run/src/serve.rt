@@ -1,6 +1,6 @@
 //! The jobs of a task file, served to clients, and their results, written to a writer.
 
-ghost use Rattle.std.specs.Prelude.{ℕ, ◌≡◌, ◌<◌, ◌≤◌, ◌-◌, ◌^◌, All, IfErr, IfOk, length, map};
+ghost use Rattle.std.specs.Prelude.{ℕ, ◌≡◌, ◌<◌, ◌≤◌, All, IfErr, IfOk, length, map};
 ghost use Rattle.std.specs.List.{range_with_len};
 ghost use Rattle.cbs_core.specs.Agreement.{Agrees};
 ghost use Rattle.cbs_clients.specs.Clients.{server_of};
@@ -13,7 +13,7 @@ ghost use Rattle.cbs_file.specs.TaskFiles.{IsFile};
 ghost use Rattle.cbs_run.specs.ResultLines.{jobs_for, result_lines, results_by_server};
 ghost use Rattle.cbs_run.specs.ServingStops.{HouseStops, ServeStops, fault_of};
 ghost use Rattle.cbs_planning.specs.Tasks.{start_of_tasks};
-ghost use Rattle.cbs_lines.specs.Writers.{Leaves};
+ghost use Rattle.cbs_lines.specs.Writers.{Leaves, MayWrite};
 
 use crate::jobs_by_server::jobs_by_server;
 use crate::result_lines::result_text;
@@ -102,9 +102,8 @@ pub fn serve_file<R: Threads + Clock + Sync, O: ByteOutput>(
     file: TaskFile,
     out: &mut O,
 ) -> Result<(), RunError>
-    requires { O.failed out.old < 2 ^ 64 - 1 }
-    ensures { Leaves (result_lines file) (ServeStops file) result
-        (record { written = O.written out.old; failed = O.failed out.old }) (record { written = O.written out.new; failed = O.failed out.new }) }
+    requires { MayWrite (O.state out.old) }
+    ensures { Leaves (result_lines file) (ServeStops file) result (O.state out.old) (O.state out.new) }
 {
     let house = match served_house(rt, alloc, file) {
         Ok(house) => house,

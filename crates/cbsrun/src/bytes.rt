@@ -71,7 +71,7 @@ pub fn write_reason<E: ByteOutput>(
     unread: &Unread,
     err: &mut E,
 )
-    requires { E.failed err.old < 2 ^ 64 - 1 }
+    requires { MayWrite (E.state err.old) }
 {
     if unread.fault() == ReadError::OutOfMemory {
         return;

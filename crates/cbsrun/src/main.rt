@@ -73,8 +73,8 @@ fn answered<R: Threads + Clock + Sync, P: Progress, O: ByteOutput, E: ByteOutput
     out: &mut O,
     err: &mut E,
 ) -> u8
-    requires out { O.failed out.old < 2 ^ 64 - 1 }
-    requires err { E.failed err.old < 2 ^ 64 - 1 }
+    requires out { MayWrite (O.state out.old) }
+    requires err { MayWrite (E.state err.old) }
 {
     let name = asked.file.as_str();
     match asked.action {

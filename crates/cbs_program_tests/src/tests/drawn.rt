@@ -9,13 +9,13 @@ use std::process::Abort;
 /// Returns what a window shows of a load.
 fn chart_of(rt: &impl Abort, alloc: Global, load: &Load, from: u64, to: u64) -> Chart {
     let window = Window::new(from, to).ok().expect(rt, "a window");
-    let view = ChartView::new(alloc, window, load.plan())
+    let mut view = ChartView::new(alloc, window, load.plan())
         .ok()
         .expect(rt, "memory");
-    let seen = show_load(alloc, load, view, &mut ())
+    show_load(alloc, load, &mut view, &mut ())
         .ok()
         .expect(rt, "memory");
-    seen.into_chart(alloc, load.until())
+    view.into_chart(alloc, load.until())
         .ok()
         .expect(rt, "memory")
 }

@@ -46,9 +46,7 @@ impl Memory {
 }
 
 impl ByteOutput for Memory {
-    ghost written = { λ s. Some s.taken.items };
-
-    ghost failed = { λ s. s.failed };
+    ghost state = { λ s. record { written = Some s.taken.items; failed = s.failed } };
 
     fn write(&mut self, bytes: &[u8]) -> io::Result<usize> {
         let n = bytes.len().min(self.room).min(self.step);

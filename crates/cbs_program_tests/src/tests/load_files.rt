@@ -3,11 +3,11 @@
 
 use super::same;
 use crate::tests::sample_loads::ROBOT;
-use cbs_core::Core;
 use cbs_load::{Load, read_load};
 use cbs_rules::Mode;
-use cbs_simulate::{LoadJob, Moment, Range, SourceTerms, Watcher, simulate_plan};
-use std::alloc::{AllocError, Allocator, Global};
+use cbs_simulate::{Range, SourceTerms, simulate_plan};
+use cbs_views::{Seen, View};
+use std::alloc::{AllocError, Global};
 use std::process::Abort;
 
 /// The text before the servers.
@@ -88,19 +88,14 @@ fn a_seed_left_out_is_0(rt: HostRuntime) {
     assert!(rt; load.seed() == 0);
 }
 
-/// A watcher that ignores all moments.
+/// A view that ignores all steps.
 #[derive(Drop)]
 struct Nobody;
 
-impl Watcher<()> for Nobody {
+impl View<()> for Nobody {
     ghost saw = { λ first it seen. Unit {0} };
 
-    fn see<A: Allocator>(
-        &mut self,
-        _lent: &mut (),
-        _moment: Moment,
-        _core: &Core<LoadJob, A>,
-    ) -> Result<(), AllocError> {
+    fn see(&mut self, _lent: &mut (), _seen: Seen) -> Result<(), AllocError> {
         Ok(())
     }
 }

@@ -1,38 +1,40 @@
-//! Small loads, from their terms to the moments that are shown, worked out by hand.
+//! Small loads, from their terms to the steps that are seen, worked out by hand.
 
 ghost use Rattle.std.specs.Prelude.{◌≤◌, ◌<◌, All, length};
 ghost use Rattle.cbs_simulate.specs.Drawing.{IsLawful};
 
 use crate::tests::same;
-use cbs_core::Core;
 use cbs_job::Completion;
 use cbs_rate::{Bound, Reservation};
 use cbs_rules::{Mode, Setup};
-use cbs_simulate::{
-    Event, LoadJob, Moment, Range, Release, Releases, Source, SourceTerms, Watcher, load_of,
-    simulate_plan,
-};
+use cbs_simulate::{Range, Release, Releases, Source, SourceTerms, load_of, simulate_plan};
 use cbs_steps::Ran;
+use cbs_views::{Event, Seen, View};
 use rand_pcg::Pcg64;
-use std::alloc::{AllocError, Allocator, Global};
+use std::alloc::{AllocError, Global};
 use std::process::Abort;
 
-/// A watcher that keeps each moment.
+/// The event of a step, and the clock after it.
+#[derive(Clone, Copy, Debug, PartialEq, Eq)]
+struct Moment {
+    clock: u64,
+    event: Event,
+}
+
+/// A view that keeps the moment of each step.
 #[derive(Drop)]
 struct Moments {
     seen: Vec<Moment>,
 }
 
-impl Watcher<()> for Moments {
+impl View<()> for Moments {
     ghost saw = { λ first moments seen. Unit {0} };
 
-    fn see<A: Allocator>(
-        &mut self,
-        _lent: &mut (),
-        moment: Moment,
-        _core: &Core<LoadJob, A>,
-    ) -> Result<(), AllocError> {
-        self.seen.push(moment)?;
+    fn see(&mut self, _lent: &mut (), seen: Seen) -> Result<(), AllocError> {
+        self.seen.push(Moment {
+            clock: seen.clock,
+            event: seen.event,
+        })?;
         Ok(())
     }
 }
@@ -136,6 +138,7 @@ const LONG: Release = Release {
     server: 0,
     units: 2,
     overrun: 3,
+    within: None,
 };
 
 /// A job of one unit at tick 2, which takes one tick.
@@ -145,13 +148,14 @@ const SHORT: Release = Release {
     server: 1,
     units: 1,
     overrun: 0,
+    within: None,
 };
 
 /// Returns the moment at which a server accepts its first job.
 fn submitted(clock: u64, release: Release, promised: u128) -> Moment {
-    let event = Event::Submitted {
-        release,
-        answer: Ok(0),
+    let event = Event::Accepted {
+        job: release.arrival(),
+        number: 0,
         promised: Some(promised),
     };
     Moment { clock, event }
@@ -200,7 +204,7 @@ fn overrun(rt: HostRuntime) {
         charged(9, 3),
         Moment {
             clock: 12,
-            event: Event::Passed(3),
+            event: Event::Advanced(3),
         },
     ];
     same(&rt, "moments", moments.as_slice(), wanted.as_slice());
@@ -271,6 +275,7 @@ fn drawn_releases(rt: HostRuntime) {
             server: 3,
             units,
             overrun,
+            within: None,
         };
         let next = take(&mut source);
         same(&rt, "a release", next, Some(release));

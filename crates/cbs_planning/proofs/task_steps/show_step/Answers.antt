@@ -25,6 +25,13 @@ returns-clause-seen g c =
     ∙ ap₂ (λ asked reply. seen_of_step (world_after of_files (M ⊕ c.args.step)) asked reply) c.asked_of-asked.ensures (made.reply M agrees) in
     rw is at (shown first seen saw)) c.see.ensures.saw
 
+pub returns-clause-completes : goal.returns-clause-completes
+returns-clause-completes g c =
+    let lack : is_lack c.step-reply.result ≡ false = sym c.lacks_memory.ensures ∙ c.if-lacks_memory.false in
+    on_ok_always c.see.result (λ M agrees s.
+    let made : Makes of_files _ c.step-reply.new.self c.args.step c.step-reply.result = rw lack at c.step-reply.ensures.tries in
+    rw (made.reply M agrees) at (c.step-reply.ensures.completes lack M agrees s))
+
 pub returns-then-lacks_memory-clause-stopped : goal.returns-then-lacks_memory-clause-stopped
 returns-then-lacks_memory-clause-stopped g c = λ M agrees.
     let lack : is_lack c.step-reply.result ≡ true = sym c.lacks_memory.ensures ∙ c.if-lacks_memory.true in

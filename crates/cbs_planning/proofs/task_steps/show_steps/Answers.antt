@@ -1,7 +1,8 @@
 use Rattle.std.proofs.Common.{◌≡◌, ◌∙◌, ◌++◌, ◌∷◌, [], append_assoc, ap, sym, length, arith, rules}
 use Rattle.std.proofs.lemmas.List.{nil_from_length}
 use Rattle.std.specs.Vec.Iter.{into_iter_items}
-use Rattle.cbs_core.proofs.Laws.{after-push, all_yielded}
+use Rattle.cbs_core.proofs.Laws.{Completes-none, after-push, steps_complete, all_yielded}
+use Rattle.cbs_steps.specs.Laws.{account_in}
 use Rattle.cbs_job.specs.FileJobs.{of_files}
 use Rattle.cbs_steps.specs.Continuations.{◌⊕⊕◌}
 use Rattle.cbs_planning.proofs.TaskSteps.{none_seen, on_err_always, seen_more, stops_later}
@@ -16,6 +17,7 @@ loop-step-init g c =
       ready = c.requires;
       state = λ M agrees. agrees;
       seen = λ M agrees first seen saw. rw (none_seen M seen) saw;
+      completes = λ M agrees s. Completes-none of_files (account_in of_files M s);
     }
 
 pub loop-step-preserved : goal.loop-step-preserved
@@ -29,6 +31,9 @@ loop-step-preserved g c = record {
   seen = λ M agrees first seen saw. rw (seen_more M c.loop-step.yielded c.in-Some.step seen)
       (c.in_ok-show_step.ensures.seen (M ⊕⊕ c.loop-step.yielded) (c.loop-step.invariant.state M agrees) first _
       (c.loop-step.invariant.seen M agrees first seen saw));
+  completes = λ M agrees s.
+      steps_complete of_files M c.loop-step.yielded c.in-Some.step s (c.loop-step.invariant.completes M agrees s)
+      (c.in_ok-show_step.ensures.completes (M ⊕⊕ c.loop-step.yielded) (c.loop-step.invariant.state M agrees) s);
 }
 
 pub returns-clause-state : goal.returns-clause-state
@@ -40,6 +45,11 @@ pub returns-clause-seen : goal.returns-clause-seen
 returns-clause-seen g c = λ M agrees first seen saw.
     let none : into_iter_items c.loop-step.step-iterator ≡ [] = nil_from_length _ (sym c.loop-step.invariant.count ∙ c.in-None.ensures.steps.0) in
     rw (all_yielded c.args.steps.items c.loop-step.yielded _ c.loop-step.invariant.split none) (c.loop-step.invariant.seen M agrees first seen saw)
+
+pub returns-clause-completes : goal.returns-clause-completes
+returns-clause-completes g c = λ M agrees s.
+    let none : into_iter_items c.loop-step.step-iterator ≡ [] = nil_from_length _ (sym c.loop-step.invariant.count ∙ c.in-None.ensures.steps.0) in
+    rw (all_yielded c.args.steps.items c.loop-step.yielded _ c.loop-step.invariant.split none) (c.loop-step.invariant.completes M agrees s)
 
 pub returns-in_err-show_step-clause-stopped : goal.returns-in_err-show_step-clause-stopped
 returns-in_err-show_step-clause-stopped g c = on_err_always c.from_residual.result (λ M agrees.

@@ -1,4 +1,4 @@
-use Rattle.std.proofs.Common.{◌≡◌, List, ◌++◌, length}
+use Rattle.std.proofs.Common.{◌≡◌, ℕ, List, ◌++◌, length}
 use Rattle.std.specs.Vec.Iter.{into_iter_items, into_iter_len}
 use Rattle.cbs_core.specs.Agreement.{Agrees}
 use Rattle.cbs_job.specs.FileJobs.{of_files}
@@ -6,7 +6,7 @@ use Rattle.cbs_job.specs.declared.file.FileJob.{FileJob}
 use Rattle.cbs_steps.specs.Continuations.{◌⊕⊕◌}
 use Rattle.cbs_steps.specs.History.{History}
 use Rattle.cbs_views.specs.declared.seen.Seen.{Seen}
-use Rattle.cbs_planning.specs.Tasks.{seen_from}
+use Rattle.cbs_planning.specs.Tasks.{seen_from, CompletesAll}
 use Rattle.cbs_planning.proofs.task_steps.show_steps.Given as goal
 
 -- the core made the first steps, and the report saw them
@@ -18,4 +18,5 @@ invariant-loop-step g l = record {
   state : (M : History FileJob) → Agrees of_files l.fn.core M → Agrees of_files l.core (M ⊕⊕ l.yielded);
   seen : (M : History FileJob) → Agrees of_files l.fn.core M → (first : g.row.V.Denot × g.row.C.Denot) (seen : List Seen)
       → g.V.View.saw first (l.fn.view, l.fn.lent) seen → g.V.View.saw first (l.view, l.lent) (seen_from M l.yielded seen);
+  completes : (M : History FileJob) → Agrees of_files l.fn.core M → (s : ℕ) → CompletesAll M l.yielded s;
 }

@@ -1,17 +1,8 @@
-use Rattle.cbs_run.specs.Printing.{done, refused, stopped}
-use Rattle.cbs_lines.proofs.Writers.{tries, untouched}
+use Rattle.cbs_run.specs.Checked.{any_file, IsCheckText}
+use Rattle.cbs_run.specs.Commands.{printing_command}
+use Rattle.cbs_run.proofs.Endings.{ends_printing}
 use Rattle.cbs_run.proofs.check.check_bytes_within.Goals as goal
 
-pub returns-in-Err : goal.returns-in-Err
-returns-in-Err g c = refused c.in-Err.fault c.in-Err.ensures (untouched _)
-    c.write_explained.ensures.explained
-
-pub returns-in-Ok-print_check : goal.returns-in-Ok-print_check
-returns-in-Ok-print_check g c =
-    let p = c.in-Ok-print_check.ensures in
-    done c.in-Ok.file p.0 c.in-Ok.ensures p.1 p.2 (untouched _)
-
 pub returns : goal.returns
-returns g c =
-    stopped c.in-Ok.file c.in-Err-print_check.error c.in-Ok.ensures c.in-Err-print_check.ensures
-    (tries c.write_run_fault-written.result _ _ _ c.write_run_fault-written.ensures.ok c.write_run_fault-written.ensures.err)
+returns g c = ends_printing (printing_command any_file IsCheckText) (λ f e none. none) c.args.bytes.now _ _ _ _ c.check-ended.result c.status_of.result
+    c.check-ended.ensures c.status_of.ensures

@@ -1,16 +1,8 @@
-use Rattle.cbs_lines.proofs.Writers.{untouched}
 use Rattle.cbs_load.specs.Spelling.{load}
-use Rattle.cbs_run.specs.Pictured.{end_of, printed, IsLoadDrawing}
-use Rattle.cbs_run.specs.Printing.{done}
-use Rattle.cbs_run.proofs.Drawings.{ends_undrawn}
+use Rattle.cbs_run.specs.Pictured.{end_of, IsLoadDrawing}
+use Rattle.cbs_run.proofs.Endings.{ends_drawing}
 use Rattle.cbs_run.proofs.pictures.draw_load_within.Goals as goal
 
-pub returns-in-Ok : goal.returns-in-Ok
-returns-in-Ok g c =
-    let d = c.in-Ok.ensures in
-    printed 0 (done d.0 d.1 d.2 d.3 d.4 (untouched _))
-
-pub returns-in-Err : goal.returns-in-Err
-returns-in-Err g c =
-    ends_undrawn load (IsLoadDrawing c.args.drawing c.args.asked c.args.name.now) end_of c.args.asked c.args.bytes.now _ _ _ _
-    c.in-Err.undrawn c.write_undrawn.result c.in-Err.ensures c.write_undrawn.ensures
+pub returns : goal.returns
+returns g c = ends_drawing load (IsLoadDrawing c.args.drawing c.args.asked c.args.name.now) end_of c.args.asked c.args.bytes.now _ _ _ _ c.draw_load-ended.result
+    c.status_of.result c.draw_load-ended.ensures c.status_of.ensures

@@ -1,0 +1,77 @@
+//! A view that writes the line of each step.
+
+ghost use Rattle.std.specs.Prelude.{◌≡◌, false, [], List, IfOk, OnOk, OnErr};
+ghost use Rattle.cbs_views.specs.declared.seen.Seen.{Seen};
+ghost use Rattle.cbs_lines.specs.Lines.{lines_of};
+ghost use Rattle.cbs_lines.specs.Traces.{LinesStop};
+ghost use Rattle.cbs_lines.specs.Writers.{Writer, MayWrite, Leaves};
+ghost use Rattle.cbs_lines.specs.WritingLines.{HasWritten, WroteSome};
+
+use crate::line::write_line;
+use crate::run_error::RunError;
+use cbs_bytes::{ByteOutput, Pending};
+use cbs_views::{Seen, View};
+use std::alloc::{AllocError, Global};
+
+/// A view that writes the line of each step to the writer that it is lent.
+#[derive(Drop)]
+pub(crate) struct Lines {
+    line: String,
+    pending: Pending,
+    write_failed: bool,
+}
+
+impl Lines {
+    /// Returns a view that has written nothing yet. The only error is out of memory.
+    pub fn new(alloc: Global) -> Result<Lines, AllocError>
+        ensures { IfOk result (λ lines. (lines.write_failed ≡ false) × (lines.pending ≡ [])) }
+    {
+        Ok(Lines {
+            line: String::new(alloc),
+            pending: Pending::new(alloc)?,
+            write_failed: false,
+        })
+    }
+
+    /// Writes the text that still waits, after steps were shown with this result. Returns how the run ended.
+    pub fn end<O: ByteOutput>(
+        &mut self,
+        shown: Result<(), AllocError>,
+        out: &mut O,
+    ) -> Result<(), RunError>
+        requires { self.old.write_failed ≡ false → MayWrite (O.state out.old) }
+        ensures { (first : Writer) (steps : List Seen)
+            → OnOk shown (HasWritten self.old first (O.state out.old) steps)
+            → OnErr shown (WroteSome self.old first (O.state out.old) steps)
+            → Leaves (lines_of steps) (LinesStop steps) result first (O.state out.new) }
+    {
+        if self.write_failed {
+            return Err(RunError::WriteFault);
+        }
+        self.pending.flush(out)?;
+        match shown {
+            Ok(()) => Ok(()),
+            Err(_) => Err(RunError::OutOfMemory),
+        }
+    }
+}
+
+impl<O: ByteOutput> View<O> for Lines {
+    ghost use Rattle.cbs_lines.specs.Writers.{MayWrite};
+    ghost use Rattle.cbs_lines.specs.WritingLines.{HasWritten, FailedToWrite};
+
+    ghost ready = { λ lines out. MayWrite (O.state out) };
+
+    ghost saw = { λ first now seen. HasWritten now.0 (O.state first.1) (O.state now.1) seen };
+
+    ghost failed = { λ first now seen. FailedToWrite now.0 (O.state first.1) (O.state now.1) seen };
+
+    fn see(&mut self, lent: &mut O, seen: Seen) -> Result<(), AllocError> {
+        write_line(&mut self.line, seen)?;
+        let Ok(()) = self.pending.push(self.line.as_str(), lent) else {
+            self.write_failed = true;
+            return Err(AllocError);
+        };
+        Ok(())
+    }
+}

@@ -1,8 +1,0 @@
-use Rattle.cbs_planning.specs.Pictures.{IsPictureOf}
-use Rattle.cbs_run.proofs.Drawings.{prints_drawing}
-use Rattle.cbs_run.proofs.pictures.print_load.Goals as goal
-
-pub returns : goal.returns
-returns g c =
-    prints_drawing c.args.drawing (IsPictureOf c.args.name.now c.args.load.now c.args.window) c.in_ok-picture.picture c.in_ok-picture.ensures.picture
-    c.print_picture.result _ _ c.print_picture.ensures
