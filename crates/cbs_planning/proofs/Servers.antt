@@ -2,15 +2,12 @@
 use Rattle.std.proofs.Common.{◌≡◌, ℕ, zero, suc, ◌+◌, ◌<◌, List, [], ◌∷◌, ◌++◌, length, map, Some, None, arith, rules, refl, ap, ◌∙◌, subst}
 use Rattle.std.specs.Prelude.{get_or, slice_get, string_bytes, IsSome}
 use Rattle.std.proofs.lemmas.List.{get_or-map, length-map}
-use Rattle.cbs_file.specs.TaskFiles.{File}
-use Rattle.cbs_load.specs.Loads.{LoadFile}
 use Rattle.cbs_rate.specs.Rate.{Rate}
 use Rattle.cbs_report.specs.Reports.{AreAllFigures}
-use Rattle.cbs_report.specs.Figures.{AreFigures, steps_of, told}
+use Rattle.cbs_report.specs.Figures.{AreFigures, steps_of}
 use Rattle.cbs_report.specs.declared.figures.Figures.{Figures}
 use Rattle.cbs_print.specs.declared.report.ServerReport.{ServerReport}
-use Rattle.cbs_planning.specs.Loads.{AreThrottled, IsServerReport, seen_in, within_of}
-use Rattle.cbs_planning.specs.Tasks.{IsTaskServerReport, clock_of_tasks, name_of, seen_in_tasks}
+use Rattle.cbs_planning.specs.Runs.{Shown, IsServerReport}
 use Rattle.cbs_views.specs.declared.seen.Seen.{Seen}
 
 module _ (Is : ℕ → ServerReport → Type 0) where
@@ -54,36 +51,17 @@ figures_at rates now seen fs s r all reservation figures =
     get_or-map (λ (rate : Rate). rate.budget) rates s r.reservation 0 here.0 ∙ ap (λ x. x.budget) here.1 in
     subst (λ b. AreFigures b now (steps_of s seen) r.figures) budget (all.each s r.figures figures)
 
--- the figures of one server of a load make its report
-pub server_is : (f : LoadFile) (s : ℕ) (r : ServerReport) (fs : List Figures)
-    → AreAllFigures (map (λ rate. rate.budget) f.plan.rates) f.until (seen_in f) fs
-    → Some (string_bytes r.name) ≡ slice_get f.names s → Some r.mode ≡ slice_get f.modes s → Some r.reservation ≡ slice_get f.plan.rates s
-    → r.within ≡ within_of s f.sources
-    → slice_get fs s ≡ Some r.figures → AreThrottled f → s < length f.plan.rates → IsServerReport f s r
-server_is f s r fs all name mode reservation within figures waits there =
-    let own = figures_at f.plan.rates f.until (seen_in f) fs s r all reservation figures in
-    record {
-      name = name;
-      mode = mode;
-      reservation = reservation;
-      within = within;
-      figures = own;
-      held = own.held ∙ ap told (waits s there);
-    }
-
--- the same for a task file
-pub task_server_is : (f : File) (s : ℕ) (r : ServerReport) (fs : List Figures)
-    → AreAllFigures (map (λ rate. rate.budget) f.plan.rates) (clock_of_tasks f) (seen_in_tasks f) fs
-    → string_bytes r.name ≡ name_of s → Some r.mode ≡ slice_get f.modes s → Some r.reservation ≡ slice_get f.plan.rates s → r.within ≡ None
-    → slice_get fs s ≡ Some r.figures → IsTaskServerReport f s r
-task_server_is f s r fs all name mode reservation within figures =
-    record {
-      name = name;
-      mode = mode;
-      reservation = reservation;
-      within = within;
-      figures = figures_at f.plan.rates (clock_of_tasks f) (seen_in_tasks f) fs s r all reservation figures;
-    }
+-- the figures of one server make its report
+pub server_is : (r : Shown) (s : ℕ) (t : ServerReport) (fs : List Figures) → AreAllFigures (map (λ rate. rate.budget) r.plan.rates) r.end r.seen fs
+    → Some (string_bytes t.name) ≡ slice_get r.names s → Some t.mode ≡ slice_get r.modes s → Some t.reservation ≡ slice_get r.plan.rates s
+    → t.within ≡ r.within s → slice_get fs s ≡ Some t.figures → IsServerReport r s t
+server_is r s t fs all name mode reservation within figures = record {
+  name = name;
+  mode = mode;
+  reservation = reservation;
+  within = within;
+  figures = figures_at r.plan.rates r.end r.seen fs s t all reservation figures;
+}
 
 -- at a place of the list something stands
 pub stands : {X : Type 0} (xs : List X) (i : ℕ) → i < length xs → IsSome (slice_get xs i)

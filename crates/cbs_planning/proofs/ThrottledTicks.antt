@@ -30,7 +30,8 @@ use Rattle.cbs_views.specs.Events.{begun}
 use Rattle.cbs_views.specs.declared.seen.Event.TheVariants as event
 use Rattle.cbs_views.specs.declared.seen.Seen.{Seen}
 use Rattle.cbs_chart.specs.Ticks.{AreInTurn}
-use Rattle.cbs_planning.specs.Loads.{start_of, AreInOrder, AreThrottled}
+use Rattle.cbs_planning.specs.Loads.{start_of, run_of, AreThrottled}
+use Rattle.cbs_planning.specs.Runs.{AreInOrder}
 use Rattle.cbs_planning.specs.Throttled.{is_waiting, shows, is_charge_of, waits_in, waits_at, count_ticks}
 use Rattle.cbs_planning.proofs.Runs.{simulation}
 use Rattle.cbs_planning.proofs.Waits.{passed, wait, waited_is, wait_none, wait_more, wait_counted}
@@ -269,5 +270,5 @@ throttled_is f moded whole s lt =
     omega (arith, all.ticks, same)
 
 -- the steps of each server took their ticks one after another
-pub in_order : (f : LoadFile) → length f.modes ≡ length f.plan.rates → IsWhole f.until (start_of f) → AreInOrder f
+pub in_order : (f : LoadFile) → length f.modes ≡ length f.plan.rates → IsWhole f.until (start_of f) → AreInOrder (run_of f)
 in_order f moded whole s lt = (reckoned_of f moded whole s lt).turn

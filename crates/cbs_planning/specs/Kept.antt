@@ -10,7 +10,7 @@ use Rattle.cbs_simulate.specs.Moves.{moves_of}
 use Rattle.cbs_steps.specs.History.{world_after}
 use Rattle.cbs_size.specs.Lateness.{greatest_delay, AreLateByLess}
 use Rattle.cbs_size.specs.ServerLoads.{sources_of, delay_from_release}
-use Rattle.cbs_planning.specs.Loads.{seen_in, start_of}
+use Rattle.cbs_planning.specs.Loads.{AreThrottled, seen_in, start_of}
 
 -- no job of server s was refused, and each that was finished took at most `within` ticks from its release on
 pub record KeepsWithin (f : LoadFile) (s within : ℕ) : Type 0 where
@@ -27,3 +27,10 @@ KeepsPromises f = (s within : ℕ) → s < length f.plan.rates
 abbrev pub KeepsLateness : LoadFile → Type 0
 KeepsLateness f = AllMoves loading job_of (λ sim m. AreLateByLess (greatest_delay f) (world_after loading sim.history)) (start_of f)
     (moves_of loading job_of f.until (start_of f))
+
+-- what holds of each load. The throttled ticks that are computed from a server's own steps are those in which the server
+-- is throttled and has a job. What is promised is kept, and no server is later than is told
+pub record IsKept (f : LoadFile) : Type 0 where
+  pub throttled : AreThrottled f
+  pub promises : KeepsPromises f
+  pub late : KeepsLateness f

@@ -1,6 +1,6 @@
 pub mod Throttled
+pub mod Runs
 pub mod Loads
 pub mod Tasks
 pub mod Showing
-pub mod Pictures
 pub mod Kept

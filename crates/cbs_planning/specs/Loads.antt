@@ -52,27 +52,15 @@ within_of s (t ∷ ts) = if eqb t.server s then widened t.within (within_of s ts
 abbrev pub AreThrottled : LoadFile → Type 0
 AreThrottled f = (s : ℕ) → s < length f.plan.rates → throttled f.until (steps_of s (seen_in f)) ≡ throttled_ticks f s
 
--- the steps of each server took their ticks one after another
-abbrev pub AreInOrder : LoadFile → Type 0
-AreInOrder f = (s : ℕ) → s < length f.plan.rates → AreInTurn f.until (steps_of s (seen_in f))
-
--- the report of server s of a load
-pub record IsServerReport (f : LoadFile) (s : ℕ) (r : ServerReport) : Type 0 where
-  pub name : Some (string_bytes r.name) ≡ slice_get f.names s
-  pub mode : Some r.mode ≡ slice_get f.modes s
-  pub reservation : Some r.reservation ≡ slice_get f.plan.rates s
-  pub within : r.within ≡ within_of s f.sources
-  pub figures : AreFigures r.reservation.budget f.until (steps_of s (seen_in f)) r.figures
-  pub held : r.figures.throttled ≡ told (throttled_ticks f s)
-
--- the report of a load that names the file so
-pub record IsReportOf (name : List ℕ) (f : LoadFile) (r : RunReport) : Type 0 where
-  pub file : string_bytes r.file ≡ name
-  pub seed : r.seed ≡ Some f.seed
-  pub clock : r.clock ≡ f.until
-  pub idle : r.idle ≡ told (total (λ o. ticks_idle o.event) (seen_in f))
-  pub backlog : r.backlog ≡ f.backlog
-  pub bound : r.bound ≡ f.plan.bound
-  pub reserved : r.reserved ≡ record { ticks = sum_by (share (common_multiple f.plan.rates)) f.plan.rates; of = common_multiple f.plan.rates }
-  pub count : length r.servers.items ≡ length f.plan.rates
-  pub each : (s : ℕ) (server : ServerReport) → slice_get r.servers.items s ≡ Some server → IsServerReport f s server
+-- a load as a run: its jobs are simulated up to its end
+abbrev pub run_of : LoadFile → Shown
+run_of f = record {
+  names = f.names;
+  modes = f.modes;
+  plan = f.plan;
+  backlog = f.backlog;
+  seed = Some f.seed;
+  within = λ s. within_of s f.sources;
+  seen = seen_in f;
+  end = f.until;
+}

@@ -104,22 +104,15 @@ clock_of_tasks f = clock_after (start_of_tasks f) f.steps
 abbrev pub name_of : ℕ → List ℕ
 name_of s = codes "server " ++ decimal s
 
--- the report of server s of a task file
-pub record IsTaskServerReport (f : File) (s : ℕ) (r : ServerReport) : Type 0 where
-  pub name : string_bytes r.name ≡ name_of s
-  pub mode : Some r.mode ≡ slice_get f.modes s
-  pub reservation : Some r.reservation ≡ slice_get f.plan.rates s
-  pub within : r.within ≡ None
-  pub figures : AreFigures r.reservation.budget (clock_of_tasks f) (steps_of s (seen_in_tasks f)) r.figures
-
--- the report of a task file that names the file so
-pub record IsTaskReport (name : List ℕ) (f : File) (r : RunReport) : Type 0 where
-  pub file : string_bytes r.file ≡ name
-  pub seed : r.seed ≡ None
-  pub clock : r.clock ≡ clock_of_tasks f
-  pub idle : r.idle ≡ told (total (λ o. ticks_idle o.event) (seen_in_tasks f))
-  pub backlog : r.backlog ≡ f.backlog
-  pub bound : r.bound ≡ f.plan.bound
-  pub reserved : r.reserved ≡ record { ticks = sum_by (share (common_multiple f.plan.rates)) f.plan.rates; of = common_multiple f.plan.rates }
-  pub count : length r.servers.items ≡ length f.plan.rates
-  pub each : (s : ℕ) (server : ServerReport) → slice_get r.servers.items s ≡ Some server → IsTaskServerReport f s server
+-- a task file as a run: its steps are made again
+abbrev pub run_of_tasks : File → Shown
+run_of_tasks f = record {
+  names = map name_of (range_with_len 0 (length f.plan.rates));
+  modes = f.modes;
+  plan = f.plan;
+  backlog = f.backlog;
+  seed = None;
+  within = λ s. None;
+  seen = seen_in_tasks f;
+  end = clock_of_tasks f;
+}

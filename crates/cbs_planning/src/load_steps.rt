@@ -1,7 +1,8 @@
 //! The steps of a load, shown to a view.
 
 ghost use Rattle.std.specs.Prelude.{[], OnOk, OnErr};
-ghost use Rattle.cbs_planning.specs.Loads.{AreInOrder, AreThrottled, seen_in};
+ghost use Rattle.cbs_planning.specs.Loads.{AreThrottled, run_of, seen_in};
+ghost use Rattle.cbs_planning.specs.Runs.{AreInOrder};
 ghost use Rattle.cbs_planning.specs.Showing.{SawSome};
 
 use cbs_load::Load;
@@ -23,7 +24,7 @@ pub fn show_load<C, V: View<C>>(
     ensures seen { OnOk result ((first : (V × C)) → V.saw first (view.old, lent.old) []
         → V.saw first (view.new, lent.new) (seen_in load.now)) }
     ensures throttled { OnOk result (AreThrottled load.now) }
-    ensures in_order { OnOk result (AreInOrder load.now) }
+    ensures in_order { OnOk result (AreInOrder (run_of load.now)) }
     ensures stopped { OnErr result ((first : (V × C)) → V.saw first (view.old, lent.old) []
         → SawSome V.saw V.failed first (view.new, lent.new) (seen_in load.now)) }
 {

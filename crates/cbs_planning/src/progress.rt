@@ -27,17 +27,17 @@ impl Progress for NoProgress {
     fn end(&mut self) {}
 }
 
-/// A view that also reports how far the simulation is that it sees.
+/// A view that also reports how far the run is that it sees, if the run's end is known.
 #[derive(Drop)]
 pub(crate) struct Telling<V> {
     pub(crate) view: V,
-    until: u64,
+    until: Option<u64>,
     left: u32,
 }
 
 impl<V> Telling<V> {
-    /// Returns a view of a simulation that ends at this tick.
-    pub(crate) fn new(view: V, until: u64) -> Telling<V>
+    /// Returns a view of a run that ends at this tick, if that is known.
+    pub(crate) fn new(view: V, until: Option<u64>) -> Telling<V>
         ensures { result.view ≡ view }
     {
         Telling {
@@ -59,7 +59,9 @@ impl<P: Progress, V: View<()>> View<P> for Telling<V> {
     fn see(&mut self, lent: &mut P, seen: Seen) -> Result<(), AllocError> {
         if self.left == 0 {
             self.left = STEPS;
-            lent.tell(seen.clock, self.until);
+            if let Some(until) = self.until {
+                lent.tell(seen.clock, until);
+            }
         }
         self.left -= 1;
         self.view.see(&mut (), seen)

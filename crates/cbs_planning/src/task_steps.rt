@@ -48,7 +48,7 @@ fn asked_of(step: &Step<FileJob>) -> Asked
 }
 
 /// Returns whether a submit was refused because of memory.
-pub fn lacks_memory(reply: &Reply<FileJob>) -> bool
+fn lacks_memory(reply: &Reply<FileJob>) -> bool
     ensures { result ≡ is_lack reply.now }
 {
     match reply {

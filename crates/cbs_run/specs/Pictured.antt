@@ -6,8 +6,9 @@ use Rattle.cbs_file.specs.TaskFiles.{File}
 use Rattle.cbs_lines.specs.Writers.{Writer, IsUntouched, TriesToWrite}
 use Rattle.cbs_load.specs.Loads.{LoadFile}
 use Rattle.cbs_stretches.specs.Windows.{AnswersShown}
-use Rattle.cbs_planning.specs.Pictures.{IsPictureOf, IsTaskPicture}
-use Rattle.cbs_planning.specs.Tasks.{clock_of_tasks}
+use Rattle.cbs_planning.specs.Loads.{run_of}
+use Rattle.cbs_planning.specs.Runs.{IsPictureOf}
+use Rattle.cbs_planning.specs.Tasks.{clock_of_tasks, run_of_tasks}
 use Rattle.cbs_svg.specs.Pictures.{svg_text}
 use Rattle.cbs_timeline.specs.Timelines.{timeline_text}
 use Rattle.cbs_trace.specs.Traces.{IsTrace}
@@ -35,11 +36,11 @@ DrawsShown drawing is asked end text = (w : Window) × AnswersShown asked end (O
 
 -- the text draws the ticks of the load that are asked for, and names the file so
 abbrev pub IsLoadDrawing : Drawing → Window → List ℕ → LoadFile → List ℕ → Type 0
-IsLoadDrawing drawing asked name f text = DrawsShown drawing (IsPictureOf name f) asked f.until text
+IsLoadDrawing drawing asked name f text = DrawsShown drawing (IsPictureOf name (run_of f)) asked f.until text
 
 -- the same for a task file
 abbrev pub IsTaskDrawing : Drawing → Window → List ℕ → File → List ℕ → Type 0
-IsTaskDrawing drawing asked name f text = DrawsShown drawing (IsTaskPicture name f) asked (clock_of_tasks f) text
+IsTaskDrawing drawing asked name f text = DrawsShown drawing (IsPictureOf name (run_of_tasks f)) asked (clock_of_tasks f) text
 
 -- the tick at which a load's run ends
 abbrev pub end_of : LoadFile → ℕ

@@ -5,14 +5,18 @@ ghost use Rattle.cbs_file.specs.Spelling.{file};
 ghost use Rattle.cbs_load.specs.Spelling.{load};
 ghost use Rattle.cbs_planning.specs.Tasks.{clock_of_tasks};
 ghost use Rattle.cbs_run.specs.Commands.{Does};
-ghost use Rattle.cbs_run.specs.Pictured.{drawing_command, end_of, EndsDrawing, IsDrawn, IsLoadDrawing, IsTaskDrawing};
+ghost use Rattle.cbs_run.specs.Pictured.{drawing_command, end_of, EndsDrawing};
+ghost use Rattle.cbs_run.specs.Pictured.{IsDrawingOf, IsDrawn, IsLoadDrawing, IsTaskDrawing};
+ghost use Rattle.cbs_run.specs.Printing.{Prints};
+ghost use Rattle.cbs_planning.specs.Runs.{IsPictureOf};
 ghost use Rattle.cbs_lines.specs.Writers.{MayWrite};
 
 use crate::ending::{Stopped, print, status_of};
 use crate::reading::{load_file, task_file};
 use cbs_bytes::ByteOutput;
 use cbs_chart::{Picture, Window};
-use cbs_planning::{Progress, clock_of, picture_of, shown_of, task_picture_of};
+use cbs_lines::RunError;
+use cbs_planning::{NoProgress, Progress, Replay, Run, clock_of, picture_of, shown_of};
 use cbs_svg::svg_text;
 use cbs_timeline::timeline_text;
 use cbs_trace::trace_json;
@@ -31,6 +35,25 @@ fn drawn_text(alloc: Global, drawing: Drawing, picture: &Picture) -> Result<Stri
     }
 }
 
+/// Makes the steps of a run, and prints the picture of a window of it, in this drawing. The picture names the file `name`.
+fn print_picture<R: Run, P: Progress, O: ByteOutput>(
+    alloc: Global,
+    drawing: Drawing,
+    window: Window,
+    name: &str,
+    run: &mut R,
+    progress: &mut P,
+    out: &mut O,
+) -> Result<(), RunError>
+    requires { MayWrite (O.state out.old) }
+    ensures { Prints (IsDrawingOf drawing (IsPictureOf name.now (R.run run.old) window)) result
+        (O.state out.old) (O.state out.new) }
+{
+    let picture = picture_of(alloc, name, run, window, progress)?;
+    let text = drawn_text(alloc, drawing, &picture)?;
+    print(&text, out)
+}
+
 /// Draws the ticks of a window of the load that the bytes spell.
 fn draw_load<P: Progress, O: ByteOutput>(
     alloc: Global,
@@ -46,11 +69,9 @@ fn draw_load<P: Progress, O: ByteOutput>(
     ensures { Does (drawing_command load (IsLoadDrawing drawing asked name.now) end_of asked) bytes.now result
         (O.state out.old) (O.state out.new) }
 {
-    let load = load_file(alloc, memory, bytes)?;
+    let mut load = load_file(alloc, memory, bytes)?;
     let window = shown_of(asked, load.until())?;
-    let picture = picture_of(alloc, name, &load, window, progress)?;
-    let text = drawn_text(alloc, drawing, &picture)?;
-    print(&text, out)?;
+    print_picture(alloc, drawing, window, name, &mut load, progress, out)?;
     Ok(())
 }
 
@@ -73,9 +94,8 @@ fn draw_tasks<O: ByteOutput>(
     let end = clock_of(alloc, first)?;
     let window = shown_of(asked, end)?;
     let tasks = task_file(alloc, memory, bytes)?;
-    let picture = task_picture_of(alloc, name, tasks, window)?;
-    let text = drawn_text(alloc, drawing, &picture)?;
-    print(&text, out)?;
+    let mut replay = Replay::of(tasks);
+    print_picture(alloc, drawing, window, name, &mut replay, &mut NoProgress, out)?;
     Ok(())
 }
 

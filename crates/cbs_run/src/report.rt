@@ -4,15 +4,16 @@ ghost use Rattle.std.specs.Prelude.{◌≡◌, ◌≤◌, IfOk, length, string_b
 ghost use Rattle.cbs_file.specs.Spelling.{file};
 ghost use Rattle.cbs_load.specs.Spelling.{load};
 ghost use Rattle.cbs_run.specs.Commands.{Does, printing_command};
-ghost use Rattle.cbs_run.specs.Printing.{EndsPrinting};
-ghost use Rattle.cbs_run.specs.Reported.{IsReportText, IsTaskReportText, text_in};
+ghost use Rattle.cbs_run.specs.Printing.{EndsPrinting, Prints};
+ghost use Rattle.cbs_run.specs.Reported.{IsReportText, IsRunText, IsTaskReportText, text_in};
 ghost use Rattle.cbs_lines.specs.Writers.{IsUntouched, MayWrite};
 
 use crate::ending::{Stopped, print, status_of};
 use crate::reading::{load_file, task_file};
 use cbs_bytes::ByteOutput;
 use cbs_json::report_json;
-use cbs_planning::{Progress, report_of, task_report_of};
+use cbs_lines::RunError;
+use cbs_planning::{NoProgress, Progress, Replay, Run, report_of};
 use cbs_print::{RunReport, report_text};
 use cbs_words::Form;
 use std::alloc::{AllocError, Global};
@@ -26,6 +27,24 @@ fn text_of(alloc: Global, form: Form, report: &RunReport) -> Result<String, Allo
         Form::Report => report_text(alloc, report),
         Form::Json => report_json(alloc, report),
     }
+}
+
+/// Makes the steps of a run, and prints its report in this form. The report names the file `name`.
+fn print_report<R: Run, P: Progress, O: ByteOutput>(
+    alloc: Global,
+    form: Form,
+    name: &str,
+    run: &mut R,
+    progress: &mut P,
+    out: &mut O,
+) -> Result<(), RunError>
+    requires { MayWrite (O.state out.old) }
+    ensures { Prints (λ text. IsRunText form name.now (R.run run.old) text × R.lawful run.old) result
+        (O.state out.old) (O.state out.new) }
+{
+    let report = report_of(alloc, name, run, progress)?;
+    let text = text_of(alloc, form, &report)?;
+    print(&text, out)
 }
 
 /// Makes the steps of the task file that the bytes spell, and prints the report of its run in this form.
@@ -42,9 +61,8 @@ fn report_tasks<O: ByteOutput>(
         (O.state out.old) (O.state out.new) }
 {
     let tasks = task_file(alloc, memory, bytes)?;
-    let report = task_report_of(alloc, name, tasks)?;
-    let text = text_of(alloc, form, &report)?;
-    print(&text, out)?;
+    let mut replay = Replay::of(tasks);
+    print_report(alloc, form, name, &mut replay, &mut NoProgress, out)?;
     Ok(())
 }
 
@@ -90,10 +108,8 @@ fn report_load<P: Progress, O: ByteOutput>(
     ensures { Does (printing_command load (IsReportText form name.now)) bytes.now result
         (O.state out.old) (O.state out.new) }
 {
-    let load = load_file(alloc, memory, bytes)?;
-    let report = report_of(alloc, name, &load, progress)?;
-    let text = text_of(alloc, form, &report)?;
-    print(&text, out)?;
+    let mut load = load_file(alloc, memory, bytes)?;
+    print_report(alloc, form, name, &mut load, progress, out)?;
     Ok(())
 }
 

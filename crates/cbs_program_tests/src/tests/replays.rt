@@ -2,7 +2,7 @@
 
 use super::same;
 use cbs_file::read_file;
-use cbs_planning::task_report_of;
+use cbs_planning::{NoProgress, Replay, report_of};
 use cbs_report::{Figures, Ranks};
 
 /// Two throttled servers. The first has to wait for its deadline. The second refuses a job after its close.
@@ -95,7 +95,8 @@ fn a_task_file_with_throttled_servers(rt: HostRuntime) {
     let tasks = read_file(alloc, THROTTLED.as_bytes())
         .ok()
         .expect(&rt, "a task file");
-    let report = task_report_of(alloc, "THROTTLED.toml", tasks)
+    let mut replay = Replay::of(tasks);
+    let report = report_of(alloc, "THROTTLED.toml", &mut replay, &mut NoProgress)
         .ok()
         .expect(&rt, "memory");
     same(&rt, "file", report.file.as_str(), "THROTTLED.toml");

@@ -3,7 +3,7 @@
 use super::{same, same_stretches};
 use cbs_chart::{Kind, Picture, Window};
 use cbs_file::{TaskFile, read_file};
-use cbs_planning::{clock_of, shown_of, task_picture_of};
+use cbs_planning::{NoProgress, Replay, clock_of, picture_of, shown_of};
 use std::alloc::Global;
 use std::process::Abort;
 
@@ -69,7 +69,8 @@ fn end_of(rt: &impl Abort, alloc: Global) -> u64 {
 fn picture_from_1(rt: &impl Abort, alloc: Global, end: u64) -> Picture {
     let asked = Window::new(1, 20_001).ok().expect(rt, "ticks");
     let window = shown_of(asked, end).ok().expect(rt, "a tick");
-    task_picture_of(alloc, "a.toml", tasks(rt, alloc), window)
+    let mut replay = Replay::of(tasks(rt, alloc));
+    picture_of(alloc, "a.toml", &mut replay, window, &mut NoProgress)
         .ok()
         .expect(rt, "memory")
 }

@@ -1,8 +1,0 @@
-use Rattle.std.proofs.Common.{◌≡◌, length}
-use Rattle.cbs_planning.specs.Tasks.{IsTaskServerReport}
-use Rattle.cbs_planning.proofs.Servers.{EachFrom}
-use Rattle.cbs_planning.proofs.task_report.task_report_of.Given as goal
-
--- the reports of the first servers
-abbrev pub invariant-loop-server : goal.invariant-loop-server
-invariant-loop-server l = record { count : length l.servers.items ≡ l.server; each : EachFrom (IsTaskServerReport l.fn.tasks) 0 l.servers.items }
