@@ -6,6 +6,8 @@ use Rattle.cbs_chart.proofs.Rows.{found}
 use Rattle.cbs_chart.specs.Charts.{Kept, IsChart, kept_seen, new_kept}
 use Rattle.cbs_chart.proofs.Bars.{rows_seen}
 use Rattle.cbs_chart.specs.declared.chart.Chart.{Chart}
+use Rattle.cbs_chart.specs.declared.picture.Picture.{Picture}
+use Rattle.cbs_planning.specs.Runs.{Shown, SameServers, IsChartPicture}
 use Rattle.cbs_stretches.specs.declared.window.Window.{Window}
 use Rattle.cbs_rate.specs.Rate.{Rate}
 use Rattle.cbs_views.specs.declared.seen.Seen.{Seen}
@@ -36,3 +38,17 @@ pub at_of_map : {A B : Type 0} (f : A → B) (xs : List A) (i : ℕ) (x : A) →
 at_of_map f [] i x lt is = absurd (omega arith)
 at_of_map f (y ∷ xs) zero x lt is = rw is refl
 at_of_map f (y ∷ xs) (suc i) x lt is = at_of_map f xs i x (omega arith) is
+
+-- a picture of a chart of a run is one of each run with the same servers
+pub picture_same : (name : List ℕ) (a b : Shown) (c : Chart) (p : Picture) → SameServers a b → IsChartPicture name b c p → IsChartPicture name a c p
+picture_same name a b c p same h = let k = rw same at h in record {
+  file = k.file;
+  reserved = k.reserved;
+  window = k.window;
+  end = k.end;
+  idle = k.idle;
+  names = k.names;
+  modes = k.modes;
+  reservations = k.reservations;
+  charts = k.charts;
+}

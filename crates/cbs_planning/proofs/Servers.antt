@@ -1,5 +1,6 @@
 -- The reports of servers, one after another.
-use Rattle.std.proofs.Common.{◌≡◌, ℕ, zero, suc, ◌+◌, ◌<◌, List, [], ◌∷◌, ◌++◌, length, map, Some, None, arith, rules, refl, ap, ◌∙◌, subst}
+use Rattle.std.proofs.Common.{◌≡◌, ℕ, zero, suc, ◌+◌, ◌<◌, List, [], ◌∷◌, ◌++◌, length, map, Some, None, arith, rules, refl, ap, sym, ◌∙◌, subst}
+use Rattle.std.specs.List.{range_with_len}
 use Rattle.std.specs.Prelude.{get_or, slice_get, string_bytes, IsSome}
 use Rattle.std.proofs.lemmas.List.{get_or-map, length-map}
 use Rattle.cbs_rate.specs.Rate.{Rate}
@@ -7,7 +8,8 @@ use Rattle.cbs_report.specs.Reports.{AreAllFigures}
 use Rattle.cbs_report.specs.Figures.{AreFigures, steps_of}
 use Rattle.cbs_report.specs.declared.figures.Figures.{Figures}
 use Rattle.cbs_print.specs.declared.report.ServerReport.{ServerReport}
-use Rattle.cbs_planning.specs.Runs.{Shown, IsServerReport}
+use Rattle.cbs_planning.specs.Runs.{Shown, SameServers, IsServerReport}
+use Rattle.cbs_planning.specs.Tasks.{name_of}
 use Rattle.cbs_views.specs.declared.seen.Seen.{Seen}
 
 module _ (Is : ℕ → ServerReport → Type 0) where
@@ -63,6 +65,15 @@ server_is r s t fs all name mode reservation within figures = record {
   figures = figures_at r.plan.rates r.end r.seen fs s t all reservation figures;
 }
 
+-- what is told of a server of a run is told of it in each run with the same servers
+pub server_same : (a b : Shown) (s : ℕ) (t : ServerReport) (fs : List Figures) → SameServers a b
+    → AreAllFigures (map (λ rate. rate.budget) a.plan.rates) a.end a.seen fs
+    → Some (string_bytes t.name) ≡ slice_get b.names s → Some t.mode ≡ slice_get b.modes s → Some t.reservation ≡ slice_get b.plan.rates s
+    → t.within ≡ b.within s → slice_get fs s ≡ Some t.figures → IsServerReport a s t
+server_same a b s t fs same all name mode reservation within figures =
+    server_is a s t fs all (name ∙ ap (λ (r : Shown). slice_get r.names s) same) (mode ∙ ap (λ (r : Shown). slice_get r.modes s) same)
+    (reservation ∙ ap (λ (r : Shown). slice_get r.plan.rates s) same) (within ∙ ap (λ (r : Shown). r.within s) same) figures
+
 -- at a place of the list something stands
 pub stands : {X : Type 0} (xs : List X) (i : ℕ) → i < length xs → IsSome (slice_get xs i)
 stands [] i lt = absurd (omega arith)
@@ -79,3 +90,16 @@ some_at (y ∷ xs) (suc i) x lt is = some_at xs i x (omega arith) is
 pub figure_count : (rates : List Rate) (now : ℕ) (seen : List Seen) (fs : List Figures) → AreAllFigures (map (λ rate. rate.budget) rates) now seen fs
     → length fs ≡ length rates
 figure_count rates now seen fs all = all.count ∙ length-map rates (λ (rate : Rate). rate.budget)
+
+-- the names of the servers of a task file, from one number on
+named_from : (n from s : ℕ) → s < n → slice_get (map name_of (range_with_len from n)) s ≡ Some (name_of (from + s))
+named_from zero from s lt = absurd (omega arith)
+named_from (suc n) from zero lt = let z : from + 0 ≡ from = omega arith in rw z refl
+named_from (suc n) from (suc s) lt = let z : from + suc s ≡ from + 1 + s = omega arith in rw z (named_from n (from + 1) s (omega arith))
+
+-- the name of server s
+pub named_at : (n s : ℕ) (name : List ℕ) → s < n → name ≡ name_of s → Some name ≡ slice_get (map name_of (range_with_len 0 n)) s
+named_at n s name lt is =
+    let z : 0 + s ≡ s = omega arith in
+    let here : slice_get (map name_of (range_with_len 0 n)) s ≡ Some (name_of s) = rw z at (named_from n 0 s lt) in
+    rw (is, here) refl

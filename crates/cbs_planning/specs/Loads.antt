@@ -1,10 +1,7 @@
--- The outcome of a load: its steps as a view sees them, and its reports.
-use Rattle.std.specs.Prelude.{◌≡◌, ℕ, ◌<◌, eqb, min, max, if◌then◌else◌, List, [], ◌∷◌, length, sum_by, slice_get, string_bytes, Option, Some, None}
-use Rattle.cbs_chart.specs.Ticks.{AreInTurn}
+-- A load as a run: the steps of its simulation, as a view sees them.
+use Rattle.std.specs.Prelude.{◌≡◌, ℕ, ◌<◌, eqb, min, max, if◌then◌else◌, List, [], ◌∷◌, length, Option, Some, None}
 use Rattle.cbs_load.specs.Loads.{LoadFile}
-use Rattle.cbs_rate.specs.Plan.{common_multiple, share}
-use Rattle.cbs_report.specs.Figures.{AreFigures, steps_of, throttled, told, total}
-use Rattle.cbs_report.specs.Tallies.{ticks_idle}
+use Rattle.cbs_report.specs.Figures.{steps_of, throttled}
 use Rattle.cbs_simulate.specs.Bounds.{Bounds}
 use Rattle.cbs_simulate.specs.Drawing.{released_by_all}
 use Rattle.cbs_simulate.specs.Loading.{loading, job_of}
@@ -14,9 +11,8 @@ use Rattle.cbs_simulate.specs.Shown.{shown}
 use Rattle.cbs_simulate.specs.declared.load_job.LoadJob.{LoadJob}
 use Rattle.cbs_simulate.specs.declared.terms.SourceTerms.{SourceTerms}
 use Rattle.cbs_steps.specs.Setups.{terms_of}
-use Rattle.cbs_print.specs.declared.report.RunReport.{RunReport}
-use Rattle.cbs_print.specs.declared.report.ServerReport.{ServerReport}
 use Rattle.cbs_views.specs.declared.seen.Seen.{Seen}
+use Rattle.cbs_planning.specs.Runs.{Shown}
 use Rattle.cbs_planning.specs.Throttled.{ticks_waiting}
 
 -- the start of a load: no step is made yet, and all releases of its sources are still to come

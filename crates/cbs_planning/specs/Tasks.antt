@@ -1,13 +1,11 @@
--- The outcome of a task file: its steps as a view sees them, and its reports.
-use Rattle.std.specs.Prelude.{◌≡◌, ◌⊎◌, ℕ, List, [], ◌∷◌, ◌++◌, codes, decimal, length, sum_by, slice_get, string_bytes, Some, None}
+-- A task file as a run: its steps, as a view sees them.
+use Rattle.std.specs.Prelude.{◌≡◌, ◌⊎◌, ℕ, List, [], ◌∷◌, ◌++◌, codes, decimal, length, map, None}
+use Rattle.std.specs.List.{range_with_len}
 use Rattle.cbs_core.specs.Agreement.{Agrees}
 use Rattle.cbs_core.specs.Held.{CoreHeld}
 use Rattle.cbs_file.specs.TaskFiles.{File}
 use Rattle.cbs_job.specs.FileJobs.{of_files}
 use Rattle.cbs_job.specs.declared.file.FileJob.{FileJob}
-use Rattle.cbs_rate.specs.Plan.{common_multiple, share}
-use Rattle.cbs_report.specs.Figures.{AreFigures, steps_of, told, total}
-use Rattle.cbs_report.specs.Tallies.{ticks_idle}
 use Rattle.cbs_rules.specs.Setups.{ModedPlan}
 use Rattle.cbs_steps.specs.Continuations.{◌⊕⊕◌}
 use Rattle.cbs_steps.specs.History.{World, History, ◌⊕◌, faces, world_after, reply_in}
@@ -21,8 +19,7 @@ use Rattle.cbs_views.specs.declared.seen.Arrival.{Arrival}
 use Rattle.cbs_views.specs.declared.seen.Event.{Event}
 use Rattle.cbs_views.specs.declared.seen.Event.TheVariants as event
 use Rattle.cbs_views.specs.declared.seen.Seen.{Seen}
-use Rattle.cbs_print.specs.declared.report.RunReport.{RunReport}
-use Rattle.cbs_print.specs.declared.report.ServerReport.{ServerReport}
+use Rattle.cbs_planning.specs.Runs.{Shown}
 use Rattle.cbs_planning.specs.declared.task_steps.Asked.{Asked}
 use Rattle.cbs_planning.specs.declared.task_steps.Asked.TheVariants.{Submit, Run, Advance, Close, Charge}
 

@@ -68,6 +68,8 @@ fn picture_of_chart<R: Run>(
         idle,
         servers: charts,
     } = chart;
+    // Reading the modes gives the proof that each server has a name, and a mode.
+    let _modes = run.modes();
     let mut servers = Vec::with_capacity(alloc, run.plan().len())?;
     for chart in charts {
         let server = servers.len() as u16;

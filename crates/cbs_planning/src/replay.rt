@@ -74,7 +74,8 @@ impl Run for Replay {
     }
 
     fn name(&self, alloc: Global, server: u16) -> Result<String, AllocError> {
-        format!(in alloc; "server {server}")
+        let name = format!(in alloc; "server {server}")?;
+        Ok(name)
     }
 
     fn within(&self, _server: u16) -> Option<Range> {

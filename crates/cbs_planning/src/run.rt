@@ -20,12 +20,12 @@ pub trait Run {
 
     /// Returns the reservations of the servers, and the bound on their total bandwidth.
     fn plan(&self) -> &Plan
-        ensures value { result.now ≡ (run self.now).plan }
-        ensures servers { HasServers (run self.now) };
+        ensures { result.now ≡ (run self.now).plan };
 
     /// Returns the modes of the servers, by number.
     fn modes(&self) -> &Modes
-        ensures { result.now ≡ (run self.now).modes };
+        ensures value { result.now ≡ (run self.now).modes }
+        ensures servers { HasServers (run self.now) };
 
     /// Returns how many accepted, unfinished jobs a server may have.
     fn backlog(&self) -> u64

@@ -23,6 +23,8 @@ impl Run for Load {
     }
 
     fn modes(&self) -> &Modes {
+        // Reading the names gives the proof that each server has a name, and a mode.
+        let _names = Load::names(self);
         Load::modes(self)
     }
 
@@ -53,6 +55,8 @@ impl Run for Load {
         lent: &mut C,
     ) -> Result<u64, AllocError> {
         show_load(alloc, self, view, lent)?;
+        // Reading the plan gives the proof what every plan keeps.
+        let _servers = Load::plan(self).len();
         Ok(Load::until(self))
     }
 }

@@ -6,28 +6,27 @@ use Rattle.cbs_planning.proofs.Runs.{simulation, same_seen, saw_none, saw_some}
 use Rattle.cbs_planning.proofs.TaskSteps.{on_err_always}
 use Rattle.cbs_planning.proofs.ThrottledTicks.{IsWhole, in_order, whole_if_made, whole_of, throttled_is}
 use Rattle.cbs_planning.proofs.load_steps.show_load.Given as given
-use Rattle.cbs_planning.proofs.load_steps.show_load.Goals.{In-Ok, In-Err, In_ok-releases}
+use Rattle.cbs_planning.proofs.load_steps.show_load.Goals.{After-drop-releases}
 use Rattle.cbs_planning.proofs.load_steps.show_load.Goals as goal
-
--- the releases are those of the load
-abbrev released : (g : given.Over) (c : In_ok-releases g)
-    → (let f = c.args.load.now in map pending c.in_ok-releases.releases ≡ released_by_all 0 f.sources f.until f.seed)
-released g c = rw (← c.sources.ensures.value, ← c.until.ensures.value, ← c.seed.ensures) c.in_ok-releases.ensures
 
 pub returns-in-Ok-clause-seen : goal.returns-in-Ok-clause-seen
 returns-in-Ok-clause-seen g c = λ first was.
     let f = c.args.load.now in
+    let releases : map pending c.in_ok-releases.releases ≡ released_by_all 0 f.sources f.until f.seed =
+    rw (← c.sources.ensures.value, ← c.until.ensures.value, ← c.seed.ensures) c.in_ok-releases.ensures in
     let same = same_seen f c.modes.result.now c.plan.result.now c.backlog.result c.until-2.result (merged (map pending c.in_ok-releases.releases))
-    c.modes.ensures c.plan.ensures c.backlog.ensures.value c.until-2.ensures.value (ap merged (released g c)) in
+    c.modes.ensures c.plan.ensures c.backlog.ensures.value c.until-2.ensures.value (ap merged releases) in
     rw (← same) (c.in-Ok.ensures.simulates.simulates.seen first [] was)
 
 -- the simulation is that of the load, to its end
-abbrev whole : (g : given.Over) (c : In-Ok g) → IsWhole c.args.load.now.until (start_of c.args.load.now)
+abbrev whole : (g : given.Over) (c : After-drop-releases g) → IsWhole c.args.load.now.until (start_of c.args.load.now)
 whole g c =
     let f = c.args.load.now in
+    let releases : map pending c.in_ok-releases.releases ≡ released_by_all 0 f.sources f.until f.seed =
+    rw (← c.sources.ensures.value, ← c.until.ensures.value, ← c.seed.ensures) c.in_ok-releases.ensures in
     let coming = merged (map pending c.in_ok-releases.releases) in
     whole_of f c.modes.result.now c.plan.result.now c.backlog.result c.until-2.result coming c.modes.ensures c.plan.ensures c.backlog.ensures.value
-    c.until-2.ensures.value (ap merged (released g c))
+    c.until-2.ensures.value (ap merged releases)
     (whole_if_made _ c.until-2.result (simulation c.modes.result.now c.plan.result.now c.backlog.result coming)
     _ _ _ c.in-Ok.ensures.simulates.simulates)
 
@@ -37,14 +36,16 @@ returns-in-Ok-clause-throttled g c = throttled_is c.args.load.now c.sources.ensu
 pub returns-in-Ok-clause-in_order : goal.returns-in-Ok-clause-in_order
 returns-in-Ok-clause-in_order g c = in_order c.args.load.now c.sources.ensures.lawful.moded (whole g c)
 
-pub returns-in-Err-clause-stopped : goal.returns-in-Err-clause-stopped
-returns-in-Err-clause-stopped g c = λ first was.
+pub returns-clause-stopped : goal.returns-clause-stopped
+returns-clause-stopped g c = λ first was.
     let f = c.args.load.now in
+    let releases : map pending c.in_ok-releases.releases ≡ released_by_all 0 f.sources f.until f.seed =
+    rw (← c.sources.ensures.value, ← c.until.ensures.value, ← c.seed.ensures) c.in_ok-releases.ensures in
     let coming = merged (map pending c.in_ok-releases.releases) in
     let sim = simulation c.modes.result.now c.plan.result.now c.backlog.result coming in
     let h = c.in-Err.ensures.stopped in
     let same = same_seen f c.modes.result.now c.plan.result.now c.backlog.result c.until-2.result coming
-    c.modes.ensures c.plan.ensures c.backlog.ensures.value c.until-2.ensures.value (ap merged (released g c)) in
+    c.modes.ensures c.plan.ensures c.backlog.ensures.value c.until-2.ensures.value (ap merged releases) in
     saw_some g.V.View.saw g.V.View.failed first _ c.until-2.result sim h.done h.left _ h.all same (h.seen first [] was)
 
 pub returns-in_err-releases-clause-stopped : goal.returns-in_err-releases-clause-stopped

@@ -1,0 +1,13 @@
+use Rattle.cbs_size.proofs.LateMoves.{lateness_kept}
+use Rattle.cbs_planning.proofs.KeptMoves.{promises_kept}
+use Rattle.cbs_planning.proofs.simulated.LoadRun.show.Goals as goal
+
+pub returns-clause-lawful : goal.returns-clause-lawful
+returns-clause-lawful g c =
+    let f = c.args.self.now in
+    let plan = rw c.plan.ensures at c.len-servers.ensures.lawful in
+    record {
+      throttled = c.in_ok-show_load.ensures.throttled;
+      promises = promises_kept f c.until.ensures.lawful plan;
+      late = lateness_kept f c.until.ensures.lawful plan;
+    }
