@@ -1,4 +1,3 @@
-pub mod FileLaws
 pub mod Lines
 pub mod Runs
 pub mod Traces

@@ -1,6 +1,6 @@
 //! A view that writes the line of each step.
 
-ghost use Rattle.std.specs.Prelude.{◌≡◌, false, [], List, IfOk, OnOk, OnErr};
+ghost use Rattle.std.specs.Prelude.{◌≡◌, false, [], List, IfOk, IsOk, OnOk, OnErr};
 ghost use Rattle.cbs_views.specs.declared.seen.Seen.{Seen};
 ghost use Rattle.cbs_lines.specs.Lines.{lines_of};
 ghost use Rattle.cbs_lines.specs.Traces.{LinesStop};
@@ -40,7 +40,8 @@ impl Lines {
         out: &mut O,
     ) -> Result<(), RunError>
         requires { self.old.write_failed ≡ false → MayWrite (O.state out.old) }
-        ensures { (first : Writer) (steps : List Seen)
+        ensures shown { OnOk result (IsOk shown) }
+        ensures written { (first : Writer) (steps : List Seen)
             → OnOk shown (HasWritten self.old first (O.state out.old) steps)
             → OnErr shown (WroteSome self.old first (O.state out.old) steps)
             → Leaves (lines_of steps) (LinesStop steps) result first (O.state out.new) }

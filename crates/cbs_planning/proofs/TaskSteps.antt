@@ -10,6 +10,7 @@ use Rattle.cbs_steps.specs.Continuations.{◌⊕⊕◌}
 use Rattle.cbs_steps.specs.History.{History, ◌⊕◌}
 use Rattle.cbs_steps.specs.declared.step.Step.{Step}
 use Rattle.cbs_views.specs.declared.seen.Seen.{Seen}
+use Rattle.cbs_planning.specs.Showing.{SawSome}
 use Rattle.cbs_planning.specs.Tasks.{seen_after, seen_from, StopsAmong}
 
 -- before the first step
@@ -71,3 +72,15 @@ on_ok_always (Err e) p = tt
 pub on_err_always : {T E : Type 0} {P : Type 0} (r : Result T E) → P → OnErr r P
 on_err_always (Ok x) p = tt
 on_err_always (Err e) p = p
+
+-- the first steps of a list were made, up to some step, and the view saw these, or failed to see the last of them
+pub saw_some_of : {S : Type 0} (saw failed : S → S → List Seen → Type 0) (M : History FileJob) (xs : List (Step FileJob)) (new : CoreHeld FileJob)
+    (first old now : S) → StopsAmong saw failed M xs new old now → saw first old [] → SawSome saw failed first now (seen_from M xs [])
+saw_some_of saw failed M xs new first old now h was =
+    let done = seen_from M h.made [] in
+    record {
+      later = seen_from (M ⊕⊕ h.made) h.left [];
+      done = done;
+      all = sym (seen_before (M ⊕⊕ h.made) h.left done) ∙ (sym (seen_both M h.made h.left []) ∙ ap (λ ys. seen_from M ys []) h.all);
+      seen = h.seen first [] was;
+    }

@@ -1,6 +1,7 @@
 //! A task file as a run: its steps are made again.
 
 ghost use Rattle.std.specs.Prelude.{◌≡◌, IfOk};
+ghost use Rattle.cbs_planning.specs.FileLaws.{KeepsLaws};
 ghost use Rattle.cbs_planning.specs.Tasks.{clock_of_tasks, run_of_tasks};
 
 use crate::run::Run;
@@ -56,6 +57,8 @@ impl Replay {
 
 impl Run for Replay {
     ghost run = { run_of_tasks };
+
+    ghost lawful = { KeepsLaws };
 
     fn plan(&self) -> &Plan {
         self.setup.plan()

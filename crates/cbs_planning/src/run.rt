@@ -1,7 +1,8 @@
 //! Runs: servers, and the steps that are made on them, which can be shown.
 
-ghost use Rattle.std.specs.Prelude.{◌≡◌, ◌<◌, [], IfOk, IfSome, OnOk, Some, length, slice_get, string_bytes};
+ghost use Rattle.std.specs.Prelude.{◌≡◌, ◌<◌, [], IfOk, IfSome, OnErr, OnOk, Some, length, slice_get, string_bytes};
 ghost use Rattle.cbs_planning.specs.Runs.{Shown, AreInOrder, HasServers, SameServers};
+ghost use Rattle.cbs_planning.specs.Showing.{SawSome};
 
 use cbs_rate::Plan;
 use cbs_rules::Modes;
@@ -52,7 +53,8 @@ pub trait Run {
     /// Makes the steps, and shows each to the view. Returns the tick at which they end. The view has to be ready. A run
     /// can be shown once.
     ///
-    /// Refuses if out of memory, or if the view fails.
+    /// Refuses if out of memory, or if the view fails. The view has then seen the first steps, up to some step. It may
+    /// have failed to see the last of these.
     fn show<C, V: View<C>>(
         &mut self,
         alloc: Global,
@@ -63,6 +65,8 @@ pub trait Run {
         ensures end { IfOk result (λ end. end ≡ (run self.old).end) }
         ensures seen { OnOk result ((first : (V × C)) → V.saw first (view.old, lent.old) []
             → V.saw first (view.new, lent.new) (run self.old).seen) }
+        ensures stopped { OnErr result ((first : (V × C)) → V.saw first (view.old, lent.old) []
+            → SawSome V.saw V.failed first (view.new, lent.new) (run self.old).seen) }
         ensures in_order { OnOk result (AreInOrder (run self.old)) }
         ensures lawful { OnOk result (lawful self.old) }
         ensures servers { OnOk result (SameServers (run self.old) (run self.new)) };

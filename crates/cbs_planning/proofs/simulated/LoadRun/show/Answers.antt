@@ -1,5 +1,6 @@
 use Rattle.cbs_size.proofs.LateMoves.{lateness_kept}
 use Rattle.cbs_planning.proofs.KeptMoves.{promises_kept}
+use Rattle.cbs_planning.proofs.TaskSteps.{on_err_always}
 use Rattle.cbs_planning.proofs.simulated.LoadRun.show.Goals as goal
 
 pub returns-clause-lawful : goal.returns-clause-lawful
@@ -11,3 +12,6 @@ returns-clause-lawful g c =
       promises = promises_kept f c.until.ensures.lawful plan;
       late = lateness_kept f c.until.ensures.lawful plan;
     }
+
+pub returns-in_err-show_load-clause-stopped : goal.returns-in_err-show_load-clause-stopped
+returns-in_err-show_load-clause-stopped g c = on_err_always c.from_residual.result c.in_err-show_load.ensures.stopped
