@@ -2,12 +2,6 @@
 use Rattle.std.proofs.Common.{◌≡◌, ◌⊎◌, ◌+◌, ◌++◌, ℕ, true, false, List, [], ◌∷◌, ap, inl, inr, refl, sym, ◌∙◌, append_assoc, Result, Ok, Err}
 use Rattle.std.specs.Prelude.{IsOk, OnErr, OnOk}
 use Rattle.std.proofs.lemmas.List.{append-nil}
-use Rattle.cbs_file.specs.TaskFiles.{File}
-use Rattle.cbs_job.specs.declared.file.FileJob.{FileJob}
-use Rattle.cbs_steps.specs.Continuations.{◌⊕⊕◌}
-use Rattle.cbs_steps.specs.declared.step.Step.{Step}
-use Rattle.cbs_planning.specs.Tasks.{seen_from, seen_in_tasks, start_of_tasks}
-use Rattle.cbs_planning.proofs.TaskSteps.{seen_before, seen_both}
 use Rattle.cbs_views.specs.declared.seen.Seen.{Seen}
 use Rattle.cbs_lines.specs.Lines.{lines_of, line_of}
 use Rattle.cbs_lines.specs.Traces.{WritesSomeLines}
@@ -152,41 +146,27 @@ module _ (lines : Lines) (old mid : Writer) (steps : List Seen) (some : WroteSom
       fails_in_all old new h.later h.done steps h.all (flush_failed old mid new lines h.done h.has fails)
 
 -- what is known of lines once steps were shown to them, whatever the result
-module _ {E : Type 0} (lines : Lines) (old mid : Writer) (steps : List Seen) where
+module _ {T E : Type 0} (lines : Lines) (old mid : Writer) (steps : List Seen) where
   -- if a write failed, a prefix of the lines is written
-  pub fault_ends : (shown : Result (Unit {0}) E) → OnOk shown (HasWritten lines old mid steps) → OnErr shown (WroteSome lines old mid steps)
+  pub fault_ends : (shown : Result T E) → OnOk shown (HasWritten lines old mid steps) → OnErr shown (WroteSome lines old mid steps)
       → lines.write_failed ≡ true → FailsToWrite old mid (lines_of steps)
   fault_ends (Ok x) ok err flag = let f = ok.well in absurd cc
   fault_ends (Err e) ok err flag = prefix_written lines old mid steps err flag
 
   -- if none did, no call failed
-  pub none_ends : (shown : Result (Unit {0}) E) → OnOk shown (HasWritten lines old mid steps) → OnErr shown (WroteSome lines old mid steps)
+  pub none_ends : (shown : Result T E) → OnOk shown (HasWritten lines old mid steps) → OnErr shown (WroteSome lines old mid steps)
       → lines.write_failed ≡ false → mid.failed ≡ old.failed
   none_ends (Ok x) ok err well = ok.writes.1
   none_ends (Err e) ok err well = none_failed lines old mid steps err well
 
   -- and if what waits cannot be written, a prefix of the lines is
-  pub flush_ends : (shown : Result (Unit {0}) E) → OnOk shown (HasWritten lines old mid steps) → OnErr shown (WroteSome lines old mid steps)
+  pub flush_ends : (shown : Result T E) → OnOk shown (HasWritten lines old mid steps) → OnErr shown (WroteSome lines old mid steps)
       → lines.write_failed ≡ false → (new : Writer) → FailsToWrite mid new lines.pending → FailsToWrite old new (lines_of steps)
   flush_ends (Ok x) ok err well new fails = flush_failed old mid new lines steps ok fails
   flush_ends (Err e) ok err well new fails = some_flush_failed lines old mid steps err new well fails
 
 -- what holds if steps were shown to their end holds if all was written
-pub ok_both : {T U E D : Type 0} {P : Type 0} (r : Result T E) (shown : Result U D) → OnOk r (IsOk shown) → OnOk shown P → OnOk r P
-ok_both (Ok x) (Ok y) is p = p
-ok_both (Ok x) (Err e) is p = absurd cc
-ok_both (Err d) shown is p = tt
-
--- the first steps of a task file were made, up to some step: so the first of its steps were seen
-pub tasks_stopped : (f : File) (lines : Lines) (old mid : Writer) (made left : List (Step FileJob)) → made ++ left ≡ f.steps
-    → HasWritten lines old mid (seen_from (start_of_tasks f) made []) ⊎ FailedToWrite lines old mid (seen_from (start_of_tasks f) made [])
-    → WroteSome lines old mid (seen_in_tasks f)
-tasks_stopped f lines old mid made left all wrote =
-    let M = start_of_tasks f in
-    let done = seen_from M made [] in
-    record {
-      later = seen_from (M ⊕⊕ made) left [];
-      done = done;
-      all = sym (seen_before (M ⊕⊕ made) left done) ∙ (sym (seen_both M made left []) ∙ ap (λ xs. seen_from M xs []) all);
-      wrote = wrote;
-    }
+pub ok_both : {T U E D : Type 0} (P : Type 0) (r : Result T E) (shown : Result U D) → OnOk r (IsOk shown) → OnOk shown P → OnOk r P
+ok_both P (Ok x) (Ok y) is p = p
+ok_both P (Ok x) (Err e) is p = absurd cc
+ok_both P (Err d) shown is p = tt

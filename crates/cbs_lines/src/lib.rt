@@ -3,10 +3,9 @@
 
 mod line;
 mod lines;
-mod load_lines;
 mod run_error;
 mod trace;
 
-pub use load_lines::write_load_lines;
+pub use lines::write_lines;
 pub use run_error::RunError;
 pub use trace::replay;

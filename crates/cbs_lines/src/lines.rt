@@ -1,4 +1,4 @@
-//! A view that writes the line of each step.
+//! The lines of a run, written while its steps are made.
 
 ghost use Rattle.std.specs.Prelude.{◌≡◌, false, [], List, IfOk, IsOk, OnOk, OnErr};
 ghost use Rattle.cbs_views.specs.declared.seen.Seen.{Seen};
@@ -10,6 +10,7 @@ ghost use Rattle.cbs_lines.specs.WritingLines.{HasWritten, WroteSome};
 use crate::line::write_line;
 use crate::run_error::RunError;
 use cbs_bytes::{ByteOutput, Pending};
+use cbs_planning::Run;
 use cbs_views::{Seen, View};
 use std::alloc::{AllocError, Global};
 
@@ -36,7 +37,7 @@ impl Lines {
     /// Writes the text that still waits, after steps were shown with this result. Returns how the run ended.
     pub fn end<O: ByteOutput>(
         &mut self,
-        shown: Result<(), AllocError>,
+        shown: Result<u64, AllocError>,
         out: &mut O,
     ) -> Result<(), RunError>
         requires { self.old.write_failed ≡ false → MayWrite (O.state out.old) }
@@ -51,7 +52,7 @@ impl Lines {
         }
         self.pending.flush(out)?;
         match shown {
-            Ok(()) => Ok(()),
+            Ok(_end) => Ok(()),
             Err(_) => Err(RunError::OutOfMemory),
         }
     }
@@ -75,4 +76,24 @@ impl<O: ByteOutput> View<O> for Lines {
         };
         Ok(())
     }
+}
+
+/// Makes the steps of a run, and writes a line for each step.
+///
+/// Refuses with [`RunError::OutOfMemory`] if out of memory: then the lines of the first steps are written, up to some
+/// step. Refuses with [`RunError::WriteFault`] if a write fails or takes no byte: then a prefix of the whole text is
+/// written.
+pub fn write_lines<R: Run, O: ByteOutput>(
+    alloc: Global,
+    run: &mut R,
+    out: &mut O,
+) -> Result<(), RunError>
+    requires { MayWrite (O.state out.old) }
+    ensures written { Leaves (lines_of (R.run run.old).seen) (LinesStop (R.run run.old).seen) result
+        (O.state out.old) (O.state out.new) }
+    ensures lawful { OnOk result (R.lawful run.old) }
+{
+    let mut lines = Lines::new(alloc)?;
+    let shown = run.show(alloc, &mut lines, out);
+    lines.end(shown, out)
 }

@@ -1,17 +1,16 @@
 //! The trace of a task file: the lines of its steps.
 
 ghost use Rattle.std.specs.Prelude.{OnOk};
-ghost use Rattle.cbs_lines.specs.FileLaws.{KeepsLaws};
 ghost use Rattle.cbs_lines.specs.Traces.{trace, LinesStop};
 ghost use Rattle.cbs_lines.specs.Writers.{MayWrite, Leaves};
+ghost use Rattle.cbs_planning.specs.FileLaws.{KeepsLaws};
 ghost use Rattle.cbs_planning.specs.Tasks.{seen_in_tasks};
 
-use crate::lines::Lines;
+use crate::lines::write_lines;
 use crate::run_error::RunError;
 use cbs_bytes::ByteOutput;
-use cbs_core::Core;
-use cbs_file::{Parts, TaskFile};
-use cbs_planning::show_steps;
+use cbs_file::TaskFile;
+use cbs_planning::Replay;
 use std::alloc::Global;
 
 /// Runs the steps of a task file on a new core, and writes a line for each step.
@@ -21,22 +20,11 @@ use std::alloc::Global;
 /// written.
 pub fn replay<O: ByteOutput>(alloc: Global, file: TaskFile, out: &mut O) -> Result<(), RunError>
     requires { MayWrite (O.state out.old) }
-    ensures written { Leaves (trace file) (LinesStop (seen_in_tasks file)) result (O.state out.old) (O.state out.new) }
+    ensures written { Leaves (trace file) (LinesStop (seen_in_tasks file)) result
+        (O.state out.old) (O.state out.new) }
 
     // What the replies on these lines mean for each server, over the whole file.
     ensures laws { OnOk result (KeepsLaws file) }
 {
-    let Parts {
-        setup,
-        backlog,
-        steps,
-        ..
-    } = file.into_parts();
-    let (plan, modes) = setup.into_parts();
-    let Ok(mut core) = Core::new(alloc, plan, modes, backlog) else {
-        return Err(RunError::OutOfMemory);
-    };
-    let mut lines = Lines::new(alloc)?;
-    let shown = show_steps(&mut core, steps, &mut lines, out);
-    lines.end(shown, out)
+    write_lines(alloc, &mut Replay::of(file), out)
 }
