@@ -1,5 +1,5 @@
 -- The turns of a house in a round, one after another.
-use Rattle.std.proofs.Common.{◌≡◌, ℕ, ◌+◌, ◌≤◌, ◌<◌, Bool, List, [], ◌∷◌, ◌++◌, length, refl, ap, sym, ◌∙◌, subst, arith, length-append}
+use Rattle.std.proofs.Common.{◌≡◌, ℕ, suc, ◌+◌, ◌≤◌, ◌<◌, Bool, List, [], ◌∷◌, ◌++◌, length, refl, ap, sym, ◌∙◌, subst, arith, length-append}
 use Rattle.std.proofs.lemmas.List.{append-nil, append_assoc}
 use Rattle.std.specs.List.{All, AllByRecursion}
 use Rattle.cbs_job.specs.Work.{Meaning}
@@ -8,6 +8,7 @@ use Rattle.cbs_steps.specs.History.{History, ◌⊕◌}
 use Rattle.cbs_steps.specs.declared.reply.Ran.{Ran}
 use Rattle.cbs_steps.specs.declared.step.Step.{Step}
 use Rattle.cbs_steps.specs.declared.step.Step.TheVariants.{Submit, Run, Advance, Close, Charge}
+use Rattle.cbs_house.specs.declared.feed.Feed.{Feed}
 use Rattle.cbs_clients.specs.declared.house.House.{House}
 use Rattle.cbs_clients.specs.Calls.{RunBy}
 use Rattle.cbs_clients.specs.Houses.{core_of, rings_of, ServesBy}
@@ -19,7 +20,7 @@ use Rattle.cbs_steps.specs.Continuations.{◌⊕⊕◌, EachAllowed}
 use Rattle.cbs_core.specs.Agreement.{Agrees, AllAllowed}
 use Rattle.cbs_core.specs.Held.{IsClosed}
 use Rattle.cbs_steps.specs.Quiet.{IsQuietAfter, IsQuietAdvanceAfter}
-use Rattle.cbs_house.specs.Rounds.{RoundTurn, turn_steps, steps_in, IsTurn, RunsAfter, EachRuns, TakesTurn, TakesExactly, TakesTurns}
+use Rattle.cbs_house.specs.Rounds.{RoundTurn, turn_steps, steps_in, IsTurn, RunsAfter, EachRuns, TakesTurn, TakesExactly, TakesTurns, MakesRound, MakesRounds}
 use Rattle.cbs_clients.proofs.MadeSteps.{made_nothing, made_both}
 use Rattle.cbs_clients.proofs.Metered.{all_steps-append, moves-append, never_moves, quiet_moves, paid_pops}
 use Rattle.cbs_clients.proofs.Moves.{serves_then, needed_quiet, serve_quiet}
@@ -189,3 +190,12 @@ module _ {W A : Type 0} {g : Ghosts W} (work : Meaning W) (may : ℕ → ℕ →
       → ServesBy work may c d → ServesBy work may a d
   serves_round most servers a b c d n before round rest =
       serves_then work may a c d (serves_then work may a b c before (serves_turns most servers b c n round)) rest
+
+  pub rounds_none : (a : House W A g) (fs : List (Feed W A g)) → MakesRounds work may 0 a fs a fs
+  rounds_none a fs = (refl, refl)
+
+  -- one more round of serving
+  pub rounds_next : (n : ℕ) (a b c : House W A g) (fs gs hs : List (Feed W A g)) → MakesRounds work may n a fs b gs → MakesRound work may b gs c hs
+      → MakesRounds work may (n + 1) a fs c hs
+  rounds_next n a b c fs gs hs before round =
+      let more : suc n ≡ n + 1 = omega arith in subst (λ (k : ℕ). MakesRounds work may k a fs c hs) more (b, gs, before, round)

@@ -27,7 +27,7 @@ use Rattle.cbs_results.specs.Collected.{shelf_at}
 use Rattle.cbs_clients.proofs.HouseInvariant.{counts}
 use Rattle.cbs_clients.specs.Messages.{has_end, end_is_last}
 use Rattle.cbs_clients.specs.Meters.{all_steps}
-use Rattle.cbs_house.specs.Rounds.{Standing, IsTaken, IsSettled}
+use Rattle.cbs_house.specs.Rounds.{Standing, IsTaken, ReceivesFirst, IsSettled}
 use Rattle.cbs_clients.specs.Steps.{messages_of}
 use Rattle.cbs_clients.proofs.RingLooks.{prefix_along, prefix_same, opened_within}
 use Rattle.cbs_clients.proofs.MadeSteps.{eqb_same, looks_received}
@@ -123,18 +123,31 @@ module _ {W A : Type 0} {g : Ghosts W} where
         (h.sent ∙ (ap (λ ms. received a (server_of f.client) ++ ms) (no_length h.rest h.count) ∙ append-nil (received a (server_of f.client)))),
   )
 
-  -- what was sent and received at least is what was received
-  pub settled_taken : (a b : House W A g) (e f : Feed W A g) (known : List (Message W)) → server_of f.client ≡ server_of e.client
-      → sent_by f.client ≡ sent_by e.client
-      → ((s : ℕ) → received b s ≡ received a s) → sent_by f.client ≡ received b (server_of f.client) ++ known → IsTaken a e → IsSettled b f
-  settled_taken a b e f known server same looked lawful taken =
-      let r = received b (server_of f.client) in
-      let old : received a (server_of e.client) ≡ r = sym (looked (server_of e.client)) ∙ ap (λ (s : ℕ). received b s) (sym server) in
-      let p : IsPrefix (r ++ known) r = (taken.0, ap (λ ms. ms ++ taken.0) (sym lawful ∙ same) ∙ (taken.1 ∙ old)) in
-      sym (lawful ∙ (ap (λ ms. r ++ ms) (nothing_behind r known [] p) ∙ append-nil r))
+  -- what stands in a ring was sent after all that was received
+  pub standing_first : (a : House W A g) (f : Feed W A g) (n : ℕ) → Standing a f.client n → ReceivesFirst a f
+  standing_first a f n h = (h.rest, sym h.sent)
 
-  pub settled_is_taken : (a : House W A g) (f : Feed W A g) → IsSettled a f → IsTaken a f
-  settled_is_taken a f e = ([], append-nil (sent_by f.client) ∙ sym e)
+  -- what was settled is received first
+  pub all_first : (a : House W A g) (fs : List (Feed W A g)) → All (IsSettled a) fs → All (ReceivesFirst a) fs
+  all_first a fs h = All-weaker (IsSettled a) (ReceivesFirst a) (λ f e. ([], append-nil (received a (server_of f.client)) ∙ e)) fs h
+
+  -- if all that was sent was received, and nothing else, it is settled
+  settled_at : (a : House W A g) (f : Feed W A g) → IsTaken a f → ReceivesFirst a f → IsSettled a f
+  settled_at a f taken first =
+      let r = received a (server_of f.client) in
+      let p : IsPrefix (r ++ first.0) r = (taken.0, ap (λ ms. ms ++ taken.0) first.1 ∙ taken.1) in
+      sym (sym first.1 ∙ (ap (λ ms. r ++ ms) (nothing_behind r first.0 [] p) ∙ append-nil r))
+
+  pub all_settled : (a : House W A g) (fs : List (Feed W A g)) → All (IsTaken a) fs → All (ReceivesFirst a) fs → All (IsSettled a) fs
+  all_settled a fs taken first k d l = settled_at a (get_or fs k d) (taken k d l) (first k d l)
+
+  -- what was taken stays so if nothing was sent or received
+  pub taken_same : (a b : House W A g) (e f : Feed W A g) → server_of f.client ≡ server_of e.client → sent_by f.client ≡ sent_by e.client
+      → ((s : ℕ) → received b s ≡ received a s) → IsTaken a e → IsTaken b f
+  taken_same a b e f server same looked taken =
+      let now : received b (server_of f.client) ≡ received a (server_of e.client) =
+      looked (server_of f.client) ∙ ap (λ (s : ℕ). received a s) server in
+      (taken.0, ap (λ ms. ms ++ taken.0) same ∙ (taken.1 ∙ sym now))
 
   -- what was received stays received
   taken_after : (a b : House W A g) (f : Feed W A g) → IsPrefix (received a (server_of f.client)) (received b (server_of f.client)) → IsTaken a f → IsTaken b f

@@ -1,5 +1,5 @@
 -- What a contract says about rounds, and about serving.
-use Rattle.std.specs.Prelude.{ℕ, ◌≡◌, ◌≤◌, List, ◌++◌, drop, length, map, ◌<◌, [], ◌∷◌}
+use Rattle.std.specs.Prelude.{ℕ, zero, suc, ◌≡◌, ◌+◌, ◌≤◌, List, ◌++◌, drop, length, map, ◌<◌, [], ◌∷◌}
 use Rattle.std.specs.List.{All, AllByRecursion}
 use mathlib.Core.List.{IsPrefix}
 use Rattle.cbs_rate.specs.Limits.{most_servers}
@@ -12,8 +12,8 @@ use Rattle.cbs_house.specs.declared.feed.Feed.{Feed}
 use Rattle.cbs_clients.specs.declared.house.House.{House}
 use Rattle.cbs_clients.specs.declared.message.Message.{Message}
 use Rattle.cbs_clients.specs.Clients.{server_of, sent_by, AreOpened}
-use Rattle.cbs_house.specs.Feeds.{client_of, IsDone, all_jobs}
-use Rattle.cbs_clients.specs.Houses.{core_of, rings_of, received, known, results_of, handed_of, Made}
+use Rattle.cbs_house.specs.Feeds.{client_of, IsDone, KeepsFeeds, SendsFeeds, all_jobs, all_unsent, servers_of}
+use Rattle.cbs_clients.specs.Houses.{core_of, rings_of, received, known, results_of, handed_of, Made, ServesBy}
 use Rattle.cbs_core.specs.Held.{HoldsNoJob, IsAtEnd, IsClosed}
 use Rattle.cbs_host.specs.Meters.{NeverCharges}
 use Rattle.cbs_clients.specs.Meters.{IsRunPaid}
@@ -109,6 +109,10 @@ module _ {W A : Type 0} {g : Ghosts W} where
   abbrev pub IsTaken : House W A g → Feed W A g → Type 0
   IsTaken h f = IsPrefix (sent_by f.client) (received h (server_of f.client))
 
+  -- what was received for the server are the first messages that the feed's client sent, or all of them
+  abbrev pub ReceivesFirst : House W A g → Feed W A g → Type 0
+  ReceivesFirst h f = IsPrefix (received h (server_of f.client)) (sent_by f.client)
+
   -- what was received for the server is exactly what the feed's client sent
   abbrev pub IsSettled : House W A g → Feed W A g → Type 0
   IsSettled h f = received h (server_of f.client) ≡ sent_by f.client
@@ -127,16 +131,39 @@ module _ {W A : Type 0} {g : Ghosts W} where
   Halts Stalled h = ⊥
   Halts _ h = ⊥
 
-  -- All rounds are over, but not every feed is done, although every job received is finished and all that was sent was
-  -- received
+  -- not every feed is done, although every job received is finished and all that was sent was received
   pub record IsStalled (h : House W A g) (fs : List (Feed W A g)) : Type 0 where
     pub drained : HoldsNoJob (core_of h)
     pub settled : All (IsSettled h) fs
     pub undone : ¬ All IsDone fs
 
-  -- what the error of a refused serve says of the house and the feeds
-  abbrev pub Stops : HouseError → House W A g → List (Feed W A g) → Type 0
-  Stops OutOfMemory h fs = Unit {0}
-  Stops ClockEnd h fs = IsAtEnd (core_of h)
-  Stops Stalled h fs = IsStalled h fs
-  Stops _ h fs = ⊥
+-- how many turns each side of a round of serving is given
+abbrev pub turns_in_round : ℕ
+turns_in_round = 10000
+
+module _ {W A : Type 0} {g : Ghosts W} (work : Meaning W) (may : ℕ → ℕ → Type 0) where
+  -- The house and the feeds made a round of serving: turns of both sides, which left `house` and `feeds`, and then the
+  -- steps that finish a round. All that was sent was received and is finished, but not every feed is done
+  pub record MakesRound (old : House W A g) (fs : List (Feed W A g)) (new : House W A g) (fs' : List (Feed W A g)) : Type 0 where
+    pub house : House W A g
+    pub feeds : List (Feed W A g)
+    pub took : ℕ
+    pub turns : TakesTurns work may turns_in_round (servers_of fs) old house took
+    pub sends : SendsFeeds turns_in_round fs feeds
+    pub finish : ServesBy work may house new
+    pub kept : KeepsFeeds feeds fs'
+    pub stalled : IsStalled new fs'
+
+  -- the house and the feeds made so many such rounds, one after another
+  abbrev pub MakesRounds : ℕ → House W A g → List (Feed W A g) → House W A g → List (Feed W A g) → Type 0
+  MakesRounds zero old fs new fs' = (new ≡ old) × (fs' ≡ fs)
+  MakesRounds (suc n) old fs new fs' =
+      (h : House W A g) × (gs : List (Feed W A g)) × MakesRounds n old fs h gs × MakesRound h gs new fs'
+
+  -- What the error of a refused serve says. ClockEnd says that the clock is at its end with a job unfinished. Stalled
+  -- comes only after one round more than the feeds had messages to send. OutOfMemory says nothing
+  abbrev pub Stops : House W A g → List (Feed W A g) → House W A g → List (Feed W A g) → HouseError → Type 0
+  Stops old fs new fs' OutOfMemory = Unit {0}
+  Stops old fs new fs' ClockEnd = IsAtEnd (core_of new)
+  Stops old fs new fs' Stalled = IsStalled new fs' × MakesRounds (all_unsent fs + 1) old fs new fs'
+  Stops old fs new fs' _ = ⊥

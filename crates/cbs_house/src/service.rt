@@ -4,10 +4,10 @@ ghost use Rattle.std.specs.Prelude.{ℕ, suc, ◌≡◌, ◌≢◌, ◌+◌, ◌
 ghost use Rattle.std.specs.List.{All};
 ghost use Rattle.cbs_house.specs.Feeds.{IsDone, KeepsFeed, KeepsFeeds, all_unsent};
 ghost use Rattle.cbs_clients.specs.Houses.{core_of, rings_of, IsHouseOnTime, IsHousePaced, LooksOnly, ServesOn, ServesBy};
-ghost use Rattle.cbs_host.specs.Meters.{NeverCharges};
+ghost use Rattle.cbs_host.specs.Meters.{NothingBeyond, NeverCharges};
 ghost use Rattle.cbs_core.specs.Held.{HoldsNoJob};
 ghost use Rattle.cbs_clients.specs.Clients.{IsOpened};
-ghost use Rattle.cbs_house.specs.Rounds.{Ready, Standing, IsTaken, IsSettled, IsServed, Halts, Stops};
+ghost use Rattle.cbs_house.specs.Rounds.{Ready, Standing, IsTaken, ReceivesFirst, IsSettled, IsServed, Halts, Stops};
 ghost use Rattle.cbs_rate.specs.Limits.{most_servers};
 
 use crate::feed::Feed;
@@ -52,7 +52,8 @@ pub fn serve<R: Threads + Clock + Sync, G: Gate + Sync, W: Work + Send>(
     ensures paced { IsHousePaced house.old → IsHousePaced house.new }
     ensures served { OnOk result (All (IsServed W.meaning house.new) feeds.new) }
     ensures drained { OnOk result (HoldsNoJob (core_of house.new)) }
-    ensures stops { IfErr result (λ error. Stops error house.new feeds.new) }
+    ensures received { All (ReceivesFirst house.new) feeds.new }
+    ensures stops { IfErr result (Stops W.meaning NothingBeyond house.old feeds.old house.new feeds.new) }
 {
     serve_metered(rt, house, feeds, gate, &mut NoMeter)
 }
@@ -78,7 +79,8 @@ pub fn serve_metered<R: Threads + Clock + Sync, G: Gate + Sync, W: Work + Send, 
     ensures paced { IsHousePaced house.old → IsHousePaced house.new }
     ensures served { OnOk result (All (IsServed W.meaning house.new) feeds.new) }
     ensures drained { OnOk result (HoldsNoJob (core_of house.new)) }
-    ensures stops { IfErr result (λ error. Stops error house.new feeds.new) }
+    ensures received { All (ReceivesFirst house.new) feeds.new }
+    ensures stops { IfErr result (Stops W.meaning M.may_tell house.old feeds.old house.new feeds.new) }
 {
     for _ in 0..rounds_for(feeds) {
         serve_round_metered(rt, house, feeds, TURNS, gate, meter);
@@ -104,7 +106,8 @@ fn rounds_for<W: Work>(feeds: &[Feed<W>]) -> u128
     rounds
 }
 
-/// Takes and finishes what a round left. Returns whether all feeds are done, or the error that stopped it.
+/// Takes and finishes what a round left, and settles all feeds, also if an error stopped it. Returns whether all feeds
+/// are done, or the error that stopped it.
 fn finish_round<W: Work, M: Meter>(
     house: &mut House<W>,
     feeds: &mut [Feed<W>],
@@ -114,15 +117,35 @@ fn finish_round<W: Work, M: Meter>(
     ensures ready { Ready house.new feeds.new }
     ensures feeds { KeepsFeeds feeds.old feeds.new }
     ensures steps { ServesBy W.meaning M.may_tell house.old house.new }
+    ensures received { All (ReceivesFirst house.new) feeds.new }
     ensures drained { OnOk result (HoldsNoJob (core_of house.new)) }
     ensures settled { OnOk result (All (IsSettled house.new) feeds.new) }
     ensures done { IfOk result (λ all. IsTrue all ↔ All IsDone feeds.new) }
     ensures halts { IfErr result (λ error. Halts error house.new) }
 {
-    take_rest(house, feeds, meter)?;
-    house.drain_metered(meter)?;
+    let drained = drain_rest(house, feeds, meter);
     settle_all(house, feeds);
+    drained?;
     Ok(all_done(feeds))
+}
+
+/// Takes what stands in the rings of the feeds, and finishes all jobs. Returns the error that stopped it, if there is
+/// one.
+fn drain_rest<W: Work, M: Meter>(
+    house: &mut House<W>,
+    feeds: &mut [Feed<W>],
+    meter: &mut M,
+) -> Result<(), HouseError>
+    requires ready { Ready house.old feeds.old }
+    ensures ready { Ready house.new feeds.new }
+    ensures feeds { KeepsFeeds feeds.old feeds.new }
+    ensures steps { ServesBy W.meaning M.may_tell house.old house.new }
+    ensures drained { OnOk result (HoldsNoJob (core_of house.new)) }
+    ensures taken { OnOk result (All (IsTaken house.new) feeds.new) }
+    ensures halts { IfErr result (λ error. Halts error house.new) }
+{
+    take_rest(house, feeds, meter)?;
+    house.drain_metered(meter)
 }
 
 /// Takes what stands in the rings of the feeds. Returns the error that stopped it, if there is one.
@@ -194,14 +217,14 @@ fn memory_for(poll: Poll) -> Result<(), HouseError>
     }
 }
 
-/// Settles all feeds, whose rings were emptied. Nothing is popped, so what the house has seen of each ring stays.
+/// Settles all feeds. Nothing is popped, so what the house has seen of each ring stays.
 fn settle_all<W: Work>(house: &mut House<W>, feeds: &mut [Feed<W>])
     requires ready { Ready house.old feeds.old }
-    requires taken { All (IsTaken house.old) feeds.old }
     ensures ready { Ready house.new feeds.new }
     ensures feeds { KeepsFeeds feeds.old feeds.new }
     ensures looked { LooksOnly house.old house.new }
-    ensures settled { All (IsSettled house.new) feeds.new }
+    ensures received { All (ReceivesFirst house.new) feeds.new }
+    ensures taken { All (IsTaken house.old) feeds.old → All (IsTaken house.new) feeds.new }
 {
     for index in 0..feeds.len() {
         settle_feed(house, &mut feeds[index]);
@@ -214,7 +237,7 @@ fn settle_feed<W: Work>(house: &mut House<W>, feed: &mut Feed<W>) -> u64
     ensures feed { KeepsFeed feed.old feed.new }
     ensures looked { LooksOnly house.old house.new }
     ensures standing { Standing house.new feed.new.client result }
-    ensures settled { IsTaken house.old feed.old → IsSettled house.new feed.new }
+    ensures taken { IsTaken house.old feed.old → IsTaken house.new feed.new }
 {
     house.settle(&mut feed.client)
 }

@@ -118,8 +118,7 @@ impl ServerState {
     /// `ticks` is 1 to [`LIMIT`]. The server must have had its first job, and in soft mode it must not be throttled.
     /// Its deadline plus `ticks` periods must be at most [`MAX_DEADLINE`] plus the longest period.
     pub fn charge(&mut self, mode: Mode, ticks: u64)
-        requires some { 0 < ticks }
-        requires few { ticks ≤ clock_end }
+        requires ticks { (0 < ticks) × (ticks ≤ clock_end) }
         requires free { mode ≡ Mode.Soft → self.old.state.throttled ≡ false }
         requires begun { 0 < self.old.state.deadline }
         requires room { self.old.state.deadline + ticks * self.old.reservation.period ≤ latest_deadline + 1000000000 }
@@ -134,8 +133,7 @@ impl ServerState {
 
     /// Takes `ticks` ticks from the budget and from the budgets to come.
     fn pay(&mut self, mode: Mode, ticks: u64)
-        requires some { 0 < ticks }
-        requires few { ticks ≤ clock_end }
+        requires ticks { (0 < ticks) × (ticks ≤ clock_end) }
         requires free { mode ≡ Mode.Soft → self.old.state.throttled ≡ false }
         requires begun { 0 < self.old.state.deadline }
         requires room { self.old.state.deadline + ticks * self.old.reservation.period ≤ latest_deadline + 1000000000 }

@@ -42,17 +42,15 @@ returns-clause-clients g c =
 
 pub returns-clause-count : goal.returns-clause-count
 returns-clause-count g c =
-    let n = length c.args.plan.now.rates in
-    IfOk-weaker c.house_of.result (λ r. map server_of r.1.items ≡ range_with_len 0 n) (λ r. length r.1.items ≡ n)
-    (λ r numbered. sym (length-map r.1.items server_of) ∙ (ap length numbered ∙ length-range_with_len 0 n)) (returns-clause-clients g c)
-
-pub returns-clause-few : goal.returns-clause-few
-returns-clause-few g c =
     let core = c.in-Ok.core in
-    IfOk-weaker c.house_of.result (λ r. HousesCore core c.args.ring r.0 r.1.items) (λ r. length r.1.items ≤ most_servers) (λ r made.
+    let rates = c.args.plan.now.rates in
+    let setup : Setup = record { servers = terms_of c.args.modes.now rates; backlog = c.args.backlog } in
+    let servers = new_count g.W.Work.meaning core setup c.in-Ok.ensures.start ∙ terms_count c.args.modes.now rates c.requires in
+    IfOk-weaker c.house_of.result (λ r. HousesCore core c.args.ring r.0 r.1.items)
+    (λ r. (length r.1.items ≡ length rates) × (length r.1.items ≤ most_servers)) (λ r made.
     let count : length r.1.items ≡ length core.faces =
     sym (length-map r.1.items server_of) ∙ (ap length made.servers ∙ length-range_with_len 0 (length core.faces)) in
-    omega (arith, count, made.few)) c.house_of.ensures.made
+    (count ∙ servers, omega (arith, count, made.few))) c.house_of.ensures.made
 
 pub returns-clause-together : goal.returns-clause-together
 returns-clause-together g c =

@@ -15,7 +15,7 @@ returns-in-Ok-feeds_of-clause-unused g c =
 
 pub returns-in-Ok-feeds_of-clause-ready : goal.returns-in-Ok-feeds_of-clause-ready
 returns-in-Ok-feeds_of-clause-ready g c =
-    ready_new c.in-Ok.house c.in-Ok-feeds_of.feeds.items c.in-Ok.clients.items c.in-Ok-feeds_of.ensures.clients c.in-Ok.ensures.few c.in-Ok.ensures.together
+    ready_new c.in-Ok.house c.in-Ok-feeds_of.feeds.items c.in-Ok.clients.items c.in-Ok-feeds_of.ensures.clients c.in-Ok.ensures.count.1 c.in-Ok.ensures.together
 
 pub returns-in-Ok-feeds_of-clause-jobs : goal.returns-in-Ok-feeds_of-clause-jobs
 returns-in-Ok-feeds_of-clause-jobs g c = c.in-Ok-feeds_of.ensures.jobs

@@ -1,11 +1,13 @@
-use Rattle.std.proofs.Common.{sym, ◌∙◌, arith, rules}
+use Rattle.std.proofs.Common.{◌≡◌, ◌+◌, sym, ◌∙◌, arith, rules}
 use Rattle.std.proofs.lemmas.Bool.{false≢true}
-use Rattle.cbs_house.specs.Feeds.{servers_of}
+use Rattle.cbs_house.specs.Feeds.{all_unsent, servers_of}
+use Rattle.cbs_house.specs.Rounds.{IsStalled}
 use Rattle.cbs_house.proofs.Feeds.{feeds_same, feeds_on}
 use Rattle.cbs_clients.proofs.PacedMoves.{serves_paced}
 use Rattle.cbs_clients.proofs.Moves.{serves_none, serves_on_time}
 use Rattle.cbs_house.proofs.ServedFeeds.{all_served}
-use Rattle.cbs_house.proofs.Rounds.{serves_round}
+use Rattle.cbs_house.proofs.Rounds.{serves_round, rounds_none, rounds_next}
+use Rattle.cbs_house.proofs.StandingMessages.{all_first}
 use Rattle.cbs_house.proofs.service.serve_metered.Goals as goal
 
 pub loop-init : goal.loop-init
@@ -13,6 +15,7 @@ loop-init g c = record {
   ready = c.requires.ready;
   feeds = feeds_same c.args.feeds.now;
   steps = serves_none g.W.Work.meaning g.M.Meter.may_tell c.args.house.now;
+  rounds = rounds_none g.W.Work.meaning g.M.Meter.may_tell c.args.house.now c.args.feeds.now;
   stalled = λ p. absurd (omega (arith, p));
 }
 
@@ -48,17 +51,35 @@ returns-then-branch-clause-served g c =
 
 pub loop-preserved : goal.loop-preserved
 loop-preserved g c =
+    let work = g.W.Work.meaning in
+    let may = g.M.Meter.may_tell in
     let l = c.loop in
     let r = c.serve_round_metered in
     let f = c.finish_round in
     let ok = c.in_ok-finish_round.ensures in
+    let stalled : IsStalled f.new.house f.new.feeds = record {
+      drained = ok.drained;
+      settled = ok.settled;
+      undone = λ done. false≢true (sym c.if-branch.false ∙ ok.done.1 done);
+    } in
     record {
       ready = f.ensures.ready;
       feeds = feeds_on c.args.feeds.now r.new.feeds f.new.feeds
           (feeds_on c.args.feeds.now l.feeds r.new.feeds l.invariant.feeds r.ensures.feeds) f.ensures.feeds;
-      steps = serves_round g.W.Work.meaning g.M.Meter.may_tell 10000 (servers_of l.feeds) c.args.house.now l.house r.new.house f.new.house r.result.took
+      steps = serves_round work may 10000 (servers_of l.feeds) c.args.house.now l.house r.new.house f.new.house r.result.took
           l.invariant.steps r.ensures.took f.ensures.steps;
-      stalled = λ p. record { drained = ok.drained; settled = ok.settled; undone = λ done. false≢true (sym c.if-branch.false ∙ ok.done.1 done) };
+      rounds = rounds_next work may l.counter c.args.house.now l.house f.new.house c.args.feeds.now l.feeds f.new.feeds l.invariant.rounds
+          (record {
+            house = r.new.house;
+            feeds = r.new.feeds;
+            took = r.result.took;
+            turns = r.ensures.took;
+            sends = record { kept = r.ensures.feeds; most = r.ensures.each };
+            finish = f.ensures.steps;
+            kept = f.ensures.feeds;
+            stalled = stalled;
+          });
+      stalled = λ p. stalled;
     }
 
 pub returns-then-branch-clause-stops : goal.returns-then-branch-clause-stops
@@ -115,5 +136,12 @@ returns-clause-feeds g c = c.loop.invariant.feeds
 pub returns-clause-steps : goal.returns-clause-steps
 returns-clause-steps g c = c.loop.invariant.steps
 
+pub returns-clause-received : goal.returns-clause-received
+returns-clause-received g c =
+    all_first c.loop.house c.loop.feeds (c.loop.invariant.stalled (omega (arith, c.rounds_for-end.ensures, c.loop-test.false))).settled
+
 pub returns-clause-stops : goal.returns-clause-stops
-returns-clause-stops g c = c.loop.invariant.stalled (omega (arith, c.rounds_for-end.ensures))
+returns-clause-stops g c =
+    let l = c.loop in
+    let all : l.counter ≡ all_unsent c.args.feeds.now + 1 = omega (arith, c.rounds_for-end.ensures, c.loop-test.false) in
+    (l.invariant.stalled (omega (arith, all)), rw (← all) l.invariant.rounds)

@@ -1,7 +1,7 @@
 use Rattle.std.proofs.Common.{◌<◌, length, arith, rules}
 use Rattle.cbs_house.proofs.Feeds.{feeds_same, feeds_on, feeds_set, ready_set, ready_at}
-use Rattle.cbs_house.proofs.Looks.{looks_none, looks_then, settled_more}
-use Rattle.cbs_house.proofs.StandingMessages.{taken_set, taken_looked, settled_is_taken}
+use Rattle.cbs_house.proofs.Looks.{looks_none, looks_then, first_more}
+use Rattle.cbs_house.proofs.StandingMessages.{standing_first, taken_set, taken_looked}
 use Rattle.cbs_house.proofs.service.settle_all.Goals as goal
 
 pub loop-index-init : goal.loop-index-init
@@ -9,8 +9,8 @@ loop-index-init g c = record {
   ready = c.requires.ready;
   feeds = feeds_same c.args.feeds.now;
   looked = looks_none c.args.house.now;
-  taken = c.requires.taken;
-  settled = λ k d p q. absurd (omega (arith, q));
+  received = λ k d p q. absurd (omega (arith, q));
+  taken = λ was. was;
 }
 
 pub loop-index-preserved : goal.loop-index-preserved
@@ -19,14 +19,16 @@ loop-index-preserved g c =
     let t = c.settle_feed in
     let feed = c.index-feeds-index in
     let within : l.index < length l.feeds = omega (arith, c.loop-index-test.true) in
-    let settled = t.ensures.settled (l.invariant.taken l.index feed.result within) in
     record {
       ready = ready_set l.house t.new.house l.feeds l.index t.new.feed feed.result t.ensures.looked.rings within t.ensures.feed l.invariant.ready;
       feeds = feeds_on c.args.feeds.now l.feeds _ l.invariant.feeds (feeds_set l.feeds l.index t.new.feed feed.result within t.ensures.feed);
       looked = looks_then c.args.house.now l.house t.new.house l.invariant.looked t.ensures.looked;
-      taken = taken_set t.new.house l.feeds l.index t.new.feed
-          (taken_looked l.house t.new.house l.feeds t.ensures.looked l.invariant.taken) (settled_is_taken t.new.house t.new.feed settled);
-      settled = settled_more l.house t.new.house l.feeds l.index t.new.feed within t.ensures.looked l.invariant.settled settled;
+      received = first_more l.house t.new.house l.feeds l.index t.new.feed within t.ensures.looked l.invariant.received
+          (standing_first t.new.house t.new.feed t.result t.ensures.standing);
+      taken = λ was.
+          let now = l.invariant.taken was in
+          taken_set t.new.house l.feeds l.index t.new.feed (taken_looked l.house t.new.house l.feeds t.ensures.looked now)
+          (t.ensures.taken (now l.index feed.result within));
     }
 
 pub settle_feed-requires : goal.settle_feed-requires
@@ -34,5 +36,5 @@ settle_feed-requires g c =
     let l = c.loop-index in
     record { opened = ready_at l.house l.feeds l.index c.index-feeds-index.result (omega (arith, c.loop-index-test.true)) l.invariant.ready }
 
-pub returns-clause-settled : goal.returns-clause-settled
-returns-clause-settled g c = search rules
+pub returns-clause-received : goal.returns-clause-received
+returns-clause-received g c = search rules

@@ -4,7 +4,7 @@ use Rattle.cbs_clients.specs.Houses.{known}
 use Rattle.cbs_clients.proofs.MadeSteps.{looks_received}
 use Rattle.cbs_house.proofs.Feeds.{keeps_looked}
 use Rattle.cbs_clients.proofs.RingLooks.{prefix_refl}
-use Rattle.cbs_house.proofs.StandingMessages.{settled_taken}
+use Rattle.cbs_house.proofs.StandingMessages.{taken_same}
 use Rattle.cbs_house.proofs.service.settle_feed.Goals as goal
 
 pub returns-clause-feed : goal.returns-clause-feed
@@ -19,8 +19,8 @@ returns-clause-standing g c =
       count = sym c.settle.ensures.value;
     }
 
-pub returns-clause-settled : goal.returns-clause-settled
-returns-clause-settled g c = λ taken.
+pub returns-clause-taken : goal.returns-clause-taken
+returns-clause-taken g c =
     let s = c.settle in
-    settled_taken c.args.house.now s.new.self c.args.feed.now (record c.args.feed.now { client = s.new.client })
-    (known s.new.self (server_of s.new.client)) s.ensures.client.same.0 s.ensures.client.sent (looks_received c.args.house.now s.new.self s.ensures.looked) s.ensures.lawful taken
+    taken_same c.args.house.now s.new.self c.args.feed.now (record c.args.feed.now { client = s.new.client }) s.ensures.client.same.0 s.ensures.client.sent
+    (looks_received c.args.house.now s.new.self s.ensures.looked)

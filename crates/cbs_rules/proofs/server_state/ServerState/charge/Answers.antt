@@ -8,7 +8,7 @@ pub returns-clause-ticks : goal.returns-clause-ticks
 returns-clause-ticks c =
     let e = c.pay.ensures in
     ap (λ (s : Reserved). s.state) e.rule
-    ∙ charge_ticked c.args.mode c.args.self.now.reservation c.args.ticks c.args.self.now.state c.requires.some e.rate e.lawful c.requires.free c.requires.begun
+    ∙ charge_ticked c.args.mode c.args.self.now.reservation c.args.ticks c.args.self.now.state c.requires.ticks.0 e.rate e.lawful c.requires.free c.requires.begun
 
 pub returns-clause-paid : goal.returns-clause-paid
 returns-clause-paid c =
@@ -20,7 +20,7 @@ pub returns-clause-early : goal.returns-clause-early
 returns-clause-early c =
     let e = c.pay.ensures in
     let d = ap (λ (s : Reserved). s.state.deadline) e.rule in
-    let l = charge_early c.args.mode c.args.self.now.reservation c.args.ticks c.args.self.now.state c.requires.some e.rate e.lawful c.requires.free c.requires.begun in
+    let l = charge_early c.args.mode c.args.self.now.reservation c.args.ticks c.args.self.now.state c.requires.ticks.0 e.rate e.lawful c.requires.free c.requires.begun in
     omega arith
 
 pub returns-clause-waits : goal.returns-clause-waits
