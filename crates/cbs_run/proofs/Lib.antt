@@ -1,5 +1,6 @@
 pub mod JobLists
 pub mod HouseResults
+pub mod ServedJobs
 pub mod ResultLines
 pub mod Printings
 pub mod Endings

@@ -5,7 +5,7 @@ ghost use Rattle.std.specs.List.{range_with_len};
 ghost use Rattle.cbs_core.specs.Agreement.{Agrees};
 ghost use Rattle.cbs_clients.specs.Clients.{server_of};
 ghost use Rattle.cbs_house.specs.Feeds.{client_of, unsent_jobs};
-ghost use Rattle.cbs_clients.specs.Houses.{core_of, results_of, handed_of};
+ghost use Rattle.cbs_clients.specs.Houses.{core_of, results_of, seat_at, new_seat};
 ghost use Rattle.cbs_clients.specs.Opened.{IsUnused};
 ghost use Rattle.cbs_house.specs.Rounds.{Ready};
 ghost use Rattle.cbs_job.specs.FileJobs.{of_files};
@@ -53,7 +53,7 @@ fn open_file(
     ensures rings { IfOk result (λ opened. All (λ f. IsUnused file.ring (client_of f)) opened.1.items) }
     ensures jobs { IfOk result (λ opened. map unsent_jobs opened.1.items ≡ map (λ s. jobs_for s file.steps) (range_with_len 0 (length file.plan.rates))) }
     ensures ready { IfOk result (λ opened. Ready opened.0 opened.1.items) }
-    ensures kept { IfOk result (λ opened. (s : ℕ) → handed_of opened.0 s ≡ 0) }
+    ensures empty { IfOk result (λ opened. (s : ℕ) → seat_at opened.0 s ≡ new_seat) }
     ensures memory { IfErr result (λ error. error ≡ HouseError.OutOfMemory) }
     ensures lawful { IsFile file }
 {
