@@ -1,6 +1,6 @@
 //! Shares of the time as text.
 
-ghost use Rattle.std.specs.Prelude.{◌≡◌, ◌++◌, ◌<◌, IfOk, OnOk, string_bytes};
+ghost use Rattle.std.specs.Prelude.{◌≡◌, ◌++◌, ◌+◌, ◌^◌, ◌<◌, IfOk, OnOk, string_bytes};
 ghost use Rattle.cbs_check.specs.Fractions.{greatest_divisor, fraction_text, percent_text};
 
 use cbs_size::greatest_common_divisor;
@@ -39,7 +39,7 @@ impl Share {
         ensures { IfOk result (λ text. string_bytes text ≡ percent_text self.part self.whole) }
     {
         let mut text = String::new(alloc);
-        append_percent(&mut text, self.part, self.whole)?;
+        append_percent(&mut text, u128::from(self.part), u128::from(self.whole))?;
         Ok(text)
     }
 }
@@ -53,9 +53,10 @@ fn divisor(part: u128, whole: u128) -> u128
     greatest_common_divisor(part, whole)
 }
 
-/// Appends a word, and a part of a whole as a shortened fraction. The only error is out of memory.
+/// Appends a word, and a part of a whole as a shortened fraction. The whole must not be 0. The only error is out of
+/// memory.
 #[tactic(auto, unfolding(crate::specs::Fractions::fraction_text))]
-pub(crate) fn append_fraction(
+pub fn append_fraction(
     text: &mut String,
     word: &str,
     part: u128,
@@ -69,13 +70,15 @@ pub(crate) fn append_fraction(
     append_pair(text, "/", whole / divisor)
 }
 
-/// Appends a part of a whole in per cent, with one decimal, rounded, a half upward. The only error is out of memory.
+/// Appends a part of a whole in per cent, with one decimal, rounded, a half upward. The whole must not be 0, and both
+/// numbers together must be below 2^112. The only error is out of memory.
 #[tactic(auto, unfolding(crate::specs::Fractions::percent_text))]
-fn append_percent(text: &mut String, part: u64, whole: u64) -> Result<(), AllocError>
-    requires { 0 < whole }
+pub fn append_percent(text: &mut String, part: u128, whole: u128) -> Result<(), AllocError>
+    requires some { 0 < whole }
+    requires small { part + whole < 2 ^ 112 }
     ensures { OnOk result (string_bytes text.new ≡ string_bytes text.old ++ percent_text part whole) }
 {
-    let tenths = (2000 * u128::from(part) + u128::from(whole)) / (2 * u128::from(whole));
+    let tenths = (2000 * part + whole) / (2 * whole);
     append_pair(text, "", tenths / 10)?;
     append_pair(text, ".", tenths % 10)?;
     text.push_str(" %")

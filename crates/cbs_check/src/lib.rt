@@ -10,3 +10,4 @@ mod servers;
 mod sources;
 
 pub use check::{check_load, check_plan};
+pub use fractions::{append_fraction, append_percent};

@@ -1,5 +1,5 @@
 -- What is appended to a page, and how a note is laid out.
-use Rattle.std.specs.Prelude.{◌≡◌, ℕ, zero, suc, ◌+◌, Bool, false, eqb, if◌then◌else◌, List, [], ◌∷◌, ◌++◌, codes, length, map, flat_map, string_bytes}
+use Rattle.std.specs.Prelude.{◌≡◌, ℕ, zero, suc, ◌+◌, ◌-◌, max, Bool, false, eqb, if◌then◌else◌, List, [], ◌∷◌, ◌++◌, codes, length, map, flat_map, string_bytes}
 use Rattle.std.specs.List.{slice_split}
 use Rattle.cbs_explain.specs.declared.page.Page.{Page}
 
@@ -7,10 +7,32 @@ use Rattle.cbs_explain.specs.declared.page.Page.{Page}
 abbrev pub Appends : Page → Page → List ℕ → Type 0
 Appends old new bytes = new.failed ≡ false → (old.failed ≡ false) × (string_bytes new.text ≡ string_bytes old.text ++ bytes)
 
+-- unless the page has failed by then, it had not failed before, and has a text more of which this is true
+abbrev pub AppendsA : (List ℕ → Type 0) → Page → Page → Type 0
+AppendsA Says old new =
+    new.failed ≡ false → (text : List ℕ) × Says text × (old.failed ≡ false) × (string_bytes new.text ≡ string_bytes old.text ++ text)
+
 -- a text this many times
 abbrev pub times : ℕ → List ℕ → List ℕ
 times zero text = []
 times (suc n) text = text ++ times n text
+
+-- a text with blanks after it, or before it, to fill so many columns
+abbrev pub left_in : ℕ → List ℕ → List ℕ
+left_in width text = text ++ times (width - length text) (codes " ")
+
+abbrev pub right_in : ℕ → List ℕ → List ℕ
+right_in width text = times (width - length text) (codes " ") ++ text
+
+-- a bar after so many columns, with nothing beside it
+abbrev pub bar : ℕ → List ℕ
+bar margin = times margin (codes " ") ++ codes "|\n"
+
+-- a line behind its gutter, below a bar, and carets below `count` of its characters, at least one
+unfoldable pub marked_line : List ℕ → List ℕ → ℕ → ℕ → List ℕ
+marked_line gutter line from count =
+    bar (length gutter) ++ gutter ++ codes "| " ++ line ++ codes "\n" ++ times (length gutter) (codes " ") ++ codes "| " ++ times from (codes " ")
+    ++ times (max count 1) (codes "^")
 
 -- the words of a text, between its blanks
 abbrev pub words_of : List ℕ → List (List ℕ)
@@ -40,5 +62,4 @@ pub record IsNote (margin : ℕ) (kind text note : List ℕ) : Type 0 where
 
 -- a note with the words of this text was appended, unless the page has failed by then
 abbrev pub AppendsNote : ℕ → List ℕ → Page → Page → List ℕ → Type 0
-AppendsNote margin kind old new text =
-    new.failed ≡ false → (note : List ℕ) × IsNote margin kind text note × (old.failed ≡ false) × (string_bytes new.text ≡ string_bytes old.text ++ note)
+AppendsNote margin kind old new text = AppendsA (IsNote margin kind text) old new

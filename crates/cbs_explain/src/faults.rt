@@ -1,5 +1,13 @@
 //! The text of a fault.
 
+ghost use Rattle.std.specs.Prelude.{◌≡◌, ℕ, List, IfOk, Some, IsUtf8, string_bytes};
+ghost use Rattle.toml.specs.Data.{Members};
+ghost use Rattle.toml.specs.Parse.{parse_document};
+ghost use Rattle.cbs_tables.specs.declared.fault.FileKind.TheVariants.{NotAdmitted};
+ghost use Rattle.cbs_tables.specs.declared.fault.Place.TheVariants.{Server};
+ghost use Rattle.cbs_findings.specs.Documents.{IsDocument, servers_of};
+ghost use Rattle.cbs_explain.specs.Refusals.{AppendsRefusal, IsServerLine, ExplainsRefusal};
+
 use crate::limits::append_not_admitted;
 use crate::not_toml::append_not_toml;
 use crate::notes::{append_keys_note, append_servers_note};
@@ -101,18 +109,54 @@ fn append_finding(page: &mut Page, spot: &Spot<'_>, finding: Finding<'_>) {
     }
 }
 
-/// Appends the explanation of a fault in a document.
-fn append_fault(page: &mut Page, document: Document<'_>, fault: FileFault) {
+/// Appends why the plan of a document does not take the server with this number.
+fn append_refusal(page: &mut Page, document: Document<'_>, number: u64)
+    ensures { (file : List ℕ) (top : Members) → IsDocument file top document.entry
+        → AppendsRefusal (IsServerLine file top number) top (servers_of top) number page.old page.new }
+{
+    match spot_at(document, Place::Server(number)) {
+        Some(spot) => append_not_admitted(page, &spot, number),
+        None => page.push_kind(FileKind::NotAdmitted),
+    }
+}
+
+/// Appends the explanation of a fault in a table of a document.
+fn append_table_fault(page: &mut Page, document: Document<'_>, fault: FileFault) {
     let Some(spot) = spot_at(document, fault.place) else {
         return page.push_kind(fault.kind);
     };
-    if let (FileKind::NotAdmitted, Place::Server(number)) = (fault.kind, fault.place) {
-        return append_not_admitted(page, &spot, number);
-    }
     match find(fault.kind, &spot) {
         Some(finding) => append_finding(page, &spot, finding),
         None if fault.kind == FileKind::MissingKey => append_other_kind(page, &spot),
         None => page.push_kind(fault.kind),
+    }
+}
+
+/// Appends the explanation of a fault in a document.
+fn append_fault(page: &mut Page, document: Document<'_>, fault: FileFault)
+    ensures { (file : List ℕ) (top : Members) (server : ℕ) → IsDocument file top document.entry
+        → fault.kind ≡ NotAdmitted → fault.place ≡ Server server
+        → AppendsRefusal (IsServerLine file top server) top (servers_of top) server page.old page.new }
+{
+    match (fault.kind, fault.place) {
+        (FileKind::NotAdmitted, Place::Server(number)) => append_refusal(page, document, number),
+        _ => append_table_fault(page, document, fault),
+    }
+}
+
+/// Appends the explanation of the first fault of a file.
+fn append_explanation(page: &mut Page, name: &str, bytes: &[u8], fault: FileFault)
+    ensures { (top : Members) (server : ℕ) → IsUtf8 bytes.now → parse_document bytes.now ≡ Some top
+        → fault.kind ≡ NotAdmitted → fault.place ≡ Server server
+        → AppendsRefusal (IsServerLine name.now top server) top (servers_of top) server page.old page.new }
+{
+    if fault.kind == FileKind::OutOfMemory {
+        return page.push_kind(fault.kind);
+    }
+    match toml::table_from_slice(page.alloc, bytes) {
+        Ok(top) => append_fault(page, Document::new(name, &top), fault),
+        Err(error) if error.is_memory() => page.fail(),
+        Err(error) => append_not_toml(page, name, bytes, &error),
     }
 }
 
@@ -124,16 +168,11 @@ pub fn explain(
     name: &str,
     bytes: &[u8],
     fault: FileFault,
-) -> Result<String, AllocError> {
+) -> Result<String, AllocError>
+    ensures refusal { IfOk result (λ text.
+        ExplainsRefusal name.now bytes.now fault (string_bytes text)) }
+{
     let mut page = Page::new(alloc);
-    if fault.kind == FileKind::OutOfMemory {
-        page.push_kind(fault.kind);
-        return page.finish();
-    }
-    match toml::table_from_slice(alloc, bytes) {
-        Ok(top) => append_fault(&mut page, Document::new(name, &top), fault),
-        Err(error) if error.is_memory() => page.fail(),
-        Err(error) => append_not_toml(&mut page, name, bytes, &error),
-    }
+    append_explanation(&mut page, name, bytes, fault);
     page.finish()
 }

@@ -1,10 +1,14 @@
 //! A text that is put together, in lines as rustc and cargo lay them out.
 
-ghost use Rattle.std.specs.Prelude.{◌≡◌, ◌+◌, ◌++◌, ◌≤◌, Bool, true, false, [], List, ℕ, codes, decimal, map, IfOk, MatchResult, MatchOption, Some, None, string_bytes};
+ghost use Rattle.std.specs.Prelude.{◌≡◌, ◌+◌, ◌++◌, ◌≤◌, ◌<◌, Bool, true, false, [], List, ℕ, codes, decimal, map, IfOk, MatchResult, IfSome, MatchOption, Some, None, string_bytes};
 ghost use Rattle.std.specs.List.{concat};
-ghost use Rattle.cbs_explain.specs.Pages.{Appends, times, words_of, spaced, IsLaid, AppendsNote};
+ghost use Rattle.cbs_check.specs.Fractions.{fraction_text};
+ghost use Rattle.cbs_explain.specs.Pages.{Appends, AppendsA, times, left_in, right_in, bar, marked_line, words_of, spaced, IsLaid, AppendsNote};
+ghost use Rattle.cbs_explain.specs.Spots.{IsSpotLine};
 
+use cbs_check::append_fraction;
 use cbs_findings::Spot;
+use cbs_rate::Ratio;
 use cbs_tables::FileKind;
 use cbs_text::append_pair;
 use std::alloc::{AllocError, Global};
@@ -35,7 +39,9 @@ impl Page {
     }
 
     /// Returns the whole text. The only error is out of memory.
-    pub(crate) fn finish(self) -> Result<String, AllocError> {
+    pub(crate) fn finish(self) -> Result<String, AllocError>
+        ensures { IfOk result (λ text. (self.failed ≡ false) × (text ≡ self.text)) }
+    {
         if self.failed {
             return Err(AllocError);
         }
@@ -100,8 +106,36 @@ impl Page {
         }
     }
 
+    /// Appends words, and a part of a whole after them, as a shortened fraction. The whole must not be 0.
+    pub(crate) fn push_fraction(&mut self, words: &str, ratio: Ratio)
+        requires { 0 < ratio.whole }
+        ensures { Appends self.old self.new (words.now ++ fraction_text ratio.part ratio.whole) }
+    {
+        if !self.failed {
+            self.failed = append_fraction(&mut self.text, words, ratio.part, ratio.whole).is_err();
+        }
+    }
+
+    /// Appends a text, and blanks after it to fill so many columns.
+    pub(crate) fn push_left(&mut self, width: usize, text: &str)
+        ensures { Appends self.old self.new (left_in width text.now) }
+    {
+        self.push(text);
+        self.push_times(" ", width.saturating_sub(text.len()));
+    }
+
+    /// Appends a text, and blanks before it to fill so many columns.
+    pub(crate) fn push_right(&mut self, width: usize, text: &str)
+        ensures { Appends self.old self.new (right_in width text.now) }
+    {
+        self.push_times(" ", width.saturating_sub(text.len()));
+        self.push(text);
+    }
+
     /// Appends what `write!` and `writeln!` are given.
-    pub(crate) fn write_fmt<D: Display + Drop>(&mut self, value: D) {
+    pub(crate) fn write_fmt<D: Display + Drop>(&mut self, value: D)
+        ensures { IfSome (D.output value) (λ text. Appends self.old self.new text) }
+    {
         if !self.failed {
             self.failed = self.text.write(value).is_err();
         }
@@ -125,12 +159,23 @@ impl Page {
     }
 
     /// Appends the end of a line, and the line of the place of a fault.
-    pub(crate) fn push_spot(&mut self, spot: &Spot<'_>) {
-        writeln!(self, "\n  --> {spot}");
+    pub(crate) fn push_spot(&mut self, spot: &Spot<'_>)
+        ensures { AppendsA (IsSpotLine spot.now) self.old self.new }
+    {
+        let place = spot.place;
+        let label = spot.label(self.alloc);
+        let Some(label) = self.accept(label) else {
+            return;
+        };
+        self.push_all(&["\n  --> ", spot.document.name, ": "]);
+        write!(self, "{place}");
+        self.push_all(&[&label, "\n"]);
     }
 
     /// Appends a bar after `margin` columns, with nothing beside it.
-    pub(crate) fn push_bar(&mut self, margin: usize) {
+    pub(crate) fn push_bar(&mut self, margin: usize)
+        ensures { Appends self.old self.new (bar margin) }
+    {
         self.push_times(" ", margin);
         self.push("|\n");
     }
@@ -138,7 +183,9 @@ impl Page {
     /// Appends a line of a document, and carets below the `count` characters from the character `from` on, at least
     /// one. `gutter` is the line's number, or blanks, and stands before the bar. A remark may follow, and the end of
     /// the line has to.
-    pub(crate) fn push_line(&mut self, gutter: &str, line: &[&str], from: usize, count: usize) {
+    pub(crate) fn push_line(&mut self, gutter: &str, line: &[&str], from: usize, count: usize)
+        ensures { Appends self.old self.new (marked_line gutter.now (concat (map (λ part. part.now) line.now)) from count) }
+    {
         let margin = gutter.len();
         self.push_bar(margin);
         self.push_all(&[gutter, "| "]);

@@ -1,2 +1,1 @@
-mod Ratios
 mod Refusals

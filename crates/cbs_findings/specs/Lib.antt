@@ -1,1 +1,3 @@
+pub mod Documents
+pub mod Spots
 pub mod Refused

@@ -1,6 +1,10 @@
 //! Documents that are read again to explain a fault, and their entries.
 
-use cbs_tables::{items, members, optional, text};
+ghost use Rattle.std.specs.Prelude.{◌≡◌, map, option_map};
+ghost use Rattle.toml.specs.View.{view, table_view};
+ghost use Rattle.cbs_findings.specs.Documents.{kind_of, IsDocument, entries_at, text_of, name_of, name_at};
+
+use cbs_tables::{items_at, members, optional};
 use std::alloc::{AllocError, Global};
 use toml::{Table, Value};
 
@@ -16,7 +20,9 @@ pub enum Kind {
 }
 
 /// Returns the kind of a document. It is a load file if it has a key `load`.
-fn kind_of(top: &Table) -> Kind {
+fn kind_of(top: &Table) -> Kind
+    ensures { result ≡ kind_of (table_view top.now) }
+{
     if optional(top, "load").is_some() {
         return Kind::Load;
     }
@@ -41,7 +47,9 @@ pub struct Document<'a> {
 
 impl<'a> Document<'a> {
     /// Returns the document of a table.
-    pub fn new(name: &'a str, top: &'a Table) -> Document<'a> {
+    pub fn new(name: &'a str, top: &'a Table) -> Document<'a>
+        ensures { IsDocument name.now (table_view top.now) result }
+    {
         Document {
             name,
             kind: kind_of(top),
@@ -56,19 +64,21 @@ impl<'a> Document<'a> {
     }
 
     /// Returns the name of the server with this number, or `None` if there is no such server or it has no name.
-    pub fn server_name(self, number: usize) -> Option<&'a str> {
+    pub fn server_name(self, number: usize) -> Option<&'a str>
+        ensures { option_map (λ name. name.now) result ≡ name_at (map view self.entry.servers.now) number }
+    {
         name_of(self.servers.get(number)?)
     }
 }
 
-/// Returns the values of the array at a key, or `None` if there is no array.
-fn array_at<'a>(table: &'a Table, key: &str) -> Option<&'a [Value]> {
-    Some(items(optional(table, key)?).ok()?.as_slice())
-}
-
 /// Returns the entries of the array at a key, or none if there is no array.
-pub(crate) fn entries<'a>(table: &'a Table, key: &str) -> &'a [Value] {
-    array_at(table, key).unwrap_or(&[])
+pub(crate) fn entries<'a>(table: &'a Table, key: &str) -> &'a [Value]
+    ensures { map view result.now ≡ entries_at key.now (table_view table.now) }
+{
+    match items_at(table, key) {
+        Ok(items) => items,
+        Err(_) => &[],
+    }
 }
 
 /// Returns the value at a key of an entry, or `None` if the entry is no table or lacks the key.
@@ -77,12 +87,19 @@ pub(crate) fn value_at<'a>(entry: &'a Value, key: &str) -> Option<&'a Value> {
 }
 
 /// Returns the text at a key of an entry, or `None` if the entry is no table or has no text there.
-pub(crate) fn text_at<'a>(entry: &'a Value, key: &str) -> Option<&'a str> {
-    text(value_at(entry, key)?).ok()
+pub(crate) fn text_at<'a>(entry: &'a Value, key: &str) -> Option<&'a str>
+    ensures { option_map (λ text. text.now) result ≡ text_of key.now (view entry.now) }
+{
+    match cbs_tables::text_at(members(entry).ok()?, key) {
+        Ok(text) => Some(text),
+        Err(_) => None,
+    }
 }
 
 /// Returns the name of a server, or `None` if its entry has none.
-pub(crate) fn name_of(entry: &Value) -> Option<&str> {
+pub(crate) fn name_of(entry: &Value) -> Option<&str>
+    ensures { option_map (λ name. name.now) result ≡ name_of (view entry.now) }
+{
     text_at(entry, "name")
 }
 

@@ -5,7 +5,6 @@
 mod broken;
 mod document;
 mod finding;
-mod fractions;
 mod keys;
 mod nearest;
 mod refused;
@@ -15,7 +14,6 @@ mod wants;
 pub use broken::{Broken, Position, Quote, broken_at};
 pub use document::{Document, Kind, server_names};
 pub use finding::{Finding, find};
-pub use fractions::{Fraction, Percent};
 pub use keys::{Key, Subject, Want, Words};
 pub use nearest::{nearest_key, nearest_word};
 pub use refused::{Refused, refused_at, reservations};

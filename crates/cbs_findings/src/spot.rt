@@ -1,8 +1,15 @@
 //! The table of a document in which a fault stands.
 
+ghost use Rattle.std.specs.Prelude.{◌≡◌, ℕ, map, option_map, slice_get, IfOk, IfSome, string_bytes};
+ghost use Rattle.toml.specs.View.{view, table_view};
+ghost use Rattle.cbs_tables.specs.declared.fault.Place.TheVariants.{Server};
+ghost use Rattle.cbs_findings.specs.Documents.{entries_at, name_of};
+ghost use Rattle.cbs_findings.specs.Spots.{label_text, label_of, named_label, FindsServer};
+
 use crate::document::{Document, Kind, entries, name_of, server_named, text_at};
 use crate::keys::Subject;
 use cbs_tables::Place;
+use std::alloc::{AllocError, Global};
 use std::fmt;
 use toml::{Table, Value};
 
@@ -35,6 +42,10 @@ pub struct Spot<'a> {
 }
 
 impl fmt::Display for Label<'_> {
+    ghost use Rattle.cbs_findings.specs.Spots.{label_text};
+
+    ghost output = { label_text };
+
     fn fmt<W: fmt::Write>(&self, f: &mut fmt::Formatter<W>) -> fmt::Result {
         match *self {
             Label::Nothing => Ok(()),
@@ -45,12 +56,12 @@ impl fmt::Display for Label<'_> {
     }
 }
 
-impl fmt::Display for Spot<'_> {
-    fn fmt<W: fmt::Write>(&self, f: &mut fmt::Formatter<W>) -> fmt::Result {
-        let name = self.document.name;
-        let place = self.place;
-        let label = self.label;
-        write!(f, "{name}: {place}{label}")
+impl Spot<'_> {
+    /// Returns what is written beside the place of the fault, as the name of a server. The only error is out of memory.
+    pub fn label(&self, alloc: Global) -> Result<String, AllocError>
+        ensures { IfOk result (λ text. IfSome (label_of self.now) (λ label. string_bytes text ≡ label)) }
+    {
+        self.label.to_string(alloc)
     }
 }
 
@@ -76,7 +87,9 @@ fn step_subject(kind: Kind, entry: &Value) -> Subject {
 }
 
 /// Returns what is written about a server.
-fn server_label(kind: Kind, entry: &Value) -> Label<'_> {
+fn server_label(kind: Kind, entry: &Value) -> Label<'_>
+    ensures { label_text result ≡ named_label kind (name_of (view entry.now)) }
+{
     match name_of(entry) {
         Some(name) if kind == Kind::Load => Label::Named(name),
         _ => Label::Nothing,
@@ -116,12 +129,17 @@ fn top_spot(document: Document<'_>) -> Spot<'_> {
 }
 
 /// Returns the entry with this number, from 0, of an array of the top table, or `None` if there is none.
-fn entry_at<'a>(document: Document<'a>, key: &str, number: u64) -> Option<&'a Value> {
+fn entry_at<'a>(document: Document<'a>, key: &str, number: u64) -> Option<&'a Value>
+    ensures { option_map (λ entry. view entry.now) result
+        ≡ slice_get (entries_at key.now (table_view document.entry.top.now)) number }
+{
     entries(document.top, key).get(usize::try_from(number).ok()?)
 }
 
 /// Returns the server with this number, from 0, or `None` if there is none.
-fn server_spot(document: Document<'_>, number: u64) -> Option<Spot<'_>> {
+fn server_spot(document: Document<'_>, number: u64) -> Option<Spot<'_>>
+    ensures { FindsServer document.entry number result }
+{
     let entry = entry_at(document, "server", number)?;
     Some(Spot {
         document,
@@ -161,7 +179,9 @@ fn step_spot(document: Document<'_>, number: u64) -> Option<Spot<'_>> {
 }
 
 /// Returns the table at a place of a document, or `None` if there is no such entry.
-pub fn spot_at(document: Document<'_>, place: Place) -> Option<Spot<'_>> {
+pub fn spot_at(document: Document<'_>, place: Place) -> Option<Spot<'_>>
+    ensures { (number : ℕ) → place ≡ Server number → FindsServer document.entry number result }
+{
     match place {
         Place::Top => Some(top_spot(document)),
         Place::Server(number) => server_spot(document, number),
