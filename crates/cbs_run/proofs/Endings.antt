@@ -1,5 +1,8 @@
 -- How a command on a file ends, by what it did and by what was told of it.
 use Rattle.std.proofs.Common.{◌≡◌, List, ℕ, ap, Result, Ok, Err}
+use Rattle.cbs_file.specs.Spelling.{file}
+use Rattle.cbs_file.specs.TaskFiles.{File}
+use Rattle.cbs_planning.specs.Tasks.{clock_of_tasks}
 use Rattle.cbs_stretches.specs.Windows.{AnswersShown}
 use Rattle.cbs_stretches.specs.declared.shown.NothingShown.{NothingShown}
 use Rattle.cbs_stretches.specs.declared.window.Window.{Window}
@@ -10,7 +13,7 @@ use Rattle.cbs_lines.specs.declared.run_error.RunError.TheVariants.{OutOfMemory,
 use Rattle.cbs_run.specs.Commands.{Command, Does, Tells, printing_command}
 use Rattle.cbs_run.specs.FaultLines.{nothing_shown_line}
 use Rattle.cbs_run.specs.Pictured.{EndsDrawing, drawing_command, printed, nothing_shown}
-use Rattle.cbs_run.specs.Printing.{EndsPrinting, StopsPrinting, done, refused, stopped}
+use Rattle.cbs_run.specs.Printing.{EndsPrinting, Prints, StopsPrinting, done, refused, stopped}
 use Rattle.cbs_run.specs.declared.ending.Stopped.{Stopped}
 use Rattle.cbs_run.specs.declared.ending.Stopped.TheVariants.{Unread, Ended, Run}
 
@@ -21,6 +24,16 @@ stops_as is is' f short OutOfMemory old new h = h
 stops_as is is' f short WriteFault old new h = (h.0, f h.0 h.1, h.2)
 stops_as is is' f short ClockEnd old new h = h
 stops_as is is' f short Stalled old new h = h
+
+-- the same, whether the text was printed whole or not
+pub prints_as : (is is' : List ℕ → Type 0) → ((t : List ℕ) → is t → is' t) → (r : Result (Unit {0}) RunError) (old new : Writer)
+    → Prints is r old new → Prints is' r old new
+prints_as is is' f (Ok x) old new h = (h.0, f h.0 h.1, h.2)
+prints_as is is' f (Err error) old new h = stops_as is is' f IsUntouched error old new h
+
+-- bytes spell one file, whose steps end at one tick
+pub same_file : (bytes : List ℕ) (f h : File) → file bytes ≡ Ok f → file bytes ≡ Ok h → clock_of_tasks f ≡ clock_of_tasks h
+same_file bytes f h p q = let same : f ≡ h = cc in ap clock_of_tasks same
 
 -- a command that always has something to show ends as one that prints a text
 pub ends_printing : {F : Type 0} (c : Command F) → ((f : F) (e : NothingShown) → c.nothing f e → ⊥) → (bytes : List ℕ) (out out' err err' : Writer)

@@ -11,7 +11,7 @@ ghost use Rattle.cbs_lines.specs.Writers.{MayWrite};
 use crate::ending::{Stopped, status_of};
 use crate::reading::load_file;
 use cbs_bytes::ByteOutput;
-use cbs_lines::write_load_lines;
+use cbs_lines::write_lines;
 use std::alloc::Global;
 
 /// Simulates the load that the bytes spell, and writes a line for each step.
@@ -24,8 +24,8 @@ fn write_steps<O: ByteOutput>(
     requires { MayWrite (O.state out.old) }
     ensures { Does lines_command bytes.now result (O.state out.old) (O.state out.new) }
 {
-    let load = load_file(alloc, memory, bytes)?;
-    write_load_lines(alloc, &load, out)?;
+    let mut load = load_file(alloc, memory, bytes)?;
+    write_lines(alloc, &mut load, out)?;
     Ok(())
 }
 

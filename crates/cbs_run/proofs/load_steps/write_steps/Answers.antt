@@ -9,10 +9,10 @@ returns-in_err-load g c =
     let p = err_from_is_err_and c.from_residual.result c.from_residual.ensures.1 in
     rw (p.1, p.2) (c.in_err-load.ensures, untouched _)
 
-pub returns-in_err-write_load_lines : goal.returns-in_err-write_load_lines
-returns-in_err-write_load_lines g c =
-    let p = err_from_is_err_and c.from_residual-in_err-write_load_lines.result c.from_residual-in_err-write_load_lines.ensures.1 in
-    rw (p.1, p.2) (c.in_ok-load.load, c.in_ok-load.ensures, prints_short _ _ _ _ _ c.in_err-write_load_lines.ensures)
+pub returns-in_err-write_lines : goal.returns-in_err-write_lines
+returns-in_err-write_lines g c =
+    let p = err_from_is_err_and c.from_residual-in_err-write_lines.result c.from_residual-in_err-write_lines.ensures.1 in
+    rw (p.1, p.2) (c.in_ok-load.load, c.in_ok-load.ensures, prints_short _ _ _ _ _ c.in_err-write_lines.ensures.written)
 
 pub returns : goal.returns
-returns g c = (c.in_ok-load.load, _, c.in_ok-load.ensures, refl, c.in_ok-write_load_lines.ensures)
+returns g c = (c.in_ok-load.load, _, c.in_ok-load.ensures, refl, c.in_ok-write_lines.ensures.written)

@@ -1,4 +1,3 @@
-use Rattle.std.proofs.Common.{◌∙◌}
 use Rattle.std.proofs.lemmas.Result.{err_from_is_err_and}
 use Rattle.cbs_lines.proofs.Writers.{untouched}
 use Rattle.cbs_lines.specs.Writers.{IsUntouched}
@@ -10,27 +9,16 @@ returns-in_err-tasks g c =
     let p = err_from_is_err_and c.from_residual.result c.from_residual.ensures.1 in
     rw (p.1, p.2) (c.in_err-tasks.ensures, untouched _)
 
-pub returns-in_err-report : goal.returns-in_err-report
-returns-in_err-report g c =
-    let p = err_from_is_err_and c.from_residual-in_err-report.result c.from_residual-in_err-report.ensures.1 in
-    rw (p.1, p.2) (c.in_ok-tasks.tasks, c.in_ok-tasks.ensures, untouched _)
-
-pub returns-in_err-text : goal.returns-in_err-text
-returns-in_err-text g c =
-    let p = err_from_is_err_and c.from_residual-in_err-text.result c.from_residual-in_err-text.ensures.1 in
-    rw (p.1, p.2) (c.in_ok-tasks.tasks, c.in_ok-tasks.ensures, untouched _)
-
-pub returns-in_err-print : goal.returns-in_err-print
-returns-in_err-print g c =
-    let p = err_from_is_err_and c.from_residual-in_err-print.result c.from_residual-in_err-print.ensures.1 in
+pub returns-in_err-print_report : goal.returns-in_err-print_report
+returns-in_err-print_report g c =
+    let p = err_from_is_err_and c.from_residual-in_err-print_report.result c.from_residual-in_err-print_report.ensures.1 in
     rw (p.1, p.2) (
       c.in_ok-tasks.tasks,
       c.in_ok-tasks.ensures,
-      stops_as _ _ (λ t e. (c.in_ok-report.report, c.in_ok-report.ensures.report, e ∙ (c.deref.ensures.value ∙ c.in_ok-text.ensures))) IsUntouched _ _ _
-          c.in_err-print.ensures,
+      stops_as _ _ (λ t h. h.0) IsUntouched _ _ _ (rw c.of-replay.ensures at c.in_err-print_report.ensures),
     )
 
 pub returns : goal.returns
 returns g c =
-    let p = c.in_ok-print.ensures in
-    (c.in_ok-tasks.tasks, p.0, c.in_ok-tasks.ensures, (c.in_ok-report.report, c.in_ok-report.ensures.report, p.1 ∙ (c.deref.ensures.value ∙ c.in_ok-text.ensures)), p.2)
+    let p = rw c.of-replay.ensures at c.in_ok-print_report.ensures in
+    (c.in_ok-tasks.tasks, p.0, c.in_ok-tasks.ensures, p.1.0, p.2)
