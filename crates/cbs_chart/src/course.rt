@@ -55,14 +55,7 @@ fn spent(event: &Event, budget: u64) -> u64
 {
     match event {
         Event::Ran(_) => budget.saturating_sub(event.ticks()),
-        Event::Accepted { .. }
-        | Event::NotAccepted { .. }
-        | Event::Advanced(_)
-        | Event::NotAdvanced(..)
-        | Event::Closed(_)
-        | Event::NotClosed(..)
-        | Event::Charged { .. }
-        | Event::NotCharged { .. } => budget,
+        _ => budget,
     }
 }
 

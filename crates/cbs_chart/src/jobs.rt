@@ -181,22 +181,12 @@ impl Jobs {
                 job,
                 number,
                 promised,
-            } => {
-                self.waiting.push_back(job_of(job, number, promised))?;
-                Ok(())
-            }
-            Event::Ran(ran) => self.run(window, clock, ran),
-            Event::Charged { .. } => {
-                self.put_off(clock);
-                Ok(())
-            }
-            Event::NotAccepted { .. }
-            | Event::Advanced(_)
-            | Event::NotAdvanced(..)
-            | Event::Closed(_)
-            | Event::NotClosed(..)
-            | Event::NotCharged { .. } => Ok(()),
+            } => self.waiting.push_back(job_of(job, number, promised))?,
+            Event::Ran(ran) => self.run(window, clock, ran)?,
+            Event::Charged { .. } => self.put_off(clock),
+            _ => {}
         }
+        Ok(())
     }
 
     /// Returns the jobs that the window shows: the finished ones, and after them those that wait. The only error is out

@@ -13,20 +13,8 @@ pub(crate) fn refusals_after(window: Window, event: &Event, refusals: u64) -> u6
     ensures { result ≡ refusals_after window event.now refusals }
 {
     match event {
-        Event::NotAccepted { job, .. } => {
-            if window.from <= job.came && job.came < window.to {
-                return refusals.saturating_add(1);
-            }
-            refusals
-        }
-        Event::Accepted { .. }
-        | Event::Ran(_)
-        | Event::Advanced(_)
-        | Event::NotAdvanced(..)
-        | Event::Closed(_)
-        | Event::NotClosed(..)
-        | Event::Charged { .. }
-        | Event::NotCharged { .. } => refusals,
+        Event::NotAccepted { job, .. } if window.has(job.came) => refusals.saturating_add(1),
+        _ => refusals,
     }
 }
 
@@ -40,19 +28,8 @@ pub(crate) fn add_arrival(
     ensures { OnOk result (arrivals.new.items ≡ arrivals_after window event.now arrivals.old.items) }
 {
     match event {
-        Event::Accepted { job, .. } => {
-            if window.from <= job.came && job.came < window.to {
-                arrivals.push(job.came)?;
-            }
-            Ok(())
-        }
-        Event::NotAccepted { .. }
-        | Event::Ran(_)
-        | Event::Advanced(_)
-        | Event::NotAdvanced(..)
-        | Event::Closed(_)
-        | Event::NotClosed(..)
-        | Event::Charged { .. }
-        | Event::NotCharged { .. } => Ok(()),
+        Event::Accepted { job, .. } if window.has(job.came) => arrivals.push(job.came)?,
+        _ => {}
     }
+    Ok(())
 }

@@ -70,24 +70,15 @@ fn add_spans(
 fn add_refused(window: Window, event: &Event, refused: &mut Stretches) -> Result<(), AllocError>
     ensures { OnOk result (refused.new ≡ refused_after window event.now refused.old) }
 {
-    match event {
-        Event::NotAccepted { job, .. } => refused.add(
-            window,
-            Stretch {
-                kind: Kind::Refused,
-                from: job.came,
-                to: job.came.saturating_add(1),
-            },
-        ),
-        Event::Accepted { .. }
-        | Event::Ran(_)
-        | Event::Advanced(_)
-        | Event::NotAdvanced(..)
-        | Event::Closed(_)
-        | Event::NotClosed(..)
-        | Event::Charged { .. }
-        | Event::NotCharged { .. } => Ok(()),
+    if let Event::NotAccepted { job, .. } = event {
+        let tick = Stretch {
+            kind: Kind::Refused,
+            from: job.came,
+            to: job.came.saturating_add(1),
+        };
+        refused.add(window, tick)?;
     }
+    Ok(())
 }
 
 impl Row {

@@ -25,13 +25,7 @@ fn kind_of(event: &Event) -> Kind
     match event {
         Event::Ran(ran) => kind_of_run(*ran),
         Event::Charged { .. } => Kind::Charged,
-        Event::Accepted { .. }
-        | Event::NotAccepted { .. }
-        | Event::Advanced(_)
-        | Event::NotAdvanced(..)
-        | Event::Closed(_)
-        | Event::NotClosed(..)
-        | Event::NotCharged { .. } => Kind::Idle,
+        _ => Kind::Idle,
     }
 }
 

@@ -1,5 +1,5 @@
 -- The ticks that a picture shows.
-use Rattle.std.specs.Prelude.{◌≡◌, ℕ, ◌+◌, ◌-◌, ◌<◌, ◌≤◌, min, Result, Ok, Err}
+use Rattle.std.specs.Prelude.{◌≡◌, ℕ, ◌+◌, ◌-◌, ◌<◌, ◌≤◌, Bool, ◌&&◌, leb, ltb, min, Result, Ok, Err}
 use Rattle.cbs_stretches.specs.declared.shown.NothingShown.{NothingShown}
 use Rattle.cbs_stretches.specs.declared.window.Window.{Window}
 use Rattle.cbs_stretches.specs.declared.window.WindowError.{WindowError}
@@ -8,6 +8,14 @@ use Rattle.cbs_stretches.specs.declared.window.WindowError.TheVariants.{Empty, T
 -- how many ticks a window has
 abbrev pub ticks_of : Window → ℕ
 ticks_of w = w.to - w.from
+
+-- the window has tick t
+abbrev pub has_tick : Window → ℕ → Bool
+has_tick w t = leb w.from t && ltb t w.to
+
+-- a tick of the window ends when the clock comes to t
+abbrev pub ends_tick : Window → ℕ → Bool
+ends_tick w t = ltb w.from t && leb t w.to
 
 -- the ticks from one up to another are a window, if there are 1 to 20000 of them. Otherwise the error says why they are
 -- none

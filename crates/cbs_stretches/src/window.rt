@@ -31,7 +31,7 @@ pub enum WindowError {
 }
 
 impl Window {
-    ghost use Rattle.cbs_stretches.specs.Windows.{AnswersWindow, ticks_of};
+    ghost use Rattle.cbs_stretches.specs.Windows.{AnswersWindow, ends_tick, has_tick, ticks_of};
 
     /// Returns the window of the ticks from `from` up to `to`. Refuses if there is no such tick, or more than
     /// [`MOST_TICKS`].
@@ -54,5 +54,19 @@ impl Window {
         ensures few { result ≤ 20000 }
     {
         self.to - self.from
+    }
+
+    /// Returns whether the window has the tick `tick`.
+    pub fn has(&self, tick: u64) -> bool
+        ensures { result ≡ has_tick self.now tick }
+    {
+        self.from <= tick && tick < self.to
+    }
+
+    /// Returns whether a tick of the window ends when the clock comes to `clock`.
+    pub fn ends(&self, clock: u64) -> bool
+        ensures { result ≡ ends_tick self.now clock }
+    {
+        self.from < clock && clock <= self.to
     }
 }

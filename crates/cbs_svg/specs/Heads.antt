@@ -5,6 +5,7 @@ use Rattle.cbs_stretches.specs.Counts.{counts_of, told}
 use Rattle.cbs_chart.specs.declared.jobs.ChartJob.{ChartJob}
 use Rattle.cbs_chart.specs.declared.picture.Drawn.{Drawn}
 use Rattle.cbs_chart.specs.declared.picture.Picture.{Picture}
+use Rattle.cbs_stretches.specs.Windows.{ends_tick}
 use Rattle.cbs_stretches.specs.declared.window.Window.{Window}
 use Rattle.cbs_rate.specs.declared.bandwidth.Bandwidth.{Bandwidth}
 use Rattle.cbs_report.specs.Figures.{exceeds}
@@ -56,7 +57,7 @@ summary_text p cell =
 -- the job was finished late in the window
 abbrev pub is_late_at : Window → ChartJob → Option ℕ → Bool
 is_late_at w job None = false
-is_late_at w job (Some finish) = ltb w.from finish && (leb finish w.to && exceeds (finish - job.came) job.within)
+is_late_at w job (Some finish) = ends_tick w finish && exceeds (finish - job.came) job.within
 
 abbrev pub is_late : Window → ChartJob → Bool
 is_late w job = is_late_at w job job.finish

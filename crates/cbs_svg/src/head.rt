@@ -135,9 +135,7 @@ fn is_late(window: Window, job: &ChartJob) -> bool
 {
     match job.finish {
         Some(finish) => {
-            window.from < finish
-                && finish <= window.to
-                && exceeds(finish.saturating_sub(job.came), job.within)
+            window.ends(finish) && exceeds(finish.saturating_sub(job.came), job.within)
         }
         None => false,
     }

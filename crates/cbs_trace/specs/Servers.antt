@@ -1,5 +1,5 @@
 -- The events of one server, kind by kind.
-use Rattle.std.specs.Prelude.{ℕ, ◌+◌, ◌-◌, ◌&&◌, eqb, leb, ltb, if◌then◌else◌, List, [], ◌∷◌, ◌++◌, codes}
+use Rattle.std.specs.Prelude.{ℕ, ◌+◌, ◌-◌, eqb, if◌then◌else◌, List, [], ◌∷◌, ◌++◌, codes}
 use Rattle.std.specs.Prelude.{decimal, flat_map, get_or, length, map, string_bytes, Option, Some, None}
 use Rattle.std.specs.List.{range_with_len}
 use Rattle.cbs_chart.specs.declared.chart.ServerChart.{ServerChart}
@@ -10,6 +10,7 @@ use Rattle.cbs_chart.specs.declared.picture.Drawn.{Drawn}
 use Rattle.cbs_stretches.specs.declared.stretch.Kind.{Kind}
 use Rattle.cbs_stretches.specs.declared.stretch.Kind.TheVariants as kind
 use Rattle.cbs_stretches.specs.declared.stretch.Stretch.{Stretch}
+use Rattle.cbs_stretches.specs.Windows.{ends_tick, has_tick}
 use Rattle.cbs_stretches.specs.declared.window.Window.{Window}
 use Rattle.cbs_trace.specs.Events.{LineSeen, budget_data, came_args, finished_args, instant_data, job_args, line_of, no_args, slice_data}
 
@@ -49,7 +50,7 @@ end_line thread job tick took late =
 abbrev pub end_at : Window → ℕ → ChartJob → Option ℕ → List LineSeen
 end_at w thread job None = []
 end_at w thread job (Some finish) =
-    if ltb w.from finish && leb finish w.to
+    if ends_tick w finish
     then end_line thread job finish (finish - job.came) (late_by job.within (finish - job.came)) ∷ []
     else []
 
@@ -74,7 +75,7 @@ arrival_line thread job =
 
 -- the arrival of a job, if the job came in the window
 abbrev pub arrival_in : Window → ℕ → ChartJob → List LineSeen
-arrival_in w thread job = if leb w.from job.came && ltb job.came w.to then arrival_line thread job ∷ [] else []
+arrival_in w thread job = if has_tick w job.came then arrival_line thread job ∷ [] else []
 
 unfoldable pub arrivals_of : Window → ℕ → List ChartJob → List LineSeen
 arrivals_of w thread jobs = flat_map (arrival_in w thread) jobs

@@ -74,7 +74,7 @@ fn append_end(
     let Some(finish) = finish else {
         return Ok(());
     };
-    if window.from < finish && finish <= window.to {
+    if window.ends(finish) {
         let took = finish.saturating_sub(job.came);
         let late = late_by(job.within, took);
         return append_line(lines, end_line(alloc, thread, job, finish, took, late)?);
@@ -160,7 +160,7 @@ fn append_arrival(
 ) -> Result<(), AllocError>
     ensures { OnOk result (lines.new.items ≡ lines.old.items ++ arrival_in window thread job.now) }
 {
-    if window.from <= job.came && job.came < window.to {
+    if window.has(job.came) {
         return append_line(lines, arrival_line(alloc, thread, job)?);
     }
     Ok(())
