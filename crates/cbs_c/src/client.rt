@@ -11,7 +11,8 @@ use cbs_embed::{Handle, calls};
 /// freed, after an end, and for a full ring.
 #[unsafe(no_mangle)]
 pub extern "C" fn cbs_send(client: &mut Handle, token: u64, units: u32, seq: &mut u64) -> u32
-    ensures { Tells (OnHeld (InClient (Sends token units))) (λ n. n) (held_by client.old) seq.old result (held_by client.new) seq.new }
+    ensures { Tells (OnHeld (InClient (Sends token units))) (λ n.
+        n) (held_by client.old) seq.old result (held_by client.new) seq.new }
 {
     tell(seq, calls::send(client, token, units))
 }
@@ -28,7 +29,8 @@ pub extern "C" fn cbs_end(client: &mut Handle) -> u32
 /// Writes how many messages of the client wait in its ring. Returns the status.
 #[unsafe(no_mangle)]
 pub extern "C" fn cbs_waiting(client: &mut Handle, out: &mut u64) -> u32
-    ensures { Tells (OnHeld (InClient Waits)) (λ n. n) (held_by client.old) out.old result (held_by client.new) out.new }
+    ensures { Tells (OnHeld (InClient Waits)) (λ n.
+        n) (held_by client.old) out.old result (held_by client.new) out.new }
 {
     tell(out, calls::waiting(client))
 }

@@ -18,7 +18,8 @@ pub extern "C" fn cbs_open(
     house: &mut Handle,
     clients: &mut [Handle],
 ) -> u32
-    ensures { OpensForC servers.now backlog ring house.old house.new clients.old clients.new result }
+    ensures { OpensForC servers.now backlog ring house.old house.new clients.old clients.new
+        result }
 {
     status_of(open(alloc, servers, backlog, ring, house, clients))
 }

@@ -12,7 +12,8 @@ use cbs_embed::{Handle, calls};
 /// Runs one unit, and writes what ran. Returns the status.
 #[unsafe(no_mangle)]
 pub extern "C" fn cbs_run(house: &mut Handle, out: &mut Event) -> u32
-    ensures { Tells (OnHeld (InHouse Runs)) tick_event (held_by house.old) out.old result (held_by house.new) out.new }
+    ensures { Tells (OnHeld (InHouse Runs)) tick_event (held_by house.old) out.old result
+        (held_by house.new) out.new }
 {
     match calls::run(house) {
         Ok(ticked) => {
@@ -26,7 +27,8 @@ pub extern "C" fn cbs_run(house: &mut Handle, out: &mut Event) -> u32
 /// Takes a turn, and writes what it did. Returns the status.
 #[unsafe(no_mangle)]
 pub extern "C" fn cbs_turn(house: &mut Handle, out: &mut TurnEvent) -> u32
-    ensures { Tells (OnHeld (InHouse Turns)) turn_event (held_by house.old) out.old result (held_by house.new) out.new }
+    ensures { Tells (OnHeld (InHouse Turns)) turn_event (held_by house.old) out.old result
+        (held_by house.new) out.new }
 {
     match calls::turn(house) {
         Ok(turned) => {
@@ -41,7 +43,8 @@ pub extern "C" fn cbs_turn(house: &mut Handle, out: &mut TurnEvent) -> u32
 /// that no server has.
 #[unsafe(no_mangle)]
 pub extern "C" fn cbs_poll(house: &mut Handle, server: u16, kind: &mut u32) -> u32
-    ensures { Tells (OnHeld (InHouse (Polls server))) poll_kind (held_by house.old) kind.old result (held_by house.new) kind.new }
+    ensures { Tells (OnHeld (InHouse (Polls server))) poll_kind (held_by house.old) kind.old result
+        (held_by house.new) kind.new }
 {
     match calls::poll(house, server) {
         Ok(answer) => {
@@ -55,7 +58,8 @@ pub extern "C" fn cbs_poll(house: &mut Handle, server: u16, kind: &mut u32) -> u
 /// Lets ticks pass. Returns the status.
 #[unsafe(no_mangle)]
 pub extern "C" fn cbs_advance(house: &mut Handle, ticks: u64) -> u32
-    ensures { Answers (OnHeld (InHouse (Advances ticks))) (held_by house.old) result (held_by house.new) }
+    ensures { Answers (OnHeld (InHouse (Advances ticks))) (held_by house.old) result
+        (held_by house.new) }
 {
     status_of(calls::advance(house, ticks))
 }
@@ -63,7 +67,8 @@ pub extern "C" fn cbs_advance(house: &mut Handle, ticks: u64) -> u32
 /// Charges a server the ticks that its last unit took after its first tick. Returns the status.
 #[unsafe(no_mangle)]
 pub extern "C" fn cbs_charge(house: &mut Handle, server: u16, ticks: u64) -> u32
-    ensures { Answers (OnHeld (InHouse (ChargesServer server ticks))) (held_by house.old) result (held_by house.new) }
+    ensures { Answers (OnHeld (InHouse (ChargesServer server ticks))) (held_by house.old) result
+        (held_by house.new) }
 {
     status_of(calls::charge(house, server, ticks))
 }
@@ -77,8 +82,10 @@ pub extern "C" fn cbs_charges(
     total: &mut u64,
     most: &mut u64,
 ) -> u32
-    ensures total { Tells (OnHeld (InHouse (ShowsCharges server))) (λ charges. charges.total) (held_by house.old) total.old result (held_by house.new) total.new }
-    ensures most { Tells (OnHeld (InHouse (ShowsCharges server))) (λ charges. charges.most) (held_by house.old) most.old result (held_by house.new) most.new }
+    ensures total { Tells (OnHeld (InHouse (ShowsCharges server))) (λ charges.
+        charges.total) (held_by house.old) total.old result (held_by house.new) total.new }
+    ensures most { Tells (OnHeld (InHouse (ShowsCharges server))) (λ charges.
+        charges.most) (held_by house.old) most.old result (held_by house.new) most.new }
 {
     match calls::charges(house, server) {
         Ok(charges) => {
@@ -93,7 +100,8 @@ pub extern "C" fn cbs_charges(
 /// Writes the clock. Returns the status.
 #[unsafe(no_mangle)]
 pub extern "C" fn cbs_now(house: &mut Handle, out: &mut u64) -> u32
-    ensures { Tells (OnHeld (InHouse TellsClock)) (λ n. n) (held_by house.old) out.old result (held_by house.new) out.new }
+    ensures { Tells (OnHeld (InHouse TellsClock)) (λ n.
+        n) (held_by house.old) out.old result (held_by house.new) out.new }
 {
     tell(out, calls::now(house))
 }
@@ -101,7 +109,8 @@ pub extern "C" fn cbs_now(house: &mut Handle, out: &mut u64) -> u32
 /// Writes for how many ticks no server will be ready, or `u64::MAX` if one is ready now. Returns the status.
 #[unsafe(no_mangle)]
 pub extern "C" fn cbs_idle_span(house: &mut Handle, out: &mut u64) -> u32
-    ensures { Tells (OnHeld (InHouse Spans)) span_shown (held_by house.old) out.old result (held_by house.new) out.new }
+    ensures { Tells (OnHeld (InHouse Spans)) span_shown (held_by house.old) out.old result
+        (held_by house.new) out.new }
 {
     match calls::idle_span(house) {
         Ok(span) => {
@@ -115,7 +124,8 @@ pub extern "C" fn cbs_idle_span(house: &mut Handle, out: &mut u64) -> u32
 /// Writes the view of a server. Returns the status. Refuses a number that no server has.
 #[unsafe(no_mangle)]
 pub extern "C" fn cbs_view(house: &mut Handle, server: u16, out: &mut View) -> u32
-    ensures { Tells (OnHeld (InHouse (Shows server))) view_shown (held_by house.old) out.old result (held_by house.new) out.new }
+    ensures { Tells (OnHeld (InHouse (Shows server))) view_shown (held_by house.old) out.old result
+        (held_by house.new) out.new }
 {
     match calls::view(house, server) {
         Ok(view) => {
@@ -135,8 +145,10 @@ pub extern "C" fn cbs_promised(
     lower: &mut u64,
     upper: &mut u64,
 ) -> u32
-    ensures lower { Tells (OnHeld (InHouse (Promises server))) promise_low (held_by house.old) lower.old result (held_by house.new) lower.new }
-    ensures upper { Tells (OnHeld (InHouse (Promises server))) promise_high (held_by house.old) upper.old result (held_by house.new) upper.new }
+    ensures lower { Tells (OnHeld (InHouse (Promises server))) promise_low (held_by house.old)
+        lower.old result (held_by house.new) lower.new }
+    ensures upper { Tells (OnHeld (InHouse (Promises server))) promise_high (held_by house.old)
+        upper.old result (held_by house.new) upper.new }
 {
     match calls::promised(house, server) {
         Ok(tick) => {

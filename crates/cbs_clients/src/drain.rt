@@ -28,7 +28,8 @@ impl<W: Work, A: Allocator> House<W, A> {
         ensures rings { rings_of self.new ≡ rings_of self.old }
         ensures ok { OnOk result (HoldsNoJob (core_of self.new)) }
         ensures finished { OnOk result (AllFinished W.meaning self.new) }
-        ensures end { IfErr result (λ error. (error ≡ HouseError.ClockEnd) × IsAtEnd (core_of self.new)) }
+        ensures end { IfErr result (λ error. (error ≡ HouseError.ClockEnd)
+            × IsAtEnd (core_of self.new)) }
     {
         self.drain_metered(&mut NoMeter)
     }
@@ -40,13 +41,15 @@ impl<W: Work, A: Allocator> House<W, A> {
     /// a job unfinished.
     pub fn drain_metered<M: Meter>(&mut self, meter: &mut M) -> Result<(), HouseError>
         ensures moves { MovesBy W.meaning M.may_tell (MayDrain W.meaning) self.old self.new 0 }
-        ensures on_time { NeverCharges M.may_tell → IsHouseOnTime self.old → IsHouseOnTime self.new }
+        ensures on_time { NeverCharges M.may_tell → IsHouseOnTime self.old
+            → IsHouseOnTime self.new }
         ensures paced { IsHousePaced self.old → IsHousePaced self.new }
         ensures received { (s : ℕ) → received self.new s ≡ received self.old s }
         ensures rings { rings_of self.new ≡ rings_of self.old }
         ensures ok { OnOk result (HoldsNoJob (core_of self.new)) }
         ensures finished { OnOk result (AllFinished W.meaning self.new) }
-        ensures end { IfErr result (λ error. (error ≡ HouseError.ClockEnd) × IsAtEnd (core_of self.new)) }
+        ensures end { IfErr result (λ error. (error ≡ HouseError.ClockEnd)
+            × IsAtEnd (core_of self.new)) }
     {
         while self.is_busy() {
             if self.now() == LIMIT {

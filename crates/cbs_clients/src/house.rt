@@ -69,7 +69,8 @@ impl<W: Work, A: Allocator> House<W, A> {
         ensures looked { LooksOnly self.old self.new }
         ensures client { LooksAtRing client.old client.new }
         ensures value { result ≡ length (known self.new (server_of client.new)) }
-        ensures lawful { sent_by client.new ≡ received self.new (server_of client.new) ++ known self.new (server_of client.new) }
+        ensures lawful { sent_by client.new ≡ received self.new (server_of client.new)
+            ++ known self.new (server_of client.new) }
     {
         self.rings.settle(client) as u64
     }
@@ -105,7 +106,9 @@ impl<W: Work, A: Allocator> House<W, A> {
     /// so after a [`settle`](House::settle) that returned 0, however little memory there is.
     pub fn poll_beside(&mut self, client: &mut Client<W, A>) -> Poll
         requires { IsOpened (rings_of self.old) client.old }
-        ensures nothing { (result ≡ Poll.Nothing) ↔ (IsClosed (core_of self.old) (server_of client.old) ⊎ (sent_by client.old ≡ received self.old (server_of client.old))) }
+        ensures nothing { (result ≡ Poll.Nothing)
+            ↔ (IsClosed (core_of self.old) (server_of client.old)
+            ⊎ (sent_by client.old ≡ received self.old (server_of client.old))) }
         ensures poll { PollOf W.meaning (server_of client.old) self.old result self.new }
         ensures client { LooksAtRing client.old client.new }
     {
@@ -134,7 +137,8 @@ impl<W: Work, A: Allocator> House<W, A> {
     fn prepare(&mut self, server: u16) -> Option<Poll>
         requires { 0 < length (known self.old server) }
         ensures made { Made W.meaning self.old self.new [] }
-        ensures core { core_of self.new ≡ record (core_of self.old) { rooms = (core_of self.new).rooms } }
+        ensures core { core_of self.new ≡ record (core_of self.old)
+            { rooms = (core_of self.new).rooms } }
         ensures results { KeepsResults self.old self.new }
         ensures some { IfSome result (λ answer. Polled W.meaning self.old server answer self.new) }
         ensures none { IfNone result (CanTake self.new server) }
@@ -191,7 +195,8 @@ impl<W: Work, A: Allocator> House<W, A> {
     /// so the clock stops there.
     pub fn run_metered<M: Meter>(&mut self, meter: &mut M) -> Ran
         ensures run { RunBy W.meaning M.may_tell self.old result self.new }
-        ensures meter { AsksMeter W.meaning M.begins M.tells self.old result self.new meter.old meter.new }
+        ensures meter { AsksMeter W.meaning M.begins M.tells self.old result self.new meter.old
+            meter.new }
     {
         meter.begin();
         let ran = self.run();
@@ -206,7 +211,8 @@ impl<W: Work, A: Allocator> House<W, A> {
     /// Charges the server that runs `beyond` ticks, or as many as the clock can hold. For 0 ticks it does nothing.
     fn pay(&mut self, server: u16, beyond: u64)
         requires { is_running (core_of self.old) server ≡ true }
-        ensures made { Made W.meaning self.old self.new (charge_steps server (min beyond (LIMIT - (core_of self.old).clock))) }
+        ensures made { Made W.meaning self.old self.new
+            (charge_steps server (min beyond (LIMIT - (core_of self.old).clock))) }
         ensures results { KeepsResults self.old self.new }
         ensures jobs { AllSame (core_of self.old) (core_of self.new) }
     {

@@ -46,9 +46,12 @@ pub fn open_house<W: Work, A: Allocator + Copy>(
     ring: u64,
 ) -> Result<(House<W, A>, Vec<Client<W, A>, A>), HouseError>
     requires { length modes ≡ length plan.rates }
-    ensures new { IfOk result (λ r. IsNewHouse W.meaning (record { servers = terms_of modes plan.rates; backlog = backlog }) r.0) }
-    ensures clients { IfOk result (λ r. map server_of r.1.items ≡ range_with_len 0 (length plan.rates)) }
-    ensures count { IfOk result (λ r. (length r.1.items ≡ length plan.rates) × (length r.1.items ≤ most_servers)) }
+    ensures new { IfOk result (λ r. IsNewHouse W.meaning
+        (record { servers = terms_of modes plan.rates; backlog = backlog }) r.0) }
+    ensures clients { IfOk result (λ r. map server_of r.1.items
+        ≡ range_with_len 0 (length plan.rates)) }
+    ensures count { IfOk result (λ r. (length r.1.items ≡ length plan.rates)
+        × (length r.1.items ≤ most_servers)) }
     ensures unused { IfOk result (λ r. All (IsUnused ring) r.1.items) }
     ensures opened { IfOk result (λ r. All (IsOpened (rings_of r.0)) r.1.items) }
     ensures together { IfOk result (λ r. AreOpened (rings_of r.0) r.1.items) }
@@ -70,8 +73,10 @@ pub fn open_house_of<W: Work, A: Allocator + Copy>(
     ring: u64,
 ) -> Result<(House<W, A>, Vec<Client<W, A>, A>), HouseError>
     requires { length modes.now ≡ length plan.now.rates }
-    ensures new { IfOk result (λ r. IsNewHouse W.meaning (record { servers = terms_of modes.now plan.now.rates; backlog = backlog }) r.0) }
-    ensures clients { IfOk result (λ r. map server_of r.1.items ≡ range_with_len 0 (length plan.now.rates)) }
+    ensures new { IfOk result (λ r. IsNewHouse W.meaning
+        (record { servers = terms_of modes.now plan.now.rates; backlog = backlog }) r.0) }
+    ensures clients { IfOk result (λ r. map server_of r.1.items
+        ≡ range_with_len 0 (length plan.now.rates)) }
     ensures count { IfOk result (λ r. (length r.1.items ≡ length plan.now.rates)
         × (length r.1.items ≤ most_servers)) }
     ensures unused { IfOk result (λ r. All (IsUnused ring) r.1.items) }
@@ -100,7 +105,8 @@ fn house_of<W: Work, A: Allocator + Copy>(
     core: Core<W, A>,
     ring: usize,
 ) -> Result<(House<W, A>, Vec<Client<W, A>, A>), HouseError>
-    requires new { (setup : Setup) × Agrees W.meaning core (record { setup = setup; steps = [] }) × (0 < setup.backlog) }
+    requires new { (setup : Setup) × Agrees W.meaning core (record { setup = setup; steps = [] })
+        × (0 < setup.backlog) }
     requires ring { ring ≤ most_ring }
     ensures made { IfOk result (λ r. HousesCore core ring r.0 r.1.items) }
     ensures refusal { IfErr result (λ error. error ≡ HouseError.OutOfMemory) }

@@ -18,11 +18,15 @@ impl<W: Work, A: Allocator> House<W, A> {
     /// Returns the results of a server that were not handed out, in the order of its jobs. Refuses by
     /// [`HouseError::NoSuchServer`] if there is no such server.
     pub fn results(&self, server: u16) -> Result<&[u64], HouseError>
-        ensures ok { IfOk result (λ results. (server < length (core_of self.now).faces) × (results.now ≡ results_of self.now server)) }
-        ensures error { IfErr result (λ error. (error ≡ HouseError.NoSuchServer) × (length (core_of self.now).faces ≤ server)) }
+        ensures ok { IfOk result (λ results. (server < length (core_of self.now).faces)
+            × (results.now ≡ results_of self.now server)) }
+        ensures error { IfErr result (λ error. (error ≡ HouseError.NoSuchServer)
+            × (length (core_of self.now).faces ≤ server)) }
         // These results, followed by the whole results of the jobs held, are always those of the jobs received. Only
         // the first ones are missing, which were handed out.
-        ensures keeps { IfOk result (λ results. KeepsServer W.meaning (held_at (core_of self.now) server) (received self.now server) (handed_of self.now server) results.now) }
+        ensures keeps { IfOk result (λ results.
+            KeepsServer W.meaning (held_at (core_of self.now) server) (received self.now server)
+            (handed_of self.now server) results.now) }
     {
         match self.collector.results(server) {
             Some(results) => Ok(results),
@@ -46,11 +50,14 @@ impl<W: Work, A: Allocator> House<W, A> {
         ensures ok { IfOk result (λ results. results.items ≡ results_of self.old server) }
         ensures handed { OnOk result (HandsOutResults server self.old self.new) }
         // What is handed out follows the results that were handed out before.
-        ensures front { IfOk result (λ results. IsPrefix results.items (drop (handed_of self.old server) (map (whole W.meaning) (jobs_among (received self.old server))))) }
+        ensures front { IfOk result (λ results.
+            IsPrefix results.items (drop (handed_of self.old server)
+            (map (whole W.meaning) (jobs_among (received self.old server))))) }
         ensures rings { rings_of self.new ≡ rings_of self.old }
         ensures unchanged { OnErr result (SameHouse self.old self.new) }
         ensures known { OnOk result (server < length (core_of self.old).faces) }
-        ensures refused { IfErr result (λ error. ((error ≡ HouseError.NoSuchServer) × (length (core_of self.old).faces ≤ server))
+        ensures refused { IfErr result (λ error. ((error ≡ HouseError.NoSuchServer)
+            × (length (core_of self.old).faces ≤ server))
             ⊎ ((error ≡ HouseError.OutOfMemory) × (server < length (core_of self.old).faces))) }
     {
         match self.collector.take_results(server) {

@@ -41,9 +41,11 @@ impl<W: Work, A: Allocator> Rings<W, A> {
     pub fn take(&mut self, server: u16) -> Message<W>
         requires { 0 < length (known_in self.old server) }
         ensures rings { rings_in self.new ≡ rings_in self.old }
-        ensures received { received_in self.new server ≡ received_in self.old server ++ result ∷ [] }
+        ensures received { received_in self.new server ≡ received_in self.old server
+            ++ result ∷ [] }
         ensures known { known_in self.old server ≡ result ∷ known_in self.new server }
-        ensures others { (s : ℕ) → s ≢ server → (received_in self.new s ≡ received_in self.old s) × (known_in self.new s ≡ known_in self.old s) }
+        ensures others { (s : ℕ) → s ≢ server → (received_in self.new s ≡ received_in self.old s)
+            × (known_in self.new s ≡ known_in self.old s) }
     {
         self.take_at(usize::from(server))
     }
@@ -52,9 +54,11 @@ impl<W: Work, A: Allocator> Rings<W, A> {
     fn take_at(&mut self, server: usize) -> Message<W>
         requires { 0 < length (known_in self.old server) }
         ensures rings { rings_in self.new ≡ rings_in self.old }
-        ensures received { received_in self.new server ≡ received_in self.old server ++ result ∷ [] }
+        ensures received { received_in self.new server ≡ received_in self.old server
+            ++ result ∷ [] }
         ensures known { known_in self.old server ≡ result ∷ known_in self.new server }
-        ensures others { (s : ℕ) → s ≢ server → (received_in self.new s ≡ received_in self.old s) × (known_in self.new s ≡ known_in self.old s) }
+        ensures others { (s : ℕ) → s ≢ server → (received_in self.new s ≡ received_in self.old s)
+            × (known_in self.new s ≡ known_in self.old s) }
     {
         let end = &mut self.ends[server];
         end.pop_known()
@@ -79,9 +83,11 @@ impl<W: Work, A: Allocator> Rings<W, A> {
     pub fn settle(&mut self, client: &mut Client<W, A>) -> usize
         requires { IsOpened (rings_in self.old) client.old }
         ensures looked { Looked self.old self.new }
-        ensures client { SameClient client.old client.new × (sent_by client.new ≡ sent_by client.old) × (free client.old ≤ free client.new) }
+        ensures client { SameClient client.old client.new
+            × (sent_by client.new ≡ sent_by client.old) × (free client.old ≤ free client.new) }
         ensures value { result ≡ length (known_in self.new (server_of client.new)) }
-        ensures lawful { received_in self.new (server_of client.new) ++ known_in self.new (server_of client.new) ≡ sent_by client.new }
+        ensures lawful { received_in self.new (server_of client.new)
+            ++ known_in self.new (server_of client.new) ≡ sent_by client.new }
     {
         let server = usize::from(client.server);
         self.beside(server, &mut client.ring)

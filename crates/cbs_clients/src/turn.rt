@@ -23,7 +23,8 @@ pub struct Polls {
 /// Polls each server once, in the order of their numbers, and passes each result to the gate. Returns what the polls
 /// did.
 pub fn poll_each<G: Gate, W: Work, A: Allocator>(gate: &G, house: &mut House<W, A>) -> Polls
-    ensures polled { PollsEach W.meaning (length (core_of house.old).faces) house.old house.new result.took result.out_of_memory }
+    ensures polled { PollsEach W.meaning (length (core_of house.old).faces) house.old house.new
+        result.took result.out_of_memory }
     ensures results { KeepsResults house.old house.new }
     ensures few { result.took ≤ length (core_of house.old).faces }
     ensures most { result.took ≤ most_servers }

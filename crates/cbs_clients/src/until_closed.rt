@@ -46,7 +46,8 @@ impl<W: Work, A: Allocator> House<W, A> {
         ensures rings { rings_of self.new ≡ rings_of self.old }
         ensures told { Tells S.hears self.old self.new sink.old sink.new }
         ensures finished { OnOk result (AllFinished W.meaning self.new) }
-        ensures stops { IfErr result (λ error. RunStops W.meaning NothingBeyond error self.old self.new) }
+        ensures stops { IfErr result (λ error.
+            RunStops W.meaning NothingBeyond error self.old self.new) }
     {
         self.run_until_closed_metered(rt, sink, &mut NoMeter, idle_turns)
     }
@@ -65,12 +66,14 @@ impl<W: Work, A: Allocator> House<W, A> {
     ) -> Result<(), HouseError>
         ensures ends { RunEnds W.meaning M.may_tell (max idle_turns 1) self.old result self.new }
         ensures steps { ServesBy W.meaning M.may_tell self.old self.new }
-        ensures on_time { NeverCharges M.may_tell → IsHouseOnTime self.old → IsHouseOnTime self.new }
+        ensures on_time { NeverCharges M.may_tell → IsHouseOnTime self.old
+            → IsHouseOnTime self.new }
         ensures paced { IsHousePaced self.old → IsHousePaced self.new }
         ensures rings { rings_of self.new ≡ rings_of self.old }
         ensures told { Tells S.hears self.old self.new sink.old sink.new }
         ensures finished { OnOk result (AllFinished W.meaning self.new) }
-        ensures stops { IfErr result (λ error. RunStops W.meaning M.may_tell error self.old self.new) }
+        ensures stops { IfErr result (λ error.
+            RunStops W.meaning M.may_tell error self.old self.new) }
     {
         let most = idle_turns.max(1);
         let mut unclosed = self.open_servers();
@@ -142,14 +145,18 @@ impl<W: Work, A: Allocator> House<W, A> {
         meter: &mut M,
         unclosed: &mut u16,
     ) -> Result<bool, HouseError>
-        requires unclosed { (unclosed.old ≡ open_servers (core_of self.old)) × (unclosed.old ≤ most_servers) }
+        requires unclosed { (unclosed.old ≡ open_servers (core_of self.old))
+            × (unclosed.old ≤ most_servers) }
         ensures turn { TakesTurnOfRun W.meaning M.may_tell self.old self.new result }
         ensures run { RunsTelling W.meaning M.may_tell S.hears self.old self.new sink.old sink.new }
-        ensures on { ((core_of self.old).clock ≤ (core_of self.new).clock) × (open_servers (core_of self.new) ≤ open_servers (core_of self.old)) }
-        ensures few { OnOk result (((core_of self.new).clock ≤ LIMIT) × (unclosed.new ≤ most_servers)) }
+        ensures on { ((core_of self.old).clock ≤ (core_of self.new).clock)
+            × (open_servers (core_of self.new) ≤ open_servers (core_of self.old)) }
+        ensures few { OnOk result (((core_of self.new).clock ≤ LIMIT)
+            × (unclosed.new ≤ most_servers)) }
         ensures unclosed { OnOk result (unclosed.new ≡ open_servers (core_of self.new)) }
         ensures idle { IfOk result (λ moved. moved ≡ false → HoldsNoJob (core_of self.new)) }
-        ensures stops { IfErr result (λ error. RunStops W.meaning M.may_tell error self.old self.new) }
+        ensures stops { IfErr result (λ error.
+            RunStops W.meaning M.may_tell error self.old self.new) }
     {
         let tick = self.now();
         let turn = self.turn_metered(meter);
@@ -187,7 +194,8 @@ fn tell<S: Sink>(sink: &mut S, ran: Ran)
 
 /// Returns the error that stops a run after this turn, if there is one.
 fn stopped_by(turn: Turn) -> Result<(), HouseError>
-    ensures { MatchResult result (λ _. turn_stop turn ≡ None) (λ error. turn_stop turn ≡ Some error) }
+    ensures { MatchResult result (λ _. turn_stop turn ≡ None) (λ error. turn_stop turn
+        ≡ Some error) }
 {
     if turn.out_of_memory {
         return Err(HouseError::OutOfMemory);

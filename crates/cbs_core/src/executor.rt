@@ -81,10 +81,14 @@ impl<W: Work, A: Allocator + Clone> Core<W, A> {
     /// if an allocation is refused.
     pub fn new(alloc: A, plan: Plan, modes: Modes, backlog: u64) -> Result<Self, CoreError>
         requires { length modes ≡ length plan.rates }
-        ensures start { IfOk result (λ core. Agrees W.meaning core (record { setup = record { servers = terms_of modes plan.rates; backlog = backlog }; steps = [] })) }
+        ensures start { IfOk result (λ core. Agrees W.meaning core
+            (record { setup = record { servers = terms_of modes plan.rates; backlog = backlog };
+            steps = [] })) }
         ensures on_time { IfOk result (λ core. IsCoreOnTime core) }
         ensures paced { IfOk result (λ core. IsCorePaced core) }
-        ensures punctual { OnOk result ((steps : List (Step W)) → IsPunctual W.meaning (record { setup = record { servers = terms_of modes plan.rates; backlog = backlog }; steps = steps })) }
+        ensures punctual { OnOk result ((steps : List (Step W))
+            → IsPunctual W.meaning (record { setup = record { servers = terms_of modes plan.rates;
+            backlog = backlog }; steps = steps })) }
         ensures refusal { RefusesByOrMemory CoreError.OutOfMemory result (new_refusal backlog) }
     {
         Core::of(alloc, &plan, &modes, backlog)
@@ -94,10 +98,14 @@ impl<W: Work, A: Allocator + Clone> Core<W, A> {
     /// kilobyte, which a move would copy.
     pub fn of(alloc: A, plan: &Plan, modes: &Modes, backlog: u64) -> Result<Self, CoreError>
         requires { length modes.now ≡ length plan.now.rates }
-        ensures start { IfOk result (λ core. Agrees W.meaning core (record { setup = record { servers = terms_of modes.now plan.now.rates; backlog = backlog }; steps = [] })) }
+        ensures start { IfOk result (λ core. Agrees W.meaning core
+            (record { setup = record { servers = terms_of modes.now plan.now.rates;
+            backlog = backlog }; steps = [] })) }
         ensures on_time { IfOk result (λ core. IsCoreOnTime core) }
         ensures paced { IfOk result (λ core. IsCorePaced core) }
-        ensures punctual { OnOk result ((steps : List (Step W)) → IsPunctual W.meaning (record { setup = record { servers = terms_of modes.now plan.now.rates; backlog = backlog }; steps = steps })) }
+        ensures punctual { OnOk result ((steps : List (Step W))
+            → IsPunctual W.meaning (record { setup = record
+            { servers = terms_of modes.now plan.now.rates; backlog = backlog }; steps = steps })) }
         ensures refusal { RefusesByOrMemory CoreError.OutOfMemory result (new_refusal backlog) }
     {
         if backlog == 0 || backlog > MAX_BACKLOG {
@@ -127,8 +135,10 @@ impl<W: Work, A: Allocator> Core<W, A> {
     /// Refuses as a submit on that server would, and returns [`CoreError::OutOfMemory`] if an allocation is refused.
     pub fn make_room(&mut self, server: u16) -> Result<(), CoreError>
         ensures answer { (M : History W) → Agrees W.meaning self.old M
-            → RefusesByOrMemory CoreError.OutOfMemory result (submit_refusal M.setup.backlog (faces W.meaning (world_after W.meaning M)) server) }
-        ensures state { (M : History W) → Agrees W.meaning self.old M → Agrees W.meaning self.new M }
+            → RefusesByOrMemory CoreError.OutOfMemory result
+            (submit_refusal M.setup.backlog (faces W.meaning (world_after W.meaning M)) server) }
+        ensures state { (M : History W) → Agrees W.meaning self.old M
+            → Agrees W.meaning self.new M }
         ensures room { OnOk result (HasRoom self.new server) }
         ensures refused { IfErr result (IsRefusedBy self.old server) }
         ensures succeeds { HasRoom self.old server → IsOk result }
@@ -157,11 +167,13 @@ impl<W: Work, A: Allocator> Core<W, A> {
     #[tactic(auto, using(cbs_lists::proofs::Lists::counted, crate::proofs::Cores::budgets_kept))]
     #[inline(always)]
     pub fn submit(&mut self, server: u16, task: Task<W>) -> Result<u64, SubmitRefused<W>>
-        ensures tries { Tries W.meaning self.old self.new (Step.Submit server task) (submitted result) }
+        ensures tries { Tries W.meaning self.old self.new (Step.Submit server task)
+            (submitted result) }
         ensures room { 0 < room_of self.old.rooms server → is_lack (submitted result) ≡ false }
         ensures succeeds { HasRoom self.old server → IsOk result }
 
-        ensures job { IfOk result (λ number. TakesJob task number (held_at self.old server) (held_at self.new server)
+        ensures job { IfOk result (λ number. TakesJob task number (held_at self.old server)
+            (held_at self.new server)
             × OthersSame server self.old self.new) }
         ensures unchanged { OnErr result (self.new ≡ record self.old { rooms = self.new.rooms }) }
         ensures kept { OnErr result (KeepsRoom self.old.rooms self.new.rooms) }
@@ -187,7 +199,8 @@ impl<W: Work, A: Allocator> Core<W, A> {
     #[inline(always)]
     pub fn submit_reserved(&mut self, server: u16, task: Task<W>) -> u64
         requires { HasRoom self.old server }
-        ensures makes { Makes W.meaning self.old self.new (Step.Submit server task) (Reply.Accepted result) }
+        ensures makes { Makes W.meaning self.old self.new (Step.Submit server task)
+            (Reply.Accepted result) }
         ensures job { TakesJob task result (held_at self.old server) (held_at self.new server)
             × OthersSame server self.old self.new }
     {
@@ -265,7 +278,8 @@ impl<W: Work, A: Allocator> Core<W, A> {
     /// A refusal changes nothing.
     #[tactic(auto, using(cbs_lists::proofs::Lists::counted, crate::proofs::Cores::budgets_kept))]
     pub fn charge(&mut self, server: u16, ticks: u64) -> Result<(), CoreError>
-        ensures makes { Makes W.meaning self.old self.new (Step.Charge server ticks) (charged result) }
+        ensures makes { Makes W.meaning self.old self.new (Step.Charge server ticks)
+            (charged result) }
         ensures jobs { AllSame self.old self.new }
         ensures unchanged { OnErr result (self.new ≡ self.old) }
         ensures kept { KeepsRoom self.old.rooms self.new.rooms }
@@ -307,7 +321,8 @@ impl<W: Work, A: Allocator> Core<W, A> {
     #[tactic(auto, using(cbs_lists::proofs::Lists::counted, crate::proofs::Cores::budgets_kept))]
     pub fn close(&mut self, server: u16) -> Result<(), CoreError>
         ensures makes { Makes W.meaning self.old self.new (Step.Close server) (closed result) }
-        ensures closed { OnOk result (ClosesServer (held_at self.old server) (held_at self.new server)
+        ensures closed { OnOk result (ClosesServer (held_at self.old server)
+            (held_at self.new server)
             × OthersSame server self.old self.new) }
         ensures succeeds { IsOpen self.old server → IsOk result }
         ensures unchanged { OnErr result (self.new ≡ self.old) }
@@ -345,7 +360,8 @@ impl<W: Work, A: Allocator> Core<W, A> {
     /// `None` if no server is ready.
     pub fn ready(&self) -> Option<u16>
         ensures chosen { TellsOf W.meaning self.now (λ w. result ≡ chosen W.meaning w) }
-        ensures earliest { TellsOf W.meaning self.now (λ w. IsChoice (ranks (faces W.meaning w)) (length (faces W.meaning w)) result) }
+        ensures earliest { TellsOf W.meaning self.now (λ w.
+            IsChoice (ranks (faces W.meaning w)) (length (faces W.meaning w)) result) }
     {
         self.servers.choose()
     }
@@ -366,7 +382,8 @@ impl<W: Work, A: Allocator> Core<W, A> {
     /// submitted. A caller that waits for submits must not advance by it then. Nothing can run after the clock stands
     /// at its end.
     pub fn idle_span(&self) -> Option<u64>
-        ensures { TellsOf W.meaning self.now (λ w. MatchOption result (¬ IsAtRest W.meaning w) (IsIdleSpan W.meaning w)) }
+        ensures { TellsOf W.meaning self.now (λ w.
+            MatchOption result (¬ IsAtRest W.meaning w) (IsIdleSpan W.meaning w)) }
     {
         self.servers.idle_span(self.clock)
     }
@@ -374,14 +391,19 @@ impl<W: Work, A: Allocator> Core<W, A> {
     /// Returns a server's view, or [`CoreError::NoSuchServer`].
     pub fn view(&self, server: u16) -> Result<ServerView, CoreError>
         ensures held { result ≡ view_reply (slice_get self.now.faces server) }
-        ensures view { TellsOf W.meaning self.now (λ w. result ≡ view_reply (slice_get (faces W.meaning w) server)) }
-        ensures early { TellsOf W.meaning self.now (λ w. IfOk result (λ view. view.deadline ≤ w.now + (w.now + 1) * longest_period)) }
-        ensures budget { TellsOf W.meaning self.now (λ w. OnOk result (IsWithinBudget (face_at (faces W.meaning w) server))) }
+        ensures view { TellsOf W.meaning self.now (λ w. result
+            ≡ view_reply (slice_get (faces W.meaning w) server)) }
+        ensures early { TellsOf W.meaning self.now (λ w.
+            IfOk result (λ view. view.deadline ≤ w.now + (w.now + 1) * longest_period)) }
+        ensures budget { TellsOf W.meaning self.now (λ w.
+            OnOk result (IsWithinBudget (face_at (faces W.meaning w) server))) }
         ensures in_time { TellsOf W.meaning self.now (λ w. IsWorldOnTime W.meaning w
-            → IfOk result (λ view. view.finished < view.accepted → view.throttled ≡ false → w.now < view.deadline)) }
+            → IfOk result (λ view. view.finished < view.accepted → view.throttled ≡ false
+            → w.now < view.deadline)) }
 
         // With charges: late by less than those with later deadlines were charged, the most of each for one unit.
-        ensures late_by { IsCorePaced self.now → TellsOf W.meaning self.now (λ w. IfOk result (λ view.
+        ensures late_by { IsCorePaced self.now
+            → TellsOf W.meaning self.now (λ w. IfOk result (λ view.
             view.finished < view.accepted → view.throttled ≡ false
             → w.now < view.deadline + later_charges view.deadline w.accounts)) }
     {
@@ -392,7 +414,8 @@ impl<W: Work, A: Allocator> Core<W, A> {
     /// runs if it got the last unit and no tick has passed since, except those charged for the unit.
     pub fn running(&self) -> Option<u16>
         ensures held { result ≡ running self.now }
-        ensures running { TellsOf W.meaning self.now (λ w. MatchOption result ((s : ℕ) → (account w.accounts s).runs ≡ false) (λ s. (account w.accounts s).runs ≡ true)) }
+        ensures running { TellsOf W.meaning self.now (λ w. MatchOption result ((s : ℕ)
+            → (account w.accounts s).runs ≡ false) (λ s. (account w.accounts s).runs ≡ true)) }
     {
         self.last.running(self.clock)
     }
@@ -400,7 +423,8 @@ impl<W: Work, A: Allocator> Core<W, A> {
     /// Returns what a server was charged, in total and at most for one unit, or [`CoreError::NoSuchServer`].
     pub fn charges(&self, server: u16) -> Result<Charges, CoreError>
         ensures held { result ≡ charges_reply (slice_get self.now.faces server) }
-        ensures charges { TellsOf W.meaning self.now (λ w. result ≡ charges_reply (slice_get (faces W.meaning w) server)) }
+        ensures charges { TellsOf W.meaning self.now (λ w. result
+            ≡ charges_reply (slice_get (faces W.meaning w) server)) }
     {
         self.servers.charges(server).ok_or(CoreError::NoSuchServer)
     }
@@ -420,8 +444,10 @@ impl<W: Work, A: Allocator> Core<W, A> {
     /// `owed` more units. Then the tick is `d + ceil((owed + o - c) / Q) * T`, or d if c suffices. No later step makes
     /// the tick wrong: it may be given to whoever waits for the job that was submitted last.
     pub fn promised(&self, server: u16) -> Option<u128>
-        ensures value { TellsOf W.meaning self.now (λ w. result ≡ promised W.meaning (account w.accounts server)) }
-        ensures kept { IsCoreOnTime self.now → IfSome result (λ tick. (M : History W) → Agrees W.meaning self.now M → AllFinishedBy W.meaning M server tick) }
+        ensures value { TellsOf W.meaning self.now (λ w. result
+            ≡ promised W.meaning (account w.accounts server)) }
+        ensures kept { IsCoreOnTime self.now → IfSome result (λ tick. (M : History W)
+            → Agrees W.meaning self.now M → AllFinishedBy W.meaning M server tick) }
         ensures kept_charged { IsCorePaced self.now → IfSome result (λ tick. (M : History W)
             → Agrees W.meaning self.now M → AllFinishedLate W.meaning M server tick) }
     {
@@ -452,16 +478,22 @@ impl<W: Work, A: Allocator> Core<W, A> {
     ) -> Result<Vec<Reply<W>, A>, StepsRefused<W, A>>
     where
         A: Clone,
-        ensures tries { IfOk result (λ replies. TriesAll W.meaning self.old self.new steps.items replies.items) }
+        ensures tries { IfOk result (λ replies.
+            TriesAll W.meaning self.old self.new steps.items replies.items) }
 
         // What the replies mean for each server, over the whole list.
-        ensures completions { IfOk result (λ replies. (M : History W) → Agrees W.meaning self.old M → (s : ℕ)
-            → Completes W.meaning (account_in W.meaning M s) (account_in W.meaning (grown_by M steps.items replies.items) s) (completions_of s replies.items)) }
-        ensures closes { IfOk result (λ replies. (M : History W) → Agrees W.meaning self.old M → (s : ℕ)
+        ensures completions { IfOk result (λ replies. (M : History W) → Agrees W.meaning self.old M
+            → (s : ℕ)
+            → Completes W.meaning (account_in W.meaning M s)
+            (account_in W.meaning (grown_by M steps.items replies.items) s)
+            (completions_of s replies.items)) }
+        ensures closes { IfOk result (λ replies. (M : History W) → Agrees W.meaning self.old M
+            → (s : ℕ)
             → NoneAfterClose s (account_in W.meaning M s).closed steps.items replies.items) }
 
         // The laws on time and on a server's share, for every list of steps with which the core then agrees.
-        ensures punctual { OnOk result ((N : History W) → Agrees W.meaning self.new N → IsPunctual W.meaning N) }
+        ensures punctual { OnOk result ((N : History W) → Agrees W.meaning self.new N
+            → IsPunctual W.meaning N) }
         ensures back { IfErr result (λ refused. refused.steps ≡ steps) }
         ensures unchanged { OnErr result (self.new ≡ self.old) }
     {
@@ -484,8 +516,10 @@ impl<W: Work, A: Allocator> Core<W, A> {
     /// [`advance`](Core::advance), [`close`](Core::close) or [`charge`](Core::charge).
     pub fn step(&mut self, step: Step<W>) -> Reply<W>
         ensures tries { Tries W.meaning self.old self.new step result }
-        ensures completes { is_lack result ≡ false → (M : History W) → Agrees W.meaning self.old M → (s : ℕ)
-            → Completes W.meaning (account_in W.meaning M s) (account_in W.meaning (M ⊕ step) s) (completion_of s (completion_in result)) }
+        ensures completes { is_lack result ≡ false → (M : History W) → Agrees W.meaning self.old M
+            → (s : ℕ)
+            → Completes W.meaning (account_in W.meaning M s) (account_in W.meaning (M ⊕ step) s)
+            (completion_of s (completion_in result)) }
     {
         self.make(step)
     }

@@ -196,7 +196,8 @@ impl Server {
         requires some { 0 < self.old.state.budget }
         requires room { self.old.state.deadline ≤ MAX_DEADLINE }
         ensures face { self.new ≡ with_unit done self.old }
-        ensures stays { result ≡ true → (is_ready self.new ≡ true) × (self.new.state.deadline ≡ self.old.state.deadline) }
+        ensures stays { result ≡ true → (is_ready self.new ≡ true)
+            × (self.new.state.deadline ≡ self.old.state.deadline) }
     {
         // The budget is not 0 here, so a tick is left unless it is 1.
         let more = self.state.budget() != 1;
@@ -215,7 +216,8 @@ impl Server {
         requires few { ticks ≤ LIMIT }
         requires free { self.old.terms.mode ≡ Mode.Soft → self.old.state.throttled ≡ false }
         requires begun { 0 < self.old.state.deadline }
-        requires room { self.old.state.deadline + ticks * self.old.terms.reservation.period ≤ MAX_DEADLINE + 1000000000 }
+        requires room { self.old.state.deadline + ticks * self.old.terms.reservation.period ≤
+            MAX_DEADLINE + 1000000000 }
         requires counted { self.old.charges.total + ticks < 2 ^ 64 }
         ensures face { self.new ≡ with_charge ticks for_unit self.old }
         ensures waits { self.old.state.throttled ≡ true → self.new.state.throttled ≡ true }

@@ -86,7 +86,8 @@ impl<A: Allocator> Servers<A> {
     /// Returns for how many ticks no server will be ready, up to the clock's end, or `None` if one is ready now.
     pub fn idle_span(&self, now: u64) -> Option<u64>
         requires { now ≤ LIMIT }
-        ensures { MatchOption result (¬ NoneReady self.now) (λ span. NoneReady self.now × (span ≡ span_of now self.now)) }
+        ensures { MatchOption result (¬ NoneReady self.now) (λ span. NoneReady self.now
+            × (span ≡ span_of now self.now)) }
     {
         if self.choose().is_some() {
             return None;
@@ -128,7 +129,8 @@ impl<A: Allocator> Servers<A> {
     pub fn promised(&self, server: u16, units: u64) -> Option<u128>
         requires within { server < length self.now }
         requires early { (face_at self.now server).state.deadline < 2 ^ 127 }
-        ensures { result ≡ promised_by (face_at self.now server).terms.reservation (face_at self.now server).state units }
+        ensures { result ≡ promised_by (face_at self.now server).terms.reservation
+            (face_at self.now server).state units }
     {
         self.servers[usize::from(server)].promised(units)
     }
@@ -186,7 +188,8 @@ impl<A: Allocator> Servers<A> {
         requires some { 0 < (face_at self.old server).state.budget }
         requires room { (face_at self.old server).state.deadline ≤ MAX_DEADLINE }
         requires clock { now ≤ LIMIT }
-        ensures { self.new ≡ map (with_replenishment now) (changed_at (with_unit done) self.old server) }
+        ensures { self.new ≡ map (with_replenishment now) (changed_at (with_unit done) self.old
+            server) }
     {
         self.use_tick(server, done);
         self.replenish(now);
@@ -230,7 +233,8 @@ impl<A: Allocator> Servers<A> {
         requires within { server < length self.old }
         requires may { MayCharge ticks (face_at self.old server) }
         requires clock { now ≤ LIMIT }
-        ensures { self.new ≡ map (with_replenishment now) (changed_at (with_charge ticks for_unit) self.old server) }
+        ensures { self.new ≡ map (with_replenishment now) (changed_at (with_charge ticks for_unit)
+            self.old server) }
     {
         if self.servers[usize::from(server)].is_throttled() {
             self.charge_throttled(server, ticks, for_unit, now);
@@ -248,7 +252,8 @@ impl<A: Allocator> Servers<A> {
         requires may { MayCharge ticks (face_at self.old server) }
         requires throttled { (face_at self.old server).state.throttled ≡ true }
         requires clock { now ≤ LIMIT }
-        ensures { self.new ≡ map (with_replenishment now) (changed_at (with_charge ticks for_unit) self.old server) }
+        ensures { self.new ≡ map (with_replenishment now) (changed_at (with_charge ticks for_unit)
+            self.old server) }
     {
         self.servers[usize::from(server)].charge(ticks, for_unit);
         self.waits = replenish_all(&mut self.servers, &mut self.ready, now);

@@ -144,7 +144,8 @@ fn charge_house(house: &mut House<UnitJob>, server: u16, ticks: u64) -> Result<(
 /// Charges a server the ticks that its last unit took after its first tick, as [`House::charge_server`] does, and
 /// refuses by the same errors.
 pub fn charge(handle: &mut Handle, server: u16, ticks: u64) -> Result<(), Refusal>
-    ensures { OnHeld (InHouse (ChargesServer server ticks)) (held_by handle.old) result (held_by handle.new) }
+    ensures { OnHeld (InHouse (ChargesServer server ticks)) (held_by handle.old) result
+        (held_by handle.new) }
 {
     charge_house(handle.house_mut()?, server, ticks)
 }
@@ -157,7 +158,8 @@ fn charges_house(house: &mut House<UnitJob>, server: u16) -> Result<Charges, Ref
 
 /// Returns what a server was charged, as [`House::charges`] does.
 pub fn charges(handle: &mut Handle, server: u16) -> Result<Charges, Refusal>
-    ensures { OnHeld (InHouse (ShowsCharges server)) (held_by handle.old) result (held_by handle.new) }
+    ensures { OnHeld (InHouse (ShowsCharges server)) (held_by handle.old) result
+        (held_by handle.new) }
 {
     charges_house(handle.house_mut()?, server)
 }
@@ -243,7 +245,8 @@ fn send_to(client: &mut Client<UnitJob>, token: u64, units: u32) -> Result<u64, 
 ///
 /// What a client sent before its house was freed is lost with the house.
 pub fn send(handle: &mut Handle, token: u64, units: u32) -> Result<u64, Refusal>
-    ensures { OnHeld (InClient (Sends token units)) (held_by handle.old) result (held_by handle.new) }
+    ensures { OnHeld (InClient (Sends token units)) (held_by handle.old) result
+        (held_by handle.new) }
 {
     send_to(handle.client_mut()?, token, units)
 }

@@ -58,7 +58,8 @@ fn open_boxes(
     backlog: u64,
     ring: u64,
 ) -> Result<(Box<Held>, Vec<Box<Held>>), HouseError>
-    ensures ok { IfOk result (λ r. Opens setup.now.modes setup.now.plan.rates backlog ring (Some r.0.value) (map (λ b. Some b.value) r.1.items)) }
+    ensures ok { IfOk result (λ r. Opens setup.now.modes setup.now.plan.rates backlog ring
+        (Some r.0.value) (map (λ b. Some b.value) r.1.items)) }
     ensures refusal { RefusesByOrMemory HouseError.OutOfMemory result (open_refusal backlog ring) }
 {
     let (house, clients) = open_house_of(alloc, setup.plan(), setup.modes(), backlog, ring)?;
@@ -76,7 +77,8 @@ fn box_both(
     clients: Vec<Client<UnitJob>>,
 ) -> Result<(Box<Held>, Vec<Box<Held>>), AllocError>
     ensures house { IfOk result (λ r. r.0.value ≡ held.House house) }
-    ensures clients { IfOk result (λ r. map (λ b. Some b.value) r.1.items ≡ map (λ c. Some (held.Client c)) clients.items) }
+    ensures clients { IfOk result (λ r. map (λ b. Some b.value) r.1.items
+        ≡ map (λ c. Some (held.Client c)) clients.items) }
 {
     let Ok(held) = Box::new(alloc, Held::House(house)) else {
         return Err(AllocError);
@@ -88,7 +90,8 @@ fn box_both(
 /// Returns each client in a box, or the error if an allocation is refused.
 #[inline(never)]
 fn box_all(alloc: Global, clients: Vec<Client<UnitJob>>) -> Result<Vec<Box<Held>>, AllocError>
-    ensures { IfOk result (λ boxes. map (λ b. Some b.value) boxes.items ≡ map (λ c. Some (held.Client c)) clients.items) }
+    ensures { IfOk result (λ boxes. map (λ b. Some b.value) boxes.items
+        ≡ map (λ c. Some (held.Client c)) clients.items) }
 {
     let mut boxes = Vec::with_capacity(alloc, clients.len())?;
     for client in clients {

@@ -27,7 +27,8 @@ pub fn whole_processor() -> Setup
 /// Refuses by the first server that does not fit: by its reservation, then its admission, then its mode. After a
 /// refusal the setup is of no use.
 pub fn take_all(setup: &mut Setup, servers: &[Server]) -> Result<(), Refusal>
-    ensures answer { MatchResult result (λ _. setup_refusal setup.old servers.now ≡ None) (λ error. setup_refusal setup.old servers.now ≡ Some error) }
+    ensures answer { MatchResult result (λ _. setup_refusal setup.old servers.now ≡ None) (λ error.
+        setup_refusal setup.old servers.now ≡ Some error) }
     ensures setup { OnOk result (setup.new ≡ setup_with setup.old servers.now) }
 {
     for server in servers.iter() {
@@ -40,7 +41,8 @@ pub fn take_all(setup: &mut Setup, servers: &[Server]) -> Result<(), Refusal>
 // Not inlined, here and below: a plan takes half a kilobyte of stack, which the caller's frame should not include.
 #[inline(never)]
 pub fn admit(servers: &[Server]) -> Result<(), Refusal>
-    ensures { MatchResult result (λ _. setup_refusal whole_processor servers.now ≡ None) (λ error. setup_refusal whole_processor servers.now ≡ Some error) }
+    ensures { MatchResult result (λ _. setup_refusal whole_processor servers.now ≡ None) (λ error.
+        setup_refusal whole_processor servers.now ≡ Some error) }
 {
     take_all(&mut whole_processor(), servers)
 }
@@ -49,7 +51,8 @@ pub fn admit(servers: &[Server]) -> Result<(), Refusal>
 /// use.
 fn take_in(setup: &mut Setup, server: Server) -> Result<(), Refusal>
     ensures answer { MatchResult result (λ _. server_refusal setup.old.plan server None ≡ None)
-        (λ error. (rest : Option Refusal) → server_refusal setup.old.plan server rest ≡ Some error) }
+        (λ error. (rest : Option Refusal) → server_refusal setup.old.plan server rest
+        ≡ Some error) }
     ensures setup { OnOk result (setup.new ≡ with_server setup.old server) }
 {
     let reservation = match Reservation::new(server.budget, server.period) {
@@ -68,7 +71,8 @@ fn take_in(setup: &mut Setup, server: Server) -> Result<(), Refusal>
 
 /// Returns the mode of this number: 0 soft, 1 throttled. Refuses any other number by [`HandleError::BadMode`].
 pub fn mode_of(mode: u32) -> Result<Mode, Refusal>
-    ensures { MatchResult result (λ found. mode_from mode ≡ Some found) (λ error. (mode_from mode ≡ None) × (error ≡ refused.Handle HandleError.BadMode)) }
+    ensures { MatchResult result (λ found. mode_from mode ≡ Some found) (λ error.
+        (mode_from mode ≡ None) × (error ≡ refused.Handle HandleError.BadMode)) }
 {
     match mode {
         0 => Ok(Mode::Soft),
@@ -84,7 +88,8 @@ pub fn mode_of(mode: u32) -> Result<Mode, Refusal>
 #[inline(never)]
 pub fn greatest_budget(servers: &[Server], period: u64) -> Result<u64, Refusal>
     ensures { MatchResult result
-        (λ budget. (setup_refusal whole_processor servers.now ≡ None) × IsGreatestBudget (setup_with whole_processor servers.now).plan period budget)
+        (λ budget. (setup_refusal whole_processor servers.now ≡ None)
+        × IsGreatestBudget (setup_with whole_processor servers.now).plan period budget)
         (λ error. setup_refusal whole_processor servers.now ≡ Some error) }
 {
     let mut setup = whole_processor();

@@ -31,7 +31,8 @@ pub fn guaranteed(
     delay: u64,
     backlog: u64,
 ) -> Result<u64, NotPromised>
-    ensures { MatchResult result (IsPromised server sources.now delay backlog) (IsReason server sources.now delay backlog) }
+    ensures { MatchResult result (IsPromised server sources.now delay backlog)
+        (IsReason server sources.now delay backlog) }
 {
     if delay > MAX_DELAY {
         return Err(NotPromised::BeyondLimits);
@@ -47,7 +48,8 @@ pub fn guaranteed(
 
 /// Returns the sum of the spans of the sources, or the reason if they ask for more than all the server's time.
 fn spans_of(server: Reservation, sources: &[Source]) -> Result<u64, NotPromised>
-    ensures answer { MatchResult result (λ spans. (spans ≡ all_spans (streams_of server sources.now)) × AreBorne server sources.now)
+    ensures answer { MatchResult result (λ spans.
+        (spans ≡ all_spans (streams_of server sources.now)) × AreBorne server sources.now)
         (λ why. (delay backlog : ℕ) → IsReason server sources.now delay backlog why) }
     ensures short { IfOk result (λ spans. spans ≤ 64 * 1_000_000_000) }
 {
@@ -67,7 +69,8 @@ fn spans_of(server: Reservation, sources: &[Source]) -> Result<u64, NotPromised>
 
 /// Checks that each source has a stream on the server. Returns the reason if one has none.
 fn check_each(server: Reservation, sources: &[Source]) -> Result<(), NotPromised>
-    ensures { MatchResult result (λ _. HaveStreams server sources.now) (λ why. (delay backlog : ℕ) → IsReason server sources.now delay backlog why) }
+    ensures { MatchResult result (λ _. HaveStreams server sources.now) (λ why. (delay backlog : ℕ)
+        → IsReason server sources.now delay backlog why) }
 {
     for source in sources {
         source.stream_on(server)?;
@@ -78,7 +81,8 @@ fn check_each(server: Reservation, sources: &[Source]) -> Result<(), NotPromised
 /// Checks that no unit overruns, or that there is one source whose jobs are finished one at a time. Returns the reason
 /// if neither holds.
 fn check_overruns(sources: &[Source], within: u64) -> Result<(), NotPromised>
-    ensures { MatchResult result (λ _. NoneOverruns sources.now ⊎ IsOneAtATime sources.now within) (IsOverrunReason sources.now within) }
+    ensures { MatchResult result (λ _. NoneOverruns sources.now
+        ⊎ IsOneAtATime sources.now within) (IsOverrunReason sources.now within) }
 {
     if sources.iter().all(|source| source.overrun == 0) {
         return Ok(());

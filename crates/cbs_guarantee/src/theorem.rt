@@ -16,7 +16,8 @@ use cbs_steps::{Step, all_punctual};
 /// counted from when it came. The one premise on the others is that no advance takes anybody's time.
 pub fn all_guaranteed<W: Work>(plan: &Plan, modes: &Modes, backlog: u64)
     requires { length modes.now ≡ length plan.now.rates }
-    ensures { (steps : List (Step W)) → IsGuaranteed W.meaning (history_of modes.now plan.now.rates backlog steps) }
+    ensures { (steps : List (Step W)) → IsGuaranteed W.meaning (history_of modes.now plan.now.rates
+        backlog steps) }
 {
     all_punctual::<W>(plan, modes, backlog);
 }

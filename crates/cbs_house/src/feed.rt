@@ -45,7 +45,9 @@ impl<W: Work, A: Allocator> Feed<W, A> {
 
     /// Returns the client, to be read or settled.
     pub fn client(&mut self) -> &mut Client<W, A>
-        ensures* writes_back { sem 𝓛 (Lends (the_row W.row A.row W.Work A.Allocator) (client_row W.row A.row W.Work A.Allocator) self.entry result (λ c. record self.old { client = c })) }
+        ensures* writes_back { sem 𝓛 (Lends (the_row W.row A.row W.Work A.Allocator)
+            (client_row W.row A.row W.Work A.Allocator) self.entry result (λ c.
+            record self.old { client = c })) }
         ensures value { result.now ≡ client_of self.old }
     {
         &mut self.client
@@ -69,8 +71,10 @@ impl<W: Work, A: Allocator> Feed<W, A> {
     /// sent.
     pub(crate) fn turn<G: Gate>(&mut self, gate: &G) -> bool
         ensures kept { KeepsFeed self.old self.new }
-        ensures count { length (sent_by self.new.client) ≡ length (sent_by self.old.client) + (if result then 1 else 0) }
-        ensures refused { result ≡ false → (has_ended self.new ≡ true) ⊎ (G.may_hold_back gate.now ⊎ HasNoSlot self.new.client) }
+        ensures count { length (sent_by self.new.client)
+            ≡ length (sent_by self.old.client) + (if result then 1 else 0) }
+        ensures refused { result ≡ false → (has_ended self.new ≡ true)
+            ⊎ (G.may_hold_back gate.now ⊎ HasNoSlot self.new.client) }
     {
         if self.client.ended() {
             return false;
@@ -107,8 +111,10 @@ pub fn feeds_of<W: Work, A: Allocator + Copy>(
     lists: Vec<Vec<Task<W>, A>, A>,
 ) -> Result<Vec<Feed<W, A>, A>, FeedsRefused<W, A>>
     requires { length lists.items ≡ length clients.items }
-    ensures clients { MatchResult result (λ feeds. map client_of feeds.items ≡ clients.items) (λ refused. refused.clients ≡ clients) }
-    ensures jobs { MatchResult result (λ feeds. map unsent_jobs feeds.items ≡ map (λ jobs. jobs.items) lists.items) (λ refused. refused.lists ≡ lists) }
+    ensures clients { MatchResult result (λ feeds. map client_of feeds.items
+        ≡ clients.items) (λ refused. refused.clients ≡ clients) }
+    ensures jobs { MatchResult result (λ feeds. map unsent_jobs feeds.items
+        ≡ map (λ jobs. jobs.items) lists.items) (λ refused. refused.lists ≡ lists) }
 {
     let Ok(mut feeds) = Vec::with_capacity(alloc, clients.len()) else {
         return Err(FeedsRefused { clients, lists });

@@ -42,12 +42,17 @@ pub fn open_feeds<W: Work, A: Allocator + Copy>(
 ) -> Result<(House<W, A>, Vec<Feed<W, A>, A>), OpenRefused<W, A>>
     requires modes { length modes ≡ length plan.rates }
     requires lists { length lists.items ≡ length plan.rates }
-    ensures new { IfOk result (λ r. IsNewHouse W.meaning (record { servers = terms_of modes plan.rates; backlog = backlog }) r.0) }
-    ensures servers { IfOk result (λ r. servers_of r.1.items ≡ range_with_len 0 (length plan.rates)) }
+    ensures new { IfOk result (λ r. IsNewHouse W.meaning
+        (record { servers = terms_of modes plan.rates; backlog = backlog }) r.0) }
+    ensures servers { IfOk result (λ r. servers_of r.1.items
+        ≡ range_with_len 0 (length plan.rates)) }
     ensures unused { IfOk result (λ r. All (λ f. IsUnused ring (client_of f)) r.1.items) }
-    ensures jobs { MatchResult result (λ r. map unsent_jobs r.1.items ≡ map (λ jobs. jobs.items) lists.items) (λ refused. refused.lists ≡ lists) }
+    ensures jobs { MatchResult result (λ r. map unsent_jobs r.1.items
+        ≡ map (λ jobs. jobs.items) lists.items) (λ refused. refused.lists ≡ lists) }
     ensures ready { IfOk result (λ r. Ready r.0 r.1.items) }
-    ensures refusal { MatchResult result (λ _. open_refusal backlog ring ≡ None) (λ refused. (open_refusal backlog ring ≡ Some refused.error) ⊎ ((open_refusal backlog ring ≡ None) × (refused.error ≡ HouseError.OutOfMemory))) }
+    ensures refusal { MatchResult result (λ _. open_refusal backlog ring ≡ None) (λ refused.
+        (open_refusal backlog ring ≡ Some refused.error) ⊎ ((open_refusal backlog ring ≡ None)
+        × (refused.error ≡ HouseError.OutOfMemory))) }
 {
     match open_house(alloc, plan, modes, backlog, ring) {
         Ok((house, clients)) => match feeds_of(alloc, clients, lists) {

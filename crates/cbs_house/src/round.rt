@@ -56,7 +56,8 @@ pub fn serve_round<R: Threads + Clock + Sync, G: Gate + Sync, W: Work + Send>(
     ensures each { EachSendsAtMost turns feeds.old feeds.new }
     ensures sent { (all_sent feeds.new ≡ all_sent feeds.old + result.sent)
         × (result.sent ≤ turns * length feeds.old) }
-    ensures took { TakesTurns W.meaning NothingBeyond turns (servers_of feeds.old) house.old house.new result.took }
+    ensures took { TakesTurns W.meaning NothingBeyond turns (servers_of feeds.old) house.old
+        house.new result.took }
     ensures on_time { IsHouseOnTime house.old → IsHouseOnTime house.new }
     ensures paced { IsHousePaced house.old → IsHousePaced house.new }
     ensures few { result.took ≤ turns * length (core_of house.old).faces }
@@ -85,7 +86,8 @@ pub fn serve_round_metered<R: Threads + Clock + Sync, G: Gate + Sync, W: Work + 
     ensures each { EachSendsAtMost turns feeds.old feeds.new }
     ensures sent { (all_sent feeds.new ≡ all_sent feeds.old + result.sent)
         × (result.sent ≤ turns * length feeds.old) }
-    ensures took { TakesTurns W.meaning M.may_tell turns (servers_of feeds.old) house.old house.new result.took }
+    ensures took { TakesTurns W.meaning M.may_tell turns (servers_of feeds.old) house.old house.new
+        result.took }
     ensures on_time { NeverCharges M.may_tell → IsHouseOnTime house.old → IsHouseOnTime house.new }
     ensures paced { IsHousePaced house.old → IsHousePaced house.new }
     ensures few { result.took ≤ turns * length (core_of house.old).faces }
@@ -131,12 +133,16 @@ fn both_sides<R: Threads + Clock + Sync, G: Gate + Sync, W: Work + Send, M: Mete
     join_mut(
         rt,
         &mut || -> u64
-            requires { IsSync R.row × IsSync G.row × IsSend W.row × (length feeds.now ≤ most_servers) × (turns ≤ 1000000000) }
-            ensures { SendsFeeds turns feeds.entry.now feeds.exit.now × (all_sent feeds.exit.now ≡ all_sent feeds.entry.now + result) × (result ≤ turns * length feeds.entry.now) }
+            requires { IsSync R.row × IsSync G.row × IsSend W.row
+                × (length feeds.now ≤ most_servers) × (turns ≤ 1000000000) }
+            ensures { SendsFeeds turns feeds.entry.now feeds.exit.now
+                × (all_sent feeds.exit.now ≡ all_sent feeds.entry.now + result)
+                × (result ≤ turns * length feeds.entry.now) }
         { send_all(rt, gate, turns, at_work, feeds) },
         &mut || -> u64
             requires { turns ≤ 1000000000 }
-            ensures { TakesTurns W.meaning M.may_tell turns wanted.entry.now house.entry.now house.exit.now result × (result ≤ turns * length (core_of house.entry.now).faces) }
+            ensures { TakesTurns W.meaning M.may_tell turns wanted.entry.now house.entry.now
+                house.exit.now result × (result ≤ turns * length (core_of house.entry.now).faces) }
         {
             let took = house_turns(rt, gate, turns, wanted, at_work, house, meter);
             at_work.house_leaves();

@@ -83,21 +83,29 @@ fn send_both<R: Threads + Clock + Sync, G: Gate + Sync, W: Work + Send>(
     front: &mut [Feed<W>],
     back: &mut [Feed<W>],
 ) -> (u64, u64)
-    requires few { (length front.old + length back.old ≤ most_servers) × (0 < length front.old) × (0 < length back.old) }
+    requires few { (length front.old + length back.old ≤ most_servers) × (0 < length front.old)
+        × (0 < length back.old) }
     requires turns { turns ≤ 1000000000 }
     ensures sends { SendsFeeds turns front.old front.new × SendsFeeds turns back.old back.new }
-    ensures count { (all_sent front.new ≡ all_sent front.old + result.0) × (all_sent back.new ≡ all_sent back.old + result.1) }
+    ensures count { (all_sent front.new ≡ all_sent front.old + result.0)
+        × (all_sent back.new ≡ all_sent back.old + result.1) }
     ensures most { (result.0 ≤ turns * length front.old) × (result.1 ≤ turns * length back.old) }
 {
     join_mut(
         rt,
         &mut || -> u64
-            requires { IsSync R.row × IsSync G.row × IsSend W.row × (length front.now ≤ most_servers) × (turns ≤ 1000000000) }
-            ensures { SendsFeeds turns front.entry.now front.exit.now × (all_sent front.exit.now ≡ all_sent front.entry.now + result) × (result ≤ turns * length front.entry.now) }
+            requires { IsSync R.row × IsSync G.row × IsSend W.row
+                × (length front.now ≤ most_servers) × (turns ≤ 1000000000) }
+            ensures { SendsFeeds turns front.entry.now front.exit.now
+                × (all_sent front.exit.now ≡ all_sent front.entry.now + result)
+                × (result ≤ turns * length front.entry.now) }
         { send_all(rt, gate, turns, at_work, front) },
         &mut || -> u64
-            requires { IsSync R.row × IsSync G.row × IsSend W.row × (length back.now ≤ most_servers) × (turns ≤ 1000000000) }
-            ensures { SendsFeeds turns back.entry.now back.exit.now × (all_sent back.exit.now ≡ all_sent back.entry.now + result) × (result ≤ turns * length back.entry.now) }
+            requires { IsSync R.row × IsSync G.row × IsSend W.row × (length back.now ≤ most_servers)
+                × (turns ≤ 1000000000) }
+            ensures { SendsFeeds turns back.entry.now back.exit.now
+                × (all_sent back.exit.now ≡ all_sent back.entry.now + result)
+                × (result ≤ turns * length back.entry.now) }
         { send_all(rt, gate, turns, at_work, back) },
     )
 }

@@ -53,7 +53,8 @@ pub fn serve<R: Threads + Clock + Sync, G: Gate + Sync, W: Work + Send>(
     ensures served { OnOk result (All (IsServed W.meaning house.new) feeds.new) }
     ensures drained { OnOk result (HoldsNoJob (core_of house.new)) }
     ensures received { All (ReceivesFirst house.new) feeds.new }
-    ensures stops { IfErr result (Stops W.meaning NothingBeyond house.old feeds.old house.new feeds.new) }
+    ensures stops { IfErr result (Stops W.meaning NothingBeyond house.old feeds.old house.new
+        feeds.new) }
 {
     serve_metered(rt, house, feeds, gate, &mut NoMeter)
 }
@@ -80,7 +81,8 @@ pub fn serve_metered<R: Threads + Clock + Sync, G: Gate + Sync, W: Work + Send, 
     ensures served { OnOk result (All (IsServed W.meaning house.new) feeds.new) }
     ensures drained { OnOk result (HoldsNoJob (core_of house.new)) }
     ensures received { All (ReceivesFirst house.new) feeds.new }
-    ensures stops { IfErr result (Stops W.meaning M.may_tell house.old feeds.old house.new feeds.new) }
+    ensures stops { IfErr result (Stops W.meaning M.may_tell house.old feeds.old house.new
+        feeds.new) }
 {
     for _ in 0..rounds_for(feeds) {
         serve_round_metered(rt, house, feeds, TURNS, gate, meter);
@@ -194,7 +196,8 @@ fn take_message<W: Work, M: Meter>(
 ) -> Result<(), HouseError>
     requires opened { IsOpened (rings_of house.old) client.now }
     ensures steps { ServesBy W.meaning M.may_tell house.old house.new }
-    ensures taken { OnOk result ((n : ℕ) → Standing house.old client.now (suc n) → Standing house.new client.now n) }
+    ensures taken { OnOk result ((n : ℕ) → Standing house.old client.now (suc n)
+        → Standing house.new client.now n) }
     ensures halts { IfErr result (λ error. Halts error house.new) }
 {
     let server = client.server();
@@ -209,7 +212,8 @@ fn take_message<W: Work, M: Meter>(
 
 /// Returns [`HouseError::OutOfMemory`] if the poll found no memory, else `Ok`.
 fn memory_for(poll: Poll) -> Result<(), HouseError>
-    ensures { MatchResult result (λ _. poll ≢ Poll.OutOfMemory) (λ error. error ≡ HouseError.OutOfMemory) }
+    ensures { MatchResult result (λ _. poll ≢ Poll.OutOfMemory) (λ error. error
+        ≡ HouseError.OutOfMemory) }
 {
     match poll {
         Poll::OutOfMemory => Err(HouseError::OutOfMemory),

@@ -77,7 +77,8 @@ impl<W: Work> Task<W> {
     pub fn new(work: W) -> Result<Task<W>, TaskRefused<W>>
         ensures ok { IfOk result (λ task. task ≡ work) }
         ensures back { IfErr result (λ refused. refused.work ≡ work) }
-        ensures refusal { HandsBackBy (λ refused. refused.error) result (task_refusal (W.meaning.left work)) }
+        ensures refusal { HandsBackBy (λ refused.
+            refused.error) result (task_refusal (W.meaning.left work)) }
     {
         let left = work.left();
         if left == 0 {

@@ -50,7 +50,8 @@ impl<T> Node<T> {
 
     /// Returns the value, to be changed in place.
     fn value_mut(&mut self) -> &mut T
-        ensures* lends { sem 𝓛 (Lends (the_row T.row) T.row self.entry result (λ w. record { value = w; next = self.old.next })) }
+        ensures* lends { sem 𝓛 (Lends (the_row T.row) T.row self.entry result (λ w.
+            record { value = w; next = self.old.next })) }
         ensures value { result.now ≡ self.old.value }
     {
         &mut self.value
@@ -96,7 +97,8 @@ impl<T: Drop, A: Allocator> Chains<T, A> {
     pub fn push(&mut self, server: u16, value: T)
         requires within { server < length self.old.lists }
         requires room { 0 < room_of self.old.rooms server }
-        ensures lists { self.new.lists ≡ changed_at (λ values. values ++ value ∷ []) self.old.lists server }
+        ensures lists { self.new.lists ≡ changed_at (λ values. values
+            ++ value ∷ []) self.old.lists server }
     {
         // No list has more values than the slab's capacity, which fits a usize.
         let _capacity = self.nodes.capacity();
@@ -108,7 +110,8 @@ impl<T: Drop, A: Allocator> Chains<T, A> {
     /// Takes the first value out of a server's list, which must not be empty, and returns it.
     pub fn pop(&mut self, server: u16) -> T
         requires some { 0 < length (list_at self.old.lists server) }
-        ensures value { list_at self.old.lists server ≡ result ∷ drop 1 (list_at self.old.lists server) }
+        ensures value { list_at self.old.lists server
+            ≡ result ∷ drop 1 (list_at self.old.lists server) }
         ensures lists { self.new.lists ≡ changed_at (drop 1) self.old.lists server }
         ensures kept { KeepsRoom self.old.rooms self.new.rooms }
     {
@@ -134,8 +137,10 @@ impl<T: Drop, A: Allocator> Chains<T, A> {
     /// Returns the first value of a server's list, which must not be empty, to be changed in place.
     pub fn first_mut(&mut self, server: u16) -> &mut T
         requires some { 0 < length (list_at self.old.lists server) }
-        ensures* writes_back { sem 𝓛 (lends_first T.row A.row A.Allocator self.entry server result) }
-        ensures value { list_at self.old.lists server ≡ result.now ∷ drop 1 (list_at self.old.lists server) }
+        ensures* writes_back { sem 𝓛 (lends_first T.row A.row A.Allocator self.entry server
+            result) }
+        ensures value { list_at self.old.lists server
+            ≡ result.now ∷ drop 1 (list_at self.old.lists server) }
     {
         let head = self.ends[usize::from(server)].head;
         self.nodes[head].value_mut()

@@ -101,7 +101,8 @@ impl<W: Work, A: Allocator> Queues<W, A> {
         requires within { server < length self.old.lists }
         requires room { 0 < room_of self.old.rooms server }
         requires few { length (list_at self.old.lists server) < most_backlog }
-        ensures lists { self.new.lists ≡ changed_at (λ jobs. jobs ++ task ∷ []) self.old.lists server }
+        ensures lists { self.new.lists ≡ changed_at (λ jobs. jobs
+            ++ task ∷ []) self.old.lists server }
         ensures some { 0 < W.meaning.left task }
     {
         let units = u64::from(task.left());
@@ -117,7 +118,8 @@ impl<W: Work, A: Allocator> Queues<W, A> {
     #[inline(always)]
     pub fn run_first(&mut self, server: u16) -> Option<u64>
         requires some { 0 < length (list_at self.old.lists server) }
-        requires unfinished { AllByRecursion (λ w. 0 < W.meaning.left w) (list_at self.old.lists server) }
+        requires unfinished { AllByRecursion (λ w.
+            0 < W.meaning.left w) (list_at self.old.lists server) }
         ensures lists { self.new.lists ≡ changed_at (jobs_run W.meaning) self.old.lists server }
         ensures result { result ≡ result_run W.meaning (list_at self.old.lists server) }
         ensures kept { KeepsRoom self.old.rooms self.new.rooms }

@@ -106,8 +106,10 @@ impl Plan {
     ///
     /// The sum is exact: nothing is rounded. A refusal leaves the plan unchanged.
     pub fn admit(&mut self, reservation: Reservation) -> Result<u16, AdmitError>
-        ensures answer { AnswersBy result (admit_refusal self.old reservation) (length self.old.rates) }
-        ensures ok { OnOk result (self.new ≡ record self.old { rates = self.old.rates ++ reservation ∷ [] }) }
+        ensures answer { AnswersBy result (admit_refusal self.old reservation)
+            (length self.old.rates) }
+        ensures ok { OnOk result (self.new ≡ record self.old { rates = self.old.rates
+            ++ reservation ∷ [] }) }
         ensures err { OnErr result (self.new ≡ self.old) }
         ensures lawful { IsPlan self.new }
 
@@ -169,9 +171,11 @@ impl Plan {
     /// Returns the sums with one more server, or why the plan does not admit it.
     fn sums_with(&self, reservation: Reservation) -> Result<Sums, AdmitError>
         ensures answer { MatchResult result
-            (λ sums. (admit_refusal self.now reservation ≡ None) × AreSums (with_rate self.now reservation) sums.common sums.taken)
+            (λ sums. (admit_refusal self.now reservation ≡ None)
+            × AreSums (with_rate self.now reservation) sums.common sums.taken)
             (λ error. admit_refusal self.now reservation ≡ Some error) }
-        ensures least { IsLeastCommonMultiple (common_multiple (with_rate self.now reservation).rates) (with_rate self.now reservation).rates }
+        ensures least { IsLeastCommonMultiple (common_multiple
+            (with_rate self.now reservation).rates) (with_rate self.now reservation).rates }
     {
         let period = reservation.period();
         if self.rates.is_full() {

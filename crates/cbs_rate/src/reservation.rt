@@ -39,7 +39,8 @@ impl Reservation {
     /// Refuses, in this order: [`RateError::ZeroBudget`] if the budget is 0; [`RateError::PeriodTooLong`] if the period
     /// is over [`MAX_PERIOD`]; [`RateError::BudgetOverPeriod`] if the budget is over the period.
     pub fn new(budget: u64, period: u64) -> Result<Reservation, RateError>
-        ensures { AnswersBy result (rate_refusal budget period) (record { budget = budget; period = period }) }
+        ensures { AnswersBy result (rate_refusal budget period) (record { budget = budget;
+            period = period }) }
     {
         if budget == 0 {
             return Err(RateError::ZeroBudget);
@@ -75,7 +76,8 @@ impl Reservation {
     /// Returns whether this bandwidth, the budget over the period, is at most that of `other`, exactly. This budget
     /// times the other's period is compared with the other's budget times this period.
     pub fn at_most(&self, other: &Reservation) -> bool
-        ensures { IsTrue result ↔ (self.now.budget * other.now.period ≤ other.now.budget * self.now.period) }
+        ensures { IsTrue result ↔ (self.now.budget * other.now.period ≤ other.now.budget *
+            self.now.period) }
     {
         u128::from(self.budget) * u128::from(other.period)
             <= u128::from(other.budget) * u128::from(self.period)

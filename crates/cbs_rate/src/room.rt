@@ -27,7 +27,8 @@ impl Plan {
     /// Returns the total bandwidth that all servers and one more with this reservation would have, whether or not the
     /// plan admits it.
     pub fn total_with(&self, reservation: Reservation) -> Ratio
-        ensures exact { IsBandwidth (with_rate self.now reservation).rates result.part result.whole }
+        ensures exact { IsBandwidth (with_rate self.now reservation).rates result.part
+            result.whole }
         ensures whole { result.whole ≡ common_multiple self.now.rates * reservation.period }
         ensures at_most_two { result.part ≤ 2 * result.whole }
         ensures lawful { IsPlan self.now }

@@ -86,7 +86,8 @@ impl<A: Allocator> Entries<A> {
     /// Gives the first entry another deadline.
     pub fn postpone_first(&mut self, deadline: u128)
         requires { 0 < length self.old }
-        ensures { (s : ℕ) → first_of self.old ≡ Some s → self.new ≡ (record { deadline = deadline; server = s }) ∷ drop 1 self.old }
+        ensures { (s : ℕ) → first_of self.old ≡ Some s
+            → self.new ≡ (record { deadline = deadline; server = s }) ∷ drop 1 self.old }
     {
         self.slots[self.first].deadline = deadline;
     }

@@ -119,7 +119,8 @@ impl<A: Allocator> ReadyList<A> {
         requires { 0 < length self.old }
         ensures ordered { IsOrdered self.new }
         ensures gone { (s : ℕ) → first_of self.old ≡ Some s → listed self.new s ≡ None }
-        ensures others { (t : ℕ) → first_of self.old ≢ Some t → listed self.new t ≡ listed self.old t }
+        ensures others { (t : ℕ) → first_of self.old ≢ Some t → listed self.new t
+            ≡ listed self.old t }
     {
         self.entries.remove_first();
     }

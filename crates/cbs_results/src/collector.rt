@@ -52,7 +52,8 @@ impl<A: Allocator> Collector<A> {
         ensures same { AllShelvesSame self.old self.new × (length self.new ≡ length self.old) }
         ensures room { OnOk result (0 < (shelf_at self.new server).spare) }
         ensures refusal { MatchResult result (λ _. server < length self.old)
-            (λ e. ((e ≡ CollectError.Stranger) × (length self.old ≤ server)) ⊎ ((e ≡ CollectError.OutOfMemory) × (server < length self.old))) }
+            (λ e. ((e ≡ CollectError.Stranger) × (length self.old ≤ server))
+            ⊎ ((e ≡ CollectError.OutOfMemory) × (server < length self.old))) }
         ensures succeeds { 0 < (shelf_at self.old server).spare → IsOk result }
     {
         let index = usize::from(server);
@@ -83,10 +84,12 @@ impl<A: Allocator> Collector<A> {
     /// an allocation is refused, or 2^64 - 1 completions are announced. After a refusal nothing is announced.
     pub fn expect(&mut self, server: u16) -> Result<(), CollectError>
         ensures ok { OnOk result (Announces (shelf_at self.old server) (shelf_at self.new server)) }
-        ensures others { OtherShelvesSame server self.old self.new × (length self.new ≡ length self.old) }
+        ensures others { OtherShelvesSame server self.old self.new
+            × (length self.new ≡ length self.old) }
         ensures refused { OnErr result (AllShelvesSame self.old self.new) }
         ensures refusal { MatchResult result (λ _. server < length self.old)
-            (λ e. ((e ≡ CollectError.Stranger) × (length self.old ≤ server)) ⊎ ((e ≡ CollectError.OutOfMemory) × (server < length self.old))) }
+            (λ e. ((e ≡ CollectError.Stranger) × (length self.old ≤ server))
+            ⊎ ((e ≡ CollectError.OutOfMemory) × (server < length self.old))) }
         ensures succeeds { 0 < (shelf_at self.old server).spare → IsOk result }
     {
         let index = usize::from(server);
@@ -107,7 +110,8 @@ impl<A: Allocator> Collector<A> {
         requires within { server < length self.old }
         requires spare { 0 < (shelf_at self.old server).spare }
         ensures announced { Announces (shelf_at self.old server) (shelf_at self.new server) }
-        ensures others { OtherShelvesSame server self.old self.new × (length self.new ≡ length self.old) }
+        ensures others { OtherShelvesSame server self.old self.new
+            × (length self.new ≡ length self.old) }
     {
         let shelf = &mut self.shelves[usize::from(server)];
         shelf.expect_reserved();
@@ -120,10 +124,13 @@ impl<A: Allocator> Collector<A> {
     /// completion was not announced. A refusal changes nothing.
     pub fn take(&mut self, done: Completion) -> Result<(), CollectError>
         ensures exact { IsOk result ↔ IsNext self.old done }
-        ensures ok { OnOk result (TakesResult done.result (shelf_at self.old done.server) (shelf_at self.new done.server)) }
-        ensures others { OtherShelvesSame done.server self.old self.new × (length self.new ≡ length self.old) }
+        ensures ok { OnOk result (TakesResult done.result (shelf_at self.old done.server)
+            (shelf_at self.new done.server)) }
+        ensures others { OtherShelvesSame done.server self.old self.new
+            × (length self.new ≡ length self.old) }
         ensures refused { OnErr result (self.new ≡ self.old) }
-        ensures refusal { MatchResult result (λ _. take_refusal self.old done ≡ None) (λ e. take_refusal self.old done ≡ Some e) }
+        ensures refusal { MatchResult result (λ _. take_refusal self.old done ≡ None) (λ e.
+            take_refusal self.old done ≡ Some e) }
     {
         let index = usize::from(done.server);
         if index >= self.shelves.len() {
@@ -139,8 +146,10 @@ impl<A: Allocator> Collector<A> {
     /// Takes the next completion of a server, which must have been announced.
     pub fn take_expected(&mut self, done: Completion)
         requires { IsNext self.old done }
-        ensures taken { TakesResult done.result (shelf_at self.old done.server) (shelf_at self.new done.server) }
-        ensures others { OtherShelvesSame done.server self.old self.new × (length self.new ≡ length self.old) }
+        ensures taken { TakesResult done.result (shelf_at self.old done.server)
+            (shelf_at self.new done.server) }
+        ensures others { OtherShelvesSame done.server self.old self.new
+            × (length self.new ≡ length self.old) }
     {
         let shelf = &mut self.shelves[usize::from(done.server)];
         shelf.take(done.result);
@@ -169,11 +178,14 @@ impl<A: Allocator> Collector<A> {
     where
         A: Clone,
         ensures ok { IfOk result (λ results. results.items ≡ (shelf_at self.old server).results) }
-        ensures handed { OnOk result (HandsOut (shelf_at self.old server) (shelf_at self.new server)) }
-        ensures others { OtherShelvesSame server self.old self.new × (length self.new ≡ length self.old) }
+        ensures handed { OnOk result (HandsOut (shelf_at self.old server)
+            (shelf_at self.new server)) }
+        ensures others { OtherShelvesSame server self.old self.new
+            × (length self.new ≡ length self.old) }
         ensures refused { OnErr result (self.new ≡ self.old) }
         ensures refusal { MatchResult result (λ _. server < length self.old)
-            (λ e. ((e ≡ CollectError.Stranger) × (length self.old ≤ server)) ⊎ ((e ≡ CollectError.OutOfMemory) × (server < length self.old))) }
+            (λ e. ((e ≡ CollectError.Stranger) × (length self.old ≤ server))
+            ⊎ ((e ≡ CollectError.OutOfMemory) × (server < length self.old))) }
     {
         let index = usize::from(server);
         if index >= self.shelves.len() {
@@ -190,7 +202,8 @@ impl<A: Allocator> Collector<A> {
     /// taken.
     pub fn discard(&mut self, server: u16)
         ensures discarded { HandsOut (shelf_at self.old server) (shelf_at self.new server) }
-        ensures others { OtherShelvesSame server self.old self.new × (length self.new ≡ length self.old) }
+        ensures others { OtherShelvesSame server self.old self.new
+            × (length self.new ≡ length self.old) }
     {
         if let Some(shelf) = self.shelves.get_mut(usize::from(server)) {
             shelf.discard();
@@ -199,7 +212,8 @@ impl<A: Allocator> Collector<A> {
 
     /// Returns the results of a server that are kept, in order, or `None` if there is no such server.
     pub fn results(&self, server: u16) -> Option<&[u64]>
-        ensures { MatchOption result (length self.now ≤ server) (λ r. (server < length self.now) × (r.now ≡ (shelf_at self.now server).results)) }
+        ensures { MatchOption result (length self.now ≤ server) (λ r. (server < length self.now)
+            × (r.now ≡ (shelf_at self.now server).results)) }
     {
         match self.shelves.get(usize::from(server)) {
             Some(shelf) => Some(shelf.results()),

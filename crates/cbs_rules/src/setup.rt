@@ -44,7 +44,8 @@ impl Setup {
     /// Refuses as [`Plan::admit`] does, by the same errors in the same order: the mode refuses nothing. A refusal
     /// leaves the setup unchanged.
     pub fn admit(&mut self, reservation: Reservation, mode: Mode) -> Result<u16, AdmitError>
-        ensures answer { AnswersBy result (admit_refusal self.old.plan reservation) (length self.old.plan.rates) }
+        ensures answer { AnswersBy result (admit_refusal self.old.plan reservation)
+            (length self.old.plan.rates) }
         ensures ok { OnOk result (self.new ≡ with_server self.old reservation mode) }
         ensures err { OnErr result (self.new ≡ self.old) }
         ensures lawful { IsPlan self.new.plan }

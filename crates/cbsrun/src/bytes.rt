@@ -2,7 +2,7 @@
 
 ghost use Rattle.std.specs.Prelude.{◌-◌, ◌<◌, ◌^◌};
 
-use cbs_run::{ByteOutput, FromRead, ReadError, read_all, write_pieces};
+use cbsrun_commands::{ByteOutput, FromRead, ReadError, read_all, write_pieces};
 use std::alloc::{AllocError, Global};
 use std::fs::File;
 use std::{fs, io};

@@ -8,9 +8,9 @@ ghost use Rattle.std.specs.Prelude.{◌-◌, ◌<◌, ◌^◌};
 
 use crate::bytes::{bytes_of, write_reason};
 use crate::progress::Teller;
-use cbs_file::MEMORY;
-use cbs_paint::Painted;
-use cbs_run::{
+use cbsrun_tasks::MEMORY;
+use cbsrun_paint::Painted;
+use cbsrun_commands::{
     Action, Asked, BAD_FILE, ByteOutput, DONE, Form, MEMORY_VARIABLE, Progress, RUN_FAULT,
     RunError, ToWrite, WRONG_WORDS, WordsFault, check_bytes_within, draw_load_within,
     draw_tasks_within, memory_bound, read_words, report_bytes_within, run_bytes_within,

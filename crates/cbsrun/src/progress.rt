@@ -1,6 +1,6 @@
 //! Reports on a terminal of how far a long run is.
 
-use cbs_run::Progress;
+use cbsrun_commands::Progress;
 use std::io::IsTerminal;
 use std::time::{Clock, Duration};
 

@@ -12,7 +12,8 @@ use cbs_rules::{Mode, ServerState, Setup};
 /// Returns a new server after a job came to it at tick `now` and it used one tick.
 pub fn after_a_unit(mode: Mode, reservation: Reservation, now: u64) -> ServerState
     requires { now ≤ clock_end }
-    ensures { result ≡ record { reservation = reservation; state = after_unit mode reservation (after_arrival mode reservation now fresh_state) } }
+    ensures { result ≡ record { reservation = reservation;
+        state = after_unit mode reservation (after_arrival mode reservation now fresh_state) } }
 {
     let mut server = ServerState::fresh(reservation);
     server.arrive_idle(mode, now);
@@ -22,7 +23,8 @@ pub fn after_a_unit(mode: Mode, reservation: Reservation, now: u64) -> ServerSta
 
 /// Returns a setup of one server, or why the server is not admitted.
 pub fn setup_of_one(bound: Bound, reservation: Reservation, mode: Mode) -> Result<Setup, AdmitError>
-    ensures { AnswersBy result (admit_refusal (record { bound = bound; rates = [] }) reservation) (with_server (no_servers bound) reservation mode) }
+    ensures { AnswersBy result (admit_refusal (record { bound = bound; rates = [] }) reservation)
+        (with_server (no_servers bound) reservation mode) }
 {
     let mut setup = Setup::new(bound);
     setup.admit(reservation, mode)?;

@@ -28,7 +28,8 @@ pub fn promised_after_turns<W: Work>(
     turns: u64,
 ) -> Result<(House<W>, Option<u128>), HouseError>
     requires { length modes ≡ length plan.rates }
-    ensures { IfOk result (λ r. IfSome r.1 (λ tick. (M : History W) → Agrees W.meaning (core_of r.0) M → AllFinishedBy W.meaning M 0 tick)) }
+    ensures { IfOk result (λ r. IfSome r.1 (λ tick. (M : History W)
+        → Agrees W.meaning (core_of r.0) M → AllFinishedBy W.meaning M 0 tick)) }
 {
     let (mut house, _clients) = open_house(alloc, plan, modes, 4, 4)?;
     for _ in 0..turns {
@@ -73,7 +74,8 @@ pub fn told_after_turns(
     turns: u64,
 ) -> Result<Option<u128>, Refusal>
     ensures { IfOk result (λ told. (h : TheHouse) → held_by house.new ≡ Some (held.House h)
-        → IfSome told (λ tick. (M : History job.UnitJob) → Agrees counting (core_of h) M → AllFinishedBy counting M 0 tick)) }
+        → IfSome told (λ tick. (M : History job.UnitJob) → Agrees counting (core_of h) M
+        → AllFinishedBy counting M 0 tick)) }
 {
     open(alloc, servers, 4, 4, house, clients)?;
     for _ in 0..turns {
@@ -93,7 +95,8 @@ pub fn told_after_charge(
     ticks: u64,
 ) -> Result<Option<u128>, Refusal>
     ensures { IfOk result (λ told. (h : TheHouse) → held_by house.new ≡ Some (held.House h)
-        → IfSome told (λ tick. (M : History job.UnitJob) → Agrees counting (core_of h) M → AllFinishedLate counting M 0 tick)) }
+        → IfSome told (λ tick. (M : History job.UnitJob) → Agrees counting (core_of h) M
+        → AllFinishedLate counting M 0 tick)) }
 {
     open(alloc, servers, 4, 4, house, clients)?;
     for _ in 0..turns {

@@ -63,8 +63,10 @@ pub fn last_settled<W: Work>(
     modes: Modes,
 ) -> Result<Option<(House<W>, Client<W>, u64)>, HouseError>
     requires { length modes ≡ length plan.rates }
-    ensures standing { IfOk result (λ last. IfSome last (λ r. r.2 ≡ length (known r.0 (server_of r.1)))) }
-    ensures lawful { IfOk result (λ last. IfSome last (λ r. sent_by r.1 ≡ received r.0 (server_of r.1) ++ known r.0 (server_of r.1))) }
+    ensures standing { IfOk result (λ last. IfSome last (λ r. r.2
+        ≡ length (known r.0 (server_of r.1)))) }
+    ensures lawful { IfOk result (λ last. IfSome last (λ r. sent_by r.1
+        ≡ received r.0 (server_of r.1) ++ known r.0 (server_of r.1))) }
 {
     let (mut house, mut clients) = open_house::<W, Global>(alloc, plan, modes, 4, 4)?;
     let Some(mut client) = clients.pop() else {

@@ -1,8 +1,0 @@
-use Rattle.std.proofs.Common.{rules}
-use Rattle.cbs_bytes.proofs.pending.Pending.flush.Goals as goal
-
-pub returns-in_err-write_text-clause-err : goal.returns-in_err-write_text-clause-err
-returns-in_err-write_text-clause-err g c = search rules
-
-pub returns-clause-ok : goal.returns-clause-ok
-returns-clause-ok g c = search rules

@@ -1,7 +1,0 @@
-use Rattle.std.proofs.Common.{◌≡◌, take}
-use Rattle.cbs_chart.specs.Jobs.{completions}
-use Rattle.cbs_chart.proofs.jobs.completions_of.Given as goal
-
--- the ends of the first jobs
-abbrev pub invariant-loop-job : goal.invariant-loop-job
-invariant-loop-job l = l.ticks.items ≡ completions l.window (take l.job-index l.jobs)

@@ -1,6 +1,0 @@
-use Rattle.std.proofs.Common.{◌≡◌, false, take}
-use Rattle.cbs_check.specs.Lateness.{is_overrunning}
-use Rattle.cbs_check.proofs.lateness.is_overrunning.Given as goal
-
-abbrev pub invariant-loop-terms : goal.invariant-loop-terms
-invariant-loop-terms l = is_overrunning (take l.terms-index l.sources) ≡ false

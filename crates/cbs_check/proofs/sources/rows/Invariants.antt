@@ -1,7 +1,0 @@
-use Rattle.std.proofs.Common.{◌≡◌, take}
-use Rattle.cbs_text.specs.Columns.{rows_of}
-use Rattle.cbs_check.specs.Sources.{sources_table}
-use Rattle.cbs_check.proofs.sources.rows.Given as goal
-
-abbrev pub invariant-loop-terms : goal.invariant-loop-terms
-invariant-loop-terms l = rows_of l.rows.items ≡ sources_table l.load.names l.load.plan.rates l.loads (take l.terms-index l.load.sources)

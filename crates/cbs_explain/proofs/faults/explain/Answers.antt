@@ -1,8 +1,0 @@
-use Rattle.cbs_explain.proofs.Explained.{explained}
-use Rattle.cbs_explain.proofs.faults.explain.Goals as goal
-
-pub returns : goal.returns
-returns c = record {
-  refusal = explained c.args.name.now c.args.bytes.now c.args.fault c.new-page.result c.append_explanation.new.page c.finish.result c.new-page.ensures.1
-      c.append_explanation.ensures c.finish.ensures;
-}

@@ -1,9 +1,0 @@
-use Rattle.cbs_explain.proofs.Words.{least_is}
-use Rattle.cbs_explain.proofs.over.least_words.Goals as goal
-
-pub returns : goal.returns
-returns c = record {
-  period = c.in-Some.period;
-  least = c.in-Some.ensures;
-  words = least_is _ _ _ c.in_ok-words.ensures.ok;
-}

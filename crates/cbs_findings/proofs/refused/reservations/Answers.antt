@@ -1,9 +1,0 @@
-use Rattle.std.proofs.Common.{sym, ◌∙◌}
-use Rattle.toml.specs.View.{view}
-use Rattle.cbs_findings.proofs.Refusals.{none_spelled}
-use Rattle.cbs_findings.proofs.refused.reservations.Goals as goal
-
-pub returns-in_default : goal.returns-in_default
-returns-in_default c =
-    none_spelled view c.args.servers.now c.loop-entry.entry-index c.entry-item.result c.in_default.field-0 c.loop-entry-test.true c.entry-item.is
-    (sym c.reservation_of.ensures ∙ c.in_default.is)

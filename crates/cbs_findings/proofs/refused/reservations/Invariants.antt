@@ -1,8 +1,0 @@
-use Rattle.std.proofs.Common.{take}
-use Rattle.std.specs.Prelude.{map}
-use Rattle.toml.specs.View.{view}
-use Rattle.cbs_findings.specs.Refused.{AreReservations}
-use Rattle.cbs_findings.proofs.refused.reservations.Given as goal
-
-abbrev pub invariant-loop-entry : goal.invariant-loop-entry
-invariant-loop-entry l = AreReservations (map view (take l.entry-index l.servers)) l.all.items

@@ -1,7 +1,0 @@
-use Rattle.std.proofs.Common.{◌≡◌, map, take}
-use Rattle.serde_json.specs.View.{view}
-use Rattle.cbs_json.specs.Json.{server_data}
-use Rattle.cbs_json.proofs.json.servers_values.Given as goal
-
-abbrev pub invariant-loop-server : goal.invariant-loop-server
-invariant-loop-server l = map view l.values.items ≡ map server_data (take l.server-index l.servers)

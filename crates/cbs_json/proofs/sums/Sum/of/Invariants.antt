@@ -1,8 +1,0 @@
-use Rattle.std.proofs.Common.{◌≡◌, take}
-use Rattle.cbs_print.specs.Reports.{sum_of}
-use Rattle.cbs_report.specs.Figures.{told}
-use Rattle.cbs_json.specs.Sums.{figure_of}
-use Rattle.cbs_json.proofs.sums.Sum.of.Given as goal
-
-abbrev pub invariant-loop-server : goal.invariant-loop-server
-invariant-loop-server l = l.sum ≡ told (sum_of (figure_of l.self) (take l.server-index l.servers))

@@ -1,6 +1,0 @@
-use Rattle.std.specs.Prelude.{string_bytes}
-use Rattle.cbs_planning.proofs.Servers.{named_at}
-use Rattle.cbs_planning.proofs.replay.ReplayRun.name.Goals as goal
-
-pub returns : goal.returns
-returns c = named_at _ c.args.server (string_bytes c.in_ok-name.name) c.requires c.in_ok-name.ensures.ok

@@ -1,4 +1,0 @@
-use Rattle.cbs_planning.proofs.simulated.LoadRun.modes.Goals as goal
-
-pub returns-clause-servers : goal.returns-clause-servers
-returns-clause-servers c = record { named = c.names-names.ensures.lawful.named; moded = c.names-names.ensures.lawful.moded }

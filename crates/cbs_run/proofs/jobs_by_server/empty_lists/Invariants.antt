@@ -1,5 +1,0 @@
-use Rattle.std.proofs.Common.{◌≡◌, map, replicate, []}
-use Rattle.cbs_run.proofs.jobs_by_server.empty_lists.Given as goal
-
-abbrev pub invariant-loop-server : goal.invariant-loop-server
-invariant-loop-server l = map (λ jobs. jobs.items) l.lists.items ≡ replicate l._server []

@@ -1,8 +1,0 @@
-use Rattle.cbs_load.specs.Spelling.{load}
-use Rattle.cbs_run.specs.Pictured.{end_of, IsLoadDrawing}
-use Rattle.cbs_run.proofs.Endings.{ends_drawing}
-use Rattle.cbs_run.proofs.pictures.draw_load_within.Goals as goal
-
-pub returns : goal.returns
-returns g c = ends_drawing load (IsLoadDrawing c.args.drawing c.args.asked c.args.name.now) end_of c.args.asked c.args.bytes.now _ _ _ _ c.draw_load-ended.result
-    c.status_of.result c.draw_load-ended.ensures c.status_of.ensures

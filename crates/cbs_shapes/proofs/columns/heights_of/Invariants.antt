@@ -1,6 +1,0 @@
-use Rattle.std.proofs.Common.{◌≡◌, map, take}
-use Rattle.cbs_shapes.specs.Columns.{layer_height}
-use Rattle.cbs_shapes.proofs.columns.heights_of.Given as goal
-
-abbrev pub invariant-loop-cell : goal.invariant-loop-cell
-invariant-loop-cell l = l.heights.items ≡ map (layer_height l.axis l.whole l.layer) (take l.cell-index l.counts)

@@ -1,7 +1,0 @@
-use Rattle.std.proofs.Common.{◌≡◌, take}
-use Rattle.std.specs.Prelude.{flat_map}
-use Rattle.cbs_shapes.specs.Escapes.{escaped_byte}
-use Rattle.cbs_shapes.proofs.escape.escaped.Given as goal
-
-abbrev pub invariant-loop-byte : goal.invariant-loop-byte
-invariant-loop-byte l = l.bytes.items ≡ flat_map escaped_byte (take l.byte-index l.byte-items)

@@ -1,7 +1,0 @@
-use Rattle.std.proofs.Common.{◌≡◌, take, string_bytes}
-use Rattle.std.specs.Prelude.{flat_map}
-use Rattle.cbs_shapes.specs.Marks.{deadline_text}
-use Rattle.cbs_shapes.proofs.marks.append_deadlines.Given as goal
-
-abbrev pub invariant-loop-tick : goal.invariant-loop-tick
-invariant-loop-tick l = string_bytes l.shape ≡ flat_map (deadline_text l.axis l.layout) (take l.tick-index l.ticks)

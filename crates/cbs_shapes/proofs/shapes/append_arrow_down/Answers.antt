@@ -1,7 +1,0 @@
-use Rattle.std.proofs.Common.{append_assoc}
-use Rattle.cbs_shapes.specs.Shapes.{arrow_down_text}
-use Rattle.cbs_shapes.proofs.shapes.append_arrow_down.Goals as goal
-
-pub returns : goal.returns
-unfolding arrow_down_text
-returns c = simp append_assoc (simp append_assoc at c.write.ensures.bytes)

@@ -1,7 +1,0 @@
-use Rattle.std.proofs.Common.{append_assoc}
-use Rattle.cbs_shapes.specs.Shapes.{arrow_up_text}
-use Rattle.cbs_shapes.proofs.shapes.append_arrow_up.Goals as goal
-
-pub returns : goal.returns
-unfolding arrow_up_text
-returns c = simp append_assoc (simp append_assoc at c.write.ensures.bytes)

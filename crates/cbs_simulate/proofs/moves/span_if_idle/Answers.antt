@@ -1,7 +1,0 @@
-use Rattle.cbs_steps.specs.History.{world_after}
-use Rattle.cbs_simulate.specs.Loading.{loading}
-use Rattle.cbs_simulate.proofs.Spans.{span_here}
-use Rattle.cbs_simulate.proofs.moves.span_if_idle.Goals as goal
-
-pub returns-in-None : goal.returns-in-None
-returns-in-None g c = λ M agrees. span_here loading (world_after loading M) c.idle_span.result (c.idle_span.ensures M agrees)

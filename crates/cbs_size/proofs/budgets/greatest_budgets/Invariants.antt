@@ -1,5 +1,0 @@
-use Rattle.cbs_size.specs.Budgets.{AreGreatest}
-use Rattle.cbs_size.proofs.budgets.greatest_budgets.Given as goal
-
-abbrev pub invariant-loop-server : goal.invariant-loop-server
-invariant-loop-server l = AreGreatest l.plan l.server l.budgets.items

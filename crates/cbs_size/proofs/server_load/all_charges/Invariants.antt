@@ -1,9 +1,0 @@
-use Rattle.std.proofs.Common.{◌≡◌, ◌*◌, ◌≤◌, ◌^◌}
-use Rattle.cbs_size.specs.ServerLoads.{all_charges}
-use Rattle.cbs_size.proofs.server_load.all_charges.Given as goal
-
-abbrev pub invariant-loop-server : goal.invariant-loop-server
-invariant-loop-server l = record {
-  sum : l.charges ≡ all_charges l.sources l.server;
-  few : l.charges ≤ l.server * 2 ^ 64;
-}

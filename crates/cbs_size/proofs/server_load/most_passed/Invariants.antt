@@ -1,6 +1,0 @@
-use Rattle.std.proofs.Common.{◌≡◌, take}
-use Rattle.cbs_size.specs.ServerLoads.{most_passed}
-use Rattle.cbs_size.proofs.server_load.most_passed.Given as goal
-
-abbrev pub invariant-loop-terms : goal.invariant-loop-terms
-invariant-loop-terms l = l.passed ≡ most_passed (take l.terms-index l.sources) l.server

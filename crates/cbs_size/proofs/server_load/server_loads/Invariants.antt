@@ -1,5 +1,0 @@
-use Rattle.cbs_size.specs.ServerLoads.{AreServerLoads}
-use Rattle.cbs_size.proofs.server_load.server_loads.Given as goal
-
-abbrev pub invariant-loop-server : goal.invariant-loop-server
-invariant-loop-server l = AreServerLoads l.load l.server l.loads.items

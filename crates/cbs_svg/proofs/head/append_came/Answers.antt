@@ -1,7 +1,0 @@
-use Rattle.std.proofs.Common.{append_assoc}
-use Rattle.cbs_svg.specs.Heads.{came_text}
-use Rattle.cbs_svg.proofs.head.append_came.Goals as goal
-
-pub returns : goal.returns
-unfolding came_text
-returns c = simp append_assoc c.writeln.ensures.bytes

@@ -1,7 +1,0 @@
-use Rattle.std.proofs.Common.{append_assoc}
-use Rattle.cbs_svg.specs.Heads.{who_text}
-use Rattle.cbs_svg.proofs.head.append_who.Goals as goal
-
-pub returns : goal.returns
-unfolding who_text
-returns c = simp append_assoc c.write.ensures.bytes

@@ -1,8 +1,0 @@
-use Rattle.std.proofs.Common.{arith}
-use Rattle.std.proofs.lemmas.Grind.{common_steps}
-use Rattle.cbs_svg.specs.Pictures.{fine_legend}
-use Rattle.cbs_svg.proofs.picture.append_fine_legend.Goals as goal
-
-pub returns : goal.returns
-unfolding fine_legend
-returns c = grind (arith, common_steps)

@@ -1,7 +1,0 @@
-use Rattle.std.proofs.Common.{◌≡◌, map}
-use Rattle.std.specs.List.{range_with_len}
-use Rattle.cbs_svg.specs.Scales.{multiple}
-use Rattle.cbs_svg.proofs.scale.multiples_from.Given as goal
-
-abbrev pub invariant-loop-place : goal.invariant-loop-place
-invariant-loop-place l = l.ticks.items ≡ map (multiple l.first l.step) (range_with_len 0 l.place)

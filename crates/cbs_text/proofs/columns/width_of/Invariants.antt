@@ -1,6 +1,0 @@
-use Rattle.std.proofs.Common.{◌≡◌, take}
-use Rattle.cbs_text.specs.Columns.{rows_of, width_of}
-use Rattle.cbs_text.proofs.columns.width_of.Given as goal
-
-abbrev pub invariant-loop-row : goal.invariant-loop-row
-invariant-loop-row l = l.width ≡ width_of l.column (rows_of (take l.row-index l.rows))

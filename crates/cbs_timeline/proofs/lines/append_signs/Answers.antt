@@ -1,9 +1,0 @@
-use Rattle.std.proofs.Common.{ℕ, ◌+◌}
-use Rattle.cbs_timeline.specs.Signs.{column_sign}
-use Rattle.cbs_timeline.proofs.Growing.{sign_more}
-use Rattle.cbs_timeline.proofs.lines.append_signs.Goals as goal
-
-pub loop-place-preserved : goal.loop-place-preserved
-loop-place-preserved c =
-    sign_more (λ (k : ℕ). column_sign c.args.grid.now c.args.chart.now (c.args.first + k)) _ _ _ _ _ c.loop-place.place c.in_ok-push.ensures.bytes
-    (c.in_ok-push.ensures.ascii c.column_sign.ensures.ascii) c.column_sign.ensures.value c.loop-place.invariant

@@ -1,7 +1,0 @@
-use Rattle.std.proofs.Common.{◌≡◌, ◌++◌, map, string_bytes}
-use Rattle.std.specs.List.{range_with_len}
-use Rattle.cbs_timeline.specs.Lines.{ruler_sign}
-use Rattle.cbs_timeline.proofs.ruler.append_ruler_marks.Given as goal
-
-abbrev pub invariant-loop-place : goal.invariant-loop-place
-invariant-loop-place l = string_bytes l.text ≡ string_bytes l.fn.text ++ map ruler_sign (range_with_len 0 l.place)

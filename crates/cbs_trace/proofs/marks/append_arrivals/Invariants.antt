@@ -1,7 +1,0 @@
-use Rattle.std.proofs.Common.{◌≡◌, ◌++◌, take}
-use Rattle.std.specs.Prelude.{flat_map}
-use Rattle.cbs_trace.specs.Servers.{arrival_in}
-use Rattle.cbs_trace.proofs.marks.append_arrivals.Given as goal
-
-abbrev pub invariant-loop-job : goal.invariant-loop-job
-invariant-loop-job l = l.lines.items ≡ l.fn.lines.items ++ flat_map (arrival_in l.window l.thread) (take l.job-index l.jobs)

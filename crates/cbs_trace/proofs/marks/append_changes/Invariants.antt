@@ -1,8 +1,0 @@
-use Rattle.std.proofs.Common.{◌≡◌, ◌++◌}
-use Rattle.std.specs.List.{flat_map, range_with_len}
-use Rattle.cbs_trace.specs.Servers.{change_at}
-use Rattle.cbs_trace.proofs.marks.append_changes.Given as goal
-
-abbrev pub invariant-loop-place : goal.invariant-loop-place
-invariant-loop-place l =
-    l.lines.items ≡ l.fn.lines.items ++ flat_map (change_at l.name l.thread l.opening l.corners) (range_with_len 0 l.place)

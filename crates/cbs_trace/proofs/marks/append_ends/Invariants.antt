@@ -1,7 +1,0 @@
-use Rattle.std.proofs.Common.{◌≡◌, ◌++◌, take}
-use Rattle.std.specs.Prelude.{flat_map}
-use Rattle.cbs_trace.specs.Servers.{end_at}
-use Rattle.cbs_trace.proofs.marks.append_ends.Given as goal
-
-abbrev pub invariant-loop-job : goal.invariant-loop-job
-invariant-loop-job l = l.lines.items ≡ l.fn.lines.items ++ flat_map (λ job. end_at l.window l.thread job job.finish) (take l.job-index l.jobs)

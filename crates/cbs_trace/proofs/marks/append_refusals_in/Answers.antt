@@ -1,9 +1,0 @@
-use Rattle.std.proofs.Common.{ℕ, ◌+◌}
-use Rattle.cbs_trace.specs.Servers.{refused_line}
-use Rattle.cbs_trace.proofs.Growing.{value_more}
-use Rattle.cbs_trace.proofs.marks.append_refusals_in.Goals as goal
-
-pub loop-place-preserved : goal.loop-place-preserved
-loop-place-preserved c =
-    value_more (λ (k : ℕ). refused_line c.args.thread (c.args.refused.now.from + k)) _ _ _ _ c.loop-place.place c.in_ok-append_line.ensures
-    c.in_ok-refused_line.ensures c.loop-place.invariant

@@ -1,7 +1,0 @@
-use Rattle.std.proofs.Common.{◌∙◌, ap}
-use Rattle.serde_json.specs.Written.{has_float}
-use Rattle.cbs_trace.proofs.Floats.{job_plain}
-use Rattle.cbs_trace.proofs.slices.bar_line.Goals as goal
-
-pub slice_line-requires : goal.slice_line-requires
-slice_line-requires c = ap has_float c.in_ok-args.ensures ∙ job_plain c.args.number c.job_numbered.result

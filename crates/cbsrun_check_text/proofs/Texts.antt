@@ -1,0 +1,59 @@
+-- Rows and notes by their parts, and texts that are appended.
+use Rattle.std.proofs.Common.{◌≡◌, ℕ, ◌<◌, List, [], ◌++◌, ◌+◌, length, get_or, refl, sym, ap, ◌∙◌, Result, Ok, Err}
+use Rattle.std.specs.Prelude.{map, if◌then◌else◌}
+use Rattle.std.specs.Result.{OnOk, is_ok}
+use Rattle.std.specs.declared.alloc.AllocError.{AllocError}
+use Rattle.std.specs.List.{flat_map, range_with_len}
+use Rattle.std.proofs.lemmas.List.{append_assoc, get_or-map}
+use Rattle.cbs_rate.specs.Rate.{Rate}
+use Rattle.cbs_guarantee.specs.Parts.{rate_at}
+use Rattle.cbs_rules.specs.declared.mode.Mode.{Mode}
+use Rattle.cbs_rules.specs.declared.mode.Mode.TheVariants.{Soft}
+use Rattle.cbsrun_simulate.specs.declared.terms.SourceTerms.{SourceTerms}
+use Rattle.cbsrun_sizing.specs.ServerLoads.{no_load}
+use Rattle.cbsrun_sizing.specs.declared.server_load.ServerLoad.{ServerLoad}
+use Rattle.cbsrun_check_text.specs.Notes.{note_at, note_text}
+use Rattle.cbsrun_check_text.specs.Servers.{server_row, row_at}
+use Rattle.cbsrun_check_text.specs.Sources.{source_row, row_of}
+use Rattle.cbsrun_check_text.proofs.Rows.{flat_more}
+
+-- the row of a server, by its parts
+pub row_is : (names : List (List ℕ)) (modes : List Mode) (rates : List Rate) (budgets : List ℕ) (s : ℕ) (name : List ℕ) (mode : Mode) (rate : Rate)
+    (greatest : ℕ)
+    → get_or names s [] ≡ name → get_or modes s Soft ≡ mode → rate_at rates s ≡ rate → get_or budgets s 0 ≡ greatest
+    → row_at names modes rates budgets s ≡ server_row name mode rate greatest
+row_is names modes rates budgets s name mode rate greatest e f g h = rw (e, f, g, h) refl
+
+-- the note of a server, by its parts
+pub note_is : (names : List (List ℕ)) (rates : List Rate) (loads : List ServerLoad) (s : ℕ) (name : List ℕ) (rate : Rate) (load : ServerLoad)
+    → get_or names s [] ≡ name → rate_at rates s ≡ rate → get_or loads s no_load ≡ load → note_at names rates loads s ≡ note_text name rate load.asked
+note_is names rates loads s name rate load e f g = rw (e, f, g) refl
+
+-- a name that was read at a place
+pub name_is : {X : Type 0} (f : X → List ℕ) (xs : List X) (i j : ℕ) (x : X) (name : List ℕ) → j < length xs → i ≡ j → x ≡ get_or xs i x → name ≡ f x
+    → get_or (map f xs) j [] ≡ name
+name_is f xs i j x name lt e is n = get_or-map f xs j x [] lt ∙ (ap f (sym (rw e at is)) ∙ sym n)
+
+-- the notes with that of one more server
+pub note_more : (names : List (List ℕ)) (rates : List Rate) (loads : List ServerLoad) (s : ℕ) (old new name : List ℕ) (rate : Rate) (load : ServerLoad)
+    → new ≡ old ++ note_text name rate load.asked → old ≡ flat_map (note_at names rates loads) (range_with_len 0 s)
+    → get_or names s [] ≡ name → rate_at rates s ≡ rate → get_or loads s no_load ≡ load → new ≡ flat_map (note_at names rates loads) (range_with_len 0 (s + 1))
+note_more names rates loads s old new name rate load wrote so_far e f g =
+    wrote ∙ rw (so_far, ← (note_is names rates loads s name rate load e f g)) (sym (flat_more (note_at names rates loads) s))
+
+-- the row of a source, by its parts
+pub source_row_is : (names : List (List ℕ)) (rates : List Rate) (loads : List ServerLoad) (t : SourceTerms) (name : List ℕ) (rate : Rate) (load : ServerLoad)
+    → get_or names t.server [] ≡ name → rate_at rates t.server ≡ rate → get_or loads t.server no_load ≡ load
+    → row_of names rates loads t ≡ source_row name rate load.promised t
+source_row_is names rates loads t name rate load e f g = rw (e, f, g) refl
+
+-- what a text is after a last word is pushed
+pub pushed : (r : Result (Unit {0}) AllocError) (new old word whole : List ℕ) → new ≡ (if is_ok r then old ++ word else old) → old ++ word ≡ whole
+    → OnOk r (new ≡ whole)
+pushed (Ok x) new old word whole e f = e ∙ f
+pushed (Err x) new old word whole e f = tt
+
+-- pieces that were appended one after the other
+pub pieces : (t₀ t₁ t₂ t₃ t₄ t₅ a b v c w d e f : List ℕ) → t₁ ≡ t₀ ++ a → t₂ ≡ t₁ ++ b → t₃ ≡ t₂ ++ v ++ c → t₄ ≡ t₃ ++ w ++ d → t₅ ≡ t₄ ++ e
+    → t₅ ++ f ≡ t₀ ++ (a ++ b ++ v ++ c ++ w ++ d ++ e ++ f)
+pieces t₀ t₁ t₂ t₃ t₄ t₅ a b v c w d e f e₁ e₂ e₃ e₄ e₅ = rw (e₅, e₄, e₃, e₂, e₁) (simp append_assoc)

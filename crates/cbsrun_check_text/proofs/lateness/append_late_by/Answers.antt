@@ -1,0 +1,14 @@
+use Rattle.std.proofs.Common.{◌≡◌, false, eqb, codes, string_bytes, arith}
+use Rattle.std.proofs.lemmas.Bool.Decides.{nat_tests}
+use Rattle.std.proofs.lemmas.List.{append_assoc}
+use Rattle.cbsrun_check_text.specs.Lateness.{late_by_text}
+use Rattle.cbsrun_check_text.proofs.Texts.{pushed}
+use Rattle.cbsrun_check_text.proofs.lateness.append_late_by.Goals as goal
+
+pub returns : goal.returns
+unfolding late_by_text
+returns c =
+    let none : eqb c.args.ticks 0 ≡ false = grind (arith, nat_tests) in
+    let one : eqb c.args.ticks 1 ≡ false = grind (arith, nat_tests) in
+    pushed c.push_str-2.result _ (string_bytes c.append_pair.new.text) (codes " ticks.\n") _ c.push_str-2.ensures.bytes
+    (simp (c.in_ok-append_pair.ensures, none, one, append_assoc))

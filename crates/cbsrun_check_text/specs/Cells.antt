@@ -1,0 +1,25 @@
+-- What the cells of the tables show.
+use Rattle.std.specs.Prelude.{Bool, false, ℕ, List, ◌++◌, codes, decimal}
+use Rattle.cbsrun_text.specs.Columns.{CellText, marked_if}
+use Rattle.cbsrun_check_text.specs.Fractions.{fraction_text, percent_text}
+use Rattle.cbsrun_check_text.specs.declared.cells.Shown.{Shown}
+use Rattle.cbsrun_check_text.specs.declared.cells.Shown.TheVariants as shown
+
+-- the text of a cell
+abbrev pub shown_text : Shown → List ℕ
+shown_text (shown.Word word) = word.now
+shown_text (shown.Number number) = decimal number
+shown_text (shown.Range least greatest) = decimal least ++ codes ".." ++ decimal greatest
+shown_text (shown.Promise time) = codes "yes, by " ++ decimal time
+shown_text (shown.Fraction share) = fraction_text share.part share.whole
+shown_text (shown.MarkedFraction share _) = fraction_text share.part share.whole
+shown_text (shown.Percent share) = percent_text share.part share.whole
+
+-- whether a cell is marked
+abbrev pub is_marked : Shown → Bool
+is_marked (shown.MarkedFraction _ marked) = marked
+is_marked _ = false
+
+-- the cell that shows this
+abbrev pub cell_of : Shown → CellText
+cell_of s = marked_if (is_marked s) (shown_text s)

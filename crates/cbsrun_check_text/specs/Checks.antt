@@ -1,0 +1,68 @@
+-- The text about a file with no fault.
+use Rattle.std.specs.Prelude.{◌≡◌, ℕ, ◌+◌, ◌*◌, eqb, if◌then◌else◌, List, ◌++◌, codes, decimal, length, map}
+use Rattle.std.specs.List.{range_with_len}
+use Rattle.cbsrun_loads.specs.Loads.{LoadFile}
+use Rattle.cbs_rate.specs.Plan.{Planned, common_multiple}
+use Rattle.cbs_rules.specs.declared.mode.Mode.{Mode}
+use Rattle.cbsrun_sizing.specs.Budgets.{AreGreatest}
+use Rattle.cbsrun_sizing.specs.Lateness.{greatest_delay, BoundsLateness}
+use Rattle.cbsrun_sizing.specs.ServerLoads.{AreServerLoads}
+use Rattle.cbsrun_sizing.specs.Shares.{left_over, reserved}
+use Rattle.cbsrun_sizing.specs.declared.server_load.ServerLoad.{ServerLoad}
+use Rattle.cbsrun_text.specs.Columns.{columns_text}
+use Rattle.cbsrun_check_text.specs.Fractions.{fraction_text}
+use Rattle.cbsrun_check_text.specs.Lateness.{lateness_text}
+use Rattle.cbsrun_check_text.specs.Notes.{notes_text, set_off}
+use Rattle.cbsrun_check_text.specs.Servers.{servers_table}
+use Rattle.cbsrun_check_text.specs.Sources.{sources_text}
+
+-- the first line: that the servers fit, what share of the time they have reserved, and what share is left under the
+-- bound
+unfoldable pub fits_text : Planned → List ℕ
+fits_text plan =
+    codes "fits: " ++ fraction_text (reserved plan.rates) (common_multiple plan.rates) ++ codes " of the time is reserved, "
+    ++ fraction_text (left_over plan) (plan.bound.den * common_multiple plan.rates) ++ codes " is left under the bound " ++ decimal plan.bound.num
+    ++ codes "/" ++ decimal plan.bound.den ++ codes "\n"
+
+-- after how many ticks all periods begin together again
+unfoldable pub periods_text : ℕ → List ℕ
+periods_text ticks =
+    if eqb ticks 1 then codes "The periods come together every tick.\n"
+    else codes "The periods come together every " ++ decimal ticks ++ codes " ticks.\n"
+
+-- the text about servers with these names, modes, rates and greatest budgets
+unfoldable pub plan_text : List (List ℕ) → List Mode → Planned → List ℕ → List ℕ
+plan_text names modes plan budgets =
+    fits_text plan ++ codes "\n" ++ columns_text (servers_table names modes plan.rates budgets) ++ codes "\n" ++ periods_text (common_multiple plan.rates)
+
+-- the text about a load, by the greatest budgets of its servers and the figures of their sources
+abbrev pub load_text : LoadFile → List ℕ → List ServerLoad → List ℕ
+load_text f budgets loads =
+    plan_text f.names f.modes f.plan budgets ++ sources_text f.names f.plan.rates loads f.sources ++ lateness_text f
+    ++ set_off (notes_text f.names f.plan.rates loads)
+
+-- the names of servers that have no names of their own
+abbrev pub numbered : ℕ → List (List ℕ)
+numbered n = map (λ s. codes "server " ++ decimal s) (range_with_len 0 n)
+
+-- what is reserved and what is left make up the bound
+abbrev pub IsSplit : Planned → Type 0
+IsSplit plan = plan.bound.den * reserved plan.rates + left_over plan ≡ plan.bound.num * common_multiple plan.rates
+
+-- the text about a plan, with the greatest budget of each server
+pub record IsPlanText (plan : Planned) (modes : List Mode) (text : List ℕ) : Type 0 where
+  pub budgets : List ℕ
+  pub greatest : AreGreatest plan (length plan.rates) budgets
+  pub split : IsSplit plan
+  pub text_is : text ≡ plan_text (numbered (length plan.rates)) modes plan budgets
+
+-- the text about a load, with the greatest budget of each server, the demand of its sources, and what is promised for
+-- them. No server is ever later than the text says
+pub record IsLoadText (f : LoadFile) (text : List ℕ) : Type 0 where
+  pub budgets : List ℕ
+  pub loads : List ServerLoad
+  pub greatest : AreGreatest f.plan (length f.plan.rates) budgets
+  pub told : AreServerLoads f (length f.plan.rates) loads
+  pub split : IsSplit f.plan
+  pub late : BoundsLateness f (greatest_delay f)
+  pub text_is : text ≡ load_text f budgets loads

@@ -1,0 +1,57 @@
+-- The table of the sources, as cells.
+use Rattle.std.specs.Prelude.{ℕ, ◌*◌, Bool, eqb, ltb, if◌then◌else◌, List, [], ◌∷◌, ◌++◌, codes, decimal, get_or, map, Option, Some, None}
+use Rattle.cbs_rate.specs.Rate.{Rate}
+use Rattle.cbs_guarantee.specs.Parts.{rate_at}
+use Rattle.cbsrun_simulate.specs.Bounds.{Bounds}
+use Rattle.cbsrun_simulate.specs.declared.terms.SourceTerms.{SourceTerms}
+use Rattle.cbsrun_sizing.specs.ServerLoads.{no_load}
+use Rattle.cbsrun_sizing.specs.Shares.{is_within}
+use Rattle.cbsrun_sizing.specs.declared.server_load.ServerLoad.{ServerLoad}
+use Rattle.cbsrun_text.specs.Columns.{CellText, columns_text, plain, marked_if}
+use Rattle.cbsrun_text.specs.Numbers.{number_text}
+use Rattle.cbsrun_check_text.specs.Fractions.{fraction_text}
+use Rattle.cbsrun_check_text.specs.Servers.{name_at}
+
+-- a range of numbers; a range of one number is written as that number
+abbrev pub range_text : Bounds → List ℕ
+range_text r = if eqb r.least r.greatest then decimal r.least else decimal r.least ++ codes ".." ++ decimal r.greatest
+
+-- whether each job is finished in time, if it is promised to be finished within this time
+abbrev pub promise_text : ℕ → Bool → List ℕ
+promise_text time in_time = if in_time then codes "yes, by " ++ decimal time else codes "not promised"
+
+-- the same, by the promised and the wanted time, if there are these
+abbrev pub in_time_text : Option ℕ → Option ℕ → List ℕ
+in_time_text None within = codes "not promised"
+in_time_text (Some time) within = promise_text time (is_within time within)
+
+-- the source may ask for more than the share of its server. It asks for the most units of a job in the least ticks to
+-- the next
+abbrev pub is_asking_too_much : Rate → SourceTerms → Bool
+is_asking_too_much rate t = ltb (rate.budget * t.every.least) (t.units.greatest * rate.period)
+
+-- the row of a source: what it may ask for, what its server has, and what is promised
+abbrev pub source_row : List ℕ → Rate → Option ℕ → SourceTerms → List CellText
+source_row name rate promised t =
+    plain name ∷ plain (range_text t.units) ∷ plain (range_text t.every)
+    ∷ marked_if (is_asking_too_much rate t) (fraction_text t.units.greatest t.every.least) ∷ plain (fraction_text rate.budget rate.period)
+    ∷ plain (number_text t.within) ∷ plain (in_time_text promised t.within) ∷ []
+
+abbrev pub sources_heading : List CellText
+sources_heading =
+    plain (codes "SOURCE OF") ∷ plain (codes "units") ∷ plain (codes "every") ∷ plain (codes "asks") ∷ plain (codes "share") ∷ plain (codes "within")
+    ∷ plain (codes "in time always") ∷ []
+
+module _ (names : List (List ℕ)) (rates : List Rate) (loads : List ServerLoad) where
+  -- the row of a source
+  abbrev pub row_of : SourceTerms → List CellText
+  row_of t = source_row (name_at names t.server) (rate_at rates t.server) (get_or loads t.server no_load).promised t
+
+  -- the table SOURCE OF: a row for each source
+  abbrev pub sources_table : List SourceTerms → List (List CellText)
+  sources_table sources = sources_heading ∷ map row_of sources
+
+  -- an empty line and the table, if there are sources
+  abbrev pub sources_text : List SourceTerms → List ℕ
+  sources_text [] = []
+  sources_text (t ∷ sources) = codes "\n" ++ columns_text (sources_table (t ∷ sources))

@@ -1,0 +1,154 @@
+//! The table of the sources.
+
+ghost use Rattle.std.specs.Prelude.{◌≡◌, ◌++◌, ◌<◌, length, IfOk, OnOk, string_bytes};
+ghost use Rattle.cbsrun_text.specs.Columns.{plain, rows_of};
+ghost use Rattle.cbsrun_text.specs.Numbers.{number_text};
+ghost use Rattle.cbsrun_check_text.specs.Cells.{cell_of};
+ghost use Rattle.cbsrun_check_text.specs.Sources.{range_text, in_time_text, is_asking_too_much, source_row, row_of, sources_heading, sources_table, sources_text};
+
+use crate::cells::{Shown, cells};
+use crate::fractions::Share;
+use cbsrun_loads::Load;
+use cbs_rate::Reservation;
+use cbsrun_simulate::{Range, SourceTerms};
+use cbsrun_sizing::{ServerLoad, is_within};
+use cbsrun_text::{Cell, append_columns, words};
+use std::alloc::{AllocError, Global};
+
+/// Returns what a cell shows of a range of numbers. A range of one number is shown as that number.
+fn range_shown(range: Range) -> Shown<'static>
+    ensures { cell_of result ≡ plain (range_text range) }
+{
+    let least = range.least();
+    let greatest = range.greatest();
+    if least == greatest {
+        return Shown::Number(least);
+    }
+    Shown::Range(least, greatest)
+}
+
+/// Returns what a cell shows of a number: it, or `-` if there is no number.
+fn number_shown(number: Option<u64>) -> Shown<'static>
+    ensures { cell_of result ≡ plain (number_text number) }
+{
+    match number {
+        Some(number) => Shown::Number(number),
+        None => Shown::Word("-"),
+    }
+}
+
+/// Returns what a cell shows of whether each job is promised to be finished within the wanted ticks.
+fn promise_shown(promised: Option<u64>, within: Option<u64>) -> Shown<'static>
+    ensures { cell_of result ≡ plain (in_time_text promised within) }
+{
+    match promised {
+        Some(time) if is_within(time, within) => Shown::Promise(time),
+        _ => Shown::Word("not promised"),
+    }
+}
+
+/// Returns whether a source may ask for more than the share of its server.
+fn is_asking_too_much(rate: Reservation, terms: &SourceTerms) -> bool
+    ensures { result ≡ is_asking_too_much rate terms.now }
+{
+    u128::from(rate.budget()) * u128::from(terms.every.least())
+        < u128::from(terms.units.greatest()) * u128::from(rate.period())
+}
+
+/// Returns the heading of the table.
+fn heading(alloc: Global) -> Result<Vec<Cell>, AllocError>
+    ensures { IfOk result (λ row. row.items ≡ sources_heading) }
+{
+    words(
+        alloc,
+        &[
+            "SOURCE OF",
+            "units",
+            "every",
+            "asks",
+            "share",
+            "within",
+            "in time always",
+        ],
+    )
+}
+
+/// Returns the row of a source, with the name and the reservation of its server, and the ticks that are promised.
+fn source_row(
+    alloc: Global,
+    name: &str,
+    rate: Reservation,
+    promised: Option<u64>,
+    terms: &SourceTerms,
+) -> Result<Vec<Cell>, AllocError>
+    requires { 0 < terms.now.every.least }
+    ensures { IfOk result (λ row. row.items ≡ source_row name.now rate promised terms.now) }
+{
+    let asked = Share::new(terms.units.greatest(), terms.every.least());
+    let reserved = Share::new(rate.budget(), rate.period());
+    cells(
+        alloc,
+        &[
+            Shown::Word(name),
+            range_shown(terms.units),
+            range_shown(terms.every),
+            Shown::MarkedFraction(asked, is_asking_too_much(rate, terms)),
+            Shown::Fraction(reserved),
+            number_shown(terms.within),
+            promise_shown(promised, terms.within),
+        ],
+    )
+}
+
+/// Returns the row of a source of a load.
+fn row_of(
+    alloc: Global,
+    load: &Load,
+    loads: &[ServerLoad],
+    terms: &SourceTerms,
+) -> Result<Vec<Cell>, AllocError>
+    requires counted { length loads.now ≡ length load.now.plan.rates }
+    requires held { terms.now.server < length load.now.plan.rates }
+    requires apart { 0 < terms.now.every.least }
+    ensures { IfOk result (λ row. row.items ≡ row_of load.now.names load.now.plan.rates loads.now
+        terms.now) }
+{
+    let server = usize::from(terms.server);
+    let name = load.names()[server].as_str();
+    let rate = load.plan().get(terms.server).unwrap();
+    source_row(alloc, name, rate, loads[server].promised, terms)
+}
+
+/// Returns the rows of the table.
+fn rows(alloc: Global, load: &Load, loads: &[ServerLoad]) -> Result<Vec<Vec<Cell>>, AllocError>
+    requires { length loads.now ≡ length load.now.plan.rates }
+    ensures { IfOk result (λ rows. rows_of rows.items
+        ≡ sources_table load.now.names load.now.plan.rates loads.now load.now.sources) }
+{
+    let mut rows = Vec::new(alloc);
+    rows.push(heading(alloc)?)?;
+    for terms in load.sources() {
+        rows.push(row_of(alloc, load, loads, terms)?)?;
+    }
+    Ok(rows)
+}
+
+/// Appends an empty line and the table of the sources of a load, if it has sources. `loads` has the figures of the
+/// sources by server. The only error is out of memory.
+pub(crate) fn append_sources(
+    alloc: Global,
+    text: &mut String,
+    load: &Load,
+    loads: &[ServerLoad],
+) -> Result<(), AllocError>
+    requires { length loads.now ≡ length load.now.plan.rates }
+    ensures { OnOk result (string_bytes text.new ≡ string_bytes text.old
+        ++ sources_text load.now.names load.now.plan.rates loads.now load.now.sources) }
+{
+    if load.sources().is_empty() {
+        return Ok(());
+    }
+    let rows = rows(alloc, load, loads)?;
+    text.push_str("\n")?;
+    append_columns(text, &rows)
+}

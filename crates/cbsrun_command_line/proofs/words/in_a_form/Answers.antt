@@ -1,0 +1,27 @@
+use Rattle.std.proofs.Common.{arith}
+use Rattle.std.proofs.lemmas.Grind.{common_steps}
+use Rattle.cbsrun_command_line.proofs.words.in_a_form.Goals as goal
+
+pub returns-in_err-verb-clause-app : goal.returns-in_err-verb-clause-app
+returns-in_err-verb-clause-app c = grind (arith, common_steps)
+
+pub returns-in_err-verb-clause-local : goal.returns-in_err-verb-clause-local
+returns-in_err-verb-clause-local c = grind (arith, common_steps)
+
+pub returns-in_err-verb-2-clause-app : goal.returns-in_err-verb-2-clause-app
+returns-in_err-verb-2-clause-app c = grind (arith, common_steps)
+
+pub returns-in_err-verb-2-clause-local : goal.returns-in_err-verb-2-clause-local
+returns-in_err-verb-2-clause-local c = grind (arith, common_steps)
+
+pub returns-in_err-verb-3-clause-app : goal.returns-in_err-verb-3-clause-app
+returns-in_err-verb-3-clause-app c = grind (arith, common_steps)
+
+pub returns-in_err-verb-3-clause-local : goal.returns-in_err-verb-3-clause-local
+returns-in_err-verb-3-clause-local c = grind (arith, common_steps)
+
+pub returns-clause-app : goal.returns-clause-app
+returns-clause-app c = grind (arith, common_steps)
+
+pub returns-clause-local : goal.returns-clause-local
+returns-clause-local c = grind (arith, common_steps)

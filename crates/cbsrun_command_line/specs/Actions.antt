@@ -1,0 +1,36 @@
+-- The names of actions and forms.
+use Rattle.std.specs.Prelude.{ℕ, List, codes}
+use Rattle.cbsrun_command_line.specs.declared.actions.Action.{Action}
+use Rattle.cbsrun_command_line.specs.declared.actions.Action.TheVariants as action
+use Rattle.cbsrun_command_line.specs.declared.actions.Drawing.{Drawing}
+use Rattle.cbsrun_command_line.specs.declared.actions.Drawing.TheVariants.{Svg, Text, Trace}
+use Rattle.cbsrun_command_line.specs.declared.actions.Form.{Form}
+use Rattle.cbsrun_command_line.specs.declared.actions.Form.TheVariants.{Report, Json}
+use Rattle.cbsrun_command_line.specs.declared.actions.Verb.{Verb}
+use Rattle.cbsrun_command_line.specs.declared.actions.Verb.TheVariants.{Replay, Serve}
+
+-- the word of each verb
+abbrev pub name_of : Verb → List ℕ
+name_of Replay = codes "replay"
+name_of Serve = codes "serve"
+
+-- the word of each action
+abbrev pub action_name : Action → List ℕ
+action_name action.Check = codes "check"
+action_name (action.ReportLoad form) = codes "simulate"
+action_name action.WriteLoadLines = codes "simulate"
+action_name (action.DrawLoad drawing ticks) = codes "simulate"
+action_name (action.ReportTasks form) = codes "replay"
+action_name (action.DrawTasks drawing ticks) = codes "replay"
+action_name (action.Run verb) = name_of verb
+
+-- the word of each form of a report
+abbrev pub form_name : Form → List ℕ
+form_name Report = codes "report"
+form_name Json = codes "json"
+
+-- the word of each drawing
+abbrev pub drawing_name : Drawing → List ℕ
+drawing_name Svg = codes "svg"
+drawing_name Text = codes "text"
+drawing_name Trace = codes "trace"

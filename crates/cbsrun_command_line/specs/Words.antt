@@ -1,0 +1,77 @@
+-- The command line as `clap` sees it.
+use Rattle.std.specs.Prelude.{◌≡◌, ◌⊎◌, List, codes, true, Option, Some, string_bytes}
+use Rattle.clap.specs.Words.{App, Row, Rule, Text, fault_of, first_of, new_app, new_rule, subcommand_of, takes, with_rule, with_subcommand}
+use Rattle.cbsrun_command_line.specs.Actions.{action_name}
+use Rattle.cbsrun_command_line.specs.Options.{Said, AsksForm}
+use Rattle.cbsrun_command_line.specs.Faults.{TellsOfKinds}
+use Rattle.cbsrun_command_line.specs.declared.actions.Asked.{Asked}
+use Rattle.cbsrun_command_line.specs.declared.fault.WordsFault.{WordsFault}
+use Rattle.cbsrun_command_line.specs.declared.fault.WordsFault.TheVariants.{OutOfMemory}
+
+-- one file, which is required
+abbrev pub file : Rule
+file = record (new_rule (codes "FILE")) { required = true }
+
+-- the verb of this name, which takes a file
+abbrev pub on_file : Text → App
+on_file name = with_rule (new_app name) file
+
+-- an option of this name, which may be left out
+abbrev pub option : Text → Rule
+option name = record (new_rule name) { long = Some name; value_names = 1 }
+
+-- a verb with one more option
+abbrev pub with_option : App → Text → App
+with_option verb name = with_rule verb (option name)
+
+-- the verb of this name, which takes a file, the form of its output, and the ticks to show
+abbrev pub in_a_form : Text → App
+in_a_form name = with_option (with_option (with_option (on_file name) (codes "as")) (codes "from")) (codes "to")
+
+-- a subcommand is required
+abbrev pub required : App → App
+required a = record a { top = record a.top { subcommand_required = true } }
+
+-- the program has a version
+abbrev pub with_version : App → App
+with_version a = record a { top = record a.top { has_version = true } }
+
+-- the program with no verb yet; one verb is required
+abbrev pub bare_program : App
+bare_program = required (with_version (new_app (codes "cbsrun")))
+
+-- the program with one more verb, of this name
+abbrev pub with_verb : App → Text → App
+with_verb program name = with_subcommand program (on_file name).top
+
+-- the program, which has four subcommands
+abbrev pub command_line : App
+command_line =
+    let checking = with_verb bare_program (codes "check") in
+    let simulating = with_subcommand checking (in_a_form (codes "simulate")).top in
+    let replaying = with_subcommand simulating (in_a_form (codes "replay")).top in
+    with_verb replaying (codes "serve")
+
+-- the texts that the rows of a subcommand give for the form and the ticks
+abbrev pub said_in : List Row → Said
+said_in rows = record { form = first_of (codes "as") rows; from = first_of (codes "from") rows; to = first_of (codes "to") rows }
+
+-- the subcommand that was found asks, with its rows, for the action and the file
+abbrev pub IsAsked : Option (Text × List Row) → Asked → Type 0
+IsAsked found asked =
+    (rows : List Row) × (found ≡ Some (action_name asked.action, rows)) × AsksForm (said_in rows) asked.action
+    × (first_of (codes "FILE") rows ≡ Some (string_bytes asked.file))
+
+-- the subcommand that the words name asks for the action and the file
+abbrev pub Names : List Text → Asked → Type 0
+Names words asked = IsAsked (subcommand_of command_line words) asked
+
+-- the command takes the words, and they name an action and a file
+pub record AreTaken (words : List Text) : Type 0 where
+  pub taken : takes command_line words ≡ true
+  pub asked : Asked
+  pub named : Names words asked
+
+-- a fault tells why the words are refused: out of memory, or by the kinds of error that `clap` has for them
+abbrev pub TellsOf : List Text → WordsFault → Type 0
+TellsOf words w = (w ≡ OutOfMemory) ⊎ TellsOfKinds (fault_of command_line words) w

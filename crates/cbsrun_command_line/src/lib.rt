@@ -1,0 +1,13 @@
+//! The words of a command line, and the request that they make.
+#![tactic(auto)]
+
+mod actions;
+mod fault;
+mod options;
+mod texts;
+mod words;
+
+pub use actions::{Action, Asked, Drawing, Form, Verb};
+pub use cbsrun_window::Window;
+pub use fault::WordsFault;
+pub use words::read_words;

@@ -1,0 +1,186 @@
+//! The words of a command line, as `clap` sees them.
+
+ghost use Rattle.std.specs.Prelude.{◌≡◌, ◌≢◌, codes, IfOk, IfErr, false, map, string_bytes};
+ghost use Rattle.clap.specs.Words.{app_of, kind_of, subcommand_rows_of, with_subcommand};
+ghost use Rattle.clap.specs.declared.builder.command.Command.TheViews.{out-Command};
+ghost use Rattle.cbsrun_command_line.specs.Faults.{number_of, words_fault_number};
+ghost use Rattle.cbsrun_command_line.specs.Words.{command_line, on_file, in_a_form, with_option, bare_program, IsAsked, Names, AreTaken, TellsOf};
+ghost use Rattle.cbsrun_command_line.specs.declared.fault.WordsFault.TheVariants.{OutOfMemory};
+
+use crate::actions::Asked;
+use crate::fault::WordsFault;
+use crate::options::{action_of, wrong_options};
+use crate::texts::{
+    ABOUT, CHECK, FILES, FROM, GUIDE, REPLAY, REPORTS, SERVE, SIMULATE, TO, TRACES, VERSION,
+};
+use clap::error::ErrorKind;
+use clap::{Arg, ArgMatches, Command, Error};
+use std::alloc::{AllocError, Global};
+
+/// Returns the verb of this name, which takes a file.
+fn on_file<'a>(alloc: Global, name: &'a str, about: &'a str) -> Result<Command<'a>, AllocError>
+    ensures app { IfOk result (λ c. app_of c ≡ on_file name.now) }
+    ensures local { IfOk result (λ c. (out-Command c).has_globals ≡ false) }
+{
+    let file = Arg::new(alloc, "FILE")
+        .help("The file; - is standard input")
+        .required(true);
+    Command::new(alloc, name).about(about).arg(file)
+}
+
+/// Returns a verb with one more option, whose value is called so.
+fn with_option<'a>(
+    alloc: Global,
+    verb: Command<'a>,
+    name: &'a str,
+    value: &'a str,
+    help: &'a str,
+) -> Result<Command<'a>, AllocError>
+    ensures app { IfOk result (λ c. app_of c ≡ with_option (app_of verb.entry) name.now) }
+    ensures local { (out-Command verb.entry).has_globals ≡ false
+        → IfOk result (λ c. (out-Command c).has_globals ≡ false) }
+{
+    let option = Arg::new(alloc, name).long(name).help(help);
+    verb.arg(option.value_name(value))
+}
+
+/// Returns the verb of this name, which takes a file, the form of its output, and the ticks to show.
+fn in_a_form<'a>(
+    alloc: Global,
+    name: &'a str,
+    about: &'a str,
+    forms: &'a str,
+) -> Result<Command<'a>, AllocError>
+    ensures app { IfOk result (λ c. app_of c ≡ in_a_form name.now) }
+    ensures local { IfOk result (λ c. (out-Command c).has_globals ≡ false) }
+{
+    let verb = on_file(alloc, name, about)?;
+    let verb = with_option(alloc, verb, "as", "FORMAT", forms)?;
+    let verb = with_option(alloc, verb, "from", "TICK", FROM)?;
+    with_option(alloc, verb, "to", "TICK", TO)
+}
+
+/// Returns the program with one more verb.
+fn with_verb<'a>(
+    alloc: Global,
+    program: Command<'a>,
+    name: &'a str,
+    about: &'a str,
+) -> Result<Command<'a>, AllocError>
+    ensures { IfOk result (λ c. app_of c ≡ with_subcommand (app_of program.entry)
+        (on_file name.now).top) }
+{
+    let verb = on_file(alloc, name, about)?;
+    program.subcommand(verb)
+}
+
+/// Returns the program with one more verb, which takes a file, the form of its output, and the ticks to show.
+fn with_verb_in_a_form<'a>(
+    alloc: Global,
+    program: Command<'a>,
+    name: &'a str,
+    about: &'a str,
+    forms: &'a str,
+) -> Result<Command<'a>, AllocError>
+    ensures { IfOk result (λ c. app_of c ≡ with_subcommand (app_of program.entry)
+        (in_a_form name.now).top) }
+{
+    let verb = in_a_form(alloc, name, about, forms)?;
+    program.subcommand(verb)
+}
+
+/// Returns the program, with no verb yet.
+fn bare_program<'a>(alloc: Global) -> Command<'a>
+    ensures { app_of result ≡ bare_program }
+{
+    Command::new(alloc, "cbsrun")
+        .about(ABOUT)
+        .version(VERSION)
+        .after_help(FILES)
+        .after_long_help(GUIDE)
+        .subcommand_required(true)
+}
+
+/// Returns the command line of the program: a verb, and its file.
+fn command_line<'a>(alloc: Global) -> Result<Command<'a>, AllocError>
+    ensures { IfOk result (λ c. app_of c ≡ command_line) }
+{
+    let program = with_verb(alloc, bare_program(alloc), "check", CHECK)?;
+    let program = with_verb_in_a_form(alloc, program, "simulate", SIMULATE, REPORTS)?;
+    let program = with_verb_in_a_form(alloc, program, "replay", REPLAY, TRACES)?;
+    with_verb(alloc, program, "serve", SERVE)
+}
+
+/// Returns the fault of a command line that `clap` refused.
+fn refused(alloc: Global, error: &Error) -> Result<WordsFault, AllocError>
+    ensures memory { kind_of error.now ≡ ErrorKind.OutOfMemory
+        → IfOk result (λ w. w ≡ OutOfMemory) }
+    ensures kind { IfOk result (λ w. words_fault_number w ≡ number_of (kind_of error.now)) }
+{
+    let text = error.to_string(alloc)?;
+    Ok(match error.kind() {
+        ErrorKind::OutOfMemory => WordsFault::OutOfMemory,
+        ErrorKind::DisplayHelp | ErrorKind::DisplayVersion => WordsFault::Help(text),
+        _ => WordsFault::Usage(text),
+    })
+}
+
+/// Returns the fault of a command line with no verb or no file. `clap` itself refuses such a command line before this.
+fn incomplete(alloc: Global) -> Result<WordsFault, AllocError>
+    ensures { IfOk result (λ w. words_fault_number w ≡ 1) }
+{
+    let text = String::from_str(alloc, "cbsrun: a verb and a file are wanted\n")?;
+    Ok(WordsFault::Usage(text))
+}
+
+/// Returns the request of the subcommand that `clap` found. Refuses if its options ask for no action, or if out of
+/// memory.
+fn asked_in(alloc: Global, matches: &ArgMatches) -> Result<Asked, WordsFault>
+    ensures ok { IfOk result (IsAsked (subcommand_rows_of matches.now)) }
+    ensures refused { IfErr result (λ e. (asked : Asked)
+        → IsAsked (subcommand_rows_of matches.now) asked → e ≡ OutOfMemory) }
+    ensures no_help { IfErr result (λ e. words_fault_number e ≢ 2) }
+{
+    let Some((name, inner)) = matches.subcommand() else {
+        return Err(incomplete(alloc)?);
+    };
+    let form = inner.get_str("as");
+    let from = inner.get_str("from");
+    let to = inner.get_str("to");
+    let Some(action) = action_of(name, form, from, to) else {
+        return Err(wrong_options(alloc, name, form, from, to)?);
+    };
+    let Some(file) = inner.get_str("FILE") else {
+        return Err(incomplete(alloc)?);
+    };
+    let file = String::from_str(alloc, file)?;
+    Ok(Asked { action, file })
+}
+
+/// Returns the request of the words. The program's name is the first word.
+fn asked_by(alloc: Global, words: &[String]) -> Result<Asked, WordsFault>
+    ensures ok { IfOk result (Names (map string_bytes words.now)) }
+    ensures refused { IfErr result (λ e. AreTaken (map string_bytes words.now) → e ≡ OutOfMemory) }
+    ensures told { IfErr result (TellsOf (map string_bytes words.now)) }
+{
+    let command = command_line(alloc)?;
+    match command.try_get_matches_from(words) {
+        Ok(matches) => asked_in(alloc, &matches),
+        Err(error) => Err(refused(alloc, &error)?),
+    }
+}
+
+/// Returns the request of the words of a command line: first the program's name, then a verb and a file.
+///
+/// Refuses with [`WordsFault::Usage`] if the words are wrong, and with [`WordsFault::OutOfMemory`] if out of memory.
+/// Refuses with [`WordsFault::Help`] if the words ask for the help or the version.
+pub fn read_words(alloc: Global, words: Vec<String>) -> Result<Asked, WordsFault>
+    ensures ok { IfOk result (Names (map string_bytes words.items)) }
+    // Words that name a verb and a file are refused only if out of memory.
+    ensures refused { IfErr result (λ e. AreTaken (map string_bytes words.items)
+        → e ≡ OutOfMemory) }
+    // Others are told as what `clap` has for them: the help or the version, or wrong words.
+    ensures told { IfErr result (TellsOf (map string_bytes words.items)) }
+{
+    asked_by(alloc, words.as_slice())
+}

@@ -1,0 +1,58 @@
+-- How a command on a file ends, by what it did and by what was told of it.
+use Rattle.std.proofs.Common.{◌≡◌, List, ℕ, ap, Result, Ok, Err}
+use Rattle.cbsrun_tasks.specs.Spelling.{file}
+use Rattle.cbsrun_tasks.specs.TaskFiles.{File}
+use Rattle.cbsrun_runs.specs.Tasks.{clock_of_tasks}
+use Rattle.cbsrun_window.specs.Windows.{AnswersShown}
+use Rattle.cbsrun_window.specs.declared.shown.NothingShown.{NothingShown}
+use Rattle.cbsrun_window.specs.declared.window.Window.{Window}
+use Rattle.cbsrun_tables.specs.declared.fault.FileFault.{FileFault}
+use Rattle.cbsrun_lines.specs.Writers.{Writer, IsUntouched, TriesToWrite}
+use Rattle.cbsrun_lines.specs.declared.run_error.RunError.{RunError}
+use Rattle.cbsrun_lines.specs.declared.run_error.RunError.TheVariants.{OutOfMemory, WriteFault, ClockEnd, Stalled}
+use Rattle.cbsrun_commands.specs.Commands.{Command, Does, Tells, printing_command}
+use Rattle.cbsrun_commands.specs.FaultLines.{nothing_shown_line}
+use Rattle.cbsrun_commands.specs.Pictured.{EndsDrawing, drawing_command, printed, nothing_shown}
+use Rattle.cbsrun_commands.specs.Printing.{EndsPrinting, Prints, StopsPrinting, done, refused, stopped}
+use Rattle.cbsrun_commands.specs.declared.ending.Stopped.{Stopped}
+use Rattle.cbsrun_commands.specs.declared.ending.Stopped.TheVariants.{Unread, Ended, Run}
+
+-- a text that is printed has every property that all such texts have
+pub stops_as : (is is' : List ℕ → Type 0) → ((t : List ℕ) → is t → is' t) → (short : Writer → Writer → Type 0) (error : RunError) (old new : Writer)
+    → StopsPrinting is short error old new → StopsPrinting is' short error old new
+stops_as is is' f short OutOfMemory old new h = h
+stops_as is is' f short WriteFault old new h = (h.0, f h.0 h.1, h.2)
+stops_as is is' f short ClockEnd old new h = h
+stops_as is is' f short Stalled old new h = h
+
+-- the same, whether the text was printed whole or not
+pub prints_as : (is is' : List ℕ → Type 0) → ((t : List ℕ) → is t → is' t) → (r : Result (Unit {0}) RunError) (old new : Writer)
+    → Prints is r old new → Prints is' r old new
+prints_as is is' f (Ok x) old new h = (h.0, f h.0 h.1, h.2)
+prints_as is is' f (Err error) old new h = stops_as is is' f IsUntouched error old new h
+
+-- bytes spell one file, whose steps end at one tick
+pub same_file : (bytes : List ℕ) (f h : File) → file bytes ≡ Ok f → file bytes ≡ Ok h → clock_of_tasks f ≡ clock_of_tasks h
+same_file bytes f h p q = let same : f ≡ h = cc in ap clock_of_tasks same
+
+-- a command that always has something to show ends as one that prints a text
+pub ends_printing : {F : Type 0} (c : Command F) → ((f : F) (e : NothingShown) → c.nothing f e → ⊥) → (bytes : List ℕ) (out out' err err' : Writer)
+    (ended : Result (Unit {0}) Stopped) (status : ℕ) → Does c bytes ended out out' → Tells ended err err' status
+    → EndsPrinting c.read c.prints c.short bytes out out' err err' status
+ends_printing c none bytes out out' err err' (Ok x) status d t = rw t.0 (done d.0 d.1 d.2 d.3 d.4 t.1)
+ends_printing c none bytes out out' err err' (Err (Unread fault)) status d t = rw t.0 (refused fault d.0 d.1 t.1)
+ends_printing c none bytes out out' err err' (Err (Ended e)) status d t = absurd (none d.0 e d.2)
+ends_printing c none bytes out out' err err' (Err (Run error)) status d t = rw t.0 (stopped d.0 error d.1 d.2 t.1)
+
+-- a command that draws ends so
+pub ends_drawing : {F : Type 0} (read : List ℕ → Result F FileFault) (is : F → List ℕ → Type 0) (ends : F → ℕ) (asked : Window) (bytes : List ℕ)
+    (out out' err err' : Writer) (ended : Result (Unit {0}) Stopped) (status : ℕ) → Does (drawing_command read is ends asked) bytes ended out out'
+    → Tells ended err err' status → EndsDrawing read is ends asked bytes out out' err err' status
+ends_drawing read is ends asked bytes out out' err err' (Ok x) status d t = rw t.0 (printed 0 (done d.0 d.1 d.2 d.3 d.4 t.1))
+ends_drawing read is ends asked bytes out out' err err' (Err (Unread fault)) status d t = rw t.0 (printed 3 (refused fault d.0 d.1 t.1))
+ends_drawing read is ends asked bytes out out' err err' (Err (Ended e)) status d t =
+    let from : e.from ≡ asked.from = ap (λ (x : NothingShown). x.from) d.2.1 in
+    let end : e.end ≡ ends d.0 = ap (λ (x : NothingShown). x.end) d.2.1 in
+    let told : TriesToWrite err err' (nothing_shown_line asked.from (ends d.0)) = rw (← from, ← end) t.1 in
+    rw t.0 (nothing_shown d.0 d.1 d.2.0 d.3 told)
+ends_drawing read is ends asked bytes out out' err err' (Err (Run error)) status d t = rw t.0 (printed 4 (stopped d.0 error d.1 d.2 t.1))

@@ -1,0 +1,18 @@
+use Rattle.std.proofs.Common.{refl}
+use Rattle.std.proofs.lemmas.Result.{err_from_is_err_and}
+use Rattle.cbsrun_lines.proofs.Writers.{untouched}
+use Rattle.cbsrun_commands.proofs.Printings.{prints_short}
+use Rattle.cbsrun_commands.proofs.load_steps.write_steps.Goals as goal
+
+pub returns-in_err-load : goal.returns-in_err-load
+returns-in_err-load g c =
+    let p = err_from_is_err_and c.from_residual.result c.from_residual.ensures.1 in
+    rw (p.1, p.2) (c.in_err-load.ensures, untouched _)
+
+pub returns-in_err-write_lines : goal.returns-in_err-write_lines
+returns-in_err-write_lines g c =
+    let p = err_from_is_err_and c.from_residual-in_err-write_lines.result c.from_residual-in_err-write_lines.ensures.1 in
+    rw (p.1, p.2) (c.in_ok-load.load, c.in_ok-load.ensures, prints_short _ _ _ _ _ c.in_err-write_lines.ensures.written)
+
+pub returns : goal.returns
+returns g c = (c.in_ok-load.load, _, c.in_ok-load.ensures, refl, c.in_ok-write_lines.ensures.written)

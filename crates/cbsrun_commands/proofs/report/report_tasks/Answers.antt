@@ -1,0 +1,24 @@
+use Rattle.std.proofs.lemmas.Result.{err_from_is_err_and}
+use Rattle.cbsrun_lines.proofs.Writers.{untouched}
+use Rattle.cbsrun_lines.specs.Writers.{IsUntouched}
+use Rattle.cbsrun_commands.proofs.Endings.{stops_as}
+use Rattle.cbsrun_commands.proofs.report.report_tasks.Goals as goal
+
+pub returns-in_err-tasks : goal.returns-in_err-tasks
+returns-in_err-tasks g c =
+    let p = err_from_is_err_and c.from_residual.result c.from_residual.ensures.1 in
+    rw (p.1, p.2) (c.in_err-tasks.ensures, untouched _)
+
+pub returns-in_err-print_report : goal.returns-in_err-print_report
+returns-in_err-print_report g c =
+    let p = err_from_is_err_and c.from_residual-in_err-print_report.result c.from_residual-in_err-print_report.ensures.1 in
+    rw (p.1, p.2) (
+      c.in_ok-tasks.tasks,
+      c.in_ok-tasks.ensures,
+      stops_as _ _ (λ t h. h.0) IsUntouched _ _ _ (rw c.of-replay.ensures at c.in_err-print_report.ensures),
+    )
+
+pub returns : goal.returns
+returns g c =
+    let p = rw c.of-replay.ensures at c.in_ok-print_report.ensures in
+    (c.in_ok-tasks.tasks, p.0, c.in_ok-tasks.ensures, p.1.0, p.2)

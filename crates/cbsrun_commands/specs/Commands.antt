@@ -1,0 +1,36 @@
+-- What a command on a file leaves on its writers, by its result; for the code alone.
+use Rattle.std.specs.Prelude.{◌≡◌, ◌⊎◌, ℕ, List, Result, Ok, Err}
+use Rattle.cbsrun_window.specs.declared.shown.NothingShown.{NothingShown}
+use Rattle.cbsrun_tables.specs.Documents.{no_memory}
+use Rattle.cbsrun_tables.specs.declared.fault.FileFault.{FileFault}
+use Rattle.cbsrun_lines.specs.Writers.{Writer, IsUntouched, Writes, TriesToWrite}
+use Rattle.cbsrun_commands.specs.FaultLines.{run_line, nothing_shown_line}
+use Rattle.cbsrun_commands.specs.Printing.{Explains, StopsPrinting}
+use Rattle.cbsrun_commands.specs.declared.ending.Stopped.{Stopped}
+use Rattle.cbsrun_commands.specs.declared.ending.Stopped.TheVariants.{Unread, Ended, Run}
+
+-- a command on files of one kind: how bytes spell a file, which texts the command may print of it, what it leaves if out
+-- of memory, and what it tells of a file that has nothing to show
+pub record Command (F : Type 0) : Type 1 where
+  pub read : List ℕ → Result F FileFault
+  pub prints : F → List ℕ → Type 0
+  pub short : F → Writer → Writer → Type 0
+  pub nothing : F → NothingShown → Type 0
+
+-- a command that prints a text of each file. The text is made before it is written
+abbrev pub printing_command : {F : Type 0} → (List ℕ → Result F FileFault) → (F → List ℕ → Type 0) → Command F
+printing_command read prints = record { read = read; prints = prints; short = λ f. IsUntouched; nothing = λ f e. ⊥ }
+
+-- what the command on the bytes left on the output, by its result: at Ok a whole text
+abbrev pub Does : {F : Type 0} → Command F → List ℕ → Result (Unit {0}) Stopped → Writer → Writer → Type 0
+Does {F} c bytes (Ok x) old new = (f : F) × (text : List ℕ) × (c.read bytes ≡ Ok f) × c.prints f text × Writes old new text
+Does {F} c bytes (Err (Unread fault)) old new = ((fault ≡ no_memory) ⊎ (c.read bytes ≡ Err fault)) × IsUntouched old new
+Does {F} c bytes (Err (Ended e)) old new = (f : F) × (c.read bytes ≡ Ok f) × c.nothing f e × IsUntouched old new
+Does {F} c bytes (Err (Run error)) old new = (f : F) × (c.read bytes ≡ Ok f) × StopsPrinting (c.prints f) (c.short f) error old new
+
+-- how a command ended was written, and this is its status
+abbrev pub Tells : Result (Unit {0}) Stopped → Writer → Writer → ℕ → Type 0
+Tells (Ok x) old new status = (status ≡ 0) × IsUntouched old new
+Tells (Err (Unread fault)) old new status = (status ≡ 3) × Explains fault old new
+Tells (Err (Ended e)) old new status = (status ≡ 2) × TriesToWrite old new (nothing_shown_line e.from e.end)
+Tells (Err (Run error)) old new status = (status ≡ 4) × TriesToWrite old new (run_line error)

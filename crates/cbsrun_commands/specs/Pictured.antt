@@ -1,0 +1,61 @@
+-- The pictures that are drawn of loads and of task files.
+use Rattle.std.specs.Prelude.{◌≡◌, ℕ, ◌≤◌, List, Result, Ok, Err}
+use Rattle.cbsrun_chart.specs.declared.picture.Picture.{Picture}
+use Rattle.cbsrun_window.specs.declared.window.Window.{Window}
+use Rattle.cbsrun_tasks.specs.TaskFiles.{File}
+use Rattle.cbsrun_lines.specs.Writers.{Writer, IsUntouched, TriesToWrite}
+use Rattle.cbsrun_loads.specs.Loads.{LoadFile}
+use Rattle.cbsrun_window.specs.Windows.{AnswersShown}
+use Rattle.cbsrun_runs.specs.Loads.{run_of}
+use Rattle.cbsrun_runs.specs.Runs.{IsPictureOf}
+use Rattle.cbsrun_runs.specs.Tasks.{clock_of_tasks, run_of_tasks}
+use Rattle.cbsrun_svg.specs.Pictures.{svg_text}
+use Rattle.cbsrun_timeline.specs.Timelines.{timeline_text}
+use Rattle.cbsrun_perfetto.specs.Traces.{IsTrace}
+use Rattle.cbsrun_tables.specs.declared.fault.FileFault.{FileFault}
+use Rattle.cbsrun_command_line.specs.declared.actions.Drawing.{Drawing}
+use Rattle.cbsrun_command_line.specs.declared.actions.Drawing.TheVariants.{Svg, Text, Trace}
+use Rattle.cbsrun_commands.specs.Commands.{Command}
+use Rattle.cbsrun_commands.specs.FaultLines.{nothing_shown_line}
+use Rattle.cbsrun_commands.specs.Printing.{EndsPrinting}
+
+-- the text is a picture in this drawing
+abbrev pub IsDrawn : Drawing → Picture → List ℕ → Type 0
+IsDrawn Svg p text = text ≡ svg_text p
+IsDrawn Text p text = text ≡ timeline_text p
+IsDrawn Trace p text = IsTrace p text
+
+-- the text is a drawing of some picture with this property
+abbrev pub IsDrawingOf : Drawing → (Picture → Type 0) → List ℕ → Type 0
+IsDrawingOf drawing is text = (p : Picture) × is p × IsDrawn drawing p text
+
+-- the text draws the ticks that are asked for, as far as a run that ends at this tick has them. The drawn picture is
+-- one of the window of those ticks
+abbrev pub DrawsShown : Drawing → (Window → Picture → Type 0) → Window → ℕ → List ℕ → Type 0
+DrawsShown drawing is asked end text = (w : Window) × AnswersShown asked end (Ok w) × IsDrawingOf drawing (is w) text
+
+-- the text draws the ticks of the load that are asked for, and names the file so
+abbrev pub IsLoadDrawing : Drawing → Window → List ℕ → LoadFile → List ℕ → Type 0
+IsLoadDrawing drawing asked name f text = DrawsShown drawing (IsPictureOf name (run_of f)) asked f.until text
+
+-- the same for a task file
+abbrev pub IsTaskDrawing : Drawing → Window → List ℕ → File → List ℕ → Type 0
+IsTaskDrawing drawing asked name f text = DrawsShown drawing (IsPictureOf name (run_of_tasks f)) asked (clock_of_tasks f) text
+
+-- the tick at which a load's run ends
+abbrev pub end_of : LoadFile → ℕ
+end_of f = f.until
+
+-- a command that draws the file which the bytes spell by `read` ended with this status, and left out and err so. It
+-- ended as a command that prints a text, or with 2 if the run has none of the ticks that are asked for
+pub data EndsDrawing {F : Type 0} (read : List ℕ → Result F FileFault) (is : F → List ℕ → Type 0) (ends : F → ℕ) (asked : Window) (bytes : List ℕ)
+    (out out' err err' : Writer) : ℕ → Type 0 where
+  printed : (status : ℕ) → EndsPrinting read is (λ f. IsUntouched) bytes out out' err err' status
+      → EndsDrawing read is ends asked bytes out out' err err' status
+  nothing_shown : (f : F) → read bytes ≡ Ok f → ends f ≤ asked.from → IsUntouched out out' → TriesToWrite err err' (nothing_shown_line asked.from (ends f))
+      → EndsDrawing read is ends asked bytes out out' err err' 2
+
+-- a command that draws the ticks of each file that are asked for, as far as the run of the file has them
+abbrev pub drawing_command : {F : Type 0} → (List ℕ → Result F FileFault) → (F → List ℕ → Type 0) → (F → ℕ) → Window → Command F
+drawing_command read is ends asked =
+    record { read = read; prints = is; short = λ f. IsUntouched; nothing = λ f e. AnswersShown asked (ends f) (Err e) }

@@ -1,0 +1,141 @@
+//! How a command on a file ends: its status, and what is written to standard error.
+
+ghost use Rattle.std.specs.Prelude.{◌≡◌};
+ghost use Rattle.cbsrun_tables.specs.Documents.{no_memory};
+ghost use Rattle.cbsrun_commands.specs.Commands.{Tells};
+ghost use Rattle.cbsrun_commands.specs.FaultLines.{file_line};
+ghost use Rattle.cbsrun_commands.specs.Printing.{Explains, Prints};
+ghost use Rattle.cbsrun_commands.specs.declared.ending.Stopped.TheVariants.{Ended, Run, Unread};
+ghost use Rattle.cbsrun_lines.specs.Writers.{MayWrite, TriesToWrite};
+ghost use Rattle.cbsrun_lines.specs.declared.run_error.RunError.TheVariants.{OutOfMemory};
+
+use crate::fault_lines::{write_file_fault, write_nothing_shown, write_run_fault};
+use cbsrun_io::{ByteOutput, write_pieces, write_text};
+use cbsrun_fault_texts::explain;
+use cbsrun_tasks::{FileFault, FileKind, wants_within};
+use cbsrun_lines::RunError;
+use cbsrun_runs::NothingShown;
+use std::alloc::{AllocError, Global};
+
+/// The status of a run that is complete, and of a request for help.
+pub const DONE: u8 = 0;
+
+/// The status of a wrong command line.
+pub const WRONG_WORDS: u8 = 2;
+
+/// The status if the file could not be read, or has a fault.
+pub const BAD_FILE: u8 = 3;
+
+/// The status of a run that ended early.
+pub const RUN_FAULT: u8 = 4;
+
+/// The reason why a command ends early.
+#[derive(Clone, Copy)]
+pub(crate) enum Stopped {
+    /// The file has a fault.
+    Unread(FileFault),
+    /// The run ends before the first tick to show.
+    Ended(NothingShown),
+    /// The run ended early.
+    Run(RunError),
+}
+
+impl From<FileFault> for Stopped {
+    ghost from_gives = { λ fault stopped. stopped ≡ Unread fault };
+
+    fn from(fault: FileFault) -> Stopped {
+        Stopped::Unread(fault)
+    }
+}
+
+impl From<NothingShown> for Stopped {
+    ghost from_gives = { λ nothing stopped. stopped ≡ Ended nothing };
+
+    fn from(nothing: NothingShown) -> Stopped {
+        Stopped::Ended(nothing)
+    }
+}
+
+impl From<RunError> for Stopped {
+    ghost from_gives = { λ error stopped. stopped ≡ Run error };
+
+    fn from(error: RunError) -> Stopped {
+        Stopped::Run(error)
+    }
+}
+
+impl From<AllocError> for Stopped {
+    ghost from_gives = { λ _ stopped. stopped ≡ Run OutOfMemory };
+
+    fn from(_error: AllocError) -> Stopped {
+        Stopped::Run(RunError::OutOfMemory)
+    }
+}
+
+/// Prints a text.
+pub(crate) fn print<O: ByteOutput>(text: &str, out: &mut O) -> Result<(), RunError>
+    requires { MayWrite (O.state out.old) }
+    ensures { Prints (λ printed. printed ≡ text.now) result (O.state out.old) (O.state out.new) }
+{
+    write_text(out, text.as_bytes())?;
+    Ok(())
+}
+
+/// Writes the line of a file's fault, then an empty line and an explanation of the fault. To explain a fault, the file is
+/// read as one document. The explanation is left out if the fault is out of memory, if the document needs more than
+/// `memory` bytes, or if there is no memory for it.
+fn write_explained<E: ByteOutput>(
+    alloc: Global,
+    memory: u64,
+    name: &str,
+    bytes: &[u8],
+    fault: FileFault,
+    err: &mut E,
+)
+    requires { MayWrite (E.state err.old) }
+    ensures explained { Explains fault (E.state err.old) (E.state err.new) }
+    ensures memory { fault ≡ no_memory → TriesToWrite (E.state err.old) (E.state err.new)
+        (file_line no_memory) }
+{
+    let Ok(()) = write_file_fault(err, fault) else {
+        return;
+    };
+    if fault.kind == FileKind::OutOfMemory || !wants_within(bytes, memory) {
+        return;
+    }
+    if let Ok(text) = explain(alloc, name, bytes, fault) {
+        let _written = write_pieces(err, &["\n", text.as_str()]);
+    }
+}
+
+/// Writes how a command on the file that the bytes spell ended: nothing if it is done, else why it stopped. Returns the
+/// status.
+pub(crate) fn status_of<E: ByteOutput>(
+    alloc: Global,
+    memory: u64,
+    name: &str,
+    bytes: &[u8],
+    ended: Result<(), Stopped>,
+    err: &mut E,
+) -> u8
+    requires { MayWrite (E.state err.old) }
+    ensures { Tells ended (E.state err.old) (E.state err.new) result }
+{
+    let Err(stopped) = ended else {
+        return DONE;
+    };
+    match stopped {
+        Stopped::Unread(fault) => {
+            write_explained(alloc, memory, name, bytes, fault, err);
+            BAD_FILE
+        }
+        Stopped::Ended(nothing) => {
+            let _written = write_nothing_shown(err, nothing);
+            WRONG_WORDS
+        }
+        Stopped::Run(error) => {
+            let _written = write_run_fault(err, error);
+            RUN_FAULT
+        }
+    }
+}

@@ -1,0 +1,33 @@
+//! The commands, from the bytes of a file to a status. A task file is run, to a trace of its steps or the results of
+//! its jobs. A load is simulated. Either can be checked, and drawn as a picture of its run.
+#![tactic(auto)]
+
+mod check;
+mod ending;
+mod environment;
+mod fault_lines;
+mod jobs_by_server;
+mod load_steps;
+mod pictures;
+mod reading;
+mod report;
+mod result_lines;
+mod run;
+mod serve;
+
+pub use cbsrun_io::{
+    ByteInput, ByteOutput, FromRead, MAX_BYTES, ReadError, ToWrite, read_all, write_pieces,
+    write_text,
+};
+pub use cbsrun_lines::{RunError, replay};
+pub use cbsrun_runs::{NoProgress, Progress};
+pub use cbsrun_command_line::{Action, Asked, Drawing, Form, Verb, Window, WordsFault, read_words};
+pub use check::check_bytes_within;
+pub use ending::{BAD_FILE, DONE, RUN_FAULT, WRONG_WORDS};
+pub use environment::{MEMORY_VARIABLE, memory_bound};
+pub use fault_lines::{write_file_fault, write_read_fault, write_run_fault};
+pub use load_steps::simulate_lines_within;
+pub use pictures::{draw_load_within, draw_tasks_within};
+pub use report::{report_bytes_within, simulate_bytes_within};
+pub use run::{run_bytes, run_bytes_within};
+pub use serve::serve_file;

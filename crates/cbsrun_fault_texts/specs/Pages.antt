@@ -1,0 +1,65 @@
+-- What is appended to a page, and how a note is laid out.
+use Rattle.std.specs.Prelude.{◌≡◌, ℕ, zero, suc, ◌+◌, ◌-◌, max, Bool, false, eqb, if◌then◌else◌, List, [], ◌∷◌, ◌++◌, codes, length, map, flat_map, string_bytes}
+use Rattle.std.specs.List.{slice_split}
+use Rattle.cbsrun_fault_texts.specs.declared.page.Page.{Page}
+
+-- unless the page has failed by then, it had not failed before, and has exactly these bytes more
+abbrev pub Appends : Page → Page → List ℕ → Type 0
+Appends old new bytes = new.failed ≡ false → (old.failed ≡ false) × (string_bytes new.text ≡ string_bytes old.text ++ bytes)
+
+-- unless the page has failed by then, it had not failed before, and has a text more of which this is true
+abbrev pub AppendsA : (List ℕ → Type 0) → Page → Page → Type 0
+AppendsA Says old new =
+    new.failed ≡ false → (text : List ℕ) × Says text × (old.failed ≡ false) × (string_bytes new.text ≡ string_bytes old.text ++ text)
+
+-- a text this many times
+abbrev pub times : ℕ → List ℕ → List ℕ
+times zero text = []
+times (suc n) text = text ++ times n text
+
+-- a text with blanks after it, or before it, to fill so many columns
+abbrev pub left_in : ℕ → List ℕ → List ℕ
+left_in width text = text ++ times (width - length text) (codes " ")
+
+abbrev pub right_in : ℕ → List ℕ → List ℕ
+right_in width text = times (width - length text) (codes " ") ++ text
+
+-- a bar after so many columns, with nothing beside it
+abbrev pub bar : ℕ → List ℕ
+bar margin = times margin (codes " ") ++ codes "|\n"
+
+-- a line behind its gutter, below a bar, and carets below `count` of its characters, at least one
+unfoldable pub marked_line : List ℕ → List ℕ → ℕ → ℕ → List ℕ
+marked_line gutter line from count =
+    bar (length gutter) ++ gutter ++ codes "| " ++ line ++ codes "\n" ++ times (length gutter) (codes " ") ++ codes "| " ++ times from (codes " ")
+    ++ times (max count 1) (codes "^")
+
+-- the words of a text, between its blanks
+abbrev pub words_of : List ℕ → List (List ℕ)
+words_of text = slice_split (λ b. eqb b 32) text
+
+-- what stands between two words: a new line that is indented, or a blank
+abbrev pub gap : ℕ → Bool → List ℕ
+gap indent breaks = if breaks then codes "\n" ++ times indent (codes " ") else codes " "
+
+-- a word with what stands before it
+abbrev pub spaced : ℕ → Bool × List ℕ → List ℕ
+spaced indent (breaks, word) = gap indent breaks ++ word
+
+-- These words, each but the first after a blank or a new line. `rest` has the others, each with whether it begins a
+-- line.
+pub record IsLaid (indent : ℕ) (words : List (List ℕ)) (laid : List ℕ) : Type 0 where
+  pub first : List ℕ
+  pub rest : List (Bool × List ℕ)
+  pub are : words ≡ first ∷ map (λ p. p.1) rest
+  pub bytes : laid ≡ first ++ flat_map (spaced indent) rest
+
+-- a note or a help with the words of this text
+pub record IsNote (margin : ℕ) (kind text note : List ℕ) : Type 0 where
+  pub body : List ℕ
+  pub laid : IsLaid (margin + length kind + 4) (words_of text) body
+  pub bytes : note ≡ times margin (codes " ") ++ codes "= " ++ kind ++ codes ": " ++ body ++ codes "\n"
+
+-- a note with the words of this text was appended, unless the page has failed by then
+abbrev pub AppendsNote : ℕ → List ℕ → Page → Page → List ℕ → Type 0
+AppendsNote margin kind old new text = AppendsA (IsNote margin kind text) old new

@@ -1,0 +1,101 @@
+-- What is told of a server that a plan does not take.
+use Rattle.std.specs.Prelude.{◌≡◌, ℕ, ◌⊎◌, List, ◌++◌, codes, decimal, length, Some, IsUtf8}
+use Rattle.toml.specs.Data.{Data, Members}
+use Rattle.toml.specs.Parse.{parse_document}
+use Rattle.cbs_rate.specs.Limits.{greatest_common_multiple, most_servers}
+use Rattle.cbs_rate.specs.Plan.{common_multiple, with_rate}
+use Rattle.cbs_rate.specs.declared.error.AdmitError.{AdmitError}
+use Rattle.cbs_rate.specs.declared.error.AdmitError.TheVariants.{TooManyServers, PeriodsTooFine, OverBound}
+use Rattle.cbsrun_tables.specs.declared.fault.FileFault.{FileFault}
+use Rattle.cbsrun_tables.specs.declared.fault.FileKind.TheVariants.{NotAdmitted}
+use Rattle.cbsrun_tables.specs.declared.fault.Place.TheVariants.{Server}
+use Rattle.cbsrun_faults.specs.Documents.{servers_of}
+use Rattle.cbsrun_faults.specs.Refused.{IsRefusedAt}
+use Rattle.cbsrun_faults.specs.Spots.{server_label}
+use Rattle.cbsrun_faults.specs.declared.refused.Refused.{Refused}
+use Rattle.cbsrun_fault_texts.specs.Over.{IsOverText}
+use Rattle.cbsrun_fault_texts.specs.Pages.{AppendsA, IsNote, bar, marked_line}
+use Rattle.cbsrun_fault_texts.specs.declared.page.Page.{Page}
+use Rattle.cbsrun_fault_texts.specs.Spots.{IsPlaceLine}
+
+-- ---- Too many servers
+
+-- how many servers there are, and how many there may be
+unfoldable pub too_many_line : ℕ → List ℕ
+too_many_line count = codes "error: there are " ++ decimal count ++ codes " servers, and there may be at most " ++ decimal most_servers
+
+-- the explanation of more servers than there may be
+pub record IsTooManyText (IsPlace : List ℕ → Type 0) (entries : List Data) (text : List ℕ) : Type 0 where
+  pub place : List ℕ
+  pub is_place : IsPlace place
+  pub bytes : text ≡ too_many_line (length entries) ++ place
+
+-- ---- Periods that are too fine
+
+-- the first line: after how many ticks the periods come together with this server, and how many are allowed
+unfoldable pub too_fine_line : ℕ → ℕ → List ℕ
+too_fine_line server ticks =
+    codes "error: with server " ++ decimal server ++ codes " the periods come together every " ++ decimal ticks ++ codes " ticks only, and at most "
+    ++ decimal greatest_common_multiple ++ codes " are allowed"
+
+-- the line of a period, with carets below its digits, and a bar
+unfoldable pub period_lines : ℕ → List ℕ
+period_lines period = marked_line (codes "  ") (codes "period = " ++ decimal period) 9 (length (decimal period)) ++ codes "\n" ++ bar 2
+
+-- the words on how often the periods of the servers before come together
+abbrev pub before_words : ℕ → List ℕ
+before_words ticks = codes "the periods of the servers before it come together every " ++ decimal ticks ++ codes " ticks"
+
+abbrev pub coarser_words : List ℕ
+coarser_words = codes "take a period that shares more factors with the others, as 10 with 20"
+
+-- the lines on the period of a server, a note on those before it, and a help
+pub record IsPeriodText (refused : Refused) (text : List ℕ) : Type 0 where
+  pub note : List ℕ
+  pub help : List ℕ
+  pub is_note : IsNote 2 (codes "note") (before_words (common_multiple refused.plan.rates)) note
+  pub is_help : IsNote 2 (codes "help") coarser_words help
+  pub bytes : text ≡ period_lines refused.reservation.period ++ note ++ help
+
+-- the explanation of a server that makes the periods too fine
+pub record IsTooFineText (IsPlace : List ℕ → Type 0) (refused : Refused) (text : List ℕ) : Type 0 where
+  pub place : List ℕ
+  pub rest : List ℕ
+  pub is_place : IsPlace place
+  pub on_period : IsPeriodText refused rest
+  pub bytes : text ≡
+      too_fine_line refused.number (common_multiple (with_rate refused.plan refused.reservation).rates) ++ place ++ rest
+
+-- ---- All reasons
+
+-- the explanation of a server that is refused for this reason
+abbrev pub IsRefusalText : AdmitError → (List ℕ → Type 0) → List Data → Refused → List ℕ → Type 0
+IsRefusalText TooManyServers IsPlace entries refused = IsTooManyText IsPlace entries
+IsRefusalText PeriodsTooFine IsPlace entries refused = IsTooFineText IsPlace refused
+IsRefusalText OverBound IsPlace entries refused = IsOverText IsPlace entries refused
+
+-- the plan of the servers before this one does not refuse it
+abbrev pub IsNotRefusedAt : Members → List Data → ℕ → Type 0
+IsNotRefusedAt top entries server = (refused : Refused) → ¬ (IsRefusedAt top entries server refused)
+
+-- the text tells why the plan of the servers before this one refuses it
+pub record TellsRefusal (IsPlace : List ℕ → Type 0) (top : Members) (entries : List Data) (server : ℕ) (text : List ℕ) : Type 0 where
+  pub refused : Refused
+  pub is_refused : IsRefusedAt top entries server refused
+  pub told : IsRefusalText refused.why IsPlace entries refused text
+
+-- such a text was appended, or the server is not refused
+abbrev pub AppendsRefusal : (List ℕ → Type 0) → Members → List Data → ℕ → Page → Page → Type 0
+AppendsRefusal IsPlace top entries server old new =
+    IsNotRefusedAt top entries server ⊎ AppendsA (TellsRefusal IsPlace top entries server) old new
+
+-- the line of the place of a server, in a file with this name and this top table
+abbrev pub IsServerLine : List ℕ → Members → ℕ → List ℕ → Type 0
+IsServerLine file top server = IsPlaceLine file (Server server) (server_label top server)
+
+-- If the bytes spell a document and its fault is that a server is not admitted, the text tells why. Or the plan of the
+-- servers before does not refuse it
+abbrev pub ExplainsRefusal : List ℕ → List ℕ → FileFault → List ℕ → Type 0
+ExplainsRefusal file bytes fault text =
+    (top : Members) (server : ℕ) → IsUtf8 bytes → parse_document bytes ≡ Some top → fault.kind ≡ NotAdmitted → fault.place ≡ Server server
+    → IsNotRefusedAt top (servers_of top) server ⊎ TellsRefusal (IsServerLine file top server) top (servers_of top) server text

@@ -1,0 +1,181 @@
+//! The text of a fault.
+
+ghost use Rattle.std.specs.Prelude.{◌≡◌, ℕ, List, IfOk, Some, IsUtf8, string_bytes};
+ghost use Rattle.toml.specs.Data.{Members};
+ghost use Rattle.toml.specs.Parse.{parse_document};
+ghost use Rattle.cbsrun_tables.specs.declared.fault.FileKind.TheVariants.{NotAdmitted};
+ghost use Rattle.cbsrun_tables.specs.declared.fault.Place.TheVariants.{Server};
+ghost use Rattle.cbsrun_faults.specs.Documents.{IsDocument, servers_of};
+ghost use Rattle.cbsrun_fault_texts.specs.Refusals.{AppendsRefusal, IsServerLine, ExplainsRefusal};
+
+use crate::limits::append_not_admitted;
+use crate::not_toml::append_not_toml;
+use crate::notes::{append_keys_note, append_servers_note};
+use crate::page::Page;
+use crate::remarks::{Marked, append_key_line, append_outside_line, append_type_line};
+use crate::shown::{append_shown, type_phrase};
+use crate::values::{append_outside, append_wrong_type};
+use cbsrun_faults::{Document, Finding, Key, Spot, Want, find, nearest_key, spot_at};
+use cbsrun_tables::{FileFault, FileKind, Place};
+use std::alloc::{AllocError, Global};
+use toml::Value;
+
+/// Appends the explanation of a key that a table may not have, with the key that may be meant, if a key of the table is
+/// near enough.
+fn append_unknown(page: &mut Page, spot: &Spot<'_>, key: &str, value: &Value) {
+    let phrase = spot.subject.phrase();
+    write!(page, "error: no key of {phrase}: `{key}`");
+    page.push_spot(spot);
+    append_key_line(page, key, value, Marked::Key);
+    let meant = nearest_key(page.alloc, spot, key);
+    if let Some(Some(name)) = page.accept(meant) {
+        page.push_all(&[" did you mean `", name, "`?"]);
+    }
+    page.push("\n");
+    append_keys_note(page, spot.subject, false);
+}
+
+/// Appends that a document has no key that says of which kind it is, or that it is of the other kind.
+fn append_other_kind(page: &mut Page, spot: &Spot<'_>) {
+    page.push(if spot.document.has("load") {
+        "error: this is a load file, and a task file is wanted"
+    } else if spot.document.has("format") {
+        "error: this is a task file, and a load file is wanted"
+    } else {
+        "error: neither `format` nor `load` is there"
+    });
+    page.push_spot(spot);
+    page.push_bar(2);
+    page.push("  = note: a task file has `format = 2`, and a load file `load = 1`\n");
+}
+
+/// Appends the explanation of a key that is missing.
+fn append_missing(page: &mut Page, spot: &Spot<'_>, key: Key) {
+    if key.name == "format" {
+        return append_other_kind(page, spot);
+    }
+    page.push_all(&["error: `", key.name, "` is missing"]);
+    page.push_spot(spot);
+    append_keys_note(page, spot.subject, true);
+}
+
+/// Appends the explanation of a value of a wrong type.
+fn append_type_fault(page: &mut Page, spot: &Spot<'_>, key: Key, value: &Value) {
+    page.push("error: ");
+    append_wrong_type(page, key, value);
+    page.push_spot(spot);
+    append_type_line(page, key, value);
+}
+
+/// Appends the explanation of a value that is out of range.
+fn append_range_fault(page: &mut Page, spot: &Spot<'_>, key: Key, value: &Value) {
+    page.push("error: ");
+    append_outside(page, key, value, spot);
+    page.push_spot(spot);
+    append_outside_line(page, key, value, spot);
+    if matches!(key.want, Want::ServerName) {
+        append_servers_note(page, spot.document.servers);
+    }
+}
+
+/// Appends the explanation of a name that an earlier server has.
+fn append_taken(page: &mut Page, spot: &Spot<'_>, value: &Value, other: usize) {
+    page.push("error: `name` is ");
+    append_shown(page, value);
+    page.push_number(", which server ", other as u64);
+    page.push(" has already");
+    page.push_spot(spot);
+    append_key_line(page, "name", value, Marked::Inside);
+    page.push(" a name that no other server has\n");
+}
+
+/// Appends the explanation of an entry that is no table.
+fn append_no_table(page: &mut Page, spot: &Spot<'_>, value: &Value) {
+    let place = spot.place;
+    let phrase = type_phrase(value);
+    write!(page, "error: {place} is {phrase}, and has to be a table");
+    page.push_spot(spot);
+}
+
+/// Appends the explanation of a finding.
+fn append_finding(page: &mut Page, spot: &Spot<'_>, finding: Finding<'_>) {
+    match finding {
+        Finding::Unknown(key, value) => append_unknown(page, spot, key, value),
+        Finding::Missing(key) => append_missing(page, spot, key),
+        Finding::WrongType(key, value) => append_type_fault(page, spot, key, value),
+        Finding::OutOfRange(key, value) => append_range_fault(page, spot, key, value),
+        Finding::Taken(value, other) => append_taken(page, spot, value, other),
+        Finding::NoTable(value) => append_no_table(page, spot, value),
+    }
+}
+
+/// Appends why the plan of a document does not take the server with this number.
+fn append_refusal(page: &mut Page, document: Document<'_>, number: u64)
+    ensures { (file : List ℕ) (top : Members) → IsDocument file top document.entry
+        → AppendsRefusal (IsServerLine file top number) top (servers_of top) number page.old
+        page.new }
+{
+    match spot_at(document, Place::Server(number)) {
+        Some(spot) => append_not_admitted(page, &spot, number),
+        None => page.push_kind(FileKind::NotAdmitted),
+    }
+}
+
+/// Appends the explanation of a fault in a table of a document.
+fn append_table_fault(page: &mut Page, document: Document<'_>, fault: FileFault) {
+    let Some(spot) = spot_at(document, fault.place) else {
+        return page.push_kind(fault.kind);
+    };
+    match find(fault.kind, &spot) {
+        Some(finding) => append_finding(page, &spot, finding),
+        None if fault.kind == FileKind::MissingKey => append_other_kind(page, &spot),
+        None => page.push_kind(fault.kind),
+    }
+}
+
+/// Appends the explanation of a fault in a document.
+fn append_fault(page: &mut Page, document: Document<'_>, fault: FileFault)
+    ensures { (file : List ℕ) (top : Members) (server : ℕ) → IsDocument file top document.entry
+        → fault.kind ≡ NotAdmitted → fault.place ≡ Server server
+        → AppendsRefusal (IsServerLine file top server) top (servers_of top) server page.old
+        page.new }
+{
+    match (fault.kind, fault.place) {
+        (FileKind::NotAdmitted, Place::Server(number)) => append_refusal(page, document, number),
+        _ => append_table_fault(page, document, fault),
+    }
+}
+
+/// Appends the explanation of the first fault of a file.
+fn append_explanation(page: &mut Page, name: &str, bytes: &[u8], fault: FileFault)
+    ensures { (top : Members) (server : ℕ) → IsUtf8 bytes.now → parse_document bytes.now ≡ Some top
+        → fault.kind ≡ NotAdmitted → fault.place ≡ Server server
+        → AppendsRefusal (IsServerLine name.now top server) top (servers_of top) server page.old
+        page.new }
+{
+    if fault.kind == FileKind::OutOfMemory {
+        return page.push_kind(fault.kind);
+    }
+    match toml::table_from_slice(page.alloc, bytes) {
+        Ok(top) => append_fault(page, Document::new(name, &top), fault),
+        Err(error) if error.is_memory() => page.fail(),
+        Err(error) => append_not_toml(page, name, bytes, &error),
+    }
+}
+
+/// Returns the explanation of the first fault of a task file or a load file, for a person. It says what is wrong and
+/// where, shows the line, and says what is allowed and what may help. The bytes are read again for this. If nothing
+/// more is known, it is the kind of the fault in words. The only error is out of memory.
+pub fn explain(
+    alloc: Global,
+    name: &str,
+    bytes: &[u8],
+    fault: FileFault,
+) -> Result<String, AllocError>
+    ensures refusal { IfOk result (λ text.
+        ExplainsRefusal name.now bytes.now fault (string_bytes text)) }
+{
+    let mut page = Page::new(alloc);
+    append_explanation(&mut page, name, bytes, fault);
+    page.finish()
+}

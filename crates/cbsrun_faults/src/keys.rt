@@ -1,0 +1,235 @@
+//! The keys of each kind of table, as data.
+
+use cbs_core::MAX_BACKLOG;
+use cbs_job::MAX_UNITS;
+use cbsrun_loads::MAX_SOURCES;
+use cbs_rate::{MAX_PERIOD, MAX_RING};
+use cbs_rules::LIMIT;
+
+/// The longest advance of a step in a file of format 1, in ticks.
+const OLD_ADVANCE: u64 = 1_000_000_000;
+
+/// The greatest integer of TOML.
+const MAX_INTEGER: u64 = 9_223_372_036_854_775_807;
+
+/// A set of words, of which the value of a key is one.
+#[derive(Clone, Copy)]
+pub enum Words {
+    Modes,
+    Steps,
+    Jobs,
+}
+
+static MODES: [&str; 2] = ["soft", "throttled"];
+
+static STEPS: [&str; 4] = ["submit", "run", "advance", "close"];
+
+static JOBS: [&str; 2] = ["sum", "peak"];
+
+impl Words {
+    /// Returns the words.
+    pub fn list(self) -> &'static [&'static str] {
+        match self {
+            Words::Modes => &MODES,
+            Words::Steps => &STEPS,
+            Words::Jobs => &JOBS,
+        }
+    }
+}
+
+/// The values that a key may have.
+#[derive(Clone, Copy)]
+pub enum Want {
+    /// A number from the first to the second.
+    Number(u64, u64),
+    /// A number from 1 to the period of the same table.
+    Budget,
+    /// The number of a server.
+    Server,
+    /// A number, or a least and a greatest one, from the first number to the second.
+    Range(u64, u64),
+    /// One word of a set.
+    Word(Words),
+    /// A name of a server.
+    Name,
+    /// The name of a server of the file.
+    ServerName,
+    /// Two numbers that make a bound.
+    Bound,
+    /// An array of at most this many tables.
+    Tables(u64),
+    /// An array of numbers, one for each unit.
+    Units,
+}
+
+/// A key of a table.
+#[derive(Clone, Copy)]
+pub struct Key {
+    pub name: &'static str,
+    /// Whether the key must be there.
+    pub required: bool,
+    pub want: Want,
+}
+
+macro_rules! key {
+    ($name:expr, $want:expr) => {
+        Key {
+            name: $name,
+            required: true,
+            want: $want,
+        }
+    };
+}
+
+macro_rules! optional_key {
+    ($name:expr, $want:expr) => {
+        Key {
+            name: $name,
+            required: false,
+            want: $want,
+        }
+    };
+}
+
+static FORMAT_ONE: [Key; 7] = [
+    key!("format", Want::Number(1, 2)),
+    key!("mode", Want::Word(Words::Modes)),
+    key!("bound", Want::Bound),
+    key!("backlog", Want::Number(1, MAX_BACKLOG)),
+    key!("ring", Want::Number(1, MAX_RING)),
+    key!("server", Want::Tables(MAX_INTEGER)),
+    key!("step", Want::Tables(MAX_INTEGER)),
+];
+
+static FORMAT_TWO: [Key; 6] = [
+    key!("format", Want::Number(1, 2)),
+    key!("bound", Want::Bound),
+    key!("backlog", Want::Number(1, MAX_BACKLOG)),
+    key!("ring", Want::Number(1, MAX_RING)),
+    key!("server", Want::Tables(MAX_INTEGER)),
+    key!("step", Want::Tables(MAX_INTEGER)),
+];
+
+static LOAD: [Key; 7] = [
+    key!("load", Want::Number(1, 1)),
+    key!("bound", Want::Bound),
+    key!("backlog", Want::Number(1, MAX_BACKLOG)),
+    key!("until", Want::Number(1, LIMIT)),
+    optional_key!("seed", Want::Number(0, MAX_INTEGER)),
+    key!("server", Want::Tables(MAX_INTEGER)),
+    key!("source", Want::Tables(MAX_SOURCES as u64)),
+];
+
+static PLAIN_SERVER: [Key; 2] = [
+    key!("budget", Want::Budget),
+    key!("period", Want::Number(1, MAX_PERIOD)),
+];
+
+static MODED_SERVER: [Key; 3] = [
+    key!("budget", Want::Budget),
+    key!("period", Want::Number(1, MAX_PERIOD)),
+    key!("mode", Want::Word(Words::Modes)),
+];
+
+static NAMED_SERVER: [Key; 4] = [
+    key!("name", Want::Name),
+    key!("mode", Want::Word(Words::Modes)),
+    key!("budget", Want::Budget),
+    key!("period", Want::Number(1, MAX_PERIOD)),
+];
+
+static SOURCE: [Key; 7] = [
+    key!("server", Want::ServerName),
+    optional_key!("first", Want::Number(0, LIMIT)),
+    key!("every", Want::Range(1, LIMIT)),
+    key!("units", Want::Range(1, MAX_UNITS as u64)),
+    optional_key!("jobs", Want::Number(1, LIMIT)),
+    optional_key!("within", Want::Number(1, LIMIT)),
+    optional_key!("overrun", Want::Range(0, MAX_PERIOD)),
+];
+
+static STEP: [Key; 1] = [key!("op", Want::Word(Words::Steps))];
+
+static SUBMIT: [Key; 4] = [
+    key!("op", Want::Word(Words::Steps)),
+    key!("server", Want::Server),
+    key!("job", Want::Word(Words::Jobs)),
+    key!("units", Want::Units),
+];
+
+static ADVANCE: [Key; 2] = [
+    key!("op", Want::Word(Words::Steps)),
+    key!("ticks", Want::Number(0, LIMIT)),
+];
+
+static OLD_ADVANCE_KEYS: [Key; 2] = [
+    key!("op", Want::Word(Words::Steps)),
+    key!("ticks", Want::Number(0, OLD_ADVANCE)),
+];
+
+static CLOSE: [Key; 2] = [
+    key!("op", Want::Word(Words::Steps)),
+    key!("server", Want::Server),
+];
+
+/// A kind of table.
+#[derive(Clone, Copy)]
+pub enum Subject {
+    /// The top table of a task file of format 1.
+    FormatOne,
+    /// The top table of a task file of format 2.
+    FormatTwo,
+    /// The top table of a load file.
+    Load,
+    /// A server of a task file of format 1.
+    PlainServer,
+    /// A server of a task file of format 2.
+    ModedServer,
+    /// A server of a load file.
+    NamedServer,
+    Source,
+    /// A step whose `op` is not known.
+    Step,
+    Submit,
+    Run,
+    Advance,
+    /// An advance of a task file of format 1.
+    OldAdvance,
+    Close,
+}
+
+impl Subject {
+    /// Returns the keys, in the order in which they are tested.
+    pub fn keys(self) -> &'static [Key] {
+        match self {
+            Subject::FormatOne => &FORMAT_ONE,
+            Subject::FormatTwo => &FORMAT_TWO,
+            Subject::Load => &LOAD,
+            Subject::PlainServer => &PLAIN_SERVER,
+            Subject::ModedServer => &MODED_SERVER,
+            Subject::NamedServer => &NAMED_SERVER,
+            Subject::Source => &SOURCE,
+            Subject::Step | Subject::Run => &STEP,
+            Subject::Submit => &SUBMIT,
+            Subject::Advance => &ADVANCE,
+            Subject::OldAdvance => &OLD_ADVANCE_KEYS,
+            Subject::Close => &CLOSE,
+        }
+    }
+
+    /// Returns the words for such a table.
+    pub fn phrase(self) -> &'static str {
+        match self {
+            Subject::FormatOne => "a task file of format 1",
+            Subject::FormatTwo => "a task file",
+            Subject::Load => "a load file",
+            Subject::PlainServer | Subject::ModedServer | Subject::NamedServer => "a server",
+            Subject::Source => "a source",
+            Subject::Step => "a step",
+            Subject::Submit => "a submit",
+            Subject::Run => "a run",
+            Subject::Advance | Subject::OldAdvance => "an advance",
+            Subject::Close => "a close",
+        }
+    }
+}

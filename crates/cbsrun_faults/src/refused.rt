@@ -1,0 +1,137 @@
+//! A server that a plan does not take.
+
+ghost use Rattle.std.specs.Prelude.{◌≡◌, List, [], map, IfOk, IfSome, IfNone, MatchOption, Some, None};
+ghost use Rattle.toml.specs.View.{view, table_view};
+ghost use Rattle.cbs_rate.specs.Rate.{Rate};
+ghost use Rattle.cbsrun_faults.specs.declared.refused.Refused.{Refused as ARefused};
+ghost use Rattle.cbsrun_faults.specs.Refused.{bound_at, reservation_of, AreReservations, plan_of, IsRefused, IsNotRefused, IsRefusedAt};
+
+use crate::document::Document;
+use cbs_rate::{AdmitError, Bound, Plan, Reservation};
+use cbsrun_tables::{FileKind, bound_of, integer_at, members, pair_at, reservation};
+use std::alloc::{AllocError, Global};
+use toml::{Table, Value};
+
+/// A server that a plan does not take.
+#[derive(Drop)]
+pub struct Refused {
+    /// The server's number.
+    pub number: usize,
+    /// Why the plan does not take it.
+    pub why: AdmitError,
+    /// The plan of the servers before it.
+    pub plan: Plan,
+    /// The reservation that the server asks for.
+    pub reservation: Reservation,
+}
+
+/// Returns the bound of a document.
+#[tactic(auto, unfolding(crate::specs::Refused::bound_at))]
+fn bound_at(top: &Table) -> Result<Bound, FileKind>
+    ensures { result ≡ bound_at (table_view top.now) }
+{
+    bound_of(pair_at(top, "bound")?)
+}
+
+/// Returns the reservation of a server.
+#[tactic(auto, unfolding(crate::specs::Refused::reservation_of))]
+fn reservation_of(entry: &Value) -> Result<Reservation, FileKind>
+    ensures { result ≡ reservation_of (view entry.now) }
+{
+    let server = members(entry)?;
+    let budget = integer_at(server, "budget")?;
+    let period = integer_at(server, "period")?;
+    reservation(budget, period)
+}
+
+/// Returns the plan of servers, or `None` if one has no reservation or the plan does not take it.
+fn plan_of(bound: Bound, servers: &[Value]) -> Option<Plan>
+    ensures value { result ≡ plan_of bound (map view servers.now) }
+    ensures bound { IfSome result (λ plan. plan.bound ≡ bound) }
+{
+    let mut plan = Plan::new(bound);
+    for entry in servers {
+        let Ok(reservation) = reservation_of(entry) else {
+            return None;
+        };
+        if plan.admit(reservation).is_err() {
+            return None;
+        }
+    }
+    Some(plan)
+}
+
+/// Returns the server with this number and reservation, or `None` unless the plan of the servers before it refuses it.
+fn refused_after(
+    before: &[Value],
+    bound: Bound,
+    number: usize,
+    reservation: Reservation,
+) -> Option<Refused>
+    ensures { MatchOption result
+        (IsNotRefused bound (map view before.now) reservation)
+        (λ refused. IsRefused bound (map view before.now) reservation refused
+        × (refused.number ≡ number) × (refused.plan.bound ≡ bound)) }
+{
+    let mut plan = plan_of(bound, before)?;
+    let Err(why) = plan.admit(reservation) else {
+        return None;
+    };
+    Some(Refused {
+        number,
+        why,
+        plan,
+        reservation,
+    })
+}
+
+/// Returns the server with this number, by the top table and the entries of `server`, or `None` unless the plan of the
+/// servers before it refuses it.
+fn refused_in(top: &Table, servers: &[Value], number: usize) -> Option<Refused>
+    ensures { let top = table_view top.now in
+        let entries = map view servers.now in
+        MatchOption result
+        ((refused : ARefused) → ¬ (IsRefusedAt top entries number refused))
+        (IsRefusedAt top entries number) }
+{
+    let Some(entry) = servers.get(number) else {
+        return None;
+    };
+    let Ok(reservation) = reservation_of(entry) else {
+        return None;
+    };
+    let Ok(bound) = bound_at(top) else {
+        return None;
+    };
+    refused_after(&servers[..number], bound, number, reservation)
+}
+
+/// Returns the server with this number, or `None` unless the plan of the servers before it refuses it.
+pub fn refused_at(document: Document<'_>, number: u64) -> Option<Refused>
+    ensures { let top = table_view document.entry.top.now in
+        let entries = map view document.entry.servers.now in
+        MatchOption result
+        ((refused : ARefused) → ¬ (IsRefusedAt top entries number refused))
+        (IsRefusedAt top entries number) }
+{
+    refused_in(document.top, document.servers, number as usize)
+}
+
+/// Returns the reservations of all servers, or `None` if one has none. The only error is out of memory.
+pub fn reservations(
+    alloc: Global,
+    servers: &[Value],
+) -> Result<Option<Vec<Reservation>>, AllocError>
+    ensures { IfOk result (λ all. MatchOption all
+        ((rates : List Rate) → ¬ (AreReservations (map view servers.now) rates))
+        (λ all. AreReservations (map view servers.now) all.items)) }
+{
+    let mut all = Vec::new(alloc);
+    for entry in servers {
+        let Ok(reservation) = reservation_of(entry) else {
+            return Ok(None);
+        };
+        all.push(reservation)?;
+    }
+    Ok(Some(all))
+}

@@ -1,0 +1,140 @@
+//! Tests of whether a value is what its key needs.
+
+use crate::document::server_named;
+use crate::keys::Want;
+use crate::spot::Spot;
+use cbs_job::MAX_UNITS;
+use cbs_rate::MAX_PERIOD;
+use cbsrun_tables::{
+    FileKind, all_integers, below, bound_of, integer, items, number, optional, pair, sized, text,
+    within,
+};
+use toml::{Table, Value};
+
+/// The greatest number of a unit.
+pub const MAX_NUMBER: u64 = 4_294_967_295;
+
+/// The longest name of a server, in bytes.
+const MAX_NAME: usize = 32;
+
+/// Returns whether a text is a name: 1 to [`MAX_NAME`] letters, digits, `-` and `_`.
+fn is_name(name: &str) -> bool {
+    let bytes = name.as_bytes();
+    !bytes.is_empty()
+        && bytes.len() <= MAX_NAME
+        && bytes.iter().all(|byte| byte.is_ascii_alphanumeric() || *byte == b'-' || *byte == b'_')
+}
+
+/// Returns the period of a table, or `None` if it is no period.
+pub fn period_of(table: &Table) -> Option<u64> {
+    number(1, MAX_PERIOD, optional(table, "period")?).ok()
+}
+
+/// Returns the place, from 1, of the first value that is no number of a unit, or `None` if there is none.
+pub fn first_bad_unit(values: &[Value]) -> Option<usize> {
+    let place = values
+        .iter()
+        .position(|value| number(0, MAX_NUMBER, value).is_err())?;
+    Some(place + 1)
+}
+
+/// Returns the least and the greatest number of a range. One number stands for both.
+pub fn two_numbers(value: &Value) -> Result<(i64, i64), FileKind> {
+    if let Some(number) = value.as_integer() {
+        return Ok((number, number));
+    }
+    pair(items(value)?)?.ok_or(FileKind::OutOfRange)
+}
+
+/// Tests that a value is a range from `low` to `high`.
+fn test_range(low: u64, high: u64, value: &Value) -> Result<(), FileKind> {
+    let (least, greatest) = two_numbers(value)?;
+    let least = within(low, high, least)?;
+    within(least, high, greatest)?;
+    Ok(())
+}
+
+/// Tests that a value is a budget. If the period is no valid period, tests the budget without it.
+fn test_budget(value: &Value, table: Option<&Table>) -> Result<(), FileKind> {
+    let greatest = match table {
+        Some(table) => period_of(table).unwrap_or(u64::MAX),
+        None => u64::MAX,
+    };
+    within(1, greatest, integer(value)?)?;
+    Ok(())
+}
+
+/// Tests that a value is an array of the numbers of a job's units.
+fn test_units(value: &Value) -> Result<(), FileKind> {
+    let values = items(value)?;
+    all_integers(values)?;
+    sized(1, MAX_UNITS as usize, values)?;
+    if first_bad_unit(values).is_some() {
+        return Err(FileKind::OutOfRange);
+    }
+    Ok(())
+}
+
+/// Returns an error unless `holds` is true.
+fn hold(holds: bool) -> Result<(), FileKind> {
+    if holds {
+        Ok(())
+    } else {
+        Err(FileKind::OutOfRange)
+    }
+}
+
+/// Tests that a value is a number from `least` to `greatest`.
+fn test_number(least: u64, greatest: u64, value: &Value) -> Result<(), FileKind> {
+    number(least, greatest, value)?;
+    Ok(())
+}
+
+/// Tests that a value is the number of a server.
+fn test_server(servers: &[Value], value: &Value) -> Result<(), FileKind> {
+    below(servers.len() as u64, integer(value)?)?;
+    Ok(())
+}
+
+/// Tests that a value is one of these words.
+fn test_word(words: &[&str], value: &Value) -> Result<(), FileKind> {
+    hold(words.contains(&text(value)?))
+}
+
+/// Tests that a value is a name.
+fn test_name(value: &Value) -> Result<(), FileKind> {
+    hold(is_name(text(value)?))
+}
+
+/// Tests that a value is the name of a server.
+fn test_server_name(servers: &[Value], value: &Value) -> Result<(), FileKind> {
+    hold(server_named(servers, text(value)?).is_some())
+}
+
+/// Tests that a value is a bound.
+fn test_bound(value: &Value) -> Result<(), FileKind> {
+    bound_of(pair(items(value)?)?)?;
+    Ok(())
+}
+
+/// Tests that a value is an array of at most so many entries.
+fn test_count(most: u64, value: &Value) -> Result<(), FileKind> {
+    hold(items(value)?.len() as u64 <= most)
+}
+
+/// Tests that a value of a table is what its key needs.
+pub(crate) fn test(want: Want, value: &Value, spot: &Spot<'_>) -> Result<(), FileKind> {
+    let servers = spot.document.servers;
+    match want {
+        Want::Number(least, greatest) => test_number(least, greatest, value),
+        Want::Budget => test_budget(value, spot.table),
+        Want::Server => test_server(servers, value),
+        Want::Range(least, greatest) => test_range(least, greatest, value),
+        Want::Word(words) => test_word(words.list(), value),
+        Want::Name => test_name(value),
+        Want::ServerName => test_server_name(servers, value),
+        Want::Bound => test_bound(value),
+        Want::Tables(most) => test_count(most, value),
+        Want::Units => test_units(value),
+    }
+}

@@ -1,0 +1,65 @@
+-- One step more in the sums, and in the ticks that a server was throttled.
+use Rattle.std.proofs.Common.{◌≡◌, ℕ, ◌+◌, Bool, true, false, if◌then◌else◌, List, [], ◌∷◌, Option, Some, None, arith, refl, inl, inr}
+use Rattle.std.specs.Prelude.{◌&&◌, ltb}
+use Rattle.std.proofs.lemmas.Bool.{cases_Bool}
+use Rattle.cbs_steps.specs.declared.view.ServerView.{ServerView}
+use Rattle.cbsrun_events.specs.Events.{begun, ticks_of_run}
+use Rattle.cbsrun_events.specs.declared.seen.Event.{Event}
+use Rattle.cbsrun_events.specs.declared.seen.Event.TheVariants as event
+use Rattle.cbsrun_events.specs.declared.seen.Seen.{Seen}
+use Rattle.cbsrun_figures.specs.Figures.{told, told_sum, is_used_up, throttled, waited}
+use Rattle.cbsrun_figures.specs.Tallies.{sums_of, sums_after, held_of, held_with, wait_of, waited_since}
+use Rattle.cbsrun_figures.specs.declared.sums.Sums.{Sums}
+
+-- a sum as a report gives it, with one number more
+pub told_more : (n m : ℕ) → told (told n + m) ≡ told (m + n)
+told_more n m = omega arith
+
+pub told_sum_more : (n m : ℕ) → told_sum (told_sum n + m) ≡ told_sum (m + n)
+told_sum_more n m = omega arith
+
+-- sums are the same if each of them is
+same_sums : (a b : Sums) → a.refused ≡ b.refused → a.asked ≡ b.asked → a.run ≡ b.run → a.used_up ≡ b.used_up → a.charged ≡ b.charged
+    → a.greatest_charge ≡ b.greatest_charge → a ≡ b
+same_sums a b e f g h i j = rw (e, f, g, h, i, j) refl
+
+-- the units that used the budget up, and those of a run more
+used_up_more : (b : Bool) (n m : ℕ) → (if b then told (told n + m) else told n) ≡ told ((if b then m else 0) + n)
+used_up_more true n m = omega arith
+used_up_more false n m = omega arith
+
+-- the sums with one step more
+sums_step : (budget clock : ℕ) (e : Event) (v : Option ServerView) (own : List Seen)
+    → sums_after budget e v (sums_of budget own) ≡ sums_of budget (record { clock = clock; event = e; view = v } ∷ own)
+sums_step budget clock (event.Accepted job number promised) v own =
+    same_sums _ _ (omega arith) (omega arith) (omega arith) (omega arith) (omega arith) (omega arith)
+sums_step budget clock (event.NotAccepted job error) v own =
+    same_sums _ _ (omega arith) (omega arith) (omega arith) (omega arith) (omega arith) (omega arith)
+sums_step budget clock (event.Ran r) v own =
+    same_sums _ _ (omega arith) (omega arith) (omega arith) (used_up_more (is_used_up budget v) _ (ticks_of_run r)) (omega arith) (omega arith)
+sums_step budget clock (event.Advanced n) v own = same_sums _ _ (omega arith) (omega arith) (omega arith) (omega arith) (omega arith) (omega arith)
+sums_step budget clock (event.NotAdvanced n error) v own =
+    same_sums _ _ (omega arith) (omega arith) (omega arith) (omega arith) (omega arith) (omega arith)
+sums_step budget clock (event.Closed s) v own = same_sums _ _ (omega arith) (omega arith) (omega arith) (omega arith) (omega arith) (omega arith)
+sums_step budget clock (event.NotClosed s error) v own =
+    same_sums _ _ (omega arith) (omega arith) (omega arith) (omega arith) (omega arith) (omega arith)
+sums_step budget clock (event.Charged s n) v own = same_sums _ _ (omega arith) (omega arith) (omega arith) (omega arith) (omega arith) (omega arith)
+sums_step budget clock (event.NotCharged s n error) v own =
+    same_sums _ _ (omega arith) (omega arith) (omega arith) (omega arith) (omega arith) (omega arith)
+
+pub sums_seen : (budget : ℕ) (o : Seen) (own : List Seen) → sums_after budget o.event o.view (sums_of budget own) ≡ sums_of budget (o ∷ own)
+sums_seen budget o own = sums_step budget o.clock o.event o.view own
+
+-- how long a server with this view waits
+waits : (clock to : ℕ) (v : Option ServerView) → waited_since (wait_of clock v) to ≡ waited v clock to
+waits clock to None = refl
+waits clock to (Some v) = elim (cases_Bool (v.throttled && ltb v.finished v.accepted)) [ inl t ↦ rw t refl | inr f ↦ rw f refl ]
+
+-- the ticks up to a tick in which a server was throttled with a job, from what is kept of them
+pub held_until : (own : List Seen) (to : ℕ) → told ((held_of own).ticks + waited_since (held_of own).wait to) ≡ told (throttled to own)
+held_until [] to = omega arith
+held_until (o ∷ own) to = rw (waits o.clock to o.view) (told_more (throttled (begun o) own) (waited o.view o.clock to))
+
+-- the same with one step more
+pub held_seen : (o : Seen) (own : List Seen) → held_with (begun o) o.clock o.view (held_of own) ≡ held_of (o ∷ own)
+held_seen o own = rw (held_until own (begun o)) refl

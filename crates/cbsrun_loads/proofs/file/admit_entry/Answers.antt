@@ -1,0 +1,48 @@
+use Rattle.std.proofs.Common.{◌≡◌, ◌++◌, ◌∷◌, [], Ok, None, true, false, inr, map, string_bytes, bytes_eq, refl, sym, ◌∙◌, arith}
+use Rattle.std.proofs.lemmas.Grind.{common_steps}
+use Rattle.std.specs.List.{list_any}
+use Rattle.std.proofs.lemmas.List.{map-append}
+use Rattle.toml.specs.View.{view}
+use Rattle.cbs_rate.specs.Plan.{admit_refusal}
+use Rattle.cbsrun_loads.specs.Servers.{server_entry, server_view}
+use Rattle.cbsrun_loads.proofs.Names.{list_any-mapped}
+use Rattle.cbsrun_loads.proofs.file.admit_entry.Goals as goal
+
+pub returns-then-is_taken-clause-servers : goal.returns-then-is_taken-clause-servers
+returns-then-is_taken-clause-servers c =
+    let spelled : server_entry (view c.args.entry.now) ≡ Ok (server_view c.in-Ok.server) = sym c.in-Ok.ensures in
+    let name = c.in-Ok.server.name.now in
+    let same : list_any (λ n. bytes_eq (string_bytes n) name) c.args.names.now.items ≡ true =
+    rw c.deref.ensures.value at (sym c.is_taken.ensures ∙ c.if-is_taken.true) in
+    let taken = list_any-mapped (λ n. bytes_eq n name) string_bytes c.args.names.now.items ∙ same in
+    inr (rw (spelled, taken) refl)
+
+pub returns-in-Err-admit-clause-servers : goal.returns-in-Err-admit-clause-servers
+returns-in-Err-admit-clause-servers c =
+    let spelled : server_entry (view c.args.entry.now) ≡ Ok (server_view c.in-Ok.server) = sym c.in-Ok.ensures in
+    let name = c.in-Ok.server.name.now in
+    let same : list_any (λ n. bytes_eq (string_bytes n) name) c.args.names.now.items ≡ false =
+    rw c.deref.ensures.value at (sym c.is_taken.ensures ∙ c.if-is_taken.false) in
+    let free = list_any-mapped (λ n. bytes_eq n name) string_bytes c.args.names.now.items ∙ same in
+    inr (rw (spelled, free, c.in-Err-admit.ensures.answer) refl)
+
+pub returns-clause-servers : goal.returns-clause-servers
+returns-clause-servers c =
+    let spelled : server_entry (view c.args.entry.now) ≡ Ok (server_view c.in-Ok.server) = sym c.in-Ok.ensures in
+    let name = c.in-Ok.server.name.now in
+    let same : list_any (λ n. bytes_eq (string_bytes n) name) c.args.names.now.items ≡ false =
+    rw c.deref.ensures.value at (sym c.is_taken.ensures ∙ c.if-is_taken.false) in
+    let free = list_any-mapped (λ n. bytes_eq n name) string_bytes c.args.names.now.items ∙ same in
+    let none : admit_refusal c.args.setup.now.plan c.in-Ok.server.reservation ≡ None = c.in-Ok-admit.ensures.answer.0 in
+    let names : map string_bytes c.push.new.self.items ≡ map string_bytes c.args.names.now.items ++ name ∷ [] =
+    rw (c.in_ok-push.ensures.items, map-append, c.in_ok-from_str.ensures.ok) refl in
+    rw (spelled, free, none, names, c.in-Ok-admit.ensures.ok) refl
+
+pub returns-in_err-from_str-clause-servers : goal.returns-in_err-from_str-clause-servers
+returns-in_err-from_str-clause-servers c = grind (arith, common_steps)
+
+pub returns-in_err-push-clause-servers : goal.returns-in_err-push-clause-servers
+returns-in_err-push-clause-servers c = grind (arith, common_steps)
+
+pub returns-clause-named : goal.returns-clause-named
+returns-clause-named c = grind (arith, common_steps)

@@ -1,0 +1,19 @@
+use Rattle.std.proofs.Common.{◌≡◌, drop, length, map, string_bytes}
+use Rattle.std.specs.Prelude.{All}
+use Rattle.toml.specs.View.{view}
+use Rattle.cbsrun_tables.specs.declared.fault.Place.TheVariants.{Source as AtSource}
+use Rattle.cbsrun_tables.specs.Documents.{at}
+use Rattle.cbsrun_tables.specs.Fields.{each_from}
+use Rattle.cbsrun_tables.proofs.Each.{with_front}
+use Rattle.cbsrun_loads.specs.Loads.{IsSource}
+use Rattle.cbsrun_loads.specs.Sources.{source_entry}
+use Rattle.cbsrun_loads.proofs.file.sources_of.Given as goal
+
+abbrev pub invariant-loop-i : goal.invariant-loop-i
+invariant-loop-i l = record {
+  so_far : with_front l.sources.items (each_from l.i (λ i v. at (AtSource i) (source_entry (map string_bytes l.names) l.plan.rates (view v)))
+      (drop l.i l.entries))
+      ≡ each_from 0 (λ i v. at (AtSource i) (source_entry (map string_bytes l.names) l.plan.rates (view v))) l.entries;
+  lawful : All (IsSource (length l.names)) l.sources.items;
+  count : length l.sources.items ≡ l.i;
+}

@@ -1,0 +1,64 @@
+use Rattle.std.proofs.lemmas.Result.{err_from_is_err_and}
+use Rattle.cbsrun_loads.specs.Sources.{source_fields}
+use Rattle.cbsrun_loads.proofs.source.source_fields.Goals as goal
+
+pub returns-in_err-jobs : goal.returns-in_err-jobs
+unfolding source_fields
+returns-in_err-jobs c =
+    let p = err_from_is_err_and c.from_residual-in_err-jobs.result c.from_residual-in_err-jobs.ensures.1 in
+    rw (
+      p.1,
+      p.2,
+      ← c.in_ok-table.ensures,
+      ← c.in_ok-server.ensures,
+      ← c.in_ok-first.ensures,
+      ← c.in_ok-every.ensures,
+      ← c.in_ok-units.ensures,
+      ← c.in_err-jobs.ensures,
+    )
+
+pub returns-in_err-within : goal.returns-in_err-within
+unfolding source_fields
+returns-in_err-within c =
+    let p = err_from_is_err_and c.from_residual-in_err-within.result c.from_residual-in_err-within.ensures.1 in
+    rw (
+      p.1,
+      p.2,
+      ← c.in_ok-table.ensures,
+      ← c.in_ok-server.ensures,
+      ← c.in_ok-first.ensures,
+      ← c.in_ok-every.ensures,
+      ← c.in_ok-units.ensures,
+      ← c.in_ok-jobs.ensures,
+      ← c.in_err-within.ensures,
+    )
+
+pub returns-in_err-overrun : goal.returns-in_err-overrun
+unfolding source_fields
+returns-in_err-overrun c =
+    let p = err_from_is_err_and c.from_residual-in_err-overrun.result c.from_residual-in_err-overrun.ensures.1 in
+    rw (
+      p.1,
+      p.2,
+      ← c.in_ok-table.ensures,
+      ← c.in_ok-server.ensures,
+      ← c.in_ok-first.ensures,
+      ← c.in_ok-every.ensures,
+      ← c.in_ok-units.ensures,
+      ← c.in_ok-jobs.ensures,
+      ← c.in_ok-within.ensures,
+      ← c.in_err-overrun.ensures,
+    )
+
+pub returns : goal.returns
+unfolding source_fields
+returns c = rw (
+  ← c.in_ok-table.ensures,
+  ← c.in_ok-server.ensures,
+  ← c.in_ok-first.ensures,
+  ← c.in_ok-every.ensures,
+  ← c.in_ok-units.ensures,
+  ← c.in_ok-jobs.ensures,
+  ← c.in_ok-within.ensures,
+  ← c.in_ok-overrun.ensures,
+)

@@ -1,0 +1,44 @@
+-- What a load file holds.
+use Rattle.std.specs.Prelude.{◌≡◌, ℕ, ◌≤◌, ◌<◌, List, length, All, IsSome}
+use Rattle.cbs_rate.specs.Limits.{most_backlog, longest_period}
+use Rattle.cbs_rate.specs.Plan.{Planned}
+use Rattle.cbs_rules.specs.Rules.{clock_end}
+use Rattle.cbs_rules.specs.declared.mode.Mode.{Mode}
+use Rattle.cbsrun_simulate.specs.Drawing.{IsLawful}
+use Rattle.cbsrun_simulate.specs.Released.{HasRanges}
+use Rattle.cbsrun_simulate.specs.declared.terms.SourceTerms.{SourceTerms}
+
+-- the names, modes and plan of the servers, the greatest backlog of each, the sources, the tick at which a simulation
+-- ends, and the seed
+pub record LoadFile : Type 0 where
+  pub names : List (List ℕ)
+  pub modes : List Mode
+  pub plan : Planned
+  pub backlog : ℕ
+  pub until : ℕ
+  pub seed : ℕ
+  pub sources : List SourceTerms
+
+-- the greatest number of sources of a load
+abbrev pub most_sources : ℕ
+most_sources = 65536
+
+-- the source is within its limits, none of its ranges is empty, and it gives jobs to one of this many servers. No unit of
+-- it overruns by more than the longest period
+pub record IsSource (servers : ℕ) (t : SourceTerms) : Type 0 where
+  pub named : t.server < servers
+  pub lawful : IsLawful t
+  pub ranges : HasRanges t
+  pub short : t.overrun.greatest ≤ longest_period
+  pub within : IsSome t.within
+
+-- what holds of every load file
+pub record IsLoad (f : LoadFile) : Type 0 where
+  pub named : length f.names ≡ length f.plan.rates
+  pub moded : length f.modes ≡ length f.plan.rates
+  pub some_backlog : 1 ≤ f.backlog
+  pub small_backlog : f.backlog ≤ most_backlog
+  pub some_ticks : 1 ≤ f.until
+  pub few_ticks : f.until ≤ clock_end
+  pub few_sources : length f.sources ≤ most_sources
+  pub lawful : All (IsSource (length f.plan.rates)) f.sources

@@ -1,0 +1,125 @@
+-- What one entry of `source` spells in a load file.
+use Rattle.std.specs.Prelude.{ℕ, ℤ, codes, bytes_eq, get_or, unwrap_or, List, [], ◌∷◌, Option, Some, None, Result, Ok, Err}
+use Rattle.std.specs.List.{position}
+use Rattle.toml.specs.Data.{Data, Members, get_member}
+use Rattle.toml.specs.Data.{integer as an_integer}
+use Rattle.cbs_rate.specs.Limits.{longest_period, most_units}
+use Rattle.cbs_rate.specs.Rate.{Rate}
+use Rattle.cbs_rules.specs.Rules.{clock_end}
+use Rattle.cbsrun_simulate.specs.Bounds.{Bounds}
+use Rattle.cbsrun_simulate.specs.declared.terms.SourceTerms.{SourceTerms}
+use Rattle.cbsrun_tables.specs.declared.fault.FileKind.{FileKind}
+use Rattle.cbsrun_tables.specs.declared.fault.FileKind.TheVariants.{OutOfRange}
+use Rattle.cbsrun_tables.specs.Fields.{◌>>=◌, table_with, present, text_at, optional_integer_at, items, pair, within, of_some}
+use Rattle.cbsrun_loads.specs.declared.source.SourceFields.{SourceFields}
+
+-- the least and the greatest number of a range. One number stands for both. There are none if an array has fewer or
+-- more than two
+abbrev pub two_numbers : Data → Result (Option (ℤ × ℤ)) FileKind
+two_numbers (an_integer n) = Ok (Some (n, n))
+two_numbers d = items d >>= pair
+
+-- the least and the greatest number of the range at a key, and of one at a key that may be left out
+unfoldable pub numbers_at : List ℕ → Members → Result (Option (ℤ × ℤ)) FileKind
+numbers_at key table = present key table >>= two_numbers
+
+unfoldable pub optional_numbers_at : List ℕ → Members → Result (Option (Option (ℤ × ℤ))) FileKind
+optional_numbers_at key table = of_some two_numbers (get_member key table)
+
+-- the range from the least number, which is at least `low`, to the greatest, which is at most `high`
+abbrev pub range_within : ℕ → ℕ → Option (ℤ × ℤ) → Result Bounds FileKind
+range_within low high None = Err OutOfRange
+range_within low high (Some two) = do
+  least ← within low high two.0
+  greatest ← within least high two.1
+  Ok (record { least = least; greatest = greatest })
+
+-- the place that was found, or the fault that there is none
+abbrev pub found_place : Option ℕ → Result ℕ FileKind
+found_place None = Err OutOfRange
+found_place (Some i) = Ok i
+
+-- the server with this name
+abbrev pub server_named : List (List ℕ) → List ℕ → Result ℕ FileKind
+server_named names name = found_place (position (λ n. bytes_eq n name) names)
+
+-- the period of a server
+abbrev pub period_at : List Rate → ℕ → ℕ
+period_at rates server = (get_or rates server (record { budget = 0; period = 0 })).period
+
+-- the values of a source's keys, each of its type
+pub record FieldsData : Type 0 where
+  pub server : List ℕ
+  pub first : Option ℤ
+  pub every : Option (ℤ × ℤ)
+  pub units : Option (ℤ × ℤ)
+  pub jobs : Option ℤ
+  pub within : Option ℤ
+  pub overrun : Option (Option (ℤ × ℤ))
+
+-- the keys that an entry must have, and those that may be left out
+abbrev pub required_keys : List (List ℕ)
+required_keys = codes "server" ∷ codes "every" ∷ codes "units" ∷ []
+
+abbrev pub optional_keys : List (List ℕ)
+optional_keys = codes "first" ∷ codes "jobs" ∷ codes "within" ∷ codes "overrun" ∷ []
+
+-- the values of an entry's keys, or the first fault over all of them
+unfoldable pub source_fields : Data → Result FieldsData FileKind
+source_fields entry = do
+  table ← table_with required_keys optional_keys entry
+  server_name ← text_at (codes "server") table
+  first_number ← optional_integer_at (codes "first") table
+  every_numbers ← numbers_at (codes "every") table
+  units_numbers ← numbers_at (codes "units") table
+  jobs_number ← optional_integer_at (codes "jobs") table
+  within_number ← optional_integer_at (codes "within") table
+  overrun_numbers ← optional_numbers_at (codes "overrun") table
+  Ok (record {
+    server = server_name;
+    first = first_number;
+    every = every_numbers;
+    units = units_numbers;
+    jobs = jobs_number;
+    within = within_number;
+    overrun = overrun_numbers;
+  })
+
+-- The source that the values spell, or the fault that one is out of range. If they are left out, `first` and `overrun`
+-- are 0, the number of `jobs` has no limit, and `within` is the server's period.
+unfoldable pub spelled_by : List (List ℕ) → List Rate → FieldsData → Result SourceTerms FileKind
+spelled_by names rates f = do
+  server ← server_named names f.server
+  first ← of_some (within 0 clock_end) f.first
+  every ← range_within 1 clock_end f.every
+  units ← range_within 1 most_units f.units
+  jobs ← of_some (within 1 clock_end) f.jobs
+  deadline ← of_some (within 1 clock_end) f.within
+  overrun ← of_some (range_within 0 longest_period) f.overrun
+  Ok (record {
+    server = server;
+    first = unwrap_or first 0;
+    every = every;
+    units = units;
+    jobs = jobs;
+    within = Some (unwrap_or deadline (period_at rates server));
+    overrun = unwrap_or overrun (record { least = 0; greatest = 0 });
+  })
+
+-- the source of an entry, in a file with servers of these names and reservations
+abbrev pub source_entry : List (List ℕ) → List Rate → Data → Result SourceTerms FileKind
+source_entry names rates entry = do
+  fields ← source_fields entry
+  spelled_by names rates fields
+
+-- the values of the keys, as the code holds them
+abbrev pub fields_view : SourceFields → FieldsData
+fields_view f = record {
+  server = f.server.now;
+  first = f.first;
+  every = f.every;
+  units = f.units;
+  jobs = f.jobs;
+  within = f.within;
+  overrun = f.overrun;
+}

@@ -1,0 +1,102 @@
+//! What a load file holds.
+
+ghost use Rattle.std.specs.Prelude.{◌≡◌, map, string_bytes};
+ghost use Rattle.cbsrun_loads.specs.Loads.{IsLoad};
+
+use cbs_rate::Plan;
+use cbs_rules::{Modes, Setup};
+use cbsrun_simulate::SourceTerms;
+use std::marker::Model;
+
+/// A load: named servers with their plan and modes, and sources of jobs for them.
+///
+/// The backlog is 1 to 4096, and the end is 1 to 10^12. Each source gives jobs to a server of the plan.
+pub struct Load {
+    pub(crate) names: Vec<String>,
+    pub(crate) setup: Setup,
+    pub(crate) backlog: u64,
+    pub(crate) until: u64,
+    pub(crate) seed: u64,
+    pub(crate) sources: Vec<SourceTerms>,
+}
+
+// Written by hand, as one call. A derived `Drop` would be written out, field by field, wherever a function that owns a
+// load returns.
+impl Drop for Load {
+    fn drop(self) {
+        let Load {
+            names: _,
+            setup: _,
+            backlog: _,
+            until: _,
+            seed: _,
+            sources: _,
+        } = self;
+    }
+}
+
+impl Model for Load {
+    ghost use Rattle.std.specs.Prelude.{map, string_bytes};
+    ghost use Rattle.cbsrun_loads.specs.Loads.{LoadFile, IsLoad};
+
+    ghost Value = { LoadFile };
+
+    ghost view = { λ f. record { names = map string_bytes f.names.items; modes = f.setup.modes; plan = f.setup.plan; backlog = f.backlog; until = f.until; seed = f.seed; sources = f.sources.items } };
+
+    ghost invariant = { λ f. IsLoad (record { names = map string_bytes f.names.items; modes = f.setup.modes; plan = f.setup.plan; backlog = f.backlog; until = f.until; seed = f.seed; sources = f.sources.items }) };
+}
+
+impl Load {
+    /// Returns the names of the servers, by number: one for each server of the plan.
+    pub fn names(&self) -> &[String]
+        ensures value { map string_bytes result.now ≡ self.now.names }
+        ensures lawful { IsLoad self.now }
+    {
+        &self.names
+    }
+
+    /// Returns the reservations of the servers, and the bound on their total bandwidth.
+    pub fn plan(&self) -> &Plan
+        ensures { result.now ≡ self.now.plan }
+    {
+        self.setup.plan()
+    }
+
+    /// Returns the modes of the servers, by number: one for each server of the plan.
+    pub fn modes(&self) -> &Modes
+        ensures { result.now ≡ self.now.modes }
+    {
+        self.setup.modes()
+    }
+
+    /// Returns how many accepted, unfinished jobs a server may have: 1 to 4096.
+    pub fn backlog(&self) -> u64
+        ensures value { result ≡ self.now.backlog }
+        ensures lawful { IsLoad self.now }
+    {
+        self.backlog
+    }
+
+    /// Returns the tick at which a simulation ends: 1 to 10^12.
+    pub fn until(&self) -> u64
+        ensures value { result ≡ self.now.until }
+        ensures lawful { IsLoad self.now }
+    {
+        self.until
+    }
+
+    /// Returns the seed of the numbers that are drawn.
+    pub fn seed(&self) -> u64
+        ensures { result ≡ self.now.seed }
+    {
+        self.seed
+    }
+
+    /// Returns the sources, in the order of the file.
+    pub fn sources(&self) -> &[SourceTerms]
+        ensures value { result.now ≡ self.now.sources }
+        ensures lawful { IsLoad self.now }
+    {
+        &self.sources
+    }
+}

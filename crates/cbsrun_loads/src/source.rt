@@ -1,0 +1,190 @@
+//! One source of a load file.
+
+ghost use Rattle.std.specs.Prelude.{◌≡◌, ◌≤◌, ◌<◌, length, map, bytes_eq, string_bytes, option_map, IfOk, IfSome, IsSome};
+ghost use Rattle.std.specs.List.{position};
+ghost use Rattle.toml.specs.View.{view, table_view};
+ghost use Rattle.cbs_rate.specs.Limits.{most_servers};
+ghost use Rattle.cbsrun_tables.specs.Fields.{seen, of_some};
+ghost use Rattle.cbsrun_loads.specs.Loads.{IsSource};
+ghost use Rattle.cbsrun_loads.specs.Sources.{two_numbers, numbers_at, optional_numbers_at, range_within, server_named, period_at, source_fields, spelled_by, source_entry, fields_view};
+
+use cbs_job::MAX_UNITS;
+use cbs_rate::{MAX_PERIOD, Plan};
+use cbs_rules::LIMIT;
+use cbsrun_simulate::{Range, SourceTerms};
+use cbsrun_tables::{
+    FileKind, items, optional, optional_integer_at, optional_within, pair, present, table_with,
+    text_at, within,
+};
+use toml::{Table, Value};
+
+/// The values of a source's keys, each of its type.
+#[derive(Clone, Copy)]
+struct SourceFields<'a> {
+    server: &'a str,
+    first: Option<i64>,
+    every: Option<(i64, i64)>,
+    units: Option<(i64, i64)>,
+    jobs: Option<i64>,
+    within: Option<i64>,
+    overrun: Option<Option<(i64, i64)>>,
+}
+
+/// Returns the least and the greatest number of a range. One number stands for both. Returns `None` for an array of
+/// fewer or more than two numbers.
+fn two_numbers(value: &Value) -> Result<Option<(i64, i64)>, FileKind>
+    ensures { result ≡ two_numbers (view value.now) }
+{
+    if let Some(number) = value.as_integer() {
+        return Ok(Some((number, number)));
+    }
+    pair(items(value)?)
+}
+
+/// Returns the least and the greatest number of the range at a key.
+#[tactic(auto, unfolding(crate::specs::Sources::numbers_at))]
+fn numbers_at(table: &Table, key: &str) -> Result<Option<(i64, i64)>, FileKind>
+    ensures { result ≡ numbers_at key.now (table_view table.now) }
+{
+    two_numbers(present(table, key)?)
+}
+
+/// Returns the least and the greatest number of the range at a key, or `None` if the table lacks the key.
+#[tactic(auto, unfolding(crate::specs::Sources::optional_numbers_at))]
+fn optional_numbers_at(table: &Table, key: &str) -> Result<Option<Option<(i64, i64)>>, FileKind>
+    ensures { result ≡ optional_numbers_at key.now (table_view table.now) }
+{
+    match optional(table, key) {
+        Some(value) => Ok(Some(two_numbers(value)?)),
+        None => Ok(None),
+    }
+}
+
+/// Returns the range from the least to the greatest number. Refuses it unless the least is at least `low`, the greatest
+/// is at most `high`, and the least is no greater than the greatest.
+fn range_within(low: u64, high: u64, numbers: Option<(i64, i64)>) -> Result<Range, FileKind>
+    ensures value { result ≡ range_within low high numbers }
+    ensures bounds { IfOk result (λ r. (low ≤ r.least) × (r.greatest ≤ high)) }
+    ensures ordered { IfOk result (λ r. r.least ≤ r.greatest) }
+{
+    let (least, greatest) = numbers.ok_or(FileKind::OutOfRange)?;
+    let least = within(low, high, least)?;
+    let greatest = within(least, high, greatest)?;
+    match Range::new(least, greatest) {
+        Some(range) => Ok(range),
+        None => Err(FileKind::OutOfRange),
+    }
+}
+
+/// Returns a range within `low` and `high`, if there are numbers. Refuses as [`range_within`] does.
+fn optional_range(
+    low: u64,
+    high: u64,
+    numbers: Option<Option<(i64, i64)>>,
+) -> Result<Option<Range>, FileKind>
+    ensures value { result ≡ of_some (range_within low high) numbers }
+    ensures bounds { IfOk result (λ o. IfSome o (λ r. (low ≤ r.least) × (r.greatest ≤ high))) }
+    ensures ordered { IfOk result (λ o. IfSome o (λ r. r.least ≤ r.greatest)) }
+{
+    match numbers {
+        Some(numbers) => Ok(Some(range_within(low, high, numbers)?)),
+        None => Ok(None),
+    }
+}
+
+/// Returns the place of a name among the names, or `None` if it is not among them.
+fn place_of(names: &[String], name: &str) -> Option<usize>
+    ensures { result ≡ position (λ n. bytes_eq (string_bytes n) name.now) names.now }
+{
+    names.iter().position(|other| other.as_str() == name)
+}
+
+/// Returns the number of the server with this name. Refuses a name that no server has as out of range.
+fn server_named(names: &[String], name: &str) -> Result<u16, FileKind>
+    requires { length names.now ≤ most_servers }
+    ensures value { result ≡ server_named (map string_bytes names.now) name.now }
+    ensures within { IfOk result (λ server. server < length names.now) }
+{
+    match place_of(names, name) {
+        Some(server) => Ok(server as u16),
+        None => Err(FileKind::OutOfRange),
+    }
+}
+
+/// Returns the period of a server, in ticks.
+fn period_at(plan: &Plan, server: u16) -> u64
+    requires { server < length plan.now.rates }
+    ensures { result ≡ period_at plan.now.rates server }
+{
+    match plan.get(server) {
+        Some(reservation) => reservation.period(),
+        None => unreachable!(),
+    }
+}
+
+/// Returns the values of an entry's keys, or the first fault over all of them.
+#[tactic(auto, unfolding(crate::specs::Sources::source_fields))]
+fn source_fields(entry: &Value) -> Result<SourceFields<'_>, FileKind>
+    ensures { seen fields_view result ≡ source_fields (view entry.now) }
+{
+    let optional_keys = ["first", "jobs", "within", "overrun"];
+    let table = table_with(entry, &["server", "every", "units"], &optional_keys)?;
+    let server = text_at(table, "server")?;
+    let first = optional_integer_at(table, "first")?;
+    let every = numbers_at(table, "every")?;
+    let units = numbers_at(table, "units")?;
+    let jobs = optional_integer_at(table, "jobs")?;
+    let within = optional_integer_at(table, "within")?;
+    let overrun = optional_numbers_at(table, "overrun")?;
+    Ok(SourceFields {
+        server,
+        first,
+        every,
+        units,
+        jobs,
+        within,
+        overrun,
+    })
+}
+
+/// Returns the source that the values spell, each in its range.
+#[tactic(auto, unfolding(crate::specs::Sources::spelled_by))]
+fn spelled_by(
+    names: &[String],
+    plan: &Plan,
+    fields: SourceFields<'_>,
+) -> Result<SourceTerms, FileKind>
+    requires few { length names.now ≤ most_servers }
+    requires named { length names.now ≡ length plan.now.rates }
+    ensures value { result ≡ spelled_by (map string_bytes names.now) plan.now.rates
+        (fields_view fields.entry) }
+    ensures lawful { IfOk result (IsSource (length names.now)) }
+{
+    let server = server_named(names, fields.server)?;
+    let first = optional_within(0, LIMIT, fields.first)?;
+    let every = range_within(1, LIMIT, fields.every)?;
+    let units = range_within(1, u64::from(MAX_UNITS), fields.units)?;
+    let jobs = optional_within(1, LIMIT, fields.jobs)?;
+    let deadline = optional_within(1, LIMIT, fields.within)?;
+    let overrun = optional_range(0, MAX_PERIOD, fields.overrun)?;
+    Ok(SourceTerms {
+        server,
+        first: first.unwrap_or(0),
+        every,
+        units,
+        jobs,
+        within: Some(deadline.unwrap_or(period_at(plan, server))),
+        overrun: overrun.unwrap_or(Range::fixed(0)),
+    })
+}
+
+/// Returns the source of one entry, in a file with servers of these names and this plan.
+pub fn source_entry(names: &[String], plan: &Plan, entry: &Value) -> Result<SourceTerms, FileKind>
+    requires few { length names.now ≤ most_servers }
+    requires named { length names.now ≡ length plan.now.rates }
+    ensures value { result ≡ source_entry (map string_bytes names.now) plan.now.rates
+        (view entry.now) }
+    ensures lawful { IfOk result (IsSource (length names.now)) }
+{
+    spelled_by(names, plan, source_fields(entry)?)
+}

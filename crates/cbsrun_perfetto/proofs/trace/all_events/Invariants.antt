@@ -1,0 +1,7 @@
+use Rattle.std.proofs.Common.{◌≡◌, take}
+use Rattle.cbsrun_perfetto.specs.Servers.{events_of}
+use Rattle.cbsrun_perfetto.specs.Traces.{numbered}
+use Rattle.cbsrun_perfetto.proofs.trace.all_events.Given as goal
+
+abbrev pub invariant-loop-place : goal.invariant-loop-place
+invariant-loop-place l = l.lines.items ≡ numbered (events_of l.window) 1 (take l.place l.servers)

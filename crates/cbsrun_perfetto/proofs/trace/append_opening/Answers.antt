@@ -1,0 +1,10 @@
+use Rattle.std.proofs.Common.{◌∙◌}
+use Rattle.cbsrun_perfetto.specs.Traces.{opening, opening_text, process_text}
+use Rattle.cbsrun_perfetto.proofs.Growing.{two_pieces}
+use Rattle.cbsrun_perfetto.proofs.trace.append_opening.Goals as goal
+
+pub returns : goal.returns
+unfolding opening_text
+returns c =
+    two_pieces c.push_str-2.result _ _ _ opening (process_text c.args.file.now) c.deref.result.now c.in_ok-push_str.ensures.bytes
+    c.push_str-2.ensures.bytes (c.deref.ensures ∙ c.in_ok-process.ensures)

@@ -1,0 +1,68 @@
+//! The slices of a trace: what a server does.
+
+ghost use Rattle.std.specs.Prelude.{◌≡◌, ◌++◌, IfOk, OnOk};
+ghost use Rattle.cbsrun_perfetto.specs.Servers.{bar_line, other_line, slice_of, slices_of};
+
+use crate::events::{job_args, no_args, slice_line};
+use crate::line::{Line, append_line};
+use cbsrun_chart::{ChartJob, Kind, ServerChart, Stretch, job_numbered};
+use std::alloc::{AllocError, Global};
+
+/// Returns the line of a bar of a job, with what is known of the job.
+#[tactic(auto, unfolding(crate::specs::Servers::bar_line))]
+fn bar_line(
+    alloc: Global,
+    thread: u64,
+    jobs: &[ChartJob],
+    number: u64,
+    span: &Stretch,
+) -> Result<Line, AllocError>
+    ensures { IfOk result (λ line. line ≡ bar_line thread jobs.now number span.now) }
+{
+    let name = format!(in alloc; "job {number}")?;
+    let args = job_args(alloc, number, job_numbered(number, jobs))?;
+    slice_line(alloc, &name, "run", thread, span, args)
+}
+
+/// Returns the line of ticks that are no bar, by what goes on in them.
+#[tactic(auto, unfolding(crate::specs::Servers::other_line))]
+fn other_line(alloc: Global, thread: u64, what: &str, span: &Stretch) -> Result<Line, AllocError>
+    ensures { IfOk result (λ line. line ≡ other_line thread what.now span.now) }
+{
+    slice_line(alloc, what, what, thread, span, no_args(alloc)?)
+}
+
+/// Appends the slice of a stretch, if the stretch has one.
+fn append_slice(
+    alloc: Global,
+    lines: &mut Vec<Line>,
+    thread: u64,
+    jobs: &[ChartJob],
+    span: &Stretch,
+) -> Result<(), AllocError>
+    ensures { OnOk result (lines.new.items ≡ lines.old.items
+        ++ slice_of thread jobs.now span.now.kind span.now) }
+{
+    match span.kind {
+        Kind::Runs(number) => append_line(lines, bar_line(alloc, thread, jobs, number, span)?),
+        Kind::Charged => append_line(lines, other_line(alloc, thread, "charged", span)?),
+        Kind::Held => append_line(lines, other_line(alloc, thread, "throttled", span)?),
+        Kind::Waits | Kind::Resting | Kind::Refused | Kind::Late | Kind::Idle => Ok(()),
+    }
+}
+
+/// Appends the slices of a server.
+#[tactic(auto, unfolding(crate::specs::Servers::slices_of))]
+pub(crate) fn append_slices(
+    alloc: Global,
+    lines: &mut Vec<Line>,
+    thread: u64,
+    chart: &ServerChart,
+) -> Result<(), AllocError>
+    ensures { OnOk result (lines.new.items ≡ lines.old.items ++ slices_of thread chart.now) }
+{
+    for span in &chart.spans {
+        append_slice(alloc, lines, thread, &chart.jobs, span)?;
+    }
+    Ok(())
+}

@@ -1,0 +1,8 @@
+use Rattle.std.proofs.Common.{◌≡◌, take}
+use Rattle.cbsrun_report_text.specs.Reports.{sum_of}
+use Rattle.cbsrun_figures.specs.Figures.{told}
+use Rattle.cbsrun_report_json.specs.Sums.{figure_of}
+use Rattle.cbsrun_report_json.proofs.sums.Sum.of.Given as goal
+
+abbrev pub invariant-loop-server : goal.invariant-loop-server
+invariant-loop-server l = l.sum ≡ told (sum_of (figure_of l.self) (take l.server-index l.servers))

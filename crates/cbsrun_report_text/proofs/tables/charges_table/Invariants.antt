@@ -1,0 +1,7 @@
+use Rattle.std.proofs.Common.{◌≡◌, ◌∷◌, map, take}
+use Rattle.cbsrun_text.specs.Columns.{rows_of}
+use Rattle.cbsrun_report_text.specs.Tables.{charges_heading, charges_row}
+use Rattle.cbsrun_report_text.proofs.tables.charges_table.Given as goal
+
+abbrev pub invariant-loop-server : goal.invariant-loop-server
+invariant-loop-server l = rows_of l.table.items ≡ charges_heading ∷ map charges_row (take l.server-index l.servers)

@@ -1,0 +1,103 @@
+//! Notes on what to do about servers that are not in time.
+
+ghost use Rattle.std.specs.Prelude.{◌≡◌, ◌++◌, ◌≤◌, ◌^◌, ◌<◌, OnOk, string_bytes};
+ghost use Rattle.cbs_rate.specs.Limits.{longest_period};
+ghost use Rattle.cbsrun_report_text.specs.Notes.{asked_text, cover_of, cover_text, remedy_text, note_if_wrong, notes_text};
+ghost use Rattle.cbsrun_report_text.specs.Verdicts.{not_in_time};
+
+use crate::numbers::Percent;
+use crate::report::ServerReport;
+use crate::verdict::count_wrong;
+use std::alloc::AllocError;
+use std::fmt::Write;
+
+/// Appends what share of the time a server was asked for, and what share it has.
+fn append_asked(text: &mut String, clock: u64, server: &ServerReport) -> Result<(), AllocError>
+    ensures { OnOk result (string_bytes text.new ≡ string_bytes text.old
+        ++ asked_text clock server.now) }
+{
+    let name = &server.name;
+    let budget = server.reservation.budget();
+    let asked = Percent::new(server.wanted(), clock);
+    let reserved = Percent::new(u128::from(budget), server.reservation.period());
+    writeln!(
+        text,
+        "note: {name} asked for {asked} of the time and has {reserved} reserved"
+    )
+}
+
+/// Returns the least budget in every period that gives this many ticks up to the clock, or `None` if there is none.
+fn cover_of(ticks: u128, period: u64, clock: u64) -> Option<u128>
+    requires ticks { ticks < 2 ^ 65 }
+    requires period { period ≤ longest_period }
+    ensures { result ≡ cover_of ticks period clock }
+{
+    if clock == 0 {
+        return None;
+    }
+    let period = u128::from(period);
+    let budget = (ticks * period).div_ceil(u128::from(clock));
+    if budget <= period { Some(budget) } else { None }
+}
+
+/// Appends the budget that covers what was asked for, or that no budget covers it.
+fn append_cover(text: &mut String, cover: Option<u128>, period: u64) -> Result<(), AllocError>
+    ensures { OnOk result (string_bytes text.new ≡ string_bytes text.old
+        ++ cover_text cover period) }
+{
+    match cover {
+        Some(budget) => writeln!(
+            text,
+            "      {budget} in every {period} would cover it; 'cbsrun check' says what fits"
+        ),
+        None => text.push_str("      no budget covers that\n"),
+    }
+}
+
+/// Appends which budget would cover what a server was asked for, or that the server has enough.
+fn append_remedy(text: &mut String, clock: u64, server: &ServerReport) -> Result<(), AllocError>
+    ensures { OnOk result (string_bytes text.new ≡ string_bytes text.old
+        ++ remedy_text clock server.now) }
+{
+    let period = server.reservation.period();
+    let wanted = server.wanted();
+    let share = u128::from(server.reservation.budget()) * u128::from(clock);
+    if share < wanted * u128::from(period) {
+        return append_cover(text, cover_of(wanted, period, clock), period);
+    }
+    text.push_str(
+        "      that is enough: its jobs come in bursts, or less time is wanted than they take\n",
+    )
+}
+
+/// Appends the note of a server, if it is not in time.
+#[tactic(auto, unfolding(crate::specs::Notes::note_text))]
+fn append_note(text: &mut String, clock: u64, server: &ServerReport) -> Result<(), AllocError>
+    ensures { OnOk result (string_bytes text.new ≡ string_bytes text.old
+        ++ note_if_wrong clock server.now) }
+{
+    if server.is_in_time() {
+        return Ok(());
+    }
+    append_asked(text, clock, server)?;
+    append_remedy(text, clock, server)
+}
+
+/// Appends an empty line and the notes of the servers that are not in time, if there are any.
+pub(crate) fn append_notes(
+    text: &mut String,
+    clock: u64,
+    servers: &[ServerReport],
+) -> Result<(), AllocError>
+    ensures { OnOk result (string_bytes text.new ≡ string_bytes text.old
+        ++ notes_text clock (not_in_time servers.now)) }
+{
+    if count_wrong(servers) == 0 {
+        return Ok(());
+    }
+    text.push_str("\n")?;
+    for server in servers {
+        append_note(text, clock, server)?;
+    }
+    Ok(())
+}

@@ -1,0 +1,22 @@
+//! Runs that can be shown: loads that are simulated and task files that are replayed, with their outcome as a report or a
+//! picture.
+#![tactic(auto)]
+
+mod load_steps;
+mod picture;
+mod progress;
+mod replay;
+mod report;
+mod run;
+mod simulated;
+mod task_steps;
+mod within;
+
+pub use cbsrun_window::{NothingShown, shown_of};
+pub use load_steps::show_load;
+pub use picture::picture_of;
+pub use progress::{NoProgress, Progress};
+pub use replay::{Replay, clock_of};
+pub use report::report_of;
+pub use run::Run;
+pub use task_steps::show_steps;

@@ -1,0 +1,69 @@
+//! How far a simulation is.
+
+ghost use Rattle.std.specs.Prelude.{◌≡◌};
+
+use cbsrun_events::{Seen, View};
+use std::alloc::AllocError;
+
+/// The number of steps from one report to the next. This many steps take some milliseconds.
+const STEPS: u32 = 65_536;
+
+/// A receiver of reports on how far a simulation is, which come now and then.
+pub trait Progress {
+    /// Receives the clock, and the tick at which the simulation ends.
+    fn tell(&mut self, clock: u64, until: u64);
+
+    /// Receives that no further report comes. Nothing of the output is written before.
+    fn end(&mut self);
+}
+
+/// A receiver that ignores all reports.
+#[derive(Drop)]
+pub struct NoProgress;
+
+impl Progress for NoProgress {
+    fn tell(&mut self, _clock: u64, _until: u64) {}
+
+    fn end(&mut self) {}
+}
+
+/// A view that also reports how far the run is that it sees, if the run's end is known.
+#[derive(Drop)]
+pub(crate) struct Telling<V> {
+    pub(crate) view: V,
+    until: Option<u64>,
+    left: u32,
+}
+
+impl<V> Telling<V> {
+    /// Returns a view of a run that ends at this tick, if that is known.
+    pub(crate) fn new(view: V, until: Option<u64>) -> Telling<V>
+        ensures { result.view ≡ view }
+    {
+        Telling {
+            view,
+            until,
+            left: STEPS,
+        }
+    }
+}
+
+impl<P: Progress, V: View<()>> View<P> for Telling<V> {
+    ghost ready = { λ it _. V.ready it.view tt };
+
+    ghost saw = { λ first now seen. V.saw (first.0.view, tt) (now.0.view, tt) seen };
+
+    ghost failed = { λ first now seen. V.failed (first.0.view, tt) (now.0.view, tt) seen };
+
+    #[inline(always)]
+    fn see(&mut self, lent: &mut P, seen: Seen) -> Result<(), AllocError> {
+        if self.left == 0 {
+            self.left = STEPS;
+            if let Some(until) = self.until {
+                lent.tell(seen.clock, until);
+            }
+        }
+        self.left -= 1;
+        self.view.see(&mut (), seen)
+    }
+}

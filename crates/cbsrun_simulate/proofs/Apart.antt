@@ -1,0 +1,147 @@
+-- What the releases of sources owe to the terms of their sources.
+use Rattle.std.proofs.Common.{◌≡◌, ◌≢◌, ℕ, zero, suc, ◌+◌, ◌≤◌, ◌<◌, leb, ltb, List, [], ◌∷◌, arith, refl, sym, ap, inl, inr, Some}
+use Rattle.std.specs.Prelude.{slice_get}
+use Rattle.std.specs.List.{AllByRecursion}
+use Rattle.std.proofs.lemmas.Bool.{cases_Bool}
+use Rattle.std.proofs.lemmas.Bool.Decides.{nat_tests}
+use Rattle.rand_pcg.specs.Lcg.{Lcg}
+use Rattle.cbs_lists.proofs.Lists.{AllByRecursion-weaker}
+use Rattle.cbsrun_simulate.specs.Drawing.{drawn, release_of, released, released_by, released_by_all}
+use Rattle.cbsrun_simulate.specs.Ordering.{order_from, order_merged}
+use Rattle.cbsrun_simulate.specs.Releases.{IsInOrder}
+use Rattle.cbsrun_simulate.specs.SourceOrder.{ordered_released}
+use Rattle.cbsrun_simulate.specs.Merging.{put, put_all, merged}
+use Rattle.cbsrun_simulate.specs.declared.release.Release.{Release}
+use Rattle.cbsrun_simulate.specs.declared.terms.SourceTerms.{SourceTerms}
+use Rattle.cbsrun_simulate.specs.Released.{HasRanges, IsOfTerms, IsOfSource, IsLater, AreApart, least_every}
+use Rattle.cbsrun_simulate.proofs.Draws.{drawn_within}
+
+-- each release of a source is one of its terms
+released_are : (place : ℕ) (t : SourceTerms) (until k tick : ℕ) (g : Lcg) → 0 < t.units.least → HasRanges t
+    → AllByRecursion (λ r. (r.source ≡ place) × IsOfTerms until t r) (released place t until k tick g)
+released_are place t until zero tick g some ranges = tt
+released_are place t until (suc k) tick g some ranges =
+    let u = drawn t.units g in
+    let o = drawn t.overrun u.1 in
+    let e = drawn t.every o.1 in
+    let units = drawn_within t.units g ranges.units in
+    let overrun = drawn_within t.overrun u.1 ranges.overrun in
+    let least = units.0 in
+    elim (cases_Bool (ltb tick until)) [
+      | inl y ↦ rw y (
+        (refl, record { server = refl; some = omega arith; units = units.1; overrun = overrun.1; early = let lt : tick < until = grind (arith, nat_tests) in lt }),
+        released_are place t until k (tick + e.0) e.1 some ranges,
+      )
+      | inr n ↦ rw n tt
+    ]
+
+-- none comes before the first
+released_from : (place : ℕ) (t : SourceTerms) (until k tick from : ℕ) (g : Lcg) → from ≤ tick → AllByRecursion (λ r. from ≤ r.tick) (released place t until k tick g)
+released_from place t until zero tick from g le = tt
+released_from place t until (suc k) tick from g le =
+    let u = drawn t.units g in
+    let o = drawn t.overrun u.1 in
+    let e = drawn t.every o.1 in
+    elim (cases_Bool (ltb tick until)) [
+      | inl y ↦ rw y (le, released_from place t until k (tick + e.0) from e.1 (omega arith))
+      | inr n ↦ rw n tt
+    ]
+
+-- the releases of a source are its least distance apart
+released_apart : (every : ℕ → ℕ) (place : ℕ) (t : SourceTerms) (until k tick : ℕ) (g : Lcg) → every place ≡ t.every.least → HasRanges t
+    → AreApart every (released place t until k tick g)
+released_apart every place t until zero tick g is ranges = tt
+released_apart every place t until (suc k) tick g is ranges =
+    let u = drawn t.units g in
+    let o = drawn t.overrun u.1 in
+    let e = drawn t.every o.1 in
+    let rest = released place t until k (tick + e.0) e.1 in
+    let least = (drawn_within t.every o.1 ranges.every).0 in
+    let r = release_of place t tick u.0 o.0 in
+    let later : AllByRecursion (IsLater every r) rest =
+    AllByRecursion-weaker (λ q. tick + e.0 ≤ q.tick) (IsLater every r) rest (released_from place t until k (tick + e.0) (tick + e.0) e.1 (omega arith))
+    (λ q le same. omega arith) in
+    elim (cases_Bool (ltb tick until)) [
+      | inl y ↦ rw y (later, released_apart every place t until k (tick + e.0) e.1 is ranges)
+      | inr n ↦ rw n tt
+    ]
+
+-- what holds of a release and of others holds of all, with the release in its place
+all_put : (P : Release → Type 0) (r : Release) (qs : List Release) → P r → AllByRecursion P qs → AllByRecursion P (put r qs)
+all_put P r [] p all = (p, tt)
+all_put P r (q ∷ qs) p all = elim (cases_Bool (leb r.tick q.tick)) [ inl t ↦ rw t (p, all) | inr f ↦ rw f (all.0, all_put P r qs p all.1) ]
+
+all_put_all : (P : Release → Type 0) (rs qs : List Release) → AllByRecursion P rs → AllByRecursion P qs → AllByRecursion P (put_all rs qs)
+all_put_all P [] qs some all = all
+all_put_all P (r ∷ rs) qs some all = all_put P r (put_all rs qs) some.0 (all_put_all P rs qs some.1 all)
+
+-- a release before all others of its source stays before them
+apart_put : (every : ℕ → ℕ) (r : Release) (qs : List Release) → 0 < every r.source → AllByRecursion (IsLater every r) qs → AreApart every qs → AreApart every (put r qs)
+apart_put every r [] some later apart = (tt, tt)
+apart_put every r (q ∷ qs) some later apart = elim (cases_Bool (leb r.tick q.tick)) [
+  | inl t ↦ rw t (later, apart)
+  | inr f ↦
+      let before : q.tick < r.tick = grind (arith, nat_tests) in
+      rw f (
+        all_put (IsLater every q) r qs (λ same. let h = later.0 (sym same) in absurd (omega arith)) apart.0,
+        apart_put every r qs some later.1 apart.1,
+      )
+]
+
+-- the releases of one source more, none of which are among the others
+apart_put_all : (every : ℕ → ℕ) (place : ℕ) (rs qs : List Release) → 0 < every place → AllByRecursion (λ r. r.source ≡ place) rs
+    → AllByRecursion (λ q. q.source ≢ place) qs → AreApart every rs → AreApart every qs → AreApart every (put_all rs qs)
+apart_put_all every place [] qs some own others apart rest = rest
+apart_put_all every place (r ∷ rs) qs some own others apart rest =
+    let here = own.0 in
+    let far = AllByRecursion-weaker (λ q. q.source ≢ place) (IsLater every r) qs others (λ q ne same. absurd (ne (omega arith))) in
+    apart_put every r (put_all rs qs) (rw here some) (all_put_all (IsLater every r) rs qs apart.0 far)
+    (apart_put_all every place rs qs some own.1 others apart.1 rest)
+
+-- each of all releases is one of a source
+pub merged_are : (until seed first : ℕ) (ts : List SourceTerms) → AllByRecursion (λ t. (0 < t.units.least) × HasRanges t) ts
+    → AllByRecursion (IsOfSource until first ts) (merged (released_by_all first ts until seed))
+merged_are until seed first [] lawful = tt
+merged_are until seed first (t ∷ ts) lawful =
+    let here : AllByRecursion (λ r. (r.source ≡ first) × IsOfTerms until t r) (released_by first t until seed) =
+    released_are first t until _ t.first _ lawful.0.0 lawful.0.1 in
+    let own = AllByRecursion-weaker (λ r. (r.source ≡ first) × IsOfTerms until t r) (IsOfSource until first (t ∷ ts)) (released_by first t until seed) here
+    (λ r h. let at = h.0 in record { place = 0; source = omega arith; terms = t; stands = refl; is = h.1 }) in
+    let others = AllByRecursion-weaker (IsOfSource until (first + 1) ts) (IsOfSource until first (t ∷ ts)) (merged (released_by_all (first + 1) ts until seed))
+    (merged_are until seed (first + 1) ts lawful.1)
+    (λ r h. let at = h.source in record { place = suc h.place; source = omega arith; terms = h.terms; stands = h.stands; is = h.is }) in
+    all_put_all (IsOfSource until first (t ∷ ts)) (released_by first t until seed) (merged (released_by_all (first + 1) ts until seed)) own others
+
+-- any two of all releases that are of one source are its least distance apart
+pub merged_apart : (every : ℕ → ℕ) (until seed first : ℕ) (ts : List SourceTerms) → AllByRecursion (λ t. (0 < t.units.least) × HasRanges t) ts
+    → AllByRecursion (λ t. 0 < t.every.least) ts → ((j : ℕ) (t : SourceTerms) → slice_get ts j ≡ Some t → every (first + j) ≡ t.every.least)
+    → AreApart every (merged (released_by_all first ts until seed))
+merged_apart every until seed first [] lawful some is = tt
+merged_apart every until seed first (t ∷ ts) lawful some is =
+    let z : first + 0 ≡ first = omega arith in
+    let here : every first ≡ t.every.least = rw z at (is 0 t refl) in
+    let positive = some.0 in
+    let rest = merged (released_by_all (first + 1) ts until seed) in
+    let own = AllByRecursion-weaker (λ r. (r.source ≡ first) × IsOfTerms until t r) (λ r. r.source ≡ first) (released_by first t until seed)
+    (released_are first t until _ t.first _ lawful.0.0 lawful.0.1) (λ r h. h.0) in
+    let others = AllByRecursion-weaker (IsOfSource until (first + 1) ts) (λ q. q.source ≢ first) rest (merged_are until seed (first + 1) ts lawful.1)
+    (λ r h e. let at = h.source in absurd (omega arith)) in
+    apart_put_all every first (released_by first t until seed) rest (omega arith) own others (released_apart every first t until _ t.first _ here lawful.0.1)
+    (merged_apart every until seed (first + 1) ts lawful.1 some.1
+    (λ j u e. let n : first + 1 + j ≡ first + suc j = omega arith in rw n (is (suc j) u e)))
+
+-- the least distance of a source, by its place
+pub least_at : (ts : List SourceTerms) (j : ℕ) (t : SourceTerms) → slice_get ts j ≡ Some t → least_every ts j ≡ t.every.least
+least_at [] j t e = cc
+least_at (u ∷ ts) zero t e = let same : u ≡ t = cc in ap (λ (v : SourceTerms). v.every.least) same
+least_at (u ∷ ts) (suc j) t e = least_at ts j t e
+
+-- the releases of each source are in order
+pub each_ordered : (until seed first : ℕ) (ts : List SourceTerms) → AllByRecursion (IsInOrder 0) (released_by_all first ts until seed)
+each_ordered until seed first [] = tt
+each_ordered until seed first (t ∷ ts) =
+    (order_from 0 t.first (released_by first t until seed) (omega arith) (ordered_released first t until _ t.first _), each_ordered until seed (first + 1) ts)
+
+-- so are all releases
+pub all_in_order : (until seed first : ℕ) (ts : List SourceTerms) → IsInOrder 0 (merged (released_by_all first ts until seed))
+all_in_order until seed first ts = order_merged 0 (released_by_all first ts until seed) (each_ordered until seed first ts)

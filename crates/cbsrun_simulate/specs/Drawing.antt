@@ -1,0 +1,73 @@
+-- Numbers drawn by a generator, and the releases of a source that they give.
+use Rattle.std.specs.Prelude.{ℕ, zero, suc, ◌+◌, ◌-◌, ◌*◌, ◌/◌, ◌^◌, ◌<◌, ◌≤◌, ltb, if◌then◌else◌, List, [], ◌∷◌, unwrap_or}
+use Rattle.cbs_rate.specs.Limits.{most_units}
+use Rattle.cbs_rules.specs.Rules.{clock_end}
+use Rattle.rand_pcg.specs.Lcg.{Lcg, started, increment_of}
+use Rattle.rand_pcg.specs.Pcg.{pcg64, multiplier_128}
+use Rattle.cbsrun_simulate.specs.Bounds.{Bounds}
+use Rattle.cbsrun_simulate.specs.declared.release.Release.{Release}
+use Rattle.cbsrun_simulate.specs.declared.terms.SourceTerms.{SourceTerms}
+
+-- a number drawn from a range, and the generator after it. A word of 64 bits, times the count of numbers, over 2^64, is
+-- added to the least number. For a range of one number nothing is drawn
+abbrev pub drawn : Bounds → Lcg → ℕ × Lcg
+drawn r g = if ltb r.least r.greatest then (r.least + (pcg64 g).0 * (r.greatest - r.least + 1) / 2 ^ 64, (pcg64 g).1) else (r.least, g)
+
+-- terms within their limits: 1 to 1000000 units, and 1 to 10^12 ticks from one release to the next
+pub record IsLawful (t : SourceTerms) : Type 0 where
+  pub some_units : 0 < t.units.least
+  pub few_units : t.units.greatest ≤ most_units
+  pub some_ticks : 0 < t.every.least
+  pub few_ticks : t.every.greatest ≤ clock_end
+
+-- the release of a source at a place, at a tick
+abbrev pub release_of : ℕ → SourceTerms → ℕ → ℕ → ℕ → Release
+release_of place t tick units overrun =
+    record { tick = tick; source = place; server = t.server; units = units; overrun = overrun; within = t.within }
+
+-- at most k releases of a source, the first at a tick, all before the tick `until`. For each, the units are drawn, then
+-- the overrun, and then the ticks to the next release
+abbrev pub released : ℕ → SourceTerms → ℕ → ℕ → ℕ → Lcg → List Release
+released place t until zero tick g = []
+released place t until (suc k) tick g =
+    let u = drawn t.units g in
+    let o = drawn t.overrun u.1 in
+    let e = drawn t.every o.1 in
+    if ltb tick until then release_of place t tick u.0 o.0 ∷ released place t until k (tick + e.0) e.1 else []
+
+-- at most k releases of a source, whose generator has the seed as its state and the place as its stream
+abbrev pub released_from : ℕ → SourceTerms → ℕ → ℕ → ℕ → List Release
+released_from place t until k seed = released place t until k t.first (started 128 multiplier_128 seed (increment_of 128 place))
+
+-- the releases of a source. Without a count of jobs there are as many as fit before the tick `until`. At least one tick
+-- lies between two releases, so there are at most `until` of them
+abbrev pub released_by : ℕ → SourceTerms → ℕ → ℕ → List Release
+released_by place t until seed = released_from place t until (unwrap_or t.jobs until) seed
+
+-- the state of a source: how many jobs are left, the tick, units and overrun of the next one, and the generator for
+-- later draws
+pub record Cursor : Type 0 where
+  pub place : ℕ
+  pub terms : SourceTerms
+  pub until : ℕ
+  pub left : ℕ
+  pub tick : ℕ
+  pub units : ℕ
+  pub overrun : ℕ
+  pub draws : Lcg
+
+-- the releases that the source has left, if k jobs are left
+abbrev pub pending_from : ℕ → Cursor → List Release
+pending_from zero c = []
+pending_from (suc k) c =
+    let e = drawn c.terms.every c.draws in
+    if ltb c.tick c.until then release_of c.place c.terms c.tick c.units c.overrun ∷ released c.place c.terms c.until k (c.tick + e.0) e.1 else []
+
+-- the releases that the source has left
+abbrev pub pending : Cursor → List Release
+pending c = pending_from c.left c
+
+-- the releases of several sources, at the places from i on
+abbrev pub released_by_all : ℕ → List SourceTerms → ℕ → ℕ → List (List Release)
+released_by_all i [] until seed = []
+released_by_all i (t ∷ ts) until seed = released_by i t until seed ∷ released_by_all (i + 1) ts until seed

@@ -1,0 +1,115 @@
+//! Sources of jobs, whose numbers are drawn.
+
+ghost use Rattle.std.specs.Prelude.{◌≡◌, ◌≤◌, ℕ, None};
+ghost use Rattle.cbsrun_simulate.specs.Drawing.{IsLawful, pending, released_by, released_from};
+
+use crate::range::Range;
+use crate::release::Release;
+use crate::releases::Releases;
+use crate::terms::SourceTerms;
+use cbs_rules::LIMIT;
+use rand_pcg::Pcg64;
+use std::marker::Model;
+
+/// A source of jobs for one server.
+///
+/// It has a generator of its own. For each job it draws the units, then the overrun, and then the ticks to the next
+/// job. So no other source and no schedule changes what it releases.
+#[derive(Drop)]
+pub struct Source {
+    place: u16,
+    terms: SourceTerms,
+    until: u64,
+    left: u64,
+    tick: u64,
+    units: u32,
+    overrun: u64,
+    draws: Pcg64,
+}
+
+impl Model for Source {
+    ghost use Rattle.std.specs.Prelude.{◌≤◌, ◌<◌};
+    ghost use Rattle.cbs_rate.specs.Limits.{most_units};
+    ghost use Rattle.cbs_rules.specs.Rules.{clock_end};
+    ghost use Rattle.cbsrun_simulate.specs.Drawing.{Cursor, IsLawful};
+
+    ghost Value = { Cursor };
+
+    ghost view = { λ s. record {
+      place = s.place;
+      terms = s.terms;
+      until = s.until;
+      left = s.left;
+      tick = s.tick;
+      units = s.units;
+      overrun = s.overrun;
+      draws = s.draws;
+    } };
+
+    ghost invariant = { λ s. IsLawful s.terms × (s.until ≤ clock_end) × (0 < s.units) × (s.units ≤ most_units) };
+}
+
+impl Source {
+    /// Returns a source with these terms, whose jobs are released before the tick `until`. Its generator is the `Pcg64`
+    /// with the seed as its state and the source's place as its stream.
+    ///
+    /// The terms must be within the limits that [`SourceTerms`] names, and `until` must be at most [`LIMIT`].
+    pub fn new(place: u16, terms: &SourceTerms, until: u64, seed: u64) -> Source
+        requires lawful { IsLawful terms.now }
+        requires end { until ≤ LIMIT }
+        ensures releases { pending result ≡ released_by place terms.now until seed }
+        ensures endless { terms.now.jobs ≡ None → (k : ℕ) → until ≤ k
+            → pending result ≡ released_from place terms.now until k seed }
+    {
+        let mut draws = Pcg64::new(u128::from(seed), u128::from(place));
+        let units = terms.units.draw(&mut draws) as u32;
+        let overrun = terms.overrun.draw(&mut draws);
+        Source {
+            place,
+            terms: *terms,
+            until,
+            left: terms.jobs.unwrap_or(until),
+            tick: terms.first,
+            units,
+            overrun,
+            draws,
+        }
+    }
+}
+
+impl Releases for Source {
+    ghost use Rattle.cbsrun_simulate.specs.Drawing.{pending};
+    ghost use Rattle.cbsrun_simulate.specs.SourceOrder.{ordered_source};
+
+    ghost coming = { pending };
+
+    ghost ordered = { ordered_source };
+
+    #[inline(always)]
+    fn first(&self) -> Option<Release> {
+        Some(Release {
+            tick: self.next_tick()?,
+            source: self.place,
+            server: self.terms.server,
+            units: self.units,
+            overrun: self.overrun,
+            within: self.terms.within,
+        })
+    }
+
+    #[inline(always)]
+    fn next_tick(&self) -> Option<u64> {
+        if self.left == 0 || self.tick >= self.until {
+            return None;
+        }
+        Some(self.tick)
+    }
+
+    #[inline(always)]
+    fn pass(&mut self) {
+        self.left -= 1;
+        self.tick += self.terms.every.draw(&mut self.draws);
+        self.units = self.terms.units.draw(&mut self.draws) as u32;
+        self.overrun = self.terms.overrun.draw(&mut self.draws);
+    }
+}

@@ -1,0 +1,8 @@
+use Rattle.std.proofs.Common.{arith}
+use Rattle.std.proofs.lemmas.Grind.{common_steps}
+use Rattle.cbsrun_svg.specs.Pictures.{idle_text}
+use Rattle.cbsrun_svg.proofs.picture.append_idle.Goals as goal
+
+pub returns : goal.returns
+unfolding idle_text
+returns c = grind (arith, common_steps)

@@ -1,0 +1,210 @@
+//! The words of a picture that stand around its rows.
+
+ghost use Rattle.std.specs.Prelude.{◌≡◌, ◌+◌, ◌≤◌, ◌++◌, IfOk, OnOk, count_by, length, string_bytes};
+ghost use Rattle.cbsrun_svg.specs.Heads.{all_units, came_text, column_text, figures_text, heading_text, hidden_text, is_late, is_late_at, is_whole, sentence_text, servers_text, summary_text, tenths_of, who_text};
+
+use crate::row::{terms_text, units_of};
+use cbsrun_chart::{ChartJob, Counts, Drawn, Picture, Window};
+use cbs_rate::Bandwidth;
+use cbsrun_figures::exceeds;
+use cbsrun_text::mode_word;
+use std::alloc::{AllocError, Global};
+use std::fmt::Write;
+
+/// Returns the heading: the name of a file, and the ticks that are shown.
+#[tactic(auto, unfolding(crate::specs::Heads::heading_text))]
+pub(crate) fn heading_text(alloc: Global, file: &str, window: Window) -> Result<String, AllocError>
+    ensures { IfOk result (λ text. string_bytes text ≡ heading_text file.now window) }
+{
+    let from = window.from;
+    let to = window.to;
+    format!(in alloc; "{file}, ticks {from} to {to}")
+}
+
+/// Appends how many servers there are.
+fn append_servers(text: &mut String, count: usize) -> Result<(), AllocError>
+    ensures { OnOk result (string_bytes text.new ≡ string_bytes text.old ++ servers_text count) }
+{
+    if count == 1 {
+        return text.push_str("1 server");
+    }
+    write!(text, "{count} servers")
+}
+
+/// Returns the reserved share of the time in tenths of a per cent, rounded, a half upward.
+fn tenths_of(reserved: Bandwidth) -> u128
+    ensures { result ≡ tenths_of reserved }
+{
+    let ticks = u128::from(reserved.ticks);
+    let of = u128::from(reserved.of);
+    (2000 * ticks + of) / (2 * of).max(1)
+}
+
+/// Returns how many units of all servers ran in a window.
+fn all_units(window: Window, servers: &[Drawn]) -> u64
+    ensures { result ≡ all_units window servers.now }
+{
+    let mut units = 0u64;
+    for server in servers {
+        units = units.saturating_add(units_of(window, &server.chart));
+    }
+    units
+}
+
+/// Appends how many servers there are, what share of the time is reserved, how many units ran, and how many ticks were
+/// idle.
+#[tactic(auto, unfolding(crate::specs::Heads::figures_text))]
+fn append_figures(
+    text: &mut String,
+    servers: usize,
+    reserved: Bandwidth,
+    units: u64,
+    idle: u64,
+) -> Result<(), AllocError>
+    ensures { OnOk result (string_bytes text.new ≡ string_bytes text.old
+        ++ figures_text servers reserved units idle) }
+{
+    append_servers(text, servers)?;
+    let tenths = tenths_of(reserved);
+    let whole = tenths / 10;
+    let tenth = tenths % 10;
+    write!(
+        text,
+        " with {whole}.{tenth} % of the time reserved. {units} units run, {idle} ticks idle."
+    )
+}
+
+/// Returns whether a window shows a whole run, which ends at the tick `end`.
+fn is_whole(window: Window, end: u64) -> bool
+    ensures { result ≡ is_whole window end }
+{
+    window.from == 0 && end <= window.to
+}
+
+/// Appends how many ticks of the run are before the window and after it, unless the window shows the whole run.
+#[tactic(auto, unfolding(crate::specs::Heads::hidden_text))]
+fn append_hidden(text: &mut String, window: Window, end: u64) -> Result<(), AllocError>
+    ensures { OnOk result (string_bytes text.new ≡ string_bytes text.old
+        ++ hidden_text window end) }
+{
+    if is_whole(window, end) {
+        return Ok(());
+    }
+    let before = window.from;
+    let after = end.saturating_sub(window.to);
+    write!(text, " Not shown: {before} ticks before, {after} after.")
+}
+
+/// Appends how many ticks a column has, if it has more than one.
+#[tactic(auto, unfolding(crate::specs::Heads::column_text))]
+fn append_column(text: &mut String, cell: u64) -> Result<(), AllocError>
+    ensures { OnOk result (string_bytes text.new ≡ string_bytes text.old ++ column_text cell) }
+{
+    if cell <= 1 {
+        return Ok(());
+    }
+    write!(text, " Each column is {cell} ticks.")
+}
+
+/// Returns the line below the heading: the figures of the run, and what is not shown of it.
+#[tactic(auto, unfolding(crate::specs::Heads::summary_text))]
+pub(crate) fn summary_text(
+    alloc: Global,
+    picture: &Picture,
+    cell: u64,
+) -> Result<String, AllocError>
+    ensures { IfOk result (λ text. string_bytes text ≡ summary_text picture.now cell) }
+{
+    let window = picture.window;
+    let units = all_units(window, &picture.servers);
+    let idle = Counts::of(&picture.idle, window.from, window.to).idle;
+    let mut text = String::new(alloc);
+    append_figures(
+        &mut text,
+        picture.servers.len(),
+        picture.reserved,
+        units,
+        idle,
+    )?;
+    append_hidden(&mut text, window, picture.end)?;
+    append_column(&mut text, cell)?;
+    Ok(text)
+}
+
+/// Returns whether a job was finished late in the window.
+fn is_late(window: Window, job: &ChartJob) -> bool
+    ensures { result ≡ is_late window job.now }
+{
+    match job.finish {
+        Some(finish) => {
+            window.ends(finish) && exceeds(finish.saturating_sub(job.came), job.within)
+        }
+        None => false,
+    }
+}
+
+/// Returns how many jobs were finished late in the window.
+fn late_jobs(window: Window, jobs: &[ChartJob]) -> usize
+    ensures { result ≡ count_by (is_late window) jobs.now }
+{
+    jobs.iter().filter(|job| is_late(window, job)).count()
+}
+
+/// Appends a server's name, mode and reservation, and how many of its units ran.
+#[tactic(auto, unfolding(crate::specs::Heads::who_text))]
+fn append_who(
+    text: &mut String,
+    name: &str,
+    mode: &str,
+    terms: &str,
+    units: u64,
+) -> Result<(), AllocError>
+    ensures { OnOk result (string_bytes text.new ≡ string_bytes text.old
+        ++ who_text name.now mode.now terms.now units) }
+{
+    write!(text, "{name}, {mode}, {terms}: ran {units} units; ")
+}
+
+/// Appends how many of a server's jobs came, were refused, were finished, and were late.
+#[tactic(auto, unfolding(crate::specs::Heads::came_text))]
+fn append_came(
+    text: &mut String,
+    came: u64,
+    refused: u64,
+    finished: usize,
+    late: usize,
+) -> Result<(), AllocError>
+    ensures { OnOk result (string_bytes text.new ≡ string_bytes text.old
+        ++ came_text came refused finished late) }
+{
+    writeln!(
+        text,
+        "{came} jobs came, {refused} refused, {finished} finished, {late} of those late."
+    )
+}
+
+/// Appends the sentence that says what a picture shows of a server.
+#[tactic(auto, unfolding(crate::specs::Heads::sentence_text))]
+pub(crate) fn append_sentence(
+    alloc: Global,
+    text: &mut String,
+    window: Window,
+    name: &str,
+    drawn: &Drawn,
+) -> Result<(), AllocError>
+    ensures { OnOk result (string_bytes text.new ≡ string_bytes text.old
+        ++ sentence_text window name.now drawn.now) }
+{
+    let chart = &drawn.chart;
+    let terms = terms_text(alloc, drawn.reservation)?;
+    append_who(
+        text,
+        name,
+        mode_word(drawn.mode),
+        &terms,
+        units_of(window, chart),
+    )?;
+    let came = (chart.arrivals.len() as u64).saturating_add(chart.refusals);
+    let late = late_jobs(window, &chart.jobs);
+    append_came(text, came, chart.refusals, chart.completions.len(), late)
+}

@@ -1,0 +1,85 @@
+-- What a server does, drawn tick by tick.
+use Rattle.std.specs.Prelude.{ℕ, ◌+◌, ◌-◌, ◌/◌, ◌%◌, Bool, true, false, eqb, leb, ltb, not, ◌&&◌}
+use Rattle.std.specs.Prelude.{if◌then◌else◌, max, List, [], ◌++◌, codes, decimal, flat_map, length, Option, Some, None}
+use Rattle.cbsrun_chart.specs.Jobs.{job_numbered}
+use Rattle.cbsrun_chart.specs.declared.jobs.ChartJob.{ChartJob}
+use Rattle.cbsrun_window.specs.declared.stretch.Kind.{Kind}
+use Rattle.cbsrun_window.specs.declared.stretch.Kind.TheVariants as kind
+use Rattle.cbsrun_window.specs.declared.stretch.Stretch.{Stretch}
+use Rattle.cbs_rules.specs.declared.mode.Mode.{Mode}
+use Rattle.cbs_rules.specs.declared.mode.Mode.TheVariants as mode
+use Rattle.cbsrun_svg_shapes.specs.Axes.{AxisSeen, x_at}
+use Rattle.cbsrun_svg_shapes.specs.Layouts.{LayoutSeen}
+use Rattle.cbsrun_svg_shapes.specs.Shapes.{box_text, label_text, path_text, stretch_text, titled_text, width_of}
+
+-- ticks of this kind are pale: the server has a job, and does not run
+abbrev pub is_pale : Kind → Bool
+is_pale kind.Waits = true
+is_pale kind.Held = true
+is_pale _ = false
+
+abbrev pub pale_text : AxisSeen → LayoutSeen → Stretch → List ℕ
+pale_text a l p = if is_pale p.kind then stretch_text a l.bar l.height p else []
+
+-- all pale ticks
+unfoldable pub pale_path : AxisSeen → LayoutSeen → List Stretch → List ℕ
+pale_path a l ps = path_text (codes "wait") (flat_map (pale_text a l) ps)
+
+-- the title of a stretch: what goes on in it, and in which ticks
+unfoldable pub stretch_title : List ℕ → List ℕ → Stretch → List ℕ
+stretch_title name what p = name ++ what ++ codes ": ticks " ++ decimal p.from ++ codes " to " ++ decimal p.to
+
+-- by how many ticks a job was finished late, if it was
+abbrev pub late_by_text : Option ℕ → ℕ → List ℕ
+late_by_text None took = []
+late_by_text (Some within) took = if ltb within took then codes ", late by " ++ decimal (took - within) else []
+
+-- at which tick a job was finished, and by how much it was late
+abbrev pub finish_text : ChartJob → Option ℕ → List ℕ
+finish_text job None = codes ", not finished"
+finish_text job (Some finish) = codes ", finished at " ++ decimal finish ++ late_by_text job.within (finish - job.came)
+
+-- at which tick a job came, and at which it was finished
+abbrev pub job_text : Option ChartJob → List ℕ
+job_text None = []
+job_text (Some job) = codes "; came at " ++ decimal job.came ++ finish_text job job.finish
+
+-- the title of a bar
+unfoldable pub bar_title : List ℕ → ℕ → Stretch → List ChartJob → List ℕ
+bar_title name j p jobs = stretch_title name (codes " job " ++ decimal j) p ++ job_text (job_numbered j jobs)
+
+-- the class of a bar. It differs between a job and the next one, and between soft and throttled servers
+abbrev pub bar_class : Mode → Bool → List ℕ
+bar_class mode.Soft true = codes "s0"
+bar_class mode.Soft false = codes "s1"
+bar_class mode.Throttled true = codes "t0"
+bar_class mode.Throttled false = codes "t1"
+
+-- the number of a job in its bar, if the bar is wide enough: 620 hundredths of a pixel for each digit, and 300
+unfoldable pub number_text : AxisSeen → LayoutSeen → ℕ → Stretch → List ℕ
+number_text a l j p =
+    if not l.compact && leb (length (decimal j)) ((width_of a p - 300) / 620)
+    then label_text (codes "j") (x_at a p.from + width_of a p / 2) (l.bar + 1260) (decimal j)
+    else []
+
+-- a bar: the ticks of neighbouring units of one job
+unfoldable pub bar_text : AxisSeen → LayoutSeen → Mode → List ℕ → List ChartJob → ℕ → Stretch → List ℕ
+bar_text a l mode name jobs j p =
+    titled_text (bar_class mode (eqb (j % 2) 0)) (stretch_text a l.bar l.height p) (bar_title name j p jobs) ++ number_text a l j p
+
+-- ticks that are no bar, with what goes on in them as a title
+unfoldable pub other_text : AxisSeen → LayoutSeen → List ℕ → List ℕ → List ℕ → Stretch → List ℕ
+other_text a l class name what p = titled_text class (stretch_text a l.bar l.height p) (stretch_title name what p)
+
+-- a stretch of ticks in which a server does something
+abbrev pub span_text : AxisSeen → LayoutSeen → Mode → List ℕ → List ChartJob → Kind → Stretch → List ℕ
+span_text a l mode name jobs (kind.Runs j) p = bar_text a l mode name jobs j p
+span_text a l mode name jobs kind.Charged p = other_text a l (codes "charged") name (codes " charged") p
+span_text a l mode name jobs kind.Held p = other_text a l (codes "hatch") name (codes " throttled") p
+span_text a l mode name jobs kind.Resting p = other_text a l (codes "hatch") name (codes " throttled, without a job") p
+span_text a l mode name jobs _ p = []
+
+-- ticks in which a job is late, drawn at least a pixel and a half wide
+unfoldable pub late_text : AxisSeen → LayoutSeen → List ℕ → Stretch → List ℕ
+late_text a l name p =
+    titled_text (codes "late") (box_text (x_at a p.from) (l.bar + l.height) (max (width_of a p) 150) l.lane) (stretch_title name (codes " late") p)

@@ -1,0 +1,36 @@
+-- What the bytes of a task file spell: the file, or its first fault with the place of that fault.
+use Rattle.std.specs.Prelude.{ℕ, length, List, Option, Some, None, Result, Ok, Err}
+use Rattle.toml.specs.Data.{Data}
+use Rattle.cbs_rate.specs.Plan.{admit_refusal}
+use Rattle.cbs_rate.specs.declared.error.AdmitError.{AdmitError}
+use Rattle.cbs_rules.specs.declared.mode.Mode.{Mode}
+use Rattle.cbs_rules.specs.Setups.{ModedPlan, no_servers, with_server}
+use Rattle.cbsrun_tables.specs.declared.fault.FileKind.{FileKind}
+use Rattle.cbsrun_tables.specs.declared.fault.FileKind.TheVariants.{NotAdmitted}
+use Rattle.cbsrun_tables.specs.declared.fault.FileFault.{FileFault}
+use Rattle.cbsrun_tables.specs.declared.fault.Place.TheVariants.{Top, Step as AtStep}
+use Rattle.cbsrun_tables.specs.Documents.{at, document, taken_in}
+use Rattle.cbsrun_tasks.specs.Entries.{server_entry, step_entry}
+use Rattle.cbsrun_tables.specs.Fields.{◌>>=◌, each_from}
+use Rattle.cbsrun_tasks.specs.TaskFiles.{File}
+use Rattle.cbsrun_tasks.specs.TopTables.{top_table}
+
+-- the value, unless the plan refused
+abbrev pub unless_refused : {A : Type 0} → A → Option AdmitError → Result A FileKind
+unless_refused x None = Ok x
+unless_refused x (Some error) = Err NotAdmitted
+
+-- the setup with the server of one more entry. If a mode is given, all servers have that mode, and the entry has none
+abbrev pub admitted_entry : Option Mode → ModedPlan → Data → Result ModedPlan FileKind
+admitted_entry mode setup entry = do
+  server ← server_entry mode entry
+  unless_refused (with_server setup server.reservation server.mode) (admit_refusal setup.plan server.reservation)
+
+-- the file that the bytes spell
+unfoldable pub file : List ℕ → Result File FileFault
+file bytes = do
+  table ← at Top (document bytes)
+  top ← at Top (top_table table)
+  setup ← taken_in (admitted_entry top.mode) 0 (no_servers top.bound) top.servers
+  steps ← each_from 0 (λ i entry. at (AtStep i) (step_entry top.format (length setup.plan.rates) entry)) top.steps
+  Ok (record { modes = setup.modes; plan = setup.plan; backlog = top.backlog; ring = top.ring; steps = steps })

@@ -1,0 +1,19 @@
+//! Task files: a plan of servers with their modes, the limits of their queues, and a list of steps. They are read from
+//! the bytes of a TOML document.
+#![tactic(auto)]
+
+mod entries;
+mod file;
+mod format;
+mod kinds;
+mod plain;
+mod steps;
+mod stream;
+mod task_file;
+mod terms;
+mod top;
+
+pub use cbsrun_tables::{Bounded, FileFault, FileKind, MEMORY, Place, wants_within};
+pub use file::{read_file, read_file_within};
+pub use kinds::is_load_within;
+pub use task_file::{Parts, TaskFile};

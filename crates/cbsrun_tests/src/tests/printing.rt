@@ -1,0 +1,257 @@
+//! Texts that are printed of a file: by `check`, as reports, and as pictures.
+
+use super::fakes::{Memory, Outcome};
+use super::same;
+use cbsrun_commands::{
+    Drawing, Form, NoProgress, Window, check_bytes_within, draw_load_within, draw_tasks_within,
+    report_bytes_within, simulate_bytes_within, simulate_lines_within,
+};
+use std::alloc::Global;
+use std::process::Abort;
+
+/// Ample memory for a file.
+const MEMORY: u64 = 1 << 30;
+
+const TASKS: &str = "format = 2
+bound = [1, 1]
+backlog = 2
+ring = 1
+server = [{ budget = 1, period = 2, mode = \"soft\" }]
+step = [
+  { op = \"submit\", server = 0, job = \"sum\", units = [5] },
+  { op = \"run\" },
+  { op = \"advance\", ticks = 3 },
+]
+";
+
+/// A load with one server.
+pub(crate) const LOAD: &str = "load = 1
+bound = [1, 1]
+backlog = 2
+until = 4
+server = [{ name = \"a\", mode = \"soft\", budget = 1, period = 2 }]
+source = [{ server = \"a\", every = 2, units = 1 }]
+";
+
+/// The text about that load.
+pub(crate) const LOAD_CHECKED: &str =
+    "fits: 1/2 of the time is reserved, 1/2 is left under the bound 1/1
+
+SERVER  mode  budget  period  share          greatest budget
+a       soft       1       2    1/2  50.0 %                2
+all                             1/2  50.0 %
+
+The periods come together every 2 ticks.
+
+SOURCE OF  units  every  asks  share  within  in time always
+a              1      2   1/2    1/2       2       yes, by 2
+";
+
+const FAULT: &str = "cbsrun: file fault 5 OutOfRange at top\n";
+
+const LOAD_EXPLAINED: &str = "cbsrun: file fault 5 OutOfRange at top
+
+error: `load` is 2, and has to be 1
+  --> a.toml: top
+  |
+  | load = 2
+  |        ^ 1
+";
+
+const TASKS_EXPLAINED: &str = "cbsrun: file fault 5 OutOfRange at top
+
+error: `format` is 3, and has to be 1 or 2
+  --> a.toml: top
+  |
+  | format = 3
+  |          ^ 1 to 2
+";
+
+/// The request for a file.
+#[derive(Clone, Copy)]
+enum Asked {
+    Check,
+    ReportLoad(Form),
+    WriteLoadLines,
+    ReportTasks(Form),
+    DrawLoad(Drawing, Window),
+    DrawTasks(Drawing, Window),
+}
+
+/// Prints what is asked of a file. The file may need `memory` bytes of memory, and the writer has room for `room`
+/// bytes. Returns the outcome.
+fn printed(alloc: Global, asked: Asked, memory: u64, file: &str, room: usize) -> Outcome {
+    let mut out = Memory::new(alloc, room, usize::MAX);
+    let mut err = Memory::ample(alloc);
+    let bytes = file.as_bytes();
+    let name = "a.toml";
+    let status = match asked {
+        Asked::Check => check_bytes_within(alloc, memory, name, bytes, &mut out, &mut err),
+        Asked::ReportLoad(form) => {
+            simulate_bytes_within(
+                alloc,
+                memory,
+                form,
+                name,
+                bytes,
+                &mut NoProgress,
+                &mut out,
+                &mut err,
+            )
+        }
+        Asked::WriteLoadLines => {
+            simulate_lines_within(alloc, memory, name, bytes, &mut out, &mut err)
+        }
+        Asked::ReportTasks(form) => {
+            report_bytes_within(alloc, memory, form, name, bytes, &mut out, &mut err)
+        }
+        Asked::DrawLoad(drawing, ticks) => draw_load_within(
+            alloc,
+            memory,
+            drawing,
+            ticks,
+            name,
+            bytes,
+            &mut NoProgress,
+            &mut out,
+            &mut err,
+        ),
+        Asked::DrawTasks(drawing, ticks) => draw_tasks_within(
+            alloc, memory, drawing, ticks, name, bytes, &mut out, &mut err,
+        ),
+    };
+    Outcome { status, out, err }
+}
+
+/// Returns the window of the ticks from `from` up to `to`.
+fn ticks(rt: &impl Abort, from: u64, to: u64) -> Window {
+    Window::new(from, to).ok().expect(rt, "ticks")
+}
+
+/// What is asked of a file, and what the answer begins with, has somewhere, and ends with.
+type Printed = (Asked, &'static str, [&'static str; 3]);
+
+/// What is asked beside drawings. The whole answers are in `tests/checks.txt` and `tests/reports.txt`, at the top of the
+/// repository.
+const PRINTED: [Printed; 6] = [
+    (
+        Asked::Check,
+        LOAD,
+        ["fits: 1/2", "a       soft", "yes, by 2\n"],
+    ),
+    (
+        Asked::Check,
+        TASKS,
+        ["fits: 1/2", "server 0  soft", "every 2 ticks.\n"],
+    ),
+    (
+        Asked::ReportLoad(Form::Report),
+        LOAD,
+        ["in time: ", "a.toml, ticks 0 to 4: 2 run", "1   1.0\n"],
+    ),
+    (
+        Asked::WriteLoadLines,
+        LOAD,
+        ["@0 submit 0 ", "@2 advance 1\n", "@4 advance 1\n"],
+    ),
+    (
+        Asked::ReportTasks(Form::Report),
+        TASKS,
+        ["in time: ", "a.toml, ticks 0 to 4: 1 run", "1   1.0\n"],
+    ),
+    (
+        Asked::ReportTasks(Form::Json),
+        TASKS,
+        ["{\"backlog\":2", "\"file\":\"a.toml\"", "}\n"],
+    ),
+];
+
+/// What a drawing begins with, has somewhere, and ends with.
+static DRAWN: [(Drawing, [&str; 3]); 3] = [
+    (
+        Drawing::Svg,
+        [
+            "<svg ",
+            "<title id=\"what\">a.toml, ticks 0 to 4</title>",
+            "</svg>\n",
+        ],
+    ),
+    (Drawing::Text, ["a.toml, ticks 0 to 4\n", "|", "\n"]),
+    (
+        Drawing::Trace,
+        ["{\"displayTimeUnit\":\"ns\"", "\"name\":\"a.toml\"", "}\n"],
+    ),
+];
+
+/// Ends the test unless what is printed begins, goes on and ends with these parts.
+fn is_printed(rt: &impl Abort, alloc: Global, asked: Asked, file: &str, parts: [&str; 3]) {
+    let [start, part, end] = parts;
+    let outcome = printed(alloc, asked, MEMORY, file, usize::MAX);
+    same(rt, "status", outcome.status, 0);
+    let text = str::from_utf8(&outcome.out.taken).unwrap_or("");
+    same(rt, text, text.starts_with(start), true);
+    same(rt, text, text.contains(part), true);
+    same(rt, text, text.ends_with(end), true);
+}
+
+#[test]
+fn a_text_is_printed_to_its_end(rt: HostRuntime) {
+    for &(asked, file, parts) in &PRINTED {
+        is_printed(&rt, rt.alloc(), asked, file, parts);
+    }
+}
+
+#[test]
+fn a_run_is_drawn_up_to_its_end(rt: HostRuntime) {
+    let alloc = rt.alloc();
+    let all = ticks(&rt, 0, 20_000);
+    for &(drawing, parts) in &DRAWN {
+        is_printed(&rt, alloc, Asked::DrawLoad(drawing, all), LOAD, parts);
+        is_printed(&rt, alloc, Asked::DrawTasks(drawing, all), TASKS, parts);
+    }
+}
+
+#[test]
+fn a_writer_that_fails_has_a_prefix(rt: HostRuntime) {
+    let alloc = rt.alloc();
+    let some = ticks(&rt, 0, 4);
+    let fault = "cbsrun: run fault 2 WriteFault\n";
+    for (asked, file, prefix) in &[
+        (Asked::Check, LOAD, "fits:"),
+        (Asked::ReportLoad(Form::Json), LOAD, "{\"bac"),
+        (Asked::WriteLoadLines, LOAD, "@0 su"),
+        (Asked::ReportTasks(Form::Report), TASKS, "in ti"),
+        (Asked::DrawLoad(Drawing::Svg, some), LOAD, "<svg "),
+        (Asked::DrawTasks(Drawing::Trace, some), TASKS, "{\"dis"),
+    ] {
+        printed(alloc, *asked, MEMORY, file, 5).leaves(&rt, prefix, 4, prefix, fault);
+    }
+}
+
+/// Ends the test unless a faulty file is explained so. The file is read in pieces, so its fault is told within any bound.
+/// For the explanation, and for a file with a dotted key, the document is needed.
+fn is_explained(rt: &impl Abort, alloc: Global, asked: Asked, file: &str, explained: &str) {
+    same(rt, explained, explained.starts_with(FAULT), true);
+    printed(alloc, asked, MEMORY, file, 0).leaves(rt, explained, 3, "", explained);
+    printed(alloc, asked, 10, file, 0).leaves(rt, "unexplained", 3, "", FAULT);
+    let no_memory = "cbsrun: file fault 7 OutOfMemory at top\n";
+    printed(alloc, asked, 10, "a.b = 1\n", 0).leaves(rt, no_memory, 3, "", no_memory);
+}
+
+#[test]
+fn a_fault_is_explained_if_there_is_memory(rt: HostRuntime) {
+    let alloc = rt.alloc();
+    let some = ticks(&rt, 0, 4);
+    let load = ("load = 2\n", LOAD_EXPLAINED);
+    let tasks = ("format = 3\nstep = []\n", TASKS_EXPLAINED);
+    for (asked, (file, explained)) in &[
+        (Asked::Check, load),
+        (Asked::ReportLoad(Form::Report), load),
+        (Asked::WriteLoadLines, load),
+        (Asked::ReportTasks(Form::Report), tasks),
+        (Asked::DrawLoad(Drawing::Text, some), load),
+        (Asked::DrawTasks(Drawing::Svg, some), tasks),
+    ] {
+        is_explained(&rt, alloc, *asked, file, explained);
+    }
+}

@@ -1,0 +1,131 @@
+//! Command lines. What the program tells of wrong words is in `tests/words.txt` at the top of the repository, and in
+//! `scripts/statuses`.
+
+use super::same;
+use cbsrun_commands::{Action, Drawing, Form, Verb, Window, WordsFault, read_words};
+use std::alloc::Global;
+use std::process::Abort;
+
+/// Returns the words of a command line.
+fn words(rt: &impl Abort, alloc: Global, line: &str) -> Vec<String> {
+    let mut words = Vec::new(alloc);
+    for word in line.split(' ') {
+        let word = String::from_str(alloc, word).expect(rt, "memory");
+        words.push(word).expect(rt, "memory");
+    }
+    words
+}
+
+/// Ends the test unless a command line asks for this action and this file.
+fn asks(rt: &impl Abort, alloc: Global, line: &str, action: Action, file: &str) {
+    let asked = read_words(alloc, words(rt, alloc, line))
+        .ok()
+        .expect(rt, line);
+    same(
+        rt,
+        line,
+        (asked.action, asked.file.as_str()),
+        (action, file),
+    );
+}
+
+/// Ends the test unless a command line has a fault with this number and name, and a text.
+fn refuses(rt: &impl Abort, alloc: Global, line: &str, number: u8, name: &str) {
+    let fault = read_words(alloc, words(rt, alloc, line))
+        .err()
+        .expect(rt, line);
+    same(rt, line, (fault.number(), fault.name()), (number, name));
+    let told = match &fault {
+        WordsFault::Usage(text) | WordsFault::Help(text) => !text.is_empty(),
+        WordsFault::OutOfMemory => false,
+    };
+    same(rt, line, told, true);
+}
+
+/// Ends the test unless each of these command lines asks for its action and this file.
+fn all_ask(rt: &impl Abort, alloc: Global, lines: &[(&str, Action)], file: &str) {
+    for &(line, action) in lines {
+        asks(rt, alloc, line, action, file);
+    }
+}
+
+/// Command lines with a verb and a file, and what they ask for.
+const VERBS: [(&str, Action); 4] = [
+    ("cbsrun check a.toml", Action::Check),
+    ("cbsrun simulate a.toml", Action::ReportLoad(Form::Report)),
+    ("cbsrun replay a.toml", Action::Run(Verb::Replay)),
+    ("cbsrun serve a.toml", Action::Run(Verb::Serve)),
+];
+
+#[test]
+fn a_verb_and_a_file_are_wanted(rt: HostRuntime) {
+    let alloc = rt.alloc();
+    all_ask(&rt, alloc, &VERBS, "a.toml");
+    asks(&rt, alloc, "cbsrun check -", Action::Check, "-");
+    asks(&rt, alloc, "cbsrun check -- -V", Action::Check, "-V");
+    refuses(&rt, alloc, "", 1, "Usage");
+    refuses(&rt, alloc, "cbsrun --help", 2, "Help");
+}
+
+/// Command lines with a form, and what they ask for.
+const FORMS: [(&str, Action); 6] = [
+    (
+        "cbsrun simulate --as report a.toml",
+        Action::ReportLoad(Form::Report),
+    ),
+    (
+        "cbsrun simulate a.toml --as json",
+        Action::ReportLoad(Form::Json),
+    ),
+    ("cbsrun simulate --as lines a.toml", Action::WriteLoadLines),
+    ("cbsrun replay --as=lines a.toml", Action::Run(Verb::Replay)),
+    (
+        "cbsrun replay a.toml --as=report",
+        Action::ReportTasks(Form::Report),
+    ),
+    (
+        "cbsrun replay --as json -- a.toml",
+        Action::ReportTasks(Form::Json),
+    ),
+];
+
+#[test]
+fn a_form_stands_before_or_after_the_file(rt: HostRuntime) {
+    all_ask(&rt, rt.alloc(), &FORMS, "a.toml");
+}
+
+/// Ends the test unless a command line asks for these ticks of a load.
+fn shows(rt: &impl Abort, alloc: Global, line: &str, from: u64, to: u64) {
+    let ticks = Window::new(from, to).ok().expect(rt, line);
+    asks(
+        rt,
+        alloc,
+        line,
+        Action::DrawLoad(Drawing::Svg, ticks),
+        "a.toml",
+    );
+}
+
+/// Command lines that draw a load, and the ticks that they show.
+static SHOWN: [(&str, u64, u64); 4] = [
+    ("cbsrun simulate --as svg a.toml", 0, 20_000),
+    (
+        "cbsrun simulate --as=svg --from 90 a.toml --to=130",
+        90,
+        130,
+    ),
+    ("cbsrun simulate --as svg --from 7 a.toml", 7, 20_007),
+    ("cbsrun simulate --as svg --to 20000 a.toml", 0, 20_000),
+];
+
+#[test]
+fn a_picture_shows_ticks(rt: HostRuntime) {
+    let alloc = rt.alloc();
+    for &(line, from, to) in &SHOWN {
+        shows(&rt, alloc, line, from, to);
+    }
+    let ticks = Window::new(0, 9).ok().expect(&rt, "ticks");
+    let tasks = Action::DrawTasks(Drawing::Svg, ticks);
+    let line = "cbsrun replay --to 9 a.toml --as svg";
+    asks(&rt, alloc, line, tasks, "a.toml");
+}
